@@ -1,0 +1,6 @@
+//! What every crate of the memory layer speaks of: the refusals of a call.
+#![tactic(auto)]
+
+pub mod error;
+
+pub use error::{BufferError, ExtendError};
