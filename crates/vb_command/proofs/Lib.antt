@@ -1,0 +1,3 @@
+pub mod WordLists
+pub mod HexLists
+pub mod Lines

@@ -1,0 +1,23 @@
+-- Bytes that are written as hexadecimal digits, two a byte.
+use Rattle.std.specs.Prelude.{ℕ, ◌+◌, ◌*◌, List, [], ◌∷◌, codes, Option, Some, None, nat_lt, if◌then◌else◌}
+use Rattle.std.specs.Char.{digit_value}
+use Rattle.std.specs.Str.{bytes_eq}
+use Rattle.vb_command.specs.Optional.{◌>>=◌}
+
+-- the value of a hexadecimal digit of either case
+abbrev pub hex_value : ℕ → Option ℕ
+hex_value c = if nat_lt (digit_value c) 16 then Some (digit_value c) else None
+
+-- the bytes that pairs of digits write
+abbrev pub hex_pairs : List ℕ → Option (List ℕ)
+hex_pairs [] = Some []
+hex_pairs (a ∷ []) = None
+hex_pairs (a ∷ b ∷ more) = do
+  high ← hex_value a
+  low ← hex_value b
+  bytes ← hex_pairs more
+  Some ((16 * high + low) ∷ bytes)
+
+-- the bytes that a word writes; `-` writes none
+abbrev pub hex : List ℕ → Option (List ℕ)
+hex w = if bytes_eq w (codes "-") then Some [] else hex_pairs w

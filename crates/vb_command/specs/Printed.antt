@@ -1,0 +1,42 @@
+-- What answers look like.
+use Rattle.std.specs.Prelude.{ℕ, Bool, true, false, List, [], ◌∷◌, ◌++◌, codes, decimal, Some, None}
+use Rattle.std.specs.List.{flat_map}
+use Rattle.vb_command.specs.Machine.{Reply, Done, Number, Truth, Place, Listed, Refused, Reason, BadSlot, BadWindow, OutOfRange, LengthMismatch, TakeOutOfRange, TooManyBits, OutOfMemory}
+
+-- the name of a refusal, and where it has one its position
+abbrev pub name_of : Reason → List ℕ
+name_of BadSlot = codes "BadSlot"
+name_of BadWindow = codes "BadWindow"
+name_of OutOfRange = codes "OutOfRange"
+name_of LengthMismatch = codes "LengthMismatch"
+name_of (TakeOutOfRange position) = codes "TakeOutOfRange " ++ decimal position
+name_of TooManyBits = codes "TooManyBits"
+name_of OutOfMemory = codes "OutOfMemory"
+
+-- the text of a refusal
+abbrev pub refusal_of : Reason → List ℕ
+refusal_of why = codes "refused " ++ name_of why
+
+-- a truth value as a binary digit
+abbrev pub digit_of : Bool → List ℕ
+digit_of true = codes "1"
+digit_of false = codes "0"
+
+-- truth values as binary digits, or `-` where there are none
+abbrev pub digits_of : List Bool → List ℕ
+digits_of [] = codes "-"
+digits_of (b ∷ bs) = flat_map digit_of (b ∷ bs)
+
+-- the text of an answer
+abbrev pub text_of : Reply → List ℕ
+text_of Done = codes "ok"
+text_of (Number n) = decimal n
+text_of (Truth b) = digit_of b
+text_of (Place None) = codes "none"
+text_of (Place (Some p)) = decimal p
+text_of (Listed bs) = digits_of bs
+text_of (Refused why) = refusal_of why
+
+-- the line of an answer
+abbrev pub line_of : Reply → List ℕ
+line_of r = text_of r ++ 10 ∷ []

@@ -1,0 +1,50 @@
+-- What the lines of an input ask for.
+use Rattle.std.specs.Prelude.{◌≡◌, ℕ, ◌+◌, ◌-◌, ◌^◌, Bool, List, [], ◌∷◌, Option, Some, None, Result, Ok, Err, nat_lt, ◌==◌, slice_index, if◌then◌else◌}
+use Rattle.std.specs.List.{list_all}
+use Rattle.vb_command.specs.Machine.{Order}
+use Rattle.vb_command.specs.Optional.{◌>>=◌}
+use Rattle.vb_command.specs.Words.{words}
+use Rattle.vb_command.specs.Arguments.{keyword, arguments_of}
+use Rattle.vb_command.specs.declared.unread.Unread.{Unread}
+use Rattle.vb_command.specs.declared.unread.Unread.TheVariants as unread
+
+-- a function gives what a definition reads, unless memory is refused
+abbrev pub Gives : {X Y : Type 0} → (X → Y) → Result X Unread → Option Y → Type 0
+Gives view (Ok x) read = read ≡ Some (view x)
+Gives view (Err unread.Memory) read = Unit {0}
+Gives view (Err unread.Unreadable) read = read ≡ None
+
+-- the same of a function that takes no memory
+abbrev pub Tells : {X Y : Type 0} → (X → Y) → Result X Unread → Option Y → Type 0
+Tells view (Ok x) read = read ≡ Some (view x)
+Tells view (Err unread.Memory) read = ⊥
+Tells view (Err unread.Unreadable) read = read ≡ None
+
+-- whether each byte is ASCII
+abbrev pub all_ascii : List ℕ → Bool
+all_ascii bs = list_all (λ b. nat_lt b 128) bs
+
+-- what the words of a line ask for: a command, or nothing where there are none or the first begins with `#`
+unfoldable pub request_of : List (List ℕ) → Option (Option Order)
+request_of [] = Some None
+request_of (w ∷ ws) = if slice_index w 0 == 35 then Some None else (do
+  name ← keyword w
+  c ← arguments_of name ws
+  Some (Some c))
+
+-- what a line asks for, if it can be read: a command, or nothing
+abbrev pub reading : List ℕ → Option (Option Order)
+reading line = if all_ascii line then request_of (words line) else None
+
+-- an order, if there is one, before others
+abbrev pub before : Option Order → List Order → List Order
+before None cs = cs
+before (Some c) cs = c ∷ cs
+
+-- the orders of lines that are numbered from n on, if each can be read; a line numbered 2 ^ 64 - 1 can't
+abbrev pub script : ℕ → List (List ℕ) → Option (List Order)
+script n [] = Some []
+script n (l ∷ ls) = if nat_lt n (2 ^ 64 - 1) then (do
+  c ← reading l
+  cs ← script (n + 1) ls
+  Some (before c cs)) else None

@@ -1,0 +1,36 @@
+-- Commands, answers and refusals of the code, as those of the machine.
+use Rattle.vb_command.specs.Machine.{Order, Import, Len, Count, Get, Select, Selectunset, Reply, Done, Number, Truth, Place, Listed, Refused, Reason, BadSlot, BadWindow, OutOfRange, LengthMismatch, TakeOutOfRange, TooManyBits, OutOfMemory}
+use Rattle.vb_command.specs.declared.command.Command.{Command}
+use Rattle.vb_command.specs.declared.command.Command.TheVariants as commands
+use Rattle.vb_command.specs.declared.answer.Answer.{Answer}
+use Rattle.vb_command.specs.declared.answer.Answer.TheVariants as answers
+use Rattle.vb_command.specs.declared.answer.Refusal.{Refusal}
+use Rattle.vb_command.specs.declared.answer.Refusal.TheVariants as refusals
+
+-- what a command asks of the machine
+abbrev pub order : {A : Type 0} → Command A → Order
+order (commands.Import t o n bytes) = Import t o n bytes.items
+order (commands.Len k) = Len k
+order (commands.Count k) = Count k
+order (commands.Get k i) = Get k i
+order (commands.Select k n) = Select k n
+order (commands.Selectunset k n) = Selectunset k n
+
+-- why a command is refused
+abbrev pub reason : Refusal → Reason
+reason refusals.BadSlot = BadSlot
+reason refusals.BadWindow = BadWindow
+reason refusals.OutOfRange = OutOfRange
+reason refusals.LengthMismatch = LengthMismatch
+reason (refusals.TakeOutOfRange position) = TakeOutOfRange position
+reason refusals.TooManyBits = TooManyBits
+reason refusals.OutOfMemory = OutOfMemory
+
+-- what an answer says
+abbrev pub reply : {A : Type 0} → Answer A → Reply
+reply answers.Done = Done
+reply (answers.Number n) = Number n
+reply (answers.Truth b) = Truth b
+reply (answers.Place p) = Place p
+reply (answers.Bits bits) = Listed bits.items
+reply (answers.Refused why) = Refused (reason why)
