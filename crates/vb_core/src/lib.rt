@@ -1,6 +1,8 @@
 //! What every crate of the memory layer speaks of: the refusals of a call.
 #![tactic(auto)]
 
+pub mod element;
 pub mod error;
 
+pub use element::Element;
 pub use error::{BufferError, ExtendError};
