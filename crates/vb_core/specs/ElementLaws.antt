@@ -1,10 +1,10 @@
 -- The whole numbers of each width, as elements.
-use Rattle.std.proofs.Common.{◌%◌, ◌≡◌, ℕ, ◌^◌, ◌<◌, List, length, ℤ, FitsSigned, refl, ap, ◌∙◌, lit<}
+use Rattle.std.proofs.Common.{◌%◌, ◌≡◌, ℕ, ◌^◌, ◌<◌, FitsSigned, refl, ap, ◌∙◌, lit<}
 use Rattle.std.specs.Int.{Width, w8, w16, w32, w64, w128, byte_len, to_le_bytes, from_le_bytes, cast_signed, cast_unsigned}
 use Rattle.std.proofs.Math.Facts.{Fits-of_z}
 use Rattle.std.proofs.lemmas.Int.{of_z-to_z, to_z-of_z}
 use mir.Val.{bits}
-use Rattle.vb_core.specs.Elements.{IsElement, AreBytes}
+use Rattle.vb_core.specs.Elements.{IsElement}
 use Rattle.vb_core.specs.LittleEndian.{length-to_le_bytes, to_le_bytes_are_bytes, from_le_bytes-to_le_bytes, to_le_bytes-from_le_bytes, from_le_bytes_fits}
 
 -- a width's number of bytes is 2 to this power

@@ -1,7 +1,7 @@
 -- A number below `256 ^ n` and its n bytes, the least significant first, determine each other.
-use Rattle.std.proofs.Common.{◌/◌, ◌%◌, ◌≡◌, ℕ, zero, suc, ◌+◌, ◌*◌, ◌^◌, ◌<◌, List, [], ◌∷◌, length, slice_index, refl, sym, ap, ◌∙◌, lit<, arith}
+use Rattle.std.proofs.Common.{◌/◌, ◌%◌, ◌≡◌, ℕ, zero, suc, ◌+◌, ◌*◌, ◌^◌, ◌<◌, List, [], ◌∷◌, length, slice_index, refl, sym, ap, ◌∙◌, arith}
 use Rattle.std.proofs.lemmas.List.Elements.{All-nil, All-cons, All-head, All-tail}
-use Rattle.std.proofs.Math.Nat.{div-div-eq-div-mul, div-one, pow-suc, mod-lt}
+use Rattle.std.proofs.Math.Nat.{div-div-eq-div-mul, div-one, pow-suc}
 use Rattle.std.specs.Int.{Width, w8, w16, w32, w64, w128, byte_at, byte_len, byte_worth, bytes_low_first, sum_through, to_le_bytes, from_le_bytes}
 use mir.Val.{bits}
 use Rattle.vb_core.specs.Elements.{AreBytes}
@@ -55,7 +55,7 @@ bytes_low_first-digits : (i k x : ℕ) → bytes_low_first i k x ≡ digits k (x
 bytes_low_first-digits i zero x = refl
 bytes_low_first-digits i (suc k) x =
     let shift : x / 256 ^ suc i ≡ x / 256 ^ i / 256 =
-      ap (λ (p : ℕ). x / p) (pow-suc 256 i) ∙ sym (div-div-eq-div-mul x (256 ^ i) 256) in
+    ap (λ (p : ℕ). x / p) (pow-suc 256 i) ∙ sym (div-div-eq-div-mul x (256 ^ i) 256) in
     rw (byte_at-pow i x, bytes_low_first-digits (suc i) k x, shift) refl
 
 -- a sum with its first term in front
