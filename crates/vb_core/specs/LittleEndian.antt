@@ -1,0 +1,128 @@
+-- A number below `256 ^ n` and its n bytes, the least significant first, determine each other.
+use Rattle.std.proofs.Common.{◌/◌, ◌%◌, ◌≡◌, ℕ, zero, suc, ◌+◌, ◌*◌, ◌^◌, ◌<◌, List, [], ◌∷◌, length, slice_index, refl, sym, ap, ◌∙◌, arith}
+use Rattle.std.proofs.lemmas.List.Elements.{All-nil, All-cons, All-head, All-tail}
+use Rattle.std.proofs.Math.Nat.{div-div-eq-div-mul, div-one, pow-suc}
+use Rattle.std.specs.Int.{Width, w8, w16, w32, w64, w128, byte_at, byte_len, byte_worth, bytes_low_first, sum_through, to_le_bytes, from_le_bytes}
+use mir.Val.{bits}
+use Rattle.vb_core.specs.Elements.{AreBytes}
+
+-- the n lowest bytes of x, the lowest first
+abbrev digits : ℕ → ℕ → List ℕ
+digits zero x = []
+digits (suc n) x = (x % 256) ∷ digits n (x / 256)
+
+-- the number that bytes stand for, the lowest first
+abbrev number : List ℕ → ℕ
+number [] = 0
+number (b ∷ bs) = b + 256 * number bs
+
+length-digits : (n x : ℕ) → length (digits n x) ≡ n
+length-digits zero x = refl
+length-digits (suc n) x = let rest = length-digits n (x / 256) in omega arith
+
+digits_are_bytes : (n x : ℕ) → AreBytes (digits n x)
+digits_are_bytes zero x = All-nil (λ b. b < 256)
+digits_are_bytes (suc n) x = All-cons (λ b. b < 256) (x % 256) (digits n (x / 256)) (omega arith) (digits_are_bytes n (x / 256))
+
+number-digits : (n x : ℕ) → x < 256 ^ n → number (digits n x) ≡ x
+number-digits zero x fits = omega arith
+number-digits (suc n) x fits =
+    let power : 256 ^ suc n ≡ 256 ^ n * 256 = pow-suc 256 n in
+    let rest_fits : x / 256 < 256 ^ n = omega arith in
+    let rest = number-digits n (x / 256) rest_fits in omega arith
+
+digits-number : (bs : List ℕ) → AreBytes bs → digits (length bs) (number bs) ≡ bs
+digits-number [] all = refl
+digits-number (b ∷ bs) all =
+    let fits : b < 256 = All-head (λ y. y < 256) b bs all in
+    let low : (b + 256 * number bs) % 256 ≡ b = omega arith in
+    let high : (b + 256 * number bs) / 256 ≡ number bs = omega arith in
+    rw (low, high, digits-number bs (All-tail (λ y. y < 256) b bs all)) refl
+
+number_fits : (bs : List ℕ) → AreBytes bs → number bs < 256 ^ length bs
+number_fits [] all = omega arith
+number_fits (b ∷ bs) all =
+    let power : 256 ^ suc (length bs) ≡ 256 ^ length bs * 256 = pow-suc 256 (length bs) in
+    let fits : b < 256 = All-head (λ y. y < 256) b bs all in
+    let rest = number_fits bs (All-tail (λ y. y < 256) b bs all) in omega arith
+
+byte_at-pow : (k x : ℕ) → byte_at k x ≡ x / 256 ^ k % 256
+byte_at-pow zero x = ap (λ (y : ℕ). y % 256) (sym (div-one x))
+byte_at-pow (suc k) x = refl
+
+-- std's bytes of a number are its digits
+bytes_low_first-digits : (i k x : ℕ) → bytes_low_first i k x ≡ digits k (x / 256 ^ i)
+bytes_low_first-digits i zero x = refl
+bytes_low_first-digits i (suc k) x =
+    let shift : x / 256 ^ suc i ≡ x / 256 ^ i / 256 =
+    ap (λ (p : ℕ). x / p) (pow-suc 256 i) ∙ sym (div-div-eq-div-mul x (256 ^ i) 256) in
+    rw (byte_at-pow i x, bytes_low_first-digits (suc i) k x, shift) refl
+
+-- a sum with its first term in front
+sum_through-first : (f : ℕ → ℕ) (k : ℕ) → sum_through f (suc k) ≡ f 0 + sum_through (λ i. f (suc i)) k
+sum_through-first f zero = refl
+sum_through-first f (suc k) = let rest = sum_through-first f k in omega arith
+
+byte_worth-suc : (i b : ℕ) → byte_worth (suc i) b ≡ 256 * byte_worth i b
+byte_worth-suc zero b = omega arith
+byte_worth-suc (suc i) b =
+    let power : 256 ^ suc (suc i) ≡ 256 ^ suc i * 256 = pow-suc 256 (suc i) in
+    rw power (grind arith)
+
+-- bytes one place up are worth 256 times as much
+sum_through-up : (g : ℕ → ℕ) (k : ℕ) → sum_through (λ i. byte_worth (suc i) (g i)) k ≡ 256 * sum_through (λ i. byte_worth i (g i)) k
+sum_through-up g zero = byte_worth-suc 0 (g 0)
+sum_through-up g (suc k) =
+    let rest = sum_through-up g k in
+    let top = byte_worth-suc (suc k) (g (suc k)) in omega arith
+
+-- std's sum over bytes is the number that they stand for
+sum_through-number : (bs : List ℕ) (k : ℕ) → length bs ≡ suc k → sum_through (λ i. byte_worth i (slice_index bs i)) k ≡ number bs
+sum_through-number [] k len = absurd (omega arith)
+sum_through-number (b ∷ []) zero len = omega arith
+sum_through-number (b ∷ []) (suc k) len = absurd (omega arith)
+sum_through-number (b ∷ c ∷ bs) zero len = absurd (omega arith)
+sum_through-number (b ∷ c ∷ bs) (suc k) len =
+    let rest = sum_through-number (c ∷ bs) k (omega arith) in
+    let first = sum_through-first (λ i. byte_worth i (slice_index (b ∷ c ∷ bs) i)) k in
+    let up = sum_through-up (λ i. slice_index (c ∷ bs) i) k in
+    omega arith
+
+from_le_bytes-number : (w : Width) (bs : List ℕ) → length bs ≡ byte_len w → from_le_bytes w bs ≡ number bs
+from_le_bytes-number w8 bs len = sum_through-number bs 0 len
+from_le_bytes-number w16 bs len = sum_through-number bs 1 len
+from_le_bytes-number w32 bs len = sum_through-number bs 3 len
+from_le_bytes-number w64 bs len = sum_through-number bs 7 len
+from_le_bytes-number w128 bs len = sum_through-number bs 15 len
+
+-- a width holds as many numbers in bits as in bytes
+pow-bits : (w : Width) → 2 ^ bits w ≡ 256 ^ byte_len w
+pow-bits w8 = refl
+pow-bits w16 = refl
+pow-bits w32 = refl
+pow-bits w64 = refl
+pow-bits w128 = refl
+
+to_le_bytes-digits : (w : Width) (x : ℕ) → to_le_bytes w x ≡ digits (byte_len w) x
+to_le_bytes-digits w x = bytes_low_first-digits 0 (byte_len w) x ∙ ap (digits (byte_len w)) (div-one x)
+
+pub length-to_le_bytes : (w : Width) (x : ℕ) → length (to_le_bytes w x) ≡ byte_len w
+length-to_le_bytes w x = rw (to_le_bytes-digits w x) (length-digits (byte_len w) x)
+
+pub to_le_bytes_are_bytes : (w : Width) (x : ℕ) → AreBytes (to_le_bytes w x)
+to_le_bytes_are_bytes w x = rw (to_le_bytes-digits w x) (digits_are_bytes (byte_len w) x)
+
+pub from_le_bytes-to_le_bytes : (w : Width) (x : ℕ) → x < 2 ^ bits w → from_le_bytes w (to_le_bytes w x) ≡ x
+from_le_bytes-to_le_bytes w x fits =
+    from_le_bytes-number w (to_le_bytes w x) (length-to_le_bytes w x)
+    ∙ ap number (to_le_bytes-digits w x)
+    ∙ number-digits (byte_len w) x (rw (← pow-bits w) fits)
+
+pub to_le_bytes-from_le_bytes : (w : Width) (bs : List ℕ) → length bs ≡ byte_len w → AreBytes bs → to_le_bytes w (from_le_bytes w bs) ≡ bs
+to_le_bytes-from_le_bytes w bs len all =
+    to_le_bytes-digits w (from_le_bytes w bs)
+    ∙ ap (digits (byte_len w)) (from_le_bytes-number w bs len)
+    ∙ ap (λ k. digits k (number bs)) (sym len) ∙ digits-number bs all
+
+pub from_le_bytes_fits : (w : Width) (bs : List ℕ) → length bs ≡ byte_len w → AreBytes bs → from_le_bytes w bs < 2 ^ bits w
+from_le_bytes_fits w bs len all = rw (from_le_bytes-number w bs len, pow-bits w, ← len) (number_fits bs all)

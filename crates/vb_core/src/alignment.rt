@@ -1,0 +1,185 @@
+//! Alignments in bytes.
+ghost use Rattle.std.specs.Prelude.{◌≡◌, ◌^◌, ◌<◌, ◌≤◌, ◌%◌, ◌↔◌, IsTrue, IsErrOf, IsOkAnd, Some};
+ghost use Rattle.std.specs.Int.{is_power_of_two};
+ghost use Rattle.std.specs.Fmt.{decimal};
+
+use crate::element::Element;
+use crate::error::BufferError;
+use std::fmt;
+use std::marker::Model;
+
+/// A power of two below `2^64`: the number that divides the place in bytes of the first item of a buffer.
+///
+/// Contracts see an alignment as its exponent. Equality, order and hash are those of the exponent.
+#[derive(Clone, Copy, Debug, PartialEq, Eq, PartialOrd, Ord, Hash)]
+pub struct Alignment {
+    exponent: u8,
+}
+
+impl Model for Alignment {
+    ghost use Rattle.std.specs.Prelude.{ℕ, ◌<◌};
+
+    ghost Value = { ℕ };
+
+    ghost view = { λ alignment. alignment.exponent };
+
+    ghost invariant = { λ alignment. alignment.exponent < 64 };
+
+    ghost inverse = { λ exponent. record { exponent = exponent } };
+}
+
+impl Alignment {
+    /// The alignment that a buffer declares where no other is asked for: 256 bytes, more than any vector register has.
+    pub const DEFAULT_ALIGNMENT: Alignment = Alignment { exponent: 8 };
+
+    /// The alignment of copies from a device to the host: 256 bytes.
+    pub const HOST_COPY: Alignment = Alignment { exponent: 8 };
+
+    /// The greatest alignment that untrusted input may ask for: 65536 bytes, the size of the largest common page.
+    pub const MAX_UNTRUSTED: Alignment = Alignment { exponent: 16 };
+
+    /// The greatest alignment: `2^63` bytes.
+    pub const MAX: Alignment = Alignment { exponent: 63 };
+
+    /// The alignment of `align` bytes, which is a power of two.
+    pub fn new(align: usize) -> Alignment
+        requires { IsTrue (is_power_of_two align) }
+        ensures { 2 ^ result ≡ align }
+    {
+        Alignment {
+            exponent: align.ilog2() as u8,
+        }
+    }
+
+    /// The alignment of one byte, which every place has.
+    pub fn none() -> Alignment
+        ensures { result ≡ 0 }
+    {
+        Alignment { exponent: 0 }
+    }
+
+    /// The alignment of an element, `T::ALIGN` bytes.
+    pub fn of<T: Element>() -> Alignment
+        ensures exponent { result ≡ T.align_exponent }
+        ensures bytes { 2 ^ result ≡ T.ALIGN }
+    {
+        Alignment::new(T::ALIGN)
+    }
+
+    /// The alignment of `2^exponent` bytes; the exponent is below 64.
+    pub fn from_exponent(exponent: u8) -> Alignment
+        requires { exponent < 64 }
+        ensures { result ≡ exponent }
+    {
+        Alignment { exponent }
+    }
+
+    /// The alignment of `2^exponent` bytes. Refused with `ExponentTooLarge` exactly where the exponent is 64 or more.
+    pub fn try_from_exponent(exponent: u8) -> Result<Alignment, BufferError>
+        ensures fits { exponent < 64 → result ≡ Ok exponent }
+        ensures too_large { 64 ≤ exponent → IsErrOf result (BufferError.ExponentTooLarge exponent) }
+    {
+        if exponent >= 64 {
+            return Err(BufferError::ExponentTooLarge { exponent });
+        }
+        Ok(Alignment { exponent })
+    }
+
+    /// The alignment of `2^exponent` bytes, where the exponent comes from input that isn't trusted and so isn't to
+    /// ask for more than `MAX_UNTRUSTED`. Refused with `ExponentTooLarge` exactly where the exponent is 64 or more,
+    /// and with `Untrusted` exactly where it is 17 to 63.
+    pub fn try_from_untrusted_exponent(exponent: u8) -> Result<Alignment, BufferError>
+        ensures fits { exponent ≤ 16 → result ≡ Ok exponent }
+        ensures untrusted { 16 < exponent → exponent < 64 → IsErrOf result (BufferError.Untrusted exponent) }
+        ensures too_large { 64 ≤ exponent → IsErrOf result (BufferError.ExponentTooLarge exponent) }
+    {
+        let alignment = Alignment::try_from_exponent(exponent)?;
+        if alignment > Alignment::MAX_UNTRUSTED {
+            return Err(BufferError::Untrusted { exponent });
+        }
+        Ok(alignment)
+    }
+
+    /// The alignment of `align` bytes. Refused with `AlignmentZero` exactly where `align` is 0, and with
+    /// `NotPowerOfTwo` exactly where it is another number that is no power of two.
+    pub fn try_from_u32(align: u32) -> Result<Alignment, BufferError>
+        ensures power { IsTrue (is_power_of_two align) → IsOkAnd result (λ alignment. 2 ^ alignment ≡ align) }
+        ensures zero { align ≡ 0 → IsErrOf result BufferError.AlignmentZero }
+        ensures no_power { 0 < align → ¬ IsTrue (is_power_of_two align) → IsErrOf result (BufferError.NotPowerOfTwo align) }
+    {
+        let value = align as usize;
+        if value == 0 {
+            return Err(BufferError::AlignmentZero);
+        }
+        if !value.is_power_of_two() {
+            return Err(BufferError::NotPowerOfTwo { value });
+        }
+        Ok(Alignment::new(value))
+    }
+
+    /// The alignment in bytes. Refused with `PastU32` exactly where the exponent is 32 or more.
+    pub fn to_u32(self) -> Result<u32, BufferError>
+        ensures fits { self < 32 → result ≡ Ok (2 ^ self) }
+        ensures past { 32 ≤ self → IsErrOf result (BufferError.PastU32 self) }
+    {
+        if self.exponent >= 32 {
+            return Err(BufferError::PastU32 {
+                exponent: self.exponent,
+            });
+        }
+        Ok(1 << self.exponent)
+    }
+
+    /// The power of two that the alignment is.
+    pub fn exponent(self) -> u8
+        ensures value { result ≡ self }
+        ensures in_range { result < 64 }
+    {
+        self.exponent
+    }
+
+    /// The alignment in bytes.
+    pub fn as_usize(self) -> usize
+        ensures value { result ≡ 2 ^ self }
+        ensures in_range { self < 64 }
+    {
+        1 << self.exponent
+    }
+
+    /// Whether `other` divides it, so that what has this alignment has that one too.
+    pub fn is_aligned_to(self, other: Alignment) -> bool
+        ensures exponents { IsTrue result ↔ (other ≤ self) }
+        ensures divides { IsTrue result ↔ (2 ^ self % 2 ^ other ≡ 0) }
+    {
+        self.exponent >= other.exponent
+    }
+
+    /// Whether it divides `offset`, a number of bytes.
+    pub fn is_offset_aligned(self, offset: usize) -> bool
+        ensures divides { IsTrue result ↔ (offset % 2 ^ self ≡ 0) }
+        ensures in_range { self < 64 }
+    {
+        offset % self.as_usize() == 0
+    }
+}
+
+impl From<Alignment> for usize {
+    ghost from_gives = { λ alignment bytes. bytes ≡ 2 ^ alignment };
+
+    fn from(alignment: Alignment) -> usize {
+        alignment.as_usize()
+    }
+}
+
+/// The alignment in bytes, in decimal.
+impl fmt::Display for Alignment {
+    ghost output = { λ alignment. Some (decimal (2 ^ alignment)) };
+
+    fn fmt<W: fmt::Write>(&self, f: &mut fmt::Formatter<W>) -> fmt::Result {
+        let bytes = self.as_usize();
+        write!(f, "{bytes}")
+    }
+}
+
+#[cfg(test)]
+mod tests;
