@@ -1,4 +1,4 @@
--- What the words after a command's name ask for.
+-- What the words of a line name and hold.
 use Rattle.std.specs.Prelude.{ℕ, List, [], ◌∷◌, codes, Option, Some, None, option_map, if◌then◌else◌}
 use Rattle.std.specs.Str.{bytes_eq}
 use Rattle.vb_command.specs.Machine.{Order, Import, Len, Count, Get, Select, Selectunset}
@@ -19,60 +19,60 @@ keyword w =
     if bytes_eq w (codes "selectunset") then Some keywords.Selectunset else
     None
 
--- the first word, and those after it
-abbrev pub first_of : List (List ℕ) → Option (List ℕ × List (List ℕ))
-first_of [] = None
-first_of (w ∷ ws) = Some (w, ws)
-
--- no word is left
-abbrev pub end_of : List (List ℕ) → Option (Unit {0})
-end_of [] = Some tt
-end_of (w ∷ ws) = None
+-- a word, and the words after it
+abbrev pub next_word : List (List ℕ) → Option (List ℕ × List (List ℕ))
+next_word [] = None
+next_word (w ∷ ws) = Some (w, ws)
 
 -- a number, and the words after it
-unfoldable pub number_of : List (List ℕ) → Option (ℕ × List (List ℕ))
-number_of ws = do
-  w ← first_of ws
-  n ← number w.0
-  Some (n, w.1)
+unfoldable pub next_number : List (List ℕ) → Option (ℕ × List (List ℕ))
+next_number ws = do
+  (w, rest) ← next_word ws
+  n ← number w
+  Some (n, rest)
 
--- bytes, and the words after them
-unfoldable pub hex_of : List (List ℕ) → Option (List ℕ × List (List ℕ))
-hex_of ws = do
-  w ← first_of ws
-  bytes ← hex w.0
-  Some (bytes, w.1)
+-- bytes in hexadecimal, and the words after them
+unfoldable pub next_bytes : List (List ℕ) → Option (List ℕ × List (List ℕ))
+next_bytes ws = do
+  (w, rest) ← next_word ws
+  bytes ← hex w
+  Some (bytes, rest)
 
--- a number alone
+-- no words are left
+abbrev pub no_more_words : List (List ℕ) → Option (Unit {0})
+no_more_words [] = Some tt
+no_more_words (w ∷ ws) = None
+
+-- a number and no more
 unfoldable pub one_number : List (List ℕ) → Option ℕ
 one_number ws = do
-  k ← number_of ws
-  e ← end_of k.1
-  Some k.0
+  (k, rest) ← next_number ws
+  _ ← no_more_words rest
+  Some k
 
--- two numbers alone
+-- two numbers and no more
 unfoldable pub two_numbers : List (List ℕ) → Option (ℕ × ℕ)
 two_numbers ws = do
-  k ← number_of ws
-  i ← number_of k.1
-  e ← end_of i.1
-  Some (k.0, i.0)
+  (k, rest) ← next_number ws
+  (i, rest) ← next_number rest
+  _ ← no_more_words rest
+  Some (k, i)
 
--- three numbers and bytes alone
-unfoldable pub window : List (List ℕ) → Option (ℕ × ℕ × ℕ × List ℕ)
-window ws = do
-  k ← number_of ws
-  o ← number_of k.1
-  n ← number_of o.1
-  bytes ← hex_of n.1
-  e ← end_of bytes.1
-  Some (k.0, o.0, n.0, bytes.0)
+-- three numbers, bytes in hexadecimal and no more
+unfoldable pub numbers_and_bytes : List (List ℕ) → Option (ℕ × ℕ × ℕ × List ℕ)
+numbers_and_bytes ws = do
+  (k, rest) ← next_number ws
+  (o, rest) ← next_number rest
+  (n, rest) ← next_number rest
+  (bytes, rest) ← next_bytes rest
+  _ ← no_more_words rest
+  Some (k, o, n, bytes)
 
--- the order of a command, from the words after its name
+-- what a command with these words after its name asks for
 unfoldable pub arguments_of : Keyword → List (List ℕ) → Option Order
-arguments_of keywords.Import ws = option_map (λ x. Import x.0 x.1 x.2 x.3) (window ws)
+arguments_of keywords.Import ws = option_map (λ (k, o, n, bytes). Import k o n bytes) (numbers_and_bytes ws)
 arguments_of keywords.Len ws = option_map Len (one_number ws)
 arguments_of keywords.Count ws = option_map Count (one_number ws)
-arguments_of keywords.Get ws = option_map (λ x. Get x.0 x.1) (two_numbers ws)
-arguments_of keywords.Select ws = option_map (λ x. Select x.0 x.1) (two_numbers ws)
-arguments_of keywords.Selectunset ws = option_map (λ x. Selectunset x.0 x.1) (two_numbers ws)
+arguments_of keywords.Get ws = option_map (λ (k, i). Get k i) (two_numbers ws)
+arguments_of keywords.Select ws = option_map (λ (k, n). Select k n) (two_numbers ws)
+arguments_of keywords.Selectunset ws = option_map (λ (k, n). Selectunset k n) (two_numbers ws)

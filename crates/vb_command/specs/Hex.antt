@@ -1,4 +1,4 @@
--- Bytes that are written as hexadecimal digits, two a byte.
+-- Bytes that are written in hexadecimal, two digits a byte.
 use Rattle.std.specs.Prelude.{ℕ, ◌+◌, ◌*◌, List, [], ◌∷◌, codes, Option, Some, None, nat_lt, if◌then◌else◌}
 use Rattle.std.specs.Char.{digit_value}
 use Rattle.std.specs.Str.{bytes_eq}
@@ -8,15 +8,21 @@ use Rattle.vb_command.specs.Optional.{◌>>=◌}
 abbrev pub hex_value : ℕ → Option ℕ
 hex_value c = if nat_lt (digit_value c) 16 then Some (digit_value c) else None
 
--- the bytes that pairs of digits write
+-- the byte of two digits, the high one first
+abbrev pub hex_byte : ℕ → ℕ → Option ℕ
+hex_byte a b = do
+  high ← hex_value a
+  low ← hex_value b
+  Some (16 * high + low)
+
+-- the bytes of pairs of digits
 abbrev pub hex_pairs : List ℕ → Option (List ℕ)
 hex_pairs [] = Some []
 hex_pairs (a ∷ []) = None
 hex_pairs (a ∷ b ∷ more) = do
-  high ← hex_value a
-  low ← hex_value b
+  byte ← hex_byte a b
   bytes ← hex_pairs more
-  Some ((16 * high + low) ∷ bytes)
+  Some (byte ∷ bytes)
 
 -- the bytes that a word writes; `-` writes none
 abbrev pub hex : List ℕ → Option (List ℕ)

@@ -24,10 +24,14 @@ Tells view (Err unread.Unreadable) read = read ≡ None
 abbrev pub all_ascii : List ℕ → Bool
 all_ascii bs = list_all (λ b. nat_lt b 128) bs
 
--- what the words of a line ask for: a command, or nothing where there are none or the first begins with `#`
+-- whether a line whose first word is w is a comment: it begins with `#`, whose code is 35
+abbrev pub is_comment : List ℕ → Bool
+is_comment w = slice_index w 0 == 35
+
+-- what the words of a line ask for: a command, or nothing where there are no words or a comment
 unfoldable pub request_of : List (List ℕ) → Option (Option Order)
 request_of [] = Some None
-request_of (w ∷ ws) = if slice_index w 0 == 35 then Some None else (do
+request_of (w ∷ ws) = if is_comment w then Some None else (do
   name ← keyword w
   c ← arguments_of name ws
   Some (Some c))

@@ -8,10 +8,11 @@ use crate::arguments::arguments;
 use crate::command::Command;
 use crate::keyword::keyword_of;
 use crate::unread::Unread;
-use crate::words::first_word;
+use crate::words::next_word;
 use std::alloc::Allocator;
 
 /// The line as a text, if it is ASCII.
+#[tactic(auto, using(crate::proofs::Lines::ascii))]
 fn ascii_text(line: &[u8]) -> Option<&str>
     ensures { MatchOption result (all_ascii line.now ≡ false) (λ text. (all_ascii line.now ≡ true) × (text.now ≡ line.now)) }
 {
@@ -25,10 +26,10 @@ fn ascii_text(line: &[u8]) -> Option<&str>
 fn request_in<A: Allocator + Clone>(alloc: &A, text: &str) -> Result<Option<Command<A>>, Unread>
     ensures { Gives (option_map order) result (request_of (words text.now)) }
 {
-    let Some((name, rest)) = first_word(text) else {
+    let Some((name, rest)) = next_word(text) else {
         return Ok(None);
     };
-    if name.as_bytes().first() == Some(&b'#') {
+    if name.starts_with('#') {
         return Ok(None);
     }
     let keyword = keyword_of(name).ok_or(Unread::Unreadable)?;

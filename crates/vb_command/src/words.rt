@@ -2,9 +2,9 @@
 ghost use Rattle.std.specs.Prelude.{◌≡◌, [], ◌∷◌, MatchOption};
 ghost use Rattle.vb_command.specs.Words.{words};
 
-/// The first word, and what follows it.
-pub fn first_word(text: &str) -> Option<(&str, &str)>
-    ensures { MatchOption result (words text.now ≡ []) (λ p. words text.now ≡ p.0.now ∷ words p.1.now) }
+/// The first word of a text, and what follows it.
+pub fn next_word(text: &str) -> Option<(&str, &str)>
+    ensures { MatchOption result (words text.now ≡ []) (λ (word, rest). words text.now ≡ word.now ∷ words rest.now) }
 {
     let mut rest = text;
     while let Some((word, after)) = rest.split_once(' ') {
@@ -13,9 +13,5 @@ pub fn first_word(text: &str) -> Option<(&str, &str)>
         }
         rest = after;
     }
-    if rest.is_empty() {
-        None
-    } else {
-        Some((rest, ""))
-    }
+    if rest.is_empty() { None } else { Some((rest, "")) }
 }

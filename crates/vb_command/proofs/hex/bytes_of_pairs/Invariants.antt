@@ -1,7 +1,7 @@
 use Rattle.std.proofs.Common.{◌≡◌, ◌++◌, length}
 use Rattle.std.specs.Prelude.{option_map}
 use Rattle.vb_command.specs.Hex.{hex_pairs}
-use Rattle.vb_command.proofs.hex.pairs.Given as goal
+use Rattle.vb_command.proofs.hex.bytes_of_pairs.Given as goal
 
 -- the bytes so far, and those of the rest
 abbrev pub invariant-loop-rest : goal.invariant-loop-rest

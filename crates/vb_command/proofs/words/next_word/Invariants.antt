@@ -2,7 +2,7 @@ use Rattle.std.proofs.Common.{◌≡◌, length}
 use denote.Text.{Utf8}
 use denote.Shadow.{shadow}
 use Rattle.vb_command.specs.Words.{words}
-use Rattle.vb_command.proofs.words.first_word.Given as goal
+use Rattle.vb_command.proofs.words.next_word.Given as goal
 
 -- what is left has the same words
 abbrev pub invariant-loop-word : goal.invariant-loop-word

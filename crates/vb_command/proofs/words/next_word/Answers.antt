@@ -2,7 +2,7 @@ use Rattle.std.proofs.Common.{Some, None, lit<, rules, ap, ◌∙◌, sym}
 use Rattle.std.proofs.lemmas.Str.Pattern.{split_parts}
 use Rattle.vb_command.specs.Words.{words}
 use Rattle.vb_command.proofs.WordLists.{words_at, words_last}
-use Rattle.vb_command.proofs.words.first_word.Goals as goal
+use Rattle.vb_command.proofs.words.next_word.Goals as goal
 
 pub returns-then-not-is_empty : goal.returns-then-not-is_empty
 returns-then-not-is_empty c =
