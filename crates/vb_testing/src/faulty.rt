@@ -132,3 +132,6 @@ impl<W: Write> Write for FaultyWriter<W> {
         self.inner.flush()
     }
 }
+
+#[cfg(test)]
+mod tests;

@@ -1,9 +1,9 @@
-//! What tests lend to the code under test: readers and writers that fault. For tests alone.
+//! What tests lend to the code under test: an allocator that refuses a request, and a reader and a
+//! writer that fault. For tests alone.
 #![tactic(auto)]
 
 mod faulty;
+mod refusing;
 
 pub use faulty::{FaultyReader, FaultyWriter};
-
-#[cfg(test)]
-mod tests;
+pub use refusing::Refusing;
