@@ -3,7 +3,9 @@
 #![tactic(auto)]
 
 mod faulty;
+mod handle;
 mod refusing;
 
 pub use faulty::{FaultyReader, FaultyWriter};
+pub use handle::Handle;
 pub use refusing::Refusing;

@@ -49,6 +49,11 @@ impl<B: Allocator> Refusing<B> {
         let refused = self.requests.refused.get();
         refused > 0 && self.asked() >= refused
     }
+
+    // Counts one request that is none for memory, and answers whether it is the one that is refused.
+    pub(crate) fn refuses_next(&self) -> bool {
+        self.requests.refuses_next()
+    }
 }
 
 unsafe impl<B: Allocator> Allocator for Refusing<B> {
