@@ -16,8 +16,8 @@ hex_pairs-first [] byte two first = absurd (omega arith)
 hex_pairs-first (a ∷ []) byte two first = absurd (omega arith)
 hex_pairs-first (a ∷ b ∷ more) byte two first = ap (λ o. o >>= (λ x. hex_pairs more >>= (λ rest. Some (x ∷ rest)))) first
 
--- once more pairs are read, those read before them stand in front
-pub hex_pairs-push : (bytes digits rest : List ℕ) (byte : ℕ) → 2 ≤ length rest → hex_byte (get_or rest 0 0) (get_or rest 1 0) ≡ Some byte → hex_pairs digits ≡ option_map (λ more. bytes ++ more) (hex_pairs rest)
-    → hex_pairs digits ≡ option_map (λ more. (bytes ++ byte ∷ []) ++ more) (hex_pairs (take (length rest - 2) (drop 2 rest)))
-hex_pairs-push bytes digits rest byte two first before =
-    before ∙ (ap (option_map (λ more. bytes ++ more)) (hex_pairs-first rest byte two first) ∙ (option_map-push bytes byte (hex_pairs (drop 2 rest)) ∙ ap (λ xs. option_map (λ more. (bytes ++ byte ∷ []) ++ more) (hex_pairs xs)) (sym (take_rest rest 2))))
+-- once one more pair is read, its byte stands behind those before it
+pub pair_read : (bytes pushed digits rest : List ℕ) (byte : ℕ) → 2 ≤ length rest → hex_byte (get_or rest 0 0) (get_or rest 1 0) ≡ Some byte → hex_pairs digits ≡ option_map (λ more. bytes ++ more) (hex_pairs rest) → pushed ≡ bytes ++ byte ∷ []
+    → hex_pairs digits ≡ option_map (λ more. pushed ++ more) (hex_pairs (take (length rest - 2) (drop 2 rest)))
+pair_read bytes pushed digits rest byte two first before push =
+    rw push (before ∙ (ap (option_map (λ more. bytes ++ more)) (hex_pairs-first rest byte two first) ∙ (option_map-push bytes byte (hex_pairs (drop 2 rest)) ∙ ap (λ xs. option_map (λ more. (bytes ++ byte ∷ []) ++ more) (hex_pairs xs)) (sym (take_rest rest 2)))))

@@ -1,3 +1,4 @@
 pub mod WordLists
+pub mod NumberWords
 pub mod HexLists
 pub mod Lines

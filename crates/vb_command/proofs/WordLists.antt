@@ -1,43 +1,32 @@
--- Words of a line, one part after another.
-use Rattle.std.proofs.Common.{◌≡◌, ◌≢◌, ℕ, ◌^◌, ◌<◌, true, false, cond, List, [], ◌∷◌, ◌++◌, length, get_or, refl, sym, ap, ◌∙◌, Some, None, eqb, ne_eqb, lt-ltb, ltb-true, Result, Ok, Err}
+-- The words of a text, from its parts between spaces.
+use Rattle.std.proofs.Common.{◌≡◌, ℕ, ◌<◌, Bool, cond, List, [], ◌∷◌, length, refl, sym, ap, ◌∙◌, eqb, lt-ltb, arith}
 use Rattle.std.specs.Prelude.{filter, nat_lt}
-use Rattle.std.specs.List.{All, slice_split}
-use Rattle.std.proofs.lemmas.List.Splits.{slice_split_none, slice_split_at}
-use Rattle.std.proofs.lemmas.List.{get_or_default}
-use Rattle.std.specs.Result.{result_ok}
-use Rattle.std.specs.Str.{all_ascii_digits}
-use Rattle.std.specs.Str.Parse.{ParsesUnsigned, digits_value}
-use Rattle.std.proofs.lemmas.Bool.{and_parts, and_from, false_from_ne_true}
-use Rattle.std.proofs.lemmas.Str.Parse.{IsNumeralModel, numerals_by_value, tells_all_ascii_digits, parse_plain}
-use Rattle.vb_command.specs.Words.{words, number}
+use Rattle.std.specs.List.{slice_split, position_or_len, before_first, after_first}
+use Rattle.std.proofs.lemmas.List.Splits.{slice_split_first, slice_split_none}
+use Rattle.std.proofs.lemmas.List.Sums.{fails_before_first}
+use Rattle.vb_command.specs.Words.{words}
 
-own : IsNumeralModel (λ ds. all_ascii_digits ds ≡ true) (digits_value 10)
-own = numerals_by_value _ tells_all_ascii_digits
+-- the parts that aren't empty
+abbrev full : List (List ℕ) → List (List ℕ)
+full parts = filter (λ w. nat_lt 0 (length w)) parts
 
--- no space
-abbrev pub IsSolid : List ℕ → Type 0
-IsSolid xs = (i : ℕ) → i < length xs → get_or xs i 0 ≢ 32
+full-some : (w : List ℕ) (parts : List (List ℕ)) → 0 < length w → full (w ∷ parts) ≡ w ∷ full parts
+full-some w parts some = ap (λ b. cond b (w ∷ full parts) (full parts)) (lt-ltb 0 (length w) some)
 
-none_splits : (xs : List ℕ) → IsSolid xs → All (λ b. eqb b 32 ≡ false) xs
-none_splits xs h = λ k d lt. ne_eqb (get_or xs k d) 32 (λ e. h k lt (get_or_default xs k 0 d lt ∙ e))
+full-none : (w : List ℕ) (parts : List (List ℕ)) → length w ≡ 0 → full (w ∷ parts) ≡ full parts
+full-none [] parts none = refl
+full-none (b ∷ w) parts none = absurd (omega arith)
 
--- the parts with a word in front
-kept : (w : List ℕ) (ws : List (List ℕ)) → 0 < length w → filter (λ x. nat_lt 0 (length x)) (w ∷ ws) ≡ w ∷ filter (λ x. nat_lt 0 (length x)) ws
-kept w ws some = ap (λ b. cond b (w ∷ filter (λ x. nat_lt 0 (length x)) ws) (filter (λ x. nat_lt 0 (length x)) ws)) (lt-ltb 0 (length w) some)
+-- a part before a space is the first word, unless it is empty
+pub words-word : (text : List ℕ) → position_or_len (λ b. eqb b 32) text < length text → 0 < length (before_first (λ b. eqb b 32) text) → words text ≡ before_first (λ b. eqb b 32) text ∷ words (after_first (λ b. eqb b 32) text)
+words-word text space some = ap full (slice_split_first (λ b. eqb b 32) text 0 space) ∙ full-some (before_first (λ b. eqb b 32) text) (slice_split (λ b. eqb b 32) (after_first (λ b. eqb b 32) text)) some
 
--- a word and a space
-pub words_at : (w ys : List ℕ) → 0 < length w → IsSolid w → words (w ++ 32 ∷ ys) ≡ w ∷ words ys
-words_at w ys some h = ap (filter (λ x. nat_lt 0 (length x))) (slice_split_at (λ b. eqb b 32) w 32 ys (none_splits w h) refl) ∙ kept w (slice_split (λ b. eqb b 32) ys) some
+pub words-space : (text : List ℕ) → position_or_len (λ b. eqb b 32) text < length text → length (before_first (λ b. eqb b 32) text) ≡ 0 → words text ≡ words (after_first (λ b. eqb b 32) text)
+words-space text space none = ap full (slice_split_first (λ b. eqb b 32) text 0 space) ∙ full-none (before_first (λ b. eqb b 32) text) (slice_split (λ b. eqb b 32) (after_first (λ b. eqb b 32) text)) none
 
--- a word at the end
-pub words_last : (w : List ℕ) → 0 < length w → IsSolid w → words w ≡ w ∷ []
-words_last w some h = ap (filter (λ x. nat_lt 0 (length x))) (slice_split_none (λ b. eqb b 32) w (none_splits w h)) ∙ kept w [] some
+-- a text without a space is one word, unless it is empty
+pub words-last : (text : List ℕ) → position_or_len (λ b. eqb b 32) text ≡ length text → 0 < length text → words text ≡ text ∷ []
+words-last text last some = ap full (slice_split_none (λ b. eqb b 32) text (λ k d lt. fails_before_first (λ b. eqb b 32) text k d (omega arith))) ∙ full-some text [] some
 
--- What `parse` gives of a text with no plus in front.
-pub number_gives : {E : Type 0} (w : List ℕ) (r : Result ℕ E) → ParsesUnsigned 64 10 w r → get_or w 0 0 ≢ 43 → result_ok r ≡ number w
-number_gives {E} w (Ok n) h plain =
-    let p = parse_plain own {E = E} 64 w (Ok n) h plain in
-    ap Some p.1 ∙ sym (ap (λ b. cond b (Some (digits_value 10 w)) None) (and_from _ _ (and_from _ _ p.0.0 (lt-ltb 0 (length w) p.0.1)) (lt-ltb (digits_value 10 w) (2 ^ 64) p.0.2)))
-number_gives {E} w (Err e) h plain =
-    let p = parse_plain own {E = E} 64 w (Err e) h plain in
-    sym (ap (λ b. cond b (Some (digits_value 10 w)) None) (false_from_ne_true _ (λ t. let a = and_parts _ _ t in let b = and_parts _ _ a.0 in p (b.0, ltb-true _ _ b.1, ltb-true _ _ a.1))))
+-- how a part between spaces bears on the words
+pub ruleset parts = (words-word, words-space, words-last)

@@ -37,7 +37,11 @@ fn bytes_of_pairs<A: Allocator>(alloc: A, digits: &[u8]) -> Result<Vec<u8, A>, U
         bytes.push(byte)?;
         rest = more;
     }
-    if rest.is_empty() { Ok(bytes) } else { Err(Unread::Unreadable) }
+    if rest.is_empty() {
+        Ok(bytes)
+    } else {
+        Err(Unread::Unreadable)
+    }
 }
 
 /// The bytes that a word writes as pairs of hexadecimal digits; `-` writes none.

@@ -1,4 +1,8 @@
-//! The commands of a session over slots of bit sets, their answers, and the reading of lines.
+//! Commands over slots of bit sets: what a line asks for, what a command is answered, and how
+//! answers are printed.
+//!
+//! `specs/Machine.antt` says what each command does, `specs/Reading.antt` which lines ask for it,
+//! and `specs/Printed.antt` what answers look like.
 #![tactic(auto)]
 
 mod answer;
@@ -9,6 +13,8 @@ mod hex;
 mod keyword;
 mod line;
 mod number;
+#[cfg(test)]
+mod tests;
 mod unread;
 mod words;
 

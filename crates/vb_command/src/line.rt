@@ -22,8 +22,9 @@ fn ascii_text(line: &[u8]) -> Option<&str>
     std::str::from_utf8(line).ok()
 }
 
+/// What the words of a text ask for.
 #[tactic(auto, unfolding(crate::specs::Reading::request_of))]
-fn request_in<A: Allocator + Clone>(alloc: &A, text: &str) -> Result<Option<Command<A>>, Unread>
+fn request<A: Allocator + Clone>(alloc: &A, text: &str) -> Result<Option<Command<A>>, Unread>
     ensures { Gives (option_map order) result (request_of (words text.now)) }
 {
     let Some((name, rest)) = next_word(text) else {
@@ -37,7 +38,20 @@ fn request_in<A: Allocator + Clone>(alloc: &A, text: &str) -> Result<Option<Comm
     Ok(Some(command))
 }
 
-/// What a line asks for: a command, or nothing.
+/// What a line asks for, given without its line feed and the carriage return before that: a
+/// command, or `None` where the line has no words or is a comment.
+///
+/// Words stand between spaces. The first one is the name of a command, or begins with `#` and makes
+/// the line a comment. The others are its fields: numbers in decimal digits, up to
+/// 18446744073709551615, with leading zeros if need be and no sign, and bytes as pairs of
+/// hexadecimal digits of either case, or `-` for none.
+///
+/// A line can't be read if it has a byte that isn't ASCII, be it in a comment, if its first word
+/// names no command, if it has too few or too many words, or a word of another kind.
+///
+/// Memory is taken for the bytes of an `import` alone, as much as they need, with a copy of `alloc`.
+/// `Unread::Memory` is answered where that is refused. The line is gone over a few times, and each
+/// byte is looked at as often whatever the line holds.
 pub fn command_of<A: Allocator + Clone>(
     alloc: &A,
     line: &[u8],
@@ -45,5 +59,5 @@ pub fn command_of<A: Allocator + Clone>(
     ensures { Gives (option_map order) result (reading line.now) }
 {
     let text = ascii_text(line).ok_or(Unread::Unreadable)?;
-    request_in(alloc, text)
+    request(alloc, text)
 }

@@ -3,7 +3,7 @@ ghost use Rattle.std.specs.Prelude.{◌≡◌};
 ghost use Rattle.vb_command.specs.Words.{number};
 
 /// The number that a word writes in decimal digits. Unlike `parse`, it takes no `+`.
-#[tactic(auto, using(crate::proofs::WordLists::number_gives))]
+#[tactic(auto, using(crate::proofs::NumberWords::number_gives))]
 pub fn number(word: &str) -> Option<usize>
     ensures { result ≡ number word.now }
 {

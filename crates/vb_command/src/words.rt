@@ -3,6 +3,7 @@ ghost use Rattle.std.specs.Prelude.{◌≡◌, [], ◌∷◌, MatchOption};
 ghost use Rattle.vb_command.specs.Words.{words};
 
 /// The first word of a text, and what follows it.
+#[tactic(auto, using(crate::proofs::WordLists::parts))]
 pub fn next_word(text: &str) -> Option<(&str, &str)>
     ensures { MatchOption result (words text.now ≡ []) (λ (word, rest). words text.now ≡ word.now ∷ words rest.now) }
 {
@@ -13,5 +14,9 @@ pub fn next_word(text: &str) -> Option<(&str, &str)>
         }
         rest = after;
     }
-    if rest.is_empty() { None } else { Some((rest, "")) }
+    if rest.is_empty() {
+        None
+    } else {
+        Some((rest, ""))
+    }
 }
