@@ -1,5 +1,5 @@
 -- Windows of bits, counts of them, the place that a rank selects, and one bit written.
-use Rattle.std.proofs.Common.{◌^◌, ◌≢◌, eqb, set, ◌≡◌, ℕ, zero, suc, ◌+◌, ◌-◌, ◌*◌, ◌/◌, ◌%◌, ◌<◌, ◌≤◌, Bool, true, false, not, cond, List, [], ◌∷◌, ◌++◌, length, get_or, take, drop, Option, Some, None, refl, sym, ap, ◌∙◌, arith, ⊎_elim}
+use Rattle.std.proofs.Common.{◌^◌, ◌≢◌, eqb, set, ◌≡◌, ℕ, ◌+◌, ◌-◌, ◌*◌, ◌/◌, ◌%◌, ◌<◌, ◌≤◌, Bool, true, false, not, cond, List, [], ◌∷◌, ◌++◌, length, get_or, take, drop, Option, Some, None, refl, sym, ap, ◌∙◌, arith, ⊎_elim}
 use Rattle.std.proofs.lemmas.List.{length-map, same_lists, take-take, take-map, get_or-map, drop_at, get_or-set_same, get_or-set_other}
 use Rattle.std.proofs.lemmas.List.FromFn.{length-map-range_with_len, get_or-map-range_with_len, take-map-range_with_len, map-range_with_len_more}
 use Rattle.std.proofs.lemmas.List.Sums.{sum_by-append, sum_by_push, sum_by-cons, sum_by-take-le, count_by-le-length, count_by_more_yes}
@@ -8,6 +8,7 @@ use Rattle.std.proofs.lemmas.Nat.Bits.{bit_at_set_same, bit_at_set_other, bit_at
 use Rattle.std.specs.Int.{w8}
 use Rattle.std.specs.Prelude.{bit_and, bit_or}
 use Rattle.vb_kernel.specs.Bits.{bit_of, bits, at, count, negated, Selects, AnswersEach}
+use Rattle.vb_kernel.proofs.RangeLemmas.{map-range_with_len-add, same_map-range_with_len}
 
 -- ---- windows
 -- a window has as many bits as it was asked for
@@ -30,11 +31,6 @@ pub bits_none : (b : List ℕ) (o : ℕ) → bits b o 0 ≡ []
 unfolding bits
 bits_none b o = refl
 
--- a window and its first bit
-pub bits-suc : (b : List ℕ) (o n : ℕ) → bits b o (suc n) ≡ bit_of b o ∷ bits b (o + 1) n
-unfolding bits
-bits-suc b o n = refl
-
 -- a window and its last bit
 pub bits_more : (b : List ℕ) (o n : ℕ) → bits b o (n + 1) ≡ bits b o n ++ bit_of b (o + n) ∷ []
 unfolding bits
@@ -42,13 +38,8 @@ bits_more b o n = map-range_with_len_more (bit_of b) o n (o + n) refl
 
 -- a window cut in two
 pub bits-add : (b : List ℕ) (o m n : ℕ) → bits b o (m + n) ≡ bits b o m ++ bits b (o + m) n
-bits-add b o zero n =
-    let e : zero + n ≡ n = omega arith in let z : o + 0 ≡ o = omega arith in
-    ap (bits b o) e ∙ sym (ap (λ l. l ++ bits b (o + 0) n) (bits_none b o) ∙ ap (λ x. bits b x n) z)
-bits-add b o (suc m) n =
-    let e : suc m + n ≡ suc (m + n) = omega arith in let z : o + 1 + m ≡ o + suc m = omega arith in
-    ap (bits b o) e ∙ bits-suc b o (m + n) ∙ ap (λ l. bit_of b o ∷ l) (bits-add b (o + 1) m n ∙ ap (λ x. bits b (o + 1) m ++ bits b x n) z)
-    ∙ sym (ap (λ l. l ++ bits b (o + suc m) n) (bits-suc b o m))
+unfolding bits
+bits-add b o m n = map-range_with_len-add (bit_of b) o m n
 
 -- the end of a window
 pub drop-bits : (b : List ℕ) (o m n : ℕ) → drop m (bits b o (m + n)) ≡ bits b (o + m) n
@@ -56,9 +47,8 @@ drop-bits b o m n = ap (drop m) (bits-add b o m n) ∙ drop_at (bits b o m) (bit
 
 -- two windows with the same bits are the same list, wherever they lie
 pub same_bits : (b c : List ℕ) (o p n : ℕ) → ((i : ℕ) → i < n → bit_of b (o + i) ≡ bit_of c (p + i)) → bits b o n ≡ bits c p n
-same_bits b c o p n h =
-    same_lists _ _ (length-bits b o n ∙ sym (length-bits c p n))
-    (λ k d l. let lt : k < n = omega (arith, length-bits b o n) in at-bits b o n k d lt ∙ h k lt ∙ sym (at-bits c p n k d lt))
+unfolding bits
+same_bits b c o p n h = same_map-range_with_len (bit_of b) (bit_of c) o p n h
 
 -- ---- counts of lists
 -- the count of a list and its first value
@@ -112,6 +102,10 @@ count-bits_none b o = ap count (bits_none b o)
 -- the count of a window that is longer by one bit
 pub count-bits_more : (b : List ℕ) (o n : ℕ) → count (bits b o (n + 1)) ≡ count (bits b o n) + cond (bit_of b (o + n)) 1 0
 count-bits_more b o n = ap count (bits_more b o n) ∙ sum_by_push (λ b. cond b 1 0) (bits b o n) (bit_of b (o + n))
+
+-- the count of a window cut in two
+pub count-bits-add : (b : List ℕ) (o m n : ℕ) → count (bits b o (m + n)) ≡ count (bits b o m) + count (bits b (o + m) n)
+count-bits-add b o m n = ap count (bits-add b o m n) ∙ count-append (bits b o m) (bits b (o + m) n)
 
 -- no window counts more than its length
 pub count-bits-le : (b : List ℕ) (o n : ℕ) → count (bits b o n) ≤ n

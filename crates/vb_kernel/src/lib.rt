@@ -2,14 +2,27 @@
 //!
 //! A window is the `len` bits from bit `offset` on. It has to lie in the bytes, and its end has to
 //! be a `usize`; [`window_fits`] is the test. Places and counts are of bits, relative to the window.
+//!
+//! Counting and selecting read a [`Glance`], a source of bytes that counts its reads: see
+//! [`count_ones_by`] for the exact number, and [`most_looks`] for a bound on it.
 #![tactic(auto)]
 
 mod bit;
+mod chunk;
 mod count;
+mod glance;
+mod looks;
+mod read;
 mod select;
+#[cfg(test)]
+mod tests;
+mod unit;
 mod window;
+mod word;
 
 pub use bit::{get_bit, get_bit_unchecked, set_bit_unchecked, unset_bit_unchecked};
-pub use count::count_ones;
-pub use select::{bit_select, bit_select_unset};
+pub use count::{count_ones, count_ones_by};
+pub use glance::{Glance, Plain, Tally};
+pub use looks::most_looks;
+pub use select::{bit_select, bit_select_by, bit_select_unset, bit_select_unset_by};
 pub use window::window_fits;

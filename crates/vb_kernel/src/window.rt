@@ -12,3 +12,37 @@ pub fn window_fits(bytes: &[u8], offset: usize, len: usize) -> bool
         None => false,
     }
 }
+
+/// What a window is made of, from its front to its end.
+#[derive(Clone, Copy)]
+pub(crate) struct Parts {
+    /// The bits up to the first whole byte, all of one byte.
+    pub(crate) head: usize,
+    /// The whole bytes by 64.
+    pub(crate) chunks: usize,
+    /// The whole bytes after the chunks, by eight.
+    pub(crate) words: usize,
+    /// The whole bytes after the words.
+    pub(crate) bytes: usize,
+    /// The bits after the last whole byte.
+    pub(crate) tail: usize,
+}
+
+impl Parts {
+    ghost use Rattle.vb_kernel.specs.Windows.{IsCutOf};
+
+    /// The parts of the window of `len` bits from bit `offset` on.
+    pub(crate) fn of(offset: usize, len: usize) -> Parts
+        ensures { IsCutOf offset len result }
+    {
+        let head = len.min((8 - offset % 8) % 8);
+        let whole = (len - head) / 8;
+        Parts {
+            head,
+            chunks: whole / 64,
+            words: whole % 64 / 8,
+            bytes: whole % 8,
+            tail: (len - head) % 8,
+        }
+    }
+}

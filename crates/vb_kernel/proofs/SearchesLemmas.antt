@@ -1,0 +1,143 @@
+-- Searches that go from list to list.
+use Rattle.std.proofs.Common.{◌≡◌, ℕ, ◌+◌, ◌-◌, ◌/◌, ◌%◌, ◌^◌, ◌<◌, ◌≤◌, Bool, true, false, not, cond, List, ◌++◌, length, take, Some, refl, sym, ap, ◌∙◌, arith, subst, ⊎_elim, zero-add}
+use Rattle.std.below.core.specs.declared.ops.ControlFlow.{ControlFlow}
+use Rattle.std.below.core.specs.declared.ops.ControlFlow.TheVariants.{Continue, Break}
+use Rattle.std.specs.ControlFlow.{break_value}
+use Rattle.std.specs.Prelude.{count_ones}
+use Rattle.std.proofs.lemmas.List.{length-map, map-append, length-append, get_or_append_left, get_or-append-add, take-append-le}
+use Rattle.std.proofs.Math.Seq.{take-append_seam, take-append-add}
+use Rattle.std.proofs.lemmas.Bool.{cases_lt}
+use Rattle.std.proofs.Math.Nat.{zero-mod, div-eq_of_lt}
+use Rattle.std.proofs.lemmas.Nat.{ones_le_self}
+use Rattle.vb_kernel.specs.Bits.{bits, count, negated, Selects}
+use Rattle.vb_kernel.specs.Digits.{has_bit, digits}
+use Rattle.vb_kernel.specs.Searches.{matching, Searched}
+use Rattle.vb_kernel.proofs.BitsLemmas.{bits-add, length-bits, count-append, count-take-lt, count-take-mono, count-bits_none, count-negated_none}
+use Rattle.vb_kernel.proofs.DigitsLemmas.{length-digits, at-digits, take-digits, digits-add, count-digits, count-digits_one}
+
+-- ---- a place in two lists, one after the other
+-- found in the first
+Selects-append_left : (k l : List Bool) (n p : ℕ) → Selects k n (Some p) → Selects (k ++ l) n (Some p)
+Selects-append_left k l n p s = (
+  omega (arith, s.0, length-append k l),
+  get_or_append_left k l false p s.0 ∙ s.1,
+  ap count (take-append-le p k l (omega (arith, s.0))) ∙ s.2,
+)
+
+-- found in the second
+Selects-append_right : (k l : List Bool) (n left p : ℕ) → n ≡ left + count k → Selects l left (Some p) → Selects (k ++ l) n (Some (length k + p))
+Selects-append_right k l n left p passed s = (
+  omega (arith, s.0, length-append k l),
+  get_or-append-add k l p false ∙ s.1,
+  ap count (take-append-add k l p) ∙ count-append k (take p l) ∙ omega (arith, s.2),
+)
+
+-- a rank below the first one's count is found there
+Selects-left : (k l : List Bool) (n p : ℕ) → n < count k → Selects (k ++ l) n (Some p) → Selects k n (Some p)
+Selects-left k l n p low s =
+    let inside : p < length k = ⊎_elim (λ h. h)
+    (λ (past : length k ≤ p). absurd (omega (arith, s.2, count-take-mono (k ++ l) (length k) p past, ap count (take-append_seam k l))))
+    (cases_lt p (length k)) in (
+      inside,
+      sym (get_or_append_left k l false p inside) ∙ s.1,
+      sym (ap count (take-append-le p k l (omega arith))) ∙ s.2,
+    )
+
+-- ---- the values that are v
+-- there are as many values
+length-matching : (v : Bool) (l : List Bool) → length (matching v l) ≡ length l
+length-matching true l = refl
+length-matching false l = length-map l not
+
+-- in two lists, one after the other
+matching-append : (v : Bool) (k l : List Bool) → matching v (k ++ l) ≡ matching v k ++ matching v l
+matching-append true k l = refl
+matching-append false k l = map-append not k l
+
+-- in a window cut in two
+matching-bits-add : (v : Bool) (b : List ℕ) (o m n : ℕ) → matching v (bits b o (m + n)) ≡ matching v (bits b o m) ++ matching v (bits b (o + m) n)
+matching-bits-add v b o m n = ap (matching v) (bits-add b o m n) ∙ matching-append v (bits b o m) (bits b (o + m) n)
+
+-- how many they are in a window cut in two
+pub count-matching-bits-add : (v : Bool) (b : List ℕ) (o m n : ℕ) → count (matching v (bits b o (m + n))) ≡ count (matching v (bits b o m)) + count (matching v (bits b (o + m) n))
+count-matching-bits-add v b o m n = ap count (matching-bits-add v b o m n) ∙ count-append (matching v (bits b o m)) (matching v (bits b (o + m) n))
+
+-- the same, with the place and the length of the second part as the code has them
+pub count-matching-bits_split : (v : Bool) (b : List ℕ) (o m z p k : ℕ) → p ≡ o + m → z ≡ m + k → count (matching v (bits b o z)) ≡ count (matching v (bits b o m)) + count (matching v (bits b p k))
+count-matching-bits_split v b o m z p k place end =
+    ap (λ n. count (matching v (bits b o n))) end ∙ count-matching-bits-add v b o m k ∙ ap (λ x. count (matching v (bits b o m)) + count (matching v (bits b x k))) (sym place)
+
+-- none in a window of no bits
+pub count-matching-bits_none : (v : Bool) (b : List ℕ) (o : ℕ) → count (matching v (bits b o 0)) ≡ 0
+count-matching-bits_none true b o = count-bits_none b o
+count-matching-bits_none false b o = count-negated_none b o
+
+-- the true ones, where true is sought
+pub matching_true : (v : Bool) (l : List Bool) → v ≡ true → matching v l ≡ l
+matching_true true l e = refl
+matching_true false l e = cc
+
+-- the false ones, where false is sought
+pub matching_false : (v : Bool) (l : List Bool) → v ≡ false → matching v l ≡ negated l
+matching_false true l e = cc
+matching_false false l e = refl
+
+-- ---- searches of windows
+-- a place that was found is one of the window
+pub Searched_inside : (v : Bool) (b : List ℕ) (o z n p : ℕ) → Searched (matching v (bits b o z)) n (Break p) → p < z
+Searched_inside v b o z n p s = omega (arith, s.0, length-matching v (bits b o z), length-bits b o z)
+
+-- found in a front of the window
+pub Searched_longer : (v : Bool) (b : List ℕ) (o m z n p : ℕ) → m ≤ z → Searched (matching v (bits b o m)) n (Break p) → Searched (matching v (bits b o z)) n (Break p)
+Searched_longer v b o m z n p within s =
+    let e : m + (z - m) ≡ z = omega arith in
+    let t = Selects-append_left (matching v (bits b o m)) (matching v (bits b (o + m) (z - m))) n p s in
+    subst (λ x. Searched (matching v (bits b o x)) n (Break p)) e (subst (λ l. Searched l n (Break p)) (sym (matching-bits-add v b o m (z - m))) t)
+
+-- a window whose front was passed by is searched in what comes after it
+pub Searched_after : (v : Bool) (b : List ℕ) (o m k n left p : ℕ) → n ≡ left + count (matching v (bits b o m)) → Searched (matching v (bits b (o + m) k)) left (Break p) → Searched (matching v (bits b o (m + k))) n (Break (m + p))
+Searched_after v b o m k n left p passed s =
+    let long : length (matching v (bits b o m)) ≡ m = length-matching v (bits b o m) ∙ length-bits b o m in
+    let t = Selects-append_right (matching v (bits b o m)) (matching v (bits b (o + m) k)) n left p passed s in
+    subst (λ x. Searched (matching v (bits b o (m + k))) n (Break (x + p))) long (subst (λ l. Searched l n (Break (length (matching v (bits b o m)) + p))) (sym (matching-bits-add v b o m k)) t)
+
+-- a search of the part from place a to place y, of a source that stayed as it was, goes on with the search of the window
+pub Searched_on : (v : Bool) (b c : List ℕ) (o a y z n left : ℕ) (r : ControlFlow ℕ ℕ) → c ≡ b → y ≡ z → n ≡ left + count (matching v (bits b o a))
+    → Searched (matching v (bits c o y)) (left + count (matching v (bits c o a))) r → Searched (matching v (bits b o z)) n r
+Searched_on v b c o a y z n left r same end passed s =
+    let here = subst (λ x. Searched (matching v (bits x o y)) (left + count (matching v (bits x o a))) r) same s in
+    subst (λ x. Searched (matching v (bits b o x)) n r) end (subst (λ m. Searched (matching v (bits b o y)) m r) (sym passed) here)
+
+-- the place that a whole search gives
+pub Searched-Selects : (l : List Bool) (n : ℕ) (r : ControlFlow ℕ ℕ) → Searched l n r → Selects l n (break_value r)
+Searched-Selects l n (Break p) s = s
+Searched-Selects l n (Continue left) s = omega (arith, s)
+
+-- ---- searches of words
+-- the digits that are 0 in any case needn't be searched
+pub Searched-digits : (w k n : ℕ) (r : ControlFlow ℕ ℕ) → k ≤ 64 → w < 2 ^ k → Searched (digits w 0 64) n r → Searched (digits w 0 k) n r
+Searched-digits w k n r within small s =
+    let e : k + (64 - k) ≡ 64 = omega arith in
+    let cut : digits w 0 64 ≡ digits w 0 k ++ digits w (0 + k) (64 - k) = ap (digits w 0) (sym e) ∙ digits-add w 0 k (64 - k) in
+    let high : w / 2 ^ (0 + k) ≡ 0 = ap (λ x. w / 2 ^ x) (zero-add k) ∙ div-eq_of_lt small in
+    let none : count (digits w (0 + k) (64 - k)) ≡ 0 = count-digits w (0 + k) (64 - k) ∙ ap (λ x. count_ones (x % 2 ^ (64 - k))) high ∙ ap count_ones (zero-mod (2 ^ (64 - k))) ∙ omega (arith, ones_le_self 0) in
+    let same : count (digits w 0 64) ≡ count (digits w 0 k) = ap count cut ∙ count-append (digits w 0 k) (digits w (0 + k) (64 - k)) ∙ omega (arith, none) in
+    elim r as (λ r. Searched (digits w 0 64) n r → Searched (digits w 0 k) n r) [
+      | Break p ↦ λ t.
+          let low = count-take-lt (digits w 0 64) p t.0 t.1 in
+          Selects-left (digits w 0 k) (digits w (0 + k) (64 - k)) n p (omega (arith, low, t.2, same)) (subst (λ l. Selects l n (Some p)) cut t)
+      | Continue left ↦ λ t. t ∙ ap (λ x. left + x) same
+    ] s
+
+-- the one digit that is left after all others were halved away
+pub Selects-digits : (w p left n : ℕ) → p + 1 ≤ 64 → left < count (digits w p 1) → left + count (digits w 0 p) ≡ n → Selects (digits w 0 64) n (Some p)
+Selects-digits w p left n inside here before =
+    let one : (has_bit w p ≡ true) × (left ≡ 0) = set_one (has_bit w p) (omega (arith, count-digits_one w p)) in (
+      omega (arith, length-digits w 0 64),
+      at-digits w 0 64 p false (omega arith) ∙ ap (has_bit w) (zero-add p) ∙ one.0,
+      ap count (take-digits w 0 64 p (omega arith)) ∙ omega (arith, one.1),
+    )
+  where
+    set_one : (b : Bool) → left < cond b 1 0 → (b ≡ true) × (left ≡ 0)
+    set_one true h = (refl, omega arith)
+    set_one false h = absurd (omega arith)

@@ -1,0 +1,17 @@
+use Rattle.std.proofs.Common.{ap, sym, arith, ◌∙◌}
+use Rattle.vb_kernel.specs.Bits.{bits, count}
+use Rattle.vb_kernel.proofs.BitsLemmas.{count-bits_none}
+use Rattle.vb_kernel.proofs.BytesLemmas.{bits_of_read_byte}
+use Rattle.vb_kernel.proofs.DigitsLemmas.{count-digits_below}
+use Rattle.vb_kernel.proofs.count.count_part.Goals as goal
+
+pub returns-then-len-eq0-clause-value : goal.returns-then-len-eq0-clause-value
+returns-then-len-eq0-clause-value g c =
+    let b = g.G.Glance.bytes c.args.src.now in
+    sym (ap (λ n. count (bits b c.args.at n)) c.if-len-eq0.true ∙ count-bits_none b c.args.at)
+
+pub returns-clause-value : goal.returns-clause-value
+returns-clause-value g c =
+    let b = g.G.Glance.bytes c.args.src.now in
+    sym (count-digits_below c.byte_part.result c.args.len c.byte_part.ensures.clear) ∙ ap count c.byte_part.ensures.digits
+    ∙ ap count (bits_of_read_byte b c.byte.result c.args.at c.args.len c.byte.ensures.value (c.requires.in_byte (omega arith)))

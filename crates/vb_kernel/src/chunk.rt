@@ -1,0 +1,91 @@
+//! Counting and selecting within a chunk of 64 bytes.
+ghost use Rattle.std.specs.Prelude.{◌≡◌, ℕ, ◌+◌, ◌*◌, ◌≤◌, length};
+ghost use Rattle.std.below.core.specs.declared.int.usize.TheConstants.{MAX};
+ghost use Rattle.vb_kernel.specs.Bits.{bits, count};
+ghost use Rattle.vb_kernel.specs.Searches.{matching, Searched};
+
+use crate::glance::Plain;
+use crate::read::word_at;
+use crate::select::find_in_units;
+use std::marker::Model;
+use std::ops::ControlFlow;
+
+/// A sum in four parts. They are kept apart, as the lanes of a vector are, so that the counts of a
+/// chunk's words don't wait for one another.
+#[derive(Drop)]
+pub(crate) struct LaneSum {
+    a: usize,
+    b: usize,
+    c: usize,
+    d: usize,
+}
+
+impl Model for LaneSum {
+    ghost Value = { ℕ };
+
+    ghost view = { λ s. s.a + s.b + s.c + s.d };
+
+    ghost invariant = { λ s. s.a + s.b + s.c + s.d ≤ MAX };
+}
+
+impl LaneSum {
+    /// The sum of nothing.
+    pub(crate) fn zero() -> LaneSum
+        ensures { result ≡ 0 }
+    {
+        LaneSum {
+            a: 0,
+            b: 0,
+            c: 0,
+            d: 0,
+        }
+    }
+
+    /// Adds the true bits of a chunk: words 0 and 4 to the first part, 1 and 5 to the second, and
+    /// so on, which is the order that a vector of four words has.
+    pub(crate) fn add(self, chunk: &[u8; 64]) -> LaneSum
+        requires { self + 512 ≤ usize.MAX }
+        ensures { result ≡ self + count (bits chunk.now 0 512) }
+    {
+        LaneSum {
+            a: self.a + word_ones(chunk, 0) + word_ones(chunk, 32),
+            b: self.b + word_ones(chunk, 8) + word_ones(chunk, 40),
+            c: self.c + word_ones(chunk, 16) + word_ones(chunk, 48),
+            d: self.d + word_ones(chunk, 24) + word_ones(chunk, 56),
+        }
+    }
+
+    /// The whole sum.
+    pub(crate) fn total(self) -> usize
+        ensures { result ≡ self }
+    {
+        self.a + self.b + self.c + self.d
+    }
+}
+
+/// How many bits of the eight bytes from `at` on are true.
+fn word_ones(bytes: &[u8], at: usize) -> usize
+    requires { at + 8 ≤ length bytes.now }
+    ensures value { result ≡ count (bits bytes.now (8 * at) 64) }
+    ensures few { result ≤ 64 }
+{
+    word_at(bytes, at).count_ones() as usize
+}
+
+/// How many bits of the chunk are true.
+pub(crate) fn chunk_ones(chunk: &[u8; 64]) -> usize
+    ensures { result ≡ count (bits chunk.now 0 512) }
+{
+    LaneSum::zero().add(chunk).total()
+}
+
+/// Searches a chunk that was read, word by word.
+///
+/// It is called where the bit sought is in the chunk, once a search, and takes the chunk by value:
+/// so the chunks that are only counted stay in registers.
+#[inline(never)]
+pub(crate) fn find_in_words(chunk: [u8; 64], n: usize, value: bool) -> ControlFlow<usize, usize>
+    ensures { Searched (matching value (bits chunk 0 512)) n result }
+{
+    find_in_units::<u64, Plain>(&mut Plain::new(&chunk), 0, 0, 8, n, value)
+}

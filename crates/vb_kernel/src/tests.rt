@@ -1,0 +1,6 @@
+//! What the contracts promise, compared with worked values and with the plain bit loops.
+mod bits;
+mod counts;
+mod plain;
+mod sample;
+mod selects;

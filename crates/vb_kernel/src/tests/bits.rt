@@ -1,0 +1,32 @@
+//! Single bits and windows.
+use crate::{get_bit, get_bit_unchecked, set_bit_unchecked, unset_bit_unchecked, window_fits};
+
+#[test]
+fn single_bits(rt: HostRuntime) {
+    let mut bytes = [0u8, 0];
+    set_bit_unchecked(&mut bytes, 3);
+    set_bit_unchecked(&mut bytes, 15);
+    assert_eq!(rt; bytes, [0b0000_1000, 0b1000_0000]);
+    assert!(rt; get_bit(&bytes, 15) && get_bit_unchecked(&bytes, 3));
+    assert!(rt; !get_bit(&bytes, 14) && !get_bit_unchecked(&bytes, 4));
+    unset_bit_unchecked(&mut bytes, 3);
+    assert_eq!(rt; bytes, [0, 0b1000_0000]);
+}
+
+#[test]
+fn windows(rt: HostRuntime) {
+    let rows = [
+        (0, 8, true),
+        (3, 5, true),
+        (3, 6, false),
+        (8, 0, true),
+        (9, 0, false),
+        (usize::MAX, 0, false),
+        (usize::MAX, 1, false),
+        (1, usize::MAX, false),
+    ];
+    for (offset, len, fits) in rows {
+        assert_eq!(rt; window_fits(&[0], offset, len), fits, "at {offset}, {len}");
+    }
+    assert!(rt; window_fits(&[], 0, 0));
+}

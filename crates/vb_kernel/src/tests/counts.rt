@@ -1,0 +1,71 @@
+//! Counts, and the looks that they take.
+use crate::tests::{plain, sample};
+use crate::{Tally, count_ones, count_ones_by, most_looks, window_fits};
+use std::alloc::AllocError;
+use std::process::Abort;
+
+fn count_is_plain(rt: &impl Abort, bytes: &[u8], offset: usize, len: usize) {
+    let fits = window_fits(bytes, offset, len);
+    assert!(rt; fits);
+    let ones = count_ones(bytes, offset, len);
+    assert_eq!(rt;
+        ones,
+        plain::count_ones(bytes, offset, len),
+        "at {offset}, {len}"
+    );
+    let mut src = Tally::new(bytes);
+    assert_eq!(rt;
+        count_ones_by(&mut src, offset, len),
+        ones,
+        "at {offset}, {len}"
+    );
+    assert!(rt; src.looks() <= most_looks(len) as u64, "at {offset}, {len}");
+}
+
+#[test]
+fn counts_are_plain(rt: HostRuntime) -> Result<(), AllocError> {
+    let bytes = sample::mixed_bytes(rt.alloc(), 8200)?;
+    let short = [
+        0, 1, 2, 7, 8, 9, 15, 16, 17, 31, 32, 33, 63, 64, 65, 127, 128, 255, 256, 257, 513,
+    ];
+    for offset in 0..=30 {
+        for len in short {
+            count_is_plain(&rt, &bytes, offset, len);
+        }
+    }
+    for offset in [0, 5] {
+        for len in [1024, 4096, 4097, 65537] {
+            count_is_plain(&rt, &bytes, offset, len);
+        }
+    }
+    Ok(())
+}
+
+#[test]
+fn looks(rt: HostRuntime) -> Result<(), AllocError> {
+    let bytes = Vec::from_elem(rt.alloc(), 0xFFu8, 1001)?;
+    let rows = [
+        (0, 513, 2),
+        (3, 7, 2),
+        (5, 600, 6),
+        (7, 506, 16),
+        (0, 8000, 20),
+        (1, 512, 16),
+        (0, 512, 1),
+        (3, 0, 0),
+    ];
+    for (offset, len, looks) in rows {
+        let fits = window_fits(&bytes, offset, len);
+        assert!(rt; fits);
+        let mut src = Tally::new(&bytes);
+        assert_eq!(rt;
+            count_ones_by(&mut src, offset, len),
+            len,
+            "at {offset}, {len}"
+        );
+        assert_eq!(rt; src.looks(), looks, "at {offset}, {len}");
+    }
+    assert_eq!(rt; most_looks(506), 16);
+    assert_eq!(rt; most_looks(8000), 31);
+    Ok(())
+}

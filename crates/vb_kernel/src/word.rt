@@ -1,0 +1,63 @@
+//! Counting and selecting within one word.
+ghost use Rattle.std.specs.Prelude.{◌≡◌, ℕ, ◌+◌, ◌*◌, ◌^◌, ◌<◌, ◌≤◌, [], ◌∷◌, Some};
+ghost use Rattle.vb_kernel.specs.Bits.{bits, count, Selects};
+ghost use Rattle.vb_kernel.specs.Digits.{digits};
+ghost use Rattle.vb_kernel.specs.Searches.{matching, Searched};
+
+use std::ops::ControlFlow;
+
+/// The `len` bits of `byte` from bit `from` on as the lowest digits of a word, each 1 where the bit
+/// is `value`. The digits above them are 0: a byte that was turned over is masked afterwards.
+pub(crate) fn byte_part(byte: u8, from: usize, len: usize, value: bool) -> u64
+    requires { from + len ≤ 8 }
+    ensures digits { digits result 0 len ≡ matching value (bits (byte ∷ []) from len) }
+    ensures clear { result < 2 ^ len }
+{
+    let byte = if value { byte } else { !byte };
+    (u64::from(byte) >> from) & ((1 << len) - 1)
+}
+
+/// Searches a word for the `n`-th digit that is 1.
+pub(crate) fn find_in_word(word: u64, n: usize) -> ControlFlow<usize, usize>
+    ensures { Searched (digits word 0 64) n result }
+{
+    let ones = word.count_ones() as usize;
+    if n < ones {
+        ControlFlow::Break(select_in_word(word, n))
+    } else {
+        ControlFlow::Continue(n - ones)
+    }
+}
+
+/// The place of the `n`-th digit of `word` that is 1, by halving the digits that are left: six
+/// steps without a branch.
+fn select_in_word(word: u64, n: usize) -> usize
+    requires { n < count (digits word 0 64) }
+    ensures { Selects (digits word 0 64) n (Some result) }
+{
+    let (at, left) = halve(word, 0, 32, n);
+    let (at, left) = halve(word, at, 16, left);
+    let (at, left) = halve(word, at, 8, left);
+    let (at, left) = halve(word, at, 4, left);
+    let (at, left) = halve(word, at, 2, left);
+    let (at, _) = halve(word, at, 1, left);
+    at
+}
+
+/// The half, of the `2 * half` digits from digit `at` on, in which the `left`-th 1 is, and which
+/// one it is there.
+fn halve(word: u64, at: usize, half: usize, left: usize) -> (usize, usize)
+    requires some { 0 < half }
+    requires inside { at + 2 * half ≤ 64 }
+    requires here { left < count (digits word at (2 * half)) }
+    ensures inside { result.0 + half ≤ 64 }
+    ensures here { result.1 < count (digits word result.0 half) }
+    ensures before { result.1 + count (digits word 0 result.0) ≡ left + count (digits word 0 at) }
+{
+    let ones = ((word >> at) & ((1 << half) - 1)).count_ones() as usize;
+    if left < ones {
+        (at, left)
+    } else {
+        (at + half, left - ones)
+    }
+}
