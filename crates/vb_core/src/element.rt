@@ -57,3 +57,6 @@ pub trait Element: Copy {
 
     ghost lawful: { IsElement SIZE ALIGN align_exponent is_in_type form value_of };
 }
+
+#[cfg(test)]
+mod tests;

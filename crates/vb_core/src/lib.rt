@@ -1,10 +1,15 @@
-//! What every crate of the memory layer speaks of: the refusals of a call.
+//! What every crate of the memory layer speaks of: alignments, the elements of buffers, indices of bits, iterators of
+//! known length, and the reasons for which a call is refused.
 #![tactic(auto)]
 
 pub mod alignment;
 pub mod element;
 pub mod error;
+pub mod index;
+pub mod trusted;
 
 pub use alignment::Alignment;
 pub use element::Element;
 pub use error::{BufferError, ExtendError};
+pub use index::BitIndex;
+pub use trusted::{TrustedLen, TrustedLenAdapter, trusted_len};

@@ -1,0 +1,112 @@
+//! Whole numbers as indices of bits.
+ghost use Rattle.std.specs.Prelude.{◌≡◌, ℤ, pos};
+ghost use Rattle.vb_core.specs.Indices.{place_of};
+
+/// A whole number that may name a place of a list. The twelve whole-number types are indices.
+pub trait BitIndex: Copy {
+    // The number that it is.
+    ghost number: { Self → ℤ };
+
+    /// The place that the number names: `None` exactly where the number is below 0 or past `usize::MAX`.
+    fn place(self) -> Option<usize>
+        ensures { result ≡ place_of (number self) };
+}
+
+impl BitIndex for u8 {
+    ghost number = { pos };
+
+    fn place(self) -> Option<usize> {
+        Some(self as usize)
+    }
+}
+
+impl BitIndex for u16 {
+    ghost number = { pos };
+
+    fn place(self) -> Option<usize> {
+        Some(self as usize)
+    }
+}
+
+impl BitIndex for u32 {
+    ghost number = { pos };
+
+    fn place(self) -> Option<usize> {
+        Some(self as usize)
+    }
+}
+
+impl BitIndex for u64 {
+    ghost number = { pos };
+
+    fn place(self) -> Option<usize> {
+        Some(self as usize)
+    }
+}
+
+impl BitIndex for usize {
+    ghost number = { pos };
+
+    fn place(self) -> Option<usize> {
+        Some(self)
+    }
+}
+
+impl BitIndex for u128 {
+    ghost number = { pos };
+
+    fn place(self) -> Option<usize> {
+        usize::try_from(self).ok()
+    }
+}
+
+impl BitIndex for i8 {
+    ghost number = { λ index. index };
+
+    fn place(self) -> Option<usize> {
+        usize::try_from(self).ok()
+    }
+}
+
+impl BitIndex for i16 {
+    ghost number = { λ index. index };
+
+    fn place(self) -> Option<usize> {
+        usize::try_from(self).ok()
+    }
+}
+
+impl BitIndex for i32 {
+    ghost number = { λ index. index };
+
+    fn place(self) -> Option<usize> {
+        usize::try_from(self).ok()
+    }
+}
+
+impl BitIndex for i64 {
+    ghost number = { λ index. index };
+
+    fn place(self) -> Option<usize> {
+        usize::try_from(self).ok()
+    }
+}
+
+impl BitIndex for i128 {
+    ghost number = { λ index. index };
+
+    fn place(self) -> Option<usize> {
+        usize::try_from(self).ok()
+    }
+}
+
+impl BitIndex for isize {
+    ghost number = { λ index. index };
+
+    fn place(self) -> Option<usize> {
+        usize::try_from(self).ok()
+    }
+}
+
+#[cfg(test)]
+mod tests;

@@ -1,0 +1,30 @@
+use super::BitIndex;
+
+fn place_of<I: BitIndex>(index: I) -> Option<usize> {
+    index.place()
+}
+
+#[test]
+fn unsigned_numbers_name_places_up_to_usize(rt: HostRuntime) {
+    assert_eq!(rt; place_of(255u8), Some(255));
+    assert_eq!(rt; place_of(65535u16), Some(65535));
+    assert_eq!(rt; place_of(40000u32), Some(40000));
+    assert_eq!(rt; place_of(u64::MAX), Some(usize::MAX));
+    assert_eq!(rt; place_of(usize::MAX), Some(usize::MAX));
+    assert_eq!(rt; place_of(18446744073709551615u128), Some(usize::MAX));
+    assert_eq!(rt; place_of(18446744073709551616u128), None);
+}
+
+#[test]
+fn signed_numbers_below_0_name_no_place(rt: HostRuntime) {
+    assert_eq!(rt; place_of(-128i8), None);
+    assert_eq!(rt; place_of(127i8), Some(127));
+    assert_eq!(rt; place_of(-1i16), None);
+    assert_eq!(rt; place_of(0i32), Some(0));
+    assert_eq!(rt; place_of(i64::MIN), None);
+    assert_eq!(rt; place_of(i64::MAX), Some(9223372036854775807));
+    assert_eq!(rt; place_of(-1isize), None);
+    assert_eq!(rt; place_of(-1i128), None);
+    assert_eq!(rt; place_of(18446744073709551615i128), Some(usize::MAX));
+    assert_eq!(rt; place_of(18446744073709551616i128), None);
+}

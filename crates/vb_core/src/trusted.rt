@@ -1,0 +1,82 @@
+//! Iterators that know how many items they have still to give.
+ghost use Rattle.std.specs.Prelude.{◌≡◌, ℕ};
+ghost use Rattle.std.specs.Iterator.{at_most};
+ghost use Rattle.vb_core.specs.Lengths.{IsLength, IsExactCount, CountsDown};
+ghost use Rattle.vb_core.specs.ExactCounts.{adapter_counts};
+
+mod std_iterators;
+
+use std::marker::Model;
+
+/// An iterator that knows how many items it has still to give, so that room for all can be made at once.
+pub trait TrustedLen: Iterator {
+    // How many items are still to come.
+    ghost left: { Self → ℕ };
+
+    /// Exactly how many items are still to come.
+    fn exact_len(&self) -> usize
+        ensures { result ≡ left self.now };
+
+    ghost counts: { IsExactCount Self.next_gives Self.remaining left };
+}
+
+/// An iterator with the number of items that it has still to give, which its maker vouches for.
+#[derive(Drop)]
+pub struct TrustedLenAdapter<I> {
+    iter: I,
+    left: usize,
+}
+
+impl<I> Model for TrustedLenAdapter<I> {
+    ghost use Rattle.vb_core.specs.Lengths.{Counted};
+
+    ghost Value = { Counted I };
+
+    ghost view = { λ adapter. record { iter = adapter.iter; left = adapter.left } };
+}
+
+/// The iterator `iter` with the number of its items. The caller vouches that exactly `n` items come from it.
+pub fn trusted_len<I: Iterator>(iter: I, n: usize) -> TrustedLenAdapter<I>
+    requires { IsLength I.next_gives iter n }
+    ensures iter { result.iter ≡ iter }
+    ensures left { result.left ≡ n }
+    ensures known { IsLength I.next_gives result.iter result.left }
+{
+    TrustedLenAdapter { iter, left: n }
+}
+
+impl<I: Iterator> Iterator for TrustedLenAdapter<I> {
+    type Item = I::Item;
+
+    ghost can_next = { λ s. I.can_next s.iter × IsLength I.next_gives s.iter s.left };
+
+    ghost next_gives = { λ s r t. CountsDown (I.next_gives s.iter r t.iter) s.left r t.left };
+
+    ghost remaining = { λ s. at_most s.left };
+
+    fn next(&mut self) -> Option<I::Item> {
+        if self.left == 0 {
+            return None;
+        }
+        let item = self.iter.next()?;
+        self.left -= 1;
+        Some(item)
+    }
+
+    fn size_hint(&self) -> (usize, Option<usize>) {
+        (self.left, Some(self.left))
+    }
+}
+
+impl<I: Iterator> TrustedLen for TrustedLenAdapter<I> {
+    ghost left = { λ s. s.left };
+
+    ghost counts = { adapter_counts I.next_gives };
+
+    fn exact_len(&self) -> usize {
+        self.left
+    }
+}
+
+#[cfg(test)]
+mod tests;
