@@ -1,5 +1,5 @@
 -- What the words of a line name and hold.
-use Rattle.std.specs.Prelude.{ℕ, List, [], ◌∷◌, codes, Option, Some, None, option_map, if◌then◌else◌}
+use Rattle.std.specs.Prelude.{ℕ, Bool, true, false, List, [], ◌∷◌, codes, Option, Some, None, option_map, if◌then◌else◌}
 use Rattle.std.specs.Str.{bytes_eq}
 use Rattle.vb_command.specs.Machine.{Order, Import, Len, Count, Get, Select, Selectunset}
 use Rattle.vb_command.specs.Optional.{◌>>=◌}
@@ -18,6 +18,11 @@ keyword w =
     if bytes_eq w (codes "select") then Some keywords.Select else
     if bytes_eq w (codes "selectunset") then Some keywords.Selectunset else
     None
+
+-- whether a command holds bytes, for which memory is taken
+abbrev pub holds_bytes : Keyword → Bool
+holds_bytes keywords.Import = true
+holds_bytes k = false
 
 -- a word, and the words after it
 abbrev pub next_word : List (List ℕ) → Option (List ℕ × List (List ℕ))

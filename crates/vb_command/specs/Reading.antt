@@ -1,10 +1,11 @@
 -- What the lines of an input ask for.
-use Rattle.std.specs.Prelude.{◌≡◌, ℕ, ◌+◌, ◌-◌, ◌^◌, Bool, List, [], ◌∷◌, Option, Some, None, Result, Ok, Err, nat_lt, ◌==◌, slice_index, if◌then◌else◌}
+use Rattle.std.specs.Prelude.{◌≡◌, ℕ, ◌+◌, ◌-◌, ◌^◌, Bool, false, List, [], ◌∷◌, Option, Some, None, Result, Ok, Err, nat_lt, ◌==◌, slice_index, if◌then◌else◌}
 use Rattle.std.specs.List.{list_all}
+use Rattle.std.specs.Option.{option_map_or}
 use Rattle.vb_command.specs.Machine.{Order}
 use Rattle.vb_command.specs.Optional.{◌>>=◌}
 use Rattle.vb_command.specs.Words.{words}
-use Rattle.vb_command.specs.Arguments.{keyword, arguments_of}
+use Rattle.vb_command.specs.Arguments.{keyword, holds_bytes, arguments_of}
 use Rattle.vb_command.specs.declared.unread.Unread.{Unread}
 use Rattle.vb_command.specs.declared.unread.Unread.TheVariants as unread
 
@@ -35,6 +36,11 @@ request_of (w ∷ ws) = if is_comment w then Some None else (do
   name ← keyword w
   c ← arguments_of name ws
   Some (Some c))
+
+-- whether memory is taken for what these words ask for
+abbrev pub takes_memory : List (List ℕ) → Bool
+takes_memory [] = false
+takes_memory (w ∷ ws) = option_map_or holds_bytes (keyword w) false
 
 -- what a line asks for, if it can be read: a command, or nothing
 abbrev pub reading : List ℕ → Option (Option Order)

@@ -1,6 +1,7 @@
 //! The words that follow a command's name.
+ghost use Rattle.std.specs.Prelude.{IsErrOf, IsTrue};
 ghost use Rattle.vb_command.specs.Words.{words};
-ghost use Rattle.vb_command.specs.Arguments.{next_number, next_bytes, no_more_words, one_number, two_numbers, numbers_and_bytes, arguments_of};
+ghost use Rattle.vb_command.specs.Arguments.{next_number, next_bytes, no_more_words, one_number, two_numbers, numbers_and_bytes, holds_bytes, arguments_of};
 ghost use Rattle.vb_command.specs.Reading.{Gives, Tells};
 ghost use Rattle.vb_command.specs.Views.{order};
 
@@ -89,7 +90,8 @@ pub fn arguments<A: Allocator + Clone>(
     keyword: Keyword,
     text: &str,
 ) -> Result<Command<A>, Unread>
-    ensures { Gives order result (arguments_of keyword (words text.now)) }
+    ensures read { Gives order result (arguments_of keyword (words text.now)) }
+    ensures memory { IsErrOf result Unread.Memory → IsTrue (holds_bytes keyword) }
 {
     match keyword {
         Keyword::Import => {

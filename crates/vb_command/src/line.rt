@@ -1,7 +1,7 @@
 //! Lines as commands.
-ghost use Rattle.std.specs.Prelude.{◌≡◌, true, false, MatchOption, option_map};
+ghost use Rattle.std.specs.Prelude.{◌≡◌, true, false, MatchOption, option_map, IsErrOf, IsTrue};
 ghost use Rattle.vb_command.specs.Words.{words};
-ghost use Rattle.vb_command.specs.Reading.{Gives, all_ascii, request_of, reading};
+ghost use Rattle.vb_command.specs.Reading.{Gives, all_ascii, request_of, takes_memory, reading};
 ghost use Rattle.vb_command.specs.Views.{order};
 
 use crate::arguments::arguments;
@@ -25,7 +25,8 @@ fn ascii_text(line: &[u8]) -> Option<&str>
 /// What the words of a text ask for.
 #[tactic(auto, unfolding(crate::specs::Reading::request_of))]
 fn request<A: Allocator + Clone>(alloc: &A, text: &str) -> Result<Option<Command<A>>, Unread>
-    ensures { Gives (option_map order) result (request_of (words text.now)) }
+    ensures read { Gives (option_map order) result (request_of (words text.now)) }
+    ensures memory { IsErrOf result Unread.Memory → IsTrue (takes_memory (words text.now)) }
 {
     let Some((name, rest)) = next_word(text) else {
         return Ok(None);
@@ -56,7 +57,8 @@ pub fn command_of<A: Allocator + Clone>(
     alloc: &A,
     line: &[u8],
 ) -> Result<Option<Command<A>>, Unread>
-    ensures { Gives (option_map order) result (reading line.now) }
+    ensures read { Gives (option_map order) result (reading line.now) }
+    ensures memory { IsErrOf result Unread.Memory → IsTrue (takes_memory (words line.now)) }
 {
     let text = ascii_text(line).ok_or(Unread::Unreadable)?;
     request(alloc, text)
