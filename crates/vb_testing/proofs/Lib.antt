@@ -1,3 +1,2 @@
-pub mod Fields
-pub mod Passing
 pub mod Steps
+pub mod Within

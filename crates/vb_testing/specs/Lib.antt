@@ -1,1 +1,2 @@
 pub mod Faulty
+pub mod Refusing

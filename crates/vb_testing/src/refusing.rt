@@ -1,4 +1,6 @@
 //! An allocator that refuses one request, so that a test can let each request fail in turn.
+ghost use Rattle.std.specs.Prelude.{◌≡◌};
+
 use std::alloc::{AllocError, Allocator};
 use std::cell::Cell;
 
@@ -21,8 +23,12 @@ pub struct Refusing<B: Allocator> {
 }
 
 impl<B: Allocator> Refusing<B> {
-    /// Refuses request `n`, counted from 1, and none at 0.
-    pub fn new(inner: B, n: u64) -> Refusing<B> {
+    ghost use Rattle.vb_testing.specs.Refusing.{refusing_inner};
+
+    /// Passes requests on to `inner`, and refuses request `n`, counted from 1, and none at 0.
+    pub fn new(inner: B, n: u64) -> Refusing<B>
+        ensures { refusing_inner result ≡ inner }
+    {
         Refusing {
             inner,
             requests: Requests {
@@ -40,6 +46,7 @@ impl<B: Allocator> Refusing<B> {
     }
 
     /// How many requests there were since `new` or the last `refuse`, the refused one among them.
+    /// The count stops at `u64::MAX`.
     pub fn asked(&self) -> u64 {
         self.requests.asked.get()
     }

@@ -1,5 +1,5 @@
 use crate::{FaultyReader, FaultyWriter};
-use std::io::{ErrorKind, Read, Write};
+use std::io::{BufWriter, ErrorKind, Read, Write};
 use std::test::Fail;
 
 #[test]
@@ -64,5 +64,17 @@ fn a_writer_faults_once_after_its_writes(rt: HostRuntime) -> Result<(), Fail> {
         assert_eq!(rt; writer.inner().len(), 2 * before + 3);
         assert!(rt; writer.inner().ends_with(b"efg"));
     }
+    Ok(())
+}
+
+#[test]
+fn a_flush_reaches_the_writer_within_and_is_no_write(rt: HostRuntime) -> Result<(), Fail> {
+    let buffered = BufWriter::new(rt.alloc(), Vec::new(rt.alloc()))?;
+    let mut writer = FaultyWriter::new(buffered, 1);
+    writer.write_all(b"ab")?;
+    assert_eq!(rt; writer.inner().get_ref().len(), 0);
+    writer.flush()?;
+    assert_eq!(rt; writer.inner().get_ref().as_slice(), b"ab".as_slice());
+    assert!(rt; writer.write_all(b"cd").is_err());
     Ok(())
 }

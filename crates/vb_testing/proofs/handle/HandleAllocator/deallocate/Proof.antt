@@ -1,7 +1,7 @@
 -- A block goes back to the allocator within, through a `&` to the field. Assumes `Logic`.
-use Rattle.vb_testing.proofs.Steps.{◌≡◌, [], ◌∷◌, refl, sym, subst, w64, proved, after, Al, token, Gives, at_gives, Gives-goes, Gives-Gives, fst∗, never, Fml, ftrue, flft, ◌⊑◌, ⊑_trans, fact, tables, T, inst_fn, Args, Fn, a_type, ty_unit, named, dnil, dcons, Val, vunit, vint, vptr, has_ty, WT, WpFn, ‵, raw, ◌⊛◌, later, given, prop, at_ret, ◌$◌, ◌∵◌, !, qed, done, move, keep, use1, split, split3, join, fsplit, feq_i, learn, await, regoal, suffices, group, enter, of_opd, unit_lit, addr, stop, fld, no_more, and_then, first, blocks, exec, returns, alloc_all, pass_all, free_all, look_at, get, through, sets, lands_last, env, sem, usize, RawPtr, RefOf, yes, hidden_shr, bounded, param, uint_vals, uint_Tells, owns, Ptr, block_ptr, null_ptr, in_a_block, rawptr_vals, rawptr_Tells, ptr_val, shr_vals, shr_Tells, Slot, plain, types_at, heard, nothing, calls_at_last, Ended, framed, Stays, walk_of, stay_dropped, Goes-dropped, ends_at}
+use Rattle.vb_testing.proofs.Steps.{◌≡◌, [], ◌∷◌, refl, sym, subst, w64, proved, after, Al, token, Gives, at_gives, Gives-goes, Gives-Gives, fst∗, never, Fml, ftrue, flft, ◌⊑◌, ⊑_trans, fact, tables, T, inst_fn, Fn, ty_unit, named, Val, vunit, vint, vptr, has_ty, WT, WpFn, ‵, raw, ◌⊛◌, later, given, prop, at_ret, ◌$◌, ◌∵◌, !, qed, done, move, keep, use1, split, split3, join, fsplit, feq_i, learn, await, regoal, suffices, group, enter, of_opd, unit_lit, addr, stop, fld, no_more, and_then, first, blocks, exec, returns, alloc_all, pass_all, free_all, look_at, get, through, sets, lands_last, env, sem, usize, RawPtr, RefOf, yes, hidden_shr, param, uint_vals, uint_Tells, owns, Ptr, block_ptr, null_ptr, in_a_block, rawptr_vals, rawptr_Tells, ptr_val, shr_vals, shr_Tells, Slot, plain, types_at, heard, nothing, calls_at_last, Ended, framed, Stays, walk_of, stay_dropped, Goes-dropped, ends_at}
 use Rattle.std.specs.Allocator.{owned_block, HasLayout}
-use Rattle.vb_testing.proofs.Fields.{inner_at, handle_shares}
+use Rattle.vb_testing.proofs.Within.{argument, inner_at, handle_shares}
 use Rattle.vb_testing.specs.contracts.handle.Handle.{the_row}
 use Rattle.vb_testing.specs.contracts.handle.HandleAllocator.deallocate as f
 use Rattle.vb_testing.proofs.handle.HandleAllocator.deallocate.Statement.{statement}
@@ -17,11 +17,8 @@ module _ (Z : Al) where
   abbrev stayed : Stays ended.signature.params ended.kept
   stayed = (stay_dropped self yes, (stay_dropped (plain (λ _. RawPtr)) yes, (stay_dropped (plain (λ _. usize)) yes, (stay_dropped (plain (λ _. usize)) yes, tt))))
 
-  abbrev given_types : Args
-  given_types = bounded (a_type ∷ []) (Z.row, tt) (dcons Z.d (dcons Z.drops dnil))
-
   abbrev body : Fn
-  body = inst_fn given_types code.function
+  body = inst_fn (argument Z) code.function
 
 pub deallocate_spec : {M : Type 1} → statement M
 deallocate_spec 𝓤 𝓛 𝓜 𝓡 wired B L g d dd met md =
@@ -30,7 +27,7 @@ deallocate_spec 𝓤 𝓛 𝓜 𝓡 wired B L g d dd met md =
     let number = Goes-dropped 𝓛 2 (plain (λ _. usize)) yes (λ κs x w. refl) in
     proved 𝓛 (ended Z) (stayed Z) c 𝓜 𝓡
     (Goes-dropped 𝓛 2 (self Z) yes (λ κs x w. refl), (Goes-dropped 𝓛 2 (plain (λ _. RawPtr)) yes (λ κs x w. refl), (number, (number, tt))))
-    (f.Key.name (given_types Z)) (body Z) (code.unfolded 𝓤 𝓛.H 𝓜 𝓡 wired (B, tt) d dd)
+    (f.Key.name (argument Z)) (body Z) (code.unfolded 𝓤 𝓛.H 𝓜 𝓡 wired (B, tt) d dd)
     (λ κs. (shr_vals, (rawptr_vals, (uint_vals w64, (uint_vals w64, tt)))))
     (λ κs. (shr_Tells (named 0) κs.0 (the_row (param 0 B)), (rawptr_Tells, (uint_Tells w64, (uint_Tells w64, tt)))))
     (λ κs qs bounds a τ are.
@@ -41,7 +38,7 @@ deallocate_spec 𝓤 𝓛 𝓜 𝓡 wired B L g d dd met md =
     qed 𝓛 (((‵ (flft κ qs.0) ⊛ ‵ (flft ρ qs.1.0) ⊛ ‵ ftrue) ⊛ ‵ (owns (types_at (ended Z).signature.params κs) a (y a.1.0).0.4))
     ∷ (raw (fact 𝓤 (ρ ⊑ B.lives)) ⊛ raw (fact 𝓤 (HasLayout τ size alignment)) ⊛ ‵ (block a.1.0)) ∷ []) ∵
     move ! (1 ∷ []) $ split3 ! $ heard ! _ (λ outlives. heard ! _ (λ laid. move ! (1 ∷ []) $ split ! $ split3 ! $ move ! (3 ∷ []) $ fsplit ! $ fsplit ! $ move ! (1 ∷ []) $
-    use1 𝓛 (‵ (hidden_shr B κ handle.inner b (inner_at B o))) (handle_shares B 𝓛 κ handle b o) $
+    use1 𝓛 (‵ (hidden_shr B κ handle.inner b (inner_at B o))) (handle_shares 𝓛 B κ handle b o) $
     keep ! (6 ∷ 0 ∷ 3 ∷ 4 ∷ []) $
     -- [the block; the `&` to the allocator within; the tokens]
     in_a_block ! a.1.0 block (fst∗ 𝓤 (never 𝓤) (sem 𝓛 (token Z handle.inner τ null_ptr))) (λ m i e.

@@ -1,11 +1,10 @@
 -- A request is counted through a `&` to the counts, and then refused or passed on through a `&` to the allocator within. Assumes `Logic`.
-use Rattle.vb_testing.proofs.Steps.{◌≡◌, ℕ, [], ◌∷◌, refl, ap, w64, proved, after, Al, token, Takes, at_takes, Answered, Takes-goes, Takes-gives, Answer, answer_val, Answer-typed, id⊢, ftrue, flft, ◌⊑◌, ⊑_trans, fact, tables, inst_fn, Args, Fn, a_type, named, dnil, dcons, vptr, ‵, raw, ◌⊛◌, some, later, given, prop, at_ret, Sq, ◌$◌, ◌∵◌, !, qed, done, move, keep, drop, use0, use1, use2, split, split3, join, fsplit, fjoin, feq_i, feq_l, pick, learn, await, suffices, group, enter, lit, addr, stop, fld, no_more, and_then, first, branches, skips, exec, returns, returns_within, alloc_all, pass_all, free_all, look_at, get, through, sets, lands_as, env, agg, usize, bool, RefOf, yes, hidden_shr, bounded, param, uint_vals, uint_Tells, owns, only, shr_vals, shr_Tells, Slot, plain, types_at, heard, nothing, calls_at, Ended, lasts, triple_of, framed, Stays, walk_of, stay_dropped, Goes-dropped, ends_at}
+use Rattle.vb_testing.proofs.Steps.{◌≡◌, ℕ, [], ◌∷◌, refl, ap, w64, proved, after, Al, token, Takes, at_takes, Answered, Takes-goes, Takes-gives, Answer, answer_val, Answer-typed, id⊢, ftrue, flft, ◌⊑◌, ⊑_trans, fact, tables, inst_fn, Fn, named, vptr, ‵, raw, ◌⊛◌, some, later, given, prop, at_ret, Sq, ◌$◌, ◌∵◌, !, qed, done, move, keep, drop, use0, use1, use2, split, split3, join, fsplit, fjoin, feq_i, feq_l, pick, learn, await, suffices, group, enter, lit, addr, stop, fld, no_more, and_then, first, branches, skips, exec, returns, returns_within, alloc_all, pass_all, free_all, look_at, get, through, sets, lands_as, env, agg, usize, bool, RefOf, yes, hidden_shr, param, uint_vals, uint_Tells, owns, only, shr_vals, shr_Tells, Slot, plain, types_at, heard, nothing, calls_at, Ended, lasts, triple_of, framed, Stays, walk_of, stay_dropped, Goes-dropped, ends_at}
 use mathlib.Core.Bool.{Bool, false}
 use Rattle.std.specs.Allocator.{block_if_ok, HasLayout}
 use Rattle.std.proofs.alloc.Calls.{got}
 use Rattle.std.proofs.alloc.Resizes.{result_of, result_own}
-use Rattle.vb_testing.proofs.Fields.{inner_at, requests_at, refusing_shares}
-use Rattle.vb_testing.proofs.Passing.{passes_on}
+use Rattle.vb_testing.proofs.Within.{argument, inner_at, requests_at, refusing_shares, passes_on}
 use Rattle.vb_testing.specs.contracts.refusing.Refusing.{the_row}
 use Rattle.vb_testing.specs.contracts.refusing.Requests as Requests
 use Rattle.vb_testing.specs.contracts.refusing.Requests.refuses_next as g
@@ -24,11 +23,8 @@ module _ (Z : Al) where
   abbrev stayed : Stays ended.signature.params ended.kept
   stayed = (stay_dropped self yes, (stay_dropped (plain (λ _. usize)) yes, (stay_dropped (plain (λ _. usize)) yes, tt)))
 
-  abbrev given_types : Args
-  given_types = bounded (a_type ∷ []) (Z.row, tt) (dcons Z.d (dcons Z.drops dnil))
-
   abbrev body : Fn
-  body = inst_fn given_types code.function
+  body = inst_fn (argument Z) code.function
 
 pub allocate_spec : {M : Type 1} → statement M
 allocate_spec 𝓤 𝓛 𝓜 𝓡 wired B L gs d dd met md =
@@ -37,7 +33,7 @@ allocate_spec 𝓤 𝓛 𝓜 𝓡 wired B L gs d dd met md =
     let number = Goes-dropped 𝓛 2 (plain (λ _. usize)) yes (λ κs x w. refl) in
     proved 𝓛 (ended Z) (stayed Z) c 𝓜 𝓡
     (Goes-dropped 𝓛 2 (self Z) yes (λ κs x w. refl), (number, (number, tt)))
-    (f.Key.name (given_types Z)) (body Z) (code.unfolded 𝓤 𝓛.H 𝓜 𝓡 wired (B, tt) d dd)
+    (f.Key.name (argument Z)) (body Z) (code.unfolded 𝓤 𝓛.H 𝓜 𝓡 wired (B, tt) d dd)
     (λ κs. (shr_vals, (uint_vals w64, (uint_vals w64, tt))))
     (λ κs. (shr_Tells (named 0) κs.0 (the_row (param 0 B)), (uint_Tells w64, (uint_Tells w64, tt))))
     (λ κs qs bounds a τ are.
@@ -52,7 +48,7 @@ allocate_spec 𝓤 𝓛 𝓜 𝓡 wired B L gs d dd met md =
     qed 𝓛 (((‵ (flft κ qs.0) ⊛ ‵ (flft ρ qs.1.0) ⊛ ‵ ftrue) ⊛ ‵ (owns (types_at (ended Z).signature.params κs) a y.0.4))
     ∷ (raw (fact 𝓤 (ρ ⊑ B.lives)) ⊛ raw (fact 𝓤 (HasLayout τ size alignment))) ∷ []) ∵
     move ! (1 ∷ []) $ split ! $ heard ! _ (λ outlives. heard ! _ (λ laid. split ! $ split3 ! $ move ! (3 ∷ []) $ fsplit ! $ fsplit ! $ move ! (1 ∷ []) $
-    use1 𝓛 (‵ (hidden_shr B κ heap.inner b (inner_at B o)) ⊛ ‵ (hidden_shr Requests.the_row κ heap.requests b (requests_at B o))) (refusing_shares B 𝓛 κ heap b o) $ split ! $
+    use1 𝓛 (‵ (hidden_shr B κ heap.inner b (inner_at B o)) ⊛ ‵ (hidden_shr Requests.the_row κ heap.requests b (requests_at B o))) (refusing_shares 𝓛 B κ heap b o) $ split ! $
     keep ! (1 ∷ 4 ∷ 0 ∷ 5 ∷ []) $
     -- [the `&` to the counts; the token of κ; the `&` to the allocator within; the other token]
     enter ! _ _ _ _ _ $ alloc_all ! (λ l. pass_all ! refl ((tt, tt), ((tt, record { fits = are.1.0.1 }), ((tt, record { fits = are.1.1.0.1 }), tt))) $
