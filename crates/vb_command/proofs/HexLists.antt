@@ -5,19 +5,23 @@ use Rattle.std.proofs.lemmas.List.{take_rest}
 use Rattle.vb_command.specs.Optional.{◌>>=◌}
 use Rattle.vb_command.specs.Hex.{hex_byte, hex_pairs}
 
--- a byte between those before it and those that are still to be read
-option_map-push : (bytes : List ℕ) (byte : ℕ) (rest : Option (List ℕ)) → option_map (λ more. bytes ++ more) (rest >>= (λ more. Some (byte ∷ more))) ≡ option_map (λ more. (bytes ++ byte ∷ []) ++ more) rest
-option_map-push bytes byte None = refl
-option_map-push bytes byte (Some more) = ap Some (sym (append_assoc bytes (byte ∷ []) more))
+-- all bytes, where some are read and the rest may still fail
+abbrev pub behind : List ℕ → Option (List ℕ) → Option (List ℕ)
+behind read rest = option_map (λ more. read ++ more) rest
 
--- the first pair
-hex_pairs-first : (digits : List ℕ) (byte : ℕ) → 2 ≤ length digits → hex_byte (get_or digits 0 0) (get_or digits 1 0) ≡ Some byte → hex_pairs digits ≡ (hex_pairs (drop 2 digits) >>= (λ more. Some (byte ∷ more)))
+-- the next byte can stand in front of the rest or behind those that are read
+behind-next : (read : List ℕ) (byte : ℕ) (rest : Option (List ℕ)) → behind read (rest >>= (λ more. Some (byte ∷ more))) ≡ behind (read ++ byte ∷ []) rest
+behind-next read byte None = refl
+behind-next read byte (Some more) = ap Some (sym (append_assoc read (byte ∷ []) more))
+
+-- the bytes by the first one
+hex_pairs-first : (digits : List ℕ) (byte : ℕ) → 2 ≤ length digits → hex_byte (get_or digits 0 0) (get_or digits 1 0) ≡ Some byte
+    → hex_pairs digits ≡ (hex_pairs (drop 2 digits) >>= (λ more. Some (byte ∷ more)))
 hex_pairs-first [] byte two first = absurd (omega arith)
 hex_pairs-first (a ∷ []) byte two first = absurd (omega arith)
 hex_pairs-first (a ∷ b ∷ more) byte two first = ap (λ o. o >>= (λ x. hex_pairs more >>= (λ rest. Some (x ∷ rest)))) first
 
--- once one more pair is read, its byte stands behind those before it
-pub pair_read : (bytes pushed digits rest : List ℕ) (byte : ℕ) → 2 ≤ length rest → hex_byte (get_or rest 0 0) (get_or rest 1 0) ≡ Some byte → hex_pairs digits ≡ option_map (λ more. bytes ++ more) (hex_pairs rest) → pushed ≡ bytes ++ byte ∷ []
-    → hex_pairs digits ≡ option_map (λ more. pushed ++ more) (hex_pairs (take (length rest - 2) (drop 2 rest)))
-pair_read bytes pushed digits rest byte two first before push =
-    rw push (before ∙ (ap (option_map (λ more. bytes ++ more)) (hex_pairs-first rest byte two first) ∙ (option_map-push bytes byte (hex_pairs (drop 2 rest)) ∙ ap (λ xs. option_map (λ more. (bytes ++ byte ∷ []) ++ more) (hex_pairs xs)) (sym (take_rest rest 2)))))
+-- one more pair is read, and its byte is pushed
+pub pair_read : (read pushed digits rest : List ℕ) (byte : ℕ) → 2 ≤ length rest → hex_byte (get_or rest 0 0) (get_or rest 1 0) ≡ Some byte
+    → hex_pairs digits ≡ behind read (hex_pairs rest) → pushed ≡ read ++ byte ∷ [] → hex_pairs digits ≡ behind pushed (hex_pairs (take (length rest - 2) (drop 2 rest)))
+pair_read read pushed digits rest byte two first before push = rw (push, take_rest) (before ∙ (ap (behind read) (hex_pairs-first rest byte two first) ∙ behind-next read byte (hex_pairs (drop 2 rest))))

@@ -9,7 +9,7 @@ pub data Slot : Type 0 where
   Open : List Bool → Slot
   Frozen : List Bool → Slot
 
--- what a command asks of the machine
+-- what a command asks of the machine, with the fields of its line in their order
 pub data Order : Type 0 where
   Import : ℕ → ℕ → ℕ → List ℕ → Order
   Len : ℕ → Order
@@ -57,11 +57,11 @@ is_vacant (Frozen l) = false
 abbrev pub vacant_at : List Slot → ℕ → Bool
 vacant_at s k = option_map_or is_vacant (slice_get s k) false
 
--- whether the n bits from bit o of the first byte on lie within the bytes
+-- whether a window of n bits from bit o on begins in the first byte, lies within the bytes and ends at a number of 64 bits
 abbrev pub fits : ℕ → ℕ → List ℕ → Bool
 fits o n bytes = nat_lt o 8 && nat_le (o + n) (8 * length bytes) && nat_lt (o + n) (2 ^ 64)
 
--- the slots before an order, its answer, and the slots after it
+-- what may come of an order: a relation of the slots before it, its answer and the slots after it
 abbrev pub Effect : Type 1
 Effect = List Slot → Reply → List Slot → Type 0
 
@@ -69,27 +69,27 @@ Effect = List Slot → Reply → List Slot → Type 0
 abbrev pub Refuses : Reason → Effect
 Refuses why s r t = (r ≡ Refused why) × (t ≡ s)
 
--- slot k is filled with this, and all others stay
+-- the order is done: slot k is filled with this, and all others stay
 abbrev pub Puts : ℕ → Slot → Effect
 Puts k new s r t = (r ≡ Done) × (t ≡ slice_set s k new)
 
--- the list at k is asked a question, and every slot stays
+-- the list at k is asked a question, and every slot stays; without a list the order is refused
 abbrev pub Asks : ℕ → (List Bool → Reply → Type 0) → Effect
 Asks k Answers s r t = MatchOption (list_at s k) (Refuses BadSlot s r t) (λ l. Answers l r × (t ≡ s))
 
--- where a test fails the order is refused for this reason, and else something follows
+-- where a check fails the order is refused for this reason, and else something follows
 abbrev pub Checks : Bool → Reason → Effect → Effect
-Checks test why Then s r t = MatchBool test (Then s r t) (Refuses why s r t)
+Checks passed why Then s r t = MatchBool passed (Then s r t) (Refuses why s r t)
 
--- the value at place i
+-- the answer is the value at place i, which has to be below the length
 abbrev pub Gets : ℕ → List Bool → Reply → Type 0
 Gets i l r = MatchBool (nat_lt i (length l)) (r ≡ Truth (at l i)) (r ≡ Refused OutOfRange)
 
--- the place of the n-th true value, counted from 0, if there is one
+-- the answer is the place of the true value with n true ones before it, or none where there are at most n
 abbrev pub Finds : ℕ → List Bool → Reply → Type 0
 Finds n l r = (p : Option ℕ) × (r ≡ Place p) × Selects l n p
 
--- what an order answers and does, its checks in their order
+-- what an order is answered and does; its checks come in the order in which they are written
 abbrev pub Step : List Slot → Order → Reply → List Slot → Type 0
 Step s (Import k o n bytes) r t = Checks (vacant_at s k) BadSlot (Checks (fits o n bytes) BadWindow (Puts k (Open (bits bytes o n)))) s r t
 Step s (Len k) r t = Asks k (λ l a. a ≡ Number (length l)) s r t
@@ -98,12 +98,12 @@ Step s (Get k i) r t = Asks k (Gets i) s r t
 Step s (Select k n) r t = Asks k (Finds n) s r t
 Step s (Selectunset k n) r t = Asks k (λ l. Finds n (negated l)) s r t
 
--- what an order that passes its checks answers and does where memory is refused
+-- what an order is answered and does where memory is refused, which can be once its checks are passed
 abbrev pub GivesUp : List Slot → Order → Reply → List Slot → Type 0
 GivesUp s (Import k o n bytes) r t = IsTrue (vacant_at s k) × IsTrue (fits o n bytes) × Refuses OutOfMemory s r t
 GivesUp s c r t = ⊥
 
--- what an order answers and does, want of memory included
+-- what may come of an order, want of memory included
 abbrev pub Outcome : List Slot → Order → Reply → List Slot → Type 0
 Outcome s c r t = Step s c r t ⊎ GivesUp s c r t
 

@@ -1,13 +1,25 @@
 -- The words of a line, and the number that a word writes.
-use Rattle.std.specs.Prelude.{ℕ, ◌^◌, ◌&&◌, List, length, filter, Option, Some, None, nat_lt, ◌==◌, if◌then◌else◌}
+use Rattle.std.specs.Prelude.{ℕ, ◌^◌, Bool, ◌&&◌, List, length, filter, Option, Some, None, nat_lt, ◌==◌, if◌then◌else◌}
 use Rattle.std.specs.List.{slice_split}
 use Rattle.std.specs.Str.{all_ascii_digits}
 use Rattle.std.specs.Str.Parse.{digits_value}
 
--- the parts between spaces that aren't empty
-abbrev pub words : List ℕ → List (List ℕ)
-words line = filter (λ w. nat_lt 0 (length w)) (slice_split (λ b. b == 32) line)
+-- whether a byte is a space, whose code is 32
+abbrev pub is_space : ℕ → Bool
+is_space b = b == 32
 
--- one or more decimal digits, of a value that fits 64 bits
+-- whether a part between spaces is a word: it isn't empty
+abbrev pub is_word : List ℕ → Bool
+is_word part = nat_lt 0 (length part)
+
+-- the words of a line
+abbrev pub words : List ℕ → List (List ℕ)
+words line = filter is_word (slice_split is_space line)
+
+-- whether a word is a number: it has decimal digits alone, and what they write fits 64 bits
+abbrev pub is_number : List ℕ → Bool
+is_number w = all_ascii_digits w && nat_lt 0 (length w) && nat_lt (digits_value 10 w) (2 ^ 64)
+
+-- the number that a word writes, if it is one
 abbrev pub number : List ℕ → Option ℕ
-number w = if all_ascii_digits w && nat_lt 0 (length w) && nat_lt (digits_value 10 w) (2 ^ 64) then Some (digits_value 10 w) else None
+number w = if is_number w then Some (digits_value 10 w) else None

@@ -29,7 +29,8 @@ fn next_bytes<'a, A: Allocator + Clone>(
     alloc: &A,
     text: &'a str,
 ) -> Result<(Vec<u8, A>, &'a str), Unread>
-    ensures { Gives (λ (bytes, rest). (bytes.items, words rest.now)) result (next_bytes (words text.now)) }
+    ensures { Gives (λ (bytes, rest). (bytes.items, words rest.now)) result
+        (next_bytes (words text.now)) }
 {
     let (word, rest) = next_word(text).ok_or(Unread::Unreadable)?;
     let bytes = hex_bytes(alloc.clone()?, word)?;
@@ -73,7 +74,8 @@ fn numbers_and_bytes<A: Allocator + Clone>(
     alloc: &A,
     text: &str,
 ) -> Result<(usize, usize, usize, Vec<u8, A>), Unread>
-    ensures { Gives (λ (k, o, n, bytes). (k, o, n, bytes.items)) result (numbers_and_bytes (words text.now)) }
+    ensures { Gives (λ (k, o, n, bytes). (k, o, n, bytes.items)) result
+        (numbers_and_bytes (words text.now)) }
 {
     let (k, rest) = next_number(text)?;
     let (o, rest) = next_number(rest)?;

@@ -18,17 +18,20 @@ pub enum Mode {
 /// part of a command too, which is then refused.
 #[derive(Debug, Drop)]
 pub enum Command<A: Allocator> {
-    /// `import t o n HEX`: fills the empty slot `t` with an open set of `n` bits, those of the bytes
-    /// from bit `o` of the first byte on, the least significant bit of a byte first.
+    /// `import t o n HEX`: fills slot `t`, which has to be empty, with an open set of `n` bits. They
+    /// are those of the bytes from bit `o` of the first one on, the least significant bit of a byte
+    /// first; `o` has to be below 8, and all bits have to lie within the bytes.
     Import(usize, usize, usize, Vec<u8, A>),
-    /// `len k`: how many bits the set in slot `k` has.
+    /// `len k`: the length in bits of the set in slot `k`.
     Len(usize),
-    /// `count k`: how many bits of the set in slot `k` are true.
+    /// `count k`: the number of true bits of the set in slot `k`.
     Count(usize),
-    /// `get k i`: the bit at place `i` of the set in slot `k`.
+    /// `get k i`: the bit at place `i`, below the length, of the set in slot `k`.
     Get(usize, usize),
-    /// `select k n`: the place of the `n`-th true bit, counted from 0, of the set in slot `k`.
+    /// `select k n`: the place of the true bit with `n` true bits before it, if the set in slot `k`
+    /// has so many.
     Select(usize, usize),
-    /// `selectunset k n`: the place of the `n`-th false bit, counted from 0, of the set in slot `k`.
+    /// `selectunset k n`: the place of the false bit with `n` false bits before it, if the set in
+    /// slot `k` has so many.
     Selectunset(usize, usize),
 }

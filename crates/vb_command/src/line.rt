@@ -14,7 +14,9 @@ use std::alloc::Allocator;
 /// The line as a text, if it is ASCII.
 #[tactic(auto, using(crate::proofs::Lines::ascii))]
 fn ascii_text(line: &[u8]) -> Option<&str>
-    ensures { MatchOption result (all_ascii line.now ≡ false) (λ text. (all_ascii line.now ≡ true) × (text.now ≡ line.now)) }
+    ensures { MatchOption result
+        (all_ascii line.now ≡ false)
+        (λ text. (all_ascii line.now ≡ true) × (text.now ≡ line.now)) }
 {
     if !line.is_ascii() {
         return None;
@@ -39,20 +41,21 @@ fn request<A: Allocator + Clone>(alloc: &A, text: &str) -> Result<Option<Command
     Ok(Some(command))
 }
 
-/// What a line asks for, given without its line feed and the carriage return before that: a
-/// command, or `None` where the line has no words or is a comment.
+/// Reads a line: the command that it asks for, or `None` where it has no words or is a comment.
+/// The line is given without its line feed and the carriage return before that.
 ///
 /// Words stand between spaces. The first one is the name of a command, or begins with `#` and makes
-/// the line a comment. The others are its fields: numbers in decimal digits, up to
-/// 18446744073709551615, with leading zeros if need be and no sign, and bytes as pairs of
+/// the line a comment. The others are the command's fields: numbers in decimal digits, at most
+/// 18446744073709551615, with leading zeros or without and with no sign; and bytes as pairs of
 /// hexadecimal digits of either case, or `-` for none.
 ///
-/// A line can't be read if it has a byte that isn't ASCII, be it in a comment, if its first word
-/// names no command, if it has too few or too many words, or a word of another kind.
+/// `Unread::Unreadable` is answered exactly where the line has a byte that isn't ASCII, be it in a
+/// comment, or has words and is no comment, and its first word names no command, words are missing
+/// or left over, or one is of another kind. `Unread::Memory` is answered where a request for memory
+/// was refused, and only where the first word names `import`: then memory is taken for a copy of
+/// `alloc` and for the bytes, as much as they need.
 ///
-/// Memory is taken for the bytes of an `import` alone, as much as they need, with a copy of `alloc`.
-/// `Unread::Memory` is answered where that is refused. The line is gone over a few times, and each
-/// byte is looked at as often whatever the line holds.
+/// The time is proportional to the line's length.
 pub fn command_of<A: Allocator + Clone>(
     alloc: &A,
     line: &[u8],

@@ -5,7 +5,9 @@ ghost use Rattle.vb_command.specs.Words.{words};
 /// The first word of a text, and what follows it.
 #[tactic(auto, using(crate::proofs::WordLists::parts))]
 pub fn next_word(text: &str) -> Option<(&str, &str)>
-    ensures { MatchOption result (words text.now ≡ []) (λ (word, rest). words text.now ≡ word.now ∷ words rest.now) }
+    ensures { MatchOption result
+        (words text.now ≡ [])
+        (λ (word, rest). words text.now ≡ word.now ∷ words rest.now) }
 {
     let mut rest = text;
     while let Some((word, after)) = rest.split_once(' ') {
