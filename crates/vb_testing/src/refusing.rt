@@ -14,8 +14,8 @@ use std::cell::Cell;
 /// was. To give a block back is no request, and always works. The allocator within may refuse what
 /// it can't give: that counts as a request, and not as the refused one.
 ///
-/// What a cell holds can't stand in a contract, so no clause says which request is refused and how
-/// many there were: the tests of this crate show it.
+/// It takes no memory of its own. What a cell holds can't stand in a contract, so no clause says
+/// which request is refused and how many there were: the tests of this crate show it.
 #[derive(Drop)]
 pub struct Refusing<B: Allocator> {
     inner: B,

@@ -1,6 +1,6 @@
 -- A request is passed on to the allocator within, through a `&` to the field. Assumes `Logic`.
-use Rattle.vb_testing.proofs.Steps.{◌≡◌, ℕ, [], ◌∷◌, refl, ap, w64, proved, after, Al, token, Takes, at_takes, Answered, Takes-goes, Takes-gives, Answer, answer_val, Answer-typed, id⊢, ftrue, flft, ◌⊑◌, ⊑_trans, fact, tables, inst_fn, Fn, named, vptr, ‵, raw, ◌⊛◌, some, later, given, prop, at_ret, Sq, ◌$◌, ◌∵◌, !, qed, done, move, keep, drop, use0, use1, use2, split, split3, join, fsplit, fjoin, feq_i, feq_l, pick, learn, await, suffices, group, enter, lit, addr, stop, fld, no_more, and_then, first, branches, skips, exec, returns, returns_within, alloc_all, pass_all, free_all, look_at, get, through, sets, lands_as, env, agg, usize, bool, RefOf, yes, hidden_shr, param, uint_vals, uint_Tells, owns, only, shr_vals, shr_Tells, Slot, plain, types_at, heard, nothing, calls_at, Ended, lasts, triple_of, framed, Stays, walk_of, stay_dropped, Goes-dropped, ends_at}
-use mathlib.Core.Bool.{Bool, false}
+use Rattle.vb_testing.proofs.Steps.{◌≡◌, ℕ, [], ◌∷◌, refl, w64, proved, Al, token, Takes, at_takes, Answered, Takes-goes, Takes-gives, Answer, answer_val, Answer-typed, id⊢, ftrue, flft, ◌⊑◌, ⊑_trans, fact, tables, inst_fn, Fn, named, ‵, raw, ◌⊛◌, some, later, given, prop, Sq, ◌$◌, ◌∵◌, !, qed, done, move, keep, use0, use1, use2, split, split3, join, fsplit, pick, learn, await, suffices, group, enter, addr, stop, fld, no_more, and_then, returns, alloc_all, pass_all, free_all, look_at, get, through, sets, lands_as, usize, RefOf, yes, hidden_shr, param, uint_vals, uint_Tells, owns, shr_vals, shr_Tells, Slot, plain, types_at, heard, nothing, calls_at, Ended, framed, Stays, walk_of, stay_dropped, Goes-dropped, ends_at}
+use mathlib.Core.Bool.{Bool}
 use Rattle.std.specs.Allocator.{block_if_ok, HasLayout}
 use Rattle.std.proofs.alloc.Calls.{got}
 use Rattle.std.proofs.alloc.Resizes.{result_of, result_own}
