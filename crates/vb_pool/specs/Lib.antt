@@ -1,0 +1,3 @@
+pub mod Slot
+pub use Rattle.vb_command.specs.Machine
+pub use Rattle.vb_command.specs.Views

@@ -1,0 +1,9 @@
+-- A slot of the pool as one of the machine.
+use Rattle.vb_command.specs.Machine as machine
+use Rattle.vb_pool.specs.declared.slot.Slot.{Slot}
+use Rattle.vb_pool.specs.declared.slot.Slot.TheVariants.{Empty, Open}
+
+-- what a slot holds, where its set is the list of its bits
+abbrev pub content : {A : Type 0} → Slot A → machine.Slot
+content Empty = machine.Empty
+content (Open set) = machine.Open set

@@ -1,0 +1,94 @@
+//! Sixteen values by their numbers.
+ghost use Rattle.std.specs.Prelude.{◌≡◌, slice_get, slice_set};
+ghost use Rattle.std.specs.Option.{option_copied};
+
+use std::marker::Model;
+use std::mem;
+
+/// Sixteen values, numbered from 0. Contracts see the list of them.
+///
+/// These are fields and no array: of an array of a type parameter nothing says that its size is
+/// one that a value can have.
+#[derive(Drop)]
+pub struct Sixteen<T> {
+    pub s0: T,
+    pub s1: T,
+    pub s2: T,
+    pub s3: T,
+    pub s4: T,
+    pub s5: T,
+    pub s6: T,
+    pub s7: T,
+    pub s8: T,
+    pub s9: T,
+    pub s10: T,
+    pub s11: T,
+    pub s12: T,
+    pub s13: T,
+    pub s14: T,
+    pub s15: T,
+}
+
+impl<T> Model for Sixteen<T> {
+    ghost use Rattle.std.specs.Prelude.{List, [], ◌∷◌};
+
+    ghost Value = { List T };
+
+    ghost view = { λ a. a.s0 ∷ a.s1 ∷ a.s2 ∷ a.s3 ∷ a.s4 ∷ a.s5 ∷ a.s6 ∷ a.s7 ∷ a.s8 ∷ a.s9 ∷ a.s10 ∷ a.s11 ∷ a.s12 ∷ a.s13 ∷ a.s14 ∷ a.s15 ∷ [] };
+}
+
+impl<T> Sixteen<T> {
+    /// Value `k`; `None` from 16 on.
+    pub fn get(&self, k: usize) -> Option<&T>
+        ensures { option_copied result ≡ slice_get self.now k }
+    {
+        match k {
+            0 => Some(&self.s0),
+            1 => Some(&self.s1),
+            2 => Some(&self.s2),
+            3 => Some(&self.s3),
+            4 => Some(&self.s4),
+            5 => Some(&self.s5),
+            6 => Some(&self.s6),
+            7 => Some(&self.s7),
+            8 => Some(&self.s8),
+            9 => Some(&self.s9),
+            10 => Some(&self.s10),
+            11 => Some(&self.s11),
+            12 => Some(&self.s12),
+            13 => Some(&self.s13),
+            14 => Some(&self.s14),
+            15 => Some(&self.s15),
+            _ => None,
+        }
+    }
+}
+
+impl<T: Drop> Sixteen<T> {
+    /// Puts a value in the place of value `k`, which it answers; `None` from 16 on, where nothing
+    /// changes.
+    pub fn replace(&mut self, k: usize, value: T) -> Option<T>
+        ensures before { result ≡ slice_get self.old k }
+        ensures after { self.new ≡ slice_set self.old k value }
+    {
+        match k {
+            0 => Some(mem::replace(&mut self.s0, value)),
+            1 => Some(mem::replace(&mut self.s1, value)),
+            2 => Some(mem::replace(&mut self.s2, value)),
+            3 => Some(mem::replace(&mut self.s3, value)),
+            4 => Some(mem::replace(&mut self.s4, value)),
+            5 => Some(mem::replace(&mut self.s5, value)),
+            6 => Some(mem::replace(&mut self.s6, value)),
+            7 => Some(mem::replace(&mut self.s7, value)),
+            8 => Some(mem::replace(&mut self.s8, value)),
+            9 => Some(mem::replace(&mut self.s9, value)),
+            10 => Some(mem::replace(&mut self.s10, value)),
+            11 => Some(mem::replace(&mut self.s11, value)),
+            12 => Some(mem::replace(&mut self.s12, value)),
+            13 => Some(mem::replace(&mut self.s13, value)),
+            14 => Some(mem::replace(&mut self.s14, value)),
+            15 => Some(mem::replace(&mut self.s15, value)),
+            _ => None,
+        }
+    }
+}

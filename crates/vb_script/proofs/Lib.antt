@@ -1,0 +1,5 @@
+pub mod DriveErrorLemmas
+pub mod InputLines
+pub mod KnownBytes
+pub mod Progress
+pub mod Scripts

@@ -1,0 +1,3 @@
+pub mod DriveError
+pub mod Feed
+pub mod Session

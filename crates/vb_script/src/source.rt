@@ -1,0 +1,61 @@
+//! Where bytes come from.
+ghost use Rattle.std.specs.Prelude.{◌≡◌, ℕ, ◌+◌, List, Option, None, OnOk, OnErr};
+ghost use Rattle.std.specs.Io.{ReadsAtMost};
+ghost use Rattle.std.specs.Io.KnownBytes.{ReadConsumes};
+
+use crate::fault::Fault;
+use ghost_count::GhostCount;
+use std::io::Read;
+
+/// A reader of bytes that counts its faults in contracts.
+pub trait Source {
+    /// The bytes that are still to come, where the source tells them.
+    ghost remaining: { Self → Option (List ℕ) } = { λ _. None };
+
+    /// How many reads have failed.
+    ghost faults: { Self → ℕ };
+
+    /// Puts bytes at the front of `buf` and answers how many: none only at the end, or where `buf` is empty. A read
+    /// that fails takes no byte.
+    fn read(&mut self, buf: &mut [u8]) -> Result<usize, Fault>
+        ensures bound { ReadsAtMost result buf.new }
+        ensures bytes { ReadConsumes (remaining self.old) (remaining self.new) result buf.new }
+        ensures ok { OnOk result (faults self.new ≡ faults self.old) }
+        ensures fault { OnErr result (faults self.new ≡ faults self.old + 1) };
+}
+
+/// The [`Source`] that reads from a reader of `std`. Each error of the reader is a fault.
+#[derive(Drop)]
+pub struct FromRead<T: Read> {
+    inner: T,
+    faults: GhostCount,
+}
+
+impl<T: Read> FromRead<T> {
+    /// No read has failed so far, and the bytes to come are those of `inner`. This takes no memory.
+    pub fn new(inner: T) -> Self
+        ensures remaining { ⟦<FromRead<T> as Source>⟧.remaining result ≡ T.remaining inner }
+        ensures faults { ⟦<FromRead<T> as Source>⟧.faults result ≡ 0 }
+    {
+        FromRead {
+            inner,
+            faults: GhostCount::zero(),
+        }
+    }
+}
+
+impl<T: Read> Source for FromRead<T> {
+    ghost remaining = { λ s. T.remaining s.inner };
+
+    ghost faults = { λ s. s.faults.count };
+
+    fn read(&mut self, buf: &mut [u8]) -> Result<usize, Fault> {
+        match self.inner.read(buf) {
+            Ok(count) => Ok(count),
+            Err(_) => {
+                self.faults.add_one();
+                Err(Fault)
+            }
+        }
+    }
+}
