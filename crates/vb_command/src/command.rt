@@ -18,9 +18,9 @@ pub enum Mode {
 /// part of a command too, which is then refused.
 #[derive(Debug, Drop)]
 pub enum Command<A: Allocator> {
-    /// `import t o n HEX`: fills slot `t`, which has to be empty, with an open set of `n` bits. They
-    /// are those of the bytes from bit `o` of the first one on, the least significant bit of a byte
-    /// first; `o` has to be below 8, and all bits have to lie within the bytes.
+    /// `import t o n HEX`: fills slot `t`, which has to be empty, with an open set of `n` bits,
+    /// read from the bytes, beginning at bit `o` of the first one, the least significant bit of
+    /// each byte first. `o` has to be below 8, and all bits have to lie within the bytes.
     Import(usize, usize, usize, Vec<u8, A>),
     /// `len k`: the length in bits of the set in slot `k`.
     Len(usize),

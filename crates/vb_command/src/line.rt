@@ -49,11 +49,13 @@ fn request<A: Allocator + Clone>(alloc: &A, text: &str) -> Result<Option<Command
 /// 18446744073709551615, with leading zeros or without and with no sign; and bytes as pairs of
 /// hexadecimal digits of either case, or `-` for none.
 ///
-/// `Unread::Unreadable` is answered exactly where the line has a byte that isn't ASCII, be it in a
-/// comment, or has words and is no comment, and its first word names no command, words are missing
-/// or left over, or one is of another kind. `Unread::Memory` is answered where a request for memory
-/// was refused, and only where the first word names `import`: then memory is taken for a copy of
-/// `alloc` and for the bytes, as much as they need.
+/// A line can't be read, which is `Unread::Unreadable`, if it has a byte that isn't ASCII, be it in
+/// a comment, or if it has words, is no comment, and its first word names no command, words are
+/// missing or left over, or one is of another kind. No other line is answered so.
+///
+/// Memory is taken where the first word names `import`: for a copy of `alloc`, and for the bytes as
+/// much as they need. Where that is refused the answer is `Unread::Memory`, even if the line can't
+/// be read; no other line is answered so.
 ///
 /// The time is proportional to the line's length.
 pub fn command_of<A: Allocator + Clone>(
