@@ -1,0 +1,4 @@
+pub mod OpenBuffer
+pub mod SharedBuffer
+pub mod Content
+pub mod Collected

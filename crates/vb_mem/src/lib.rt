@@ -1,0 +1,19 @@
+//! List buffers: lists of whole numbers that grow, and lists that share their storage.
+//!
+//! A [`BufferMut`] owns its storage and grows. [`BufferMut::freeze`] makes a [`Buffer`] of it, which may be cloned and
+//! sliced without a copy, and [`Buffer::into_mut`] makes a `BufferMut` again. Both keep an alignment that is known at
+//! run time. No owner sees what another one writes.
+#![tactic(auto)]
+
+pub mod buffer;
+pub mod buffer_mut;
+mod content;
+
+pub use buffer::Buffer;
+pub use buffer_mut::BufferMut;
+
+/// A buffer of bytes.
+pub type ByteBuffer<A> = Buffer<u8, A>;
+
+/// A growing buffer of bytes.
+pub type ByteBufferMut<A> = BufferMut<u8, A>;
