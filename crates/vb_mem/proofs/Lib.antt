@@ -1,3 +1,4 @@
-pub mod Runs
 pub mod Places
+pub mod ReadForms
+pub mod Runs
 pub mod Windows

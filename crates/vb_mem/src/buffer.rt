@@ -116,6 +116,10 @@ impl<T: Element, A: Allocator> Buffer<T, A> {
         };
     }
 
+    pub(crate) fn allocator(&self) -> &A {
+        &self.alloc
+    }
+
     // The number of the first item in the storage.
     fn first(&self) -> usize
         ensures { self.now.place ≡ result * T.SIZE }

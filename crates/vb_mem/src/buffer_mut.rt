@@ -108,6 +108,13 @@ impl<T: Element, A: Allocator> BufferMut<T, A> {
         self.items.allocator()
     }
 
+    // The items, as a vector.
+    pub(crate) fn into_items(self) -> Vec<T, A>
+        ensures { result.items ≡ self.list }
+    {
+        self.items
+    }
+
     // Keeps the items of a window, and reports another alignment.
     pub(crate) fn narrow(&mut self, start: usize, len: usize, alignment: Alignment)
         requires within { start + len ≤ length self.old.list }

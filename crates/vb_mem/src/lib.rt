@@ -7,10 +7,14 @@
 
 pub mod buffer;
 pub mod buffer_mut;
+mod byte_form;
+mod compare;
 mod content;
+pub mod iter;
 
 pub use buffer::Buffer;
 pub use buffer_mut::BufferMut;
+pub use iter::{BufferIterator, Iter};
 
 /// A buffer of bytes.
 pub type ByteBuffer<A> = Buffer<u8, A>;
