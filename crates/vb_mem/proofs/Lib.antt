@@ -1,0 +1,4 @@
+pub mod Places
+pub mod ReadForms
+pub mod Runs
+pub mod Windows

@@ -1,0 +1,22 @@
+use Rattle.std.proofs.Common.{◌≡◌, ◌+◌, ◌-◌, ◌*◌, ◌≤◌, length, take, drop, ap, sym, ◌∙◌, arith}
+use Rattle.std.proofs.Math.Nat.{mul-le-mul_right}
+use Rattle.std.proofs.lemmas.List.{length-take, length-drop}
+use Rattle.vb_mem.proofs.ReadForms.{IsReadFrom-more, part_are_bytes}
+use Rattle.vb_mem.proofs.byte_form.read_items.Goals as goal
+
+-- the bytes of the item that was read are those at its place
+pub loop-item-preserved : goal.loop-item-preserved
+loop-item-preserved g c =
+    let element = g.T.Element in
+    let bytes = c.args.bytes.now in
+    let start = c.loop-item.start in
+    let kept = c.loop-item.invariant in
+    let size : c.SIZE.result ≡ element.SIZE = c.SIZE.ensures in
+    let ends : (c.loop-item.item-index + 1) * element.SIZE ≤ length c.args.items.now * element.SIZE = mul-le-mul_right element.SIZE (omega arith) in
+    let len : length (take element.SIZE (drop start bytes)) ≡ element.SIZE = simp (length-take, length-drop) (omega arith) in
+    let part : (start + c.SIZE.result) - start ≡ element.SIZE = omega arith in
+    let next = ap element.form (c.get.ensures.value ∙ ap (λ n. element.value_of (take n (drop start bytes))) part) ∙ g.met.T.Element.lawful.put_after_get _ len (part_are_bytes bytes c.type_inv.bytes start element.SIZE) in
+    record {
+      place = omega arith;
+      read = rw size (IsReadFrom-more element.form element.is_in_type bytes c.loop-item.items start element.SIZE c.loop-item.item-index c.get.result (omega arith) kept.read next c.get.ensures.in_type);
+    }

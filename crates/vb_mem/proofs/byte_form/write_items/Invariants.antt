@@ -1,0 +1,9 @@
+use Rattle.std.proofs.Common.{◌≡◌, ◌*◌, take}
+use Rattle.vb_mem.specs.ByteForm.{byteform}
+use Rattle.vb_mem.proofs.byte_form.write_items.Given as goal
+
+abbrev pub invariant-loop-item : goal.invariant-loop-item
+invariant-loop-item g l = record {
+  place : l.start ≡ l.item-index * g.T.Element.SIZE;
+  written : take l.start l.bytes ≡ byteform g.T.Element.form (take l.item-index l.items);
+}

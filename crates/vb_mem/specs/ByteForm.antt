@@ -1,0 +1,12 @@
+-- Items as bytes.
+use Rattle.std.specs.Prelude.{◌≡◌, ℕ, List}
+use Rattle.std.specs.List.{All, flat_map}
+
+-- the bytes of the items, one item after the other
+abbrev pub byteform : {T : Type 0} → (T → List ℕ) → List T → List ℕ
+byteform form items = flat_map form items
+
+-- the items whose bytes these are: values of their type
+pub record IsReadFrom {T : Type 0} (form : T → List ℕ) (is_in_type : T → Type 0) (bytes : List ℕ) (items : List T) : Type 0 where
+  pub bytes_are : byteform form items ≡ bytes
+  pub in_type : All is_in_type items

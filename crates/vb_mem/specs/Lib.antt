@@ -1,0 +1,5 @@
+pub mod ByteForm
+pub mod Collected
+pub mod Content
+pub mod OpenBuffer
+pub mod SharedBuffer

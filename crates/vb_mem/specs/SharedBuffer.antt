@@ -1,0 +1,39 @@
+-- What contracts see of a `Buffer`.
+use Rattle.std.specs.Prelude.{◌≡◌, ℕ, ◌+◌, ◌*◌, ◌%◌, ◌^◌, ◌<◌, ◌≤◌, ◌⊎◌, List, [], length}
+use Rattle.vb_mem.specs.OpenBuffer.{OpenBuffer}
+
+-- a buffer that may be shared: its items, the exponents of its reported and its declared alignment, and the place in bytes of its first item in the storage
+pub record SharedBuffer (T : Type 0) : Type 0 where
+  pub list : List T
+  pub alignment : ℕ
+  pub declared : ℕ
+  pub place : ℕ
+
+-- a buffer has these items and reports this alignment, and unless it is empty they stand at this place of a storage that is declared with that alignment
+pub record Shows {T : Type 0} (items : List T) (reported at kept : ℕ) (b : SharedBuffer T) : Type 0 where
+  pub list : b.list ≡ items
+  pub alignment : b.alignment ≡ reported
+  pub place : 0 < length items → b.place ≡ at
+  pub declared : 0 < length items → b.declared ≡ kept
+
+-- the place is a multiple of the alignment, and the storage is declared with it or more
+abbrev pub IsPlaceAligned : ℕ → ℕ → ℕ → Type 0
+IsPlaceAligned place declared alignment = (place % 2 ^ alignment ≡ 0) × (alignment ≤ declared)
+
+-- the buffer is empty, or its place has the alignment
+abbrev pub IsAlignedTo : {T : Type 0} → SharedBuffer T → ℕ → Type 0
+IsAlignedTo b alignment = (b.list ≡ []) ⊎ IsPlaceAligned b.place b.declared alignment
+
+-- the items from start up to end can be seen with an alignment, which is at least that of an item: there are none, or the place of the first one has it
+abbrev pub CanSlice : {T : Type 0} → ℕ → ℕ → SharedBuffer T → ℕ → ℕ → ℕ → Type 0
+CanSlice size least b start end alignment =
+    (start ≤ end) × (end ≤ length b.list) × (least ≤ alignment)
+    × ((start ≡ end) ⊎ IsPlaceAligned (b.place + start * size) b.declared alignment)
+
+-- the buffer shows all that a growing one holds
+abbrev pub ShowsAll : {T : Type 0} → SharedBuffer T → OpenBuffer T → Type 0
+ShowsAll b growing = (b.list ≡ growing.list) × (b.alignment ≡ growing.alignment)
+
+-- the items and the reported alignment are as they were
+abbrev pub KeepsItems : {T : Type 0} → SharedBuffer T → SharedBuffer T → Type 0
+KeepsItems old new = (new.list ≡ old.list) × (new.alignment ≡ old.alignment)

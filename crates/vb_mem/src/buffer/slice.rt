@@ -1,0 +1,87 @@
+//! Parts of a buffer.
+ghost use Rattle.std.specs.Prelude.{◌≡◌, ◌↔◌, ◌≤◌, ◌+◌, ◌*◌, length, slice_range, IfOk, IsTrue, IsOkUnless};
+ghost use Rattle.vb_mem.specs.SharedBuffer.{Shows, CanSlice};
+
+use super::{Buffer, divides_place};
+use crate::content::Content;
+use std::alloc::Allocator;
+use std::mem;
+use std::ops::Range;
+use vb_core::{Alignment, BufferError, Element};
+
+impl<T: Element, A: Allocator> Buffer<T, A> {
+    /// Whether the items of a range can be sliced with an alignment: the range lies within the buffer, the alignment
+    /// is at least that of an item, and the range is empty or the place in bytes of its first item is a multiple of
+    /// the alignment and the storage is declared with it or more.
+    pub fn can_slice(&self, range: Range<usize>, alignment: Alignment) -> bool
+        ensures { IsTrue result ↔ CanSlice T.SIZE T.align_exponent self.now range.start range.end alignment }
+    {
+        range.start <= range.end
+            && range.end <= self.len()
+            && Alignment::of::<T>() <= alignment
+            && (range.start == range.end
+                || (divides_place::<T>(alignment, self.first(), range.start)
+                    && alignment <= self.declared()))
+    }
+
+    /// Keeps the items of a range, for which [`Buffer::can_slice`] holds at the buffer's alignment. It takes no memory.
+    pub fn narrow(&mut self, range: Range<usize>)
+        requires { CanSlice T.SIZE T.align_exponent self.old range.start range.end self.old.alignment }
+        ensures { Shows (slice_range self.old.list range.start range.end) self.old.alignment (self.old.place + range.start * T.SIZE) self.old.declared self.new }
+    {
+        self.narrow_with_alignment(range, self.alignment());
+    }
+
+    // Keeps the items of a range and reports an alignment, for which `can_slice` holds.
+    pub(super) fn narrow_with_alignment(&mut self, range: Range<usize>, alignment: Alignment)
+        requires { CanSlice T.SIZE T.align_exponent self.old range.start range.end alignment }
+        ensures { Shows (slice_range self.old.list range.start range.end) alignment (self.old.place + range.start * T.SIZE) self.old.declared self.new }
+    {
+        let content = mem::replace(&mut self.content, Content::Nothing { alignment });
+        self.content = content.narrowed(range, alignment);
+    }
+}
+
+impl<T: Element, A: Allocator + Clone> Buffer<T, A> {
+    /// The items of a range, for which [`Buffer::can_slice`] holds at the buffer's alignment; the part keeps the
+    /// alignment and shares the storage. Nothing is copied and the storage takes no memory. Refused with `OutOfMemory`
+    /// where a copy of the allocator finds no memory.
+    pub fn slice(&self, range: Range<usize>) -> Result<Buffer<T, A>, BufferError>
+        requires { CanSlice T.SIZE T.align_exponent self.now range.start range.end self.now.alignment }
+        ensures ok { IfOk result (Shows (slice_range self.now.list range.start range.end) self.now.alignment (self.now.place + range.start * T.SIZE) self.now.declared) }
+        ensures refused { IsOkUnless result BufferError.OutOfMemory }
+    {
+        self.slice_with_alignment(range, self.alignment())
+    }
+
+    /// The items of a range with an alignment, for which [`Buffer::can_slice`] holds; the part shares the storage.
+    /// Nothing is copied and the storage takes no memory. Refused with `OutOfMemory` where a copy of the allocator
+    /// finds no memory.
+    pub fn slice_with_alignment(
+        &self,
+        range: Range<usize>,
+        alignment: Alignment,
+    ) -> Result<Buffer<T, A>, BufferError>
+        requires { CanSlice T.SIZE T.align_exponent self.now range.start range.end alignment }
+        ensures ok { IfOk result (Shows (slice_range self.now.list range.start range.end) alignment (self.now.place + range.start * T.SIZE) self.now.declared) }
+        ensures refused { IsOkUnless result BufferError.OutOfMemory }
+    {
+        let mut part = self.clone()?;
+        part.narrow_with_alignment(range, alignment);
+        Ok(part)
+    }
+
+    /// The items of a range within the buffer, of the alignment of an item; the part shares the storage. Nothing is
+    /// copied and the storage takes no memory. Refused with `OutOfMemory` where a copy of the allocator finds no
+    /// memory.
+    pub fn slice_unaligned(&self, range: Range<usize>) -> Result<Buffer<T, A>, BufferError>
+        requires start_le_end { range.start ≤ range.end }
+        requires in_bounds { range.end ≤ length self.now.list }
+        ensures ok { IfOk result (Shows (slice_range self.now.list range.start range.end) T.align_exponent (self.now.place + range.start * T.SIZE) self.now.declared) }
+        ensures refused { IsOkUnless result BufferError.OutOfMemory }
+    {
+        // What the contract of `alignment` says of the place is what the call below asks for.
+        let _ = self.alignment();
+        self.slice_with_alignment(range, Alignment::of::<T>())
+    }
+}

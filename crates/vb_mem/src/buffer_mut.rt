@@ -1,0 +1,131 @@
+//! A buffer that grows.
+ghost use Rattle.std.specs.Prelude.{◌≡◌, ◌==◌, ◌+◌, ◌≤◌, [], length, take, drop};
+ghost use Rattle.std.specs.Borrow.{Lends, Array, sem};
+ghost use Rattle.vb_mem.specs.OpenBuffer.{Holds, with_items};
+ghost use Rattle.vb_mem.specs.contracts.buffer_mut.BufferMut.{the_row};
+
+use std::alloc::Allocator;
+use std::marker::Model;
+use vb_core::{Alignment, Element};
+
+mod collect;
+mod convert;
+mod grow;
+mod make;
+
+/// A list of items that grows, with an alignment.
+///
+/// The reported alignment is what the buffer was asked for, and what a [`Buffer`](crate::Buffer) made of it reports.
+/// The declared alignment is that of its storage: at least the reported one. Growth keeps both.
+#[derive(Drop)]
+pub struct BufferMut<T: Element, A: Allocator> {
+    items: Vec<T, A>,
+    alignment: Alignment,
+    declared: Alignment,
+}
+
+impl<T: Element, A: Allocator> Model for BufferMut<T, A> {
+    ghost use Rattle.std.specs.Prelude.{vec_capacity, ◌≤◌};
+    ghost use Rattle.vb_mem.specs.OpenBuffer.{OpenBuffer};
+
+    ghost Value = { OpenBuffer T };
+
+    ghost view = { λ b. record { list = b.items.items; alignment = b.alignment; declared = b.declared; room = vec_capacity b.items } };
+
+    ghost invariant = { λ b. record { at_least : T.align_exponent ≤ b.alignment; fits : b.alignment ≤ b.declared } };
+}
+
+impl<T: Element, A: Allocator> BufferMut<T, A> {
+    /// The alignment that the buffer reports: at least that of an item, at most the declared one.
+    pub fn alignment(&self) -> Alignment
+        ensures value { result ≡ self.now.alignment }
+        ensures at_least { T.align_exponent ≤ result }
+        ensures fits { result ≤ self.now.declared }
+    {
+        self.alignment
+    }
+
+    /// The alignment that the storage is declared with.
+    pub fn declared(&self) -> Alignment
+        ensures value { result ≡ self.now.declared }
+        ensures at_least { self.now.alignment ≤ result }
+    {
+        self.declared
+    }
+
+    /// The number of items.
+    pub fn len(&self) -> usize
+        ensures { result ≡ length self.now.list }
+    {
+        self.items.len()
+    }
+
+    /// Whether there are no items.
+    pub fn is_empty(&self) -> bool
+        ensures { result ≡ (length self.now.list == 0) }
+    {
+        self.items.is_empty()
+    }
+
+    /// The number of items up to which the buffer grows without more memory; at least the length.
+    pub fn capacity(&self) -> usize
+        ensures value { result ≡ self.now.room }
+        ensures at_least { length self.now.list ≤ result }
+    {
+        self.items.capacity()
+    }
+
+    /// The items.
+    pub fn as_slice(&self) -> &[T]
+        ensures { result.now ≡ self.now.list }
+    {
+        self.items.as_slice()
+    }
+
+    /// The items, to be written. All else stays.
+    pub fn as_mut_slice(&mut self) -> &mut [T]
+        ensures* writes_back { sem 𝓛 (Lends (the_row T.row A.row T.Element A.Allocator) (Array T.row 0) self.entry result (with_items self.old)) }
+        ensures value { result.now ≡ self.old.list }
+    {
+        self.items.as_mut_slice()
+    }
+
+    /// Drops all items. The capacity stays.
+    pub fn clear(&mut self)
+        ensures { self.new ≡ record self.old { list = [] } }
+    {
+        self.items.clear();
+    }
+
+    /// Keeps the first `len` items. Where there are no more than these, nothing changes. The capacity stays.
+    pub fn truncate(&mut self, len: usize)
+        ensures { self.new ≡ record self.old { list = take len self.old.list } }
+    {
+        self.items.truncate(len);
+    }
+
+    pub(crate) fn allocator(&self) -> &A {
+        self.items.allocator()
+    }
+
+    // The items, as a vector.
+    pub(crate) fn into_items(self) -> Vec<T, A>
+        ensures { result.items ≡ self.list }
+    {
+        self.items
+    }
+
+    // Keeps the items of a window, and reports another alignment.
+    pub(crate) fn narrow(&mut self, start: usize, len: usize, alignment: Alignment)
+        requires within { start + len ≤ length self.old.list }
+        requires at_least { T.align_exponent ≤ alignment }
+        requires fits { alignment ≤ self.old.declared }
+        ensures { Holds (take len (drop start self.old.list)) alignment self.old.declared self.new }
+    {
+        if start != 0 {
+            self.items.copy_within(start..start + len, 0);
+        }
+        self.items.truncate(len);
+        self.alignment = alignment;
+    }
+}

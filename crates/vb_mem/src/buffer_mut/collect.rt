@@ -1,0 +1,117 @@
+//! Items that come from iterators.
+ghost use Rattle.std.specs.Prelude.{◌≡◌, ◌≢◌, ⊤, List, length, IfOk, OnOk, OnErr, IsOk, IsOkUnless};
+ghost use Rattle.std.specs.Iterator.{Drains, ExtendsWithItems, HoldsAlong, IsFiniteIterable};
+ghost use Rattle.vb_mem.specs.OpenBuffer.{Holds, Lengthens, HasRoom, over_aligned};
+ghost use Rattle.vb_mem.specs.Collected.{OfItems, GivesValues, GivesError, IfStopped};
+
+use super::BufferMut;
+use std::alloc::Allocator;
+use vb_core::{BufferError, Element, ExtendError, TrustedLen};
+
+impl<T: Element, A: Allocator> BufferMut<T, A> {
+    /// The items that an iterator gives, of the alignment of an item. Refused with `OutOfMemory`.
+    pub fn from_iter<I: IntoIterator<Item = T>>(
+        alloc: A,
+        iter: I,
+    ) -> Result<BufferMut<T, A>, BufferError>
+        requires { IsFiniteIterable I.into_iter_gives I.IntoIter.can_next I.IntoIter.remaining iter }
+        ensures ok { IfOk result (λ b. OfItems I.into_iter_gives I.IntoIter.next_gives iter
+            (λ items. Holds items T.align_exponent (over_aligned T.align_exponent) b)) }
+        ensures refused { IsOkUnless result BufferError.OutOfMemory }
+    {
+        let mut b = BufferMut::empty(alloc);
+        b.extend(iter)?;
+        Ok(b)
+    }
+
+    /// The items that an iterator of known length gives, of the alignment of an item; all memory is asked for first.
+    /// Refused with `OutOfMemory`.
+    pub fn from_trusted_len_iter<I: TrustedLen + Iterator<Item = T>>(
+        alloc: A,
+        iter: I,
+    ) -> Result<BufferMut<T, A>, BufferError>
+        requires { I.can_next iter }
+        ensures ok { IfOk result (λ b. (items : List T) × Drains I.next_gives iter items
+            × Holds items T.align_exponent (over_aligned T.align_exponent) b) }
+        ensures refused { IsOkUnless result BufferError.OutOfMemory }
+    {
+        let mut b = BufferMut::empty(alloc);
+        b.extend_trusted(iter)?;
+        Ok(b)
+    }
+
+    /// The values that an iterator of known length gives, of the alignment of an item; all memory is asked for first.
+    /// Refused with `Memory` before the first item is asked for, and with `Item` at the first error; the values before
+    /// it are dropped.
+    pub fn try_from_trusted_len_iter<E, I: TrustedLen + Iterator<Item = Result<T, E>>>(
+        alloc: A,
+        iter: I,
+    ) -> Result<BufferMut<T, A>, ExtendError<E>>
+        requires { I.can_next iter }
+        ensures ok { IfOk result (λ b. GivesValues I.next_gives iter
+            (λ items. Holds items T.align_exponent (over_aligned T.align_exponent) b)) }
+        ensures err { IfStopped result (λ e. GivesError I.next_gives iter e (λ _. ⊤)) ⊤ }
+    {
+        let mut b = BufferMut::empty(alloc);
+        b.try_extend_trusted(iter)?;
+        Ok(b)
+    }
+
+    /// Adds the items that an iterator gives. Within the capacity it takes no memory and succeeds; else it may be
+    /// refused with `OutOfMemory`, and the items that came before stay then.
+    pub fn extend<I: IntoIterator<Item = T>>(&mut self, iter: I) -> Result<(), BufferError>
+        requires { IsFiniteIterable I.into_iter_gives I.IntoIter.can_next I.IntoIter.remaining iter }
+        ensures lengthens { ExtendsWithItems I.into_iter_gives I.IntoIter.next_gives (λ old items new. Lengthens items old new) iter self.old self.new result }
+        ensures in_place { ((it : I.IntoIter) → I.into_iter_gives iter it → HoldsAlong I.IntoIter.next_gives it (λ items. HasRoom self.old (length items))) → IsOk result }
+        ensures refused { IsOkUnless result BufferError.OutOfMemory }
+    {
+        for item in iter {
+            self.push(item)?;
+        }
+        Ok(())
+    }
+
+    /// Adds the items that an iterator of known length gives, all of them or none. Within the capacity it takes no
+    /// memory and succeeds; else it is refused with `OutOfMemory`, and the buffer is unchanged then.
+    pub fn extend_trusted<I: TrustedLen + Iterator<Item = T>>(
+        &mut self,
+        iter: I,
+    ) -> Result<(), BufferError>
+        requires { I.can_next iter }
+        ensures ok { OnOk result ((items : List T) × Drains I.next_gives iter items × Lengthens items self.old self.new) }
+        ensures in_place { HasRoom self.old (I.left iter) → IsOk result }
+        ensures err { OnErr result (self.new ≡ self.old) }
+        ensures refused { IsOkUnless result BufferError.OutOfMemory }
+    {
+        self.reserve(iter.exact_len())?;
+        for item in iter {
+            self.items.push_reserved(item);
+        }
+        Ok(())
+    }
+
+    /// Adds the values that an iterator of known length gives, up to its first error.
+    ///
+    /// Refused with `Memory` before the first item is asked for, and the buffer is unchanged then; within the
+    /// capacity it takes no memory. Stopped with `Item` at the first error; the values before it stay then.
+    pub fn try_extend_trusted<E, I: TrustedLen + Iterator<Item = Result<T, E>>>(
+        &mut self,
+        iter: I,
+    ) -> Result<(), ExtendError<E>>
+        requires { I.can_next iter }
+        ensures ok { OnOk result (GivesValues I.next_gives iter (λ items. Lengthens items self.old self.new)) }
+        ensures in_place { HasRoom self.old (I.left iter) → result ≢ Err ExtendError.Memory }
+        ensures err { IfStopped result (λ e. GivesError I.next_gives iter e (λ items. Lengthens items self.old self.new)) (self.new ≡ self.old) }
+    {
+        self.items
+            .reserve(iter.exact_len())
+            .map_err(|_| ExtendError::Memory)?;
+        for item in iter {
+            match item {
+                Ok(value) => self.items.push_reserved(value),
+                Err(error) => return Err(ExtendError::Item(error)),
+            }
+        }
+        Ok(())
+    }
+}
