@@ -138,8 +138,8 @@ Answered-append ls first written out slots line (Some (Some c)) out' slots' a sm
   replies = a.replies ++ r ∷ [];
   ran = Run-append (replicate 16 Empty) a.commands a.replies slots c r slots' a.ran outcome;
   told =
-    subst (λ (x : List ℕ). Keeps (append_known first x) (append_known written out')) (sym (printed-append a.replies r))
-    (subst (λ (x : List ℕ). Keeps (append_known first (printed a.replies ++ line_of r)) (append_known written x)) (sym pushed) (Keeps-append first written (printed a.replies) out (line_of r) a.told));
+      subst (λ (x : List ℕ). Keeps (append_known first x) (append_known written out')) (sym (printed-append a.replies r))
+      (subst (λ (x : List ℕ). Keeps (append_known first (printed a.replies ++ line_of r)) (append_known written x)) (sym pushed) (Keeps-append first written (printed a.replies) out (line_of r) a.told));
 }
 
 -- the next line has number n: those before it were passed and answered

@@ -1,3 +1,13 @@
 pub mod DriveError
 pub mod Feed
 pub mod Session
+pub use Rattle.vb_command.specs.Arguments
+pub use Rattle.vb_command.specs.Hex
+pub use Rattle.vb_command.specs.Machine
+pub use Rattle.vb_command.specs.Optional
+pub use Rattle.vb_command.specs.Printed
+pub use Rattle.vb_command.specs.Reading
+pub use Rattle.vb_command.specs.Views
+pub use Rattle.vb_command.specs.Words
+pub use Rattle.vb_pool.specs.Bits
+pub use Rattle.vb_pool.specs.Slot

@@ -1,4 +1,8 @@
-//! Lines in, answers out.
+//! Sessions: lines of commands in, answers out.
+//!
+//! [`drive`] reads the lines of a [`Source`], carries out their commands on sixteen slots for sets
+//! of bits, and writes the answers to a [`Sink`]. [`FromRead`] and [`ToWrite`] make these of a
+//! reader and a writer of `std`. [`run`] carries out [`Command`]s that are at hand on a [`Pool`].
 #![tactic(auto)]
 
 mod driver;
@@ -16,3 +20,6 @@ pub use error::DriveError;
 pub use fault::Fault;
 pub use sink::{Sink, ToWrite};
 pub use source::{FromRead, Source};
+pub use vb_command::{Answer, Command, Mode, Refusal, Unread, command_of};
+pub use vb_core::BufferError;
+pub use vb_pool::{Pool, run};

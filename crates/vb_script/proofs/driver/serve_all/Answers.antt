@@ -108,8 +108,8 @@ returns-in-None-clause-ok g c =
 some_byte : (g : _) (c : goal.In_ok-flush-in_default-2 g) → c.in_ok-line_ready.field-0 ≡ None → 0 < length c.line_ready-2.new.feed
 some_byte g c none =
     elim c.in_default-2.branch [
-      in_default-2-via-in-None+else-is_empty w ↦ let feed = w.as_slice.ensures in let full = w.if-is_empty.ensures in grind (arith, common_steps)
-    | in_default-2-via-in_default-2 w ↦ absurd (w.in_default-2.not-None none)
+      | in_default-2-via-in-None+else-is_empty w ↦ let feed = w.as_slice.ensures in let full = w.if-is_empty.ensures in grind (arith, common_steps)
+      | in_default-2-via-in_default-2 w ↦ absurd (w.in_default-2.not-None none)
     ]
 
 pub returns-in_ok-flush-in_default-2-clause-unreadable : goal.returns-in_ok-flush-in_default-2-clause-unreadable
