@@ -82,6 +82,7 @@ fn count_part<G: Glance>(src: &mut G, at: usize, len: usize) -> usize
 }
 
 /// Counts `n` units from bit `at` on, one by one.
+#[tactic(auto, using(crate::proofs::BitsLemmas::windows))]
 fn count_units<U: Unit, G: Glance>(src: &mut G, at: usize, n: usize) -> usize
     requires aligned { 0 < n → at % 8 ≡ 0 }
     requires inside { at + 8 * (U.SIZE * n) ≤ 8 * length (G.bytes src.old) }
@@ -119,6 +120,7 @@ fn add_chunks<G: Glance>(src: &mut G, at: usize, n: usize, ones: usize) -> usize
 ///
 /// Two chunks a turn, which hides the cost of the loop. It isn't inlined: among the sums of other
 /// parts the compiler no longer sees its four as the lanes of one vector.
+#[tactic(auto, using(crate::proofs::BitsLemmas::windows))]
 #[inline(never)]
 fn count_chunks<G: Glance>(src: &mut G, at: usize, n: usize) -> usize
     requires inside { at + 64 * n ≤ length (G.bytes src.old) }

@@ -6,19 +6,6 @@ use Rattle.vb_kernel.proofs.UnitsLemmas.{count_unit_more}
 use Rattle.vb_kernel.proofs.count.count_chunks.Goals as goal
 use Rattle.vb_kernel.proofs.count.count_chunks.Goals.{then-n-eq1, else-n-eq1}
 
-pub loop-k-init : goal.loop-k-init
-loop-k-init g c = record {
-  value = c.zero-sum.ensures ∙ sym (count-bits_none (g.G.Glance.bytes c.args.src.now) (8 * c.args.at));
-  same = refl;
-  looks = omega arith;
-}
-
-pub add-requires : goal.add-requires
-add-requires g c = omega (arith, count-bits-le (g.G.Glance.bytes c.args.src.now) (8 * c.args.at) (1024 * c.loop-k.k))
-
-pub add-sum-requires : goal.add-sum-requires
-add-sum-requires g c = omega (arith, count-bits-le (g.G.Glance.bytes c.args.src.now) (8 * c.args.at) (1024 * c.loop-k.k), count-bits-le c.chunk-first.result 0 512)
-
 pub loop-k-preserved : goal.loop-k-preserved
 loop-k-preserved g c =
     let b : List ℕ = g.G.Glance.bytes c.args.src.now in let o : ℕ = 8 * c.args.at in let m : ℕ = 1024 * c.loop-k.k in
@@ -30,9 +17,6 @@ loop-k-preserved g c =
       same = c.chunk-second.ensures.same ∙ same;
       looks = omega (arith, c.loop-k.invariant.looks, c.chunk-first.ensures.look, c.chunk-second.ensures.look);
     }
-
-pub add-sum-requires-then-n-eq1 : goal.add-sum-requires-then-n-eq1
-add-sum-requires-then-n-eq1 g c = omega (arith, count-bits-le (g.G.Glance.bytes c.args.src.now) (8 * c.args.at) (1024 * c.loop-k.k))
 
 pub returns-clause-value : goal.returns-clause-value
 returns-clause-value g c =
