@@ -1,19 +1,16 @@
 -- Searches that go from list to list.
-use Rattle.std.proofs.Common.{◌≡◌, ℕ, ◌+◌, ◌-◌, ◌/◌, ◌%◌, ◌^◌, ◌<◌, ◌≤◌, Bool, true, false, not, cond, List, ◌++◌, length, take, Some, refl, sym, ap, ◌∙◌, arith, subst, ⊎_elim, zero-add}
+use Rattle.std.proofs.Common.{◌≡◌, ℕ, ◌+◌, ◌-◌, ◌^◌, ◌<◌, ◌≤◌, Bool, true, false, not, cond, List, ◌++◌, length, take, Option, None, Some, IsSome, refl, sym, ap, ◌∙◌, arith, subst, ⊎_elim, zero-add, pow_mono}
 use Rattle.std.below.core.specs.declared.ops.ControlFlow.{ControlFlow}
 use Rattle.std.below.core.specs.declared.ops.ControlFlow.TheVariants.{Continue, Break}
 use Rattle.std.specs.ControlFlow.{break_value}
-use Rattle.std.specs.Prelude.{count_ones}
 use Rattle.std.proofs.lemmas.List.{length-map, map-append, length-append, get_or_append_left, get_or-append-add, take-append-le}
 use Rattle.std.proofs.Math.Seq.{take-append_seam, take-append-add}
 use Rattle.std.proofs.lemmas.Bool.{cases_lt}
-use Rattle.std.proofs.Math.Nat.{zero-mod, div-eq_of_lt}
-use Rattle.std.proofs.lemmas.Nat.{ones_le_self}
 use Rattle.vb_kernel.specs.Bits.{bits, count, negated, Selects}
 use Rattle.vb_kernel.specs.Digits.{has_bit, digits}
 use Rattle.vb_kernel.specs.Searches.{matching, Searched}
 use Rattle.vb_kernel.proofs.BitsLemmas.{bits-add, length-bits, count-append, count-take-lt, count-take-mono, count-bits_none, count-negated_none}
-use Rattle.vb_kernel.proofs.DigitsLemmas.{length-digits, at-digits, take-digits, digits-add, count-digits, count-digits_one}
+use Rattle.vb_kernel.proofs.DigitsLemmas.{length-digits, at-digits, take-digits, digits-add, count-digits_below, count-digits_one}
 
 -- ---- a place in two lists, one after the other
 -- found in the first
@@ -113,21 +110,21 @@ pub Searched-Selects : (l : List Bool) (n : ℕ) (r : ControlFlow ℕ ℕ) → S
 Searched-Selects l n (Break p) s = s
 Searched-Selects l n (Continue left) s = omega (arith, s)
 
+-- below the count there is a place
+pub IsSome-Selects : (l : List Bool) (n : ℕ) (o : Option ℕ) → n < count l → Selects l n o → IsSome o
+IsSome-Selects l n None low s = absurd (omega arith)
+IsSome-Selects l n (Some p) low s = refl
+
 -- ---- searches of words
--- the digits that are 0 in any case needn't be searched
-pub Searched-digits : (w k n : ℕ) (r : ControlFlow ℕ ℕ) → k ≤ 64 → w < 2 ^ k → Searched (digits w 0 64) n r → Searched (digits w 0 k) n r
-Searched-digits w k n r within small s =
+-- a digit above those that a number has is no answer
+pub Selects-digits_below : (w k n p : ℕ) → k ≤ 64 → w < 2 ^ k → Selects (digits w 0 64) n (Some p) → Selects (digits w 0 k) n (Some p)
+Selects-digits_below w k n p within small s =
     let e : k + (64 - k) ≡ 64 = omega arith in
     let cut : digits w 0 64 ≡ digits w 0 k ++ digits w (0 + k) (64 - k) = ap (digits w 0) (sym e) ∙ digits-add w 0 k (64 - k) in
-    let high : w / 2 ^ (0 + k) ≡ 0 = ap (λ x. w / 2 ^ x) (zero-add k) ∙ div-eq_of_lt small in
-    let none : count (digits w (0 + k) (64 - k)) ≡ 0 = count-digits w (0 + k) (64 - k) ∙ ap (λ x. count_ones (x % 2 ^ (64 - k))) high ∙ ap count_ones (zero-mod (2 ^ (64 - k))) ∙ omega (arith, ones_le_self 0) in
-    let same : count (digits w 0 64) ≡ count (digits w 0 k) = ap count cut ∙ count-append (digits w 0 k) (digits w (0 + k) (64 - k)) ∙ omega (arith, none) in
-    elim r as (λ r. Searched (digits w 0 64) n r → Searched (digits w 0 k) n r) [
-      | Break p ↦ λ t.
-          let low = count-take-lt (digits w 0 64) p t.0 t.1 in
-          Selects-left (digits w 0 k) (digits w (0 + k) (64 - k)) n p (omega (arith, low, t.2, same)) (subst (λ l. Selects l n (Some p)) cut t)
-      | Continue left ↦ λ t. t ∙ ap (λ x. left + x) same
-    ] s
+    let wide : 2 ^ k ≤ 2 ^ 64 = pow_mono within in
+    let same : count (digits w 0 64) ≡ count (digits w 0 k) = count-digits_below w 64 (omega (arith, wide)) ∙ sym (count-digits_below w k small) in
+    let low = count-take-lt (digits w 0 64) p s.0 s.1 in
+    Selects-left (digits w 0 k) (digits w (0 + k) (64 - k)) n p (omega (arith, low, s.2, same)) (subst (λ l. Selects l n (Some p)) cut s)
 
 -- the one digit that is left after all others were halved away
 pub Selects-digits : (w p left n : ℕ) → p + 1 ≤ 64 → left < count (digits w p 1) → left + count (digits w 0 p) ≡ n → Selects (digits w 0 64) n (Some p)

@@ -1,13 +1,15 @@
 -- How a window is cut for reading.
-use Rattle.std.specs.Prelude.{◌≡◌, ℕ, ◌+◌, ◌*◌, ◌%◌, ◌<◌, ◌≤◌, min}
+use Rattle.std.specs.Prelude.{◌≡◌, ℕ, ◌+◌, ◌*◌, ◌/◌, ◌%◌, ◌<◌, ◌≤◌, min}
 use Rattle.vb_kernel.specs.declared.window.Parts.{Parts}
 use Rattle.vb_kernel.specs.Looks.{looks}
 
--- the parts of the window of n bits from bit o on: the head and the tail are bits of one byte, all between is whole bytes
+-- the looks that n bits from a whole byte on take without chunks: words, bytes and a part of a byte
+abbrev pub rest_looks : ℕ → ℕ
+rest_looks n = n / 64 + n % 64 / 8 + min (n % 8) 1
+
+-- the parts of the window of n bits from bit o on: the head is of one byte, what follows begins at a whole byte
 pub record IsCutOf (o n : ℕ) (p : Parts) : Type 0 where
-  pub whole : p.head + 512 * p.chunks + 64 * p.words + 8 * p.bytes + p.tail ≡ n
-  pub head_in_byte : o % 8 + p.head ≤ 8
-  pub short_head : p.head < 8
-  pub short_tail : p.tail < 8
+  pub whole : p.head + 512 * p.chunks + p.rest ≡ n
+  pub in_byte : o % 8 + p.head ≤ 8
   pub aligned : p.head < n → (o + p.head) % 8 ≡ 0
-  pub looks : looks o n ≡ min p.head 1 + p.chunks + p.words + p.bytes + min p.tail 1
+  pub looks : looks o n ≡ min p.head 1 + p.chunks + rest_looks p.rest

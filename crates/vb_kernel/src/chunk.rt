@@ -1,14 +1,13 @@
 //! Counting and selecting within a chunk of 64 bytes.
-ghost use Rattle.std.specs.Prelude.{◌≡◌, ℕ, ◌+◌, ◌*◌, ◌≤◌, length};
+ghost use Rattle.std.specs.Prelude.{◌≡◌, ℕ, ◌+◌, ◌*◌, ◌<◌, ◌≤◌, Some, length};
 ghost use Rattle.std.below.core.specs.declared.int.usize.TheConstants.{MAX};
-ghost use Rattle.vb_kernel.specs.Bits.{bits, count};
-ghost use Rattle.vb_kernel.specs.Searches.{matching, Searched};
+ghost use Rattle.vb_kernel.specs.Bits.{bits, count, Selects};
+ghost use Rattle.vb_kernel.specs.Searches.{matching};
 
 use crate::glance::Plain;
 use crate::read::word_at;
 use crate::select::find_in_units;
 use std::marker::Model;
-use std::ops::ControlFlow;
 
 /// A sum in four parts. They are kept apart, as the lanes of a vector are, so that the counts of a
 /// chunk's words don't wait for one another.
@@ -79,13 +78,16 @@ pub(crate) fn chunk_ones(chunk: &[u8; 64]) -> usize
     LaneSum::zero().add(chunk).total()
 }
 
-/// Searches a chunk that was read, word by word.
+/// The place of the `n`-th bit of the chunk that is `value`.
 ///
-/// It is called where the bit sought is in the chunk, once a search, and takes the chunk by value:
-/// so the chunks that are only counted stay in registers.
+/// It is called once a search, and takes the chunk by value: so the chunks that are only counted
+/// stay in registers.
 #[inline(never)]
-pub(crate) fn find_in_words(chunk: [u8; 64], n: usize, value: bool) -> ControlFlow<usize, usize>
-    ensures { Searched (matching value (bits chunk 0 512)) n result }
+pub(crate) fn select_in_chunk(chunk: [u8; 64], n: usize, value: bool) -> usize
+    requires { n < count (matching value (bits chunk 0 512)) }
+    ensures { Selects (matching value (bits chunk 0 512)) n (Some result) }
 {
     find_in_units::<u64, Plain>(&mut Plain::new(&chunk), 0, 0, 8, n, value)
+        .break_value()
+        .unwrap()
 }

@@ -6,6 +6,7 @@
 ghost use Rattle.std.specs.Prelude.{◌≡◌, ℕ, ◌+◌, ◌*◌, ◌%◌, ◌<◌, ◌≤◌, length, min};
 ghost use Rattle.vb_kernel.specs.Bits.{bits, count};
 ghost use Rattle.vb_kernel.specs.Looks.{looks};
+ghost use Rattle.vb_kernel.specs.Windows.{rest_looks};
 
 use crate::chunk::{LaneSum, chunk_ones};
 use crate::glance::{Glance, Plain};
@@ -26,6 +27,7 @@ pub fn count_ones(bytes: &[u8], offset: usize, len: usize) -> usize
 ///
 /// It looks once at a partial first byte, once at each 64 whole bytes, once at each eight of those
 /// left, once at each byte then left, and once at a partial last byte.
+#[tactic(auto, using(crate::proofs::BitsLemmas::windows))]
 pub fn count_ones_by<G: Glance>(src: &mut G, offset: usize, len: usize) -> usize
     requires inside { offset + len ≤ 8 * length (G.bytes src.old) }
     requires fits { offset + len ≤ usize.MAX }
@@ -35,18 +37,37 @@ pub fn count_ones_by<G: Glance>(src: &mut G, offset: usize, len: usize) -> usize
 {
     let parts = Parts::of(offset, len);
     let chunks_at = offset + parts.head;
-    let words_at = chunks_at + 512 * parts.chunks;
-    let bytes_at = words_at + 64 * parts.words;
-    let tail_at = bytes_at + 8 * parts.bytes;
+    let rest_at = chunks_at + 512 * parts.chunks;
     let head = count_part(src, offset, parts.head);
-    let chunks = count_chunks(src, chunks_at, parts.chunks);
-    let words = count_units::<u64, G>(src, words_at, parts.words);
-    let bytes = count_units::<u8, G>(src, bytes_at, parts.bytes);
-    let tail = count_part(src, tail_at, parts.tail);
-    head + chunks + words + bytes + tail
+    let rest = count_rest(src, rest_at, parts.rest);
+    // The chunks come last, so that nothing has to be kept over the call that counts many.
+    add_chunks(src, chunks_at, parts.chunks, head + rest)
+}
+
+/// Counts `len` bits from bit `at` on, by words and bytes.
+#[tactic(auto, using(crate::proofs::BitsLemmas::windows))]
+fn count_rest<G: Glance>(src: &mut G, at: usize, len: usize) -> usize
+    requires aligned { 0 < len → at % 8 ≡ 0 }
+    requires inside { at + len ≤ 8 * length (G.bytes src.old) }
+    requires fits { at + len ≤ usize.MAX }
+    ensures value { result ≡ count (bits (G.bytes src.old) at len) }
+    ensures same { G.bytes src.new ≡ G.bytes src.old }
+    ensures looks { G.looks src.new ≡ G.looks src.old + rest_looks len }
+{
+    // Most long windows end with a chunk, and then three tests are saved.
+    if len == 0 {
+        return 0;
+    }
+    let bytes_at = at + len / 64 * 64;
+    let tail_at = at + len / 8 * 8;
+    let words = count_units::<u64, G>(src, at, len / 64);
+    let bytes = count_units::<u8, G>(src, bytes_at, len % 64 / 8);
+    let tail = count_part(src, tail_at, len % 8);
+    words + bytes + tail
 }
 
 /// Counts `len` bits that lie in one byte, from bit `at` on.
+#[tactic(auto, using(crate::proofs::BitsLemmas::windows))]
 fn count_part<G: Glance>(src: &mut G, at: usize, len: usize) -> usize
     requires in_byte { 0 < len → at % 8 + len ≤ 8 }
     requires inside { at + len ≤ 8 * length (G.bytes src.old) }
@@ -61,6 +82,7 @@ fn count_part<G: Glance>(src: &mut G, at: usize, len: usize) -> usize
 }
 
 /// Counts `n` units from bit `at` on, one by one.
+#[tactic(auto, using(crate::proofs::BitsLemmas::windows))]
 fn count_units<U: Unit, G: Glance>(src: &mut G, at: usize, n: usize) -> usize
     requires aligned { 0 < n → at % 8 ≡ 0 }
     requires inside { at + 8 * (U.SIZE * n) ≤ 8 * length (G.bytes src.old) }
@@ -71,37 +93,36 @@ fn count_units<U: Unit, G: Glance>(src: &mut G, at: usize, n: usize) -> usize
 {
     let mut ones = 0;
     for k in 0..n {
-        ones += U::read(src, at / 8 + U::SIZE * k).ones();
+        ones += U::read(src, at / 8 + U::SIZE * k).count(true);
     }
     ones
 }
 
-/// Counts `n` chunks from bit `at` on.
-///
-/// None and one are done here, since the call costs as much as a chunk.
-fn count_chunks<G: Glance>(src: &mut G, at: usize, n: usize) -> usize
+/// Adds to `ones` the true bits of `n` chunks from bit `at` on.
+#[tactic(auto, using(crate::proofs::BitsLemmas::windows))]
+fn add_chunks<G: Glance>(src: &mut G, at: usize, n: usize, ones: usize) -> usize
     requires aligned { 0 < n → at % 8 ≡ 0 }
     requires inside { at + 512 * n ≤ 8 * length (G.bytes src.old) }
     requires fits { at + 512 * n ≤ usize.MAX }
-    ensures value { result ≡ count (bits (G.bytes src.old) at (512 * n)) }
+    requires room { ones + 512 * n ≤ usize.MAX }
+    ensures value { result ≡ ones + count (bits (G.bytes src.old) at (512 * n)) }
     ensures same { G.bytes src.new ≡ G.bytes src.old }
     ensures looks { G.looks src.new ≡ G.looks src.old + n }
 {
-    if n == 0 {
-        return 0;
+    match n {
+        0 => ones,
+        1 => ones + chunk_ones(&src.chunk(at / 8)),
+        _ => ones + count_chunks(src, at / 8, n),
     }
-    if n == 1 {
-        return chunk_ones(&src.chunk(at / 8));
-    }
-    sum_chunks(src, at / 8, n)
 }
 
 /// Counts `n` chunks from byte `at` on.
 ///
-/// Two chunks a turn, which hides the loop's own cost. It isn't inlined: next to the sums of the
-/// other parts the compiler no longer sees its four as the lanes of one vector.
+/// Two chunks a turn, which hides the cost of the loop. It isn't inlined: among the sums of other
+/// parts the compiler no longer sees its four as the lanes of one vector.
+#[tactic(auto, using(crate::proofs::BitsLemmas::windows))]
 #[inline(never)]
-fn sum_chunks<G: Glance>(src: &mut G, at: usize, n: usize) -> usize
+fn count_chunks<G: Glance>(src: &mut G, at: usize, n: usize) -> usize
     requires inside { at + 64 * n ≤ length (G.bytes src.old) }
     requires fits { 8 * at + 512 * n ≤ usize.MAX }
     ensures value { result ≡ count (bits (G.bytes src.old) (8 * at) (512 * n)) }

@@ -3,11 +3,12 @@ ghost use Rattle.std.specs.Prelude.{◌≡◌, ℕ, ◌+◌, ◌*◌, ◌%◌, �
 ghost use Rattle.vb_kernel.specs.Bits.{bits, count, negated, Selects, AnswersEach};
 ghost use Rattle.vb_kernel.specs.Looks.{looks};
 ghost use Rattle.vb_kernel.specs.Searches.{matching, Searched};
+ghost use Rattle.vb_kernel.specs.Windows.{rest_looks};
 
 use crate::glance::{Glance, Plain};
 use crate::unit::Unit;
 use crate::window::Parts;
-use crate::word::{byte_part, find_in_word};
+use crate::word::{byte_part, select_in_word};
 use std::ops::ControlFlow;
 
 /// The place, relative to the window, of its `n`-th true bit, counted from 0; `None` where the
@@ -62,6 +63,9 @@ pub fn bit_select_unset_by<G: Glance>(
 }
 
 /// Searches the window, part by part, for the `n`-th bit that is `value`.
+///
+/// Inlined, so that the search for true bits and that for false bits have loops of their own.
+#[inline(always)]
 fn find<G: Glance>(
     src: &mut G,
     offset: usize,
@@ -76,14 +80,36 @@ fn find<G: Glance>(
     ensures looks { G.looks src.new ≤ G.looks src.old + looks offset len }
 {
     let parts = Parts::of(offset, len);
-    let words_at = parts.head + 512 * parts.chunks;
-    let bytes_at = words_at + 64 * parts.words;
-    let tail_at = bytes_at + 8 * parts.bytes;
+    let rest_at = parts.head + 512 * parts.chunks;
     let n = find_in_part(src, offset, 0, parts.head, n, value)?;
     let n = find_in_units::<[u8; 64], G>(src, offset, parts.head, parts.chunks, n, value)?;
-    let n = find_in_units::<u64, G>(src, offset, words_at, parts.words, n, value)?;
-    let n = find_in_units::<u8, G>(src, offset, bytes_at, parts.bytes, n, value)?;
-    find_in_part(src, offset, tail_at, parts.tail, n, value)
+    find_in_rest(src, offset, rest_at, parts.rest, n, value)
+}
+
+/// Searches the `len` bits at place `from` of the window at `offset`, by words and bytes. Of the
+/// bits from there on that are `value`, the `n`-th is sought.
+fn find_in_rest<G: Glance>(
+    src: &mut G,
+    offset: usize,
+    from: usize,
+    len: usize,
+    n: usize,
+    value: bool,
+) -> ControlFlow<usize, usize>
+    requires aligned { 0 < len → (offset + from) % 8 ≡ 0 }
+    requires inside { offset + from + len ≤ 8 * length (G.bytes src.old) }
+    requires fits { offset + from + len ≤ usize.MAX }
+    ensures found { Searched
+        (matching value (bits (G.bytes src.old) offset (from + len)))
+        (n + count (matching value (bits (G.bytes src.old) offset from))) result }
+    ensures same { G.bytes src.new ≡ G.bytes src.old }
+    ensures looks { G.looks src.new ≤ G.looks src.old + rest_looks len }
+{
+    let bytes_at = from + len / 64 * 64;
+    let tail_at = from + len / 8 * 8;
+    let n = find_in_units::<u64, G>(src, offset, from, len / 64, n, value)?;
+    let n = find_in_units::<u8, G>(src, offset, bytes_at, len % 64 / 8, n, value)?;
+    find_in_part(src, offset, tail_at, len % 8, n, value)
 }
 
 /// Searches the `len` bits, all of one byte, at place `from` of the window at `offset`. Of the bits
@@ -109,14 +135,18 @@ fn find_in_part<G: Glance>(
         return ControlFlow::Continue(n);
     }
     let at = offset + from;
-    match find_in_word(byte_part(src.byte(at / 8), at % 8, len, value), n) {
-        ControlFlow::Break(place) => ControlFlow::Break(from + place),
-        ControlFlow::Continue(left) => ControlFlow::Continue(left),
+    let part = byte_part(src.byte(at / 8), at % 8, len, value);
+    let here = part.count_ones() as usize;
+    if n < here {
+        ControlFlow::Break(from + select_in_word(part, n))
+    } else {
+        ControlFlow::Continue(n - here)
     }
 }
 
 /// Searches the units at place `from` of the window at `offset`. Of the bits from there on that are
 /// `value`, the `n`-th is sought.
+#[inline(always)]
 pub(crate) fn find_in_units<U: Unit, G: Glance>(
     src: &mut G,
     offset: usize,
@@ -137,10 +167,12 @@ pub(crate) fn find_in_units<U: Unit, G: Glance>(
     let mut left = n;
     for k in 0..units {
         let passed = U::SIZE * k;
-        match U::read(src, (offset + from) / 8 + passed).find(left, value) {
-            ControlFlow::Break(place) => return ControlFlow::Break(from + 8 * passed + place),
-            ControlFlow::Continue(rest) => left = rest,
+        let unit = U::read(src, (offset + from) / 8 + passed);
+        let here = unit.count(value);
+        if left < here {
+            return ControlFlow::Break(from + 8 * passed + unit.select(left, value));
         }
+        left -= here;
     }
     ControlFlow::Continue(left)
 }

@@ -1,15 +1,16 @@
 //! What one look reads: a byte, a word of eight bytes or a chunk of 64.
-ghost use Rattle.std.specs.Prelude.{◌≡◌, ℕ, ◌+◌, ◌*◌, ◌≤◌, List, [], ◌∷◌, length, slice_range};
+ghost use Rattle.std.specs.Prelude.{◌≡◌, ℕ, ◌+◌, ◌*◌, ◌<◌, ◌≤◌, List, [], ◌∷◌, Some, length, slice_range};
 ghost use Rattle.std.specs.Int.{w64, to_le_bytes};
-ghost use Rattle.vb_kernel.specs.Bits.{bits, count};
-ghost use Rattle.vb_kernel.specs.Searches.{matching, Searched};
+ghost use Rattle.vb_kernel.specs.Bits.{bits, count, Selects};
+ghost use Rattle.vb_kernel.specs.Searches.{matching};
 
-use crate::chunk::{chunk_ones, find_in_words};
+use crate::chunk::{chunk_ones, select_in_chunk};
 use crate::glance::Glance;
-use crate::word::{byte_part, find_in_word};
-use std::ops::ControlFlow;
+use crate::word::{byte_part, select_in_word, turned};
 
 /// Bytes that one look reads, and that are then counted and searched without another look.
+///
+/// `value` says which bits are meant, the true ones or the false ones.
 pub(crate) trait Unit: Copy {
     ghost SIZE: { ℕ };
 
@@ -25,13 +26,14 @@ pub(crate) trait Unit: Copy {
         ensures same { G.bytes src.new ≡ G.bytes src.old }
         ensures look { G.looks src.new ≡ G.looks src.old + 1 };
 
-    /// How many bits are true.
-    fn ones(self) -> usize
-        ensures { result ≡ count (bits (bytes self) 0 (8 * SIZE)) };
+    /// How many bits are `value`.
+    fn count(self, value: bool) -> usize
+        ensures { result ≡ count (matching value (bits (bytes self) 0 (8 * SIZE))) };
 
-    /// Searches for the `n`-th bit that is `value`.
-    fn find(self, n: usize, value: bool) -> ControlFlow<usize, usize>
-        ensures { Searched (matching value (bits (bytes self) 0 (8 * SIZE))) n result };
+    /// The place of the `n`-th bit that is `value`.
+    fn select(self, n: usize, value: bool) -> usize
+        requires { n < count (matching value (bits (bytes self) 0 (8 * SIZE))) }
+        ensures { Selects (matching value (bits (bytes self) 0 (8 * SIZE))) n (Some result) };
 }
 
 impl Unit for u8 {
@@ -45,12 +47,12 @@ impl Unit for u8 {
         src.byte(at)
     }
 
-    fn ones(self) -> usize {
-        self.count_ones() as usize
+    fn count(self, value: bool) -> usize {
+        byte_part(self, 0, 8, value).count_ones() as usize
     }
 
-    fn find(self, n: usize, value: bool) -> ControlFlow<usize, usize> {
-        find_in_word(byte_part(self, 0, 8, value), n)
+    fn select(self, n: usize, value: bool) -> usize {
+        select_in_word(byte_part(self, 0, 8, value), n)
     }
 }
 
@@ -65,12 +67,12 @@ impl Unit for u64 {
         src.word(at)
     }
 
-    fn ones(self) -> usize {
-        self.count_ones() as usize
+    fn count(self, value: bool) -> usize {
+        turned(self, value).count_ones() as usize
     }
 
-    fn find(self, n: usize, value: bool) -> ControlFlow<usize, usize> {
-        find_in_word(if value { self } else { !self }, n)
+    fn select(self, n: usize, value: bool) -> usize {
+        select_in_word(turned(self, value), n)
     }
 }
 
@@ -85,18 +87,13 @@ impl Unit for [u8; 64] {
         src.chunk(at)
     }
 
-    fn ones(self) -> usize {
-        chunk_ones(&self)
+    // The words are counted as they are, and not turned over one by one.
+    fn count(self, value: bool) -> usize {
+        let ones = chunk_ones(&self);
+        if value { ones } else { 512 - ones }
     }
 
-    // Counted first, since most chunks are passed by.
-    fn find(self, n: usize, value: bool) -> ControlFlow<usize, usize> {
-        let ones = chunk_ones(&self);
-        let here = if value { ones } else { 512 - ones };
-        if n < here {
-            find_in_words(self, n, value)
-        } else {
-            ControlFlow::Continue(n - here)
-        }
+    fn select(self, n: usize, value: bool) -> usize {
+        select_in_chunk(self, n, value)
     }
 }

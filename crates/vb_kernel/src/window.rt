@@ -20,12 +20,8 @@ pub(crate) struct Parts {
     pub(crate) head: usize,
     /// The whole bytes by 64.
     pub(crate) chunks: usize,
-    /// The whole bytes after the chunks, by eight.
-    pub(crate) words: usize,
-    /// The whole bytes after the words.
-    pub(crate) bytes: usize,
-    /// The bits after the last whole byte.
-    pub(crate) tail: usize,
+    /// The bits after the chunks, fewer than a chunk has.
+    pub(crate) rest: usize,
 }
 
 impl Parts {
@@ -36,13 +32,10 @@ impl Parts {
         ensures { IsCutOf offset len result }
     {
         let head = len.min((8 - offset % 8) % 8);
-        let whole = (len - head) / 8;
         Parts {
             head,
-            chunks: whole / 64,
-            words: whole % 64 / 8,
-            bytes: whole % 8,
-            tail: (len - head) % 8,
+            chunks: (len - head) / 512,
+            rest: (len - head) % 512,
         }
     }
 }

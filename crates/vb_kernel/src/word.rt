@@ -1,10 +1,9 @@
 //! Counting and selecting within one word.
 ghost use Rattle.std.specs.Prelude.{◌≡◌, ℕ, ◌+◌, ◌*◌, ◌^◌, ◌<◌, ◌≤◌, [], ◌∷◌, Some};
+ghost use Rattle.std.specs.Int.{w64, to_le_bytes};
 ghost use Rattle.vb_kernel.specs.Bits.{bits, count, Selects};
 ghost use Rattle.vb_kernel.specs.Digits.{digits};
-ghost use Rattle.vb_kernel.specs.Searches.{matching, Searched};
-
-use std::ops::ControlFlow;
+ghost use Rattle.vb_kernel.specs.Searches.{matching};
 
 /// The `len` bits of `byte` from bit `from` on as the lowest digits of a word, each 1 where the bit
 /// is `value`. The digits above them are 0: a byte that was turned over is masked afterwards.
@@ -17,21 +16,16 @@ pub(crate) fn byte_part(byte: u8, from: usize, len: usize, value: bool) -> u64
     (u64::from(byte) >> from) & ((1 << len) - 1)
 }
 
-/// Searches a word for the `n`-th digit that is 1.
-pub(crate) fn find_in_word(word: u64, n: usize) -> ControlFlow<usize, usize>
-    ensures { Searched (digits word 0 64) n result }
+/// The word with a 1 for each digit that is `value`.
+pub(crate) fn turned(word: u64, value: bool) -> u64
+    ensures { digits result 0 64 ≡ matching value (bits (to_le_bytes w64 word) 0 64) }
 {
-    let ones = word.count_ones() as usize;
-    if n < ones {
-        ControlFlow::Break(select_in_word(word, n))
-    } else {
-        ControlFlow::Continue(n - ones)
-    }
+    if value { word } else { !word }
 }
 
 /// The place of the `n`-th digit of `word` that is 1, by halving the digits that are left: six
 /// steps without a branch.
-fn select_in_word(word: u64, n: usize) -> usize
+pub(crate) fn select_in_word(word: u64, n: usize) -> usize
     requires { n < count (digits word 0 64) }
     ensures { Selects (digits word 0 64) n (Some result) }
 {

@@ -1,5 +1,5 @@
 //! A source whose looks are counted when the program runs.
-ghost use Rattle.std.specs.Prelude.{◌≡◌, min};
+ghost use Rattle.std.specs.Prelude.{◌≡◌, ◌+◌, min};
 ghost use Rattle.std.below.core.specs.declared.int.u64.TheConstants.{MAX};
 ghost use Rattle.vb_kernel.specs.Looks.{CountedBytes};
 
@@ -44,6 +44,14 @@ impl<'a> Tally<'a> {
     {
         self.seen
     }
+
+    /// Counts one more look.
+    fn look(&mut self)
+        ensures { self.new ≡ record self.old { looks = self.old.looks + 1 } }
+    {
+        self.count.add_one();
+        self.seen = self.seen.saturating_add(1);
+    }
 }
 
 impl Glance for Tally<'_> {
@@ -56,20 +64,17 @@ impl Glance for Tally<'_> {
     }
 
     fn chunk(&mut self, at: usize) -> [u8; 64] {
-        self.count.add_one();
-        self.seen = self.seen.saturating_add(1);
+        self.look();
         chunk_at(self.data, at)
     }
 
     fn word(&mut self, at: usize) -> u64 {
-        self.count.add_one();
-        self.seen = self.seen.saturating_add(1);
+        self.look();
         word_at(self.data, at)
     }
 
     fn byte(&mut self, at: usize) -> u8 {
-        self.count.add_one();
-        self.seen = self.seen.saturating_add(1);
+        self.look();
         self.data[at]
     }
 }

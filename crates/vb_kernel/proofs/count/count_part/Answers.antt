@@ -5,11 +5,6 @@ use Rattle.vb_kernel.proofs.BytesLemmas.{bits_of_read_byte}
 use Rattle.vb_kernel.proofs.DigitsLemmas.{count-digits_below}
 use Rattle.vb_kernel.proofs.count.count_part.Goals as goal
 
-pub returns-then-len-eq0-clause-value : goal.returns-then-len-eq0-clause-value
-returns-then-len-eq0-clause-value g c =
-    let b = g.G.Glance.bytes c.args.src.now in
-    sym (ap (λ n. count (bits b c.args.at n)) c.if-len-eq0.true ∙ count-bits_none b c.args.at)
-
 pub returns-clause-value : goal.returns-clause-value
 returns-clause-value g c =
     let b = g.G.Glance.bytes c.args.src.now in

@@ -4,7 +4,7 @@ use Rattle.vb_kernel.proofs.BitsLemmas.{count-bits_none, count-bits-le}
 use Rattle.vb_kernel.proofs.UnitsLemmas.{units_none, units_more, units_within, bits_of_unit, count_unit_more}
 use Rattle.vb_kernel.proofs.count.count_units.Given.{Over}
 use Rattle.vb_kernel.proofs.count.count_units.Goals as goal
-use Rattle.vb_kernel.proofs.count.count_units.Goals.{After-ones-ones}
+use Rattle.vb_kernel.proofs.count.count_units.Goals.{After-count-ones}
 
 pub loop-k-init : goal.loop-k-init
 loop-k-init g c = record {
@@ -14,7 +14,7 @@ loop-k-init g c = record {
 }
 
 -- one more unit is counted
-one_more : (g : Over) (c : After-ones-ones g) → c.loop-k.ones + c.ones-ones.result ≡ count (bits (g.G.Glance.bytes c.args.src.now) c.args.at (8 * (g.U.Unit.SIZE * (c.loop-k.k + 1))))
+one_more : (g : Over) (c : After-count-ones g) → c.loop-k.ones + c.count-ones.result ≡ count (bits (g.G.Glance.bytes c.args.src.now) c.args.at (8 * (g.U.Unit.SIZE * (c.loop-k.k + 1))))
 one_more g c =
     let b : List ℕ = g.G.Glance.bytes c.args.src.now in
     let w : ℕ = g.U.Unit.SIZE in let k : ℕ = c.loop-k.k in let at : ℕ = c.args.at in

@@ -6,7 +6,7 @@ use Rattle.vb_kernel.proofs.SearchesLemmas.{Searched_inside}
 use Rattle.vb_kernel.proofs.UnitsLemmas.{units_none, units_more, units_within, bits_of_unit, count_unit_more, found_in_unit}
 use Rattle.vb_kernel.proofs.select.find_in_units.Given.{Over}
 use Rattle.vb_kernel.proofs.select.find_in_units.Goals as goal
-use Rattle.vb_kernel.proofs.select.find_in_units.Goals.{In-Break}
+use Rattle.vb_kernel.proofs.select.find_in_units.Goals.{After-select}
 
 pub loop-k-init : goal.loop-k-init
 loop-k-init g c = record {
@@ -16,30 +16,30 @@ loop-k-init g c = record {
 }
 
 -- what was found in a unit is what is sought in the window
-found : (g : Over) (c : In-Break g) → Searched (matching c.args.value (bits (g.G.Glance.bytes c.args.src.now) c.args.offset (c.args.from + 8 * (g.U.Unit.SIZE * c.args.units))))
-    (c.args.n + count (matching c.args.value (bits (g.G.Glance.bytes c.args.src.now) c.args.offset c.args.from))) (Break (c.args.from + 8 * (c.SIZE.result * c.loop-k.k) + c.in-Break.place))
+found : (g : Over) (c : After-select g) → Searched (matching c.args.value (bits (g.G.Glance.bytes c.args.src.now) c.args.offset (c.args.from + 8 * (g.U.Unit.SIZE * c.args.units))))
+    (c.args.n + count (matching c.args.value (bits (g.G.Glance.bytes c.args.src.now) c.args.offset c.args.from))) (Break (c.args.from + 8 * (c.SIZE.result * c.loop-k.k) + c.select.result))
 found g c =
-    let b : List ℕ = g.G.Glance.bytes c.args.src.now in let xs : List ℕ = g.U.Unit.bytes c.read.result in
+    let b : List ℕ = g.G.Glance.bytes c.args.src.now in let xs : List ℕ = g.U.Unit.bytes c.read-unit.result in
     let w : ℕ = g.U.Unit.SIZE in let k : ℕ = c.loop-k.k in let at : ℕ = c.args.from + 8 * (w * k) in
-    let is = bits_of_unit b (g.G.Glance.bytes c.loop-k.src) xs (c.args.offset + c.args.from) (c.args.offset + at) w c.SIZE.result k c.loop-k.invariant.same c.SIZE.ensures (c.requires.aligned (omega arith)) (omega arith) c.read.ensures.value in
+    let is = bits_of_unit b (g.G.Glance.bytes c.loop-k.src) xs (c.args.offset + c.args.from) (c.args.offset + at) w c.SIZE.result k c.loop-k.invariant.same c.SIZE.ensures (c.requires.aligned (omega arith)) (omega arith) c.read-unit.ensures.value in
     rw c.SIZE.ensures
-    (found_in_unit c.args.value b xs c.args.offset at (c.args.from + 8 * (w * c.args.units)) w (c.args.n + count (matching c.args.value (bits b c.args.offset c.args.from))) c.loop-k.left c.in-Break.place
-    (omega (arith, units_within w k c.args.units (omega arith))) is c.loop-k.invariant.passed c.in-Break.ensures)
+    (found_in_unit c.args.value b xs c.args.offset at (c.args.from + 8 * (w * c.args.units)) w (c.args.n + count (matching c.args.value (bits b c.args.offset c.args.from))) c.loop-k.left c.select.result
+    (omega (arith, units_within w k c.args.units (omega arith))) is c.loop-k.invariant.passed c.select.ensures)
 
-pub overflow_add-result-in-Break : goal.overflow_add-result-in-Break
-overflow_add-result-in-Break g c = record { fits = omega (arith, Searched_inside c.args.value (g.G.Glance.bytes c.args.src.now) c.args.offset _ _ _ (found g c)) }
+pub overflow_add-result-then-left-here : goal.overflow_add-result-then-left-here
+overflow_add-result-then-left-here g c = record { fits = omega (arith, Searched_inside c.args.value (g.G.Glance.bytes c.args.src.now) c.args.offset _ _ _ (found g c)) }
 
-pub returns-in-Break-clause-found : goal.returns-in-Break-clause-found
-returns-in-Break-clause-found g c = found g c
+pub returns-then-left-here-clause-found : goal.returns-then-left-here-clause-found
+returns-then-left-here-clause-found g c = found g c
 
 pub loop-k-preserved : goal.loop-k-preserved
 loop-k-preserved g c =
-    let b : List ℕ = g.G.Glance.bytes c.args.src.now in let xs : List ℕ = g.U.Unit.bytes c.read.result in
+    let b : List ℕ = g.G.Glance.bytes c.args.src.now in let xs : List ℕ = g.U.Unit.bytes c.read-unit.result in
     let w : ℕ = g.U.Unit.SIZE in let k : ℕ = c.loop-k.k in let at : ℕ = c.args.from + 8 * (w * k) in
-    let is = bits_of_unit b (g.G.Glance.bytes c.loop-k.src) xs (c.args.offset + c.args.from) (c.args.offset + at) w c.SIZE.result k c.loop-k.invariant.same c.SIZE.ensures (c.requires.aligned (omega arith)) (omega arith) c.read.ensures.value in
+    let is = bits_of_unit b (g.G.Glance.bytes c.loop-k.src) xs (c.args.offset + c.args.from) (c.args.offset + at) w c.SIZE.result k c.loop-k.invariant.same c.SIZE.ensures (c.requires.aligned (omega arith)) (omega arith) c.read-unit.ensures.value in
     let more = count_unit_more c.args.value b xs c.args.offset at (c.args.from + 8 * (w * (k + 1))) w (omega (arith, units_more w k)) is in
     record {
-      passed = omega (arith, c.loop-k.invariant.passed, more, c.in-Continue.ensures);
-      same = c.read.ensures.same ∙ c.loop-k.invariant.same;
-      looks = omega (arith, c.loop-k.invariant.looks, c.read.ensures.look);
+      passed = omega (arith, c.loop-k.invariant.passed, more, c.count-here.ensures);
+      same = c.read-unit.ensures.same ∙ c.loop-k.invariant.same;
+      looks = omega (arith, c.loop-k.invariant.looks, c.read-unit.ensures.look);
     }
