@@ -22,12 +22,14 @@ pow-highest n k power lower upper =
     let rest : n - 2 ^ k ≡ 0 = zero_from_ones (n - 2 ^ k) (omega arith) in
     omega arith
 
+-- a power of two has one digit
 pub is_power_of_two-pow : (k : ℕ) → IsTrue (is_power_of_two (2 ^ k))
 unfolding ones
 is_power_of_two-pow k =
     let digits : count_ones (2 ^ k) ≡ 1 = ap count_ones (omega arith) ∙ count_ones-above k 0 (pow_pos k) in
     search rules
 
+-- a power of two is a multiple of each lower one
 pub pow-mod-pow : (n k : ℕ) → k ≤ n → 2 ^ n % 2 ^ k ≡ 0
 pow-mod-pow n k below =
     let sum : (n - k) + k ≡ n = omega arith in
@@ -37,5 +39,6 @@ pow-mod-pow n k below =
 pub pow-mod_greater : (n k : ℕ) → n < k → 0 < 2 ^ n % 2 ^ k
 pow-mod_greater n k below = rw (mod-eq_of_lt (pow-lt below)) (pow_pos n)
 
+-- equal powers of two have one exponent
 pub pow-injective : (n k : ℕ) → 2 ^ n ≡ 2 ^ k → n ≡ k
 pow-injective n k same = grind (arith, pow-lt)

@@ -48,6 +48,7 @@ range_counts gap is_successor nearer =
     (λ s t step. step.1.0)
     (λ s. tt)
 
+-- the ranges of unsigned numbers
 pub unsigned_range_counts : IsExactCount (range_steps (λ (x y : ℕ). y - x) (λ x y. y ≡ x + 1)) (λ s. at_most (s.end - s.start)) (λ s. s.end - s.start)
 unsigned_range_counts = range_counts (λ (x y : ℕ). y - x) (λ x y. y ≡ x + 1) (λ x y end next below. omega arith)
 
@@ -60,6 +61,7 @@ int_gap-suc_ℤ (negsuc zero) (negsuc b) below = absurd (omega arith)
 int_gap-suc_ℤ (negsuc (suc a)) (pos b) below = omega arith
 int_gap-suc_ℤ (negsuc (suc a)) (negsuc b) below = omega arith
 
+-- the ranges of signed numbers
 pub signed_range_counts : IsExactCount (range_steps int_gap (λ x y. y ≡ x +ℤ pos 1)) (λ s. at_most (int_gap s.start s.end)) (λ s. int_gap s.start s.end)
 signed_range_counts =
     range_counts int_gap (λ x y. y ≡ x +ℤ pos 1)

@@ -16,14 +16,17 @@ abbrev number : List ℕ → ℕ
 number [] = 0
 number (b ∷ bs) = b + 256 * number bs
 
+-- as many bytes as asked for
 length-digits : (n x : ℕ) → length (digits n x) ≡ n
 length-digits zero x = refl
 length-digits (suc n) x = let rest = length-digits n (x / 256) in omega arith
 
+-- each from 0 to 255
 digits_are_bytes : (n x : ℕ) → AreBytes (digits n x)
 digits_are_bytes zero x = All-nil (λ b. b < 256)
 digits_are_bytes (suc n) x = All-cons (λ b. b < 256) (x % 256) (digits n (x / 256)) (omega arith) (digits_are_bytes n (x / 256))
 
+-- the bytes of a number that fits stand for it
 number-digits : (n x : ℕ) → x < 256 ^ n → number (digits n x) ≡ x
 number-digits zero x fits = omega arith
 number-digits (suc n) x fits =
@@ -31,6 +34,7 @@ number-digits (suc n) x fits =
     let rest_fits : x / 256 < 256 ^ n = omega arith in
     let rest = number-digits n (x / 256) rest_fits in omega arith
 
+-- the number that bytes stand for has these bytes
 digits-number : (bs : List ℕ) → AreBytes bs → digits (length bs) (number bs) ≡ bs
 digits-number [] all = refl
 digits-number (b ∷ bs) all =
@@ -39,6 +43,7 @@ digits-number (b ∷ bs) all =
     let high : (b + 256 * number bs) / 256 ≡ number bs = omega arith in
     rw (low, high, digits-number bs (All-tail (λ y. y < 256) b bs all)) refl
 
+-- n bytes stand for a number below `256 ^ n`
 number_fits : (bs : List ℕ) → AreBytes bs → number bs < 256 ^ length bs
 number_fits [] all = omega arith
 number_fits (b ∷ bs) all =
@@ -46,6 +51,7 @@ number_fits (b ∷ bs) all =
     let fits : b < 256 = All-head (λ y. y < 256) b bs all in
     let rest = number_fits bs (All-tail (λ y. y < 256) b bs all) in omega arith
 
+-- std's byte k of a number, by a power
 byte_at-pow : (k x : ℕ) → byte_at k x ≡ x / 256 ^ k % 256
 byte_at-pow zero x = ap (λ (y : ℕ). y % 256) (sym (div-one x))
 byte_at-pow (suc k) x = refl
@@ -63,13 +69,14 @@ sum_through-first : (f : ℕ → ℕ) (k : ℕ) → sum_through f (suc k) ≡ f 
 sum_through-first f zero = refl
 sum_through-first f (suc k) = let rest = sum_through-first f k in omega arith
 
+-- a byte one place up is worth 256 times as much
 byte_worth-suc : (i b : ℕ) → byte_worth (suc i) b ≡ 256 * byte_worth i b
 byte_worth-suc zero b = omega arith
 byte_worth-suc (suc i) b =
     let power : 256 ^ suc (suc i) ≡ 256 ^ suc i * 256 = pow-suc 256 (suc i) in
     rw power (grind arith)
 
--- bytes one place up are worth 256 times as much
+-- and so are all bytes of a sum
 sum_through-up : (g : ℕ → ℕ) (k : ℕ) → sum_through (λ i. byte_worth (suc i) (g i)) k ≡ 256 * sum_through (λ i. byte_worth i (g i)) k
 sum_through-up g zero = byte_worth-suc 0 (g 0)
 sum_through-up g (suc k) =
@@ -88,6 +95,7 @@ sum_through-number (b ∷ c ∷ bs) (suc k) len =
     let up = sum_through-up (λ i. slice_index (c ∷ bs) i) k in
     omega arith
 
+-- what is read of as many bytes as a width has is their number
 from_le_bytes-number : (w : Width) (bs : List ℕ) → length bs ≡ byte_len w → from_le_bytes w bs ≡ number bs
 from_le_bytes-number w8 bs len = sum_through-number bs 0 len
 from_le_bytes-number w16 bs len = sum_through-number bs 1 len
@@ -103,26 +111,32 @@ pow-bits w32 = refl
 pow-bits w64 = refl
 pow-bits w128 = refl
 
+-- what is written of a number are its bytes
 to_le_bytes-digits : (w : Width) (x : ℕ) → to_le_bytes w x ≡ digits (byte_len w) x
 to_le_bytes-digits w x = bytes_low_first-digits 0 (byte_len w) x ∙ ap (digits (byte_len w)) (div-one x)
 
+-- as many bytes as the width has
 pub length-to_le_bytes : (w : Width) (x : ℕ) → length (to_le_bytes w x) ≡ byte_len w
 length-to_le_bytes w x = rw (to_le_bytes-digits w x) (length-digits (byte_len w) x)
 
+-- each from 0 to 255
 pub to_le_bytes_are_bytes : (w : Width) (x : ℕ) → AreBytes (to_le_bytes w x)
 to_le_bytes_are_bytes w x = rw (to_le_bytes-digits w x) (digits_are_bytes (byte_len w) x)
 
+-- reading after writing gives the number
 pub from_le_bytes-to_le_bytes : (w : Width) (x : ℕ) → x < 2 ^ bits w → from_le_bytes w (to_le_bytes w x) ≡ x
 from_le_bytes-to_le_bytes w x fits =
     from_le_bytes-number w (to_le_bytes w x) (length-to_le_bytes w x)
     ∙ ap number (to_le_bytes-digits w x)
     ∙ number-digits (byte_len w) x (rw (← pow-bits w) fits)
 
+-- writing after reading gives the bytes
 pub to_le_bytes-from_le_bytes : (w : Width) (bs : List ℕ) → length bs ≡ byte_len w → AreBytes bs → to_le_bytes w (from_le_bytes w bs) ≡ bs
 to_le_bytes-from_le_bytes w bs len all =
     to_le_bytes-digits w (from_le_bytes w bs)
     ∙ ap (digits (byte_len w)) (from_le_bytes-number w bs len)
     ∙ ap (λ k. digits k (number bs)) (sym len) ∙ digits-number bs all
 
+-- what is read is a number of the width
 pub from_le_bytes_fits : (w : Width) (bs : List ℕ) → length bs ≡ byte_len w → AreBytes bs → from_le_bytes w bs < 2 ^ bits w
 from_le_bytes_fits w bs len all = rw (from_le_bytes-number w bs len, pow-bits w, ← len) (number_fits bs all)

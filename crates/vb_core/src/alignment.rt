@@ -10,7 +10,7 @@ use std::marker::Model;
 
 /// A power of two below `2^64`: the number that divides the place in bytes of the first item of a buffer.
 ///
-/// Contracts see an alignment as its exponent. Equality, order and hash are those of the exponent.
+/// Contracts see an alignment as its exponent. Equality, order and hash are those of the exponent. No call takes memory.
 #[derive(Clone, Copy, Debug, PartialEq, Eq, PartialOrd, Ord, Hash)]
 pub struct Alignment {
     exponent: u8,
@@ -82,7 +82,7 @@ impl Alignment {
         if exponent >= 64 {
             return Err(BufferError::ExponentTooLarge { exponent });
         }
-        Ok(Alignment { exponent })
+        Ok(Alignment::from_exponent(exponent))
     }
 
     /// The alignment of `2^exponent` bytes, where the exponent comes from input that isn't trusted and so isn't to
@@ -151,7 +151,7 @@ impl Alignment {
         ensures exponents { IsTrue result ↔ (other ≤ self) }
         ensures divides { IsTrue result ↔ (2 ^ self % 2 ^ other ≡ 0) }
     {
-        self.exponent >= other.exponent
+        other.exponent <= self.exponent
     }
 
     /// Whether it divides `offset`, a number of bytes.

@@ -32,6 +32,7 @@ pub trait Element: Copy {
     // The value that bytes stand for.
     ghost value_of: { List ℕ → Self };
 
+    // What `zero` gives.
     ghost zero: { Self };
 
     /// The value that fresh items have: 0.
@@ -55,6 +56,7 @@ pub trait Element: Copy {
         ensures holds { IsTrue result }
         ensures in_type { is_in_type self };
 
+    // Values and bytes determine each other.
     ghost lawful: { IsElement SIZE ALIGN align_exponent is_in_type form value_of };
 }
 

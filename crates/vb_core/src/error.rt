@@ -100,8 +100,8 @@ impl<T: Drop> From<AllocFailed<T>> for BufferError {
 
     ghost from_gives = { λ _ e. e ≡ OutOfMemory };
 
-    fn from(_error: AllocFailed<T>) -> BufferError {
-        BufferError::OutOfMemory
+    fn from(failed: AllocFailed<T>) -> BufferError {
+        BufferError::from(AllocError::from(failed))
     }
 }
 

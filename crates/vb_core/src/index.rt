@@ -16,7 +16,7 @@ impl BitIndex for u8 {
     ghost number = { pos };
 
     fn place(self) -> Option<usize> {
-        Some(self as usize)
+        usize::from(self).place()
     }
 }
 
@@ -24,7 +24,7 @@ impl BitIndex for u16 {
     ghost number = { pos };
 
     fn place(self) -> Option<usize> {
-        Some(self as usize)
+        usize::from(self).place()
     }
 }
 
@@ -32,7 +32,7 @@ impl BitIndex for u32 {
     ghost number = { pos };
 
     fn place(self) -> Option<usize> {
-        Some(self as usize)
+        u64::from(self).place()
     }
 }
 
@@ -40,7 +40,15 @@ impl BitIndex for u64 {
     ghost number = { pos };
 
     fn place(self) -> Option<usize> {
-        Some(self as usize)
+        (self as usize).place()
+    }
+}
+
+impl BitIndex for u128 {
+    ghost number = { pos };
+
+    fn place(self) -> Option<usize> {
+        u64::try_from(self).ok()?.place()
     }
 }
 
@@ -52,19 +60,11 @@ impl BitIndex for usize {
     }
 }
 
-impl BitIndex for u128 {
-    ghost number = { pos };
-
-    fn place(self) -> Option<usize> {
-        usize::try_from(self).ok()
-    }
-}
-
 impl BitIndex for i8 {
     ghost number = { λ index. index };
 
     fn place(self) -> Option<usize> {
-        usize::try_from(self).ok()
+        i64::from(self).place()
     }
 }
 
@@ -72,7 +72,7 @@ impl BitIndex for i16 {
     ghost number = { λ index. index };
 
     fn place(self) -> Option<usize> {
-        usize::try_from(self).ok()
+        i64::from(self).place()
     }
 }
 
@@ -80,7 +80,7 @@ impl BitIndex for i32 {
     ghost number = { λ index. index };
 
     fn place(self) -> Option<usize> {
-        usize::try_from(self).ok()
+        i64::from(self).place()
     }
 }
 
@@ -96,7 +96,7 @@ impl BitIndex for i128 {
     ghost number = { λ index. index };
 
     fn place(self) -> Option<usize> {
-        usize::try_from(self).ok()
+        u128::try_from(self).ok()?.place()
     }
 }
 
@@ -104,7 +104,7 @@ impl BitIndex for isize {
     ghost number = { λ index. index };
 
     fn place(self) -> Option<usize> {
-        usize::try_from(self).ok()
+        (self as i64).place()
     }
 }
 

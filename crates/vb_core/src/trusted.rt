@@ -1,6 +1,7 @@
 //! Iterators that know how many items they have still to give.
-ghost use Rattle.std.specs.Prelude.{◌≡◌, ℕ};
-ghost use Rattle.std.specs.Iterator.{at_most};
+ghost use Rattle.std.specs.Prelude.{◌≡◌, ℕ, IfSome};
+ghost use Rattle.std.specs.Iterator.{UpTo, at_most};
+ghost use Rattle.std.specs.Iterator.SizeHint.{IsWithinCount};
 ghost use Rattle.vb_core.specs.Lengths.{IsLength, IsExactCount, CountsDown};
 ghost use Rattle.vb_core.specs.ExactCounts.{adapter_counts};
 
@@ -17,6 +18,7 @@ pub trait TrustedLen: Iterator {
     fn exact_len(&self) -> usize
         ensures { result ≡ left self.now };
 
+    // An item leaves one less, and `None` comes where none is left.
     ghost counts: { IsExactCount Self.next_gives Self.remaining left };
 }
 
@@ -63,7 +65,12 @@ impl<I: Iterator> Iterator for TrustedLenAdapter<I> {
         Some(item)
     }
 
-    fn size_hint(&self) -> (usize, Option<usize>) {
+    /// The number of items that are left, as both bounds.
+    fn size_hint(&self) -> (usize, Option<usize>)
+        ensures exact { result ≡ (self.now.left, Some self.now.left) }
+        ensures lower { IsWithinCount result.0 (at_most self.now.left) }
+        ensures upper { IfSome result.1 (UpTo (at_most self.now.left)) }
+    {
         (self.left, Some(self.left))
     }
 }

@@ -31,7 +31,7 @@ impl Element for i8 {
     }
 
     fn put(self, out: &mut [u8]) {
-        out.copy_from_slice(&self.to_le_bytes());
+        out.copy_from_slice(&i8::to_le_bytes(self));
     }
 
     fn get(bytes: &[u8]) -> i8 {
@@ -71,7 +71,7 @@ impl Element for i16 {
     }
 
     fn put(self, out: &mut [u8]) {
-        out.copy_from_slice(&self.to_le_bytes());
+        out.copy_from_slice(&i16::to_le_bytes(self));
     }
 
     fn get(bytes: &[u8]) -> i16 {
@@ -111,7 +111,7 @@ impl Element for i32 {
     }
 
     fn put(self, out: &mut [u8]) {
-        out.copy_from_slice(&self.to_le_bytes());
+        out.copy_from_slice(&i32::to_le_bytes(self));
     }
 
     fn get(bytes: &[u8]) -> i32 {
@@ -151,7 +151,7 @@ impl Element for i64 {
     }
 
     fn put(self, out: &mut [u8]) {
-        out.copy_from_slice(&self.to_le_bytes());
+        out.copy_from_slice(&i64::to_le_bytes(self));
     }
 
     fn get(bytes: &[u8]) -> i64 {
@@ -191,7 +191,7 @@ impl Element for i128 {
     }
 
     fn put(self, out: &mut [u8]) {
-        out.copy_from_slice(&self.to_le_bytes());
+        out.copy_from_slice(&i128::to_le_bytes(self));
     }
 
     fn get(bytes: &[u8]) -> i128 {
@@ -231,7 +231,7 @@ impl Element for isize {
     }
 
     fn put(self, out: &mut [u8]) {
-        out.copy_from_slice(&self.to_le_bytes());
+        out.copy_from_slice(&isize::to_le_bytes(self));
     }
 
     fn get(bytes: &[u8]) -> isize {

@@ -31,7 +31,7 @@ impl Element for u8 {
     }
 
     fn put(self, out: &mut [u8]) {
-        out.copy_from_slice(&self.to_le_bytes());
+        out.copy_from_slice(&u8::to_le_bytes(self));
     }
 
     fn get(bytes: &[u8]) -> u8 {
@@ -71,7 +71,7 @@ impl Element for u16 {
     }
 
     fn put(self, out: &mut [u8]) {
-        out.copy_from_slice(&self.to_le_bytes());
+        out.copy_from_slice(&u16::to_le_bytes(self));
     }
 
     fn get(bytes: &[u8]) -> u16 {
@@ -111,7 +111,7 @@ impl Element for u32 {
     }
 
     fn put(self, out: &mut [u8]) {
-        out.copy_from_slice(&self.to_le_bytes());
+        out.copy_from_slice(&u32::to_le_bytes(self));
     }
 
     fn get(bytes: &[u8]) -> u32 {
@@ -151,7 +151,7 @@ impl Element for u64 {
     }
 
     fn put(self, out: &mut [u8]) {
-        out.copy_from_slice(&self.to_le_bytes());
+        out.copy_from_slice(&u64::to_le_bytes(self));
     }
 
     fn get(bytes: &[u8]) -> u64 {
@@ -191,7 +191,7 @@ impl Element for u128 {
     }
 
     fn put(self, out: &mut [u8]) {
-        out.copy_from_slice(&self.to_le_bytes());
+        out.copy_from_slice(&u128::to_le_bytes(self));
     }
 
     fn get(bytes: &[u8]) -> u128 {
@@ -231,7 +231,7 @@ impl Element for usize {
     }
 
     fn put(self, out: &mut [u8]) {
-        out.copy_from_slice(&self.to_le_bytes());
+        out.copy_from_slice(&usize::to_le_bytes(self));
     }
 
     fn get(bytes: &[u8]) -> usize {

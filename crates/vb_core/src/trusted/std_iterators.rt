@@ -1,5 +1,5 @@
-//! The ranges of whole numbers and the iterators over slices, which know their number of items.
-ghost use Rattle.std.specs.Prelude.{◌-◌, length};
+//! The iterators over slices and the ranges of whole numbers, which know their number of items.
+ghost use Rattle.std.specs.Prelude.{◌≡◌, ◌-◌, length};
 ghost use Rattle.std.specs.Int.{int_gap};
 ghost use Rattle.std.specs.Slice.Iter.{iter_rest};
 ghost use Rattle.vb_core.specs.ExactCounts.{unsigned_range_counts, signed_range_counts, slice_iter_counts};
@@ -18,13 +18,31 @@ impl<'a, T> TrustedLen for Iter<'a, T> {
     }
 }
 
+/// How many numbers are at least `start` and below `end`.
+fn unsigned_len(start: u64, end: u64) -> usize
+    ensures { result ≡ end - start }
+{
+    end.saturating_sub(start) as usize
+}
+
+/// The same for integers, of which `usize` counts even the longest range.
+fn signed_len(start: i64, end: i64) -> usize
+    ensures { result ≡ int_gap start end }
+{
+    if start < end {
+        end.abs_diff(start) as usize
+    } else {
+        0
+    }
+}
+
 impl TrustedLen for Range<u8> {
     ghost left = { λ s. s.end - s.start };
 
     ghost counts = { unsigned_range_counts };
 
     fn exact_len(&self) -> usize {
-        self.end.saturating_sub(self.start) as usize
+        unsigned_len(self.start.into(), self.end.into())
     }
 }
 
@@ -34,7 +52,7 @@ impl TrustedLen for Range<u16> {
     ghost counts = { unsigned_range_counts };
 
     fn exact_len(&self) -> usize {
-        self.end.saturating_sub(self.start) as usize
+        unsigned_len(self.start.into(), self.end.into())
     }
 }
 
@@ -44,7 +62,7 @@ impl TrustedLen for Range<u32> {
     ghost counts = { unsigned_range_counts };
 
     fn exact_len(&self) -> usize {
-        self.end.saturating_sub(self.start) as usize
+        unsigned_len(self.start.into(), self.end.into())
     }
 }
 
@@ -54,7 +72,7 @@ impl TrustedLen for Range<u64> {
     ghost counts = { unsigned_range_counts };
 
     fn exact_len(&self) -> usize {
-        self.end.saturating_sub(self.start) as usize
+        unsigned_len(self.start, self.end)
     }
 }
 
@@ -64,7 +82,7 @@ impl TrustedLen for Range<usize> {
     ghost counts = { unsigned_range_counts };
 
     fn exact_len(&self) -> usize {
-        self.end.saturating_sub(self.start)
+        unsigned_len(self.start as u64, self.end as u64)
     }
 }
 
@@ -74,11 +92,7 @@ impl TrustedLen for Range<i8> {
     ghost counts = { signed_range_counts };
 
     fn exact_len(&self) -> usize {
-        if self.start < self.end {
-            self.end.abs_diff(self.start) as usize
-        } else {
-            0
-        }
+        signed_len(self.start.into(), self.end.into())
     }
 }
 
@@ -88,11 +102,7 @@ impl TrustedLen for Range<i16> {
     ghost counts = { signed_range_counts };
 
     fn exact_len(&self) -> usize {
-        if self.start < self.end {
-            self.end.abs_diff(self.start) as usize
-        } else {
-            0
-        }
+        signed_len(self.start.into(), self.end.into())
     }
 }
 
@@ -102,11 +112,7 @@ impl TrustedLen for Range<i32> {
     ghost counts = { signed_range_counts };
 
     fn exact_len(&self) -> usize {
-        if self.start < self.end {
-            self.end.abs_diff(self.start) as usize
-        } else {
-            0
-        }
+        signed_len(self.start.into(), self.end.into())
     }
 }
 
@@ -116,10 +122,6 @@ impl TrustedLen for Range<i64> {
     ghost counts = { signed_range_counts };
 
     fn exact_len(&self) -> usize {
-        if self.start < self.end {
-            self.end.abs_diff(self.start) as usize
-        } else {
-            0
-        }
+        signed_len(self.start, self.end)
     }
 }
