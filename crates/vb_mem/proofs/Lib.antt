@@ -1,4 +1,3 @@
 pub mod Places
-pub mod ReadForms
 pub mod Runs
 pub mod Windows

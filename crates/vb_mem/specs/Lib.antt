@@ -1,4 +1,3 @@
-pub mod ByteForm
 pub mod Collected
 pub mod Content
 pub mod OpenBuffer

@@ -7,15 +7,16 @@ use std::alloc::Allocator;
 use std::marker::Model;
 use vb_core::{Alignment, BufferError, Element};
 
+mod byte_form;
 mod convert;
 mod make;
 mod slice;
 
 /// A list of items whose storage other buffers may share, with an alignment.
 ///
-/// The reported alignment is what the buffer was asked for. Where it isn't empty, the place of its first item in the
-/// storage, in bytes, is a multiple of the reported alignment, and the storage is declared with that alignment or more.
-/// Equality, order and hash are those of the list.
+/// The reported alignment is the one that was asked for, or that of an item. Where the buffer isn't empty, the place of
+/// its first item in the storage, in bytes, is a multiple of it, and the storage is declared with it or with the one that
+/// it was over-aligned to, if that is greater. Equality, order and hash are those of the list.
 #[derive(Drop)]
 pub struct Buffer<T: Element, A: Allocator> {
     content: Content<T, A>,
@@ -40,14 +41,11 @@ impl<T: Element, A: Allocator> Buffer<T, A> {
         ensures { result.now ≡ self.now.list }
     {
         match &self.content {
-            Content::Nothing { .. } => &[],
-            Content::All { storage } => storage.as_ref().as_slice(),
-            Content::Part {
-                storage,
-                start,
-                len,
-                ..
-            } => &storage.as_ref().as_slice()[*start..*start + *len],
+            Content::Nothing(_) => &[],
+            Content::All(storage) => storage.as_ref().as_slice(),
+            Content::Part(storage, window) => {
+                &storage.as_ref().as_slice()[window.start..window.start + window.len]
+            }
         }
     }
 
@@ -56,9 +54,9 @@ impl<T: Element, A: Allocator> Buffer<T, A> {
         ensures { result ≡ length self.now.list }
     {
         match &self.content {
-            Content::Nothing { .. } => 0,
-            Content::All { storage } => storage.as_ref().len(),
-            Content::Part { len, .. } => *len,
+            Content::Nothing(_) => 0,
+            Content::All(storage) => storage.as_ref().len(),
+            Content::Part(_, window) => window.len,
         }
     }
 
@@ -78,9 +76,9 @@ impl<T: Element, A: Allocator> Buffer<T, A> {
         ensures aligned { IsAlignedTo self.now result }
     {
         match &self.content {
-            Content::Nothing { alignment } => *alignment,
-            Content::All { storage } => storage.as_ref().alignment(),
-            Content::Part { alignment, .. } => *alignment,
+            Content::Nothing(alignment) => *alignment,
+            Content::All(storage) => storage.as_ref().alignment(),
+            Content::Part(_, window) => window.alignment,
         }
     }
 
@@ -91,9 +89,9 @@ impl<T: Element, A: Allocator> Buffer<T, A> {
         ensures at_least { self.now.alignment ≤ result }
     {
         match &self.content {
-            Content::Nothing { alignment } => *alignment,
-            Content::All { storage } => storage.as_ref().declared(),
-            Content::Part { storage, .. } => storage.as_ref().declared(),
+            Content::Nothing(alignment) => *alignment,
+            Content::All(storage) => storage.as_ref().declared(),
+            Content::Part(storage, _) => storage.as_ref().declared(),
         }
     }
 
@@ -103,7 +101,7 @@ impl<T: Element, A: Allocator> Buffer<T, A> {
         ensures { IsTrue result ↔ IsAlignedTo self.now alignment }
     {
         self.is_empty()
-            || (divides_place::<T>(alignment, self.first(), 0) && alignment <= self.declared())
+            || (self.content.is_place_divided(alignment, 0) && alignment <= self.declared())
     }
 
     /// Drops all items. The alignment stays.
@@ -111,31 +109,6 @@ impl<T: Element, A: Allocator> Buffer<T, A> {
         ensures list { self.new.list ≡ [] }
         ensures alignment { self.new.alignment ≡ self.old.alignment }
     {
-        self.content = Content::Nothing {
-            alignment: self.alignment(),
-        };
+        self.content = Content::Nothing(self.alignment());
     }
-
-    pub(crate) fn allocator(&self) -> &A {
-        &self.alloc
-    }
-
-    // The number of the first item in the storage.
-    fn first(&self) -> usize
-        ensures { self.now.place ≡ result * T.SIZE }
-    {
-        match &self.content {
-            Content::Nothing { .. } => 0,
-            Content::All { .. } => 0,
-            Content::Part { start, .. } => *start,
-        }
-    }
-}
-
-// Whether an alignment divides the place in bytes of an item, whose number is the sum of two. Where that sum or place
-// wraps, what is left of it has the same remainder.
-fn divides_place<T: Element>(alignment: Alignment, first: usize, offset: usize) -> bool
-    ensures { IsTrue result ↔ ((first + offset) * T.SIZE % 2 ^ alignment ≡ 0) }
-{
-    alignment.is_offset_aligned(first.wrapping_add(offset).wrapping_mul(T::SIZE))
 }

@@ -4,6 +4,7 @@ ghost use Rattle.std.specs.Borrow.{Lends, Array, sem};
 ghost use Rattle.vb_mem.specs.OpenBuffer.{Holds, with_items};
 ghost use Rattle.vb_mem.specs.contracts.buffer_mut.BufferMut.{the_row};
 
+use crate::content::Window;
 use std::alloc::Allocator;
 use std::marker::Model;
 use vb_core::{Alignment, Element};
@@ -15,13 +16,14 @@ mod make;
 
 /// A list of items that grows, with an alignment.
 ///
-/// The reported alignment is what the buffer was asked for, and what a [`Buffer`](crate::Buffer) made of it reports.
-/// The declared alignment is that of its storage: at least the reported one. Growth keeps both.
+/// The reported alignment is the one that was asked for, or that of an item; a [`Buffer`](crate::Buffer) made of the
+/// list reports it too. The declared alignment is that of the storage: the reported one, or the one that the buffer was
+/// over-aligned to if that is greater. Growth keeps both.
 #[derive(Drop)]
 pub struct BufferMut<T: Element, A: Allocator> {
-    items: Vec<T, A>,
-    alignment: Alignment,
-    declared: Alignment,
+    pub(crate) items: Vec<T, A>,
+    pub(crate) alignment: Alignment,
+    pub(crate) declared: Alignment,
 }
 
 impl<T: Element, A: Allocator> Model for BufferMut<T, A> {
@@ -104,24 +106,18 @@ impl<T: Element, A: Allocator> BufferMut<T, A> {
         self.items.truncate(len);
     }
 
-    pub(crate) fn allocator(&self) -> &A {
-        self.items.allocator()
-    }
-
-    // The items, as a vector.
-    pub(crate) fn into_items(self) -> Vec<T, A>
-        ensures { result.items ≡ self.list }
+    // Moves the items of a window to the front, drops the others and reports the window's alignment.
+    pub(crate) fn narrow(&mut self, window: Window)
+        requires within { window.start + window.len ≤ length self.old.list }
+        requires at_least { T.align_exponent ≤ window.alignment }
+        requires fits { window.alignment ≤ self.old.declared }
+        ensures { Holds (take window.len (drop window.start self.old.list)) window.alignment self.old.declared self.new }
     {
-        self.items
-    }
-
-    // Keeps the items of a window, and reports another alignment.
-    pub(crate) fn narrow(&mut self, start: usize, len: usize, alignment: Alignment)
-        requires within { start + len ≤ length self.old.list }
-        requires at_least { T.align_exponent ≤ alignment }
-        requires fits { alignment ≤ self.old.declared }
-        ensures { Holds (take len (drop start self.old.list)) alignment self.old.declared self.new }
-    {
+        let Window {
+            start,
+            len,
+            alignment,
+        } = window;
         if start != 0 {
             self.items.copy_within(start..start + len, 0);
         }

@@ -52,8 +52,7 @@ impl<T: Element, A: Allocator> Iterator for BufferIterator<T, A> {
     }
 
     fn size_hint(&self) -> (usize, Option<usize>) {
-        let len = self.len();
-        (len, Some(len))
+        (self.len(), Some(self.len()))
     }
 }
 

@@ -1,13 +1,11 @@
 //! List buffers: lists of whole numbers that grow, and lists that share their storage.
 //!
-//! A [`BufferMut`] owns its storage and grows. [`BufferMut::freeze`] makes a [`Buffer`] of it, which may be cloned and
-//! sliced without a copy, and [`Buffer::into_mut`] makes a `BufferMut` again. Both keep an alignment that is known at
-//! run time. No owner sees what another one writes.
+//! A [`BufferMut`] owns its storage and grows. [`BufferMut::freeze`] makes a [`Buffer`] of it, which is cloned and sliced
+//! without a copy, and [`Buffer::into_mut`] a `BufferMut` again. No owner sees what another one writes.
 #![tactic(auto)]
 
 pub mod buffer;
 pub mod buffer_mut;
-mod byte_form;
 mod compare;
 mod content;
 pub mod iter;

@@ -1,8 +1,8 @@
-//! Parts of a buffer.
+//! Parts of a buffer, which share its storage: they are made in constant time, and nothing is copied.
 ghost use Rattle.std.specs.Prelude.{◌≡◌, ◌↔◌, ◌≤◌, ◌+◌, ◌*◌, length, slice_range, IfOk, IsTrue, IsOkUnless};
 ghost use Rattle.vb_mem.specs.SharedBuffer.{Shows, CanSlice};
 
-use super::{Buffer, divides_place};
+use super::Buffer;
 use crate::content::Content;
 use std::alloc::Allocator;
 use std::mem;
@@ -20,7 +20,7 @@ impl<T: Element, A: Allocator> Buffer<T, A> {
             && range.end <= self.len()
             && Alignment::of::<T>() <= alignment
             && (range.start == range.end
-                || (divides_place::<T>(alignment, self.first(), range.start)
+                || (self.content.is_place_divided(alignment, range.start)
                     && alignment <= self.declared()))
     }
 
@@ -37,16 +37,15 @@ impl<T: Element, A: Allocator> Buffer<T, A> {
         requires { CanSlice T.SIZE T.align_exponent self.old range.start range.end alignment }
         ensures { Shows (slice_range self.old.list range.start range.end) alignment (self.old.place + range.start * T.SIZE) self.old.declared self.new }
     {
-        let content = mem::replace(&mut self.content, Content::Nothing { alignment });
+        let content = mem::replace(&mut self.content, Content::Nothing(alignment));
         self.content = content.narrowed(range, alignment);
     }
 }
 
 impl<T: Element, A: Allocator + Clone> Buffer<T, A> {
-    /// The items of a range, for which [`Buffer::can_slice`] holds at the buffer's alignment; the part keeps the
-    /// alignment and shares the storage. Nothing is copied and the storage takes no memory. Refused with `OutOfMemory`
-    /// where a copy of the allocator finds no memory.
-    pub fn slice(&self, range: Range<usize>) -> Result<Buffer<T, A>, BufferError>
+    /// The items of a range, for which [`Buffer::can_slice`] holds at the buffer's alignment, which the part keeps; it
+    /// shares the storage. Refused with `OutOfMemory` where a copy of the allocator finds no memory.
+    pub fn slice(&self, range: Range<usize>) -> Result<Self, BufferError>
         requires { CanSlice T.SIZE T.align_exponent self.now range.start range.end self.now.alignment }
         ensures ok { IfOk result (Shows (slice_range self.now.list range.start range.end) self.now.alignment (self.now.place + range.start * T.SIZE) self.now.declared) }
         ensures refused { IsOkUnless result BufferError.OutOfMemory }
@@ -54,14 +53,13 @@ impl<T: Element, A: Allocator + Clone> Buffer<T, A> {
         self.slice_with_alignment(range, self.alignment())
     }
 
-    /// The items of a range with an alignment, for which [`Buffer::can_slice`] holds; the part shares the storage.
-    /// Nothing is copied and the storage takes no memory. Refused with `OutOfMemory` where a copy of the allocator
-    /// finds no memory.
+    /// The items of a range with an alignment, for which [`Buffer::can_slice`] holds; the part shares the storage. Refused
+    /// with `OutOfMemory` where a copy of the allocator finds no memory.
     pub fn slice_with_alignment(
         &self,
         range: Range<usize>,
         alignment: Alignment,
-    ) -> Result<Buffer<T, A>, BufferError>
+    ) -> Result<Self, BufferError>
         requires { CanSlice T.SIZE T.align_exponent self.now range.start range.end alignment }
         ensures ok { IfOk result (Shows (slice_range self.now.list range.start range.end) alignment (self.now.place + range.start * T.SIZE) self.now.declared) }
         ensures refused { IsOkUnless result BufferError.OutOfMemory }
@@ -71,16 +69,15 @@ impl<T: Element, A: Allocator + Clone> Buffer<T, A> {
         Ok(part)
     }
 
-    /// The items of a range within the buffer, of the alignment of an item; the part shares the storage. Nothing is
-    /// copied and the storage takes no memory. Refused with `OutOfMemory` where a copy of the allocator finds no
-    /// memory.
-    pub fn slice_unaligned(&self, range: Range<usize>) -> Result<Buffer<T, A>, BufferError>
+    /// The items of a range within the buffer, of the alignment of an item; the part shares the storage. Refused with
+    /// `OutOfMemory` where a copy of the allocator finds no memory.
+    pub fn slice_unaligned(&self, range: Range<usize>) -> Result<Self, BufferError>
         requires start_le_end { range.start ≤ range.end }
         requires in_bounds { range.end ≤ length self.now.list }
         ensures ok { IfOk result (Shows (slice_range self.now.list range.start range.end) T.align_exponent (self.now.place + range.start * T.SIZE) self.now.declared) }
         ensures refused { IsOkUnless result BufferError.OutOfMemory }
     {
-        // What the contract of `alignment` says of the place is what the call below asks for.
+        // Its contract says of the place what the call below asks for.
         let _ = self.alignment();
         self.slice_with_alignment(range, Alignment::of::<T>())
     }

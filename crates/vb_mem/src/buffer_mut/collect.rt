@@ -9,52 +9,48 @@ use std::alloc::Allocator;
 use vb_core::{BufferError, Element, ExtendError, TrustedLen};
 
 impl<T: Element, A: Allocator> BufferMut<T, A> {
-    /// The items that an iterator gives, of the alignment of an item. Refused with `OutOfMemory`.
-    pub fn from_iter<I: IntoIterator<Item = T>>(
-        alloc: A,
-        iter: I,
-    ) -> Result<BufferMut<T, A>, BufferError>
+    /// The items that an iterator gives, over-aligned to 256 bytes. Refused with `OutOfMemory`.
+    pub fn from_iter<I: IntoIterator<Item = T>>(alloc: A, iter: I) -> Result<Self, BufferError>
         requires { IsFiniteIterable I.into_iter_gives I.IntoIter.can_next I.IntoIter.remaining iter }
         ensures ok { IfOk result (λ b. OfItems I.into_iter_gives I.IntoIter.next_gives iter
             (λ items. Holds items T.align_exponent (over_aligned T.align_exponent) b)) }
         ensures refused { IsOkUnless result BufferError.OutOfMemory }
     {
-        let mut b = BufferMut::empty(alloc);
-        b.extend(iter)?;
-        Ok(b)
+        let mut buffer = BufferMut::empty(alloc);
+        buffer.extend(iter)?;
+        Ok(buffer)
     }
 
-    /// The items that an iterator of known length gives, of the alignment of an item; all memory is asked for first.
-    /// Refused with `OutOfMemory`.
-    pub fn from_trusted_len_iter<I: TrustedLen + Iterator<Item = T>>(
+    /// The items that an iterator of known length gives, over-aligned to 256 bytes. Memory for all of them is asked for
+    /// first. Refused with `OutOfMemory`.
+    pub fn from_trusted_len_iter<I: TrustedLen<Item = T>>(
         alloc: A,
         iter: I,
-    ) -> Result<BufferMut<T, A>, BufferError>
+    ) -> Result<Self, BufferError>
         requires { I.can_next iter }
         ensures ok { IfOk result (λ b. (items : List T) × Drains I.next_gives iter items
             × Holds items T.align_exponent (over_aligned T.align_exponent) b) }
         ensures refused { IsOkUnless result BufferError.OutOfMemory }
     {
-        let mut b = BufferMut::empty(alloc);
-        b.extend_trusted(iter)?;
-        Ok(b)
+        let mut buffer = BufferMut::empty(alloc);
+        buffer.extend_trusted(iter)?;
+        Ok(buffer)
     }
 
-    /// The values that an iterator of known length gives, of the alignment of an item; all memory is asked for first.
-    /// Refused with `Memory` before the first item is asked for, and with `Item` at the first error; the values before
-    /// it are dropped.
-    pub fn try_from_trusted_len_iter<E, I: TrustedLen + Iterator<Item = Result<T, E>>>(
+    /// The values that an iterator of known length gives, over-aligned to 256 bytes. Refused with `Memory` before the
+    /// first item is asked for, and with `Item` at the first error; the values before it are dropped.
+    pub fn try_from_trusted_len_iter<E, I: TrustedLen<Item = Result<T, E>>>(
         alloc: A,
         iter: I,
-    ) -> Result<BufferMut<T, A>, ExtendError<E>>
+    ) -> Result<Self, ExtendError<E>>
         requires { I.can_next iter }
         ensures ok { IfOk result (λ b. GivesValues I.next_gives iter
             (λ items. Holds items T.align_exponent (over_aligned T.align_exponent) b)) }
         ensures err { IfStopped result (λ e. GivesError I.next_gives iter e (λ _. ⊤)) ⊤ }
     {
-        let mut b = BufferMut::empty(alloc);
-        b.try_extend_trusted(iter)?;
-        Ok(b)
+        let mut buffer = BufferMut::empty(alloc);
+        buffer.try_extend_trusted(iter)?;
+        Ok(buffer)
     }
 
     /// Adds the items that an iterator gives. Within the capacity it takes no memory and succeeds; else it may be
@@ -73,10 +69,7 @@ impl<T: Element, A: Allocator> BufferMut<T, A> {
 
     /// Adds the items that an iterator of known length gives, all of them or none. Within the capacity it takes no
     /// memory and succeeds; else it is refused with `OutOfMemory`, and the buffer is unchanged then.
-    pub fn extend_trusted<I: TrustedLen + Iterator<Item = T>>(
-        &mut self,
-        iter: I,
-    ) -> Result<(), BufferError>
+    pub fn extend_trusted<I: TrustedLen<Item = T>>(&mut self, iter: I) -> Result<(), BufferError>
         requires { I.can_next iter }
         ensures ok { OnOk result ((items : List T) × Drains I.next_gives iter items × Lengthens items self.old self.new) }
         ensures in_place { HasRoom self.old (I.left iter) → IsOk result }
@@ -94,7 +87,7 @@ impl<T: Element, A: Allocator> BufferMut<T, A> {
     ///
     /// Refused with `Memory` before the first item is asked for, and the buffer is unchanged then; within the
     /// capacity it takes no memory. Stopped with `Item` at the first error; the values before it stay then.
-    pub fn try_extend_trusted<E, I: TrustedLen + Iterator<Item = Result<T, E>>>(
+    pub fn try_extend_trusted<E, I: TrustedLen<Item = Result<T, E>>>(
         &mut self,
         iter: I,
     ) -> Result<(), ExtendError<E>>
@@ -103,9 +96,9 @@ impl<T: Element, A: Allocator> BufferMut<T, A> {
         ensures in_place { HasRoom self.old (I.left iter) → result ≢ Err ExtendError.Memory }
         ensures err { IfStopped result (λ e. GivesError I.next_gives iter e (λ items. Lengthens items self.old self.new)) (self.new ≡ self.old) }
     {
-        self.items
-            .reserve(iter.exact_len())
-            .map_err(|_| ExtendError::Memory)?;
+        if self.reserve(iter.exact_len()).is_err() {
+            return Err(ExtendError::Memory);
+        }
         for item in iter {
             match item {
                 Ok(value) => self.items.push_reserved(value),

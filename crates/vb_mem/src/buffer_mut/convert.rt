@@ -1,17 +1,19 @@
 //! What a growing buffer is turned into: an empty one, a copy, one of another alignment, a shared one.
-ghost use Rattle.std.specs.Prelude.{◌≡◌, ◌<◌, ◌≤◌, ◌⊎◌, max, [], length, IfOk, OnOk, OnErr, IsOkAnd, IsOkUnless};
+ghost use Rattle.std.specs.Prelude.{◌≡◌, ◌<◌, ◌≤◌, ◌⊎◌, ◌*◌, ◌^◌, max, [], length, IfOk, OnOk, OnErr, IsErrOf, IsOkAnd, IsOkUnless};
+ghost use Rattle.vb_bytes.specs.ByteForm.{byteform};
 ghost use Rattle.vb_mem.specs.OpenBuffer.{Holds, over_aligned};
 ghost use Rattle.vb_mem.specs.SharedBuffer.{Shows};
 
 use super::BufferMut;
 use crate::buffer::Buffer;
 use std::alloc::Allocator;
+use vb_bytes::{byte_count, put_items};
 use vb_core::{Alignment, BufferError, Element};
 
 impl<T: Element, A: Allocator + Clone> BufferMut<T, A> {
     /// Hands out the buffer, and leaves an empty one of the same alignment. Refused with `OutOfMemory` where a copy of
     /// the allocator finds no memory; the buffer is unchanged then.
-    pub fn take(&mut self) -> Result<BufferMut<T, A>, BufferError>
+    pub fn take(&mut self) -> Result<Self, BufferError>
         ensures taken { IfOk result (λ b. b ≡ self.old) }
         ensures left { OnOk result (Holds [] self.old.alignment (over_aligned self.old.alignment) self.new) }
         ensures err { OnErr result (self.new ≡ self.old) }
@@ -23,7 +25,7 @@ impl<T: Element, A: Allocator + Clone> BufferMut<T, A> {
     }
 
     /// A copy of the same alignment. Refused with `OutOfMemory`.
-    pub fn clone(&self) -> Result<BufferMut<T, A>, BufferError>
+    pub fn clone(&self) -> Result<Self, BufferError>
         ensures ok { IfOk result (Holds self.now.list self.now.alignment (over_aligned self.now.alignment)) }
         ensures refused { IsOkUnless result BufferError.OutOfMemory }
     {
@@ -34,7 +36,7 @@ impl<T: Element, A: Allocator + Clone> BufferMut<T, A> {
     /// The same items with another alignment, which is at least that of an item. An empty buffer, and one that is
     /// declared with this alignment or more, keeps its storage, takes no memory and isn't refused; the items of any
     /// other one are copied. Refused with `OutOfMemory`; the buffer is gone then.
-    pub fn aligned(self, alignment: Alignment) -> Result<BufferMut<T, A>, BufferError>
+    pub fn aligned(self, alignment: Alignment) -> Result<Self, BufferError>
         requires { T.align_exponent ≤ alignment }
         ensures in_place { (self.list ≡ []) ⊎ (alignment ≤ self.declared) →
             IsOkAnd result (λ b. b ≡ record self { alignment = alignment; declared = max self.declared alignment }) }
@@ -45,18 +47,45 @@ impl<T: Element, A: Allocator + Clone> BufferMut<T, A> {
             let alloc = self.items.allocator().clone()?;
             return BufferMut::copy_from_aligned(alloc, self.as_slice(), alignment);
         }
-        let mut b = self;
-        b.alignment = alignment;
-        b.declared = b.declared.max(alignment);
-        Ok(b)
+        let mut buffer = self;
+        buffer.alignment = alignment;
+        buffer.declared = buffer.declared.max(alignment);
+        Ok(buffer)
     }
 
-    /// The same items, to be shared. The storage is handed on and not copied. Refused with `OutOfMemory`; the buffer
-    /// is gone then.
+    /// The same items, to be shared; the storage is handed on. Refused with `OutOfMemory`; the buffer is gone then.
     pub fn freeze(self) -> Result<Buffer<T, A>, BufferError>
         ensures ok { IfOk result (Shows self.list self.alignment 0 self.declared) }
         ensures refused { IsOkUnless result BufferError.OutOfMemory }
     {
         Buffer::from_mut(self)
+    }
+
+    /// The bytes of the items, of the same alignment, copied. Refused with `TooManyBytes` where their number passes
+    /// `usize`, and else with `OutOfMemory`; the buffer is gone then.
+    pub fn into_byte_buffer(self) -> Result<BufferMut<u8, A>, BufferError>
+        ensures ok { IfOk result (Holds (byteform T.form self.list) self.alignment (over_aligned self.alignment)) }
+        ensures fits { length self.list * T.SIZE < 2 ^ 64 → IsOkUnless result BufferError.OutOfMemory }
+        ensures too_many { 2 ^ 64 ≤ length self.list * T.SIZE → IsErrOf result BufferError.TooManyBytes }
+    {
+        BufferMut::bytes_of(self.items.allocator(), self.as_slice(), self.alignment)
+    }
+}
+
+impl<A: Allocator + Clone> BufferMut<u8, A> {
+    // A copy of the bytes of items. Their number is looked at before memory is asked for.
+    pub(crate) fn bytes_of<T: Element>(
+        alloc: &A,
+        items: &[T],
+        alignment: Alignment,
+    ) -> Result<BufferMut<u8, A>, BufferError>
+        ensures ok { IfOk result (Holds (byteform T.form items.now) alignment (over_aligned alignment)) }
+        ensures fits { length items.now * T.SIZE < 2 ^ 64 → IsOkUnless result BufferError.OutOfMemory }
+        ensures too_many { 2 ^ 64 ≤ length items.now * T.SIZE → IsErrOf result BufferError.TooManyBytes }
+    {
+        let len = byte_count::<T>(items.len())?;
+        let mut bytes = BufferMut::zeroed_aligned(alloc.clone()?, len, alignment)?;
+        put_items(items, bytes.as_mut_slice());
+        Ok(bytes)
     }
 }

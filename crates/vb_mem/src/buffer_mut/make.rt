@@ -6,9 +6,12 @@ use super::BufferMut;
 use std::alloc::Allocator;
 use vb_core::{Alignment, BufferError, Element};
 
+// What storage is over-aligned to where nothing else is preferred.
+const DEFAULT: Option<Alignment> = Some(Alignment::DEFAULT_ALIGNMENT);
+
 impl<T: Element, A: Allocator> BufferMut<T, A> {
-    /// An empty buffer with room for `capacity` items, of the alignment of an item. Refused with `OutOfMemory`.
-    pub fn with_capacity(alloc: A, capacity: usize) -> Result<BufferMut<T, A>, BufferError>
+    /// An empty buffer with room for `capacity` items, over-aligned to 256 bytes. Refused with `OutOfMemory`.
+    pub fn with_capacity(alloc: A, capacity: usize) -> Result<Self, BufferError>
         ensures ok { IfOk result (Holds [] T.align_exponent (over_aligned T.align_exponent)) }
         ensures room { IfOk result (λ b. capacity ≤ b.room) }
         ensures refused { IsOkUnless result BufferError.OutOfMemory }
@@ -16,101 +19,93 @@ impl<T: Element, A: Allocator> BufferMut<T, A> {
         BufferMut::with_capacity_aligned(alloc, capacity, Alignment::of::<T>())
     }
 
-    /// An empty buffer with room for `capacity` items and an alignment, declared with that and with 256 bytes at
-    /// least. Refused with `OutOfMemory`.
+    /// An empty buffer with room for `capacity` items and an alignment, over-aligned to 256 bytes. Refused with
+    /// `OutOfMemory`.
     pub fn with_capacity_aligned(
         alloc: A,
         capacity: usize,
         alignment: Alignment,
-    ) -> Result<BufferMut<T, A>, BufferError>
+    ) -> Result<Self, BufferError>
         requires { T.align_exponent ≤ alignment }
         ensures ok { IfOk result (Holds [] alignment (over_aligned alignment)) }
         ensures room { IfOk result (λ b. capacity ≤ b.room) }
         ensures refused { IsOkUnless result BufferError.OutOfMemory }
     {
-        let preferred = Some(Alignment::DEFAULT_ALIGNMENT);
-        BufferMut::with_capacity_preferred_aligned(alloc, capacity, alignment, preferred)
+        BufferMut::with_capacity_preferred_aligned(alloc, capacity, alignment, DEFAULT)
     }
 
-    /// An empty buffer with room for `capacity` items and an alignment, declared with the greater of that and the
-    /// preferred one. Refused with `OutOfMemory`.
+    /// An empty buffer with room for `capacity` items and an alignment, over-aligned to the preferred one. Refused with
+    /// `OutOfMemory`.
     pub fn with_capacity_preferred_aligned(
         alloc: A,
         capacity: usize,
         alignment: Alignment,
         preferred: Option<Alignment>,
-    ) -> Result<BufferMut<T, A>, BufferError>
+    ) -> Result<Self, BufferError>
         requires { T.align_exponent ≤ alignment }
         ensures ok { IfOk result (Holds [] alignment (max alignment (unwrap_or preferred 0))) }
         ensures room { IfOk result (λ b. capacity ≤ b.room) }
         ensures refused { IsOkUnless result BufferError.OutOfMemory }
     {
-        let mut b = BufferMut::empty_preferred_aligned(alloc, alignment, preferred);
-        b.reserve(capacity)?;
-        Ok(b)
+        let mut buffer = BufferMut::empty_preferred_aligned(alloc, alignment, preferred);
+        buffer.reserve(capacity)?;
+        Ok(buffer)
     }
 
-    /// `len` zeros, of the alignment of an item. Refused with `OutOfMemory`.
-    pub fn zeroed(alloc: A, len: usize) -> Result<BufferMut<T, A>, BufferError>
+    /// `len` zeros, over-aligned to 256 bytes. Refused with `OutOfMemory`.
+    pub fn zeroed(alloc: A, len: usize) -> Result<Self, BufferError>
         ensures ok { IfOk result (Holds (replicate len T.zero) T.align_exponent (over_aligned T.align_exponent)) }
         ensures refused { IsOkUnless result BufferError.OutOfMemory }
     {
         BufferMut::zeroed_aligned(alloc, len, Alignment::of::<T>())
     }
 
-    /// `len` zeros with an alignment, declared with that and with 256 bytes at least. Refused with `OutOfMemory`.
-    pub fn zeroed_aligned(
-        alloc: A,
-        len: usize,
-        alignment: Alignment,
-    ) -> Result<BufferMut<T, A>, BufferError>
+    /// `len` zeros with an alignment, over-aligned to 256 bytes. Refused with `OutOfMemory`.
+    pub fn zeroed_aligned(alloc: A, len: usize, alignment: Alignment) -> Result<Self, BufferError>
         requires { T.align_exponent ≤ alignment }
         ensures ok { IfOk result (Holds (replicate len T.zero) alignment (over_aligned alignment)) }
         ensures refused { IsOkUnless result BufferError.OutOfMemory }
     {
-        let preferred = Some(Alignment::DEFAULT_ALIGNMENT);
-        BufferMut::zeroed_preferred_aligned(alloc, len, alignment, preferred)
+        BufferMut::zeroed_preferred_aligned(alloc, len, alignment, DEFAULT)
     }
 
-    /// `len` zeros with an alignment, declared with the greater of that and the preferred one. Refused with
-    /// `OutOfMemory`.
+    /// `len` zeros with an alignment, over-aligned to the preferred one. Refused with `OutOfMemory`.
     pub fn zeroed_preferred_aligned(
         alloc: A,
         len: usize,
         alignment: Alignment,
         preferred: Option<Alignment>,
-    ) -> Result<BufferMut<T, A>, BufferError>
+    ) -> Result<Self, BufferError>
         requires { T.align_exponent ≤ alignment }
         ensures ok { IfOk result (Holds (replicate len T.zero) alignment (max alignment (unwrap_or preferred 0))) }
         ensures refused { IsOkUnless result BufferError.OutOfMemory }
     {
-        let mut b = BufferMut::empty_preferred_aligned(alloc, alignment, preferred);
-        b.push_n(T::zero(), len)?;
-        Ok(b)
+        let mut buffer = BufferMut::empty_preferred_aligned(alloc, alignment, preferred);
+        buffer.push_n(T::zero(), len)?;
+        Ok(buffer)
     }
 
-    /// An empty buffer of the alignment of an item. It takes no memory.
-    pub fn empty(alloc: A) -> BufferMut<T, A>
+    /// An empty buffer, over-aligned to 256 bytes. It takes no memory.
+    pub fn empty(alloc: A) -> Self
         ensures { Holds [] T.align_exponent (over_aligned T.align_exponent) result }
     {
         BufferMut::empty_aligned(alloc, Alignment::of::<T>())
     }
 
-    /// An empty buffer with an alignment, declared with that and with 256 bytes at least. It takes no memory.
-    pub fn empty_aligned(alloc: A, alignment: Alignment) -> BufferMut<T, A>
+    /// An empty buffer with an alignment, over-aligned to 256 bytes. It takes no memory.
+    pub fn empty_aligned(alloc: A, alignment: Alignment) -> Self
         requires { T.align_exponent ≤ alignment }
         ensures { Holds [] alignment (over_aligned alignment) result }
     {
-        let preferred = Some(Alignment::DEFAULT_ALIGNMENT);
-        BufferMut::empty_preferred_aligned(alloc, alignment, preferred)
+        BufferMut::empty_preferred_aligned(alloc, alignment, DEFAULT)
     }
 
-    /// An empty buffer with an alignment, declared with the greater of that and the preferred one. It takes no memory.
+    /// An empty buffer with an alignment, over-aligned to the preferred one. It takes no memory.
     pub fn empty_preferred_aligned(
         alloc: A,
         alignment: Alignment,
         preferred: Option<Alignment>,
-    ) -> BufferMut<T, A>
+    ) -> Self
         requires { T.align_exponent ≤ alignment }
         ensures { Holds [] alignment (max alignment (unwrap_or preferred 0)) result }
     {
@@ -121,65 +116,50 @@ impl<T: Element, A: Allocator> BufferMut<T, A> {
         }
     }
 
-    /// `len` copies of an item, of the alignment of an item. Refused with `OutOfMemory`.
-    pub fn full(alloc: A, item: T, len: usize) -> Result<BufferMut<T, A>, BufferError>
+    /// `len` copies of an item, over-aligned to 256 bytes. Refused with `OutOfMemory`.
+    pub fn full(alloc: A, item: T, len: usize) -> Result<Self, BufferError>
         ensures ok { IfOk result (Holds (replicate len item) T.align_exponent (over_aligned T.align_exponent)) }
         ensures refused { IsOkUnless result BufferError.OutOfMemory }
     {
-        let mut b = BufferMut::empty(alloc);
-        b.push_n(item, len)?;
-        Ok(b)
+        let mut buffer = BufferMut::empty(alloc);
+        buffer.push_n(item, len)?;
+        Ok(buffer)
     }
 
-    /// A copy of the items of a slice, of the alignment of an item. The items are copied as a block. Refused with
-    /// `OutOfMemory`.
-    pub fn copy_from(alloc: A, items: &[T]) -> Result<BufferMut<T, A>, BufferError>
+    /// A copy of a slice, as a block, over-aligned to 256 bytes. Refused with `OutOfMemory`.
+    pub fn copy_from(alloc: A, items: &[T]) -> Result<Self, BufferError>
         ensures ok { IfOk result (Holds items.now T.align_exponent (over_aligned T.align_exponent)) }
         ensures refused { IsOkUnless result BufferError.OutOfMemory }
     {
         BufferMut::copy_from_aligned(alloc, items, Alignment::of::<T>())
     }
 
-    /// A copy of the items of a slice with an alignment, declared with that and with 256 bytes at least. The items
-    /// are copied as a block. Refused with `OutOfMemory`.
+    /// A copy of a slice, as a block, with an alignment, over-aligned to 256 bytes. Refused with `OutOfMemory`.
     pub fn copy_from_aligned(
         alloc: A,
         items: &[T],
         alignment: Alignment,
-    ) -> Result<BufferMut<T, A>, BufferError>
+    ) -> Result<Self, BufferError>
         requires { T.align_exponent ≤ alignment }
         ensures ok { IfOk result (Holds items.now alignment (over_aligned alignment)) }
         ensures refused { IsOkUnless result BufferError.OutOfMemory }
     {
-        let preferred = Some(Alignment::DEFAULT_ALIGNMENT);
-        BufferMut::copy_from_preferred_aligned(alloc, items, alignment, preferred)
+        BufferMut::copy_from_preferred_aligned(alloc, items, alignment, DEFAULT)
     }
 
-    /// A copy of the items of a slice with an alignment, declared with the greater of that and the preferred one. The
-    /// items are copied as a block. Refused with `OutOfMemory`.
+    /// A copy of a slice, as a block, with an alignment, over-aligned to the preferred one. Refused with `OutOfMemory`.
     pub fn copy_from_preferred_aligned(
         alloc: A,
         items: &[T],
         alignment: Alignment,
         preferred: Option<Alignment>,
-    ) -> Result<BufferMut<T, A>, BufferError>
+    ) -> Result<Self, BufferError>
         requires { T.align_exponent ≤ alignment }
         ensures ok { IfOk result (Holds items.now alignment (max alignment (unwrap_or preferred 0))) }
         ensures refused { IsOkUnless result BufferError.OutOfMemory }
     {
-        let mut b = BufferMut::empty_preferred_aligned(alloc, alignment, preferred);
-        b.extend_from_slice(items)?;
-        Ok(b)
-    }
-
-    // The items of a vector, of the alignment of an item, with which its storage is declared.
-    pub(crate) fn from_vec(items: Vec<T, A>) -> BufferMut<T, A>
-        ensures { Holds items.items T.align_exponent T.align_exponent result }
-    {
-        BufferMut {
-            items,
-            alignment: Alignment::of::<T>(),
-            declared: Alignment::of::<T>(),
-        }
+        let mut buffer = BufferMut::empty_preferred_aligned(alloc, alignment, preferred);
+        buffer.extend_from_slice(items)?;
+        Ok(buffer)
     }
 }

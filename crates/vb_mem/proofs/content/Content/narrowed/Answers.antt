@@ -9,9 +9,9 @@ returns-in-Part-clause-shows g c =
     let range = c.args.range in
     let part = c.in-Part in
     let within = rw part.is at c.requires.can_slice in
-    let short : range.end ≤ part.len = omega (arith, simp length-take at within.1) in
+    let short : range.end ≤ part.outer.len = omega (arith, simp length-take at within.1) in
     rw part.is (record {
-      list = sym (slice_range-window part.storage.value.list part.start part.len range.start range.end within.0 short);
+      list = sym (slice_range-window part.storage.value.list part.outer.start part.outer.len range.start range.end within.0 short);
       alignment = refl;
       place = λ _. omega arith;
       declared = λ _. refl;

@@ -1,6 +1,6 @@
 use Rattle.std.proofs.Common.{◌≡◌, ◌*◌, take}
-use Rattle.vb_mem.specs.ByteForm.{IsReadFrom}
-use Rattle.vb_mem.proofs.byte_form.read_items.Given as goal
+use Rattle.vb_bytes.specs.ByteForm.{IsReadFrom}
+use Rattle.vb_bytes.proofs.get_items.Given as goal
 
 abbrev pub invariant-loop-item : goal.invariant-loop-item
 invariant-loop-item g l = record {

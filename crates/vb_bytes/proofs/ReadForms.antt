@@ -8,7 +8,7 @@ use Rattle.std.specs.List.{flat_map}
 use mir.Syntax.{w8}
 use mir.Val.{Fits}
 use Rattle.vb_core.specs.Elements.{AreBytes}
-use Rattle.vb_mem.specs.ByteForm.{IsReadFrom}
+use Rattle.vb_bytes.specs.ByteForm.{IsReadFrom}
 
 -- a part of a slice of bytes
 pub part_are_bytes : (bytes : List ℕ) → ((i : ℕ) → Fits w8 (get_or bytes i 0)) → (start len : ℕ) → AreBytes (take len (drop start bytes))

@@ -1,8 +1,8 @@
 use Rattle.std.proofs.Common.{◌≡◌, ◌+◌, ◌-◌, ◌*◌, ◌≤◌, length, take, drop, ap, sym, ◌∙◌, arith}
 use Rattle.std.proofs.Math.Nat.{mul-le-mul_right}
 use Rattle.std.proofs.lemmas.List.{length-take, length-drop}
-use Rattle.vb_mem.proofs.ReadForms.{IsReadFrom-more, part_are_bytes}
-use Rattle.vb_mem.proofs.byte_form.read_items.Goals as goal
+use Rattle.vb_bytes.proofs.ReadForms.{IsReadFrom-more, part_are_bytes}
+use Rattle.vb_bytes.proofs.get_items.Goals as goal
 
 -- the bytes of the item that was read are those at its place
 pub loop-item-preserved : goal.loop-item-preserved

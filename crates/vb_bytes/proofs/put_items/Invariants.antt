@@ -1,6 +1,6 @@
 use Rattle.std.proofs.Common.{◌≡◌, ◌*◌, take}
-use Rattle.vb_mem.specs.ByteForm.{byteform}
-use Rattle.vb_mem.proofs.byte_form.write_items.Given as goal
+use Rattle.vb_bytes.specs.ByteForm.{byteform}
+use Rattle.vb_bytes.proofs.put_items.Given as goal
 
 abbrev pub invariant-loop-item : goal.invariant-loop-item
 invariant-loop-item g l = record {
