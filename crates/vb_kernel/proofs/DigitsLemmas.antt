@@ -111,7 +111,7 @@ ones_masked w a k h = ap count_ones (masked w a k h) ∙ sym (count-digits w a k
 
 -- ---- a number turned over
 -- a digit of a number turned over
-has_bit-bit_not : (v : Width) (w i : ℕ) → w < 2 ^ width v → i < width v → has_bit (bit_not v w) i ≡ not (has_bit w i)
+pub has_bit-bit_not : (v : Width) (w i : ℕ) → w < 2 ^ width v → i < width v → has_bit (bit_not v w) i ≡ not (has_bit w i)
 has_bit-bit_not v w i small h =
     ap (λ x. eqb x 1) (bit_at_not v w i small h) ∙ turned (bit_at w i) (bit_at-lt w i)
   where

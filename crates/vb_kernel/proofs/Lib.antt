@@ -5,3 +5,4 @@ pub mod DigitsLemmas
 pub mod BytesLemmas
 pub mod SearchesLemmas
 pub mod UnitsLemmas
+pub mod WritesLemmas

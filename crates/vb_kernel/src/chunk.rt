@@ -4,8 +4,8 @@ ghost use Rattle.std.below.core.specs.declared.int.usize.TheConstants.{MAX};
 ghost use Rattle.vb_kernel.specs.Bits.{bits, count, Selects};
 ghost use Rattle.vb_kernel.specs.Searches.{matching};
 
+use crate::bytes::word_at;
 use crate::glance::Plain;
-use crate::read::word_at;
 use crate::select::find_in_units;
 use std::marker::Model;
 

@@ -8,11 +8,13 @@
 #![tactic(auto)]
 
 mod bit;
+mod bytes;
 mod chunk;
 mod count;
+mod fill;
 mod glance;
 mod looks;
-mod read;
+mod map;
 mod select;
 #[cfg(test)]
 mod tests;
@@ -22,7 +24,9 @@ mod word;
 
 pub use bit::{get_bit, get_bit_unchecked, set_bit_unchecked, unset_bit_unchecked};
 pub use count::{count_ones, count_ones_by};
+pub use fill::fill_bits;
 pub use glance::{Glance, Plain, Tally};
 pub use looks::most_looks;
+pub use map::map_words;
 pub use select::{bit_select, bit_select_by, bit_select_unset, bit_select_unset_by};
 pub use window::window_fits;

@@ -2,8 +2,8 @@
 ghost use Rattle.std.specs.Prelude.{◌≡◌};
 ghost use Rattle.vb_kernel.specs.Looks.{CountedBytes};
 
+use crate::bytes::{chunk_at, word_at};
 use crate::glance::Glance;
-use crate::read::{chunk_at, word_at};
 use ghost_count::GhostCount;
 use std::marker::Model;
 

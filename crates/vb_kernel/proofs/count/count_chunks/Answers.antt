@@ -1,6 +1,5 @@
-use Rattle.std.proofs.Common.{◌≡◌, ◌+◌, ◌*◌, ◌/◌, ℕ, List, true, arith, ◌∙◌, refl, sym, ap}
+use Rattle.std.proofs.Common.{◌≡◌, ◌+◌, ◌*◌, ◌/◌, ℕ, List, true, arith, ◌∙◌, refl, ap}
 use Rattle.vb_kernel.specs.Bits.{bits, count}
-use Rattle.vb_kernel.proofs.BitsLemmas.{count-bits_none, count-bits-le}
 use Rattle.vb_kernel.proofs.BytesLemmas.{bits_of_read}
 use Rattle.vb_kernel.proofs.UnitsLemmas.{count_unit_more}
 use Rattle.vb_kernel.proofs.count.count_chunks.Goals as goal

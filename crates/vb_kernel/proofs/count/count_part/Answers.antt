@@ -1,6 +1,5 @@
 use Rattle.std.proofs.Common.{ap, sym, arith, ◌∙◌}
-use Rattle.vb_kernel.specs.Bits.{bits, count}
-use Rattle.vb_kernel.proofs.BitsLemmas.{count-bits_none}
+use Rattle.vb_kernel.specs.Bits.{count}
 use Rattle.vb_kernel.proofs.BytesLemmas.{bits_of_read_byte}
 use Rattle.vb_kernel.proofs.DigitsLemmas.{count-digits_below}
 use Rattle.vb_kernel.proofs.count.count_part.Goals as goal
