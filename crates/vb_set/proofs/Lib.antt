@@ -1,1 +1,2 @@
+pub mod ByteLemmas
 pub mod WindowLemmas

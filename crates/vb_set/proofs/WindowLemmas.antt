@@ -46,7 +46,7 @@ count_parts l i j k n e h le =
 
 -- ---- bytes added, cut off, left out
 -- a bit of the bytes in front
-bit_of-append : (b x : List ℕ) (k : ℕ) → k < 8 * length b → bit_of (b ++ x) k ≡ bit_of b k
+pub bit_of-append : (b x : List ℕ) (k : ℕ) → k < 8 * length b → bit_of (b ++ x) k ≡ bit_of b k
 bit_of-append b x k h = ap (λ y. nat_eq (bit_at y (k % 8)) 1) (get_or_append_left b x 0 (k / 8) (omega arith))
 
 -- a bit of the first m bytes
@@ -176,4 +176,4 @@ bits-turned b c o n f =
     at-bits c o n k d within ∙ f.turned k within
     ∙ sym (get_or-map not (bits b o n) k d d (omega (arith, length-bits b o n)) ∙ ap not (at-bits b o n k d within)))
 
-pub ruleset windows = (bits-empty, length-bits, slice_get-bits, bits-part, take-bits, take_all, bits-append, bits-take_bytes, bits-drop_bytes, IsWindow-take, bits-replicate, bits-changed, bits-pushed, bits-filled, bits-extended, bits-turned, count_parts, count-negated, count-le)
+pub ruleset windows = (bits-empty, length-bits, slice_get-bits, bits-part, take-bits, take_all, bits-append, bits-take_bytes, bits-drop_bytes, IsWindow-take, bits-replicate, bits-changed, bits-pushed, bits-filled, bits-extended, bits-turned, length-replicate, count_parts, count-negated, count-le)

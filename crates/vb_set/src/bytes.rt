@@ -1,14 +1,21 @@
 //! Bits of a byte buffer: the steps of which the edits of a set are made.
-ghost use Rattle.std.specs.Prelude.{◌≡◌, ℕ, ◌+◌, ◌*◌, ◌/◌, ◌<◌, ◌≤◌, ◌==◌, length, max, IsOk, IsOkUnless, OnOk, OnErr};
+ghost use Rattle.std.specs.Prelude.{◌≡◌, ℕ, ◌+◌, ◌*◌, ◌/◌, ◌<◌, ◌≤◌, ◌==◌, [], ◌∷◌, length, max, replicate, IsOk, IsOkUnless, OnOk, OnErr};
 ghost use Rattle.std.specs.Int.{bit_at, div_ceil};
-ghost use Rattle.vb_kernel.specs.Bits.{bits};
-ghost use Rattle.vb_set.specs.Changes.{ChangesBit, FillsBits, TurnsBits};
+ghost use Rattle.vb_set.specs.Changes.{Adds, ChangesBit, FillsBits, TurnsBits};
 
 use crate::kernels::{fill_bits, map_words};
 use std::alloc::Allocator;
 use vb_core::{Alignment, BufferError};
-use vb_kernel::{set_bit_unchecked, unset_bit_unchecked};
 use vb_mem::{ByteBuffer, ByteBufferMut};
+
+/// Makes bit `i` `v`, without a branch.
+fn put_bit(bytes: &mut [u8], i: usize, v: bool)
+    requires { i / 8 < length bytes.old }
+    ensures { ChangesBit bytes.old bytes.new i v }
+{
+    let others = bytes[i / 8] & !(1 << (i % 8));
+    bytes[i / 8] = others | (u8::from(v) << (i % 8));
+}
 
 /// Makes bit `i` `v`.
 pub(crate) fn write_bit<A: Allocator + Clone>(bytes: &mut ByteBufferMut<A>, i: usize, v: bool)
@@ -16,11 +23,30 @@ pub(crate) fn write_bit<A: Allocator + Clone>(bytes: &mut ByteBufferMut<A>, i: u
     ensures bit { ChangesBit bytes.old.list bytes.new.list i v }
     ensures keeps { bytes.new ≡ record bytes.old { list = bytes.new.list } }
 {
-    if v {
-        set_bit_unchecked(bytes.as_mut_slice(), i);
-    } else {
-        unset_bit_unchecked(bytes.as_mut_slice(), i);
+    put_bit(bytes.as_mut_slice(), i, v);
+}
+
+/// Adds bit `end`, `v`, behind the bits below it: in the last byte, or in a byte of its own.
+#[tactic(auto, using(crate::proofs::WindowLemmas::windows, crate::proofs::ByteLemmas::bits_pushed_byte))]
+pub(crate) fn push_bit<A: Allocator + Clone>(
+    bytes: &mut ByteBufferMut<A>,
+    end: usize,
+    v: bool,
+) -> Result<(), BufferError>
+    requires { end ≤ 8 * length bytes.old.list }
+    ensures len { OnOk result (length bytes.new.list ≡ max (length bytes.old.list) (div_ceil (end + 1) 8)) }
+    ensures bits { OnOk result (Adds bytes.old.list bytes.new.list end (v ∷ [])) }
+    ensures alignment { bytes.new.alignment ≡ bytes.old.alignment }
+    ensures room { bytes.old.room ≤ bytes.new.room }
+    ensures in_room { end + 1 ≤ 8 * max (length bytes.old.list) bytes.old.room → IsOk result }
+    ensures err { OnErr result (bytes.new ≡ bytes.old) }
+    ensures refused { IsOkUnless result BufferError.OutOfMemory }
+{
+    if end / 8 < bytes.len() {
+        write_bit(bytes, end, v);
+        return Ok(());
     }
+    bytes.push(u8::from(v))
 }
 
 /// Makes the bits from `start` up to `end` `v`.
@@ -47,25 +73,33 @@ pub(crate) fn turn<A: Allocator + Clone>(bytes: &mut ByteBufferMut<A>, offset: u
     map_words(bytes.as_mut_slice(), offset, len);
 }
 
-/// Adds bytes until they hold `end` bits.
+/// Adds `n` bits from bit `start` on, all `v`, behind the bits below it.
 #[tactic(auto, using(crate::proofs::WindowLemmas::windows))]
-pub(crate) fn grow_to<A: Allocator + Clone>(
+pub(crate) fn push_bits<A: Allocator + Clone>(
     bytes: &mut ByteBufferMut<A>,
-    end: usize,
+    start: usize,
+    n: usize,
+    v: bool,
 ) -> Result<(), BufferError>
-    ensures len { OnOk result (length bytes.new.list ≡ max (length bytes.old.list) (div_ceil end 8)) }
-    ensures windows { (o n : ℕ) → o + n ≤ 8 * length bytes.old.list → bits bytes.new.list o n ≡ bits bytes.old.list o n }
+    requires inside { start ≤ 8 * length bytes.old.list }
+    requires fits { start + n ≤ usize.MAX }
+    ensures len { OnOk result (length bytes.new.list ≡ max (length bytes.old.list) (div_ceil (start + n) 8)) }
+    ensures bits { OnOk result (Adds bytes.old.list bytes.new.list start (replicate n v)) }
     ensures alignment { bytes.new.alignment ≡ bytes.old.alignment }
     ensures room { bytes.old.room ≤ bytes.new.room }
-    ensures in_room { end ≤ 8 * max (length bytes.old.list) bytes.old.room → IsOk result }
+    ensures in_room { start + n ≤ 8 * max (length bytes.old.list) bytes.old.room → IsOk result }
     ensures err { OnErr result (bytes.new ≡ bytes.old) }
     ensures refused { IsOkUnless result BufferError.OutOfMemory }
 {
+    let end = start + n;
     let len = bytes.len();
     let count = end.div_ceil(8);
-    if len < count {
-        bytes.push_n(0, count - len)?;
+    if count <= len {
+        fill(bytes, start, end, v);
+        return Ok(());
     }
+    bytes.push_n(byte_of(v), count - len)?;
+    fill(bytes, start, len * 8, v);
     Ok(())
 }
 

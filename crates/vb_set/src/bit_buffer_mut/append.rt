@@ -4,7 +4,7 @@ ghost use Rattle.std.specs.Int.{div_ceil};
 ghost use Rattle.vb_set.specs.Changes.{Grows};
 
 use super::BitBufferMut;
-use crate::bytes::{fill, grow_to, reserve_to, write_bit};
+use crate::bytes::{push_bit, push_bits, reserve_to};
 use std::alloc::Allocator;
 use vb_core::BufferError;
 
@@ -23,8 +23,11 @@ impl<A: Allocator + Clone> BitBufferMut<A> {
         ensures too_many { usize.MAX < self.old.offset + length self.old.bits + n → IsErrOf result BufferError.TooManyBits }
         ensures err { OnErr result (self.new ≡ self.old) }
     {
-        let end = end_after(self.offset + self.len, n)?;
-        reserve_to(&mut self.buffer, end)
+        let end = self.offset + self.len;
+        if usize::MAX - end < n {
+            return Err(BufferError::TooManyBits);
+        }
+        reserve_to(&mut self.buffer, end + n)
     }
 
     /// Adds one bit, in amortised constant time.
@@ -45,8 +48,7 @@ impl<A: Allocator + Clone> BitBufferMut<A> {
         if end == usize::MAX {
             return Err(BufferError::TooManyBits);
         }
-        grow_to(&mut self.buffer, end + 1)?;
-        write_bit(&mut self.buffer, end, v);
+        push_bit(&mut self.buffer, end, v)?;
         self.len += 1;
         Ok(())
     }
@@ -91,19 +93,12 @@ impl<A: Allocator + Clone> BitBufferMut<A> {
         ensures too_many { usize.MAX < self.old.offset + length self.old.bits + n → IsErrOf result BufferError.TooManyBits }
         ensures err { OnErr result (self.new ≡ self.old) }
     {
-        let end = end_after(self.offset + self.len, n)?;
-        grow_to(&mut self.buffer, end)?;
-        fill(&mut self.buffer, self.offset + self.len, end, v);
+        let end = self.offset + self.len;
+        if usize::MAX - end < n {
+            return Err(BufferError::TooManyBits);
+        }
+        push_bits(&mut self.buffer, end, n, v)?;
         self.len += n;
         Ok(())
     }
-}
-
-/// The bit number `n` past `end`.
-fn end_after(end: usize, n: usize) -> Result<usize, BufferError>
-    ensures value { IfOk result (λ after. after ≡ end + n) }
-    ensures fits { end + n ≤ usize.MAX → IsOk result }
-    ensures too_many { usize.MAX < end + n → IsErrOf result BufferError.TooManyBits }
-{
-    end.checked_add(n).ok_or(BufferError::TooManyBits)
 }
