@@ -1,0 +1,112 @@
+//! A set of bits that one owner edits.
+ghost use Rattle.std.specs.Prelude.{◌≡◌, ◌+◌, ◌*◌, ◌≤◌, ◌==◌, length};
+ghost use Rattle.std.specs.Borrow.{Lends, Array, u8, sem};
+ghost use Rattle.vb_set.specs.Sets.{IsWindow, bit_room, with_bytes};
+ghost use Rattle.vb_set.specs.contracts.bit_buffer_mut.BitBufferMut.{the_row};
+
+use std::alloc::Allocator;
+use std::marker::Model;
+use vb_mem::ByteBufferMut;
+
+mod append;
+mod edit;
+mod make;
+mod question;
+
+/// A set of bits that one owner edits, over a byte buffer that grows.
+///
+/// A contract sees its bits, the offset of the first one, its bytes with the exponent of their
+/// alignment, and the room in bits.
+#[derive(Drop)]
+pub struct BitBufferMut<A: Allocator + Clone> {
+    buffer: ByteBufferMut<A>,
+    offset: usize,
+    len: usize,
+}
+
+impl<A: Allocator + Clone> Model for BitBufferMut<A> {
+    ghost use Rattle.std.specs.Prelude.{◌+◌, ◌*◌, ◌<◌, ◌≤◌, ◌^◌, length};
+    ghost use Rattle.vb_kernel.specs.Bits.{bits};
+    ghost use Rattle.vb_set.specs.Sets.{OpenSet, bit_room};
+
+    ghost Value = { OpenSet };
+
+    ghost view = { λ s. record {
+      bits = bits s.buffer.list s.offset s.len;
+      offset = s.offset;
+      bytes = s.buffer.list;
+      alignment = s.buffer.alignment;
+      room = bit_room s.buffer.room s.offset;
+    } };
+
+    ghost invariant = { λ s. (s.offset + s.len ≤ 8 * length s.buffer.list) × (s.offset + s.len < 2 ^ 64) };
+}
+
+#[tactic(auto, using(crate::proofs::WindowLemmas::windows))]
+impl<A: Allocator + Clone> BitBufferMut<A> {
+    /// How many bits there are.
+    pub fn len(&self) -> usize
+        ensures { result ≡ length self.now.bits }
+    {
+        self.len
+    }
+
+    /// Whether there are no bits.
+    pub fn is_empty(&self) -> bool
+        ensures { result ≡ (length self.now.bits == 0) }
+    {
+        self.len == 0
+    }
+
+    /// The place of the first bit in the bytes, in bits. It may be 8 or more.
+    pub fn offset(&self) -> usize
+        ensures { result ≡ self.now.offset }
+    {
+        self.offset
+    }
+
+    /// For how many bits there is room: up to that length an append takes no memory.
+    pub fn capacity(&self) -> usize
+        ensures room { result ≡ self.now.room }
+        ensures holds_bits { length self.now.bits ≤ result }
+    {
+        self.buffer.capacity().saturating_mul(8) - self.offset
+    }
+
+    /// The bytes, of which the bits are a window.
+    pub fn as_slice(&self) -> &[u8]
+        ensures bytes { result.now ≡ self.now.bytes }
+        ensures window { IsWindow result.now self.now.offset self.now.bits }
+    {
+        self.buffer.as_slice()
+    }
+
+    /// The bytes for writing. What is written is what the set then holds; offset and length stay.
+    pub fn as_mut_slice(&mut self) -> &mut [u8]
+        ensures* writes_back { sem 𝓛 (Lends (the_row A.row A.Allocator A.Clone) (Array u8 0) self.entry result (with_bytes self.old)) }
+        ensures bytes { result.now ≡ self.old.bytes }
+        ensures window { IsWindow result.now self.old.offset self.old.bits }
+    {
+        self.buffer.as_mut_slice()
+    }
+
+    /// The byte buffer, of which the bits are a window.
+    pub fn inner(&self) -> &ByteBufferMut<A>
+        ensures bytes { result.now.list ≡ self.now.bytes }
+        ensures window { IsWindow result.now.list self.now.offset self.now.bits }
+        ensures alignment { result.now.alignment ≡ self.now.alignment }
+        ensures room { self.now.room ≡ bit_room result.now.room self.now.offset }
+    {
+        &self.buffer
+    }
+
+    /// The byte buffer, of which the bits were a window. Ask for offset and length before.
+    pub fn into_inner(self) -> ByteBufferMut<A>
+        ensures bytes { result.list ≡ self.bytes }
+        ensures window { IsWindow result.list self.offset self.bits }
+        ensures alignment { result.alignment ≡ self.alignment }
+        ensures room { self.room ≡ bit_room result.room self.offset }
+    {
+        self.buffer
+    }
+}
