@@ -19,7 +19,8 @@ impl<A: Allocator + Clone> Pool<A> {
         len: usize,
         bytes: &Vec<u8, A>,
     ) -> Answer<A>
-        ensures { Outcome self.old (machine.Import k offset len bytes.now.items) (reply result) self.new }
+        ensures { Outcome
+            self.old (machine.Import k offset len bytes.now.items) (reply result) self.new }
     {
         if !self.is_vacant(k) {
             return Answer::Refused(Refusal::BadSlot);

@@ -37,7 +37,8 @@ pub fn run<A: Allocator + Clone>(
     pool: &mut Pool<A>,
     commands: &[Command<A>],
 ) -> Result<Vec<Answer<A>, A>, BufferError>
-    ensures ok { IfOk result (λ answers. Run pool.old (map order commands.now) (map reply answers.items) pool.new) }
+    ensures ok { IfOk result (λ answers.
+        Run pool.old (map order commands.now) (map reply answers.items) pool.new) }
     ensures refusal { IsOkUnless result OutOfMemory }
     ensures err { OnErr result (pool.new ≡ pool.old) }
 {

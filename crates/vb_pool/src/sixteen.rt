@@ -34,7 +34,9 @@ impl<T> Model for Sixteen<T> {
 
     ghost Value = { List T };
 
-    ghost view = { λ a. a.s0 ∷ a.s1 ∷ a.s2 ∷ a.s3 ∷ a.s4 ∷ a.s5 ∷ a.s6 ∷ a.s7 ∷ a.s8 ∷ a.s9 ∷ a.s10 ∷ a.s11 ∷ a.s12 ∷ a.s13 ∷ a.s14 ∷ a.s15 ∷ [] };
+    ghost view = { λ a.
+        a.s0 ∷ a.s1 ∷ a.s2 ∷ a.s3 ∷ a.s4 ∷ a.s5 ∷ a.s6 ∷ a.s7
+        ∷ a.s8 ∷ a.s9 ∷ a.s10 ∷ a.s11 ∷ a.s12 ∷ a.s13 ∷ a.s14 ∷ a.s15 ∷ [] };
 }
 
 impl<T> Sixteen<T> {

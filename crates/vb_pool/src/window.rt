@@ -22,7 +22,8 @@ impl<A: Allocator> Model for Window<A> {
 
     ghost view = { λ w. bits w.bytes.items w.offset w.len };
 
-    ghost invariant = { λ w. (w.offset + w.len ≤ 8 * length w.bytes.items) × (w.offset + w.len < 2 ^ 64) };
+    ghost invariant = { λ w.
+        (w.offset + w.len ≤ 8 * length w.bytes.items) × (w.offset + w.len < 2 ^ 64) };
 }
 
 #[tactic(auto, using(vb_kernel::proofs::BitsLemmas::windows))]

@@ -1,6 +1,8 @@
 pub mod DriveError
 pub mod Feed
+pub mod FromRead
 pub mod Session
+pub mod ToWrite
 pub use Rattle.vb_command.specs.Arguments
 pub use Rattle.vb_command.specs.Hex
 pub use Rattle.vb_command.specs.Machine

@@ -38,12 +38,18 @@ pub fn drive<A: Allocator + Clone, R: Source, W: Sink>(
     input: &mut R,
     output: &mut W,
 ) -> Result<(), DriveError>
-    ensures ok { OnOk result (IfSome (R.remaining input.old) (λ bytes. AnswersLines (lines bytes) (W.contents output.old) (W.contents output.new))) }
+    ensures ok { OnOk result (IfSome (R.remaining input.old) (λ bytes.
+        AnswersLines (lines bytes) (W.contents output.old) (W.contents output.new))) }
     ensures end { OnOk result (IsAtEnd (R.remaining input.new)) }
-    ensures unreadable { IfUnreadable result (λ line. IfSome (R.remaining input.old) (λ bytes. StopsAt bytes line (W.contents output.old) (W.contents output.new))) }
-    ensures read { IfRead result (IfSome (R.remaining input.old) (λ bytes. IsSomeAnd (R.remaining input.new) (λ rest. AnswersEnded bytes rest (W.contents output.old) (W.contents output.new)))) }
-    ensures memory { IfMemory result (IfSome (R.remaining input.old) (λ bytes. AnswersSome bytes (W.contents output.old) (W.contents output.new))) }
-    ensures counts { Counts result (R.faults input.old) (W.faults output.old) (R.faults input.new) (W.faults output.new) }
+    ensures unreadable { IfUnreadable result (λ line. IfSome (R.remaining input.old) (λ bytes.
+        StopsAt bytes line (W.contents output.old) (W.contents output.new))) }
+    ensures read { IfRead result (IfSome (R.remaining input.old) (λ bytes.
+        IsSomeAnd (R.remaining input.new) (λ rest.
+            AnswersEnded bytes rest (W.contents output.old) (W.contents output.new)))) }
+    ensures memory { IfMemory result (IfSome (R.remaining input.old) (λ bytes.
+        AnswersSome bytes (W.contents output.old) (W.contents output.new))) }
+    ensures counts { Counts result
+        (R.faults input.old) (W.faults output.old) (R.faults input.new) (W.faults output.new) }
 {
     let mut feed = Feed::new(alloc.clone().map_err(|_| DriveError::Memory)?);
     let mut session = Session::new(alloc).map_err(|_| DriveError::Memory)?;
@@ -60,12 +66,18 @@ fn serve_all<A: Allocator + Clone, R: Source, W: Sink>(
     requires slots { session.old.pool ≡ replicate 16 Empty }
     requires out { session.old.out ≡ [] }
     requires feed { feed.old ≡ [] }
-    ensures ok { OnOk result (IfSome (R.remaining input.old) (λ bytes. AnswersLines (lines bytes) (W.contents output.old) (W.contents output.new))) }
+    ensures ok { OnOk result (IfSome (R.remaining input.old) (λ bytes.
+        AnswersLines (lines bytes) (W.contents output.old) (W.contents output.new))) }
     ensures end { OnOk result (IsAtEnd (R.remaining input.new)) }
-    ensures unreadable { IfUnreadable result (λ line. IfSome (R.remaining input.old) (λ bytes. StopsAt bytes line (W.contents output.old) (W.contents output.new))) }
-    ensures read { IfRead result (IfSome (R.remaining input.old) (λ bytes. IsSomeAnd (R.remaining input.new) (λ rest. AnswersEnded bytes rest (W.contents output.old) (W.contents output.new)))) }
-    ensures memory { IfMemory result (IfSome (R.remaining input.old) (λ bytes. AnswersSome bytes (W.contents output.old) (W.contents output.new))) }
-    ensures counts { Counts result (R.faults input.old) (W.faults output.old) (R.faults input.new) (W.faults output.new) }
+    ensures unreadable { IfUnreadable result (λ line. IfSome (R.remaining input.old) (λ bytes.
+        StopsAt bytes line (W.contents output.old) (W.contents output.new))) }
+    ensures read { IfRead result (IfSome (R.remaining input.old) (λ bytes.
+        IsSomeAnd (R.remaining input.new) (λ rest.
+            AnswersEnded bytes rest (W.contents output.old) (W.contents output.new)))) }
+    ensures memory { IfMemory result (IfSome (R.remaining input.old) (λ bytes.
+        AnswersSome bytes (W.contents output.old) (W.contents output.new))) }
+    ensures counts { Counts result
+        (R.faults input.old) (W.faults output.old) (R.faults input.new) (W.faults output.new) }
 {
     for line in 1..u64::MAX {
         let at = line_ready(feed, &mut session.out, input, output)?;
@@ -94,9 +106,13 @@ fn serve_next<A: Allocator + Clone>(
     at: Option<usize>,
 ) -> Result<(), Unread>
     requires { ForSome at (λ k. k < length feed.old) }
-    ensures ok { OnOk result (ServesNext (next_line at feed.old) session.old.pool session.old.out session.new.pool session.new.out) }
-    ensures rest { OnOk result (MatchOption at (feed.new ≡ feed.old) (λ k. feed.new ≡ drop (k + 1) feed.old)) }
-    ensures unread { IsErrOf result Unread.Unreadable → IsSomeAnd (next_line at feed.old) (λ line. reading line ≡ None) }
+    ensures ok { OnOk result (ServesNext (next_line at feed.old)
+        session.old.pool session.old.out session.new.pool session.new.out) }
+    ensures rest { OnOk result (MatchOption at
+        (feed.new ≡ feed.old)
+        (λ k. feed.new ≡ drop (k + 1) feed.old)) }
+    ensures unread { IsErrOf result Unread.Unreadable →
+        IsSomeAnd (next_line at feed.old) (λ line. reading line ≡ None) }
     ensures err { OnErr result (session.new.out ≡ session.old.out) }
 {
     match at {

@@ -31,7 +31,8 @@ impl<A: Allocator> Model for Feed<A> {
 
     ghost view = { λ f. drop f.start f.bytes.items };
 
-    ghost invariant = { λ f. (f.start ≤ length f.bytes.items) × (f.searched ≤ position_or_len (λ b. b == 10) (drop f.start f.bytes.items)) };
+    ghost invariant = { λ f. (f.start ≤ length f.bytes.items)
+        × (f.searched ≤ position_or_len (λ b. b == 10) (drop f.start f.bytes.items)) };
 }
 
 impl<A: Allocator> Feed<A> {
@@ -83,7 +84,9 @@ impl<A: Allocator> Feed<A> {
     /// that were let go give up their room, so that the memory is that of the bytes and a chunk.
     #[tactic(auto, using(crate::proofs::Searches::searches))]
     pub fn fill<R: Source>(&mut self, input: &mut R) -> Result<bool, DriveError>
-        ensures kept { Keeps (prepend_known self.old (R.remaining input.old)) (prepend_known self.new (R.remaining input.new)) }
+        ensures kept { Keeps
+            (prepend_known self.old (R.remaining input.old))
+            (prepend_known self.new (R.remaining input.new)) }
         ensures fills { IfOk result (λ more. Fills self.old self.new (R.remaining input.new) more) }
         ensures err { OnErr result (self.new ≡ self.old) }
         ensures outside { IfErr result IsOutside }

@@ -19,13 +19,20 @@ pub fn line_ready<A: Allocator, R: Source, W: Sink>(
     input: &mut R,
     output: &mut W,
 ) -> Result<Option<usize>, DriveError>
-    ensures kept { Keeps (prepend_known feed.old (R.remaining input.old)) (prepend_known feed.new (R.remaining input.new)) }
-    ensures told { OnOk result (Keeps (append_known (W.contents output.old) out.old) (append_known (W.contents output.new) out.new)) }
-    ensures stopped { IfReadOrMemory result (Appends (W.contents output.old) (W.contents output.new) out.old × (position (λ b. b == 10) feed.new ≡ None)) }
+    ensures kept { Keeps
+        (prepend_known feed.old (R.remaining input.old))
+        (prepend_known feed.new (R.remaining input.new)) }
+    ensures told { OnOk result (Keeps
+        (append_known (W.contents output.old) out.old)
+        (append_known (W.contents output.new) out.new)) }
+    ensures stopped { IfReadOrMemory result (
+        Appends (W.contents output.old) (W.contents output.new) out.old
+        × (position (λ b. b == 10) feed.new ≡ None)) }
     ensures ready { IfOk result (λ at. at ≡ position (λ b. b == 10) feed.new) }
     ensures end { IfOk result (λ at. at ≡ None → IsAtEnd (R.remaining input.new)) }
     ensures outside { IfErr result IsOutside }
-    ensures counts { Counts result (R.faults input.old) (W.faults output.old) (R.faults input.new) (W.faults output.new) }
+    ensures counts { Counts result
+        (R.faults input.old) (W.faults output.old) (R.faults input.new) (W.faults output.new) }
 {
     out.flush_if_full(output)?;
     loop {

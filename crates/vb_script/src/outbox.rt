@@ -54,7 +54,8 @@ impl<A: Allocator> Outbox<A> {
 
     /// Writes all that waits.
     pub fn flush<W: Sink>(&mut self, output: &mut W) -> Result<(), DriveError>
-        ensures written { OnOk result (Appends (W.contents output.old) (W.contents output.new) self.old) }
+        ensures written { OnOk result
+            (Appends (W.contents output.old) (W.contents output.new) self.old) }
         ensures empty { OnOk result (self.new ≡ []) }
         ensures write { IfErr result IsWrite }
         ensures counts { Counts result 0 (W.faults output.old) 0 (W.faults output.new) }
@@ -71,7 +72,9 @@ impl<A: Allocator> Outbox<A> {
 
     /// Writes all that waits once it is much, so that the answers of many lines don't pile up.
     pub fn flush_if_full<W: Sink>(&mut self, output: &mut W) -> Result<(), DriveError>
-        ensures told { OnOk result (Keeps (append_known (W.contents output.old) self.old) (append_known (W.contents output.new) self.new)) }
+        ensures told { OnOk result (Keeps
+            (append_known (W.contents output.old) self.old)
+            (append_known (W.contents output.new) self.new)) }
         ensures write { IfErr result IsWrite }
         ensures counts { Counts result 0 (W.faults output.old) 0 (W.faults output.new) }
     {

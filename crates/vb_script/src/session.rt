@@ -33,7 +33,8 @@ impl<A: Allocator + Clone> Session<A> {
 
     /// Reads a line, runs its command and adds the answer. The line comes without its line feed.
     pub fn serve_line(&mut self, line: &[u8]) -> Result<(), Unread>
-        ensures ok { OnOk result (Serves (reading line.now) self.old.pool self.old.out self.new.pool self.new.out) }
+        ensures ok { OnOk result (Serves (reading line.now)
+            self.old.pool self.old.out self.new.pool self.new.out) }
         ensures unread { IsErrOf result Unread.Unreadable → reading line.now ≡ None }
         ensures err { OnErr result (self.new.out ≡ self.old.out) }
     {

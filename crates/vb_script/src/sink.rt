@@ -29,9 +29,11 @@ pub struct ToWrite<T: Write> {
 }
 
 impl<T: Write> ToWrite<T> {
-    /// No write has failed so far, and the bytes written are those of `inner`. This takes no memory.
+    ghost use Rattle.vb_script.specs.ToWrite.{sink_writer};
+
+    /// The sink that writes to `inner`. No write has failed so far. This takes no memory.
     pub fn new(inner: T) -> Self
-        ensures contents { ⟦<ToWrite<T> as Sink>⟧.contents result ≡ T.contents inner }
+        ensures inner { sink_writer result ≡ inner }
         ensures faults { ⟦<ToWrite<T> as Sink>⟧.faults result ≡ 0 }
     {
         ToWrite {
@@ -39,10 +41,19 @@ impl<T: Write> ToWrite<T> {
             faults: GhostCount::zero(),
         }
     }
+
+    /// The writer, which has the bytes that were written.
+    pub fn into_inner(self) -> T
+        ensures { result ≡ sink_writer self }
+    {
+        self.inner
+    }
 }
 
 impl<T: Write> Sink for ToWrite<T> {
-    ghost contents = { λ s. T.contents s.inner };
+    ghost use Rattle.vb_script.specs.ToWrite.{sink_writer};
+
+    ghost contents = { λ s. T.contents (sink_writer s) };
 
     ghost faults = { λ s. s.faults.count };
 

@@ -15,8 +15,8 @@ pub trait Source {
     /// How many reads have failed.
     ghost faults: { Self → ℕ };
 
-    /// Puts bytes at the front of `buf` and answers how many: none only at the end, or where `buf` is empty. A read
-    /// that fails takes no byte.
+    /// Puts bytes at the front of `buf` and answers how many: none only at the end, or where `buf`
+    /// is empty. A read that fails takes no byte.
     fn read(&mut self, buf: &mut [u8]) -> Result<usize, Fault>
         ensures bound { ReadsAtMost result buf.new }
         ensures bytes { ReadConsumes (remaining self.old) (remaining self.new) result buf.new }
@@ -32,9 +32,11 @@ pub struct FromRead<T: Read> {
 }
 
 impl<T: Read> FromRead<T> {
-    /// No read has failed so far, and the bytes to come are those of `inner`. This takes no memory.
+    ghost use Rattle.vb_script.specs.FromRead.{source_reader};
+
+    /// The source that reads from `inner`. No read has failed so far. This takes no memory.
     pub fn new(inner: T) -> Self
-        ensures remaining { ⟦<FromRead<T> as Source>⟧.remaining result ≡ T.remaining inner }
+        ensures inner { source_reader result ≡ inner }
         ensures faults { ⟦<FromRead<T> as Source>⟧.faults result ≡ 0 }
     {
         FromRead {
@@ -42,10 +44,19 @@ impl<T: Read> FromRead<T> {
             faults: GhostCount::zero(),
         }
     }
+
+    /// The reader, which has the bytes that are still to come.
+    pub fn into_inner(self) -> T
+        ensures { result ≡ source_reader self }
+    {
+        self.inner
+    }
 }
 
 impl<T: Read> Source for FromRead<T> {
-    ghost remaining = { λ s. T.remaining s.inner };
+    ghost use Rattle.vb_script.specs.FromRead.{source_reader};
+
+    ghost remaining = { λ s. T.remaining (source_reader s) };
 
     ghost faults = { λ s. s.faults.count };
 

@@ -1,0 +1,12 @@
+//! Tests of whole sessions: what goes in by lines and what comes out, streams that fail, and memory
+//! that is refused. They cross the crates of commands, pool and streams.
+#![tactic(auto)]
+
+#[cfg(test)]
+mod plain;
+#[cfg(test)]
+mod refusals;
+#[cfg(test)]
+mod sessions;
+#[cfg(test)]
+mod streams;

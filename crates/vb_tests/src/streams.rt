@@ -1,0 +1,133 @@
+//! Streams that fail, and what is written before a read.
+use std::cell::Cell;
+use std::io;
+use std::io::{Read, Write};
+use std::test::Fail;
+use vb_script::{DriveError, FromRead, ToWrite, drive};
+use vb_testing::{FaultyReader, FaultyWriter};
+
+#[test]
+fn whole_lines_before_a_failed_read_are_answered(rt: HostRuntime) {
+    let lines = b"len 0\nlen 1\n".as_slice();
+    for (before, answered) in [
+        (0, ""),
+        (5, ""),
+        (6, "refused BadSlot\n"),
+        (10, "refused BadSlot\n"),
+        (11, "refused BadSlot\n"),
+        (12, "refused BadSlot\nrefused BadSlot\n"),
+    ] {
+        let mut source = FromRead::new(FaultyReader::new(lines, before));
+        let mut sink = ToWrite::new(Vec::new(rt.alloc()));
+        let ended = drive(rt.alloc(), &mut source, &mut sink);
+        assert_eq!(rt; ended, Err(DriveError::Read), "after {before}");
+        assert_eq!(rt;
+            sink.into_inner().as_slice(),
+            answered.as_bytes(),
+            "after {before}"
+        );
+    }
+}
+
+#[test]
+fn a_failed_write_ends_the_session(rt: HostRuntime) {
+    for lines in ["len 0\n", "len 0", "len 0\nlen x\n", "len x", "\n"] {
+        let mut source = FromRead::new(lines.as_bytes());
+        let mut sink = ToWrite::new(FaultyWriter::new(Vec::new(rt.alloc()), 0));
+        let ended = drive(rt.alloc(), &mut source, &mut sink);
+        let wanted = match lines {
+            // No answer is written here, so no write can fail.
+            "len x" => Err(DriveError::Unreadable { line: 1 }),
+            "\n" => Ok(()),
+            _ => Err(DriveError::Write),
+        };
+        assert_eq!(rt; ended, wanted, "{lines}");
+        assert!(rt; sink.into_inner().inner().is_empty());
+    }
+}
+
+/// How many bytes were written so far, and in how many at most at a time.
+#[derive(Drop)]
+struct Written {
+    bytes: Cell<usize>,
+    widest: Cell<usize>,
+}
+
+/// Takes bytes and counts them.
+#[derive(Drop)]
+struct Counting<'a>(&'a Written);
+
+impl Write for Counting<'_> {
+    fn write(&mut self, buf: &[u8]) -> io::Result<usize> {
+        self.0
+            .bytes
+            .set(self.0.bytes.get().saturating_add(buf.len()));
+        self.0.widest.set(self.0.widest.get().max(buf.len()));
+        Ok(buf.len())
+    }
+
+    fn flush(&mut self) -> io::Result<()> {
+        Ok(())
+    }
+}
+
+/// Gives a line a read, and only where all lines before it were answered.
+#[derive(Drop)]
+struct Asking<'a> {
+    line: &'a [u8],
+    left: usize,
+    wanted: usize,
+    answer: usize,
+    written: &'a Written,
+}
+
+impl Read for Asking<'_> {
+    fn read(&mut self, buf: &mut [u8]) -> io::Result<usize> {
+        if self.written.bytes.get() != self.wanted {
+            return Err(io::Error::from(io::ErrorKind::InvalidData));
+        }
+        if self.left == 0 {
+            return Ok(0);
+        }
+        self.left -= 1;
+        self.wanted = self.wanted.saturating_add(self.answer);
+        let mut line = self.line;
+        line.read(buf)
+    }
+}
+
+#[test]
+fn answers_are_written_before_the_next_read(rt: HostRuntime) {
+    let written = Written {
+        bytes: Cell::new(0),
+        widest: Cell::new(0),
+    };
+    let mut source = FromRead::new(Asking {
+        line: b"len 0\nlen 1\n",
+        left: 5,
+        wanted: 0,
+        answer: 32,
+        written: &written,
+    });
+    let mut sink = ToWrite::new(Counting(&written));
+    assert_eq!(rt; drive(rt.alloc(), &mut source, &mut sink), Ok(()));
+    assert_eq!(rt; written.bytes.get(), 160);
+}
+
+#[test]
+fn answers_do_not_pile_up(rt: HostRuntime) -> Result<(), Fail> {
+    let mut lines = Vec::new(rt.alloc());
+    for _ in 0..50_000 {
+        lines.extend_from_slice(b"len 0\n")?;
+    }
+    let written = Written {
+        bytes: Cell::new(0),
+        widest: Cell::new(0),
+    };
+    let mut source = FromRead::new(lines.as_slice());
+    let mut sink = ToWrite::new(Counting(&written));
+    assert_eq!(rt; drive(rt.alloc(), &mut source, &mut sink), Ok(()));
+    assert_eq!(rt; written.bytes.get(), 800_000);
+    assert!(rt; written.widest.get() < 65536 + 16);
+    Ok(())
+}
