@@ -5,6 +5,8 @@
 #[cfg(test)]
 mod plain;
 #[cfg(test)]
+mod readme;
+#[cfg(test)]
 mod refusals;
 #[cfg(test)]
 mod sessions;
