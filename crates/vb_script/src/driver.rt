@@ -45,7 +45,7 @@ pub fn drive<A: Allocator + Clone, R: Source, W: Sink>(
         StopsAt bytes line (W.contents output.old) (W.contents output.new))) }
     ensures read { IfRead result (IfSome (R.remaining input.old) (λ bytes.
         IsSomeAnd (R.remaining input.new) (λ rest.
-            AnswersEnded bytes rest (W.contents output.old) (W.contents output.new)))) }
+        AnswersEnded bytes rest (W.contents output.old) (W.contents output.new)))) }
     ensures memory { IfMemory result (IfSome (R.remaining input.old) (λ bytes.
         AnswersSome bytes (W.contents output.old) (W.contents output.new))) }
     ensures counts { Counts result
@@ -73,7 +73,7 @@ fn serve_all<A: Allocator + Clone, R: Source, W: Sink>(
         StopsAt bytes line (W.contents output.old) (W.contents output.new))) }
     ensures read { IfRead result (IfSome (R.remaining input.old) (λ bytes.
         IsSomeAnd (R.remaining input.new) (λ rest.
-            AnswersEnded bytes rest (W.contents output.old) (W.contents output.new)))) }
+        AnswersEnded bytes rest (W.contents output.old) (W.contents output.new)))) }
     ensures memory { IfMemory result (IfSome (R.remaining input.old) (λ bytes.
         AnswersSome bytes (W.contents output.old) (W.contents output.new))) }
     ensures counts { Counts result

@@ -23,7 +23,7 @@ ChangesBit_set b i y v h e others = record {
         ∙ ap (λ x. nat_eq x 1) (others (k % 8) (omega arith) digit)
         ∙ ap (λ q. nat_eq (bit_at (get_or b q 0) (k % 8)) 1) (sym same))
     | inr apart ↦ ap (λ x. nat_eq (bit_at x (k % 8)) 1) (get_or-set_other b (i / 8) (k / 8) y 0 apart)
-    ];
+  ];
 }
 
 -- a byte with one digit cleared, and v put there
@@ -63,8 +63,8 @@ bits_pushed_byte b o n y v f e =
     bits_more (b ++ y ∷ []) o n
     ∙ ap (λ l. l ++ bit_of (b ++ y ∷ []) (o + n) ∷ []) (bits-append b (y ∷ []) o n (omega arith))
     ∙ ap (λ x. bits b o n ++ x ∷ [])
-      (ap (λ x. nat_eq (bit_at x ((o + n) % 8)) 1) (get_or_push b y 0 ((o + n) / 8) byte)
-      ∙ ap (λ d. nat_eq (bit_at y d) 1) digit ∙ ap (λ x. nat_eq (bit_at x 0) 1) f ∙ digit_of v)
+    (ap (λ x. nat_eq (bit_at x ((o + n) % 8)) 1) (get_or_push b y 0 ((o + n) / 8) byte)
+    ∙ ap (λ d. nat_eq (bit_at y d) 1) digit ∙ ap (λ x. nat_eq (bit_at x 0) 1) f ∙ digit_of v)
 
 -- a bit of bytes that were added, whose digits are all v
 bit_of_added : (b : List ℕ) (m y i : ℕ) (v : Bool) → ((j : ℕ) → j < 8 → nat_eq (bit_at y j) 1 ≡ v) → 8 * length b ≤ i → i < 8 * (length b + m) → bit_of (b ++ replicate m y) i ≡ v
@@ -79,17 +79,17 @@ Adds_run b with_more c start n m y e v more h f whole from to o k place =
     same_lists _ _
     (omega (arith, size, length-bits c o (k + length (replicate n v)), length-bits b o k, length-append (bits b o k) (replicate n v)))
     (λ i d l.
-      let within : i < k + length (replicate n v) = omega (arith, length-bits c o (k + length (replicate n v))) in
-      at-bits c o (k + length (replicate n v)) i d within
-      ∙ elim (cases_lt i k) [
-        | inl before ↦
-            (f.others (o + i) (inl (omega arith))
-            ∙ ap (λ l. bit_of l (o + i)) more ∙ bit_of-append b (replicate m y) (o + i) (omega arith)
-            ∙ sym (get_or_append_left (bits b o k) (replicate n v) d i (omega (arith, length-bits b o k)) ∙ at-bits b o k i d before))
-        | inr behind ↦
-            (elim (cases_lt (o + i) e) [
-              | inl inside ↦ f.filled (o + i) (omega arith) inside
-              | inr past ↦ f.others (o + i) (inr past) ∙ ap (λ l. bit_of l (o + i)) more ∙ bit_of_added b m y (o + i) v h (omega arith) (omega (arith, size))
-            ]
-            ∙ sym (get_or-append_right (bits b o k) (replicate n v) k i d (length-bits b o k) behind ∙ get_or-replicate n (i - k) v d (omega (arith, size))))
-      ])
+    let within : i < k + length (replicate n v) = omega (arith, length-bits c o (k + length (replicate n v))) in
+    at-bits c o (k + length (replicate n v)) i d within
+    ∙ elim (cases_lt i k) [
+      | inl before ↦
+          (f.others (o + i) (inl (omega arith))
+          ∙ ap (λ l. bit_of l (o + i)) more ∙ bit_of-append b (replicate m y) (o + i) (omega arith)
+          ∙ sym (get_or_append_left (bits b o k) (replicate n v) d i (omega (arith, length-bits b o k)) ∙ at-bits b o k i d before))
+      | inr behind ↦
+          (elim (cases_lt (o + i) e) [
+            | inl inside ↦ f.filled (o + i) (omega arith) inside
+            | inr past ↦ f.others (o + i) (inr past) ∙ ap (λ l. bit_of l (o + i)) more ∙ bit_of_added b m y (o + i) v h (omega arith) (omega (arith, size))
+          ]
+          ∙ sym (get_or-append_right (bits b o k) (replicate n v) k i d (length-bits b o k) behind ∙ get_or-replicate n (i - k) v d (omega (arith, size))))
+    ])
