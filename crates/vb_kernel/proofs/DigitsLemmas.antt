@@ -1,11 +1,11 @@
 -- The digits of a number, and how many of them are set.
-use Rattle.std.proofs.Common.{◌≡◌, ℕ, zero, suc, ◌+◌, ◌-◌, ◌*◌, ◌/◌, ◌%◌, ◌^◌, ◌<◌, ◌≤◌, Bool, not, cond, eqb, [], ◌∷◌, ◌++◌, length, get_or, take, refl, sym, ap, ◌∙◌, arith, zero-add}
+use Rattle.std.proofs.Common.{◌≡◌, ℕ, zero, suc, ◌+◌, ◌-◌, ◌*◌, ◌/◌, ◌%◌, ◌^◌, ◌<◌, ◌≤◌, Bool, not, cond, eqb, [], ◌∷◌, ◌++◌, length, get_or, refl, sym, ap, ◌∙◌, arith, zero-add}
 use Rattle.std.specs.Prelude.{count_ones, bit_and}
 use Rattle.std.specs.Int.{bit_at, bit_not, Width}
 use mir.Val.{bits as width}
 use Rattle.std.specs.Int.Count.{ones_step}
 use Rattle.std.proofs.lemmas.List.{same_lists, length-map, get_or-map}
-use Rattle.std.proofs.lemmas.List.FromFn.{length-map-range_with_len, get_or-map-range_with_len, take-map-range_with_len}
+use Rattle.std.proofs.lemmas.List.FromFn.{length-map-range_with_len, get_or-map-range_with_len}
 use Rattle.std.proofs.lemmas.Nat.Bits.{bit_at-suc, bit_at_lowest, bit_at_cat_low, bit_at_not, bit_at-lt}
 use Rattle.std.proofs.lemmas.Nat.{ones_le_self, shr_split, shr-shr, mod_below, pow_pos, and_mask, one_shl}
 use Rattle.std.proofs.Math.Nat.{pow-suc}
@@ -24,11 +24,6 @@ length-digits w a k = length-map-range_with_len (has_bit w) a k
 pub at-digits : (w a k i : ℕ) (d : Bool) → i < k → get_or (digits w a k) i d ≡ has_bit w (a + i)
 unfolding digits
 at-digits w a k i d h = get_or-map-range_with_len (has_bit w) a k i (a + i) d h refl
-
--- the lower ones of the digits
-pub take-digits : (w a k i : ℕ) → i ≤ k → take i (digits w a k) ≡ digits w a i
-unfolding digits
-take-digits w a k i h = take-map-range_with_len (has_bit w) a k i h
 
 -- no digits
 pub digits_none : (w a : ℕ) → digits w a 0 ≡ []
@@ -95,11 +90,6 @@ count-digits-add w a m n = ap count (digits-add w a m n) ∙ count-append (digit
 -- how many are set of no digits
 pub count-digits_none : (w a : ℕ) → count (digits w a 0) ≡ 0
 count-digits_none w a = ap count (digits_none w a)
-
--- how many are set of one digit
-pub count-digits_one : (w a : ℕ) → count (digits w a 1) ≡ cond (has_bit w a) 1 0
-unfolding digits
-count-digits_one w a = zero-add (cond (has_bit w a) 1 0)
 
 -- a number's digits from a on, with the others masked
 pub digits_masked : (w a k : ℕ) → k < 64 → digits (bit_and (w / 2 ^ a) (1 * 2 ^ k % 2 ^ 64 - 1)) 0 k ≡ digits w a k

@@ -6,3 +6,4 @@ pub mod BytesLemmas
 pub mod SearchesLemmas
 pub mod UnitsLemmas
 pub mod WritesLemmas
+pub mod WordLemmas

@@ -1,5 +1,5 @@
 -- Searches that go from list to list.
-use Rattle.std.proofs.Common.{◌≡◌, ℕ, ◌+◌, ◌-◌, ◌^◌, ◌<◌, ◌≤◌, Bool, true, false, not, cond, List, ◌++◌, length, take, Option, None, Some, IsSome, refl, sym, ap, ◌∙◌, arith, subst, ⊎_elim, zero-add, pow_mono}
+use Rattle.std.proofs.Common.{◌≡◌, ℕ, ◌+◌, ◌-◌, ◌^◌, ◌<◌, ◌≤◌, Bool, true, false, not, List, ◌++◌, length, take, Option, None, Some, IsSome, refl, sym, ap, ◌∙◌, arith, subst, ⊎_elim, pow_mono}
 use Rattle.std.below.core.specs.declared.ops.ControlFlow.{ControlFlow}
 use Rattle.std.below.core.specs.declared.ops.ControlFlow.TheVariants.{Continue, Break}
 use Rattle.std.specs.ControlFlow.{break_value}
@@ -7,14 +7,14 @@ use Rattle.std.proofs.lemmas.List.{length-map, map-append, length-append, get_or
 use Rattle.std.proofs.Math.Seq.{take-append_seam, take-append-add}
 use Rattle.std.proofs.lemmas.Bool.{cases_lt}
 use Rattle.vb_kernel.specs.Bits.{bits, count, negated, Selects}
-use Rattle.vb_kernel.specs.Digits.{has_bit, digits}
+use Rattle.vb_kernel.specs.Digits.{digits}
 use Rattle.vb_kernel.specs.Searches.{matching, Searched}
 use Rattle.vb_kernel.proofs.BitsLemmas.{bits-add, length-bits, count-append, count-take-lt, count-take-mono, count-bits_none, count-negated_none}
-use Rattle.vb_kernel.proofs.DigitsLemmas.{length-digits, at-digits, take-digits, digits-add, count-digits_below, count-digits_one}
+use Rattle.vb_kernel.proofs.DigitsLemmas.{digits-add, count-digits_below}
 
 -- ---- a place in two lists, one after the other
 -- found in the first
-Selects-append_left : (k l : List Bool) (n p : ℕ) → Selects k n (Some p) → Selects (k ++ l) n (Some p)
+pub Selects-append_left : (k l : List Bool) (n p : ℕ) → Selects k n (Some p) → Selects (k ++ l) n (Some p)
 Selects-append_left k l n p s = (
   omega (arith, s.0, length-append k l),
   get_or_append_left k l false p s.0 ∙ s.1,
@@ -22,7 +22,7 @@ Selects-append_left k l n p s = (
 )
 
 -- found in the second
-Selects-append_right : (k l : List Bool) (n left p : ℕ) → n ≡ left + count k → Selects l left (Some p) → Selects (k ++ l) n (Some (length k + p))
+pub Selects-append_right : (k l : List Bool) (n left p : ℕ) → n ≡ left + count k → Selects l left (Some p) → Selects (k ++ l) n (Some (length k + p))
 Selects-append_right k l n left p passed s = (
   omega (arith, s.0, length-append k l),
   get_or-append-add k l p false ∙ s.1,
@@ -125,16 +125,3 @@ Selects-digits_below w k n p within small s =
     let same : count (digits w 0 64) ≡ count (digits w 0 k) = count-digits_below w 64 (omega (arith, wide)) ∙ sym (count-digits_below w k small) in
     let low = count-take-lt (digits w 0 64) p s.0 s.1 in
     Selects-left (digits w 0 k) (digits w (0 + k) (64 - k)) n p (omega (arith, low, s.2, same)) (subst (λ l. Selects l n (Some p)) cut s)
-
--- the one digit that is left after all others were halved away
-pub Selects-digits : (w p left n : ℕ) → p + 1 ≤ 64 → left < count (digits w p 1) → left + count (digits w 0 p) ≡ n → Selects (digits w 0 64) n (Some p)
-Selects-digits w p left n inside here before =
-    let one : (has_bit w p ≡ true) × (left ≡ 0) = set_one (has_bit w p) (omega (arith, count-digits_one w p)) in (
-      omega (arith, length-digits w 0 64),
-      at-digits w 0 64 p false (omega arith) ∙ ap (has_bit w) (zero-add p) ∙ one.0,
-      ap count (take-digits w 0 64 p (omega arith)) ∙ omega (arith, one.1),
-    )
-  where
-    set_one : (b : Bool) → left < cond b 1 0 → (b ≡ true) × (left ≡ 0)
-    set_one true h = (refl, omega arith)
-    set_one false h = absurd (omega arith)

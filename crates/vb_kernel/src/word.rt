@@ -23,8 +23,8 @@ pub(crate) fn turned(word: u64, value: bool) -> u64
     if value { word } else { !word }
 }
 
-/// The place of the `n`-th digit of `word` that is 1, by halving the digits that are left: six
-/// steps without a branch.
+/// The place of the `n`-th digit of `word` that is 1: the digits that are left are halved, without
+/// a branch, until there are four of them.
 pub(crate) fn select_in_word(word: u64, n: usize) -> usize
     requires { n < count (digits word 0 64) }
     ensures { Selects (digits word 0 64) n (Some result) }
@@ -33,9 +33,36 @@ pub(crate) fn select_in_word(word: u64, n: usize) -> usize
     let (at, left) = halve(word, at, 16, left);
     let (at, left) = halve(word, at, 8, left);
     let (at, left) = halve(word, at, 4, left);
-    let (at, left) = halve(word, at, 2, left);
-    let (at, _) = halve(word, at, 1, left);
-    at
+    at + select_in_four(word, at, left)
+}
+
+/// The places of the digits that are 1 in each number of four digits, lowest first.
+static PLACES: [[u8; 4]; 16] = [
+    [0, 0, 0, 0],
+    [0, 0, 0, 0],
+    [1, 0, 0, 0],
+    [0, 1, 0, 0],
+    [2, 0, 0, 0],
+    [0, 2, 0, 0],
+    [1, 2, 0, 0],
+    [0, 1, 2, 0],
+    [3, 0, 0, 0],
+    [0, 3, 0, 0],
+    [1, 3, 0, 0],
+    [0, 1, 3, 0],
+    [2, 3, 0, 0],
+    [0, 2, 3, 0],
+    [1, 2, 3, 0],
+    [0, 1, 2, 3],
+];
+
+/// The place of the `n`-th 1 among the four digits of `word` from digit `at` on.
+fn select_in_four(word: u64, at: usize, n: usize) -> usize
+    requires inside { at + 4 ≤ 64 }
+    requires here { n < count (digits word at 4) }
+    ensures { Selects (digits word at 4) n (Some result) }
+{
+    PLACES[((word >> at) & 0b1111) as usize][n] as usize
 }
 
 /// The half, of the `2 * half` digits from digit `at` on, in which the `left`-th 1 is, and which

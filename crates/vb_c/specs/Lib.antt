@@ -1,0 +1,2 @@
+pub mod Place
+pub use Rattle.vb_kernel.specs.Bits
