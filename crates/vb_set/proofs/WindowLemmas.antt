@@ -9,7 +9,7 @@ use Rattle.std.specs.Int.{bit_at}
 use Rattle.vb_kernel.specs.Bits.{bit_of, bits, count}
 use Rattle.vb_kernel.proofs.BitsLemmas.{length-bits, at-bits, take-bits, bits_none, bits_more, same_bits, count-append, count-negated, count-le}
 use Rattle.vb_set.specs.Changes.{ChangesBit, FillsBits, TurnsBits}
-use Rattle.vb_set.specs.Edits.{filled}
+use Rattle.vb_kernel.specs.Edits.{filled}
 use Rattle.vb_set.specs.Sets.{IsWindow}
 
 -- ---- parts of a window

@@ -2,7 +2,7 @@
 ghost use Rattle.std.specs.Prelude.{◌≡◌, ◌+◌, ◌<◌, ◌≤◌, [], true, false, length, take, slice_set};
 ghost use Rattle.std.specs.Int.{div_ceil};
 ghost use Rattle.vb_set.specs.Changes.{ChangesBit, KeepsLayout};
-ghost use Rattle.vb_set.specs.Edits.{filled};
+ghost use Rattle.vb_kernel.specs.Edits.{filled};
 
 use super::BitBufferMut;
 use crate::bytes::{fill, turn, write_bit};
