@@ -1,83 +1,48 @@
--- What the words of a line name and hold.
-use Rattle.std.specs.Prelude.{ℕ, Bool, true, false, List, [], ◌∷◌, codes, Option, Some, None, option_map, if◌then◌else◌}
-use Rattle.std.specs.Str.{bytes_eq}
-use Rattle.vb_command.specs.Machine.{Order, Import, Len, Count, Get, Select, Selectunset}
-use Rattle.vb_command.specs.Optional.{◌>>=◌}
-use Rattle.vb_command.specs.Words.{number}
-use Rattle.vb_command.specs.Hex.{hex}
+-- What the words after a command's name ask for.
+use Rattle.std.specs.Prelude.{ℕ, Bool, List, Option, option_map}
+use Rattle.vb_command.specs.Machine.{Order, Import, Full, Set, Append, Appendn, Fill, Truncate, Clear, Flip, Freeze, Thaw, Clone, Slice, Drop, Len, Count, Get, Countrange, Select, Selectunset, Bits}
+use Rattle.vb_command.specs.Fields.{one_number, two_numbers, three_numbers, four_numbers, number_and_truth, two_numbers_and_truth, three_numbers_and_truth, number_truth_number, numbers_and_bytes}
 use Rattle.vb_command.specs.declared.keyword.Keyword.{Keyword}
 use Rattle.vb_command.specs.declared.keyword.Keyword.TheVariants as keywords
+use Rattle.vb_command.specs.declared.keyword.SlotKeyword.{SlotKeyword}
+use Rattle.vb_command.specs.declared.keyword.SlotKeyword.TheVariants as slots
+use Rattle.vb_command.specs.declared.keyword.NumberKeyword.{NumberKeyword}
+use Rattle.vb_command.specs.declared.keyword.NumberKeyword.TheVariants as numbers
+use Rattle.vb_command.specs.declared.keyword.RunKeyword.{RunKeyword}
+use Rattle.vb_command.specs.declared.keyword.RunKeyword.TheVariants as runs
 
--- the command that a word names
-abbrev pub keyword : List ℕ → Option Keyword
-keyword w =
-    if bytes_eq w (codes "import") then Some keywords.Import else
-    if bytes_eq w (codes "len") then Some keywords.Len else
-    if bytes_eq w (codes "count") then Some keywords.Count else
-    if bytes_eq w (codes "get") then Some keywords.Get else
-    if bytes_eq w (codes "select") then Some keywords.Select else
-    if bytes_eq w (codes "selectunset") then Some keywords.Selectunset else
-    None
+-- the order of a slot
+abbrev pub slot_order : SlotKeyword → ℕ → Order
+slot_order slots.Clear k = Clear k
+slot_order slots.Flip k = Flip k
+slot_order slots.Freeze k = Freeze k
+slot_order slots.Thaw k = Thaw k
+slot_order slots.Drop k = Drop k
+slot_order slots.Len k = Len k
+slot_order slots.Count k = Count k
+slot_order slots.Bits k = Bits k
 
--- whether a command holds bytes, for which memory is taken
-abbrev pub holds_bytes : Keyword → Bool
-holds_bytes keywords.Import = true
-holds_bytes k = false
+-- the order of a slot and a number
+abbrev pub number_order : NumberKeyword → ℕ × ℕ → Order
+number_order numbers.Truncate (k, n) = Truncate k n
+number_order numbers.Clone (k, t) = Clone k t
+number_order numbers.Get (k, i) = Get k i
+number_order numbers.Select (k, n) = Select k n
+number_order numbers.Selectunset (k, n) = Selectunset k n
 
--- a word, and the words after it
-abbrev pub next_word : List (List ℕ) → Option (List ℕ × List (List ℕ))
-next_word [] = None
-next_word (w ∷ ws) = Some (w, ws)
-
--- a number, and the words after it
-unfoldable pub next_number : List (List ℕ) → Option (ℕ × List (List ℕ))
-next_number ws = do
-  (w, rest) ← next_word ws
-  n ← number w
-  Some (n, rest)
-
--- bytes in hexadecimal, and the words after them
-unfoldable pub next_bytes : List (List ℕ) → Option (List ℕ × List (List ℕ))
-next_bytes ws = do
-  (w, rest) ← next_word ws
-  bytes ← hex w
-  Some (bytes, rest)
-
--- no words are left
-abbrev pub no_more_words : List (List ℕ) → Option (Unit {0})
-no_more_words [] = Some tt
-no_more_words (w ∷ ws) = None
-
--- a number and no more
-unfoldable pub one_number : List (List ℕ) → Option ℕ
-one_number ws = do
-  (k, rest) ← next_number ws
-  _ ← no_more_words rest
-  Some k
-
--- two numbers and no more
-unfoldable pub two_numbers : List (List ℕ) → Option (ℕ × ℕ)
-two_numbers ws = do
-  (k, rest) ← next_number ws
-  (i, rest) ← next_number rest
-  _ ← no_more_words rest
-  Some (k, i)
-
--- three numbers, bytes in hexadecimal and no more
-unfoldable pub numbers_and_bytes : List (List ℕ) → Option (ℕ × ℕ × ℕ × List ℕ)
-numbers_and_bytes ws = do
-  (k, rest) ← next_number ws
-  (o, rest) ← next_number rest
-  (n, rest) ← next_number rest
-  (bytes, rest) ← next_bytes rest
-  _ ← no_more_words rest
-  Some (k, o, n, bytes)
+-- the order of a slot and a number of equal truth values
+abbrev pub run_order : RunKeyword → ℕ × Bool × ℕ → Order
+run_order runs.Full (k, v, n) = Full k v n
+run_order runs.Appendn (k, v, n) = Appendn k v n
 
 -- what a command with these words after its name asks for
 unfoldable pub arguments_of : Keyword → List (List ℕ) → Option Order
-arguments_of keywords.Import ws = option_map (λ (k, o, n, bytes). Import k o n bytes) (numbers_and_bytes ws)
-arguments_of keywords.Len ws = option_map Len (one_number ws)
-arguments_of keywords.Count ws = option_map Count (one_number ws)
-arguments_of keywords.Get ws = option_map (λ (k, i). Get k i) (two_numbers ws)
-arguments_of keywords.Select ws = option_map (λ (k, n). Select k n) (two_numbers ws)
-arguments_of keywords.Selectunset ws = option_map (λ (k, n). Selectunset k n) (two_numbers ws)
+arguments_of (keywords.Slot name) ws = option_map (slot_order name) (one_number ws)
+arguments_of (keywords.Number name) ws = option_map (number_order name) (two_numbers ws)
+arguments_of (keywords.Run name) ws = option_map (run_order name) (number_truth_number ws)
+arguments_of keywords.Import ws = option_map (λ (t, o, n, bytes). Import t o n bytes) (numbers_and_bytes ws)
+arguments_of keywords.Set ws = option_map (λ (k, i, v). Set k i v) (two_numbers_and_truth ws)
+arguments_of keywords.Append ws = option_map (λ (k, v). Append k v) (number_and_truth ws)
+arguments_of keywords.Fill ws = option_map (λ (k, a, b, v). Fill k a b v) (three_numbers_and_truth ws)
+arguments_of keywords.Slice ws = option_map (λ (k, a, b, t). Slice k a b t) (four_numbers ws)
+arguments_of keywords.Countrange ws = option_map (λ (k, a, b). Countrange k a b) (three_numbers ws)

@@ -4,5 +4,7 @@ pub mod Printed
 pub mod Optional
 pub mod Words
 pub mod Hex
+pub mod Keywords
+pub mod Fields
 pub mod Arguments
 pub mod Reading

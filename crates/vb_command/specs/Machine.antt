@@ -1,7 +1,8 @@
 -- The machine: slots that hold lists of truth values, and what each order answers and does to them.
-use Rattle.std.specs.Prelude.{◌≡◌, ℕ, ◌+◌, ◌*◌, ◌^◌, Bool, true, false, ◌&&◌, List, [], ◌∷◌, length, slice_get, slice_set, Option, Some, None, MatchOption, MatchBool, IsTrue, ◌⊎◌, nat_lt, nat_le}
+use Rattle.std.specs.Prelude.{◌≡◌, ℕ, ◌+◌, ◌-◌, ◌*◌, ◌^◌, ◌<◌, Bool, true, false, ◌&&◌, List, [], ◌∷◌, ◌++◌, length, take, replicate, slice_get, slice_set, slice_range, Option, Some, None, MatchOption, MatchBool, IsTrue, ◌⊎◌, nat_lt, nat_le}
 use Rattle.std.specs.Option.{option_and_then, option_map_or}
 use Rattle.vb_kernel.specs.Bits.{bits, at, count, negated, Selects}
+use Rattle.vb_kernel.specs.Edits.{filled}
 
 -- what a slot holds
 pub data Slot : Type 0 where
@@ -12,11 +13,26 @@ pub data Slot : Type 0 where
 -- what a command asks of the machine, with the fields of its line in their order
 pub data Order : Type 0 where
   Import : ℕ → ℕ → ℕ → List ℕ → Order
+  Full : ℕ → Bool → ℕ → Order
+  Set : ℕ → ℕ → Bool → Order
+  Append : ℕ → Bool → Order
+  Appendn : ℕ → Bool → ℕ → Order
+  Fill : ℕ → ℕ → ℕ → Bool → Order
+  Truncate : ℕ → ℕ → Order
+  Clear : ℕ → Order
+  Flip : ℕ → Order
+  Freeze : ℕ → Order
+  Thaw : ℕ → Order
+  Clone : ℕ → ℕ → Order
+  Slice : ℕ → ℕ → ℕ → ℕ → Order
+  Drop : ℕ → Order
   Len : ℕ → Order
   Count : ℕ → Order
   Get : ℕ → ℕ → Order
+  Countrange : ℕ → ℕ → ℕ → Order
   Select : ℕ → ℕ → Order
   Selectunset : ℕ → ℕ → Order
+  Bits : ℕ → Order
 
 -- why an order is refused
 pub data Reason : Type 0 where
@@ -47,6 +63,36 @@ list_of (Frozen l) = Some l
 abbrev pub list_at : List Slot → ℕ → Option (List Bool)
 list_at s k = option_and_then list_of (slice_get s k)
 
+-- the list of an open slot
+abbrev pub open_list : Slot → Option (List Bool)
+open_list Empty = None
+open_list (Open l) = Some l
+open_list (Frozen l) = None
+
+-- the open list at k, if slot k is there and holds one
+abbrev pub open_at : List Slot → ℕ → Option (List Bool)
+open_at s k = option_and_then open_list (slice_get s k)
+
+-- the list of a frozen slot
+abbrev pub frozen_list : Slot → Option (List Bool)
+frozen_list Empty = None
+frozen_list (Open l) = None
+frozen_list (Frozen l) = Some l
+
+-- the frozen list at k, if slot k is there and holds one
+abbrev pub frozen_at : List Slot → ℕ → Option (List Bool)
+frozen_at s k = option_and_then frozen_list (slice_get s k)
+
+-- a slot that holds a list
+abbrev pub kept : Slot → Option Slot
+kept Empty = None
+kept (Open l) = Some (Open l)
+kept (Frozen l) = Some (Frozen l)
+
+-- what slot k holds, if it is there and holds a list
+abbrev pub kept_at : List Slot → ℕ → Option Slot
+kept_at s k = option_and_then kept (slice_get s k)
+
 -- whether a slot is empty
 abbrev pub is_vacant : Slot → Bool
 is_vacant Empty = true
@@ -61,6 +107,10 @@ vacant_at s k = option_map_or is_vacant (slice_get s k) false
 abbrev pub fits : ℕ → ℕ → List ℕ → Bool
 fits o n bytes = nat_lt o 8 && nat_le (o + n) (8 * length bytes) && nat_lt (o + n) (2 ^ 64)
 
+-- whether the places from a up to b are a range of the list
+abbrev pub is_range : ℕ → ℕ → List Bool → Bool
+is_range a b l = nat_le a b && nat_le b (length l)
+
 -- what may come of an order: a relation of the slots before it, its answer and the slots after it
 abbrev pub Effect : Type 1
 Effect = List Slot → Reply → List Slot → Type 0
@@ -73,17 +123,37 @@ Refuses why s r t = (r ≡ Refused why) × (t ≡ s)
 abbrev pub Puts : ℕ → Slot → Effect
 Puts k new s r t = (r ≡ Done) × (t ≡ slice_set s k new)
 
--- the list at k is asked a question, and every slot stays; without a list the order is refused
-abbrev pub Asks : ℕ → (List Bool → Reply → Type 0) → Effect
-Asks k Answers s r t = MatchOption (list_at s k) (Refuses BadSlot s r t) (λ l. Answers l r × (t ≡ s))
-
 -- where a check fails the order is refused for this reason, and else something follows
 abbrev pub Checks : Bool → Reason → Effect → Effect
 Checks passed why Then s r t = MatchBool passed (Then s r t) (Refuses why s r t)
 
+-- where a slot holds nothing of the kind the order is refused, and else something follows of what it holds
+abbrev pub Takes : {X : Type 0} → Option X → (X → Effect) → Effect
+Takes held Then s r t = MatchOption held (Refuses BadSlot s r t) (λ x. Then x s r t)
+
+-- the list at k is asked a question, and every slot stays
+abbrev pub Asks : ℕ → (List Bool → Reply → Type 0) → Effect
+Asks k Answers s r t = Takes (list_at s k) (λ l s r t. Answers l r × (t ≡ s)) s r t
+
+-- the open list at k is edited
+abbrev pub Edits : ℕ → (List Bool → List Bool) → Effect
+Edits k edit s r t = Takes (open_at s k) (λ l. Puts k (Open (edit l))) s r t
+
+-- the open list at k is edited where these places are its own
+abbrev pub EditsWithin : ℕ → (List Bool → Bool) → (List Bool → List Bool) → Effect
+EditsWithin k within edit s r t = Takes (open_at s k) (λ l. Checks (within l) OutOfRange (Puts k (Open (edit l)))) s r t
+
+-- truth values are added to the open list at k, whose new length has to be a number of 64 bits
+abbrev pub Appends : ℕ → List Bool → Effect
+Appends k more s r t = Takes (open_at s k) (λ l s r t. (length l + length more < 2 ^ 64) × Puts k (Open (l ++ more)) s r t) s r t
+
 -- the answer is the value at place i, which has to be below the length
 abbrev pub Gets : ℕ → List Bool → Reply → Type 0
 Gets i l r = MatchBool (nat_lt i (length l)) (r ≡ Truth (at l i)) (r ≡ Refused OutOfRange)
+
+-- the answer is how many values from place a up to b are true; the places have to be a range of the list
+abbrev pub Counts : ℕ → ℕ → List Bool → Reply → Type 0
+Counts a b l r = MatchBool (is_range a b l) (r ≡ Number (count (slice_range l a b))) (r ≡ Refused OutOfRange)
 
 -- the answer is the place of the true value with n true ones before it, or none where there are at most n
 abbrev pub Finds : ℕ → List Bool → Reply → Type 0
@@ -92,15 +162,55 @@ Finds n l r = (p : Option ℕ) × (r ≡ Place p) × Selects l n p
 -- what an order is answered and does; its checks come in the order in which they are written
 abbrev pub Step : List Slot → Order → Reply → List Slot → Type 0
 Step s (Import k o n bytes) r t = Checks (vacant_at s k) BadSlot (Checks (fits o n bytes) BadWindow (Puts k (Open (bits bytes o n)))) s r t
+Step s (Full k v n) r t = Checks (vacant_at s k) BadSlot (Puts k (Open (replicate n v))) s r t
+Step s (Set k i v) r t = EditsWithin k (λ l. nat_lt i (length l)) (λ l. slice_set l i v) s r t
+Step s (Append k v) r t = Appends k (v ∷ []) s r t
+Step s (Appendn k v n) r t = Appends k (replicate n v) s r t
+Step s (Fill k a b v) r t = EditsWithin k (is_range a b) (λ l. filled l a b v) s r t
+Step s (Truncate k n) r t = Edits k (take n) s r t
+Step s (Clear k) r t = Edits k (λ l. []) s r t
+Step s (Flip k) r t = Edits k negated s r t
+Step s (Freeze k) r t = Takes (open_at s k) (λ l. Puts k (Frozen l)) s r t
+Step s (Thaw k) r t = Takes (frozen_at s k) (λ l. Puts k (Open l)) s r t
+Step s (Clone k j) r t = Takes (kept_at s k) (λ x. Checks (vacant_at s j) BadSlot (Puts j x)) s r t
+Step s (Slice k a b j) r t =
+    Takes (frozen_at s k) (λ l. Checks (vacant_at s j) BadSlot (Checks (is_range a b l) OutOfRange (Puts j (Frozen (slice_range l a b))))) s r t
+Step s (Drop k) r t = Takes (kept_at s k) (λ x. Puts k Empty) s r t
 Step s (Len k) r t = Asks k (λ l a. a ≡ Number (length l)) s r t
 Step s (Count k) r t = Asks k (λ l a. a ≡ Number (count l)) s r t
 Step s (Get k i) r t = Asks k (Gets i) s r t
+Step s (Countrange k a b) r t = Asks k (Counts a b) s r t
 Step s (Select k n) r t = Asks k (Finds n) s r t
 Step s (Selectunset k n) r t = Asks k (λ l. Finds n (negated l)) s r t
+Step s (Bits k) r t = Asks k (λ l a. a ≡ Listed l) s r t
 
--- what an order is answered and does where memory is refused, which can be once its checks are passed
+-- something follows where a check passes
+abbrev pub Passes : Bool → Effect → Effect
+Passes passed Then s r t = IsTrue passed × Then s r t
+
+-- something follows of what a slot holds, which has to hold something of the kind
+abbrev pub Holds : {X : Type 0} → Option X → (X → Effect) → Effect
+Holds held Then s r t = MatchOption held ⊥ (λ x. Then x s r t)
+
+-- memory is refused after slot k gave its list away: it is empty, and all others stay
+abbrev pub Loses : ℕ → Effect
+Loses k s r t = (r ≡ Refused OutOfMemory) × (t ≡ slice_set s k Empty)
+
+-- an append that makes a list of n values is refused: for want of memory where n is a number of 64 bits, or for its bit numbers where n passes 2 ^ 64 - 8
+abbrev pub RefusesLength : ℕ → Effect
+RefusesLength n s r t = ((n < 2 ^ 64) × Refuses OutOfMemory s r t) ⊎ ((2 ^ 64 - 8 < n) × Refuses TooManyBits s r t)
+
+-- what an order is answered and does where memory or bit numbers are refused, which can be once its checks are passed
 abbrev pub GivesUp : List Slot → Order → Reply → List Slot → Type 0
-GivesUp s (Import k o n bytes) r t = IsTrue (vacant_at s k) × IsTrue (fits o n bytes) × Refuses OutOfMemory s r t
+GivesUp s (Import k o n bytes) r t = Passes (vacant_at s k) (Passes (fits o n bytes) (Refuses OutOfMemory)) s r t
+GivesUp s (Full k v n) r t = Passes (vacant_at s k) (Refuses OutOfMemory) s r t
+GivesUp s (Append k v) r t = Holds (open_at s k) (λ l. RefusesLength (length l + 1)) s r t
+GivesUp s (Appendn k v n) r t = Holds (open_at s k) (λ l. RefusesLength (length l + n)) s r t
+GivesUp s (Freeze k) r t = Holds (open_at s k) (λ l. Loses k) s r t
+GivesUp s (Thaw k) r t = Holds (frozen_at s k) (λ l. Loses k) s r t
+GivesUp s (Clone k j) r t = Holds (kept_at s k) (λ x. Passes (vacant_at s j) (Refuses OutOfMemory)) s r t
+GivesUp s (Slice k a b j) r t = Holds (frozen_at s k) (λ l. Passes (vacant_at s j) (Passes (is_range a b l) (Refuses OutOfMemory))) s r t
+GivesUp s (Bits k) r t = Holds (list_at s k) (λ l. Refuses OutOfMemory) s r t
 GivesUp s c r t = ⊥
 
 -- what may come of an order, want of memory included

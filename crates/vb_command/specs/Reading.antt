@@ -5,7 +5,8 @@ use Rattle.std.specs.Option.{option_map_or}
 use Rattle.vb_command.specs.Machine.{Order}
 use Rattle.vb_command.specs.Optional.{◌>>=◌}
 use Rattle.vb_command.specs.Words.{words}
-use Rattle.vb_command.specs.Arguments.{keyword, holds_bytes, arguments_of}
+use Rattle.vb_command.specs.Keywords.{keyword, holds_bytes}
+use Rattle.vb_command.specs.Arguments.{arguments_of}
 use Rattle.vb_command.specs.declared.unread.Unread.{Unread}
 use Rattle.vb_command.specs.declared.unread.Unread.TheVariants as unread
 

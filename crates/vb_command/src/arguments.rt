@@ -1,88 +1,57 @@
-//! The words that follow a command's name.
-ghost use Rattle.std.specs.Prelude.{IsErrOf, IsTrue};
+//! What the words after a command's name ask for.
+ghost use Rattle.std.specs.Prelude.{◌≡◌, IsErrOf, IsTrue};
 ghost use Rattle.vb_command.specs.Words.{words};
-ghost use Rattle.vb_command.specs.Arguments.{next_number, next_bytes, no_more_words, one_number, two_numbers, numbers_and_bytes, holds_bytes, arguments_of};
-ghost use Rattle.vb_command.specs.Reading.{Gives, Tells};
+ghost use Rattle.vb_command.specs.Keywords.{holds_bytes};
+ghost use Rattle.vb_command.specs.Arguments.{slot_order, number_order, run_order, arguments_of};
+ghost use Rattle.vb_command.specs.Reading.{Gives};
 ghost use Rattle.vb_command.specs.Views.{order};
 
 use crate::command::Command;
-use crate::hex::hex_bytes;
-use crate::keyword::Keyword;
-use crate::number::number;
+use crate::keyword::{Keyword, NumberKeyword, RunKeyword, SlotKeyword};
+use crate::shapes::{
+    four_numbers, number_and_truth, number_truth_number, numbers_and_bytes, one_number,
+    three_numbers, three_numbers_and_truth, two_numbers, two_numbers_and_truth,
+};
 use crate::unread::Unread;
-use crate::words::next_word;
 use std::alloc::Allocator;
 
-/// A number, and what follows it.
-#[tactic(auto, unfolding(crate::specs::Arguments::next_number))]
-fn next_number(text: &str) -> Result<(usize, &str), Unread>
-    ensures { Tells (λ (n, rest). (n, words rest.now)) result (next_number (words text.now)) }
+/// The command of a slot.
+fn slot_command<A: Allocator>(name: SlotKeyword, k: usize) -> Command<A>
+    ensures { order result ≡ slot_order name k }
 {
-    let (word, rest) = next_word(text).ok_or(Unread::Unreadable)?;
-    let n = number(word).ok_or(Unread::Unreadable)?;
-    Ok((n, rest))
-}
-
-/// Bytes in hexadecimal, and what follows them.
-#[tactic(auto, unfolding(crate::specs::Arguments::next_bytes))]
-fn next_bytes<'a, A: Allocator + Clone>(
-    alloc: &A,
-    text: &'a str,
-) -> Result<(Vec<u8, A>, &'a str), Unread>
-    ensures { Gives (λ (bytes, rest). (bytes.items, words rest.now)) result
-        (next_bytes (words text.now)) }
-{
-    let (word, rest) = next_word(text).ok_or(Unread::Unreadable)?;
-    let bytes = hex_bytes(alloc.clone()?, word)?;
-    Ok((bytes, rest))
-}
-
-/// Nothing, if no words are left.
-fn no_more_words(text: &str) -> Result<(), Unread>
-    ensures { Tells (λ nothing. nothing) result (no_more_words (words text.now)) }
-{
-    match next_word(text) {
-        None => Ok(()),
-        Some(_) => Err(Unread::Unreadable),
+    match name {
+        SlotKeyword::Clear => Command::Clear(k),
+        SlotKeyword::Flip => Command::Flip(k),
+        SlotKeyword::Freeze => Command::Freeze(k),
+        SlotKeyword::Thaw => Command::Thaw(k),
+        SlotKeyword::Drop => Command::Drop(k),
+        SlotKeyword::Len => Command::Len(k),
+        SlotKeyword::Count => Command::Count(k),
+        SlotKeyword::Bits => Command::Bits(k),
     }
 }
 
-/// A number and no more.
-#[tactic(auto, unfolding(crate::specs::Arguments::one_number))]
-fn one_number(text: &str) -> Result<usize, Unread>
-    ensures { Tells (λ k. k) result (one_number (words text.now)) }
+/// The command of a slot and a number.
+fn number_command<A: Allocator>(name: NumberKeyword, k: usize, n: usize) -> Command<A>
+    ensures { order result ≡ number_order name (k, n) }
 {
-    let (k, rest) = next_number(text)?;
-    no_more_words(rest)?;
-    Ok(k)
+    match name {
+        NumberKeyword::Truncate => Command::Truncate(k, n),
+        NumberKeyword::Clone => Command::Clone(k, n),
+        NumberKeyword::Get => Command::Get(k, n),
+        NumberKeyword::Select => Command::Select(k, n),
+        NumberKeyword::Selectunset => Command::Selectunset(k, n),
+    }
 }
 
-/// Two numbers and no more.
-#[tactic(auto, unfolding(crate::specs::Arguments::two_numbers))]
-fn two_numbers(text: &str) -> Result<(usize, usize), Unread>
-    ensures { Tells (λ numbers. numbers) result (two_numbers (words text.now)) }
+/// The command of a slot and a number of equal bits.
+fn run_command<A: Allocator>(name: RunKeyword, k: usize, v: bool, n: usize) -> Command<A>
+    ensures { order result ≡ run_order name (k, v, n) }
 {
-    let (k, rest) = next_number(text)?;
-    let (i, rest) = next_number(rest)?;
-    no_more_words(rest)?;
-    Ok((k, i))
-}
-
-/// Three numbers, bytes in hexadecimal and no more.
-#[tactic(auto, unfolding(crate::specs::Arguments::numbers_and_bytes))]
-fn numbers_and_bytes<A: Allocator + Clone>(
-    alloc: &A,
-    text: &str,
-) -> Result<(usize, usize, usize, Vec<u8, A>), Unread>
-    ensures { Gives (λ (k, o, n, bytes). (k, o, n, bytes.items)) result
-        (numbers_and_bytes (words text.now)) }
-{
-    let (k, rest) = next_number(text)?;
-    let (o, rest) = next_number(rest)?;
-    let (n, rest) = next_number(rest)?;
-    let (bytes, rest) = next_bytes(alloc, rest)?;
-    no_more_words(rest)?;
-    Ok((k, o, n, bytes))
+    match name {
+        RunKeyword::Full => Command::Full(k, v, n),
+        RunKeyword::Appendn => Command::Appendn(k, v, n),
+    }
 }
 
 /// What a command asks for that has this text after its name.
@@ -96,23 +65,38 @@ pub fn arguments<A: Allocator + Clone>(
     ensures memory { IsErrOf result Unread.Memory → IsTrue (holds_bytes keyword) }
 {
     match keyword {
+        Keyword::Slot(name) => Ok(slot_command(name, one_number(text)?)),
+        Keyword::Number(name) => {
+            let (k, n) = two_numbers(text)?;
+            Ok(number_command(name, k, n))
+        }
+        Keyword::Run(name) => {
+            let (k, v, n) = number_truth_number(text)?;
+            Ok(run_command(name, k, v, n))
+        }
         Keyword::Import => {
-            let (target, offset, len, bytes) = numbers_and_bytes(alloc, text)?;
-            Ok(Command::Import(target, offset, len, bytes))
+            let (t, o, n, bytes) = numbers_and_bytes(alloc, text)?;
+            Ok(Command::Import(t, o, n, bytes))
         }
-        Keyword::Len => Ok(Command::Len(one_number(text)?)),
-        Keyword::Count => Ok(Command::Count(one_number(text)?)),
-        Keyword::Get => {
-            let (slot, place) = two_numbers(text)?;
-            Ok(Command::Get(slot, place))
+        Keyword::Set => {
+            let (k, i, v) = two_numbers_and_truth(text)?;
+            Ok(Command::Set(k, i, v))
         }
-        Keyword::Select => {
-            let (slot, n) = two_numbers(text)?;
-            Ok(Command::Select(slot, n))
+        Keyword::Append => {
+            let (k, v) = number_and_truth(text)?;
+            Ok(Command::Append(k, v))
         }
-        Keyword::Selectunset => {
-            let (slot, n) = two_numbers(text)?;
-            Ok(Command::Selectunset(slot, n))
+        Keyword::Fill => {
+            let (k, a, b, v) = three_numbers_and_truth(text)?;
+            Ok(Command::Fill(k, a, b, v))
+        }
+        Keyword::Slice => {
+            let (k, a, b, t) = four_numbers(text)?;
+            Ok(Command::Slice(k, a, b, t))
+        }
+        Keyword::Countrange => {
+            let (k, a, b) = three_numbers(text)?;
+            Ok(Command::Countrange(k, a, b))
         }
     }
 }

@@ -22,16 +22,51 @@ pub enum Command<A: Allocator> {
     /// read from the bytes, beginning at bit `o` of the first one, the least significant bit of
     /// each byte first. `o` has to be below 8, and all bits have to lie within the bytes.
     Import(usize, usize, usize, Vec<u8, A>),
+    /// `full t v n`: fills slot `t`, which has to be empty, with an open set of `n` bits `v`.
+    Full(usize, bool, usize),
+    /// `set k i v`: makes bit `i`, below the length, of the open set in slot `k` `v`.
+    Set(usize, usize, bool),
+    /// `append k v`: adds a bit `v` to the open set in slot `k`.
+    Append(usize, bool),
+    /// `appendn k v n`: adds `n` bits `v` to the open set in slot `k`.
+    Appendn(usize, bool, usize),
+    /// `fill k a b v`: makes the bits from `a` up to `b`, `b` excluded, of the open set in slot `k`
+    /// `v`. The places have to be a range of the set.
+    Fill(usize, usize, usize, bool),
+    /// `truncate k n`: keeps the first `n` bits of the open set in slot `k`, or all where it has at
+    /// most `n`.
+    Truncate(usize, usize),
+    /// `clear k`: takes all bits from the open set in slot `k`.
+    Clear(usize),
+    /// `flip k`: turns over every bit of the open set in slot `k`.
+    Flip(usize),
+    /// `freeze k`: makes the open set in slot `k` a frozen one.
+    Freeze(usize),
+    /// `thaw k`: makes the frozen set in slot `k` an open one.
+    Thaw(usize),
+    /// `clone k t`: fills slot `t`, which has to be empty, with the set in slot `k`, of its kind.
+    Clone(usize, usize),
+    /// `slice k a b t`: fills slot `t`, which has to be empty, with a frozen set of the bits from
+    /// `a` up to `b`, `b` excluded, of the frozen set in slot `k`. The places have to be a range of
+    /// that set.
+    Slice(usize, usize, usize, usize),
+    /// `drop k`: empties slot `k`, which has to hold a set.
+    Drop(usize),
     /// `len k`: the length in bits of the set in slot `k`.
     Len(usize),
     /// `count k`: the number of true bits of the set in slot `k`.
     Count(usize),
     /// `get k i`: the bit at place `i`, below the length, of the set in slot `k`.
     Get(usize, usize),
+    /// `countrange k a b`: the number of true bits from `a` up to `b`, `b` excluded, of the set in
+    /// slot `k`. The places have to be a range of the set.
+    Countrange(usize, usize, usize),
     /// `select k n`: the place of the true bit with `n` true bits before it, if the set in slot `k`
     /// has so many.
     Select(usize, usize),
     /// `selectunset k n`: the place of the false bit with `n` false bits before it, if the set in
     /// slot `k` has so many.
     Selectunset(usize, usize),
+    /// `bits k`: the bits of the set in slot `k`.
+    Bits(usize),
 }

@@ -9,12 +9,15 @@ mod answer;
 mod arguments;
 mod command;
 mod digits;
+mod fields;
 mod hex;
 mod keyword;
 mod line;
 mod number;
+mod shapes;
 #[cfg(test)]
 mod tests;
+mod truth;
 mod unread;
 mod words;
 
