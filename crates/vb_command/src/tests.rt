@@ -57,7 +57,31 @@ fn commands_are_read(rt: HostRuntime) -> Result<(), Fail> {
         ),
         ("select 0 1", "Ok(Some(Select(0, 1)))"),
         ("selectunset 0 2", "Ok(Some(Selectunset(0, 2)))"),
+        ("countrange 0 3 9", "Ok(Some(Countrange(0, 3, 9)))"),
+        ("bits 4", "Ok(Some(Bits(4)))"),
         ("   get   15  7 ", "Ok(Some(Get(15, 7)))"),
+    ] {
+        assert_eq!(rt; asked(rt.alloc(), line.as_bytes())?.as_str(), want);
+    }
+    Ok(())
+}
+
+#[test]
+fn commands_that_change_slots_are_read(rt: HostRuntime) -> Result<(), Fail> {
+    for (line, want) in [
+        ("full 0 1 4", "Ok(Some(Full(0, true, 4)))"),
+        ("set 1 7 0", "Ok(Some(Set(1, 7, false)))"),
+        ("append 2 1", "Ok(Some(Append(2, true)))"),
+        ("appendn 3 0 9", "Ok(Some(Appendn(3, false, 9)))"),
+        ("fill 0 2 7 1", "Ok(Some(Fill(0, 2, 7, true)))"),
+        ("truncate 0 99", "Ok(Some(Truncate(0, 99)))"),
+        ("clear 5", "Ok(Some(Clear(5)))"),
+        ("flip 6", "Ok(Some(Flip(6)))"),
+        ("freeze 7", "Ok(Some(Freeze(7)))"),
+        ("thaw 8", "Ok(Some(Thaw(8)))"),
+        ("clone 9 10", "Ok(Some(Clone(9, 10)))"),
+        ("slice 0 3 2 1", "Ok(Some(Slice(0, 3, 2, 1)))"),
+        ("drop 11", "Ok(Some(Drop(11)))"),
     ] {
         assert_eq!(rt; asked(rt.alloc(), line.as_bytes())?.as_str(), want);
     }
@@ -99,6 +123,18 @@ fn other_lines_cannot_be_read(rt: HostRuntime) -> Result<(), Fail> {
         "length 0",
         "selectunse 0 1",
         "1",
+        "set 0 1",
+        "set 0 1 2",
+        "set 0 1 01",
+        "append 0",
+        "append 0 -",
+        "full 0 10 1",
+        "full 0 1 10 1",
+        "fill 0 1 7",
+        "slice 0 3 2",
+        "countrange 0 3",
+        "freeze",
+        "drop 0 1",
     ] {
         assert_eq!(rt;
             asked(rt.alloc(), line.as_bytes())?.as_str(),
