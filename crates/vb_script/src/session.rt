@@ -39,7 +39,7 @@ impl<A: Allocator + Clone> Session<A> {
         ensures err { OnErr result (self.new.out ≡ self.old.out) }
     {
         if let Some(command) = command_of(&self.alloc, line)? {
-            let answer = self.pool.serve(&command);
+            let answer = self.pool.serve(&self.alloc, &command);
             self.out.push(&answer).map_err(|_| Unread::Memory)?;
         }
         Ok(())

@@ -1,129 +1,258 @@
 //! The commands on plain lists of truth values.
-use std::alloc::{AllocError, Allocator, Global};
-use vb_script::Command;
+use std::alloc::{AllocError, AllocFailed, Allocator, Global};
+use vb_script::{Answer, Command, Refusal};
 
-/// Sixteen slots for plain lists, which count the requests for memory that the commands are to make.
+/// A list in a slot.
+#[derive(Drop)]
+struct Kept {
+    bits: Vec<bool>,
+    frozen: bool,
+}
+
+/// Why a command isn't done.
+struct Refused(Refusal);
+
+impl From<AllocError> for Refused {
+    fn from(_error: AllocError) -> Refused {
+        Refused(Refusal::OutOfMemory)
+    }
+}
+
+impl<T: Drop> From<AllocFailed<T>> for Refused {
+    fn from(_failed: AllocFailed<T>) -> Refused {
+        Refused(Refusal::OutOfMemory)
+    }
+}
+
+/// Sixteen slots for plain lists.
 #[derive(Drop)]
 pub struct Plain {
     alloc: Global,
-    slots: Vec<Option<Vec<bool>>>,
-    /// How many requests the copy of an allocator makes.
-    clones: u64,
-    /// The number of the request that is refused, and how many were made.
-    refused: u64,
-    asked: u64,
+    slots: Vec<Option<Kept>>,
 }
 
 impl Plain {
-    /// All slots are empty, and `asked` requests were made before the first command.
-    pub fn new(alloc: Global, clones: u64, refused: u64, asked: u64) -> Result<Plain, AllocError> {
+    /// All slots are empty.
+    pub fn new(alloc: Global) -> Result<Plain, AllocError> {
         let mut slots = Vec::new(alloc);
         for _ in 0..16 {
             slots.push(None)?;
         }
-        Ok(Plain {
-            alloc,
-            slots,
-            clones,
-            refused,
-            asked,
-        })
+        Ok(Plain { alloc, slots })
     }
 
-    /// Whether the next command's first request is refused; the requests before don't count.
-    pub fn refuse_next(&mut self, refused: bool) {
-        self.asked = 0;
-        self.refused = if refused { 1 } else { 0 };
+    /// What a command is answered where its memory is refused, and where it isn't.
+    pub fn answer<A: Allocator>(&mut self, command: &Command<A>, refused: bool) -> Answer<Global> {
+        match self.serve(command, refused) {
+            Ok(answer) => answer,
+            Err(Refused(why)) => Answer::Refused(why),
+        }
     }
 
-    /// The list in a slot.
-    pub fn list(&self, slot: usize) -> Option<&[bool]> {
-        self.slots.get(slot)?.as_ref().map(|list| list.as_slice())
-    }
-
-    /// What a command is answered, as text.
-    pub fn answer<A: Allocator>(&mut self, command: &Command<A>) -> Result<String, AllocError> {
-        let alloc = self.alloc;
+    fn serve<A: Allocator>(
+        &mut self,
+        command: &Command<A>,
+        refused: bool,
+    ) -> Result<Answer<Global>, Refused> {
         match command {
-            Command::Import(slot, offset, len, bytes) => self.import(*slot, *offset, *len, bytes),
-            Command::Len(slot) => match self.list(*slot) {
-                Some(list) => format!(in alloc; "{}", list.len()),
-                None => "refused BadSlot".to_string(alloc),
-            },
-            Command::Count(slot) => match self.list(*slot) {
-                Some(list) => format!(in alloc; "{}", list.iter().filter(|bit| **bit).count()),
-                None => "refused BadSlot".to_string(alloc),
-            },
-            Command::Get(slot, place) => match self.list(*slot).map(|list| list.get(*place)) {
-                Some(Some(true)) => "1".to_string(alloc),
-                Some(Some(false)) => "0".to_string(alloc),
-                Some(None) => "refused OutOfRange".to_string(alloc),
-                None => "refused BadSlot".to_string(alloc),
-            },
-            Command::Select(slot, n) => self.select(*slot, true, *n),
-            Command::Selectunset(slot, n) => self.select(*slot, false, *n),
+            Command::Import(t, o, n, bytes) => self.import(*t, *o, *n, bytes, refused),
+            Command::Full(t, v, n) => self.full(*t, *v, *n, refused),
+            Command::Set(k, i, v) => self.fill(*k, *i, i.saturating_add(1), *v),
+            Command::Append(k, v) => self.append(*k, *v, 1, refused),
+            Command::Appendn(k, v, n) => self.append(*k, *v, *n, refused),
+            Command::Fill(k, a, b, v) => self.fill(*k, *a, *b, *v),
+            Command::Truncate(k, n) => self.truncate(*k, *n),
+            Command::Clear(k) => self.truncate(*k, 0),
+            Command::Flip(k) => self.flip(*k),
+            Command::Freeze(k) => self.change(*k, true, refused),
+            Command::Thaw(k) => self.change(*k, false, refused),
+            Command::Clone(k, t) => self.copy(*k, *t, refused),
+            Command::Slice(k, a, b, t) => self.slice(*k, *a, *b, *t, refused),
+            Command::Drop(k) => self.drop(*k),
+            Command::Len(k) => Ok(Answer::Number(self.list(*k)?.len())),
+            Command::Count(k) => Ok(Answer::Number(count(self.list(*k)?))),
+            Command::Get(k, i) => Ok(Answer::Truth(value(self.list(*k)?, *i)?)),
+            Command::Countrange(k, a, b) => Ok(Answer::Number(count(part(self.list(*k)?, *a, *b)?))),
+            Command::Select(k, n) => Ok(Answer::Place(place(self.list(*k)?, true, *n))),
+            Command::Selectunset(k, n) => Ok(Answer::Place(place(self.list(*k)?, false, *n))),
+            Command::Bits(k) => self.bits(*k, refused),
         }
     }
 
     fn import(
         &mut self,
-        slot: usize,
+        t: usize,
         offset: usize,
         len: usize,
         bytes: &[u8],
-    ) -> Result<String, AllocError> {
-        let alloc = self.alloc;
-        if !matches!(self.slots.get(slot), Some(None)) {
-            return "refused BadSlot".to_string(alloc);
+        refused: bool,
+    ) -> Result<Answer<Global>, Refused> {
+        self.vacant(t)?;
+        let mut bits = Vec::new(self.alloc);
+        for byte in bytes {
+            for k in 0..8u32 {
+                bits.push((*byte >> k) & 1 == 1)?;
+            }
         }
-        let Some(list) = window(alloc, offset, len, bytes)? else {
-            return "refused BadWindow".to_string(alloc);
-        };
-        let blocks = if bytes.is_empty() { 0 } else { 1 };
-        if self.is_refused(self.clones.saturating_add(blocks)) {
-            return "refused OutOfMemory".to_string(alloc);
+        let end = offset.checked_add(len);
+        match end.and_then(|end| bits.get(offset..end)) {
+            Some(list) if offset < 8 => {
+                ample(refused)?;
+                self.put(t, list.to_vec(self.alloc)?, false)
+            }
+            _ => Err(Refused(Refusal::BadWindow)),
         }
-        if let Some(empty) = self.slots.get_mut(slot) {
-            *empty = Some(list);
-        }
-        "ok".to_string(alloc)
     }
 
-    /// Whether the refused request is among the next ones.
-    fn is_refused(&mut self, requests: u64) -> bool {
-        let before = self.asked;
-        self.asked = self.asked.saturating_add(requests);
-        before < self.refused && self.refused <= self.asked
+    fn full(&mut self, t: usize, v: bool, n: usize, refused: bool) -> Result<Answer<Global>, Refused> {
+        self.vacant(t)?;
+        ample(refused)?;
+        let mut bits = Vec::new(self.alloc);
+        bits.resize(n, v)?;
+        self.put(t, bits, false)
     }
 
-    fn select(&self, slot: usize, value: bool, n: usize) -> Result<String, AllocError> {
-        let Some(list) = self.list(slot) else {
-            return "refused BadSlot".to_string(self.alloc);
+    fn append(
+        &mut self,
+        k: usize,
+        v: bool,
+        n: usize,
+        refused: bool,
+    ) -> Result<Answer<Global>, Refused> {
+        let mut bits = self.of_kind(k, false)?;
+        let Some(len) = bits.len().checked_add(n) else {
+            return Err(Refused(Refusal::TooManyBits));
         };
-        let mut places = list.iter().enumerate().filter(|item| *item.1 == value);
-        match places.nth(n) {
-            Some((place, _)) => format!(in self.alloc; "{place}"),
-            None => "none".to_string(self.alloc),
+        ample(refused)?;
+        bits.resize(len, v)?;
+        self.put(k, bits, false)
+    }
+
+    fn fill(&mut self, k: usize, a: usize, b: usize, v: bool) -> Result<Answer<Global>, Refused> {
+        let mut bits = self.of_kind(k, false)?;
+        match bits.get_mut(a..b) {
+            Some(part) => part.fill(v),
+            None => return Err(Refused(Refusal::OutOfRange)),
         }
+        self.put(k, bits, false)
+    }
+
+    fn truncate(&mut self, k: usize, n: usize) -> Result<Answer<Global>, Refused> {
+        let mut bits = self.of_kind(k, false)?;
+        bits.truncate(n);
+        self.put(k, bits, false)
+    }
+
+    fn flip(&mut self, k: usize) -> Result<Answer<Global>, Refused> {
+        let bits = self.of_kind(k, false)?;
+        let mut flipped = Vec::new(self.alloc);
+        for bit in bits.iter() {
+            flipped.push(!*bit)?;
+        }
+        self.put(k, flipped, false)
+    }
+
+    /// Changes the kind of a set, which is gone where memory is refused.
+    fn change(&mut self, k: usize, frozen: bool, refused: bool) -> Result<Answer<Global>, Refused> {
+        let bits = self.of_kind(k, !frozen)?;
+        self.drop(k)?;
+        ample(refused)?;
+        self.put(k, bits, frozen)
+    }
+
+    fn copy(&mut self, k: usize, t: usize, refused: bool) -> Result<Answer<Global>, Refused> {
+        let bits = self.list(k)?.to_vec(self.alloc)?;
+        self.vacant(t)?;
+        ample(refused)?;
+        let frozen = self.is_frozen(k);
+        self.put(t, bits, frozen)
+    }
+
+    fn slice(
+        &mut self,
+        k: usize,
+        a: usize,
+        b: usize,
+        t: usize,
+        refused: bool,
+    ) -> Result<Answer<Global>, Refused> {
+        let bits = self.of_kind(k, true)?;
+        self.vacant(t)?;
+        let bits = part(&bits, a, b)?.to_vec(self.alloc)?;
+        ample(refused)?;
+        self.put(t, bits, true)
+    }
+
+    fn bits(&self, k: usize, refused: bool) -> Result<Answer<Global>, Refused> {
+        let bits = self.list(k)?.to_vec(self.alloc)?;
+        ample(refused)?;
+        Ok(Answer::Bits(bits))
+    }
+
+    fn drop(&mut self, k: usize) -> Result<Answer<Global>, Refused> {
+        self.list(k)?;
+        if let Some(slot) = self.slots.get_mut(k) {
+            *slot = None;
+        }
+        Ok(Answer::Done)
+    }
+
+    fn put(&mut self, k: usize, bits: Vec<bool>, frozen: bool) -> Result<Answer<Global>, Refused> {
+        if let Some(slot) = self.slots.get_mut(k) {
+            *slot = Some(Kept { bits, frozen });
+        }
+        Ok(Answer::Done)
+    }
+
+    fn vacant(&self, t: usize) -> Result<(), Refused> {
+        match self.slots.get(t) {
+            Some(None) => Ok(()),
+            _ => Err(Refused(Refusal::BadSlot)),
+        }
+    }
+
+    fn is_frozen(&self, k: usize) -> bool {
+        matches!(self.slots.get(k), Some(Some(kept)) if kept.frozen)
+    }
+
+    /// The list in a slot.
+    fn list(&self, k: usize) -> Result<&[bool], Refused> {
+        match self.slots.get(k) {
+            Some(Some(kept)) => Ok(&kept.bits),
+            _ => Err(Refused(Refusal::BadSlot)),
+        }
+    }
+
+    /// A copy of the list in a slot of this kind.
+    fn of_kind(&self, k: usize, frozen: bool) -> Result<Vec<bool>, Refused> {
+        let bits = self.list(k)?;
+        if self.is_frozen(k) != frozen {
+            return Err(Refused(Refusal::BadSlot));
+        }
+        Ok(bits.to_vec(self.alloc)?)
     }
 }
 
-/// The bits of a window, if it begins in the first byte and lies in the bytes.
-fn window(
-    alloc: Global,
-    offset: usize,
-    len: usize,
-    bytes: &[u8],
-) -> Result<Option<Vec<bool>>, AllocError> {
-    let mut bits = Vec::new(alloc);
-    for byte in bytes {
-        for k in 0..8u32 {
-            bits.push((*byte >> k) & 1 == 1)?;
-        }
+fn ample(refused: bool) -> Result<(), Refused> {
+    if refused {
+        return Err(Refused(Refusal::OutOfMemory));
     }
-    let end = offset.checked_add(len);
-    match end.and_then(|end| bits.get(offset..end)) {
-        Some(list) if offset < 8 => Ok(Some(list.to_vec(alloc)?)),
-        _ => Ok(None),
-    }
+    Ok(())
+}
+
+fn part(list: &[bool], a: usize, b: usize) -> Result<&[bool], Refused> {
+    list.get(a..b).ok_or(Refused(Refusal::OutOfRange))
+}
+
+fn value(list: &[bool], i: usize) -> Result<bool, Refused> {
+    list.get(i).copied().ok_or(Refused(Refusal::OutOfRange))
+}
+
+fn count(list: &[bool]) -> usize {
+    list.iter().filter(|bit| **bit).count()
+}
+
+fn place(list: &[bool], value: bool, n: usize) -> Option<usize> {
+    let mut places = list.iter().enumerate().filter(|item| *item.1 == value);
+    places.nth(n).map(|item| item.0)
 }

@@ -4,29 +4,57 @@ use std::alloc::{Allocator, Global};
 use std::process::Abort;
 use std::test::Fail;
 use vb_script::{
-    BufferError, Command, DriveError, FromRead, Pool, ToWrite, command_of, drive, run,
+    Answer, BufferError, Command, DriveError, FromRead, Pool, Refusal, ToWrite, command_of, drive,
+    run,
 };
 use vb_testing::{Handle, Refusing};
 
-/// A session with an import that is refused for each reason, and questions to the slots.
-const LINES: [&str; 17] = [
+/// A session of all commands, each refused for each of its reasons, whose sets share storage.
+const LINES: [&str; 44] = [
     "import 0 3 9 f8ff",
-    "count 0",
-    "import 1 0 0 -",
     "import 0 0 8 00",
     "import 2 7 2 00",
-    "import 2 8 0 00",
-    "import 15 1 20 123456",
-    "selectunset 15 3",
-    "select 0 2",
-    "get 15 19",
-    "get 15 20",
-    "len 1",
-    "len 2",
     "import 16 0 0 -",
-    "import 2 0 8 a5",
-    "count 2",
-    "len 0",
+    "full 1 1 10",
+    "full 1 1 10",
+    "fill 1 2 7 0",
+    "fill 1 7 2 0",
+    "set 1 9 0",
+    "set 1 10 0",
+    "append 0 1",
+    "append 2 1",
+    "appendn 1 1 18446744073709551615",
+    "appendn 1 0 60",
+    "flip 1",
+    "truncate 1 61",
+    "countrange 1 3 9",
+    "countrange 1 3 62",
+    "freeze 0",
+    "freeze 0",
+    "set 0 0 0",
+    "clone 0 2",
+    "clone 0 2",
+    "slice 0 2 9 3",
+    "slice 0 3 2 4",
+    "slice 1 0 1 4",
+    "thaw 2",
+    "thaw 2",
+    "set 2 0 0",
+    "append 2 0",
+    "bits 0",
+    "bits 2",
+    "drop 0",
+    "drop 0",
+    "thaw 3",
+    "clear 3",
+    "append 3 1",
+    "clone 1 0",
+    "select 2 1",
+    "selectunset 1 0",
+    "get 1 60",
+    "get 1 61",
+    "len 3",
+    "count 1",
 ];
 
 /// The commands of the session. No request for memory is refused.
@@ -45,24 +73,67 @@ fn commands<A: Allocator + Clone>(
     Ok(commands)
 }
 
-/// The pool has the lists of the plain machine. No request for memory is refused.
+/// An answer of each has the same text.
+fn same_text<A: Allocator>(
+    rt: &impl Abort,
+    global: Global,
+    given: &Answer<A>,
+    wanted: &Answer<Global>,
+) -> Result<(), Fail> {
+    let given = format!(in global; "{given}")?;
+    let wanted = format!(in global; "{wanted}")?;
+    assert_eq!(rt; given.as_str(), wanted.as_str());
+    Ok(())
+}
+
+/// Both answer the same, where no request for memory is refused.
+fn same_answer<A: Allocator + Clone>(
+    rt: &impl Abort,
+    global: Global,
+    alloc: &A,
+    pool: &mut Pool<A>,
+    plain: &mut Plain,
+    command: &Command<A>,
+) -> Result<(), Fail> {
+    let given = pool.serve(alloc, command);
+    let wanted = plain.answer(command, false);
+    same_text(rt, global, &given, &wanted)
+}
+
+/// The pool has the lists of the plain machine, and the same of them are open.
 fn same_slots<A: Allocator + Clone>(
     rt: &impl Abort,
     global: Global,
+    alloc: &A,
     pool: &mut Pool<A>,
     plain: &mut Plain,
 ) -> Result<(), Fail> {
     for slot in 0..17usize {
-        let len = plain.list(slot).map_or(0, |list| list.len());
-        let shown = format!(in global; "{}", pool.serve(&Command::Len(slot)))?;
-        let wanted = plain.answer(&Command::Len::<A>(slot))?;
-        assert_eq!(rt; shown.as_str(), wanted.as_str(), "len {slot}");
-        for place in 0..len {
-            let shown = format!(in global; "{}", pool.serve(&Command::Get(slot, place)))?;
-            let wanted = plain.answer(&Command::Get::<A>(slot, place))?;
-            assert_eq!(rt; shown.as_str(), wanted.as_str(), "get {slot} {place}");
-        }
+        same_answer(rt, global, alloc, pool, plain, &Command::Bits(slot))?;
+        same_answer(rt, global, alloc, pool, plain, &Command::Freeze(slot))?;
     }
+    Ok(())
+}
+
+/// The answers are those of the plain machine, with `OutOfMemory` once, or never where no request
+/// was refused.
+fn same_answers<A: Allocator>(
+    rt: &impl Abort,
+    global: Global,
+    plain: &mut Plain,
+    commands: &[Command<A>],
+    answers: &[Answer<A>],
+    was_refused: bool,
+) -> Result<(), Fail> {
+    assert_eq!(rt; answers.len(), commands.len());
+    let mut left = was_refused;
+    for (command, answer) in commands.iter().zip(answers.iter()) {
+        let refused = matches!(answer, Answer::Refused(Refusal::OutOfMemory));
+        same_text(rt, global, answer, &plain.answer(command, refused))?;
+        assert!(rt; !refused || left);
+        left = left && !refused;
+    }
+    assert!(rt; !left);
     Ok(())
 }
 
@@ -73,43 +144,34 @@ fn run_is_plain<A: Allocator + Clone>(
     global: Global,
     heap: &Refusing<Global>,
     alloc: A,
-    clones: u64,
     refused: u64,
 ) -> Result<bool, Fail> {
     heap.refuse(0);
     let commands = commands(rt, global, &alloc)?;
+    let own = alloc.clone()?;
     let mut pool = Pool::new();
-    // The room for the answers is the first request.
-    let mut plain = Plain::new(global, clones, refused, 1)?;
+    let mut plain = Plain::new(global)?;
     heap.refuse(refused);
-    match run(alloc, &mut pool, &commands) {
-        Err(error) => {
-            assert_eq!(rt; error, BufferError::OutOfMemory);
-            assert_eq!(rt; refused, 1);
-        }
-        Ok(answers) => {
-            assert!(rt; refused != 1);
-            assert_eq!(rt; answers.len(), commands.len());
-            for (command, answer) in commands.iter().zip(answers.iter()) {
-                let shown = format!(in global; "{answer}")?;
-                let wanted = plain.answer(command)?;
-                assert_eq!(rt; shown.as_str(), wanted.as_str(), "request {refused}");
-            }
-        }
-    }
+    let ran = run(alloc, &mut pool, &commands);
     let was_refused = heap.has_refused();
     heap.refuse(0);
-    same_slots(rt, global, &mut pool, &mut plain)?;
+    match ran {
+        Err(error) => {
+            assert_eq!(rt; error, BufferError::OutOfMemory);
+            assert!(rt; was_refused);
+        }
+        Ok(answers) => same_answers(rt, global, &mut plain, &commands, &answers, was_refused)?,
+    }
+    same_slots(rt, global, &own, &mut pool, &mut plain)?;
     Ok(was_refused)
 }
 
 #[test]
 fn run_is_plain_whatever_is_refused(rt: HostRuntime) -> Result<(), Fail> {
     let heap = Refusing::new(rt.alloc(), 0);
-    for refused in 1..100u64 {
-        if !run_is_plain(&rt, rt.alloc(), &heap, &heap, 0, refused)? {
-            // The room for the answers, and the bytes of three imports.
-            assert_eq!(rt; refused, 5);
+    for refused in 1..1000u64 {
+        if !run_is_plain(&rt, rt.alloc(), &heap, &heap, refused)? {
+            assert!(rt; refused > 10, "so many commands take memory");
             return Ok(());
         }
     }
@@ -120,11 +182,10 @@ fn run_is_plain_whatever_is_refused(rt: HostRuntime) -> Result<(), Fail> {
 #[test]
 fn run_is_plain_whatever_copy_is_refused(rt: HostRuntime) -> Result<(), Fail> {
     let heap = Refusing::new(rt.alloc(), 0);
-    for refused in 1..100u64 {
+    for refused in 1..1000u64 {
         let alloc = Handle { inner: &heap };
-        if !run_is_plain(&rt, rt.alloc(), &heap, alloc, 1, refused)? {
-            // The copies of the allocator for four imports besides.
-            assert_eq!(rt; refused, 9);
+        if !run_is_plain(&rt, rt.alloc(), &heap, alloc, refused)? {
+            assert!(rt; refused > 20, "so many copies of the allocator are made");
             return Ok(());
         }
     }
@@ -132,13 +193,13 @@ fn run_is_plain_whatever_copy_is_refused(rt: HostRuntime) -> Result<(), Fail> {
     Ok(())
 }
 
-/// What the lines of the session are answered where the import of one of them is refused memory.
+/// What the lines of the session are answered where one of them is refused memory.
 fn answers(rt: &impl Abort, global: Global, without: Option<usize>) -> Result<Vec<String>, Fail> {
-    let mut plain = Plain::new(global, 1, 0, 0)?;
+    let mut plain = Plain::new(global)?;
     let mut answers = Vec::new(global);
     for (line, command) in commands(rt, global, &global)?.iter().enumerate() {
-        plain.refuse_next(without == Some(line));
-        answers.push(plain.answer(command)?)?;
+        let answer = plain.answer(command, without == Some(line));
+        answers.push(format!(in global; "{answer}")?)?;
     }
     Ok(answers)
 }
@@ -211,19 +272,19 @@ fn drive_is_plain_whatever_copy_is_refused(rt: HostRuntime) -> Result<(), Fail> 
 /// calls may not.
 #[test]
 fn run_gives_up(rt: HostRuntime) -> Result<(), Fail> {
-    let commands = commands(&rt, rt.alloc(), &rt.alloc())?;
-    let wanted = answers(&rt, rt.alloc(), None)?;
-    let mut pool = Pool::new();
-    let given = run(rt.alloc(), &mut pool, &commands)?;
-    assert_eq!(rt; given.len(), wanted.len());
-    let mut served = Pool::new();
-    for ((command, answer), wanted) in commands.iter().zip(given.iter()).zip(wanted.iter()) {
-        let shown = format!(in rt.alloc(); "{answer}")?;
-        assert_eq!(rt; shown.as_str(), wanted.as_str());
-        let shown = format!(in rt.alloc(); "{}", served.serve(command))?;
-        assert_eq!(rt; shown.as_str(), wanted.as_str());
-    }
     let heap = Refusing::new(rt.alloc(), 0);
+    assert!(rt; !run_is_plain(&rt, rt.alloc(), &heap, rt.alloc(), 0)?);
     assert!(rt; !drive_is_plain(&rt, rt.alloc(), &heap, rt.alloc())?);
+    Ok(())
+}
+
+/// Each command alone, where there is memory.
+#[test]
+fn commands_give_up(rt: HostRuntime) -> Result<(), Fail> {
+    let mut pool = Pool::new();
+    let mut plain = Plain::new(rt.alloc())?;
+    for command in commands(&rt, rt.alloc(), &rt.alloc())?.iter() {
+        same_answer(&rt, rt.alloc(), &rt.alloc(), &mut pool, &mut plain, command)?;
+    }
     Ok(())
 }

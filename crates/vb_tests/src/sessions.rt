@@ -103,6 +103,32 @@ fn lines_are_answered(rt: HostRuntime) {
 }
 
 #[test]
+fn sets_are_edited(rt: HostRuntime) {
+    all_lines_are_answered(
+        &rt,
+        rt.alloc(),
+        "full 0 0 10\nfill 0 2 7 1\ncountrange 0 3 9\ntruncate 0 99\ntruncate 0 4\nappend 0 0\nbits 0\nfreeze 0\nslice 0 3 2 1\n",
+        "ok\nok\n4\nok\nok\nok\n00110\nok\nrefused OutOfRange\n",
+    );
+    all_lines_are_answered(
+        &rt,
+        rt.alloc(),
+        "full 0 1 1\nappendn 0 1 18446744073709551615\nbits 0\nclear 0\nbits 0\n",
+        "ok\nrefused TooManyBits\n1\nok\n-\n",
+    );
+}
+
+#[test]
+fn other_owners_keep_their_bits(rt: HostRuntime) {
+    all_lines_are_answered(
+        &rt,
+        rt.alloc(),
+        "full 0 1 4\nfreeze 0\nclone 0 1\nslice 0 1 4 2\nthaw 1\nset 1 0 0\nappend 1 0\nflip 1\nbits 0\nbits 1\nbits 2\n",
+        "ok\nok\nok\nok\nok\nok\nok\nok\n1111\n10001\n111\n",
+    );
+}
+
+#[test]
 fn a_line_that_cannot_be_read_ends_the_session(rt: HostRuntime) {
     for (lines, line, answered) in [
         (b"import 0 0 8 1\nlen 0\n".as_slice(), 1, ""),
