@@ -11,7 +11,7 @@ use vb_pool::Pool;
 
 /// The slots of a session, and the answers that wait to be written.
 #[derive(Drop)]
-pub struct Session<A: Allocator> {
+pub struct Session<A: Allocator + Clone> {
     alloc: A,
     pub pool: Pool<A>,
     pub out: Outbox<A>,

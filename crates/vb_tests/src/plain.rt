@@ -10,6 +10,7 @@ struct Kept {
 }
 
 /// Why a command isn't done.
+#[derive(Drop)]
 struct Refused(Refusal);
 
 impl From<AllocError> for Refused {
@@ -72,7 +73,11 @@ impl Plain {
             Command::Len(k) => Ok(Answer::Number(self.list(*k)?.len())),
             Command::Count(k) => Ok(Answer::Number(count(self.list(*k)?))),
             Command::Get(k, i) => Ok(Answer::Truth(value(self.list(*k)?, *i)?)),
-            Command::Countrange(k, a, b) => Ok(Answer::Number(count(part(self.list(*k)?, *a, *b)?))),
+            Command::Countrange(k, a, b) => Ok(Answer::Number(count(part(
+                self.list(*k)?,
+                *a,
+                *b,
+            )?))),
             Command::Select(k, n) => Ok(Answer::Place(place(self.list(*k)?, true, *n))),
             Command::Selectunset(k, n) => Ok(Answer::Place(place(self.list(*k)?, false, *n))),
             Command::Bits(k) => self.bits(*k, refused),
@@ -104,7 +109,13 @@ impl Plain {
         }
     }
 
-    fn full(&mut self, t: usize, v: bool, n: usize, refused: bool) -> Result<Answer<Global>, Refused> {
+    fn full(
+        &mut self,
+        t: usize,
+        v: bool,
+        n: usize,
+        refused: bool,
+    ) -> Result<Answer<Global>, Refused> {
         self.vacant(t)?;
         ample(refused)?;
         let mut bits = Vec::new(self.alloc);
@@ -130,10 +141,10 @@ impl Plain {
 
     fn fill(&mut self, k: usize, a: usize, b: usize, v: bool) -> Result<Answer<Global>, Refused> {
         let mut bits = self.of_kind(k, false)?;
-        match bits.get_mut(a..b) {
-            Some(part) => part.fill(v),
-            None => return Err(Refused(Refusal::OutOfRange)),
+        if a > b || b > bits.len() {
+            return Err(Refused(Refusal::OutOfRange));
         }
+        bits[a..b].fill(v);
         self.put(k, bits, false)
     }
 

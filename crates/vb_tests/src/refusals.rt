@@ -171,7 +171,9 @@ fn run_is_plain_whatever_is_refused(rt: HostRuntime) -> Result<(), Fail> {
     let heap = Refusing::new(rt.alloc(), 0);
     for refused in 1..1000u64 {
         if !run_is_plain(&rt, rt.alloc(), &heap, &heap, refused)? {
-            assert!(rt; refused > 10, "so many commands take memory");
+            // The room for the answers, and one request each of `import`, `full`, `appendn`,
+            // `freeze`, `thaw`, `clone`, and of `bits` twice.
+            assert_eq!(rt; refused, 10);
             return Ok(());
         }
     }
