@@ -1,3 +1,5 @@
+pub mod AnySet
+pub mod OpenBits
 pub mod Slot
 pub use Rattle.vb_command.specs.Machine
 pub use Rattle.vb_command.specs.Views

@@ -10,19 +10,40 @@ use vb_command::{Answer, Command};
 use vb_core::BufferError;
 
 impl<A: Allocator + Clone> Pool<A> {
-    /// Carries out one command and answers it. A command that is refused changes nothing.
+    /// Carries out one command and answers it. A command that is refused changes nothing, but
+    /// `freeze` and `thaw` give their slot away: where memory is refused, it is empty and all
+    /// others are as before.
     ///
-    /// `import` copies its bytes, by one request for memory; the other commands take none.
-    pub fn serve(&mut self, command: &Command<A>) -> Answer<A>
+    /// What a command makes lies in memory of a copy of `alloc`, or of the allocator of the set that
+    /// it is made of. `freeze`, `slice`, `clone` of a frozen set and `thaw` of one whose storage no
+    /// other slot has copy no bits.
+    pub fn serve(&mut self, alloc: &A, command: &Command<A>) -> Answer<A>
         ensures { Outcome self.old (order command.now) (reply result) self.new }
     {
         match command {
-            Command::Import(k, offset, len, bytes) => self.import(*k, *offset, *len, bytes),
+            Command::Import(k, offset, len, bytes) => {
+                self.import(alloc, *k, *offset, *len, bytes)
+            }
+            Command::Full(k, v, n) => self.full(alloc, *k, *v, *n),
+            Command::Set(k, i, v) => self.set(*k, *i, *v),
+            Command::Append(k, v) => self.append(*k, *v),
+            Command::Appendn(k, v, n) => self.append_n(*k, *v, *n),
+            Command::Fill(k, a, b, v) => self.fill(*k, *a, *b, *v),
+            Command::Truncate(k, n) => self.truncate(*k, *n),
+            Command::Clear(k) => self.clear(*k),
+            Command::Flip(k) => self.flip(*k),
+            Command::Freeze(k) => self.freeze(*k),
+            Command::Thaw(k) => self.thaw(alloc, *k),
+            Command::Clone(k, t) => self.clone(*k, *t),
+            Command::Slice(k, a, b, t) => self.slice(*k, *a, *b, *t),
+            Command::Drop(k) => self.drop(*k),
             Command::Len(k) => self.len(*k),
             Command::Count(k) => self.count(*k),
             Command::Get(k, i) => self.get(*k, *i),
+            Command::Countrange(k, a, b) => self.count_range(*k, *a, *b),
             Command::Select(k, n) => self.select(*k, *n),
             Command::Selectunset(k, n) => self.select_unset(*k, *n),
+            Command::Bits(k) => self.bits(alloc, *k),
         }
     }
 }
@@ -42,9 +63,9 @@ pub fn run<A: Allocator + Clone>(
     ensures refusal { IsOkUnless result OutOfMemory }
     ensures err { OnErr result (pool.new ≡ pool.old) }
 {
-    let mut answers = Vec::with_capacity(alloc, commands.len())?;
+    let mut answers = Vec::with_capacity(alloc.clone()?, commands.len())?;
     for command in commands {
-        answers.push(pool.serve(command)).unwrap();
+        answers.push(pool.serve(&alloc, command)).unwrap();
     }
     Ok(answers)
 }
