@@ -7,6 +7,7 @@
 
 mod any_set;
 mod edits;
+mod import;
 mod kinds;
 mod makes;
 mod open_bits;

@@ -1,4 +1,4 @@
-//! Sets that are made in an empty slot, and slots that are emptied.
+//! Slots that are filled and emptied.
 ghost use Rattle.vb_command.specs.Machine.{Step, Outcome};
 ghost use Rattle.vb_command.specs.Machine as machine;
 ghost use Rattle.vb_command.specs.Views.{reply};
@@ -8,31 +8,10 @@ use crate::pool::Pool;
 use crate::slot::Slot;
 use std::alloc::Allocator;
 use vb_command::{Answer, Refusal};
-use vb_kernel::window_fits;
 
 #[tactic(auto, using(crate::proofs::Slots::slots))]
 impl<A: Allocator + Clone> Pool<A> {
-    /// Opens the window in a copy of the bytes.
-    pub(crate) fn import(
-        &mut self,
-        alloc: &A,
-        k: usize,
-        offset: usize,
-        len: usize,
-        bytes: &[u8],
-    ) -> Answer<A>
-        ensures { Outcome self.old (machine.Import k offset len bytes.now) (reply result) self.new }
-    {
-        if !self.is_vacant(k) {
-            return Answer::Refused(Refusal::BadSlot);
-        }
-        if offset >= 8 || !window_fits(bytes, offset, len) {
-            return Answer::Refused(Refusal::BadWindow);
-        }
-        self.put_open(k, OpenBits::copy_window(alloc, bytes, offset, len))
-    }
-
-    /// Opens a set of `n` bits `v`.
+    /// Opens a set of `n` bits `v` in slot `k`, which has to be empty.
     pub(crate) fn full(&mut self, alloc: &A, k: usize, v: bool, n: usize) -> Answer<A>
         ensures { Outcome self.old (machine.Full k v n) (reply result) self.new }
     {
@@ -42,7 +21,8 @@ impl<A: Allocator + Clone> Pool<A> {
         self.put_open(k, OpenBits::full(alloc, v, n))
     }
 
-    /// Puts the set of slot `k`, of its kind, in slot `t` too.
+    /// Puts the set of slot `k`, of its kind, in slot `t` too, which has to be empty. The bits of an
+    /// open set are copied; a frozen set shares its storage.
     pub(crate) fn clone(&mut self, k: usize, t: usize) -> Answer<A>
         ensures { Outcome self.old (machine.Clone k t) (reply result) self.new }
     {
@@ -61,7 +41,7 @@ impl<A: Allocator + Clone> Pool<A> {
     }
 
     /// Puts the bits from `a` up to `b`, `b` excluded, of the frozen set in slot `k` in slot `t`,
-    /// with no copy.
+    /// which has to be empty. They share the storage.
     pub(crate) fn slice(&mut self, k: usize, a: usize, b: usize, t: usize) -> Answer<A>
         ensures { Outcome self.old (machine.Slice k a b t) (reply result) self.new }
     {

@@ -22,7 +22,8 @@ use vb_set::BitBuffer;
 
 /// Sixteen slots for sets of bits, numbered from 0. Contracts see the list of what they hold.
 ///
-/// A set keeps the allocator of the bytes that it was made of.
+/// A set keeps the allocator that it was made with: a copy of the one that [`Pool::serve`] is given,
+/// or of the one of the set that it is a copy of.
 #[derive(Drop)]
 pub struct Pool<A: Allocator + Clone> {
     slots: Sixteen<Slot<A>>,
@@ -77,7 +78,6 @@ impl<A: Allocator + Clone> Pool<A> {
     }
 
     /// The open set in slot `k`, for edits, if the slot is there and holds one.
-    #[tactic(auto, using(crate::proofs::Slots::slots))]
     pub(crate) fn open_mut(&mut self, k: usize) -> Option<&mut OpenBits<A>>
         ensures* writes_back { sem 𝓛 (LendsIf (the_row A.row A.Allocator A.Clone) (open_row A.row A.Allocator A.Clone) self.entry result (λ l. slice_set self.old k (OpenList l)) self.old) }
         ensures value { option_copied_mut result ≡ open_at self.old k }
@@ -95,7 +95,7 @@ impl<A: Allocator + Clone> Pool<A> {
         }
     }
 
-    /// What slot `k` holds, if the slot is there and holds a set.
+    /// Slot `k`, if it is there.
     pub(crate) fn slot(&self, k: usize) -> Option<&Slot<A>>
         ensures { option_map (λ slot. content slot.now) result ≡ slice_get self.now k }
     {

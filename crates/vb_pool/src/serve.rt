@@ -10,13 +10,14 @@ use vb_command::{Answer, Command};
 use vb_core::BufferError;
 
 impl<A: Allocator + Clone> Pool<A> {
-    /// Carries out one command and answers it. A command that is refused changes nothing, but
-    /// `freeze` and `thaw` give their slot away: where memory is refused, it is empty and all
-    /// others are as before.
+    /// Carries out one command and answers it. A command that is refused changes nothing, except
+    /// that `freeze` and `thaw` give their set away: where memory is refused, their slot is empty and
+    /// all others are as before.
     ///
-    /// What a command makes lies in memory of a copy of `alloc`, or of the allocator of the set that
-    /// it is made of. `freeze`, `slice`, `clone` of a frozen set and `thaw` of one whose storage no
-    /// other slot has copy no bits.
+    /// Memory is asked from copies of `alloc`: `import`, `full` and `bits` ask once for the whole, and
+    /// so does `thaw` where another slot has the storage too. The copy of an open set asks the
+    /// allocator of that set. `freeze`, `slice`, `clone` of a frozen set and `thaw` of a storage's
+    /// only owner copy no bits.
     pub fn serve(&mut self, alloc: &A, command: &Command<A>) -> Answer<A>
         ensures { Outcome self.old (order command.now) (reply result) self.new }
     {
@@ -50,8 +51,8 @@ impl<A: Allocator + Clone> Pool<A> {
 
 /// Carries out the commands in their order and gives one answer a command.
 ///
-/// The room for all answers is asked from `alloc` first: where that is refused, the answer is
-/// [`BufferError::OutOfMemory`] and nothing was done. A command that is refused later, for want of
+/// The room for all answers is asked from a copy of `alloc` first: where that is refused, the answer
+/// is [`BufferError::OutOfMemory`] and nothing was done. A command that is refused later, for want of
 /// memory too, has its refusal among the answers, and the commands after it are carried out.
 pub fn run<A: Allocator + Clone>(
     alloc: A,
