@@ -5,13 +5,18 @@
 //! its slots hold, and of nothing behind it.
 #![tactic(auto)]
 
+mod any_set;
+mod edits;
 mod import;
+mod kinds;
+mod makes;
+mod open_bits;
 mod pool;
 mod questions;
+mod refused;
 mod serve;
 mod sixteen;
 mod slot;
-mod window;
 
 pub use pool::Pool;
 pub use serve::run;

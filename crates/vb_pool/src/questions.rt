@@ -1,13 +1,14 @@
-//! What commands ask of a set. No slot changes, and no memory is taken.
-ghost use Rattle.vb_command.specs.Machine.{Step};
+//! What commands ask of a set. No slot changes, and `bits` alone takes memory.
+ghost use Rattle.vb_command.specs.Machine.{Step, Outcome};
 ghost use Rattle.vb_command.specs.Machine as machine;
 ghost use Rattle.vb_command.specs.Views.{reply};
 
 use crate::pool::Pool;
+use crate::refused::refusal_of;
 use std::alloc::Allocator;
 use vb_command::{Answer, Refusal};
 
-impl<A: Allocator> Pool<A> {
+impl<A: Allocator + Clone> Pool<A> {
     /// How many bits the set has.
     pub(crate) fn len(&self, k: usize) -> Answer<A>
         ensures { Step self.now (machine.Len k) (reply result) self.now }
@@ -39,6 +40,17 @@ impl<A: Allocator> Pool<A> {
         }
     }
 
+    /// How many bits of the set from `a` up to `b`, `b` excluded, are true.
+    pub(crate) fn count_range(&self, k: usize, a: usize, b: usize) -> Answer<A>
+        ensures { Step self.now (machine.Countrange k a b) (reply result) self.now }
+    {
+        match self.set_at(k) {
+            Some(set) if a <= b && b <= set.len() => Answer::Number(set.count_range(a, b)),
+            Some(_) => Answer::Refused(Refusal::OutOfRange),
+            None => Answer::Refused(Refusal::BadSlot),
+        }
+    }
+
     /// The place of the `n`-th true bit of the set, counted from 0.
     pub(crate) fn select(&self, k: usize, n: usize) -> Answer<A>
         ensures { Step self.now (machine.Select k n) (reply result) self.now }
@@ -55,6 +67,19 @@ impl<A: Allocator> Pool<A> {
     {
         match self.set_at(k) {
             Some(set) => Answer::Place(set.select_unset(n)),
+            None => Answer::Refused(Refusal::BadSlot),
+        }
+    }
+
+    /// The bits of the set, in memory of the allocator.
+    pub(crate) fn bits(&self, alloc: &A, k: usize) -> Answer<A>
+        ensures { Outcome self.now (machine.Bits k) (reply result) self.now }
+    {
+        match self.set_at(k) {
+            Some(set) => match set.to_vec(alloc) {
+                Ok(bits) => Answer::Bits(bits),
+                Err(error) => Answer::Refused(refusal_of(error)),
+            },
             None => Answer::Refused(Refusal::BadSlot),
         }
     }

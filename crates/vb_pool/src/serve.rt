@@ -10,27 +10,49 @@ use vb_command::{Answer, Command};
 use vb_core::BufferError;
 
 impl<A: Allocator + Clone> Pool<A> {
-    /// Carries out one command and answers it. A command that is refused changes nothing.
+    /// Carries out one command and answers it. A command that is refused changes nothing, except
+    /// that `freeze` and `thaw` give their set away: where memory is refused, their slot is empty and
+    /// all others are as before.
     ///
-    /// `import` copies its bytes, by one request for memory; the other commands take none.
-    pub fn serve(&mut self, command: &Command<A>) -> Answer<A>
+    /// Memory is asked from copies of `alloc`: `import`, `full` and `bits` ask once for the whole, and
+    /// so does `thaw` where another slot has the storage too. The copy of an open set asks the
+    /// allocator of that set. `freeze`, `slice`, `clone` of a frozen set and `thaw` of a storage's
+    /// only owner copy no bits.
+    pub fn serve(&mut self, alloc: &A, command: &Command<A>) -> Answer<A>
         ensures { Outcome self.old (order command.now) (reply result) self.new }
     {
         match command {
-            Command::Import(k, offset, len, bytes) => self.import(*k, *offset, *len, bytes),
+            Command::Import(k, offset, len, bytes) => {
+                self.import(alloc, *k, *offset, *len, bytes)
+            }
+            Command::Full(k, v, n) => self.full(alloc, *k, *v, *n),
+            Command::Set(k, i, v) => self.set(*k, *i, *v),
+            Command::Append(k, v) => self.append(*k, *v),
+            Command::Appendn(k, v, n) => self.append_n(*k, *v, *n),
+            Command::Fill(k, a, b, v) => self.fill(*k, *a, *b, *v),
+            Command::Truncate(k, n) => self.truncate(*k, *n),
+            Command::Clear(k) => self.clear(*k),
+            Command::Flip(k) => self.flip(*k),
+            Command::Freeze(k) => self.freeze(*k),
+            Command::Thaw(k) => self.thaw(alloc, *k),
+            Command::Clone(k, t) => self.clone(*k, *t),
+            Command::Slice(k, a, b, t) => self.slice(*k, *a, *b, *t),
+            Command::Drop(k) => self.drop(*k),
             Command::Len(k) => self.len(*k),
             Command::Count(k) => self.count(*k),
             Command::Get(k, i) => self.get(*k, *i),
+            Command::Countrange(k, a, b) => self.count_range(*k, *a, *b),
             Command::Select(k, n) => self.select(*k, *n),
             Command::Selectunset(k, n) => self.select_unset(*k, *n),
+            Command::Bits(k) => self.bits(alloc, *k),
         }
     }
 }
 
 /// Carries out the commands in their order and gives one answer a command.
 ///
-/// The room for all answers is asked from `alloc` first: where that is refused, the answer is
-/// [`BufferError::OutOfMemory`] and nothing was done. A command that is refused later, for want of
+/// The room for all answers is asked from a copy of `alloc` first: where that is refused, the answer
+/// is [`BufferError::OutOfMemory`] and nothing was done. A command that is refused later, for want of
 /// memory too, has its refusal among the answers, and the commands after it are carried out.
 pub fn run<A: Allocator + Clone>(
     alloc: A,
@@ -42,9 +64,9 @@ pub fn run<A: Allocator + Clone>(
     ensures refusal { IsOkUnless result OutOfMemory }
     ensures err { OnErr result (pool.new ≡ pool.old) }
 {
-    let mut answers = Vec::with_capacity(alloc, commands.len())?;
+    let mut answers = Vec::with_capacity(alloc.clone()?, commands.len())?;
     for command in commands {
-        answers.push(pool.serve(command)).unwrap();
+        answers.push(pool.serve(&alloc, command)).unwrap();
     }
     Ok(answers)
 }

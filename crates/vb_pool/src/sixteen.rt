@@ -1,6 +1,8 @@
 //! Sixteen values by their numbers.
 ghost use Rattle.std.specs.Prelude.{◌≡◌, slice_get, slice_set};
-ghost use Rattle.std.specs.Option.{option_copied};
+ghost use Rattle.std.specs.Borrow.{LendsIf, sem};
+ghost use Rattle.std.specs.Option.{option_copied, option_copied_mut};
+ghost use Rattle.vb_pool.specs.contracts.sixteen.Sixteen.{the_row};
 
 use std::marker::Model;
 use std::mem;
@@ -61,6 +63,32 @@ impl<T> Sixteen<T> {
             13 => Some(&self.s13),
             14 => Some(&self.s14),
             15 => Some(&self.s15),
+            _ => None,
+        }
+    }
+
+    /// Value `k` for writing; `None` from 16 on.
+    pub fn get_mut(&mut self, k: usize) -> Option<&mut T>
+        ensures* writes_back { sem 𝓛 (LendsIf (the_row T.row) T.row self.entry result (slice_set self.old k) self.old) }
+        ensures value { option_copied_mut result ≡ slice_get self.old k }
+    {
+        match k {
+            0 => Some(&mut self.s0),
+            1 => Some(&mut self.s1),
+            2 => Some(&mut self.s2),
+            3 => Some(&mut self.s3),
+            4 => Some(&mut self.s4),
+            5 => Some(&mut self.s5),
+            6 => Some(&mut self.s6),
+            7 => Some(&mut self.s7),
+            8 => Some(&mut self.s8),
+            9 => Some(&mut self.s9),
+            10 => Some(&mut self.s10),
+            11 => Some(&mut self.s11),
+            12 => Some(&mut self.s12),
+            13 => Some(&mut self.s13),
+            14 => Some(&mut self.s14),
+            15 => Some(&mut self.s15),
             _ => None,
         }
     }

@@ -1,0 +1,167 @@
+//! The sets that commands edit.
+ghost use Rattle.std.specs.Prelude.{◌≡◌, ◌+◌, ◌*◌, ◌<◌, ◌≤◌, [], ◌∷◌, ◌++◌, length, take, replicate, slice_set, IfOk, IsOkUnless, OnOk, OnErr};
+ghost use Rattle.vb_core.specs.declared.error.BufferError.TheVariants.{OutOfMemory};
+ghost use Rattle.vb_kernel.specs.Bits.{bits, negated};
+ghost use Rattle.vb_kernel.specs.Edits.{filled};
+ghost use Rattle.vb_pool.specs.OpenBits.{LimitsLength};
+
+use std::alloc::Allocator;
+use std::marker::Model;
+use vb_core::BufferError;
+use vb_mem::BufferMut;
+use vb_set::{BitBuffer, BitBufferMut};
+
+/// A set that commands edit. Contracts see the list of its bits.
+///
+/// Its first bit lies in the first byte. So a length is refused for its bit numbers only where it
+/// passes `usize::MAX - 7`.
+#[derive(Drop)]
+pub struct OpenBits<A: Allocator + Clone> {
+    set: BitBufferMut<A>,
+}
+
+impl<A: Allocator + Clone> Model for OpenBits<A> {
+    ghost use Rattle.std.specs.Prelude.{List, Bool, ◌<◌};
+
+    ghost Value = { List Bool };
+
+    ghost view = { λ s. s.set.bits };
+
+    ghost invariant = { λ s. s.set.offset < 8 };
+}
+
+impl<A: Allocator + Clone> OpenBits<A> {
+    /// The set as it is.
+    fn new(set: BitBufferMut<A>) -> Self
+        requires { set.offset < 8 }
+        ensures { result ≡ set.bits }
+    {
+        OpenBits { set }
+    }
+
+    /// The window of `len` bits from bit `offset` on in a copy of the bytes. Refused by
+    /// `OutOfMemory` alone.
+    pub fn copy_window(
+        alloc: &A,
+        bytes: &[u8],
+        offset: usize,
+        len: usize,
+    ) -> Result<Self, BufferError>
+        requires first_byte { offset < 8 }
+        requires inside { offset + len ≤ 8 * length bytes.now }
+        requires fits { offset + len ≤ usize.MAX }
+        ensures bits { IfOk result (λ s. s ≡ bits bytes.now offset len) }
+        ensures refused { IsOkUnless result OutOfMemory }
+    {
+        let buffer = BufferMut::copy_from(alloc.clone()?, bytes)?;
+        Ok(OpenBits::new(BitBufferMut::from_buffer(buffer, offset, len)))
+    }
+
+    /// `n` bits, all `v`. Refused by `OutOfMemory` alone.
+    pub fn full(alloc: &A, v: bool, n: usize) -> Result<Self, BufferError>
+        ensures bits { IfOk result (λ s. s ≡ replicate n v) }
+        ensures refused { IsOkUnless result OutOfMemory }
+    {
+        Ok(OpenBits::new(BitBufferMut::full(alloc.clone()?, v, n)?))
+    }
+
+    /// The bits of a shared set: in its storage, where it has no other owner, else in a copy.
+    /// Refused by `OutOfMemory` alone; then the shared set is gone.
+    pub fn thaw(alloc: &A, set: BitBuffer<A>) -> Result<Self, BufferError>
+        ensures bits { IfOk result (λ s. s ≡ set.bits) }
+        ensures refused { IsOkUnless result OutOfMemory }
+    {
+        prove!(set.offset() < 8);
+        match set.try_into_mut() {
+            Ok(set) => Ok(OpenBits::new(set)),
+            Err(set) => Ok(OpenBits::new(BitBufferMut::copy_from(alloc.clone()?, &set)?)),
+        }
+    }
+
+    /// The same bits to be shared, with no copy. Refused by `OutOfMemory` alone; then the set is
+    /// gone.
+    pub fn freeze(self) -> Result<BitBuffer<A>, BufferError>
+        ensures bits { IfOk result (λ s. s.bits ≡ self) }
+        ensures refused { IsOkUnless result OutOfMemory }
+    {
+        self.set.freeze()
+    }
+
+    /// A copy. Refused by `OutOfMemory` alone.
+    pub fn clone(&self) -> Result<Self, BufferError>
+        ensures same { IfOk result (λ s. s ≡ self.now) }
+        ensures refused { IsOkUnless result OutOfMemory }
+    {
+        Ok(OpenBits::new(self.set.clone()?))
+    }
+
+    /// The set, to read.
+    pub fn as_set(&self) -> &BitBufferMut<A>
+        ensures { result.now.bits ≡ self.now }
+    {
+        &self.set
+    }
+
+    /// How many bits there are.
+    pub fn len(&self) -> usize
+        ensures { result ≡ length self.now }
+    {
+        self.set.len()
+    }
+
+    /// Makes bit `i` `v`.
+    pub fn set_to(&mut self, i: usize, v: bool)
+        requires { i < length self.old }
+        ensures { self.new ≡ slice_set self.old i v }
+    {
+        self.set.set_to(i, v);
+    }
+
+    /// Makes the bits from `start` up to `end`, `end` excluded, `v`.
+    pub fn fill_range(&mut self, start: usize, end: usize, v: bool)
+        requires order { start ≤ end }
+        requires within { end ≤ length self.old }
+        ensures { self.new ≡ filled self.old start end v }
+    {
+        self.set.fill_range(start, end, v);
+    }
+
+    /// Adds a bit `v`. Refused by `OutOfMemory` or `TooManyBits`; then the set is unchanged.
+    pub fn append(&mut self, v: bool) -> Result<(), BufferError>
+        ensures ok { OnOk result (self.new ≡ self.old ++ v ∷ []) }
+        ensures err { OnErr result (self.new ≡ self.old) }
+        ensures limits { LimitsLength (length self.old + 1) result }
+    {
+        self.set.append(v)
+    }
+
+    /// Adds `n` bits `v`. Refused by `OutOfMemory` or `TooManyBits`; then the set is unchanged.
+    pub fn append_n(&mut self, v: bool, n: usize) -> Result<(), BufferError>
+        ensures ok { OnOk result (self.new ≡ self.old ++ replicate n v) }
+        ensures err { OnErr result (self.new ≡ self.old) }
+        ensures limits { LimitsLength (length self.old + n) result }
+    {
+        self.set.append_n(v, n)
+    }
+
+    /// Keeps the first `n` bits, or all where there are at most `n`.
+    pub fn truncate(&mut self, n: usize)
+        ensures { self.new ≡ take n self.old }
+    {
+        self.set.truncate(n);
+    }
+
+    /// Leaves no bits.
+    pub fn clear(&mut self)
+        ensures { self.new ≡ [] }
+    {
+        self.set.clear();
+    }
+
+    /// Each bit turned over, in place.
+    pub fn flipped(self) -> Self
+        ensures { result ≡ negated self }
+    {
+        OpenBits::new(!self.set)
+    }
+}

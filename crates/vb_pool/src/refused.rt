@@ -1,0 +1,20 @@
+//! Refusals of sets as those of commands.
+ghost use Rattle.std.specs.Prelude.{◌≡◌, Ok, Err};
+ghost use Rattle.vb_command.specs.Machine.{Done};
+ghost use Rattle.vb_command.specs.Views.{reply};
+
+use std::alloc::Allocator;
+use vb_command::{Answer, Refusal};
+use vb_core::BufferError;
+
+/// The refusal of a command whose set refused with this. Sets refuse by `TooManyBits` and
+/// `OutOfMemory` alone.
+pub(crate) fn refusal_of(error: BufferError) -> Refusal
+    ensures bits { error ≡ BufferError.TooManyBits → result ≡ Refusal.TooManyBits }
+    ensures memory { error ≡ BufferError.OutOfMemory → result ≡ Refusal.OutOfMemory }
+{
+    match error {
+        BufferError::TooManyBits => Refusal::TooManyBits,
+        _ => Refusal::OutOfMemory,
+    }
+}
