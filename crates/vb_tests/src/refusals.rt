@@ -137,22 +137,22 @@ fn same_answers<A: Allocator>(
     Ok(())
 }
 
-/// Runs the commands with one request refused, beside the plain machine, and answers whether that
-/// request was made.
-fn run_is_plain<A: Allocator + Clone>(
+/// Runs the commands on an empty pool with one request refused, beside the plain machine, and
+/// answers whether that request was made.
+fn run_on<A: Allocator + Clone>(
     rt: &impl Abort,
     global: Global,
     heap: &Refusing<Global>,
     alloc: A,
     refused: u64,
+    pool: &mut Pool<A>,
 ) -> Result<bool, Fail> {
     heap.refuse(0);
     let commands = commands(rt, global, &alloc)?;
     let own = alloc.clone()?;
-    let mut pool = Pool::new();
     let mut plain = Plain::new(global)?;
     heap.refuse(refused);
-    let ran = run(alloc, &mut pool, &commands);
+    let ran = run(alloc, pool, &commands);
     let was_refused = heap.has_refused();
     heap.refuse(0);
     match ran {
@@ -162,8 +162,20 @@ fn run_is_plain<A: Allocator + Clone>(
         }
         Ok(answers) => same_answers(rt, global, &mut plain, &commands, &answers, was_refused)?,
     }
-    same_slots(rt, global, &own, &mut pool, &mut plain)?;
+    same_slots(rt, global, &own, pool, &mut plain)?;
     Ok(was_refused)
+}
+
+/// [`run_on`] a pool of its own, which isn't among the values that a `?` there would drop.
+fn run_is_plain<A: Allocator + Clone>(
+    rt: &impl Abort,
+    global: Global,
+    heap: &Refusing<Global>,
+    alloc: A,
+    refused: u64,
+) -> Result<bool, Fail> {
+    let mut pool = Pool::new();
+    run_on(rt, global, heap, alloc, refused, &mut pool)
 }
 
 #[test]
@@ -280,13 +292,17 @@ fn run_gives_up(rt: HostRuntime) -> Result<(), Fail> {
     Ok(())
 }
 
-/// Each command alone, where there is memory.
+/// Each command alone is answered as by the plain machine.
+fn all_served(rt: &impl Abort, alloc: Global, pool: &mut Pool<Global>) -> Result<(), Fail> {
+    let mut plain = Plain::new(alloc)?;
+    for command in commands(rt, alloc, &alloc)?.iter() {
+        same_answer(rt, alloc, &alloc, pool, &mut plain, command)?;
+    }
+    Ok(())
+}
+
 #[test]
 fn commands_give_up(rt: HostRuntime) -> Result<(), Fail> {
     let mut pool = Pool::new();
-    let mut plain = Plain::new(rt.alloc())?;
-    for command in commands(&rt, rt.alloc(), &rt.alloc())?.iter() {
-        same_answer(&rt, rt.alloc(), &rt.alloc(), &mut pool, &mut plain, command)?;
-    }
-    Ok(())
+    all_served(&rt, rt.alloc(), &mut pool)
 }
