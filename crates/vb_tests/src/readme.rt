@@ -2,6 +2,7 @@
 use std::test::Fail;
 use vb_kernel::{bit_select, count_ones, window_fits};
 use vb_mem::Buffer;
+use vb_set::BitBufferMut;
 
 #[test]
 fn example(rt: HostRuntime) -> Result<(), Fail> {
@@ -19,5 +20,12 @@ fn example(rt: HostRuntime) -> Result<(), Fail> {
     edited.push(50)?;
     assert_eq!(rt; middle.as_slice(), [20, 30].as_slice());
     assert_eq!(rt; edited.as_slice(), [20, 30, 50].as_slice());
+
+    // A set of rows that is edited, and then shared.
+    let mut rows = BitBufferMut::new_set(rt.alloc(), 4)?;
+    rows.append(false)?;
+    let shared = rows.freeze()?;
+    assert_eq!(rt; shared.slice(2..5)?.true_count(), 2);
+    assert_eq!(rt; shared.select_unset(0), Some(4));
     Ok(())
 }
