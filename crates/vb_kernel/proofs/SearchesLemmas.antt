@@ -9,7 +9,7 @@ use Rattle.std.proofs.lemmas.Bool.{cases_lt}
 use Rattle.vb_kernel.specs.Bits.{bits, count, negated, Selects}
 use Rattle.vb_kernel.specs.Digits.{digits}
 use Rattle.vb_kernel.specs.Searches.{matching, Searched}
-use Rattle.vb_kernel.proofs.BitsLemmas.{bits-add, length-bits, count-append, count-take-lt, count-take-mono, count-bits_none, count-negated_none}
+use Rattle.vb_kernel.proofs.BitsLemmas.{bits-add, length-bits, count-append, count-le, count-take-lt, count-take-mono, count-bits_none, count-negated, count-negated_none}
 use Rattle.vb_kernel.proofs.DigitsLemmas.{digits-add, count-digits_below}
 
 -- ---- a place in two lists, one after the other
@@ -78,6 +78,18 @@ matching_true false l e = cc
 pub matching_false : (v : Bool) (l : List Bool) → v ≡ false → matching v l ≡ negated l
 matching_false true l e = cc
 matching_false false l e = refl
+
+-- no more than the window has bits
+pub count-matching-bits-le : (v : Bool) (b : List ℕ) (o n : ℕ) → count (matching v (bits b o n)) ≤ n
+count-matching-bits-le v b o n = omega (arith, count-le (matching v (bits b o n)), length-matching v (bits b o n), length-bits b o n)
+
+-- how many they are in a window, where true is sought
+pub count-matching-bits_true : (v : Bool) (b : List ℕ) (o n : ℕ) → v ≡ true → count (matching v (bits b o n)) ≡ count (bits b o n)
+count-matching-bits_true v b o n e = ap count (matching_true v (bits b o n) e)
+
+-- how many they are in a window, where false is sought
+pub count-matching-bits_false : (v : Bool) (b : List ℕ) (o n : ℕ) → v ≡ false → count (matching v (bits b o n)) ≡ n - count (bits b o n)
+count-matching-bits_false v b o n e = omega (arith, ap count (matching_false v (bits b o n) e), count-negated (bits b o n), length-bits b o n)
 
 -- ---- searches of windows
 -- a place that was found is one of the window

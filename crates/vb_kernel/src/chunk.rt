@@ -8,6 +8,7 @@ use crate::bytes::word_at;
 use crate::glance::Plain;
 use crate::select::find_in_units;
 use std::marker::Model;
+use std::simd::prelude::*;
 
 /// A sum in four parts. They are kept apart, as the lanes of a vector are, so that the counts of a
 /// chunk's words don't wait for one another.
@@ -80,14 +81,14 @@ pub(crate) fn chunk_ones(chunk: &[u8; 64]) -> usize
 
 /// The place of the `n`-th bit of the chunk that is `value`.
 ///
-/// It is called once a search, and takes the chunk by value: so the chunks that are only counted
-/// stay in registers.
+/// It is called once a search, and takes the chunk as a vector, which is passed in registers: so no
+/// chunk that is only counted is copied to memory.
 #[inline(never)]
-pub(crate) fn select_in_chunk(chunk: [u8; 64], n: usize, value: bool) -> usize
+pub(crate) fn select_in_chunk(chunk: u8x64, n: usize, value: bool) -> usize
     requires { n < count (matching value (bits chunk 0 512)) }
     ensures { Selects (matching value (bits chunk 0 512)) n (Some result) }
 {
-    find_in_units::<u64, Plain>(&mut Plain::new(&chunk), 0, 0, 8, n, value)
+    find_in_units::<u64, Plain>(&mut Plain::new(&chunk.to_array()), 0, 0, 8, n, value)
         .break_value()
         .unwrap()
 }

@@ -122,7 +122,7 @@ fn add_chunks<G: Glance>(src: &mut G, at: usize, n: usize, ones: usize) -> usize
 /// parts the compiler no longer sees its four as the lanes of one vector.
 #[tactic(auto, using(crate::proofs::BitsLemmas::windows))]
 #[inline(never)]
-fn count_chunks<G: Glance>(src: &mut G, at: usize, n: usize) -> usize
+pub(crate) fn count_chunks<G: Glance>(src: &mut G, at: usize, n: usize) -> usize
     requires inside { at + 64 * n ≤ length (G.bytes src.old) }
     requires fits { 8 * at + 512 * n ≤ usize.MAX }
     ensures value { result ≡ count (bits (G.bytes src.old) (8 * at) (512 * n)) }

@@ -5,11 +5,16 @@ ghost use Rattle.vb_kernel.specs.Looks.{looks};
 ghost use Rattle.vb_kernel.specs.Searches.{matching, Searched};
 ghost use Rattle.vb_kernel.specs.Windows.{rest_looks};
 
+use crate::count::count_chunks;
 use crate::glance::{Glance, Plain};
 use crate::unit::Unit;
 use crate::window::Parts;
 use crate::word::{byte_part, select_in_word};
 use std::ops::ControlFlow;
+
+/// Fewer chunks than these are searched one by one, which takes no longer than a call that counts
+/// them.
+const WORTH_A_CALL: usize = 4;
 
 /// The place, relative to the window, of its `n`-th true bit, counted from 0; `None` where the
 /// window has at most `n`.
@@ -82,8 +87,85 @@ fn find<G: Glance>(
     let parts = Parts::of(offset, len);
     let rest_at = parts.head + 512 * parts.chunks;
     let n = find_in_part(src, offset, 0, parts.head, n, value)?;
-    let n = find_in_units::<[u8; 64], G>(src, offset, parts.head, parts.chunks, n, value)?;
+    let n = find_in_chunks(src, offset, parts.head, parts.chunks, n, value)?;
     find_in_rest(src, offset, rest_at, parts.rest, n, value)
+}
+
+/// Searches the chunks at place `from` of the window at `offset`. Of the bits from there on that
+/// are `value`, the `n`-th is sought.
+#[inline(always)]
+fn find_in_chunks<G: Glance>(
+    src: &mut G,
+    offset: usize,
+    from: usize,
+    chunks: usize,
+    n: usize,
+    value: bool,
+) -> ControlFlow<usize, usize>
+    requires aligned { 0 < chunks → (offset + from) % 8 ≡ 0 }
+    requires inside { offset + from + 512 * chunks ≤ 8 * length (G.bytes src.old) }
+    requires fits { offset + from + 512 * chunks ≤ usize.MAX }
+    ensures found { Searched
+        (matching value (bits (G.bytes src.old) offset (from + 512 * chunks)))
+        (n + count (matching value (bits (G.bytes src.old) offset from))) result }
+    ensures same { G.bytes src.new ≡ G.bytes src.old }
+    ensures looks { G.looks src.new ≤ G.looks src.old + chunks }
+{
+    let (passed, left) = pass_chunks(src, offset + from, chunks, n, value);
+    let others_at = from + 512 * passed;
+    find_in_units::<[u8; 64], G>(src, offset, others_at, chunks - passed, left, value)
+}
+
+/// Passes chunks from bit `at` on that can't hold the `n`-th bit that is `value`. Answers how many
+/// of the `chunks` it passed, and what is left of the rank after them.
+///
+/// `n / 512` chunks have at most `n` bits, so the one that is sought comes after them: they are
+/// counted as fast as [`count_chunks`] does, and none of them is searched. The same then holds of
+/// the rank that is left.
+fn pass_chunks<G: Glance>(
+    src: &mut G,
+    at: usize,
+    chunks: usize,
+    n: usize,
+    value: bool,
+) -> (usize, usize)
+    requires aligned { 0 < chunks → at % 8 ≡ 0 }
+    requires inside { at + 512 * chunks ≤ 8 * length (G.bytes src.old) }
+    requires fits { at + 512 * chunks ≤ usize.MAX }
+    ensures within { result.0 ≤ chunks }
+    ensures passed { n ≡ result.1
+        + count (matching value (bits (G.bytes src.old) at (512 * result.0))) }
+    ensures same { G.bytes src.new ≡ G.bytes src.old }
+    ensures looks { G.looks src.new ≡ G.looks src.old + result.0 }
+{
+    let mut passed = 0;
+    let mut left = n;
+    loop {
+        let sure = (left / 512).min(chunks - passed);
+        if sure < WORTH_A_CALL {
+            return (passed, left);
+        }
+        left -= count_matching(src, at / 8 + 64 * passed, sure, value);
+        passed += sure;
+    }
+}
+
+/// How many bits of `n` chunks from byte `at` on are `value`.
+///
+/// Marked as cold, since the compiler then lays the search out for few chunks, where this isn't
+/// called. For many chunks the call costs nothing that can be measured.
+#[tactic(auto, using(crate::proofs::BitsLemmas::windows))]
+#[cold]
+#[inline(never)]
+fn count_matching<G: Glance>(src: &mut G, at: usize, n: usize, value: bool) -> usize
+    requires inside { at + 64 * n ≤ length (G.bytes src.old) }
+    requires fits { 8 * at + 512 * n ≤ usize.MAX }
+    ensures value { result ≡ count (matching value (bits (G.bytes src.old) (8 * at) (512 * n))) }
+    ensures same { G.bytes src.new ≡ G.bytes src.old }
+    ensures looks { G.looks src.new ≡ G.looks src.old + n }
+{
+    let ones = count_chunks(src, at, n);
+    if value { ones } else { 512 * n - ones }
 }
 
 /// Searches the `len` bits at place `from` of the window at `offset`, by words and bytes. Of the

@@ -7,6 +7,7 @@ ghost use Rattle.vb_kernel.specs.Searches.{matching};
 use crate::chunk::{chunk_ones, select_in_chunk};
 use crate::glance::Glance;
 use crate::word::{byte_part, select_in_word, turned};
+use std::simd::prelude::*;
 
 /// Bytes that one look reads, and that are then counted and searched without another look.
 ///
@@ -94,6 +95,6 @@ impl Unit for [u8; 64] {
     }
 
     fn select(self, n: usize, value: bool) -> usize {
-        select_in_chunk(self, n, value)
+        select_in_chunk(u8x64::from_array(self), n, value)
     }
 }

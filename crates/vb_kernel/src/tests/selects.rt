@@ -25,7 +25,7 @@ fn selects_are_plain(rt: &impl Abort, bytes: &[u8], offset: usize, len: usize) {
 
 #[test]
 fn selects_of_mixed_bytes(rt: HostRuntime) -> Result<(), AllocError> {
-    let bytes = sample::mixed_bytes(rt.alloc(), 130)?;
+    let bytes = sample::mixed_bytes(rt.alloc(), 700)?;
     let windows = [
         (0, 128),
         (3, 100),
@@ -40,6 +40,8 @@ fn selects_of_mixed_bytes(rt: HostRuntime) -> Result<(), AllocError> {
         (0, 512),
         (0, 513),
         (5, 1024),
+        (0, 4096),
+        (3, 5500),
     ];
     for (offset, len) in windows {
         selects_are_plain(&rt, &bytes, offset, len);

@@ -21,7 +21,7 @@ returns-in_err-n-2-clause-found g c =
     let rest : ℕ = parts.head + 512 * parts.chunks in
     let all : n ≡ n + count (matching v (bits b o 0)) = omega (arith, count-matching-bits_none v b o) in
     let after_head = Searched_on v b b o 0 (0 + parts.head) parts.head n n (Continue c.in_ok-n.n) refl (omega arith) all c.in_ok-n.ensures.found in
-    let found = Searched_on v b (g.G.Glance.bytes c.find_in_part.new.src) o parts.head (parts.head + 8 * (64 * parts.chunks)) rest n c.in_ok-n.n (Break place) c.in_ok-n.ensures.same (omega arith) after_head c.in_err-n-2.ensures.found in
+    let found = Searched_on v b (g.G.Glance.bytes c.find_in_part.new.src) o parts.head rest rest n c.in_ok-n.n (Break place) c.in_ok-n.ensures.same refl after_head c.in_err-n-2.ensures.found in
     rw c.from_residual-in_err-n-2.ensures (Searched_longer v b o rest c.args.len n place (omega arith) found)
 
 pub returns-clause-found : goal.returns-clause-found
@@ -31,5 +31,5 @@ returns-clause-found g c =
     let rest : ℕ = parts.head + 512 * parts.chunks in
     let all : n ≡ n + count (matching v (bits b o 0)) = omega (arith, count-matching-bits_none v b o) in
     let after_head = Searched_on v b b o 0 (0 + parts.head) parts.head n n (Continue c.in_ok-n.n) refl (omega arith) all c.in_ok-n.ensures.found in
-    let after_chunks = Searched_on v b (g.G.Glance.bytes c.find_in_part.new.src) o parts.head (parts.head + 8 * (64 * parts.chunks)) rest n c.in_ok-n.n (Continue c.in_ok-n-2.n) c.in_ok-n.ensures.same (omega arith) after_head c.in_ok-n-2.ensures.found in
-    Searched_on v b (g.G.Glance.bytes c.find_in_units.new.src) o rest (rest + parts.rest) c.args.len n c.in_ok-n-2.n c.find_in_rest.result (c.in_ok-n-2.ensures.same ∙ c.in_ok-n.ensures.same) (omega arith) after_chunks c.find_in_rest.ensures.found
+    let after_chunks = Searched_on v b (g.G.Glance.bytes c.find_in_part.new.src) o parts.head rest rest n c.in_ok-n.n (Continue c.in_ok-n-2.n) c.in_ok-n.ensures.same refl after_head c.in_ok-n-2.ensures.found in
+    Searched_on v b (g.G.Glance.bytes c.find_in_chunks.new.src) o rest (rest + parts.rest) c.args.len n c.in_ok-n-2.n c.find_in_rest.result (c.in_ok-n-2.ensures.same ∙ c.in_ok-n.ensures.same) (omega arith) after_chunks c.find_in_rest.ensures.found

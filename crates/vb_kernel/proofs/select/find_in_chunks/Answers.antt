@@ -1,0 +1,14 @@
+use Rattle.std.proofs.Common.{◌≡◌, ◌+◌, ◌-◌, ◌*◌, ℕ, List, Bool, arith}
+use Rattle.vb_kernel.specs.Bits.{bits, count}
+use Rattle.vb_kernel.specs.Searches.{matching}
+use Rattle.vb_kernel.proofs.SearchesLemmas.{Searched_on, count-matching-bits-add}
+use Rattle.vb_kernel.proofs.select.find_in_chunks.Goals as goal
+
+pub returns-clause-found : goal.returns-clause-found
+returns-clause-found g c =
+    let b : List ℕ = g.G.Glance.bytes c.args.src.now in let v : Bool = c.args.value in let o : ℕ = c.args.offset in let from : ℕ = c.args.from in
+    let passed : ℕ = c.pass_chunks-passed.result.0 in let left : ℕ = c.pass_chunks-passed.result.1 in
+    let others : ℕ = from + 512 * passed in let n : ℕ = c.args.n + count (matching v (bits b o from)) in
+    let after : n ≡ left + count (matching v (bits b o others)) = omega (arith, c.pass_chunks-passed.ensures.passed, count-matching-bits-add v b o from (512 * passed)) in
+    Searched_on v b (g.G.Glance.bytes c.pass_chunks-passed.new.src) o others (others + 8 * (64 * (c.args.chunks - passed))) (from + 512 * c.args.chunks) n left c.find_in_units.result c.pass_chunks-passed.ensures.same (omega arith)
+    after c.find_in_units.ensures.found
