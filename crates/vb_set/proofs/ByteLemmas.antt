@@ -7,7 +7,8 @@ use Rattle.std.specs.Int.{bit_at, from_bool}
 use Rattle.std.specs.Int.Bits.{or_zero_r}
 use Rattle.vb_kernel.specs.Bits.{bit_of, bits}
 use Rattle.vb_kernel.proofs.BitsLemmas.{length-bits, at-bits, bits_more}
-use Rattle.vb_set.specs.Changes.{Adds, ChangesBit, FillsBits}
+use Rattle.vb_kernel.specs.Fills.{Fills}
+use Rattle.vb_set.specs.Changes.{Adds, ChangesBit}
 use Rattle.vb_set.proofs.WindowLemmas.{bit_of-append, bits-append}
 
 -- a byte is written that differs in one bit
@@ -73,7 +74,7 @@ bit_of_added b m y i v h low high =
     ∙ h (i % 8) (omega arith)
 
 -- bytes are added whose digits are all v, and the bits up to them are filled
-pub Adds_run : (b with_more c : List ℕ) (start n m y e : ℕ) (v : Bool) → with_more ≡ b ++ replicate m y → ((j : ℕ) → j < 8 → nat_eq (bit_at y j) 1 ≡ v) → FillsBits with_more c start e v → e ≡ length b * 8 → start ≤ e → start + n ≤ 8 * (length b + m) → Adds b c start (replicate n v)
+pub Adds_run : (b with_more c : List ℕ) (start n m y e : ℕ) (v : Bool) → with_more ≡ b ++ replicate m y → ((j : ℕ) → j < 8 → nat_eq (bit_at y j) 1 ≡ v) → Fills with_more c start e v → e ≡ length b * 8 → start ≤ e → start + n ≤ 8 * (length b + m) → Adds b c start (replicate n v)
 Adds_run b with_more c start n m y e v more h f whole from to o k place =
     let size : length (replicate n v) ≡ n = length-replicate n v in
     same_lists _ _

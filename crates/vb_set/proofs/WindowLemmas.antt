@@ -8,8 +8,9 @@ use Rattle.std.proofs.lemmas.Nat.Bits.{bit_at_ones, bit_at-zero}
 use Rattle.std.specs.Int.{bit_at}
 use Rattle.vb_kernel.specs.Bits.{bit_of, bits, count}
 use Rattle.vb_kernel.proofs.BitsLemmas.{length-bits, at-bits, take-bits, bits_none, bits_more, same_bits, count-append, count-negated, count-le}
-use Rattle.vb_set.specs.Changes.{ChangesBit, FillsBits, TurnsBits}
 use Rattle.vb_kernel.specs.Edits.{filled}
+use Rattle.vb_kernel.specs.Fills.{Fills}
+use Rattle.vb_set.specs.Changes.{ChangesBit}
 use Rattle.vb_set.specs.Sets.{IsWindow}
 
 -- ---- parts of a window
@@ -129,7 +130,7 @@ bits-pushed b c o n v f =
     ∙ ap (λ l. l ++ v ∷ []) (same_bits c b o o n (λ i l. let other : o + i ≢ o + n = omega arith in f.others (o + i) other))
 
 -- a part inside
-pub bits-filled : (b c : List ℕ) (o n i j : ℕ) (v : Bool) → FillsBits b c (o + i) (o + j) v → i ≤ j → j ≤ n → bits c o n ≡ filled (bits b o n) i j v
+pub bits-filled : (b c : List ℕ) (o n i j : ℕ) (v : Bool) → Fills b c (o + i) (o + j) v → i ≤ j → j ≤ n → bits c o n ≡ filled (bits b o n) i j v
 bits-filled b c o n i j v f h le =
     let l = bits b o n in
     let front : length (take i l) ≡ i = omega (arith, length-take i l, length-bits b o n) in
@@ -155,7 +156,7 @@ bits-filled b c o n i j v f h le =
     ])
 
 -- a part right behind
-pub bits-extended : (b c : List ℕ) (o n m e : ℕ) (v : Bool) → FillsBits b c (o + n) e v → e ≡ o + n + m → bits c o (n + m) ≡ bits b o n ++ replicate m v
+pub bits-extended : (b c : List ℕ) (o n m e : ℕ) (v : Bool) → Fills b c (o + n) e v → e ≡ o + n + m → bits c o (n + m) ≡ bits b o n ++ replicate m v
 bits-extended b c o n m e v f whole =
     same_lists _ _
     (omega (arith, length-bits c o (n + m), length-bits b o n, length-append (bits b o n) (replicate m v), length-replicate m v))
@@ -168,12 +169,12 @@ bits-extended b c o n m e v f whole =
     ])
 
 -- every bit
-pub bits-turned : (b c : List ℕ) (o n : ℕ) → TurnsBits b c o n → bits c o n ≡ map not (bits b o n)
+pub bits-turned : (b c : List ℕ) (o n : ℕ) → ((i : ℕ) → o ≤ i → i < o + n → bit_of c i ≡ not (bit_of b i)) → bits c o n ≡ map not (bits b o n)
 bits-turned b c o n f =
     same_lists _ _ (length-bits c o n ∙ sym (length-map (bits b o n) not ∙ length-bits b o n))
     (λ k d l.
     let within : k < n = omega (arith, length-bits c o n) in
-    at-bits c o n k d within ∙ f.turned k within
+    at-bits c o n k d within ∙ f (o + k) (omega arith) (omega arith)
     ∙ sym (get_or-map not (bits b o n) k d d (omega (arith, length-bits b o n)) ∙ ap not (at-bits b o n k d within)))
 
 pub ruleset windows = (bits-empty, length-bits, slice_get-bits, bits-part, take-bits, take_all, bits-append, bits-take_bytes, bits-drop_bytes, IsWindow-take, bits-replicate, bits-changed, bits-pushed, bits-filled, bits-extended, bits-turned, length-replicate, count_parts, count-negated, count-le)

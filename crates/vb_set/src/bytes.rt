@@ -1,11 +1,13 @@
 //! Bits of a byte buffer: the steps of which the edits of a set are made.
-ghost use Rattle.std.specs.Prelude.{◌≡◌, ℕ, ◌+◌, ◌*◌, ◌/◌, ◌<◌, ◌≤◌, ◌==◌, [], ◌∷◌, length, max, replicate, IsOk, IsOkUnless, OnOk, OnErr};
+ghost use Rattle.std.specs.Prelude.{◌≡◌, ℕ, ◌+◌, ◌*◌, ◌/◌, ◌<◌, ◌≤◌, ◌==◌, [], ◌∷◌, not, length, max, replicate, IsOk, IsOkUnless, OnOk, OnErr};
 ghost use Rattle.std.specs.Int.{bit_at, div_ceil};
-ghost use Rattle.vb_set.specs.Changes.{Adds, ChangesBit, FillsBits, TurnsBits};
+ghost use Rattle.vb_kernel.specs.Bits.{bit_of};
+ghost use Rattle.vb_kernel.specs.Fills.{Fills};
+ghost use Rattle.vb_set.specs.Changes.{Adds, ChangesBit};
 
-use crate::kernels::{fill_bits, map_words};
 use std::alloc::Allocator;
 use vb_core::{Alignment, BufferError};
+use vb_kernel::{fill_bits, map_words};
 use vb_mem::{ByteBuffer, ByteBufferMut};
 
 /// Makes bit `i` `v`, without a branch.
@@ -57,7 +59,8 @@ pub(crate) fn fill<A: Allocator + Clone>(
     v: bool,
 )
     requires { end ≤ 8 * length bytes.old.list }
-    ensures bits { FillsBits bytes.old.list bytes.new.list start end v }
+    ensures len { length bytes.new.list ≡ length bytes.old.list }
+    ensures bits { Fills bytes.old.list bytes.new.list start end v }
     ensures keeps { bytes.new ≡ record bytes.old { list = bytes.new.list } }
 {
     fill_bits(bytes.as_mut_slice(), start, end, v);
@@ -67,7 +70,9 @@ pub(crate) fn fill<A: Allocator + Clone>(
 pub(crate) fn turn<A: Allocator + Clone>(bytes: &mut ByteBufferMut<A>, offset: usize, len: usize)
     requires inside { offset + len ≤ 8 * length bytes.old.list }
     requires fits { offset + len ≤ usize.MAX }
-    ensures bits { TurnsBits bytes.old.list bytes.new.list offset len }
+    ensures len { length bytes.new.list ≡ length bytes.old.list }
+    ensures turned { (i : ℕ) → offset ≤ i → i < offset + len
+        → bit_of bytes.new.list i ≡ not (bit_of bytes.old.list i) }
     ensures keeps { bytes.new ≡ record bytes.old { list = bytes.new.list } }
 {
     map_words(bytes.as_mut_slice(), offset, len);

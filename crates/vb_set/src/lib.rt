@@ -9,7 +9,6 @@
 pub mod bit_buffer;
 pub mod bit_buffer_mut;
 mod bytes;
-mod kernels;
 
 pub use bit_buffer::BitBuffer;
 pub use bit_buffer_mut::BitBufferMut;

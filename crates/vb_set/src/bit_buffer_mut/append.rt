@@ -23,11 +23,10 @@ impl<A: Allocator + Clone> BitBufferMut<A> {
         ensures too_many { usize.MAX < self.old.offset + length self.old.bits + n → IsErrOf result BufferError.TooManyBits }
         ensures err { OnErr result (self.new ≡ self.old) }
     {
-        let end = self.offset + self.len;
-        if usize::MAX - end < n {
+        let Some(end) = (self.offset + self.len).checked_add(n) else {
             return Err(BufferError::TooManyBits);
-        }
-        reserve_to(&mut self.buffer, end + n)
+        };
+        reserve_to(&mut self.buffer, end)
     }
 
     /// Adds one bit, in amortised constant time.
