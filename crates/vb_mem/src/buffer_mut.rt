@@ -121,7 +121,7 @@ impl<T: Element, A: Allocator> BufferMut<T, A> {
         if start != 0 {
             self.items.copy_within(start..start + len, 0);
         }
-        self.items.truncate(len);
+        self.truncate(len);
         self.alignment = alignment;
     }
 }

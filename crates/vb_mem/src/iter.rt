@@ -1,6 +1,7 @@
 //! Iterators over the items of a buffer.
-ghost use Rattle.std.specs.Prelude.{◌≡◌, length};
-ghost use Rattle.std.specs.Iterator.{YieldsFirst, item_count};
+ghost use Rattle.std.specs.Prelude.{◌≡◌, length, Some, IfSome};
+ghost use Rattle.std.specs.Iterator.{YieldsFirst, UpTo, at_most, item_count};
+ghost use Rattle.std.specs.Iterator.SizeHint.{IsWithinCount};
 ghost use Rattle.std.specs.Slice.Iter.{iter_rest};
 ghost use Rattle.vb_core.specs.ExactCounts.{list_counts};
 
@@ -51,7 +52,12 @@ impl<T: Element, A: Allocator> Iterator for BufferIterator<T, A> {
         Some(item)
     }
 
-    fn size_hint(&self) -> (usize, Option<usize>) {
+    /// The number of items still to come, as both bounds.
+    fn size_hint(&self) -> (usize, Option<usize>)
+        ensures exact { result ≡ (length self.now, Some (length self.now)) }
+        ensures lower { IsWithinCount result.0 (at_most (length self.now)) }
+        ensures upper { IfSome result.1 (UpTo (at_most (length self.now))) }
+    {
         (self.len(), Some(self.len()))
     }
 }

@@ -27,8 +27,8 @@ impl<T: Element, A: Allocator> BufferMut<T, A> {
         ensures err { OnErr result (self.new ≡ self.old) }
         ensures refused { IsOkUnless result BufferError.OutOfMemory }
     {
-        self.items.reserve(1)?;
-        self.items.push_reserved(item);
+        self.reserve(1)?;
+        self.push_unchecked(item);
         Ok(())
     }
 
