@@ -1,5 +1,5 @@
 -- Runs that go on by one command.
-use Rattle.std.proofs.Common.{◌≡◌, List, [], ◌∷◌, ◌++◌, refl, subst}
+use Rattle.std.proofs.Common.{List, [], ◌∷◌, ◌++◌, refl, subst}
 use Rattle.vb_command.specs.Machine.{Slot, Order, Reply, Outcome, Run}
 
 -- a run and the outcome of one more order

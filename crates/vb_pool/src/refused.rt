@@ -1,13 +1,10 @@
 //! Refusals of sets as those of commands.
-ghost use Rattle.std.specs.Prelude.{◌≡◌, Ok, Err};
-ghost use Rattle.vb_command.specs.Machine.{Done};
-ghost use Rattle.vb_command.specs.Views.{reply};
+ghost use Rattle.std.specs.Prelude.{◌≡◌};
 
-use std::alloc::Allocator;
-use vb_command::{Answer, Refusal};
+use vb_command::Refusal;
 use vb_core::BufferError;
 
-/// The refusal of a command whose set refused with this. Sets refuse by `TooManyBits` and
+/// The refusal of a command where a set refused with this. Sets refuse by `TooManyBits` and
 /// `OutOfMemory` alone.
 pub(crate) fn refusal_of(error: BufferError) -> Refusal
     ensures bits { error ≡ BufferError.TooManyBits → result ≡ Refusal.TooManyBits }

@@ -1,5 +1,5 @@
-use Rattle.std.proofs.Common.{◌≡◌, ap, sym, ◌∙◌, slice_get, Some, option_and_then}
-use Rattle.std.specs.Option.{option_copied_mut, ghost_name_of}
+use Rattle.std.proofs.Common.{ap, ◌∙◌, option_and_then}
+use Rattle.std.specs.Option.{ghost_name_of}
 use Rattle.vb_command.specs.Machine.{open_list}
 use Rattle.vb_pool.proofs.Slots.{get_seen, lent}
 use Rattle.vb_pool.specs.Slot.{content}
@@ -11,6 +11,7 @@ pub returns : goal.returns
 returns g c =
     let slots = c.self.inside.slots in
     let slot = c.in_ok-self-inside.field-0.now in
-    let held : slice_get slots c.args.k ≡ Some slot = sym c.get_mut.ensures.value ∙ ap option_copied_mut c.in_ok-self-inside.was in
+    let held = c.in_ok-self-inside.ensures.value in
     let ends = read_of (ghost_name_of c.open_mut.result) in
-    (lent ends content Open slots c.args.self.now c.args.k slot c.self.view_is held, record { writes_back = tt; value = c.open_mut.ensures.value ∙ ap (option_and_then open_list) (sym (get_seen content slots c.args.self.now c.args.k slot c.self.view_is held)) })
+    let found = get_seen content slots c.args.self.now c.args.k slot c.self.view_is held in
+    (lent ends content Open slots c.args.self.now c.args.k slot c.self.view_is held, record { writes_back = tt; value = c.open_mut.ensures.value ∙ ap (option_and_then open_list) found })
