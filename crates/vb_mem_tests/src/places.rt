@@ -1,0 +1,79 @@
+//! Alignments and places of buffers and of their slices.
+use crate::compared::{equal, equal_lists, shows};
+use std::test::Fail;
+use vb_core::{Alignment, BufferError};
+use vb_mem::Buffer;
+
+#[test]
+fn a_slice_keeps_its_place(rt: HostRuntime) -> Result<(), Fail> {
+    let buffer = Buffer::copy_from(rt.alloc(), &[1u32, 2, 3])?;
+    equal(&rt, buffer.alignment().as_usize(), 4);
+    equal(&rt, buffer.is_aligned(Alignment::DEFAULT_ALIGNMENT), true);
+    let tail = buffer.slice_unaligned(1..3)?;
+    equal(&rt, tail.is_aligned(Alignment::of::<u32>()), true);
+    let refused = tail.clone()?.ensure_aligned(Alignment::of::<u64>()).err();
+    equal(&rt, refused, Some(BufferError::NotAligned));
+    shows(
+        &rt,
+        tail.aligned(Alignment::of::<u64>())?,
+        &[2, 3],
+        (8, 256),
+    );
+    Ok(())
+}
+
+#[test]
+fn a_slice_of_nothing_has_every_alignment(rt: HostRuntime) -> Result<(), Fail> {
+    let buffer = Buffer::copy_from(rt.alloc(), &[1u32, 2, 3])?;
+    let nothing = buffer.slice_unaligned(0..0)?;
+    equal(&rt, nothing.is_aligned(Alignment::MAX), true);
+    Ok(())
+}
+
+#[test]
+fn a_slice_of_nothing_keeps_its_alignment(rt: HostRuntime) -> Result<(), Fail> {
+    let zeros = Buffer::<u64, _>::zeroed_aligned(rt.alloc(), 8, Alignment::from_exponent(6))?;
+    assert!(rt; zeros.can_slice(0..0, zeros.alignment()));
+    let nothing = zeros.slice(0..0)?;
+    equal(&rt, nothing.is_empty(), true);
+    equal(&rt, nothing.alignment().as_usize(), 64);
+    Ok(())
+}
+
+#[test]
+fn storage_is_over_aligned_unless_asked(rt: HostRuntime) -> Result<(), Fail> {
+    let wide = Alignment::from_exponent(5);
+    let bytes = Buffer::copy_from_aligned(rt.alloc(), &[0u8, 1, 2], wide)?;
+    equal(&rt, bytes.alignment().as_usize(), 32);
+    equal(&rt, bytes.declared().as_usize(), 256);
+    let eight = Alignment::of::<u64>();
+    let word = Buffer::copy_from_preferred_aligned(rt.alloc(), &[7u64], eight, None)?;
+    equal(&rt, word.declared().as_usize(), 8);
+    Ok(())
+}
+
+#[test]
+fn a_slice_is_placed_from_the_start_of_the_storage(rt: HostRuntime) -> Result<(), Fail> {
+    let bytes = Buffer::copy_from(rt.alloc(), &[0i32, 1, 2, 3, 4])?.into_byte_buffer()?;
+    let four = Alignment::of::<i32>();
+    equal(&rt, bytes.can_slice(1..2, four), false);
+    assert_eq!(rt; bytes.len(), 20);
+    equal_lists(&rt, bytes.slice_unaligned(1..2)?.as_slice(), &[0]);
+    let tail = bytes.slice_unaligned(1..20)?;
+    equal(&rt, tail.can_slice(0..4, four), false);
+    equal(&rt, tail.can_slice(3..7, four), true);
+    Ok(())
+}
+
+#[test]
+fn an_alignment_that_is_there_needs_no_copy(rt: HostRuntime) -> Result<(), Fail> {
+    let buffer = Buffer::copy_from(rt.alloc(), &[1u32, 2, 3, 4])?;
+    let tail = buffer.slice_unaligned(2..4)?;
+    shows(
+        &rt,
+        tail.ensure_aligned(Alignment::of::<u64>())?,
+        &[3, 4],
+        (8, 256),
+    );
+    Ok(())
+}
