@@ -82,8 +82,7 @@ impl<T: Element, A: Allocator> Buffer<T, A> {
         }
     }
 
-    /// The alignment that the storage is declared with. Of an empty buffer it is at least the reported one, and no
-    /// more is said of it.
+    /// The alignment that the storage is declared with; of an empty buffer, one that is at least the reported one.
     pub fn declared(&self) -> Alignment
         ensures value { result ≡ self.now.declared }
         ensures at_least { self.now.alignment ≤ result }

@@ -32,8 +32,7 @@ pub(crate) enum Content<T: Element, A: Allocator> {
 impl<T: Element, A: Allocator> Content<T, A> {
     ghost use Rattle.vb_mem.specs.Content.{seen, IsSound};
 
-    // Whether an alignment divides the place in bytes of the item so many items on from the first one. Where that place
-    // wraps, what is left of it has the same remainder.
+    // Whether an alignment divides the place in bytes of the item so many on. A place that wraps keeps its remainder.
     pub(crate) fn is_place_divided(&self, alignment: Alignment, items_on: usize) -> bool
         ensures { IsTrue result ↔ (((seen T.SIZE self.now).place + items_on * T.SIZE) % 2 ^ alignment ≡ 0) }
     {

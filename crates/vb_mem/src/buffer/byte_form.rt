@@ -12,8 +12,7 @@ use vb_bytes::{get_items, item_count};
 use vb_core::{Alignment, BufferError, Element};
 
 impl<T: Element, A: Allocator + Clone> Buffer<T, A> {
-    /// The bytes of the items, of alignment 1, copied. Refused with `TooManyBytes` where their number passes `usize`,
-    /// and else with `OutOfMemory`.
+    /// The bytes of the items, of alignment 1, copied. Refused by `TooManyBytes` past `usize`, else by `OutOfMemory`.
     pub fn as_bytes(&self) -> Result<Buffer<u8, A>, BufferError>
         ensures ok { IfOk result (Shows (byteform T.form self.now.list) 0 0 (over_aligned 0)) }
         ensures fits { length self.now.list * T.SIZE < 2 ^ 64 → IsOkUnless result BufferError.OutOfMemory }

@@ -21,8 +21,7 @@ impl<T: Element, A: Allocator> BufferMut<T, A> {
         Ok(buffer)
     }
 
-    /// The items that an iterator of known length gives, over-aligned to 256 bytes. Memory for all of them is asked for
-    /// first. Refused with `OutOfMemory`.
+    /// What an iterator of known length gives, over-aligned to 256 bytes. `OutOfMemory` comes before the first item.
     pub fn from_trusted_len_iter<I: TrustedLen<Item = T>>(
         alloc: A,
         iter: I,

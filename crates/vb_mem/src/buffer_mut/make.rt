@@ -19,8 +19,7 @@ impl<T: Element, A: Allocator> BufferMut<T, A> {
         BufferMut::with_capacity_aligned(alloc, capacity, Alignment::of::<T>())
     }
 
-    /// An empty buffer with room for `capacity` items and an alignment, over-aligned to 256 bytes. Refused with
-    /// `OutOfMemory`.
+    /// No items, room for `capacity`, and an alignment, over-aligned to 256 bytes. Refused with `OutOfMemory`.
     pub fn with_capacity_aligned(
         alloc: A,
         capacity: usize,
@@ -34,8 +33,7 @@ impl<T: Element, A: Allocator> BufferMut<T, A> {
         BufferMut::with_capacity_preferred_aligned(alloc, capacity, alignment, DEFAULT)
     }
 
-    /// An empty buffer with room for `capacity` items and an alignment, over-aligned to the preferred one. Refused with
-    /// `OutOfMemory`.
+    /// No items, room for `capacity`, and an alignment, over-aligned to a preferred one. Refused with `OutOfMemory`.
     pub fn with_capacity_preferred_aligned(
         alloc: A,
         capacity: usize,
