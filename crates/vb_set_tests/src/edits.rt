@@ -1,0 +1,130 @@
+//! Edits of sets beside the same edits of plain lists.
+use crate::shown::shown;
+use std::alloc::Global;
+use std::process::Abort;
+use std::test::Fail;
+use vb_set::{BitBufferMut, ByteBufferMut};
+
+/// The places of the first bit, and the lengths, at which each edit is tried.
+const OFFSETS: [usize; 5] = [0, 3, 5, 7, 13];
+
+const LENGTHS: [usize; 9] = [0, 1, 7, 8, 63, 64, 65, 129, 200];
+
+/// The bits that every byte of the sets has, those outside of the window too.
+const PATTERN: u8 = 0b1011_0010;
+
+/// A window of bytes of the pattern, which go on behind it.
+fn set_of(alloc: Global, offset: usize, len: usize) -> Result<BitBufferMut<Global>, Fail> {
+    let bytes = ByteBufferMut::full(alloc, PATTERN, 30)?;
+    if offset <= 13 && len <= 200 {
+        return Ok(BitBufferMut::from_buffer(bytes, offset, len));
+    }
+    Ok(BitBufferMut::empty(alloc))
+}
+
+/// The bits of that window.
+fn list_of(alloc: Global, offset: usize, len: usize) -> Result<Vec<bool>, Fail> {
+    let mut bits = Vec::new(alloc);
+    for i in 0..len {
+        let digit = offset.wrapping_add(i) % 8;
+        bits.push((PATTERN >> digit) & 1 == 1)?;
+    }
+    Ok(bits)
+}
+
+/// The set is the list, by each of its bits and by its count.
+fn same(
+    rt: &impl Abort,
+    alloc: Global,
+    set: &BitBufferMut<Global>,
+    list: &[bool],
+) -> Result<(), Fail> {
+    let mut text = String::new(alloc);
+    for bit in list {
+        text.push(if *bit { '1' } else { '0' })?;
+    }
+    assert_eq!(rt; shown(alloc, set)?.as_str(), text.as_str());
+    assert_eq!(rt; set.true_count(), list.iter().filter(|bit| **bit).count());
+    Ok(())
+}
+
+/// Writes one bit in the middle, and the bits of a part.
+fn write(set: &mut BitBufferMut<Global>, list: &mut Vec<bool>, v: bool) {
+    let i = set.len() / 2;
+    if i < set.len() && i < list.len() {
+        set.set_to(i, v);
+        list[i] = v;
+    }
+    let (a, b) = (set.len() / 3, set.len() - set.len() / 4);
+    if a <= b && b <= set.len() && b <= list.len() {
+        set.fill_range(a, b, !v);
+        list[a..b].fill(!v);
+    }
+}
+
+/// Adds bits at the end, one and many.
+fn lengthen(set: &mut BitBufferMut<Global>, list: &mut Vec<bool>, v: bool) -> Result<(), Fail> {
+    set.append(v)?;
+    list.push(v)?;
+    set.append_n(!v, 70)?;
+    for _ in 0..70 {
+        list.push(!v)?;
+    }
+    set.append(v)?;
+    list.push(v)?;
+    Ok(())
+}
+
+/// Keeps about half of the bits.
+fn shorten(set: &mut BitBufferMut<Global>, list: &mut Vec<bool>) {
+    let n = list.len() / 2;
+    set.truncate(n);
+    list.truncate(n);
+}
+
+/// Every edit of the window, each beside that of the list.
+fn edits_are_plain(rt: &impl Abort, alloc: Global, offset: usize, len: usize) -> Result<(), Fail> {
+    let mut set = set_of(alloc, offset, len)?;
+    let mut list = list_of(alloc, offset, len)?;
+    for v in [true, false] {
+        write(&mut set, &mut list, v);
+        same(rt, alloc, &set, &list)?;
+        lengthen(&mut set, &mut list, v)?;
+        same(rt, alloc, &set, &list)?;
+        shorten(&mut set, &mut list);
+        same(rt, alloc, &set, &list)?;
+        // The bits that were cut off stand behind the end now.
+        lengthen(&mut set, &mut list, !v)?;
+        same(rt, alloc, &set, &list)?;
+    }
+    turned_is_plain(rt, alloc, set, &list)
+}
+
+/// The set turned over, and then cleared, beside the list.
+fn turned_is_plain(
+    rt: &impl Abort,
+    alloc: Global,
+    set: BitBufferMut<Global>,
+    list: &[bool],
+) -> Result<(), Fail> {
+    let mut turned = Vec::new(alloc);
+    for bit in list {
+        turned.push(!*bit)?;
+    }
+    let mut set = !set;
+    same(rt, alloc, &set, &turned)?;
+    set.clear();
+    same(rt, alloc, &set, &[])?;
+    set.append_n(true, 9)?;
+    same(rt, alloc, &set, &[true; 9])
+}
+
+#[test]
+fn edits_are_those_of_a_list(rt: HostRuntime) -> Result<(), Fail> {
+    for offset in OFFSETS {
+        for len in LENGTHS {
+            edits_are_plain(&rt, rt.alloc(), offset, len)?;
+        }
+    }
+    Ok(())
+}
