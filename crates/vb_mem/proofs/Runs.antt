@@ -1,5 +1,5 @@
 -- Runs of calls of `next`.
-use Rattle.std.proofs.Common.{◌≡◌, refl, sym, subst, Option, Some, List, [], ◌∷◌, ◌++◌}
+use Rattle.std.proofs.Common.{refl, sym, subst, Option, Some, List, [], ◌∷◌, ◌++◌}
 use Rattle.std.specs.Iterator.{Yields}
 
 -- a run and one more call that gives an item

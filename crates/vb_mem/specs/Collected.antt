@@ -1,5 +1,5 @@
 -- What runs of iterators do to a list.
-use Rattle.std.specs.Prelude.{◌≡◌, Option, Result, Ok, Err, List, ◌∷◌, ◌++◌, [], map}
+use Rattle.std.specs.Prelude.{Option, Result, Ok, Err, List, ◌∷◌, ◌++◌, [], map}
 use Rattle.std.specs.Iterator.{Drains, Yields}
 use Rattle.vb_core.specs.declared.error.ExtendError.{ExtendError}
 use Rattle.vb_core.specs.declared.error.ExtendError.TheVariants.{Memory, Item}

@@ -1,5 +1,5 @@
 -- What a buffer's storage and its window of it stand for.
-use Rattle.std.specs.Prelude.{◌≡◌, ℕ, ◌+◌, ◌*◌, ◌%◌, ◌^◌, ◌<◌, ◌≤◌, [], length, take, drop}
+use Rattle.std.specs.Prelude.{ℕ, ◌+◌, ◌*◌, ◌^◌, ◌<◌, ◌≤◌, [], length, take, drop}
 use Rattle.vb_mem.specs.declared.content.Content.{Content}
 use Rattle.vb_mem.specs.declared.content.Content.TheVariants.{Nothing, All, Part}
 use Rattle.vb_mem.specs.SharedBuffer.{SharedBuffer, IsPlaceAligned}

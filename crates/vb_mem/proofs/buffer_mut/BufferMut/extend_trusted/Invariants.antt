@@ -1,5 +1,4 @@
 use Rattle.std.proofs.Common.{◌≡◌, ◌+◌, ◌≤◌, ◌++◌, length}
-use Rattle.vb_mem.specs.OpenBuffer.{Lengthens}
 use Rattle.vb_mem.proofs.buffer_mut.BufferMut.extend_trusted.Given as goal
 
 abbrev pub invariant-loop-item : goal.invariant-loop-item
