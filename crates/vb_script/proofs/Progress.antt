@@ -2,14 +2,13 @@
 use Rattle.std.proofs.Common.{◌≡◌, ◌⊎◌, ℕ, ◌+◌, ◌-◌, ◌^◌, ◌<◌, true, false, List, [], ◌∷◌, ◌++◌, length, take, drop, refl, sym, ap, ◌∙◌, Option, Some, None, arith, eqb, subst, append_assoc, length-append}
 use Rattle.std.specs.Prelude.{replicate, position, is_some, IsSomeAnd, MatchOption, ⊤}
 use Rattle.std.proofs.Math.Seq.{take-append_seam}
-use Rattle.std.specs.List.{flat_map}
 use Rattle.std.specs.Str.Lines.{lines, strip_carriage_return}
 use Rattle.std.specs.Io.KnownBytes.{prepend_known, append_known, Keeps, Appends, IsAtEnd}
 use Rattle.std.proofs.lemmas.Grind.{flat_map-append}
 use mathlib.Core.List.{append-nil}
 use Rattle.vb_command.specs.Machine.{Slot, Empty, Order, Reply, Run}
 use Rattle.vb_command.specs.Printed.{line_of}
-use Rattle.vb_command.specs.Reading.{reading, before, script}
+use Rattle.vb_command.specs.Reading.{reading, script}
 use Rattle.vb_pool.proofs.Runs.{Run-append}
 use Rattle.vb_script.specs.Feed.{next_line}
 use Rattle.vb_script.specs.Session.{Serves, ServesNext, printed, AnswersLines, AnswersSome, AnswersEnded, StopsAt, ended_lines}

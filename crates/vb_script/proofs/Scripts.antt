@@ -1,5 +1,5 @@
 -- What the lines of an input ask for, one line after the other.
-use Rattle.std.proofs.Common.{◌≡◌, ℕ, ◌+◌, ◌-◌, ◌^◌, ◌<◌, List, [], ◌∷◌, ◌++◌, length, refl, sym, ap, ◌∙◌, Option, Some, None, arith, lt-ltb}
+use Rattle.std.proofs.Common.{◌≡◌, ℕ, ◌+◌, ◌-◌, ◌^◌, ◌<◌, List, [], ◌∷◌, ◌++◌, length, refl, ap, ◌∙◌, Option, Some, None, arith, lt-ltb}
 use Rattle.vb_command.specs.Machine.{Order}
 use Rattle.vb_command.specs.Optional.{◌>>=◌}
 use Rattle.vb_command.specs.Reading.{reading, before, script}

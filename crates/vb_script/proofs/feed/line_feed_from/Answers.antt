@@ -1,4 +1,4 @@
-use Rattle.std.proofs.Common.{◌≡◌, ◌∙◌, ◌+◌, ℕ, eqb, sym, ap, drop, Option}
+use Rattle.std.proofs.Common.{◌∙◌, ◌+◌, eqb, ap}
 use Rattle.std.specs.Prelude.{option_map, position}
 use Rattle.vb_script.proofs.Searches.{position-drop}
 use Rattle.vb_script.proofs.feed.line_feed_from.Goals as goal
