@@ -1,6 +1,7 @@
 //! The items of buffers as bytes, and back.
 use crate::compared::{equal, equal_lists};
 use std::test::Fail;
+use vb_bytes::{byte_count, item_count};
 use vb_core::{Alignment, BufferError};
 use vb_mem::{Buffer, BufferMut};
 
@@ -22,6 +23,15 @@ fn bytes_that_are_no_items_are_refused(rt: HostRuntime) -> Result<(), Fail> {
     let answer = Buffer::<u32, _>::from_bytes(rt.alloc(), seven.into_bytes()?);
     equal(&rt, answer.err(), refused);
     Ok(())
+}
+
+/// No list is so long that its bytes pass `usize`, so the counts alone are tried.
+#[test]
+fn byte_counts_past_usize_are_refused(rt: HostRuntime) {
+    equal(&rt, byte_count::<u32>(3), Ok(12));
+    equal(&rt, item_count::<u32>(12), Ok(3));
+    let refused = Err(BufferError::TooManyBytes);
+    equal(&rt, byte_count::<u128>(1 << 60), refused);
 }
 
 #[test]

@@ -1,7 +1,7 @@
 //! Growth at the end, and what is kept.
 use crate::compared::{equal, equal_lists, holds};
 use std::test::Fail;
-use vb_core::{Alignment, ExtendError, trusted_len};
+use vb_core::{Alignment, BufferError, ExtendError, trusted_len};
 use vb_mem::BufferMut;
 
 #[test]
@@ -43,6 +43,16 @@ fn reserved_room_is_filled_without_more(rt: HostRuntime) -> Result<(), Fail> {
         (buffer.is_empty(), buffer.capacity() >= 4),
         (true, true),
     );
+    Ok(())
+}
+
+#[test]
+fn room_past_the_address_space_is_refused(rt: HostRuntime) -> Result<(), Fail> {
+    let mut buffer = BufferMut::copy_from(rt.alloc(), &[7u64])?;
+    let refused = Err(BufferError::OutOfMemory);
+    equal(&rt, buffer.reserve(usize::MAX), refused);
+    equal(&rt, buffer.push_n(0, usize::MAX / 8), refused);
+    equal_lists(&rt, buffer.as_slice(), &[7]);
     Ok(())
 }
 

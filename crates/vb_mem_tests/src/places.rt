@@ -1,5 +1,6 @@
 //! Alignments and places of buffers and of their slices.
 use crate::compared::{equal, equal_lists, shows};
+use std::alloc::Global;
 use std::test::Fail;
 use vb_core::{Alignment, BufferError};
 use vb_mem::Buffer;
@@ -52,16 +53,27 @@ fn storage_is_over_aligned_unless_asked(rt: HostRuntime) -> Result<(), Fail> {
     Ok(())
 }
 
+/// The bytes of the numbers from 0 to 4.
+fn five_numbers(alloc: Global) -> Result<Buffer<u8, Global>, BufferError> {
+    Buffer::copy_from(alloc, &[0i32, 1, 2, 3, 4])?.into_byte_buffer()
+}
+
+#[test]
+fn a_slice_of_bytes_may_be_out_of_place(rt: HostRuntime) -> Result<(), Fail> {
+    let bytes = five_numbers(rt.alloc())?;
+    equal(&rt, bytes.can_slice(1..2, Alignment::of::<i32>()), false);
+    assert!(rt; bytes.len() == 20);
+    equal_lists(&rt, bytes.slice_unaligned(1..2)?.as_slice(), &[0]);
+    Ok(())
+}
+
 #[test]
 fn a_slice_is_placed_from_the_start_of_the_storage(rt: HostRuntime) -> Result<(), Fail> {
-    let bytes = Buffer::copy_from(rt.alloc(), &[0i32, 1, 2, 3, 4])?.into_byte_buffer()?;
-    let four = Alignment::of::<i32>();
-    equal(&rt, bytes.can_slice(1..2, four), false);
-    assert_eq!(rt; bytes.len(), 20);
-    equal_lists(&rt, bytes.slice_unaligned(1..2)?.as_slice(), &[0]);
+    let bytes = five_numbers(rt.alloc())?;
+    assert!(rt; bytes.len() == 20);
     let tail = bytes.slice_unaligned(1..20)?;
-    equal(&rt, tail.can_slice(0..4, four), false);
-    equal(&rt, tail.can_slice(3..7, four), true);
+    equal(&rt, tail.can_slice(0..4, Alignment::of::<i32>()), false);
+    equal(&rt, tail.can_slice(3..7, Alignment::of::<i32>()), true);
     Ok(())
 }
 

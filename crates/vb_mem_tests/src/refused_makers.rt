@@ -114,7 +114,7 @@ fn shared_collected<A: Allocator + Clone>(rt: &impl Abort, alloc: &A) -> Result<
 
 fn parts<A: Allocator + Clone>(rt: &impl Abort, alloc: &A) -> Result<(), BufferError> {
     let four = Alignment::of::<u32>();
-    let whole = Buffer::copy_from(alloc.clone()?, &[1, 2, 3, 4])?;
+    let whole = BufferMut::copy_from(alloc.clone()?, &[1, 2, 3, 4])?.freeze()?;
     shows(rt, whole.slice_unaligned(1..2)?, &[2], (4, 256));
     assert!(rt; whole.can_slice(2..4, whole.alignment()));
     shows(rt, whole.slice(2..4)?, &[3, 4], (4, 256));
@@ -138,17 +138,23 @@ fn shared_buffers_are_made_or_refused(rt: HostRuntime) {
     );
 }
 
-fn byte_forms<A: Allocator + Clone>(rt: &impl Abort, alloc: &A) -> Result<(), BufferError> {
+fn byte_buffers<A: Allocator + Clone>(rt: &impl Abort, alloc: &A) -> Result<(), BufferError> {
     let items = Buffer::copy_from(alloc.clone()?, &[1u32, 2])?;
     let items = Buffer::<u32, A>::from_byte_buffer(items.as_bytes()?)?;
     let items = Buffer::<u32, A>::from_byte_buffer(items.into_byte_buffer()?)?;
+    shows(rt, items, &[1, 2], (4, 256));
+    Ok(())
+}
+
+fn bytes<A: Allocator + Clone>(rt: &impl Abort, alloc: &A) -> Result<(), BufferError> {
+    let items = Buffer::copy_from(alloc.clone()?, &[1u32, 2])?;
     let items = Buffer::<u32, A>::from_bytes(alloc.clone()?, items.into_bytes()?)?;
     let bytes = items.into_mut()?.into_byte_buffer()?;
     equal_lists(rt, bytes.as_slice(), &[1, 0, 0, 0, 2, 0, 0, 0]);
     Ok(())
 }
 
-fn aligned_byte_forms<A: Allocator + Clone>(rt: &impl Abort, alloc: &A) -> Result<(), BufferError> {
+fn aligned_bytes<A: Allocator + Clone>(rt: &impl Abort, alloc: &A) -> Result<(), BufferError> {
     let wide = Alignment::from_exponent(9);
     let items = Buffer::copy_from(alloc.clone()?, &[1u32, 2])?;
     let bytes = items.as_bytes()?;
@@ -164,8 +170,9 @@ fn aligned_byte_forms<A: Allocator + Clone>(rt: &impl Abort, alloc: &A) -> Resul
 fn byte_forms_are_made_or_refused(rt: HostRuntime) {
     let requests = each_refused(&rt, rt.alloc(), |heap| {
         let alloc = Handle { inner: heap };
-        byte_forms(&rt, &alloc)?;
-        aligned_byte_forms(&rt, &alloc)
+        byte_buffers(&rt, &alloc)?;
+        bytes(&rt, &alloc)?;
+        aligned_bytes(&rt, &alloc)
     });
     assert!(rt; requests >= 20, "a copy of the allocator and room for each");
 }

@@ -1,4 +1,5 @@
 //! Each request for memory refused in turn.
+use crate::compared::equal;
 use std::alloc::Global;
 use std::process::Abort;
 use vb_core::BufferError;
@@ -15,10 +16,10 @@ where
         let heap = Refusing::new(inner, refused);
         let answer = calls(&heap);
         if !heap.has_refused() {
-            assert_eq!(rt; answer, Ok(()));
+            equal(rt, answer, Ok(()));
             return refused - 1;
         }
-        assert_eq!(rt; answer, Err(BufferError::OutOfMemory), "request {refused}");
+        equal(rt, answer, Err(BufferError::OutOfMemory));
     }
     assert!(rt; false, "each run was refused a request");
     0
