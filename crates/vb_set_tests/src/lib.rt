@@ -1,6 +1,9 @@
-//! Tests of sets of bits: worked rows, and calls whose requests for memory are refused.
+//! Tests of sets of bits: worked rows, owners of one storage, and calls whose requests for memory
+//! are refused.
 #![tactic(auto)]
 
+#[cfg(test)]
+mod owners;
 #[cfg(test)]
 mod refusals;
 #[cfg(test)]
