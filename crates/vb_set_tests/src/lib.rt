@@ -1,9 +1,11 @@
-//! Tests of sets of bits: worked rows, edits beside those of plain lists, and calls whose requests
-//! for memory are refused.
+//! Tests of sets of bits: worked rows, edits beside those of plain lists, owners of one storage, and
+//! calls whose requests for memory are refused.
 #![tactic(auto)]
 
 #[cfg(test)]
 mod edits;
+#[cfg(test)]
+mod owners;
 #[cfg(test)]
 mod refusals;
 #[cfg(test)]
