@@ -4,7 +4,9 @@ pub mod FromRead
 pub mod Session
 pub mod ToWrite
 pub use Rattle.vb_command.specs.Arguments
+pub use Rattle.vb_command.specs.Fields
 pub use Rattle.vb_command.specs.Hex
+pub use Rattle.vb_command.specs.Keywords
 pub use Rattle.vb_command.specs.Machine
 pub use Rattle.vb_command.specs.Optional
 pub use Rattle.vb_command.specs.Printed
@@ -12,4 +14,5 @@ pub use Rattle.vb_command.specs.Reading
 pub use Rattle.vb_command.specs.Views
 pub use Rattle.vb_command.specs.Words
 pub use Rattle.vb_pool.specs.Bits
+pub use Rattle.vb_pool.specs.Edits
 pub use Rattle.vb_pool.specs.Slot
