@@ -56,6 +56,19 @@ impl LaneSum {
         }
     }
 
+    /// Both sums.
+    pub(crate) fn plus(self, other: LaneSum) -> LaneSum
+        requires { self + other ≤ usize.MAX }
+        ensures { result ≡ self + other }
+    {
+        LaneSum {
+            a: self.a + other.a,
+            b: self.b + other.b,
+            c: self.c + other.c,
+            d: self.d + other.d,
+        }
+    }
+
     /// The whole sum.
     pub(crate) fn total(self) -> usize
         ensures { result ≡ self }
