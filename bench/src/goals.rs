@@ -1,7 +1,7 @@
 //! The times that the kernels are to reach beside the plain loops, and whether they do.
 
 use crate::count::{COUNT_ONES, SUM_OF_WORDS};
-use crate::select::{SELECT_IN_TURN, SELECT_LAST};
+use crate::select::{SELECT_IN_TURN, SELECT_LAST, SELECT_LAST_OF_FEW};
 use crate::table::{Table, size_text};
 use crate::{OFFSETS, SIZES};
 
@@ -35,9 +35,11 @@ pub fn of(table: &Table) -> Vec<String> {
         let what = format!("count of 64 MiB at offset {offset} over the sum of its words");
         at_most(what, 1.0 / 0.9, count / sum);
         let count = table.cell(COUNT_ONES, offset, CACHED).ours;
-        let select = table.cell(SELECT_LAST, offset, CACHED).ours;
-        let what = format!("last bit of 1 MiB at offset {offset} over its count");
-        at_most(what, 1.05, select / count);
+        for call in [SELECT_LAST, SELECT_LAST_OF_FEW] {
+            let select = table.cell(call, offset, CACHED).ours;
+            let what = format!("{call} of 1 MiB at offset {offset} over its count");
+            at_most(what, 1.05, select / count);
+        }
     }
     at_most(
         "count of 64 B over the loop".into(),

@@ -1,4 +1,4 @@
-//! What is counted and searched: bits of which one in two is set, without a pattern.
+//! What is counted and searched: bits of which one in two is set, or one in 64, without a pattern.
 
 /// Numbers without a pattern (splitmix64).
 pub struct Random(pub u64);
@@ -20,9 +20,21 @@ struct Line([u64; 8]);
 pub struct Input(Vec<Line>);
 
 impl Input {
+    /// One bit in two is set.
     pub fn random(size: usize) -> Self {
+        Input::set_in_all_of(1, size)
+    }
+
+    /// One bit in 64 is set.
+    pub fn sparse(size: usize) -> Self {
+        Input::set_in_all_of(6, size)
+    }
+
+    /// The bits that are set in each of so many random words.
+    fn set_in_all_of(words: usize, size: usize) -> Self {
         let mut random = Random(1);
-        let mut line = || Line(std::array::from_fn(|_| random.number()));
+        let mut word = || (0..words).fold(u64::MAX, |word, _| word & random.number());
+        let mut line = || Line(std::array::from_fn(|_| word()));
         Input((0..size / 64).map(|_| line()).collect())
     }
 

@@ -30,12 +30,14 @@ struct Comparison {
 
 fn main() {
     let input = Input::random(SIZES[3]);
+    let sparse = Input::sparse(SIZES[3]);
     let mut table = Table::default();
     for offset in OFFSETS {
         for size in SIZES {
             let window = input.window(size, offset);
             let mut comparisons = count::comparisons(window);
             comparisons.extend(select::comparisons(window));
+            comparisons.push(select::last_of_few(sparse.window(size, offset)));
             measure(&comparisons, offset, &mut table);
         }
     }

@@ -9,29 +9,20 @@ use crate::loops;
 use crate::measure::Contender;
 
 pub const SELECT_LAST: &str = "`bit_select`, last place";
+pub const SELECT_LAST_OF_FEW: &str = "`bit_select`, last place, one bit in 64 set";
 pub const SELECT_IN_TURN: &str = "`bit_select`, places in turn";
 
 pub fn comparisons(window: Window) -> Vec<Comparison> {
-    let whole = window.offset == 0;
-    let selects: Vec<Select> = vec![
-        vb_bit_select,
-        if whole {
-            loops::select_whole::<false>
-        } else {
-            loops::select_window::<false>
-        },
-        #[cfg(feature = "upstream")]
-        crate::upstream::bit_select,
-    ];
+    let selects = selects(window);
     let unsets: Vec<Select> = vec![
         vb_bit_select_unset,
-        if whole {
+        if window.offset == 0 {
             loops::select_whole::<true>
         } else {
             loops::select_window::<true>
         },
     ];
-    let ones = unsafe { vb_count_ones(window.bytes, window.size, window.offset, window.len) };
+    let ones = ones_in(window);
     let zeros = window.len - ones;
     vec![
         compare(SELECT_LAST, &selects, window, vec![ones - 1]),
@@ -61,6 +52,29 @@ pub fn comparisons(window: Window) -> Vec<Comparison> {
             random(zeros),
         ),
     ]
+}
+
+/// The last true bit where there are few: the chunks that can't hold it aren't known by its rank.
+pub fn last_of_few(window: Window) -> Comparison {
+    let last = ones_in(window) - 1;
+    compare(SELECT_LAST_OF_FEW, &selects(window), window, vec![last])
+}
+
+fn selects(window: Window) -> Vec<Select> {
+    vec![
+        vb_bit_select,
+        if window.offset == 0 {
+            loops::select_whole::<false>
+        } else {
+            loops::select_window::<false>
+        },
+        #[cfg(feature = "upstream")]
+        crate::upstream::bit_select,
+    ]
+}
+
+fn ones_in(w: Window) -> usize {
+    unsafe { vb_count_ones(w.bytes, w.size, w.offset, w.len) }
 }
 
 /// A few ranks in ascending order, over and over: the processor comes to predict each branch.

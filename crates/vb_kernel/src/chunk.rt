@@ -2,12 +2,13 @@
 ghost use Rattle.std.specs.Prelude.{◌≡◌, ℕ, ◌+◌, ◌*◌, ◌<◌, ◌≤◌, Some, length};
 ghost use Rattle.std.below.core.specs.declared.int.usize.TheConstants.{MAX};
 ghost use Rattle.vb_kernel.specs.Bits.{bits, count, Selects};
-ghost use Rattle.vb_kernel.specs.Searches.{matching};
+ghost use Rattle.vb_kernel.specs.Searches.{matching, Searched};
 
 use crate::bytes::word_at;
 use crate::glance::Plain;
 use crate::select::find_in_units;
 use std::marker::Model;
+use std::ops::ControlFlow;
 use std::simd::prelude::*;
 
 /// A sum in four parts. They are kept apart, as the lanes of a vector are, so that the counts of a
@@ -55,6 +56,19 @@ impl LaneSum {
         }
     }
 
+    /// Both sums.
+    pub(crate) fn plus(self, other: LaneSum) -> LaneSum
+        requires { self + other ≤ usize.MAX }
+        ensures { result ≡ self + other }
+    {
+        LaneSum {
+            a: self.a + other.a,
+            b: self.b + other.b,
+            c: self.c + other.c,
+            d: self.d + other.d,
+        }
+    }
+
     /// The whole sum.
     pub(crate) fn total(self) -> usize
         ensures { result ≡ self }
@@ -88,7 +102,15 @@ pub(crate) fn select_in_chunk(chunk: u8x64, n: usize, value: bool) -> usize
     requires { n < count (matching value (bits chunk 0 512)) }
     ensures { Selects (matching value (bits chunk 0 512)) n (Some result) }
 {
-    find_in_units::<u64, Plain>(&mut Plain::new(&chunk.to_array()), 0, 0, 8, n, value)
+    find_in_chunk(&chunk.to_array(), n, value)
         .break_value()
         .unwrap()
+}
+
+/// Searches the chunk, word by word, for the `n`-th bit that is `value`.
+#[inline(always)]
+pub(crate) fn find_in_chunk(chunk: &[u8; 64], n: usize, value: bool) -> ControlFlow<usize, usize>
+    ensures { Searched (matching value (bits chunk.now 0 512)) n result }
+{
+    find_in_units::<u64, Plain>(&mut Plain::new(chunk), 0, 0, 8, n, value)
 }

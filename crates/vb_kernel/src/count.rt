@@ -118,8 +118,9 @@ fn add_chunks<G: Glance>(src: &mut G, at: usize, n: usize, ones: usize) -> usize
 
 /// Counts `n` chunks from byte `at` on.
 ///
-/// Two chunks a turn, which hides the cost of the loop. It isn't inlined: among the sums of other
-/// parts the compiler no longer sees its four as the lanes of one vector.
+/// Two chunks a turn, which are summed before their sum is added: a compiler that counts the bits
+/// of bytes then adds those counts as bytes and widens them once a turn. It isn't inlined: among the
+/// sums of other parts the compiler no longer sees its four as the lanes of one vector.
 #[tactic(auto, using(crate::proofs::BitsLemmas::windows))]
 #[inline(never)]
 pub(crate) fn count_chunks<G: Glance>(src: &mut G, at: usize, n: usize) -> usize
@@ -131,12 +132,26 @@ pub(crate) fn count_chunks<G: Glance>(src: &mut G, at: usize, n: usize) -> usize
 {
     let mut sum = LaneSum::zero();
     for k in 0..n / 2 {
-        let first = src.chunk(at + 128 * k);
-        let second = src.chunk(at + 128 * k + 64);
-        sum = sum.add(&first).add(&second);
+        sum = sum.plus(sum_chunks(src, at + 128 * k, 2));
     }
-    if n % 2 == 1 {
-        sum = sum.add(&src.chunk(at + n / 2 * 128));
+    sum.plus(sum_chunks(src, at + n / 2 * 128, n % 2)).total()
+}
+
+/// Counts `n` chunks from byte `at` on, one by one.
+///
+/// A loop also for two, since a compiler that saw one sum would add to the whole one by one.
+#[tactic(auto, using(crate::proofs::BitsLemmas::windows))]
+#[inline(always)]
+fn sum_chunks<G: Glance>(src: &mut G, at: usize, n: usize) -> LaneSum
+    requires inside { at + 64 * n ≤ length (G.bytes src.old) }
+    requires fits { 8 * at + 512 * n ≤ usize.MAX }
+    ensures value { result ≡ count (bits (G.bytes src.old) (8 * at) (512 * n)) }
+    ensures same { G.bytes src.new ≡ G.bytes src.old }
+    ensures looks { G.looks src.new ≡ G.looks src.old + n }
+{
+    let mut sum = LaneSum::zero();
+    for k in 0..n {
+        sum = sum.add(&src.chunk(at + 64 * k));
     }
-    sum.total()
+    sum
 }

@@ -1,10 +1,11 @@
 //! The place of a bit by its rank.
-ghost use Rattle.std.specs.Prelude.{◌≡◌, ℕ, ◌+◌, ◌*◌, ◌%◌, ◌<◌, ◌≤◌, length, min};
+ghost use Rattle.std.specs.Prelude.{◌≡◌, ℕ, ◌+◌, ◌*◌, ◌/◌, ◌%◌, ◌<◌, ◌≤◌, length, min};
 ghost use Rattle.vb_kernel.specs.Bits.{bits, count, negated, Selects, AnswersEach};
 ghost use Rattle.vb_kernel.specs.Looks.{looks};
 ghost use Rattle.vb_kernel.specs.Searches.{matching, Searched};
 ghost use Rattle.vb_kernel.specs.Windows.{rest_looks};
 
+use crate::chunk::find_in_chunk;
 use crate::count::count_chunks;
 use crate::glance::{Glance, Plain};
 use crate::unit::Unit;
@@ -12,9 +13,9 @@ use crate::window::Parts;
 use crate::word::{byte_part, select_in_word};
 use std::ops::ControlFlow;
 
-/// Fewer chunks than these are searched one by one, which takes no longer than a call that counts
-/// them.
-const WORTH_A_CALL: usize = 4;
+/// Fewer chunks than these are searched by their words at once, which takes no longer than to count
+/// them first.
+const MANY: usize = 4;
 
 /// The place, relative to the window, of its `n`-th true bit, counted from 0; `None` where the
 /// window has at most `n`.
@@ -85,35 +86,73 @@ fn find<G: Glance>(
     ensures looks { G.looks src.new ≤ G.looks src.old + looks offset len }
 {
     let parts = Parts::of(offset, len);
-    let rest_at = parts.head + 512 * parts.chunks;
     let n = find_in_part(src, offset, 0, parts.head, n, value)?;
-    let n = find_in_chunks(src, offset, parts.head, parts.chunks, n, value)?;
-    find_in_rest(src, offset, rest_at, parts.rest, n, value)
+    if parts.chunks < MANY {
+        find_in_few_chunks(src, offset, parts.head, len - parts.head, n, value)
+    } else {
+        find_in_many_chunks(src, offset, parts.head, len - parts.head, n, value)
+    }
 }
 
-/// Searches the chunks at place `from` of the window at `offset`. Of the bits from there on that
-/// are `value`, the `n`-th is sought.
+/// Searches the `len` bits at place `from` of the window at `offset`, its chunks by their words. Of
+/// the bits from there on that are `value`, the `n`-th is sought.
 #[inline(always)]
-fn find_in_chunks<G: Glance>(
+fn find_in_few_chunks<G: Glance>(
     src: &mut G,
     offset: usize,
     from: usize,
-    chunks: usize,
+    len: usize,
     n: usize,
     value: bool,
 ) -> ControlFlow<usize, usize>
-    requires aligned { 0 < chunks → (offset + from) % 8 ≡ 0 }
-    requires inside { offset + from + 512 * chunks ≤ 8 * length (G.bytes src.old) }
-    requires fits { offset + from + 512 * chunks ≤ usize.MAX }
+    requires aligned { 0 < len → (offset + from) % 8 ≡ 0 }
+    requires inside { offset + from + len ≤ 8 * length (G.bytes src.old) }
+    requires fits { offset + from + len ≤ usize.MAX }
     ensures found { Searched
-        (matching value (bits (G.bytes src.old) offset (from + 512 * chunks)))
+        (matching value (bits (G.bytes src.old) offset (from + len)))
         (n + count (matching value (bits (G.bytes src.old) offset from))) result }
     ensures same { G.bytes src.new ≡ G.bytes src.old }
-    ensures looks { G.looks src.new ≤ G.looks src.old + chunks }
+    ensures looks { G.looks src.new ≤ G.looks src.old + (len / 512 + rest_looks (len % 512)) }
 {
+    let mut left = n;
+    for k in 0..len / 512 {
+        let chunk = src.chunk((offset + from) / 8 + 64 * k);
+        match find_in_chunk(&chunk, left, value) {
+            ControlFlow::Break(place) => return ControlFlow::Break(from + 512 * k + place),
+            ControlFlow::Continue(rest) => left = rest,
+        }
+    }
+    find_in_rest(src, offset, from + len / 512 * 512, len % 512, left, value)
+}
+
+/// Searches the `len` bits at place `from` of the window at `offset`, its chunks by counting them
+/// first. Of the bits from there on that are `value`, the `n`-th is sought.
+///
+/// Called, so that the search of a short window saves no registers for it.
+#[cold]
+#[inline(never)]
+fn find_in_many_chunks<G: Glance>(
+    src: &mut G,
+    offset: usize,
+    from: usize,
+    len: usize,
+    n: usize,
+    value: bool,
+) -> ControlFlow<usize, usize>
+    requires aligned { 0 < len → (offset + from) % 8 ≡ 0 }
+    requires inside { offset + from + len ≤ 8 * length (G.bytes src.old) }
+    requires fits { offset + from + len ≤ usize.MAX }
+    ensures found { Searched
+        (matching value (bits (G.bytes src.old) offset (from + len)))
+        (n + count (matching value (bits (G.bytes src.old) offset from))) result }
+    ensures same { G.bytes src.new ≡ G.bytes src.old }
+    ensures looks { G.looks src.new ≤ G.looks src.old + (len / 512 + rest_looks (len % 512)) }
+{
+    let chunks = len / 512;
     let (passed, left) = pass_chunks(src, offset + from, chunks, n, value);
     let others_at = from + 512 * passed;
-    find_in_units::<[u8; 64], G>(src, offset, others_at, chunks - passed, left, value)
+    let left = find_in_units::<[u8; 64], G>(src, offset, others_at, chunks - passed, left, value)?;
+    find_in_rest(src, offset, from + 512 * chunks, len % 512, left, value)
 }
 
 /// Passes chunks from bit `at` on that can't hold the `n`-th bit that is `value`. Answers how many
@@ -142,7 +181,7 @@ fn pass_chunks<G: Glance>(
     let mut left = n;
     loop {
         let sure = (left / 512).min(chunks - passed);
-        if sure < WORTH_A_CALL {
+        if sure < MANY {
             return (passed, left);
         }
         left -= count_matching(src, at / 8 + 64 * passed, sure, value);
@@ -151,12 +190,7 @@ fn pass_chunks<G: Glance>(
 }
 
 /// How many bits of `n` chunks from byte `at` on are `value`.
-///
-/// Marked as cold, since the compiler then lays the search out for few chunks, where this isn't
-/// called. For many chunks the call costs nothing that can be measured.
 #[tactic(auto, using(crate::proofs::BitsLemmas::windows))]
-#[cold]
-#[inline(never)]
 fn count_matching<G: Glance>(src: &mut G, at: usize, n: usize, value: bool) -> usize
     requires inside { at + 64 * n ≤ length (G.bytes src.old) }
     requires fits { 8 * at + 512 * n ≤ usize.MAX }
