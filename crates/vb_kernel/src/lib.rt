@@ -16,8 +16,6 @@ mod glance;
 mod looks;
 mod map;
 mod select;
-#[cfg(test)]
-mod tests;
 mod unit;
 mod window;
 mod word;

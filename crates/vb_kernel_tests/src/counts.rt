@@ -1,8 +1,8 @@
 //! Counts, and the looks that they take.
-use crate::tests::{plain, sample};
-use crate::{Tally, count_ones, count_ones_by, most_looks, window_fits};
+use crate::{plain, sample};
 use std::alloc::AllocError;
 use std::process::Abort;
+use vb_kernel::{Tally, count_ones, count_ones_by, most_looks, window_fits};
 
 fn count_is_plain(rt: &impl Abort, bytes: &[u8], offset: usize, len: usize) {
     let fits = window_fits(bytes, offset, len);

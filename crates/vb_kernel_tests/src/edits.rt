@@ -1,8 +1,8 @@
 //! Fills and windows turned over, compared with single bits.
-use crate::tests::sample;
-use crate::{fill_bits, get_bit, map_words};
+use crate::sample;
 use std::alloc::AllocError;
 use std::process::Abort;
+use vb_kernel::{fill_bits, get_bit, map_words};
 
 const OFFSETS: [usize; 5] = [0, 3, 5, 7, 13];
 

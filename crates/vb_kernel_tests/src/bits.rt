@@ -1,5 +1,5 @@
 //! Single bits and windows.
-use crate::{get_bit, get_bit_unchecked, set_bit_unchecked, unset_bit_unchecked, window_fits};
+use vb_kernel::{get_bit, get_bit_unchecked, set_bit_unchecked, unset_bit_unchecked, window_fits};
 
 #[test]
 fn single_bits(rt: HostRuntime) {

@@ -1,11 +1,11 @@
 //! Selects, by every rank.
-use crate::tests::{plain, sample};
-use crate::{
+use crate::{plain, sample};
+use std::alloc::AllocError;
+use std::process::Abort;
+use vb_kernel::{
     Tally, bit_select, bit_select_by, bit_select_unset, bit_select_unset_by, count_ones_by,
     window_fits,
 };
-use std::alloc::AllocError;
-use std::process::Abort;
 
 fn selects_are_plain(rt: &impl Abort, bytes: &[u8], offset: usize, len: usize) {
     let fits = window_fits(bytes, offset, len);

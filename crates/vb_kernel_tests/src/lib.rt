@@ -1,0 +1,15 @@
+//! Tests of the kernels: worked values, and each kernel beside the plain bit loops.
+#![tactic(auto)]
+
+#[cfg(test)]
+mod bits;
+#[cfg(test)]
+mod counts;
+#[cfg(test)]
+mod edits;
+#[cfg(test)]
+mod plain;
+#[cfg(test)]
+mod sample;
+#[cfg(test)]
+mod selects;
