@@ -273,7 +273,7 @@ fn answers(rt: &impl Abort, global: Global, without: Option<usize>) -> Result<Ve
     let mut answers = Vec::new(global);
     for (line, command) in commands(rt, global, &global)?.iter().enumerate() {
         let answer = plain.answer(command, without == Some(line));
-        answers.push(format!(in global; "{answer}")?)?;
+        answers.push(text_of(global, &answer)?)?;
     }
     Ok(answers)
 }
@@ -305,11 +305,15 @@ fn driven<A: Allocator + Clone>(
 fn same_lines(rt: &impl Abort, global: Global, shown: &str) -> Result<(usize, bool), Fail> {
     assert!(rt; shown.is_empty() || shown.ends_with('\n'));
     let without = shown.lines().position(|line| line == "refused OutOfMemory");
-    let wanted = answers(rt, global, without)?;
-    for (line, answer) in shown.lines().zip(wanted.iter()) {
+    begin_alike(rt, shown, &answers(rt, global, without)?);
+    Ok((shown.lines().count(), without.is_some()))
+}
+
+/// The lines are the first of the answers.
+fn begin_alike(rt: &impl Abort, shown: &str, answers: &[String]) {
+    for (line, answer) in shown.lines().zip(answers.iter()) {
         equal_texts(rt, line, answer.as_str());
     }
-    Ok((shown.lines().count(), without.is_some()))
 }
 
 /// A session was refused memory for one of its lines, or as a whole, or not at all.
