@@ -1,9 +1,10 @@
 //! Edits of sets beside the same edits of plain lists.
-use crate::shown::shown;
+use crate::compared::{equal, holds};
+use crate::made::window;
 use std::alloc::Global;
 use std::process::Abort;
 use std::test::Fail;
-use vb_set::{BitBufferMut, ByteBufferMut};
+use vb_set::BitBufferMut;
 
 /// The places of the first bit, and the lengths, at which each edit is tried.
 const OFFSETS: [usize; 5] = [0, 3, 5, 7, 13];
@@ -15,11 +16,7 @@ const PATTERN: u8 = 0b1011_0010;
 
 /// A window of bytes of the pattern, which go on behind it.
 fn set_of(alloc: Global, offset: usize, len: usize) -> Result<BitBufferMut<Global>, Fail> {
-    let bytes = ByteBufferMut::full(alloc, PATTERN, 30)?;
-    if offset <= 13 && len <= 200 {
-        return Ok(BitBufferMut::from_buffer(bytes, offset, len));
-    }
-    Ok(BitBufferMut::empty(alloc))
+    window(alloc, (PATTERN, 30), offset, len)
 }
 
 /// The bits of that window.
@@ -43,9 +40,12 @@ fn same(
     for bit in list {
         text.push(if *bit { '1' } else { '0' })?;
     }
-    assert_eq!(rt; shown(alloc, set)?.as_str(), text.as_str());
-    assert_eq!(rt; set.true_count(), list.iter().filter(|bit| **bit).count());
-    Ok(())
+    equal(
+        rt,
+        set.true_count(),
+        list.iter().filter(|bit| **bit).count(),
+    );
+    holds(rt, alloc, set, text.as_str())
 }
 
 /// Writes one bit in the middle, and the bits of a part.
@@ -86,18 +86,28 @@ fn shorten(set: &mut BitBufferMut<Global>, list: &mut Vec<bool>) {
 fn edits_are_plain(rt: &impl Abort, alloc: Global, offset: usize, len: usize) -> Result<(), Fail> {
     let mut set = set_of(alloc, offset, len)?;
     let mut list = list_of(alloc, offset, len)?;
-    for v in [true, false] {
-        write(&mut set, &mut list, v);
-        same(rt, alloc, &set, &list)?;
-        lengthen(&mut set, &mut list, v)?;
-        same(rt, alloc, &set, &list)?;
-        shorten(&mut set, &mut list);
-        same(rt, alloc, &set, &list)?;
-        // The bits that were cut off stand behind the end now.
-        lengthen(&mut set, &mut list, !v)?;
-        same(rt, alloc, &set, &list)?;
-    }
+    edited_is_plain(rt, alloc, &mut set, &mut list, true)?;
+    edited_is_plain(rt, alloc, &mut set, &mut list, false)?;
     turned_is_plain(rt, alloc, set, &list)
+}
+
+/// The edits with bits `v`, and with the others.
+fn edited_is_plain(
+    rt: &impl Abort,
+    alloc: Global,
+    set: &mut BitBufferMut<Global>,
+    list: &mut Vec<bool>,
+    v: bool,
+) -> Result<(), Fail> {
+    write(set, list, v);
+    same(rt, alloc, set, list)?;
+    lengthen(set, list, v)?;
+    same(rt, alloc, set, list)?;
+    shorten(set, list);
+    same(rt, alloc, set, list)?;
+    // The bits that were cut off stand behind the end now.
+    lengthen(set, list, !v)?;
+    same(rt, alloc, set, list)
 }
 
 /// The set turned over, and then cleared, beside the list.
@@ -107,16 +117,26 @@ fn turned_is_plain(
     set: BitBufferMut<Global>,
     list: &[bool],
 ) -> Result<(), Fail> {
-    let mut turned = Vec::new(alloc);
-    for bit in list {
-        turned.push(!*bit)?;
-    }
     let mut set = !set;
-    same(rt, alloc, &set, &turned)?;
+    same_turned(rt, alloc, &set, list)?;
     set.clear();
     same(rt, alloc, &set, &[])?;
     set.append_n(true, 9)?;
     same(rt, alloc, &set, &[true; 9])
+}
+
+/// The set is the list turned over.
+fn same_turned(
+    rt: &impl Abort,
+    alloc: Global,
+    set: &BitBufferMut<Global>,
+    list: &[bool],
+) -> Result<(), Fail> {
+    let mut turned = Vec::new(alloc);
+    for bit in list {
+        turned.push(!*bit)?;
+    }
+    same(rt, alloc, set, &turned)
 }
 
 #[test]

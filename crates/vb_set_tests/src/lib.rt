@@ -3,7 +3,11 @@
 #![tactic(auto)]
 
 #[cfg(test)]
+mod compared;
+#[cfg(test)]
 mod edits;
+#[cfg(test)]
+mod made;
 #[cfg(test)]
 mod owners;
 #[cfg(test)]

@@ -1,4 +1,5 @@
 //! Which owner may edit a shared set. No clause says how many owners there are.
+use crate::compared::equal;
 use std::test::Fail;
 use vb_set::BitBuffer;
 use vb_testing::Refusing;
@@ -9,7 +10,7 @@ fn one_of_two_owners_may_not_edit(rt: HostRuntime) -> Result<(), Fail> {
     let twin = set.clone()?;
     let answer = set.try_into_mut();
     assert!(rt; answer.is_err());
-    assert_eq!(rt; twin.true_count(), 9);
+    equal(&rt, twin.true_count(), 9);
     Ok(())
 }
 
@@ -20,7 +21,7 @@ fn a_lone_owner_edits_without_memory(rt: HostRuntime) -> Result<(), Fail> {
     drop(set.clone()?);
     heap.refuse(1);
     match set.try_into_mut() {
-        Ok(set) => assert_eq!(rt; (set.true_count(), heap.asked()), (9, 0)),
+        Ok(set) => equal(&rt, (set.true_count(), heap.asked()), (9, 0)),
         Err(_) => assert!(rt; false, "there is no other owner"),
     }
     Ok(())

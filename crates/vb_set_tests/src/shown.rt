@@ -2,28 +2,30 @@
 use std::alloc::{AllocError, Allocator, Global};
 use vb_set::{BitBuffer, BitBufferMut};
 
-/// The bits of an open set.
-pub(crate) fn shown<A: Allocator + Clone>(
-    global: Global,
-    set: &BitBufferMut<A>,
-) -> Result<String, AllocError> {
-    let mut text = String::new(global);
-    for i in 0..set.len() {
-        text.push(digit(set.value(i)))?;
-    }
-    Ok(text)
+/// A set whose bits can be shown.
+pub(crate) trait Shown {
+    /// The bits, in the order of their places.
+    fn shown(&self, global: Global) -> Result<String, AllocError>;
 }
 
-/// The bits of a set that may be shared.
-pub(crate) fn shown_shared<A: Allocator + Clone>(
-    global: Global,
-    set: &BitBuffer<A>,
-) -> Result<String, AllocError> {
-    let mut text = String::new(global);
-    for i in 0..set.len() {
-        text.push(digit(set.value(i)))?;
+impl<A: Allocator + Clone> Shown for BitBufferMut<A> {
+    fn shown(&self, global: Global) -> Result<String, AllocError> {
+        let mut text = String::new(global);
+        for i in 0..self.len() {
+            text.push(digit(self.value(i)))?;
+        }
+        Ok(text)
     }
-    Ok(text)
+}
+
+impl<A: Allocator + Clone> Shown for BitBuffer<A> {
+    fn shown(&self, global: Global) -> Result<String, AllocError> {
+        let mut text = String::new(global);
+        for i in 0..self.len() {
+            text.push(digit(self.value(i)))?;
+        }
+        Ok(text)
+    }
 }
 
 fn digit(bit: bool) -> char {

@@ -70,16 +70,12 @@ impl Plain {
             Command::Clone(k, t) => self.copy(*k, *t, refused),
             Command::Slice(k, a, b, t) => self.slice(*k, *a, *b, *t, refused),
             Command::Drop(k) => self.drop(*k),
-            Command::Len(k) => Ok(Answer::Number(self.list(*k)?.len())),
-            Command::Count(k) => Ok(Answer::Number(count(self.list(*k)?))),
-            Command::Get(k, i) => Ok(Answer::Truth(value(self.list(*k)?, *i)?)),
-            Command::Countrange(k, a, b) => Ok(Answer::Number(count(part(
-                self.list(*k)?,
-                *a,
-                *b,
-            )?))),
-            Command::Select(k, n) => Ok(Answer::Place(place(self.list(*k)?, true, *n))),
-            Command::Selectunset(k, n) => Ok(Answer::Place(place(self.list(*k)?, false, *n))),
+            Command::Len(k) => self.len(*k),
+            Command::Count(k) => self.count(*k),
+            Command::Get(k, i) => self.get(*k, *i),
+            Command::Countrange(k, a, b) => self.count_range(*k, *a, *b),
+            Command::Select(k, n) => self.select(*k, true, *n),
+            Command::Selectunset(k, n) => self.select(*k, false, *n),
             Command::Bits(k) => self.bits(*k, refused),
         }
     }
@@ -93,12 +89,7 @@ impl Plain {
         refused: bool,
     ) -> Result<Answer<Global>, Refused> {
         self.vacant(t)?;
-        let mut bits = Vec::new(self.alloc);
-        for byte in bytes {
-            for k in 0..8u32 {
-                bits.push((*byte >> k) & 1 == 1)?;
-            }
-        }
+        let bits = bits_of(self.alloc, bytes)?;
         let end = offset.checked_add(len);
         match end.and_then(|end| bits.get(offset..end)) {
             Some(list) if offset < 8 => {
@@ -194,6 +185,26 @@ impl Plain {
         self.put(t, bits, true)
     }
 
+    fn len(&self, k: usize) -> Result<Answer<Global>, Refused> {
+        Ok(Answer::Number(self.list(k)?.len()))
+    }
+
+    fn count(&self, k: usize) -> Result<Answer<Global>, Refused> {
+        Ok(Answer::Number(count(self.list(k)?)))
+    }
+
+    fn get(&self, k: usize, i: usize) -> Result<Answer<Global>, Refused> {
+        Ok(Answer::Truth(value(self.list(k)?, i)?))
+    }
+
+    fn count_range(&self, k: usize, a: usize, b: usize) -> Result<Answer<Global>, Refused> {
+        Ok(Answer::Number(count(part(self.list(k)?, a, b)?)))
+    }
+
+    fn select(&self, k: usize, value: bool, n: usize) -> Result<Answer<Global>, Refused> {
+        Ok(Answer::Place(place(self.list(k)?, value, n)))
+    }
+
     fn bits(&self, k: usize, refused: bool) -> Result<Answer<Global>, Refused> {
         let bits = self.list(k)?.to_vec(self.alloc)?;
         ample(refused)?;
@@ -242,6 +253,17 @@ impl Plain {
         }
         Ok(bits.to_vec(self.alloc)?)
     }
+}
+
+/// The bits of bytes, the lowest one of each byte first.
+fn bits_of(alloc: Global, bytes: &[u8]) -> Result<Vec<bool>, Refused> {
+    let mut bits = Vec::new(alloc);
+    for byte in bytes {
+        for k in 0..8u32 {
+            bits.push((*byte >> k) & 1 == 1)?;
+        }
+    }
+    Ok(bits)
 }
 
 fn ample(refused: bool) -> Result<(), Refused> {

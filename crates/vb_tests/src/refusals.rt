@@ -1,6 +1,7 @@
 //! Each request for memory refused in turn, and none.
+use crate::compared::{equal, equal_texts};
 use crate::plain::Plain;
-use std::alloc::{Allocator, Global};
+use std::alloc::{AllocError, Allocator, Global};
 use std::process::Abort;
 use std::test::Fail;
 use vb_script::{
@@ -10,7 +11,7 @@ use vb_script::{
 use vb_testing::{Handle, Refusing};
 
 /// A session of all commands, each refused for each of its reasons, whose sets share storage.
-const LINES: [&str; 44] = [
+const LINES: &[&str] = &[
     "import 0 3 9 f8ff",
     "import 0 0 8 00",
     "import 2 7 2 00",
@@ -65,12 +66,28 @@ fn commands<A: Allocator + Clone>(
 ) -> Result<Vec<Command<A>>, Fail> {
     let mut commands = Vec::new(global);
     for line in LINES {
-        match command_of(alloc, line.as_bytes()) {
-            Ok(Some(command)) => commands.push(command)?,
-            _ => assert!(rt; false, "no command: {line}"),
-        }
+        add_command(rt, alloc, &mut commands, line)?;
     }
     Ok(commands)
+}
+
+/// Adds the command of a line.
+fn add_command<A: Allocator + Clone>(
+    rt: &impl Abort,
+    alloc: &A,
+    commands: &mut Vec<Command<A>>,
+    line: &str,
+) -> Result<(), Fail> {
+    match command_of(alloc, line.as_bytes()) {
+        Ok(Some(command)) => commands.push(command)?,
+        _ => assert!(rt; false, "no command: {line}"),
+    }
+    Ok(())
+}
+
+/// The text of an answer.
+fn text_of<A: Allocator>(global: Global, answer: &Answer<A>) -> Result<String, AllocError> {
+    format!(in global; "{answer}")
 }
 
 /// An answer of each has the same text.
@@ -80,9 +97,9 @@ fn same_text<A: Allocator>(
     given: &Answer<A>,
     wanted: &Answer<Global>,
 ) -> Result<(), Fail> {
-    let given = format!(in global; "{given}")?;
-    let wanted = format!(in global; "{wanted}")?;
-    assert_eq!(rt; given.as_str(), wanted.as_str());
+    let given = text_of(global, given)?;
+    let wanted = text_of(global, wanted)?;
+    equal_texts(rt, given.as_str(), wanted.as_str());
     Ok(())
 }
 
@@ -125,16 +142,46 @@ fn same_answers<A: Allocator>(
     answers: &[Answer<A>],
     was_refused: bool,
 ) -> Result<(), Fail> {
-    assert_eq!(rt; answers.len(), commands.len());
+    equal(rt, answers.len(), commands.len());
     let mut left = was_refused;
     for (command, answer) in commands.iter().zip(answers.iter()) {
-        let refused = matches!(answer, Answer::Refused(Refusal::OutOfMemory));
-        same_text(rt, global, answer, &plain.answer(command, refused))?;
-        assert!(rt; !refused || left);
-        left = left && !refused;
+        left = left_after(rt, global, plain, command, answer, left)?;
     }
-    assert!(rt; !left);
+    equal(rt, left, false);
     Ok(())
+}
+
+/// Whether `OutOfMemory` is still to come after this answer, which is that of the plain machine.
+fn left_after<A: Allocator>(
+    rt: &impl Abort,
+    global: Global,
+    plain: &mut Plain,
+    command: &Command<A>,
+    answer: &Answer<A>,
+    left: bool,
+) -> Result<bool, Fail> {
+    let refused = matches!(answer, Answer::Refused(Refusal::OutOfMemory));
+    same_text(rt, global, answer, &plain.answer(command, refused))?;
+    assert!(rt; !refused || left);
+    Ok(left && !refused)
+}
+
+/// A run is that of the plain machine, or was refused as a whole.
+fn same_run<A: Allocator>(
+    rt: &impl Abort,
+    global: Global,
+    plain: &mut Plain,
+    commands: &[Command<A>],
+    ran: Result<Vec<Answer<A>, A>, BufferError>,
+    was_refused: bool,
+) -> Result<(), Fail> {
+    match ran {
+        Err(error) => {
+            equal(rt, (error, was_refused), (BufferError::OutOfMemory, true));
+            Ok(())
+        }
+        Ok(answers) => same_answers(rt, global, plain, commands, &answers, was_refused),
+    }
 }
 
 /// Runs the commands on an empty pool with one request refused, beside the plain machine, and
@@ -155,15 +202,29 @@ fn run_on<A: Allocator + Clone>(
     let ran = run(alloc, pool, &commands);
     let was_refused = heap.has_refused();
     heap.refuse(0);
-    match ran {
-        Err(error) => {
-            assert_eq!(rt; error, BufferError::OutOfMemory);
-            assert!(rt; was_refused);
-        }
-        Ok(answers) => same_answers(rt, global, &mut plain, &commands, &answers, was_refused)?,
-    }
+    same_run(rt, global, &mut plain, &commands, ran, was_refused)?;
     same_slots(rt, global, &own, pool, &mut plain)?;
     Ok(was_refused)
+}
+
+/// A machine that can be made. A proof that knows no more of it doesn't look at each of its slots,
+/// and so it is proved in less time.
+trait Machine {
+    fn made() -> Self;
+}
+
+impl<A: Allocator + Clone> Machine for Pool<A> {
+    fn made() -> Pool<A> {
+        Pool::new()
+    }
+}
+
+/// What is answered of a machine that is lent, and then let go.
+fn lent<M: Machine + Drop, T, F: FnOnce(&mut M) -> Result<T, Fail>>(of: F) -> Result<T, Fail>
+    requires { F.IsAlwaysCallable of }
+{
+    let mut machine = M::made();
+    of(&mut machine)
 }
 
 /// [`run_on`] a pool of its own, which isn't among the values that a `?` there would drop.
@@ -174,8 +235,7 @@ fn run_is_plain<A: Allocator + Clone>(
     alloc: A,
     refused: u64,
 ) -> Result<bool, Fail> {
-    let mut pool = Pool::new();
-    run_on(rt, global, heap, alloc, refused, &mut pool)
+    lent(|pool: &mut Pool<A>| run_on(rt, global, heap, alloc, refused, pool))
 }
 
 #[test]
@@ -213,9 +273,63 @@ fn answers(rt: &impl Abort, global: Global, without: Option<usize>) -> Result<Ve
     let mut answers = Vec::new(global);
     for (line, command) in commands(rt, global, &global)?.iter().enumerate() {
         let answer = plain.answer(command, without == Some(line));
-        answers.push(format!(in global; "{answer}")?)?;
+        answers.push(text_of(global, &answer)?)?;
     }
     Ok(answers)
+}
+
+/// The lines of the session.
+fn session(global: Global) -> Result<String, AllocError> {
+    let mut text = String::new(global);
+    for line in LINES {
+        text.push_str(line)?;
+        text.push_str("\n")?;
+    }
+    Ok(text)
+}
+
+/// How a session over this text ends, and what it writes.
+fn driven<A: Allocator + Clone>(
+    global: Global,
+    alloc: A,
+    text: &str,
+) -> (Result<(), DriveError>, Vec<u8>) {
+    let mut source = FromRead::new(text.as_bytes());
+    let mut sink = ToWrite::new(Vec::new(global));
+    let ended = drive(alloc, &mut source, &mut sink);
+    (ended, sink.into_inner())
+}
+
+/// How many lines were written, and whether one of them is `OutOfMemory`: they are those of the
+/// plain machine, each whole.
+fn same_lines(rt: &impl Abort, global: Global, shown: &str) -> Result<(usize, bool), Fail> {
+    assert!(rt; shown.is_empty() || shown.ends_with('\n'));
+    let without = shown.lines().position(|line| line == "refused OutOfMemory");
+    begin_alike(rt, shown, &answers(rt, global, without)?);
+    Ok((shown.lines().count(), without.is_some()))
+}
+
+/// The lines are the first of the answers.
+fn begin_alike(rt: &impl Abort, shown: &str, answers: &[String]) {
+    for (line, answer) in shown.lines().zip(answers.iter()) {
+        equal_texts(rt, line, answer.as_str());
+    }
+}
+
+/// A session was refused memory for one of its lines, or as a whole, or not at all.
+fn ends_as_refused(
+    rt: &impl Abort,
+    ended: Result<(), DriveError>,
+    (count, is_line_refused): (usize, bool),
+    was_refused: bool,
+) {
+    if ended.is_ok() {
+        equal(rt, (count, is_line_refused), (LINES.len(), was_refused));
+    } else {
+        equal(rt, ended, Err(DriveError::Memory));
+        equal(rt, (was_refused, is_line_refused), (true, false));
+        equal(rt, count < LINES.len(), true);
+    }
 }
 
 /// Drives the session with one request refused, and answers whether that request was made.
@@ -225,35 +339,12 @@ fn drive_is_plain<A: Allocator + Clone>(
     heap: &Refusing<Global>,
     alloc: A,
 ) -> Result<bool, Fail> {
-    let mut text = String::new(global);
-    for line in LINES {
-        text.push_str(line)?;
-        text.push_str("\n")?;
-    }
-    let mut source = FromRead::new(text.as_bytes());
-    let mut sink = ToWrite::new(Vec::new(global));
-    let ended = drive(alloc, &mut source, &mut sink);
-    let written = sink.into_inner();
-    let shown = std::str::from_utf8(&written)?;
-    assert!(rt; shown.is_empty() || shown.ends_with('\n'));
-    let without = shown.lines().position(|line| line == "refused OutOfMemory");
-    let wanted = answers(rt, global, without)?;
-    let count = shown.lines().count();
-    for (line, answer) in shown.lines().zip(wanted.iter()) {
-        assert_eq!(rt; line, answer.as_str());
-    }
-    match ended {
-        Ok(()) => {
-            assert_eq!(rt; count, LINES.len());
-            assert_eq!(rt; heap.has_refused(), without.is_some());
-        }
-        Err(error) => {
-            assert_eq!(rt; error, DriveError::Memory);
-            assert!(rt; heap.has_refused() && without.is_none());
-            assert!(rt; count < LINES.len());
-        }
-    }
-    Ok(heap.has_refused())
+    let text = session(global)?;
+    let (ended, written) = driven(global, alloc, text.as_str());
+    let was_refused = heap.has_refused();
+    let lines = same_lines(rt, global, std::str::from_utf8(&written)?)?;
+    ends_as_refused(rt, ended, lines, was_refused);
+    Ok(was_refused)
 }
 
 #[test]
@@ -303,6 +394,5 @@ fn all_served(rt: &impl Abort, alloc: Global, pool: &mut Pool<Global>) -> Result
 
 #[test]
 fn commands_give_up(rt: HostRuntime) -> Result<(), Fail> {
-    let mut pool = Pool::new();
-    all_served(&rt, rt.alloc(), &mut pool)
+    lent(|pool: &mut Pool<Global>| all_served(&rt, rt.alloc(), pool))
 }

@@ -3,6 +3,7 @@ ghost use Rattle.std.specs.Prelude.{[], IfOk, Some};
 ghost use Rattle.std.specs.Str.Lines.{lines};
 ghost use Rattle.vb_script.specs.Session.{AnswersLines};
 
+use crate::compared::{ends, equal_texts};
 use std::alloc::Global;
 use std::io;
 use std::io::Read;
@@ -22,7 +23,7 @@ fn answers(alloc: Global, input: &[u8]) -> Result<Vec<u8>, DriveError>
 
 fn all_lines_are_answered(rt: &impl Abort, alloc: Global, lines: &str, answered: &str) {
     match answers(alloc, lines.as_bytes()) {
-        Ok(written) => assert_eq!(rt; written.as_slice(), answered.as_bytes(), "{lines}"),
+        Ok(written) => ends(rt, lines.as_bytes(), (Ok(()), written), Ok(()), answered),
         Err(_) => assert!(rt; false, "{lines}"),
     }
 }
@@ -52,53 +53,65 @@ fn session(alloc: Global, bytes: &[u8], most: usize) -> (Result<(), DriveError>,
 /// The sizes of the pieces in which an input comes.
 const SIZES: [usize; 4] = [1, 2, 7, 1_000_000];
 
+/// A session over these lines in pieces of each size ends so, and writes this.
+fn pieces_end(
+    rt: &impl Abort,
+    alloc: Global,
+    lines: &[u8],
+    ended: Result<(), DriveError>,
+    answered: &str,
+) {
+    for most in SIZES {
+        ends(rt, lines, session(alloc, lines, most), ended, answered);
+    }
+}
+
+/// Lines, and what they are answered.
+const ANSWERED: &[(&str, &str)] = &[
+    ("", ""),
+    (
+        "import 0 0 8 14\ncount 0\nselect 0 1\nselectunset 0 2\nget 0 4\n",
+        "ok\n2\n4\n3\n1\n",
+    ),
+    ("import 0 0 0 -\ncount 0\nselect 0 0\n", "ok\n0\nnone\n"),
+    ("import 0 8 1 00\n", "refused BadWindow\n"),
+    ("import 0 7 2 00\n", "refused BadWindow\n"),
+    ("import 0 7 1 00\n", "ok\n"),
+    (
+        "import 0 0 18446744073709551615 00\nimport 0 7 18446744073709551615 00\n",
+        "refused BadWindow\nrefused BadWindow\n",
+    ),
+    ("import 16 0 0 -\n", "refused BadSlot\n"),
+    (
+        "import 15 0 1 01\nimport 15 9 1 -\nlen 15\n",
+        "ok\nrefused BadSlot\n1\n",
+    ),
+    ("len 0", "refused BadSlot\n"),
+    ("len 0\n", "refused BadSlot\n"),
+    ("len 0\r\n", "refused BadSlot\n"),
+    (
+        "  len   0  \r\n\n \n# a\n #b\nlen 1\n",
+        "refused BadSlot\nrefused BadSlot\n",
+    ),
+    (
+        "import 3 5 3 a0\nlen 3\ncount 3\nget 3 3\n",
+        "ok\n3\n2\nrefused OutOfRange\n",
+    ),
+    (
+        "import 1 3 7 000000\nselectunset 1 6\nselectunset 1 7\nselect 1 0\n",
+        "ok\n6\nnone\nnone\n",
+    ),
+    (
+        "import 0 0 8 ff\nimport 1 0 8 0f\ncount 0\ncount 1\nget 2 0\n",
+        "ok\nok\n8\n4\nrefused BadSlot\n",
+    ),
+];
+
 #[test]
 fn lines_are_answered(rt: HostRuntime) {
-    for (lines, answered) in [
-        ("", ""),
-        (
-            "import 0 0 8 14\ncount 0\nselect 0 1\nselectunset 0 2\nget 0 4\n",
-            "ok\n2\n4\n3\n1\n",
-        ),
-        ("import 0 0 0 -\ncount 0\nselect 0 0\n", "ok\n0\nnone\n"),
-        ("import 0 8 1 00\n", "refused BadWindow\n"),
-        ("import 0 7 2 00\n", "refused BadWindow\n"),
-        ("import 0 7 1 00\n", "ok\n"),
-        (
-            "import 0 0 18446744073709551615 00\nimport 0 7 18446744073709551615 00\n",
-            "refused BadWindow\nrefused BadWindow\n",
-        ),
-        ("import 16 0 0 -\n", "refused BadSlot\n"),
-        (
-            "import 15 0 1 01\nimport 15 9 1 -\nlen 15\n",
-            "ok\nrefused BadSlot\n1\n",
-        ),
-        ("len 0", "refused BadSlot\n"),
-        ("len 0\n", "refused BadSlot\n"),
-        ("len 0\r\n", "refused BadSlot\n"),
-        (
-            "  len   0  \r\n\n \n# a\n #b\nlen 1\n",
-            "refused BadSlot\nrefused BadSlot\n",
-        ),
-        (
-            "import 3 5 3 a0\nlen 3\ncount 3\nget 3 3\n",
-            "ok\n3\n2\nrefused OutOfRange\n",
-        ),
-        (
-            "import 1 3 7 000000\nselectunset 1 6\nselectunset 1 7\nselect 1 0\n",
-            "ok\n6\nnone\nnone\n",
-        ),
-        (
-            "import 0 0 8 ff\nimport 1 0 8 0f\ncount 0\ncount 1\nget 2 0\n",
-            "ok\nok\n8\n4\nrefused BadSlot\n",
-        ),
-    ] {
+    for (lines, answered) in ANSWERED {
         all_lines_are_answered(&rt, rt.alloc(), lines, answered);
-        for most in SIZES {
-            let (ended, written) = session(rt.alloc(), lines.as_bytes(), most);
-            assert_eq!(rt; ended, Ok(()), "{lines}");
-            assert_eq!(rt; written.as_slice(), answered.as_bytes(), "{lines}");
-        }
+        pieces_end(&rt, rt.alloc(), lines.as_bytes(), Ok(()), answered);
     }
 }
 
@@ -128,49 +141,50 @@ fn other_owners_keep_their_bits(rt: HostRuntime) {
     );
 }
 
+/// Lines, the number of the one that can't be read, and what those before it are answered.
+const UNREADABLE: &[(&[u8], u64, &str)] = &[
+    (b"import 0 0 8 1\nlen 0\n", 1, ""),
+    (
+        b"len 0\nget 0 18446744073709551616\nlen 1\n",
+        2,
+        "refused BadSlot\n",
+    ),
+    (b"# a\n\nlen x\n", 3, ""),
+    (b"len \xff\n", 1, ""),
+    (b"len 0\n# \xff\n", 2, "refused BadSlot\n"),
+    (b"len 0\nlen 0\r", 2, "refused BadSlot\n"),
+    (b"import 0 0 8 14\nlen 0 0\ncount 0\n", 2, "ok\n"),
+    (b"import 0 0 8 14\ncount 0\nselect 0", 3, "ok\n2\n"),
+    (b"\x00", 1, ""),
+];
+
 #[test]
 fn a_line_that_cannot_be_read_ends_the_session(rt: HostRuntime) {
-    for (lines, line, answered) in [
-        (b"import 0 0 8 1\nlen 0\n".as_slice(), 1, ""),
-        (
-            b"len 0\nget 0 18446744073709551616\nlen 1\n".as_slice(),
-            2,
-            "refused BadSlot\n",
-        ),
-        (b"# a\n\nlen x\n".as_slice(), 3, ""),
-        (b"len \xff\n".as_slice(), 1, ""),
-        (b"len 0\n# \xff\n".as_slice(), 2, "refused BadSlot\n"),
-        (b"len 0\nlen 0\r".as_slice(), 2, "refused BadSlot\n"),
-        (b"import 0 0 8 14\nlen 0 0\ncount 0\n".as_slice(), 2, "ok\n"),
-        (
-            b"import 0 0 8 14\ncount 0\nselect 0".as_slice(),
-            3,
-            "ok\n2\n",
-        ),
-        (b"\x00".as_slice(), 1, ""),
-    ] {
-        for most in SIZES {
-            let (ended, written) = session(rt.alloc(), lines, most);
-            assert_eq!(rt; ended, Err(DriveError::Unreadable { line }));
-            assert_eq!(rt; written.as_slice(), answered.as_bytes(), "line {line}");
-        }
+    for (lines, line, answered) in UNREADABLE {
+        let ended = Err(DriveError::Unreadable { line: *line });
+        pieces_end(&rt, rt.alloc(), lines, ended, answered);
     }
+}
+
+/// An error has this text.
+fn says(rt: &impl Abort, alloc: Global, error: DriveError, text: &str) -> Result<(), Fail> {
+    equal_texts(rt, format!(in alloc; "{error}")?.as_str(), text);
+    Ok(())
 }
 
 #[test]
 fn errors_say_what_ended_the_session(rt: HostRuntime) -> Result<(), Fail> {
-    for (error, text) in [
-        (
-            DriveError::Unreadable {
-                line: 18446744073709551615,
-            },
-            "line 18446744073709551615 can't be read",
-        ),
-        (DriveError::Read, "input can't be read"),
-        (DriveError::Write, "output can't be written"),
-        (DriveError::Memory, "out of memory"),
-    ] {
-        assert_eq!(rt; format!(in rt.alloc(); "{error}")?.as_str(), text);
-    }
-    Ok(())
+    let unreadable = DriveError::Unreadable {
+        line: 18446744073709551615,
+    };
+    let text = "line 18446744073709551615 can't be read";
+    says(&rt, rt.alloc(), unreadable, text)?;
+    says(&rt, rt.alloc(), DriveError::Read, "input can't be read")?;
+    says(
+        &rt,
+        rt.alloc(),
+        DriveError::Write,
+        "output can't be written",
+    )?;
+    says(&rt, rt.alloc(), DriveError::Memory, "out of memory")
 }

@@ -1,14 +1,27 @@
 //! Streams that fail, and what is written before a read.
+use crate::compared::equal;
+use std::alloc::Global;
 use std::cell::Cell;
 use std::io;
 use std::io::{Read, Write};
+use std::process::Abort;
 use std::test::Fail;
 use vb_script::{DriveError, FromRead, ToWrite, drive};
 use vb_testing::{FaultyReader, FaultyWriter};
 
+/// A session whose read fails after so many bytes answers the lines that were read whole.
+fn read_fails(rt: &impl Abort, alloc: Global, before: usize, answered: &str) {
+    let lines = b"len 0\nlen 1\n".as_slice();
+    let mut source = FromRead::new(FaultyReader::new(lines, before));
+    let mut sink = ToWrite::new(Vec::new(alloc));
+    let ended = drive(alloc, &mut source, &mut sink);
+    let written = sink.into_inner();
+    assert_eq!(rt; ended, Err(DriveError::Read), "after {before}");
+    assert_eq!(rt; written.as_slice(), answered.as_bytes(), "after {before}");
+}
+
 #[test]
 fn whole_lines_before_a_failed_read_are_answered(rt: HostRuntime) {
-    let lines = b"len 0\nlen 1\n".as_slice();
     for (before, answered) in [
         (0, ""),
         (5, ""),
@@ -17,33 +30,28 @@ fn whole_lines_before_a_failed_read_are_answered(rt: HostRuntime) {
         (11, "refused BadSlot\n"),
         (12, "refused BadSlot\nrefused BadSlot\n"),
     ] {
-        let mut source = FromRead::new(FaultyReader::new(lines, before));
-        let mut sink = ToWrite::new(Vec::new(rt.alloc()));
-        let ended = drive(rt.alloc(), &mut source, &mut sink);
-        assert_eq!(rt; ended, Err(DriveError::Read), "after {before}");
-        assert_eq!(rt;
-            sink.into_inner().as_slice(),
-            answered.as_bytes(),
-            "after {before}"
-        );
+        read_fails(&rt, rt.alloc(), before, answered);
     }
+}
+
+/// A session whose write fails ends so, and nothing is written.
+fn write_fails(rt: &impl Abort, alloc: Global, lines: &str, wanted: Result<(), DriveError>) {
+    let mut source = FromRead::new(lines.as_bytes());
+    let mut sink = ToWrite::new(FaultyWriter::new(Vec::new(alloc), 0));
+    let ended = drive(alloc, &mut source, &mut sink);
+    assert_eq!(rt; ended, wanted, "{lines}");
+    assert!(rt; sink.into_inner().inner().is_empty());
 }
 
 #[test]
 fn a_failed_write_ends_the_session(rt: HostRuntime) {
-    for lines in ["len 0\n", "len 0", "len 0\nlen x\n", "len x", "\n"] {
-        let mut source = FromRead::new(lines.as_bytes());
-        let mut sink = ToWrite::new(FaultyWriter::new(Vec::new(rt.alloc()), 0));
-        let ended = drive(rt.alloc(), &mut source, &mut sink);
-        let wanted = match lines {
-            // No answer is written here, so no write can fail.
-            "len x" => Err(DriveError::Unreadable { line: 1 }),
-            "\n" => Ok(()),
-            _ => Err(DriveError::Write),
-        };
-        assert_eq!(rt; ended, wanted, "{lines}");
-        assert!(rt; sink.into_inner().inner().is_empty());
+    for lines in ["len 0\n", "len 0", "len 0\nlen x\n"] {
+        write_fails(&rt, rt.alloc(), lines, Err(DriveError::Write));
     }
+    // No answer is written here, so no write can fail.
+    let unreadable = DriveError::Unreadable { line: 1 };
+    write_fails(&rt, rt.alloc(), "len x", Err(unreadable));
+    write_fails(&rt, rt.alloc(), "\n", Ok(()));
 }
 
 /// How many bytes were written so far, and in how many at most at a time.
@@ -110,8 +118,8 @@ fn answers_are_written_before_the_next_read(rt: HostRuntime) {
         written: &written,
     });
     let mut sink = ToWrite::new(Counting(&written));
-    assert_eq!(rt; drive(rt.alloc(), &mut source, &mut sink), Ok(()));
-    assert_eq!(rt; written.bytes.get(), 160);
+    equal(&rt, drive(rt.alloc(), &mut source, &mut sink), Ok(()));
+    equal(&rt, written.bytes.get(), 160);
 }
 
 #[test]
@@ -126,8 +134,8 @@ fn answers_do_not_pile_up(rt: HostRuntime) -> Result<(), Fail> {
     };
     let mut source = FromRead::new(lines.as_slice());
     let mut sink = ToWrite::new(Counting(&written));
-    assert_eq!(rt; drive(rt.alloc(), &mut source, &mut sink), Ok(()));
-    assert_eq!(rt; written.bytes.get(), 800_000);
+    equal(&rt, drive(rt.alloc(), &mut source, &mut sink), Ok(()));
+    equal(&rt, written.bytes.get(), 800_000);
     assert!(rt; written.widest.get() < 65536 + 16);
     Ok(())
 }

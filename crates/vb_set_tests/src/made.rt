@@ -1,0 +1,28 @@
+//! Sets to start from. No clause says what they hold, since the proof of a test would search among
+//! these facts at each of its calls.
+use std::alloc::{Allocator, Global};
+use std::test::Fail;
+use vb_set::{BitBufferMut, BufferError, ByteBufferMut};
+
+/// True bits.
+pub(crate) fn ones<A: Allocator + Clone>(
+    alloc: A,
+    len: usize,
+) -> Result<BitBufferMut<A>, BufferError> {
+    BitBufferMut::new_set(alloc, len)
+}
+
+/// A window of bytes that are all the same.
+pub(crate) fn window(
+    alloc: Global,
+    (byte, count): (u8, usize),
+    offset: usize,
+    len: usize,
+) -> Result<BitBufferMut<Global>, Fail> {
+    let bytes = ByteBufferMut::full(alloc, byte, count)?;
+    let bits = bytes.len().saturating_mul(8);
+    if offset <= bits && len <= bits - offset {
+        return Ok(BitBufferMut::from_buffer(bytes, offset, len));
+    }
+    Err(Fail::new("the bytes have no such window"))
+}
