@@ -36,9 +36,16 @@ fn buffers_compare_by_their_items(rt: HostRuntime) -> Result<(), Fail> {
     let wide = Alignment::from_exponent(9);
     let low = Buffer::copy_from(rt.alloc(), &[1u32, 2])?;
     let same = Buffer::copy_from_aligned(rt.alloc(), &[1u32, 2], wide)?;
-    let high = Buffer::copy_from(rt.alloc(), &[1u32, 3])?;
-    equal(&rt, (low == same, low == high), (true, false));
+    equal(&rt, low == same, true);
     equal(&rt, low.cmp(&same), Ordering::Equal);
+    Ok(())
+}
+
+#[test]
+fn buffers_of_other_items_differ(rt: HostRuntime) -> Result<(), Fail> {
+    let low = Buffer::copy_from(rt.alloc(), &[1u32, 2])?;
+    let high = Buffer::copy_from(rt.alloc(), &[1u32, 3])?;
+    equal(&rt, low == high, false);
     equal(&rt, low.partial_cmp(&high), Some(Ordering::Less));
     Ok(())
 }

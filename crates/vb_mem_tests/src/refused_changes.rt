@@ -28,9 +28,14 @@ impl Change {
             Change::ExtendFromSlice => buffer.extend_from_slice(&[8; 100]),
             Change::ExtendTrusted => buffer.extend_trusted(0..100u32),
             Change::TryExtendTrusted => try_extend(buffer),
-            Change::Take => buffer.take().map(|_| ()),
+            Change::Take => take(buffer),
         }
     }
+}
+
+fn take<A: Allocator + Clone>(buffer: &mut BufferMut<u32, A>) -> Result<(), BufferError> {
+    buffer.take()?;
+    Ok(())
 }
 
 fn try_extend<A: Allocator>(buffer: &mut BufferMut<u32, A>) -> Result<(), BufferError> {

@@ -177,13 +177,6 @@ const SHARED: &[(Shared, &[u32], (usize, usize))] = &[
     (Shared::FromMut, &[7, 7], (4, 256)),
 ];
 
-fn all_shared<A: Allocator + Clone>(rt: &impl Abort, alloc: &A) -> Result<(), BufferError> {
-    for (call, items, alignments) in SHARED {
-        shows(rt, call.make(alloc.clone()?)?, items, *alignments);
-    }
-    Ok(())
-}
-
 fn unaligned_part<A: Allocator + Clone>(
     rt: &impl Abort,
     whole: &Buffer<u32, A>,
@@ -216,12 +209,17 @@ fn parts<A: Allocator + Clone>(rt: &impl Abort, alloc: &A) -> Result<(), BufferE
     aligned_part(rt, &whole)
 }
 
+fn all_shared<A: Allocator + Clone>(rt: &impl Abort, alloc: &A) -> Result<(), BufferError> {
+    for (call, items, alignments) in SHARED {
+        shows(rt, call.make(alloc.clone()?)?, items, *alignments);
+    }
+    parts(rt, alloc)
+}
+
 #[test]
 fn shared_buffers_are_made_or_refused(rt: HostRuntime) {
     let requests = each_refused(&rt, rt.alloc(), |heap| {
-        let alloc = Handle { inner: heap };
-        all_shared(&rt, &alloc)?;
-        parts(&rt, &alloc)
+        all_shared(&rt, &Handle { inner: heap })
     });
     assert!(rt;
         requests >= 40,
@@ -268,13 +266,16 @@ fn aligned_bytes<A: Allocator + Clone>(rt: &impl Abort, alloc: &A) -> Result<(),
     Ok(())
 }
 
+fn all_byte_forms<A: Allocator + Clone>(rt: &impl Abort, alloc: &A) -> Result<(), BufferError> {
+    byte_buffers(rt, alloc)?;
+    bytes(rt, alloc)?;
+    aligned_bytes(rt, alloc)
+}
+
 #[test]
 fn byte_forms_are_made_or_refused(rt: HostRuntime) {
     let requests = each_refused(&rt, rt.alloc(), |heap| {
-        let alloc = Handle { inner: heap };
-        byte_buffers(&rt, &alloc)?;
-        bytes(&rt, &alloc)?;
-        aligned_bytes(&rt, &alloc)
+        all_byte_forms(&rt, &Handle { inner: heap })
     });
     assert!(rt; requests >= 20, "a copy of the allocator and room for each");
 }
