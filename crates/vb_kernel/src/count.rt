@@ -14,6 +14,9 @@ use crate::unit::Unit;
 use crate::window::Parts;
 use crate::word::byte_part;
 
+/// So many chunks, which are 8 MiB, lie past the caches of most machines.
+const PAST_CACHES: usize = 131_072;
+
 /// How many bits of the window are true.
 pub fn count_ones(bytes: &[u8], offset: usize, len: usize) -> usize
     requires inside { offset + len ≤ 8 * length bytes.now }
@@ -118,12 +121,32 @@ fn add_chunks<G: Glance>(src: &mut G, at: usize, n: usize, ones: usize) -> usize
 
 /// Counts `n` chunks from byte `at` on.
 ///
+/// It isn't inlined: callers with few chunks then keep nothing over it.
+#[tactic(auto, using(crate::proofs::BitsLemmas::windows))]
+#[inline(never)]
+pub(crate) fn count_chunks<G: Glance>(src: &mut G, at: usize, n: usize) -> usize
+    requires inside { at + 64 * n ≤ length (G.bytes src.old) }
+    requires fits { 8 * at + 512 * n ≤ usize.MAX }
+    ensures value { result ≡ count (bits (G.bytes src.old) (8 * at) (512 * n)) }
+    ensures same { G.bytes src.new ≡ G.bytes src.old }
+    ensures looks { G.looks src.new ≡ G.looks src.old + n }
+{
+    if n < PAST_CACHES {
+        return count_in_order(src, at, n);
+    }
+    let pairs = n / 8;
+    let rest = count_in_order(src, at + 512 * pairs, n % 8);
+    rest + count_quarters(src, at, pairs)
+}
+
+/// Counts `n` chunks from byte `at` on, from the first to the last.
+///
 /// Two chunks a turn, which are summed before their sum is added: a compiler that counts the bits
 /// of bytes then adds those counts as bytes and widens them once a turn. It isn't inlined: among the
 /// sums of other parts the compiler no longer sees its four as the lanes of one vector.
 #[tactic(auto, using(crate::proofs::BitsLemmas::windows))]
 #[inline(never)]
-pub(crate) fn count_chunks<G: Glance>(src: &mut G, at: usize, n: usize) -> usize
+fn count_in_order<G: Glance>(src: &mut G, at: usize, n: usize) -> usize
     requires inside { at + 64 * n ≤ length (G.bytes src.old) }
     requires fits { 8 * at + 512 * n ≤ usize.MAX }
     ensures value { result ≡ count (bits (G.bytes src.old) (8 * at) (512 * n)) }
@@ -135,6 +158,28 @@ pub(crate) fn count_chunks<G: Glance>(src: &mut G, at: usize, n: usize) -> usize
         sum = sum.plus(sum_chunks(src, at + 128 * k, 2));
     }
     sum.plus(sum_chunks(src, at + n / 2 * 128, n % 2)).total()
+}
+
+/// Counts the chunks of four quarters, one behind another from byte `at` on, each of so many pairs
+/// of chunks: a pair of each quarter a turn, so that memory is read ahead at four places.
+#[tactic(auto, using(crate::proofs::BitsLemmas::windows))]
+#[inline(never)]
+fn count_quarters<G: Glance>(src: &mut G, at: usize, pairs: usize) -> usize
+    requires inside { at + 512 * pairs ≤ length (G.bytes src.old) }
+    requires fits { 8 * at + 4096 * pairs ≤ usize.MAX }
+    ensures value { result ≡ count (bits (G.bytes src.old) (8 * at) (4096 * pairs)) }
+    ensures same { G.bytes src.new ≡ G.bytes src.old }
+    ensures looks { G.looks src.new ≡ G.looks src.old + 8 * pairs }
+{
+    let mut sum = LaneSum::zero();
+    for k in 0..pairs {
+        let first = sum_chunks(src, at + 128 * k, 2);
+        let second = sum_chunks(src, at + 128 * (pairs + k), 2);
+        let third = sum_chunks(src, at + 128 * (2 * pairs + k), 2);
+        let fourth = sum_chunks(src, at + 128 * (3 * pairs + k), 2);
+        sum = sum.plus(first).plus(second).plus(third).plus(fourth);
+    }
+    sum.total()
 }
 
 /// Counts `n` chunks from byte `at` on, one by one.

@@ -41,6 +41,16 @@ fn counts_are_plain(rt: HostRuntime) -> Result<(), AllocError> {
     Ok(())
 }
 
+/// From 8 MiB on, four quarters of the chunks are counted in turn.
+#[test]
+fn counts_past_the_caches_are_plain(rt: HostRuntime) -> Result<(), AllocError> {
+    let bytes = sample::mixed_bytes(rt.alloc(), 8 * 1024 * 1024 + 700)?;
+    for (offset, len) in [(0, 67_108_864), (3, 67_114_000)] {
+        count_is_plain(&rt, &bytes, offset, len);
+    }
+    Ok(())
+}
+
 #[test]
 fn looks(rt: HostRuntime) -> Result<(), AllocError> {
     let bytes = Vec::from_elem(rt.alloc(), 0xFFu8, 1001)?;

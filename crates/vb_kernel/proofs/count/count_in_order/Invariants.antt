@@ -1,6 +1,6 @@
 use Rattle.std.proofs.Common.{◌≡◌, ◌+◌, ◌*◌}
 use Rattle.vb_kernel.specs.Bits.{bits, count}
-use Rattle.vb_kernel.proofs.count.count_chunks.Given as goal
+use Rattle.vb_kernel.proofs.count.count_in_order.Given as goal
 
 abbrev pub invariant-loop-k : goal.invariant-loop-k
 invariant-loop-k g l = record {
