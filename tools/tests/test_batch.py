@@ -1,0 +1,32 @@
+"""Which edits one check judges together."""
+import unittest
+
+from trials.batch import batches, callees
+from trials.coverage import unreached
+from trials.edit import parsed, placed
+from trials.judge import Outcome
+
+TEXTS = {
+    "src/lib.rt": "pub fn low() -> u8\n    ensures value { a }\n    ensures small { b }\n{\n    1\n}\nfn middle() {\n    low()\n}\npub fn high() {\n    middle() + 2\n}\npub fn apart() {\n    3\n}\n"
+}
+
+
+def edit(old: str):
+    it = parsed(old, f"file: src/lib.rt\nold: {old}\nnew: 9\n")
+    it.function = placed(it, TEXTS)
+    return it
+
+
+class Batches(unittest.TestCase):
+    def test_callers_and_callees_are_apart(self):
+        edits = [edit("1"), edit("+ 2"), edit("3")]
+        found = batches(edits, 8, callees(TEXTS), TEXTS)
+        self.assertEqual([[it.name for it in group] for group in found], [["1", "3"], ["+ 2"]])
+
+    def test_a_batch_is_no_larger_than_asked(self):
+        found = batches([edit("1"), edit("3")], 1, callees(TEXTS), TEXTS)
+        self.assertEqual(len(found), 2)
+
+    def test_clauses_that_no_edit_reaches_are_listed(self):
+        outcomes = [Outcome(edit("1"), True, "", ["small"])]
+        self.assertEqual(unreached(outcomes, TEXTS), ["low.value"])

@@ -1,0 +1,65 @@
+"""The command, with an `rt` that refuses what returns 2."""
+import os
+import shutil
+import subprocess
+import tempfile
+import unittest
+from pathlib import Path
+
+TOOLS = Path(__file__).resolve().parent.parent
+SOURCE = "pub fn one() -> u8\n    ensures { result ≡ 1 }\n{\n    1\n}\n\npub fn two() -> u8\n    ensures { result ≡ 1 }\n{\n    1\n}\n"
+RT = """#!/usr/bin/env bash
+awk '/fn one/ { name = "one" } /fn two/ { name = "two" }
+  /^    2$/ { bad = 1; print "fn demo::" name ": no proof: `search` did not prove `returns`" }
+  /^    1$/ { print "fn demo::" name ": proved" }
+  END { print bad ? "logic=not-proved" : "logic=proved" }' src/lib.rt
+"""
+
+
+class Command(unittest.TestCase):
+    def setUp(self):
+        self.root = Path(tempfile.mkdtemp(prefix="edits-test-"))
+        self.addCleanup(shutil.rmtree, self.root)
+        shutil.copytree(TOOLS, self.root / "tools")
+        for folder in ("crates/demo/src", "crates/demo/edits", "bin"):
+            (self.root / folder).mkdir(parents=True)
+        (self.root / "crates.txt").write_text("demo:\n")
+        (self.root / "HANDLES").write_text("Handles allowed: none.\n")
+        (self.root / "crates/demo/src/lib.rt").write_text(SOURCE)
+        (self.root / "bin/rt").write_text(RT)
+        (self.root / "bin/rt").chmod(0o755)
+
+    def edit(self, name: str, function: str, new: str, more: str = ""):
+        text = f"file: src/lib.rt\nin: {function}\nold: 1\nnew: {new}\n{more}"
+        (self.root / f"crates/demo/edits/{name}.edit").write_text(text)
+
+    def run_it(self):
+        path = {**os.environ, "PATH": f"{self.root}/bin:{os.environ['PATH']}"}
+        return subprocess.run([self.root / "tools/edits"], env=path, capture_output=True, text=True)
+
+    def test_refused_edits_and_the_clauses_that_none_reaches(self):
+        self.edit("one_is_two", "one", "2")
+        ran = self.run_it()
+        self.assertIn("edits/one_is_two.edit: refused at ensures of one", ran.stdout)
+        self.assertIn("2 public clauses; no edit is refused at 1: two.ensures", ran.stdout)
+        self.assertEqual(ran.returncode, 0)
+
+    def test_an_edit_that_is_proved_fails(self):
+        self.edit("two_stays", "two", "1 ")
+        self.edit("one_stays", "one", "1")
+        ran = self.run_it()
+        self.assertIn("one_stays.edit: NOT REFUSED of one", ran.stdout)
+        self.assertEqual(ran.returncode, 1)
+
+    def test_a_harmless_edit_must_be_proved(self):
+        self.edit("harmless", "one", "1", "expect: proved\n")
+        self.assertEqual(self.run_it().returncode, 0)
+        self.edit("harmful", "two", "2", "expect: proved\n")
+        ran = self.run_it()
+        self.assertIn("harmful.edit: REFUSED, and is harmless", ran.stdout)
+        self.assertEqual(ran.returncode, 1)
+
+    def test_the_crate_itself_stays(self):
+        self.edit("one_is_two", "one", "2")
+        self.run_it()
+        self.assertEqual((self.root / "crates/demo/src/lib.rt").read_text(), SOURCE)

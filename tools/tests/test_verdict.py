@@ -1,0 +1,59 @@
+"""What is read of a check's output."""
+import unittest
+
+from trials.edit import parsed, placed
+from trials.judge import outcome
+from trials.verdict import clauses_of, judged, verdict_on
+
+SAID = '''checked demo::one, 1 of 5
+./proofs/lib/../Answers.antt:1:1: note: nothing
+./proofs/deep/Set/len/Answers.antt:18:52: error: `returns-clause-value`: the two types differ
+  expected type `x`
+note: src/lib.rt:4:5: it is not proved that what the function ensures holds when it returns (`returns`); more
+note: a goal may be false
+fn demo::one: no proof: expected answers in ./proofs/one/Answers.antt; `search` did not prove `returns`
+fn demo::two: no proof: it calls `demo::one`, which is not proved
+fn demo::three: proved
+note: src/deep.rt:9:5: it is not proved that a sum fits (`overflow_add-n`)
+fn demo::deep::Set::len: not proved
+fn demo::deep::SetIterator::len: proved
+fn demo::four: no proof: this form is not covered
+logic=not-proved
+'''
+TEXTS = {
+    "src/lib.rt": "pub fn one() -> u8\n    ensures { result ≡ 1 }\n{\n    1\n}\nfn two() {\n    2\n}\nfn three() {\n    3\n}\nfn four() {\n    4\n}\n",
+    "src/deep.rt": "impl Set {\n    pub fn len(&self) -> u8\n        ensures value { a }\n        ensures kept { b }\n    {\n        5\n    }\n}\n",
+}
+
+
+def edit(file: str, old: str, expect: str = "goal"):
+    it = parsed("e", f"file: {file}\nexpect: {expect}\nold: {old}\nnew: 9\n")
+    it.function = placed(it, TEXTS)
+    return it
+
+
+def outcome_of(it):
+    return outcome(it, verdict_on(it.function, judged(SAID)), SAID)
+
+
+class Verdicts(unittest.TestCase):
+    def test_a_goal_of_the_function_itself_refuses_it(self):
+        found = outcome_of(edit("src/lib.rt", "    1"))
+        self.assertEqual((found.is_right, found.clauses), (True, ["ensures"]))
+
+    def test_the_clause_is_told_by_notes_and_proof_files(self):
+        it = edit("src/deep.rt", "5")
+        verdict = verdict_on(it.function, judged(SAID))
+        self.assertEqual(verdict.goals, ["overflow_add-n", "returns-clause-value"])
+        self.assertEqual(clauses_of(verdict, it.function), ["value"])
+
+    def test_a_function_that_waits_for_another_is_not_judged(self):
+        self.assertIsNone(outcome_of(edit("src/lib.rt", "    2")))
+
+    def test_a_function_that_is_proved_is_not_refused(self):
+        self.assertFalse(outcome_of(edit("src/lib.rt", "    3")).is_right)
+        self.assertTrue(outcome_of(edit("src/lib.rt", "    3", "proved")).is_right)
+
+    def test_a_body_with_no_proof_has_no_goal(self):
+        self.assertFalse(outcome_of(edit("src/lib.rt", "    4")).is_right)
+        self.assertTrue(outcome_of(edit("src/lib.rt", "    4", "no proof")).is_right)

@@ -1,0 +1,1 @@
+"""Wrong bodies, tried many to a check: what `tools/edits` is made of."""

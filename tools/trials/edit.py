@@ -1,0 +1,120 @@
+"""Edits: files that say which text of a crate another takes the place of."""
+import os
+from dataclasses import dataclass, field
+from pathlib import Path
+
+from .source import Function, functions
+
+EXPECTED = ("goal", "no proof", "proved")
+
+
+class BadEdit(Exception):
+    """An edit that shows nothing, and why."""
+
+
+@dataclass(frozen=True)
+class Change:
+    """A text that takes the place of another, which stands once in the file, or, where a function
+    is named, once in its body."""
+
+    file: str
+    inside: str
+    old: str
+    new: str
+
+
+@dataclass
+class Edit:
+    """A wrong body of one function, or a harmless one. `expect` says what the check must answer."""
+
+    name: str
+    changes: list[Change]
+    expect: str = "goal"
+    function: Function | None = field(default=None, compare=False)
+
+
+def parsed(name: str, text: str) -> Edit:
+    """Reads an edit: lines `file:`, `old:` and `new:`, and perhaps `in:` and `expect:`."""
+    edit, file, inside, old = Edit(name, []), "", "", None
+    for line in text.split("\n"):
+        word, _, rest = line.partition(":")
+        rest = rest.removeprefix(" ")
+        if word == "file":
+            file, inside = rest.strip(), ""
+        elif word == "in":
+            inside = rest.strip()
+        elif word == "expect":
+            edit.expect = rest.strip()
+        elif word == "old":
+            old = rest
+        elif word == "new":
+            if not file or old is None:
+                raise BadEdit("a line 'new:' stands before any 'file:' or 'old:'")
+            edit.changes.append(Change(file, inside, old, rest))
+            old = None
+    if not edit.changes:
+        raise BadEdit("it has no 'old:' and 'new:'")
+    if edit.expect not in EXPECTED:
+        raise BadEdit(f"it expects '{edit.expect}', which is none of {', '.join(EXPECTED)}")
+    return edit
+
+
+def place(change: Change, texts: dict[str, str]) -> int:
+    """Where the old text stands."""
+    text = texts.get(change.file, "")
+    begin, end = 0, len(text)
+    if change.inside:
+        holders = [it for it in functions(change.file, text) if it.title == change.inside]
+        if len(holders) != 1:
+            raise BadEdit(f"{change.file} has {len(holders)} functions {change.inside}")
+        begin, end = holders[0].body, holders[0].end + 1
+    count = text.count(change.old, begin, end)
+    if count != 1:
+        raise BadEdit(f"'{change.old.strip()[:60]}' is {count} times in {change.file}, and not once")
+    return text.index(change.old, begin, end)
+
+
+def applied(changes: list[Change], texts: dict[str, str]) -> dict[str, str]:
+    """The texts after these changes, one after the other."""
+    texts = dict(texts)
+    for it in changes:
+        at, text = place(it, texts), texts[it.file]
+        texts[it.file] = text[:at] + it.new + text[at + len(it.old) :]
+    return texts
+
+
+def changed(old: str, new: str) -> tuple[int, int]:
+    """Which part of the old text differs from the new one."""
+    front = len(os.path.commonprefix([old, new]))
+    back = len(os.path.commonprefix([old[front:][::-1], new[front:][::-1]]))
+    return front, len(old) - back
+
+
+def placed(edit: Edit, texts: dict[str, str]) -> Function:
+    """The one function whose body the edit changes."""
+    found, texts = set(), dict(texts)
+    for it in edit.changes:
+        begin, end = (place(it, texts) + bound for bound in changed(it.old, it.new))
+        holders = [f for f in functions(it.file, texts[it.file]) if f.body < begin and end <= f.end]
+        if not holders:
+            raise BadEdit(f"'{it.old.strip()[:60]}' stands in no function's body")
+        found.add(holders[0].title)
+        texts = applied([it], texts)
+    if len(found) != 1:
+        raise BadEdit(f"it changes {len(found)} functions, and not one")
+    return holders[0]
+
+
+def read_all(crate: Path) -> tuple[list[Edit], list[tuple[str, str]]]:
+    """The edits of a crate, each placed in its function, and those that show nothing, with why."""
+    texts = {str(it.relative_to(crate)): it.read_text() for it in sorted(crate.glob("src/**/*.rt"))}
+    good, bad = [], []
+    for path in sorted([*crate.glob("edits/*.edit"), *crate.glob("must-fail/*.edit")]):
+        name = str(path.relative_to(crate))
+        try:
+            edit = parsed(name, path.read_text())
+            edit.function = placed(edit, texts)
+            good.append(edit)
+        except BadEdit as why:
+            bad.append((name, str(why)))
+    return good, bad

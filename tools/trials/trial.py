@@ -1,0 +1,66 @@
+"""Checks of a copy of the repository with edits in it."""
+import os
+import shutil
+import subprocess
+import tempfile
+from pathlib import Path
+
+from .edit import Edit, applied
+from .verdict import Verdict, judged, verdict_on
+
+SOURCES = ("src", "specs", "proofs")
+
+
+def linked(source: Path, target: Path) -> None:
+    """A copy of a folder whose files are links; who changes one removes it first."""
+    shutil.copytree(source, target, copy_function=os.link, symlinks=True)
+
+
+def copy_of(root: Path, crate: str, room: Path) -> Path:
+    """A copy of the repository for one check of a crate, over what `rt check` kept."""
+    copy = room / "repository"
+    copy.mkdir()
+    for name in ("crates.txt", "HANDLES"):
+        shutil.copyfile(root / name, copy / name)
+    for folder in sorted((root / "crates").iterdir()):
+        target = copy / "crates" / folder.name
+        target.mkdir(parents=True)
+        kept = "out" if folder.name == crate else "out/rlib"
+        for part in (*SOURCES, kept):
+            if (folder / part).is_dir():
+                linked(folder / part, target / part)
+    return copy / "crates" / crate
+
+
+def texts_of(crate: Path) -> dict[str, str]:
+    """The source files of a crate, by their paths in it."""
+    return {str(it.relative_to(crate)): it.read_text() for it in sorted(crate.glob("src/**/*.rt"))}
+
+
+def check(crate: Path) -> str:
+    """What `rt check` says of a crate."""
+    ran = subprocess.run(
+        ["rt", "check", "--jobs", "1"],
+        cwd=crate,
+        stdin=subprocess.DEVNULL,
+        stdout=subprocess.PIPE,
+        stderr=subprocess.STDOUT,
+        text=True,
+        errors="replace",
+    )
+    return ran.stdout
+
+
+def tried(root: Path, crate: str, edits: list[Edit]) -> tuple[list[Verdict | None], str]:
+    """The verdict on the function of each edit, where all are made at once, and all that was said."""
+    texts = texts_of(root / "crates" / crate)
+    changed = applied([change for it in edits for change in it.changes], texts)
+    with tempfile.TemporaryDirectory(prefix="edits-") as room:
+        folder = copy_of(root, crate, Path(room))
+        for file, text in changed.items():
+            if text != texts[file]:
+                (folder / file).unlink()
+                (folder / file).write_text(text)
+        said = check(folder)
+    verdicts = judged(said)
+    return [verdict_on(it.function, verdicts) for it in edits], said

@@ -1,0 +1,90 @@
+"""What a check says of each function."""
+import re
+from dataclasses import dataclass, field
+
+from .source import Function
+
+GOAL = re.compile(r"(?:note: )?(?:\./)?(src/\S+?\.rt):(\d+):\d+: it is not proved .*?\(`([^`]+)`\)")
+PROOF = re.compile(r"(?:\./)?proofs/(\S+)/(?:Answers|Invariants|Proof)\.antt:\d+:\d+: error(?:: `([^`]+)`)?")
+SAID = re.compile(r"fn (\S+?): (.*)")
+SEARCHED = re.compile(r"`search` did not prove (.*)")
+
+
+@dataclass
+class Verdict:
+    """What was said of one function: proved, or the goals that were not, or the callee that it
+    waits for, or another reason."""
+
+    path: str
+    is_proved: bool = False
+    waits: bool = False
+    reason: str = ""
+    goals: list[str] = field(default_factory=list)
+    lines: list[tuple[str, int]] = field(default_factory=list)
+
+
+def judged(said: str) -> dict[str, Verdict]:
+    """The verdict on each function, by its path."""
+    found, pending, answers = {}, [], {}
+    for line in said.split("\n"):
+        if it := GOAL.match(line):
+            pending.append((it[1], int(it[2]), it[3]))
+        elif it := PROOF.match(line):
+            answers.setdefault(it[1].replace("/", "::"), []).append(it[2] or "")
+        elif it := SAID.match(line):
+            verdict = Verdict(it[1], is_proved=it[2] == "proved")
+            if not verdict.is_proved:
+                verdict.waits = "it calls `" in it[2]
+                verdict.reason = it[2].removeprefix("no proof: ")
+                verdict.goals = [goal for _, _, goal in pending]
+                if searched := SEARCHED.search(it[2]):
+                    verdict.goals += re.findall(r"`([^`]+)`", searched[1])
+                verdict.lines = [(file, number) for file, number, _ in pending]
+                pending = []
+            found[it[1]] = verdict
+    for path, verdict in found.items():
+        verdict.goals += [it for it in answers.get(path.partition("::")[2], []) if it]
+        verdict.goals = list(dict.fromkeys(verdict.goals))
+    return found
+
+
+def module_of(file: str) -> list[str]:
+    """The modules that a source file stands for."""
+    parts = file.removeprefix("src/").removesuffix(".rt").split("/")
+    return [it for it in parts if it not in ("lib", "main", "mod")]
+
+
+def verdict_on(function: Function, verdicts: dict[str, Verdict]) -> Verdict | None:
+    """The verdict on this function: the one at its module, with its name and its type."""
+    modules = module_of(function.file)
+    found = []
+    for verdict in verdicts.values():
+        parts = verdict.path.split("::")[1:]
+        rest = parts[len(modules) : -1]
+        if parts[: len(modules)] == modules and parts[-1] == function.name and bool(rest) == bool(function.block):
+            found.append((rest[0] if rest else "", verdict))
+    if len(found) > 1:
+        found = [it for it in found if fits(function, it[0])] or found
+    return found[0][1] if len(found) == 1 else None
+
+
+def fits(function: Function, part: str) -> bool:
+    """Whether an impl of this name in a path is that of the function: `Plain`, `PlainGlance` or
+    `BufferErrorFromAllocError`."""
+    block = function.block
+    names = (block.owner + block.trait, block.owner + block.trait + block.argument)
+    return part.lower() in [it.lower() for it in names]
+
+
+def clauses_of(verdict: Verdict, function: Function) -> list[str]:
+    """The clauses of the function at which it was refused."""
+    found = []
+    for goal in verdict.goals:
+        named = re.search(r"returns.*-clause-(\w+)$|ensures-(\w+)$", goal)
+        if named:
+            found.append(named[1] or named[2])
+        elif re.match(r"returns|ensures", goal):
+            found.append(function.clauses[0] if len(function.clauses) == 1 else "ensures")
+        elif len(function.clauses) == 1 and goal.startswith("loop-"):
+            found.append(function.clauses[0])
+    return list(dict.fromkeys(found))
