@@ -7,3 +7,5 @@ pub mod SearchesLemmas
 pub mod UnitsLemmas
 pub mod WritesLemmas
 pub mod WordLemmas
+pub mod AdderLemmas
+pub mod LanesLemmas

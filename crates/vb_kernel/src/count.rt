@@ -1,18 +1,22 @@
 //! Counts of the true bits of a window.
 //!
 //! The window is read as Mula, Kurz and Lemire's "Faster Population Counts Using AVX2 Instructions"
-//! does: whole vectors first, what is left by words and bytes; the compiler chooses the count of a
-//! word or vector.
+//! does: whole vectors first, many of them by carry-save adders, and what is left by words and
+//! bytes. The compiler chooses the count of a word or vector.
 ghost use Rattle.std.specs.Prelude.{◌≡◌, ℕ, ◌+◌, ◌*◌, ◌%◌, ◌<◌, ◌≤◌, length, min};
 ghost use Rattle.vb_kernel.specs.Bits.{bits, count};
 ghost use Rattle.vb_kernel.specs.Looks.{looks};
 ghost use Rattle.vb_kernel.specs.Windows.{rest_looks};
 
 use crate::chunk::{LaneSum, chunk_ones};
+use crate::counter::Counter;
 use crate::glance::{Glance, Plain};
 use crate::unit::Unit;
 use crate::window::Parts;
 use crate::word::byte_part;
+
+/// From so many chunks on, adders are faster than the counts of words where a vector has 32 bytes.
+const MANY: usize = 32;
 
 /// So many chunks, which are 8 MiB, lie past the caches of most machines.
 const PAST_CACHES: usize = 131_072;
@@ -121,7 +125,8 @@ fn add_chunks<G: Glance>(src: &mut G, at: usize, n: usize, ones: usize) -> usize
 
 /// Counts `n` chunks from byte `at` on.
 ///
-/// It isn't inlined: callers with few chunks then keep nothing over it.
+/// Fewer than [`MANY`] are counted by their words, more by sixteen, and what is left by words. It
+/// isn't inlined: callers with few chunks then keep nothing over it.
 #[tactic(auto, using(crate::proofs::BitsLemmas::windows))]
 #[inline(never)]
 pub(crate) fn count_chunks<G: Glance>(src: &mut G, at: usize, n: usize) -> usize
@@ -131,22 +136,26 @@ pub(crate) fn count_chunks<G: Glance>(src: &mut G, at: usize, n: usize) -> usize
     ensures same { G.bytes src.new ≡ G.bytes src.old }
     ensures looks { G.looks src.new ≡ G.looks src.old + n }
 {
-    if n < PAST_CACHES {
-        return count_in_order(src, at, n);
+    if n < MANY {
+        return count_few(src, at, n);
     }
-    let pairs = n / 8;
-    let rest = count_in_order(src, at + 512 * pairs, n % 8);
-    rest + count_quarters(src, at, pairs)
+    let turns = n / 16;
+    let rest = count_few(src, at + 1024 * turns, n % 16);
+    if n < PAST_CACHES {
+        rest + count_in_order(src, at, turns)
+    } else {
+        rest + count_quarters(src, at, turns)
+    }
 }
 
-/// Counts `n` chunks from byte `at` on, from the first to the last.
+/// Counts `n` chunks from byte `at` on by the counts of their words.
 ///
 /// Two chunks a turn, which are summed before their sum is added: a compiler that counts the bits
 /// of bytes then adds those counts as bytes and widens them once a turn. It isn't inlined: among the
 /// sums of other parts the compiler no longer sees its four as the lanes of one vector.
 #[tactic(auto, using(crate::proofs::BitsLemmas::windows))]
 #[inline(never)]
-fn count_in_order<G: Glance>(src: &mut G, at: usize, n: usize) -> usize
+fn count_few<G: Glance>(src: &mut G, at: usize, n: usize) -> usize
     requires inside { at + 64 * n ≤ length (G.bytes src.old) }
     requires fits { 8 * at + 512 * n ≤ usize.MAX }
     ensures value { result ≡ count (bits (G.bytes src.old) (8 * at) (512 * n)) }
@@ -160,24 +169,42 @@ fn count_in_order<G: Glance>(src: &mut G, at: usize, n: usize) -> usize
     sum.plus(sum_chunks(src, at + n / 2 * 128, n % 2)).total()
 }
 
-/// Counts the chunks of four quarters, one behind another from byte `at` on, each of so many pairs
-/// of chunks: a pair of each quarter a turn, so that memory is read ahead at four places.
+/// Counts `turns` times sixteen chunks from byte `at` on, from the first to the last.
 #[tactic(auto, using(crate::proofs::BitsLemmas::windows))]
 #[inline(never)]
-fn count_quarters<G: Glance>(src: &mut G, at: usize, pairs: usize) -> usize
-    requires inside { at + 512 * pairs ≤ length (G.bytes src.old) }
-    requires fits { 8 * at + 4096 * pairs ≤ usize.MAX }
-    ensures value { result ≡ count (bits (G.bytes src.old) (8 * at) (4096 * pairs)) }
+fn count_in_order<G: Glance>(src: &mut G, at: usize, turns: usize) -> usize
+    requires inside { at + 1024 * turns ≤ length (G.bytes src.old) }
+    requires fits { 8 * at + 8192 * turns ≤ usize.MAX }
+    ensures value { result ≡ count (bits (G.bytes src.old) (8 * at) (8192 * turns)) }
     ensures same { G.bytes src.new ≡ G.bytes src.old }
-    ensures looks { G.looks src.new ≡ G.looks src.old + 8 * pairs }
+    ensures looks { G.looks src.new ≡ G.looks src.old + 16 * turns }
 {
-    let mut sum = LaneSum::zero();
-    for k in 0..pairs {
-        let first = sum_chunks(src, at + 128 * k, 2);
-        let second = sum_chunks(src, at + 128 * (pairs + k), 2);
-        let third = sum_chunks(src, at + 128 * (2 * pairs + k), 2);
-        let fourth = sum_chunks(src, at + 128 * (3 * pairs + k), 2);
-        sum = sum.plus(first).plus(second).plus(third).plus(fourth);
+    let mut sum = Counter::zero();
+    for k in 0..turns {
+        let place = at + 1024 * k;
+        sum = sum.add(src, place, place + 256, place + 512, place + 768);
+    }
+    sum.total()
+}
+
+/// Counts the chunks of four quarters, one behind another from byte `at` on, each of `turns` times
+/// four chunks: four of each quarter a turn, so that memory is read ahead at four places.
+#[tactic(auto, using(crate::proofs::BitsLemmas::windows))]
+#[inline(never)]
+fn count_quarters<G: Glance>(src: &mut G, at: usize, turns: usize) -> usize
+    requires inside { at + 1024 * turns ≤ length (G.bytes src.old) }
+    requires fits { 8 * at + 8192 * turns ≤ usize.MAX }
+    ensures value { result ≡ count (bits (G.bytes src.old) (8 * at) (8192 * turns)) }
+    ensures same { G.bytes src.new ≡ G.bytes src.old }
+    ensures looks { G.looks src.new ≡ G.looks src.old + 16 * turns }
+{
+    let mut sum = Counter::zero();
+    for k in 0..turns {
+        let first = at + 256 * k;
+        let second = at + 256 * (turns + k);
+        let third = at + 256 * (2 * turns + k);
+        let fourth = at + 256 * (3 * turns + k);
+        sum = sum.add(src, first, second, third, fourth);
     }
     sum.total()
 }

@@ -1,33 +1,21 @@
-use Rattle.std.proofs.Common.{◌+◌, ◌*◌, ◌/◌, ◌%◌, ℕ, List, true, ap, arith, ◌∙◌}
-use Rattle.vb_kernel.specs.Bits.{bits, count}
+use Rattle.std.proofs.Common.{◌+◌, ◌*◌, ℕ, List, true, refl, arith, ◌∙◌}
 use Rattle.vb_kernel.proofs.SearchesLemmas.{count-matching-bits_split}
 use Rattle.vb_kernel.proofs.count.count_in_order.Goals as goal
 
 pub loop-k-preserved : goal.loop-k-preserved
 loop-k-preserved g c =
-    let b : List ℕ = g.G.Glance.bytes c.args.src.now in let m : ℕ = 1024 * c.loop-k.k in let place : ℕ = 8 * (c.args.at + 128 * c.loop-k.k) in
+    let b : List ℕ = g.G.Glance.bytes c.args.src.now in let p : ℕ = c.args.at + 1024 * c.loop-k.k in let o : ℕ = 8 * p in
+    let same = c.loop-k.invariant.same in
     record {
       value = omega (
         arith,
-        c.plus-sum.ensures,
         c.loop-k.invariant.value,
-        c.sum_chunks.ensures.value,
-        ap (λ x. count (bits x place 1024)) c.loop-k.invariant.same,
-        count-matching-bits_split true b (8 * c.args.at) m (1024 * (c.loop-k.k + 1)) place 1024 (omega arith) (omega arith),
+        rw same at c.add-sum.ensures.value,
+        count-matching-bits_split true b o 2048 4096 (8 * (p + 256)) 2048 (omega arith) refl,
+        count-matching-bits_split true b o 4096 6144 (8 * (p + 512)) 2048 (omega arith) refl,
+        count-matching-bits_split true b o 6144 8192 (8 * (p + 768)) 2048 (omega arith) refl,
+        count-matching-bits_split true b (8 * c.args.at) (8192 * c.loop-k.k) (8192 * (c.loop-k.k + 1)) o 8192 (omega arith) (omega arith),
       );
-      same = c.sum_chunks.ensures.same ∙ c.loop-k.invariant.same;
-      looks = omega (arith, c.loop-k.invariant.looks, c.sum_chunks.ensures.looks);
+      same = c.add-sum.ensures.same ∙ same;
+      looks = omega (arith, c.loop-k.invariant.looks, c.add-sum.ensures.looks);
     }
-
-pub returns-clause-value : goal.returns-clause-value
-returns-clause-value g c =
-    let b : List ℕ = g.G.Glance.bytes c.args.src.now in let m : ℕ = 1024 * c.loop-k.k in let place : ℕ = 8 * (c.args.at + c.args.n / 2 * 128) in let rest : ℕ = 512 * (c.args.n % 2) in
-    omega (
-      arith,
-      c.total.ensures,
-      c.plus.ensures,
-      c.loop-k.invariant.value,
-      c.sum_chunks-2.ensures.value,
-      ap (λ x. count (bits x place rest)) c.loop-k.invariant.same,
-      count-matching-bits_split true b (8 * c.args.at) m (512 * c.args.n) place rest (omega arith) (omega arith),
-    )

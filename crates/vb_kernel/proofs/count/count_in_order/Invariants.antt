@@ -4,7 +4,7 @@ use Rattle.vb_kernel.proofs.count.count_in_order.Given as goal
 
 abbrev pub invariant-loop-k : goal.invariant-loop-k
 invariant-loop-k g l = record {
-  value : l.sum ≡ count (bits (g.G.Glance.bytes l.initial.src) (8 * l.at) (1024 * l.k));
+  value : l.sum ≡ count (bits (g.G.Glance.bytes l.initial.src) (8 * l.at) (8192 * l.k));
   same : g.G.Glance.bytes l.src ≡ g.G.Glance.bytes l.initial.src;
-  looks : g.G.Glance.looks l.src ≡ g.G.Glance.looks l.initial.src + 2 * l.k;
+  looks : g.G.Glance.looks l.src ≡ g.G.Glance.looks l.initial.src + 16 * l.k;
 }

@@ -1,0 +1,32 @@
+use Rattle.std.proofs.Common.{◌*◌, ℕ, List, arith}
+use Rattle.vb_kernel.proofs.BitsLemmas.{count-bits-le}
+use Rattle.vb_kernel.proofs.counter.Counter.add.Goals as goal
+
+pub plus-requires : goal.plus-requires
+plus-requires g c =
+    let b : List ℕ = g.G.Glance.bytes c.args.src.now in
+    omega (
+      arith,
+      c.self.view_is,
+      c.sums.ensures,
+      c.full_add-eights.ensures,
+      c.add_eight-ones.ensures.value,
+      rw c.add_eight-ones.ensures.same at c.add_eight-ones-2.ensures.value,
+      c.requires.room,
+      count-bits-le b (8 * c.args.first) 2048,
+      count-bits-le b (8 * c.args.second) 2048,
+      count-bits-le b (8 * c.args.third) 2048,
+      count-bits-le b (8 * c.args.fourth) 2048,
+    )
+
+pub returns-clause-value : goal.returns-clause-value
+returns-clause-value g c =
+    omega (
+      arith,
+      c.self.view_is,
+      c.plus.ensures,
+      c.sums.ensures,
+      c.full_add-eights.ensures,
+      c.add_eight-ones.ensures.value,
+      rw c.add_eight-ones.ensures.same at c.add_eight-ones-2.ensures.value,
+    )

@@ -1,0 +1,158 @@
+//! Chunks counted sixteen by sixteen, as Harley and Seal do: see Mula, Kurz and Lemire's "Faster
+//! Population Counts Using AVX2 Instructions".
+//!
+//! Adders collect the true bits of sixteen vectors into one, and so the bits of one vector are
+//! counted in the place of sixteen.
+ghost use Rattle.std.specs.Prelude.{◌≡◌, ℕ, ◌+◌, ◌*◌, ◌<◌, ◌≤◌, length};
+ghost use Rattle.vb_kernel.specs.Bits.{bits, count};
+
+use crate::glance::Glance;
+use crate::lanes::{Ones, Sums, full_add};
+use std::marker::Model;
+
+/// A count in five parts: bits that count 1, 2, 4 and 8 each, and sums that count 16.
+#[derive(Drop)]
+pub(crate) struct Counter {
+    ones: Ones,
+    twos: Ones,
+    fours: Ones,
+    eights: Ones,
+    sixteens: Sums,
+}
+
+impl Model for Counter {
+    ghost Value = { ℕ };
+
+    ghost view = { λ s. s.ones + 2 * s.twos + 4 * s.fours + 8 * s.eights + 16 * s.sixteens };
+}
+
+impl Counter {
+    /// The count of nothing.
+    pub(crate) fn zero() -> Counter
+        ensures { result ≡ 0 }
+    {
+        Counter {
+            ones: Ones::zero(),
+            twos: Ones::zero(),
+            fours: Ones::zero(),
+            eights: Ones::zero(),
+            sixteens: Sums::zero(),
+        }
+    }
+
+    /// Adds the true bits of four chunks from each of four bytes on.
+    #[inline(always)]
+    pub(crate) fn add<G: Glance>(
+        self,
+        src: &mut G,
+        first: usize,
+        second: usize,
+        third: usize,
+        fourth: usize,
+    ) -> Counter
+        requires first { first + 256 ≤ length (G.bytes src.old) }
+        requires second { second + 256 ≤ length (G.bytes src.old) }
+        requires third { third + 256 ≤ length (G.bytes src.old) }
+        requires fourth { fourth + 256 ≤ length (G.bytes src.old) }
+        requires fits { (first + 256 ≤ usize.MAX) × (second + 256 ≤ usize.MAX)
+            × (third + 256 ≤ usize.MAX) × (fourth + 256 ≤ usize.MAX) }
+        requires room { self + 8192 ≤ usize.MAX }
+        ensures value { result ≡ self + count (bits (G.bytes src.old) (8 * first) 2048)
+            + count (bits (G.bytes src.old) (8 * second) 2048)
+            + count (bits (G.bytes src.old) (8 * third) 2048)
+            + count (bits (G.bytes src.old) (8 * fourth) 2048) }
+        ensures same { G.bytes src.new ≡ G.bytes src.old }
+        ensures looks { G.looks src.new ≡ G.looks src.old + 16 }
+    {
+        let (ones, twos, fours, low) = add_eight(
+            self.ones, self.twos, self.fours, src, first, second,
+        );
+        let (ones, twos, fours, high) = add_eight(ones, twos, fours, src, third, fourth);
+        let (eights, sixteen) = full_add(self.eights, low, high);
+        Counter {
+            ones,
+            twos,
+            fours,
+            eights,
+            sixteens: self.sixteens.plus(sixteen.sums()),
+        }
+    }
+
+    /// The whole count.
+    pub(crate) fn total(self) -> usize
+        requires { self ≤ usize.MAX }
+        ensures { result ≡ self }
+    {
+        let eights = self.sixteens.twice().plus(self.eights.sums());
+        let fours = eights.twice().plus(self.fours.sums());
+        let twos = fours.twice().plus(self.twos.sums());
+        twos.twice().plus(self.ones.sums()).total()
+    }
+}
+
+/// The bits of the chunk from byte `at` on.
+#[inline(always)]
+fn ones_at<G: Glance>(src: &mut G, at: usize) -> Ones
+    requires { at + 64 ≤ length (G.bytes src.old) }
+    ensures value { result ≡ count (bits (G.bytes src.old) (8 * at) 512) }
+    ensures same { G.bytes src.new ≡ G.bytes src.old }
+    ensures look { G.looks src.new ≡ G.looks src.old + 1 }
+{
+    Ones::of(&src.chunk(at))
+}
+
+/// Adds the bits of two chunks from byte `at` on to `ones`, and carries into a vector of twos.
+#[inline(always)]
+fn add_two<G: Glance>(ones: Ones, src: &mut G, at: usize) -> (Ones, Ones)
+    requires inside { at + 128 ≤ length (G.bytes src.old) }
+    requires fits { at + 128 ≤ usize.MAX }
+    ensures value { result.0 + 2 * result.1
+        ≡ ones + count (bits (G.bytes src.old) (8 * at) 1024) }
+    ensures same { G.bytes src.new ≡ G.bytes src.old }
+    ensures looks { G.looks src.new ≡ G.looks src.old + 2 }
+{
+    let first = ones_at(src, at);
+    let second = ones_at(src, at + 64);
+    full_add(ones, first, second)
+}
+
+/// Adds the bits of four chunks from byte `at` on, and carries into a vector of fours.
+#[inline(always)]
+fn add_four<G: Glance>(ones: Ones, twos: Ones, src: &mut G, at: usize) -> (Ones, Ones, Ones)
+    requires inside { at + 256 ≤ length (G.bytes src.old) }
+    requires fits { at + 256 ≤ usize.MAX }
+    ensures value { result.0 + 2 * result.1 + 4 * result.2
+        ≡ ones + 2 * twos + count (bits (G.bytes src.old) (8 * at) 2048) }
+    ensures same { G.bytes src.new ≡ G.bytes src.old }
+    ensures looks { G.looks src.new ≡ G.looks src.old + 4 }
+{
+    let (ones, low) = add_two(ones, src, at);
+    let (ones, high) = add_two(ones, src, at + 128);
+    let (twos, fours) = full_add(twos, low, high);
+    (ones, twos, fours)
+}
+
+/// Adds the bits of four chunks from each of two bytes on, and carries into a vector of eights.
+#[inline(always)]
+fn add_eight<G: Glance>(
+    ones: Ones,
+    twos: Ones,
+    fours: Ones,
+    src: &mut G,
+    first: usize,
+    second: usize,
+) -> (Ones, Ones, Ones, Ones)
+    requires first { first + 256 ≤ length (G.bytes src.old) }
+    requires second { second + 256 ≤ length (G.bytes src.old) }
+    requires fits { (first + 256 ≤ usize.MAX) × (second + 256 ≤ usize.MAX) }
+    ensures value { result.0 + 2 * result.1 + 4 * result.2 + 8 * result.3
+        ≡ ones + 2 * twos + 4 * fours + count (bits (G.bytes src.old) (8 * first) 2048)
+        + count (bits (G.bytes src.old) (8 * second) 2048) }
+    ensures same { G.bytes src.new ≡ G.bytes src.old }
+    ensures looks { G.looks src.new ≡ G.looks src.old + 8 }
+{
+    let (ones, twos, low) = add_four(ones, twos, src, first);
+    let (ones, twos, high) = add_four(ones, twos, src, second);
+    let (fours, eights) = full_add(fours, low, high);
+    (ones, twos, fours, eights)
+}
