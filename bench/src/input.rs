@@ -1,4 +1,5 @@
-//! What is counted and searched: bits of which one in two is set, or one in 64, without a pattern.
+//! What is counted and searched: bits of which one in two is set, one in 64 or one in 4,096, without
+//! a pattern.
 
 /// Numbers without a pattern (splitmix64).
 pub struct Random(pub u64);
@@ -28,6 +29,11 @@ impl Input {
     /// One bit in 64 is set.
     pub fn sparse(size: usize) -> Self {
         Input::set_in_all_of(6, size)
+    }
+
+    /// One bit in 4,096 is set.
+    pub fn sparsest(size: usize) -> Self {
+        Input::set_in_all_of(12, size)
     }
 
     /// The bits that are set in each of so many random words.

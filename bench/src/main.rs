@@ -17,7 +17,7 @@ use measure::Contender;
 use table::{Cell, Table};
 
 /// The sizes of the inputs in bytes: a cache line, what the caches of a core hold, main memory.
-const SIZES: [usize; 4] = [64, 4 << 10, 1 << 20, 64 << 20];
+const SIZES: [usize; 5] = [64, 4 << 10, 64 << 10, 1 << 20, 64 << 20];
 
 /// The bits before the window.
 const OFFSETS: [usize; 2] = [0, 3];
@@ -29,8 +29,11 @@ struct Comparison {
 }
 
 fn main() {
-    let input = Input::random(SIZES[3]);
-    let sparse = Input::sparse(SIZES[3]);
+    let level = std::env::args().nth(1).unwrap_or_default();
+    let [.., longest] = SIZES;
+    let input = Input::random(longest);
+    let sparse = Input::sparse(longest);
+    let sparsest = Input::sparsest(longest);
     let mut table = Table::default();
     for offset in OFFSETS {
         for size in SIZES {
@@ -38,12 +41,13 @@ fn main() {
             let mut comparisons = count::comparisons(window);
             comparisons.extend(select::comparisons(window));
             comparisons.push(select::last_of_few(sparse.window(size, offset)));
+            comparisons.push(select::last_of_fewest(sparsest.window(size, offset)));
             measure(&comparisons, offset, &mut table);
         }
     }
-    println!("### {}\n", std::env::args().nth(1).unwrap_or_default());
+    println!("### {level}\n");
     println!("{table}");
-    for goal in goals::of(&table) {
+    for goal in goals::of(&table, &level) {
         println!("- {goal}");
     }
     println!();

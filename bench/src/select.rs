@@ -10,6 +10,7 @@ use crate::measure::Contender;
 
 pub const SELECT_LAST: &str = "`bit_select`, last place";
 pub const SELECT_LAST_OF_FEW: &str = "`bit_select`, last place, one bit in 64 set";
+pub const SELECT_LAST_OF_FEWEST: &str = "`bit_select`, last place, one bit in 4,096 set";
 pub const SELECT_IN_TURN: &str = "`bit_select`, places in turn";
 
 pub fn comparisons(window: Window) -> Vec<Comparison> {
@@ -56,8 +57,18 @@ pub fn comparisons(window: Window) -> Vec<Comparison> {
 
 /// The last true bit where there are few: the chunks that can't hold it aren't known by its rank.
 pub fn last_of_few(window: Window) -> Comparison {
-    let last = ones_in(window) - 1;
-    compare(SELECT_LAST_OF_FEW, &selects(window), window, vec![last])
+    last(SELECT_LAST_OF_FEW, window)
+}
+
+/// The last true bit where there are fewest. A short window may have none: its first is then sought
+/// in vain.
+pub fn last_of_fewest(window: Window) -> Comparison {
+    last(SELECT_LAST_OF_FEWEST, window)
+}
+
+fn last(call: &'static str, window: Window) -> Comparison {
+    let last = ones_in(window).saturating_sub(1);
+    compare(call, &selects(window), window, vec![last])
 }
 
 fn selects(window: Window) -> Vec<Select> {

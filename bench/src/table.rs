@@ -15,6 +15,11 @@ impl Cell {
     pub fn ratio(&self) -> f64 {
         self.ours / self.others[0]
     }
+
+    /// Our time over that of each of the others.
+    pub fn ratios(&self) -> impl Iterator<Item = f64> {
+        self.others.iter().map(|other| self.ours / other)
+    }
 }
 
 impl fmt::Display for Cell {

@@ -15,8 +15,9 @@ use crate::unit::Unit;
 use crate::window::Parts;
 use crate::word::byte_part;
 
-/// From so many chunks on, adders are faster than the counts of words where a vector has 32 bytes.
-const MANY: usize = 32;
+/// From so many chunks on, adders are faster than the counts of words. Where a vector has 32 bytes
+/// they already are from 32 on.
+const MANY: usize = 64;
 
 /// So many chunks, which are 8 MiB, lie past the caches of most machines.
 const PAST_CACHES: usize = 131_072;
