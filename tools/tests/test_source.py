@@ -29,6 +29,17 @@ impl<'a, T: Fn(u8) -> u8> Glance for Plain<'a, T> {
     }
 }
 
+pub(crate) trait Unit {
+    fn count(self) -> usize
+        ensures { result ≡ 1 };
+}
+
+impl Unit for [u8; 64] {
+    fn count(self) -> usize {
+        1
+    }
+}
+
 impl From<AllocError> for BufferError {
     fn from(_error: AllocError) -> BufferError {
         BufferError::OutOfMemory
@@ -51,7 +62,16 @@ class Functions(unittest.TestCase):
     def test_each_function_is_found_by_its_title(self):
         self.assertEqual(
             list(self.found),
-            ["first", "second", "Glance::size", "Glance for Plain::size", "From<AllocError> for BufferError::from", "Set::hidden"],
+            [
+                "first",
+                "second",
+                "Glance::size",
+                "Glance for Plain::size",
+                "Unit::count",
+                "Unit for ArrayU864::count",
+                "From<AllocError> for BufferError::from",
+                "Set::hidden",
+            ],
         )
 
     def test_clauses_are_the_ensures(self):
@@ -60,8 +80,8 @@ class Functions(unittest.TestCase):
         self.assertEqual(self.found["Set::hidden"].clauses, ("lends",))
 
     def test_what_is_public(self):
-        public = [title for title, it in self.found.items() if it.is_public]
-        self.assertEqual(public, ["first", "Glance::size", "Glance for Plain::size", "From<AllocError> for BufferError::from"])
+        hidden = [title for title, it in self.found.items() if not it.is_public]
+        self.assertEqual(hidden, ["second", "Unit::count", "Set::hidden"])
 
     def test_a_body_begins_behind_the_clauses(self):
         it = self.found["first"]

@@ -8,6 +8,7 @@ from trials.verdict import clauses_of, judged, verdict_on
 SAID = '''checked demo::one, 1 of 5
 ./proofs/lib/../Answers.antt:1:1: note: nothing
 ./proofs/deep/Set/len/Answers.antt:18:52: error: `returns-clause-value`: the two types differ
+./proofs/deep/Set/len/Answers.antt:19:7: error: `returns-clause-kept`: `c.sum` has no field `of`
   expected type `x`
 note: src/lib.rt:4:5: it is not proved that what the function ensures holds when it returns (`returns`); more
 note: a goal may be false

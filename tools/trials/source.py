@@ -3,7 +3,9 @@ import re
 from dataclasses import dataclass
 
 HIDDEN = re.compile(r"//[^\n]*|/\*.*?\*/|\"(?:\\.|[^\"\\])*\"|'(?:\\.|[^\\'\n])'", re.S)
-BLOCK = re.compile(r"(?m)^[ \t]*(?:pub(?:\([^)]*\))?\s+)?(?:unsafe\s+)?(?P<kind>impl|trait)\b")
+BLOCK = re.compile(
+    r"(?m)^[ \t]*(?P<public>pub(?:\([^)]*\))?\s+)?(?:unsafe\s+)?(?P<kind>impl|trait)\b"
+)
 FUNCTION = re.compile(
     r"(?m)^[ \t]*(?P<public>pub(?:\([^)]*\))?\s+)?(?:(?:const|unsafe|final|extern)\s+)*fn\s+(?P<name>\w+)"
 )
@@ -19,7 +21,7 @@ class Block:
     owner: str
     trait: str
     argument: str
-    is_trait: bool
+    is_public_trait: bool
     start: int
     end: int
 
@@ -77,7 +79,11 @@ def without_generics(header: str) -> str:
 
 
 def last_word(path: str) -> str:
-    """The last name of a path, as `Display` of `fmt::Display`."""
+    """The last name of a path, as `Display` of `fmt::Display`. That of an array is the one that
+    proofs give it, as `ArrayU864`."""
+    array = re.search(r"\[(\w+);\s*(\w+)\]", path)
+    if array:
+        return f"Array{array[1].capitalize()}{array[2]}"
     words = re.findall(r"\w+", path.split(" where ")[0])
     return words[-1] if words else path.strip()
 
@@ -97,7 +103,7 @@ def blocks(text: str) -> list[Block]:
                 last_word(owner),
                 last_word(trait) if trait else "",
                 argument[1] if argument else "",
-                it["kind"] == "trait",
+                it["kind"] == "trait" and (it["public"] or "").strip() == "pub",
                 it.start(),
                 closing(text, opening),
             )
@@ -136,6 +142,7 @@ def functions(file: str, text: str) -> list[Function]:
             continue
         clauses, body, end = signature(text, it.end())
         block = next((b for b in holders if b.start <= it.start() <= b.end), None)
-        is_public = (it["public"] or "").strip() == "pub" or bool(block and (block.trait or block.is_trait))
+        is_public = (it["public"] or "").strip() == "pub"
+        is_public = is_public or bool(block and (block.trait or block.is_public_trait))
         found.append(Function(file, it["name"], block, is_public, clauses, it.start(), body, end))
     return found

@@ -5,7 +5,9 @@ from dataclasses import dataclass, field
 from .source import Function
 
 GOAL = re.compile(r"(?:note: )?(?:\./)?(src/\S+?\.rt):(\d+):\d+: it is not proved .*?\(`([^`]+)`\)")
-PROOF = re.compile(r"(?:\./)?proofs/(\S+)/(?:Answers|Invariants|Proof)\.antt:\d+:\d+: error(?:: `([^`]+)`)?")
+PROOF = re.compile(r"(?:\./)?proofs/(\S+)/(?:Answers|Invariants|Proof)\.antt:\d+:\d+: error: `([^`]+)`: (.*)")
+# A proof that names what the edit took away says nothing of the contract.
+GONE = re.compile(r"has no field|is not in scope|has no `|was not admitted")
 SAID = re.compile(r"fn (\S+?): (.*)")
 SEARCHED = re.compile(r"`search` did not prove (.*)")
 
@@ -30,7 +32,8 @@ def judged(said: str) -> dict[str, Verdict]:
         if it := GOAL.match(line):
             pending.append((it[1], int(it[2]), it[3]))
         elif it := PROOF.match(line):
-            answers.setdefault(it[1].replace("/", "::"), []).append(it[2] or "")
+            if not GONE.search(it[3]):
+                answers.setdefault(it[1].replace("/", "::"), []).append(it[2])
         elif it := SAID.match(line):
             verdict = Verdict(it[1], is_proved=it[2] == "proved")
             if not verdict.is_proved:
@@ -43,7 +46,7 @@ def judged(said: str) -> dict[str, Verdict]:
                 pending = []
             found[it[1]] = verdict
     for path, verdict in found.items():
-        verdict.goals += [it for it in answers.get(path.partition("::")[2], []) if it]
+        verdict.goals += answers.get(path.partition("::")[2], [])
         verdict.goals = list(dict.fromkeys(verdict.goals))
     return found
 
@@ -85,6 +88,6 @@ def clauses_of(verdict: Verdict, function: Function) -> list[str]:
             found.append(named[1] or named[2])
         elif re.match(r"returns|ensures", goal):
             found.append(function.clauses[0] if len(function.clauses) == 1 else "ensures")
-        elif len(function.clauses) == 1 and goal.startswith("loop-"):
+        elif len(function.clauses) == 1 and (goal.startswith("loop-") or goal.endswith("_spec")):
             found.append(function.clauses[0])
     return list(dict.fromkeys(found))
