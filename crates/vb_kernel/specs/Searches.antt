@@ -1,8 +1,10 @@
 -- A search that goes from list to list with what is left of a rank.
-use Rattle.std.specs.Prelude.{◌≡◌, ℕ, ◌+◌, Bool, true, false, List, Some}
+use Rattle.std.specs.Prelude.{◌≡◌, ℕ, ◌+◌, ◌*◌, ◌≤◌, Bool, true, false, List, Some, length}
+use Rattle.std.below.core.specs.declared.int.usize.TheConstants.{MAX}
 use Rattle.std.below.core.specs.declared.ops.ControlFlow.{ControlFlow}
 use Rattle.std.below.core.specs.declared.ops.ControlFlow.TheVariants.{Continue, Break}
-use Rattle.vb_kernel.specs.Bits.{count, negated, Selects}
+use Rattle.vb_kernel.specs.declared.search.Search.{Search}
+use Rattle.vb_kernel.specs.Bits.{bits, count, negated, Selects}
 
 -- for each value, whether it is v
 abbrev pub matching : Bool → List Bool → List Bool
@@ -13,3 +15,12 @@ matching false l = negated l
 abbrev pub Searched : List Bool → ℕ → ControlFlow ℕ ℕ → Type 0
 Searched l n (Break p) = Selects l n (Some p)
 Searched l n (Continue left) = n ≡ left + count l
+
+-- the n bits from where the search stands lie in the bytes, and end at a usize
+pub record IsWithin (bytes : List ℕ) (s : Search) (n : ℕ) : Type 0 where
+  pub inside : s.offset + s.from + n ≤ 8 * length bytes
+  pub fits : s.offset + s.from + n ≤ MAX
+
+-- what the search of the n bits from where it stands answers
+abbrev pub Finds : List ℕ → Search → ℕ → ControlFlow ℕ ℕ → Type 0
+Finds bytes s n r = Searched (matching s.value (bits bytes s.offset (s.from + n))) (s.n + count (matching s.value (bits bytes s.offset s.from))) r

@@ -5,8 +5,9 @@ ghost use Rattle.vb_kernel.specs.Bits.{bits, count, Selects};
 ghost use Rattle.vb_kernel.specs.Searches.{matching, Searched};
 
 use crate::bytes::word_at;
-use crate::glance::Plain;
-use crate::select::find_in_units;
+use crate::glance::{Glance, Plain};
+use crate::search::{Search, find_in_units};
+use crate::unit::Unit;
 use std::marker::Model;
 use std::ops::ControlFlow;
 use std::simd::prelude::*;
@@ -112,5 +113,33 @@ pub(crate) fn select_in_chunk(chunk: u8x64, n: usize, value: bool) -> usize
 pub(crate) fn find_in_chunk(chunk: &[u8; 64], n: usize, value: bool) -> ControlFlow<usize, usize>
     ensures { Searched (matching value (bits chunk.now 0 512)) n result }
 {
-    find_in_units::<u64, Plain>(&mut Plain::new(chunk), 0, 0, 8, n, value)
+    let search = Search {
+        offset: 0,
+        from: 0,
+        n,
+        value,
+    };
+    find_in_units::<u64, Plain>(&mut Plain::new(chunk), search, 8)
+}
+
+impl Unit for [u8; 64] {
+    ghost SIZE = { 64 };
+
+    ghost bytes = { λ chunk. chunk };
+
+    const SIZE: usize = 64;
+
+    fn read<G: Glance>(src: &mut G, at: usize) -> [u8; 64] {
+        src.chunk(at)
+    }
+
+    // The words are counted as they are, and not turned over one by one.
+    fn count(self, value: bool) -> usize {
+        let ones = chunk_ones(&self);
+        if value { ones } else { 512 - ones }
+    }
+
+    fn select(self, n: usize, value: bool) -> usize {
+        select_in_chunk(u8x64::from_array(self), n, value)
+    }
 }

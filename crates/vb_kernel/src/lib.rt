@@ -17,6 +17,7 @@ mod glance;
 mod lanes;
 mod looks;
 mod map;
+mod search;
 mod select;
 mod unit;
 mod window;

@@ -1,16 +1,15 @@
 //! The place of a bit by its rank.
-ghost use Rattle.std.specs.Prelude.{◌≡◌, ℕ, ◌+◌, ◌*◌, ◌/◌, ◌%◌, ◌<◌, ◌≤◌, length, min};
+ghost use Rattle.std.specs.Prelude.{◌≡◌, ℕ, ◌+◌, ◌*◌, ◌/◌, ◌%◌, ◌<◌, ◌≤◌, length};
 ghost use Rattle.vb_kernel.specs.Bits.{bits, count, negated, Selects, AnswersEach};
 ghost use Rattle.vb_kernel.specs.Looks.{looks};
-ghost use Rattle.vb_kernel.specs.Searches.{matching, Searched};
+ghost use Rattle.vb_kernel.specs.Searches.{matching, Searched, IsWithin, Finds};
 ghost use Rattle.vb_kernel.specs.Windows.{rest_looks};
 
 use crate::chunk::find_in_chunk;
 use crate::count::count_chunks;
 use crate::glance::{Glance, Plain};
-use crate::unit::Unit;
+use crate::search::{Search, find_in_part, find_in_rest, find_in_units};
 use crate::window::Parts;
-use crate::word::{byte_part, select_in_word};
 use std::ops::ControlFlow;
 
 /// Fewer chunks than these are searched by their words at once, which takes no longer than to count
@@ -86,73 +85,92 @@ fn find<G: Glance>(
     ensures looks { G.looks src.new ≤ G.looks src.old + looks offset len }
 {
     let parts = Parts::of(offset, len);
-    let n = find_in_part(src, offset, 0, parts.head, n, value)?;
+    let search = Search {
+        offset,
+        from: 0,
+        n,
+        value,
+    };
+    let n = find_in_part(src, search, parts.head)?;
+    let search = Search {
+        from: parts.head,
+        n,
+        ..search
+    };
     if parts.chunks < MANY {
-        find_in_few_chunks(src, offset, parts.head, len - parts.head, n, value)
+        find_in_few_chunks(src, search, len - parts.head)
     } else {
-        find_in_many_chunks(src, offset, parts.head, len - parts.head, n, value)
+        find_in_many_chunks(src, search, len - parts.head)
     }
 }
 
-/// Searches the `len` bits at place `from` of the window at `offset`, its chunks by their words. Of
-/// the bits from there on that are `value`, the `n`-th is sought.
+/// Searches `len` bits, their chunks by their words.
 #[inline(always)]
 fn find_in_few_chunks<G: Glance>(
     src: &mut G,
-    offset: usize,
-    from: usize,
+    search: Search,
     len: usize,
-    n: usize,
-    value: bool,
 ) -> ControlFlow<usize, usize>
-    requires aligned { 0 < len → (offset + from) % 8 ≡ 0 }
-    requires inside { offset + from + len ≤ 8 * length (G.bytes src.old) }
-    requires fits { offset + from + len ≤ usize.MAX }
-    ensures found { Searched
-        (matching value (bits (G.bytes src.old) offset (from + len)))
-        (n + count (matching value (bits (G.bytes src.old) offset from))) result }
+    requires aligned { 0 < len → (search.offset + search.from) % 8 ≡ 0 }
+    requires within { IsWithin (G.bytes src.old) search len }
+    ensures found { Finds (G.bytes src.old) search len result }
     ensures same { G.bytes src.new ≡ G.bytes src.old }
     ensures looks { G.looks src.new ≤ G.looks src.old + (len / 512 + rest_looks (len % 512)) }
 {
-    let mut left = n;
+    let mut left = search.n;
     for k in 0..len / 512 {
-        let chunk = src.chunk((offset + from) / 8 + 64 * k);
-        match find_in_chunk(&chunk, left, value) {
-            ControlFlow::Break(place) => return ControlFlow::Break(from + 512 * k + place),
+        let chunk = src.chunk((search.offset + search.from) / 8 + 64 * k);
+        match find_in_chunk(&chunk, left, search.value) {
+            ControlFlow::Break(place) => return ControlFlow::Break(search.from + 512 * k + place),
             ControlFlow::Continue(rest) => left = rest,
         }
     }
-    find_in_rest(src, offset, from + len / 512 * 512, len % 512, left, value)
+    let rest_at = search.from + len / 512 * 512;
+    find_in_rest(
+        src,
+        Search {
+            from: rest_at,
+            n: left,
+            ..search
+        },
+        len % 512,
+    )
 }
 
-/// Searches the `len` bits at place `from` of the window at `offset`, its chunks by counting them
-/// first. Of the bits from there on that are `value`, the `n`-th is sought.
+/// Searches `len` bits, their chunks by counting them first.
 ///
 /// Called, so that the search of a short window saves no registers for it.
-#[cold]
 #[inline(never)]
 fn find_in_many_chunks<G: Glance>(
     src: &mut G,
-    offset: usize,
-    from: usize,
+    search: Search,
     len: usize,
-    n: usize,
-    value: bool,
 ) -> ControlFlow<usize, usize>
-    requires aligned { 0 < len → (offset + from) % 8 ≡ 0 }
-    requires inside { offset + from + len ≤ 8 * length (G.bytes src.old) }
-    requires fits { offset + from + len ≤ usize.MAX }
-    ensures found { Searched
-        (matching value (bits (G.bytes src.old) offset (from + len)))
-        (n + count (matching value (bits (G.bytes src.old) offset from))) result }
+    requires aligned { 0 < len → (search.offset + search.from) % 8 ≡ 0 }
+    requires within { IsWithin (G.bytes src.old) search len }
+    ensures found { Finds (G.bytes src.old) search len result }
     ensures same { G.bytes src.new ≡ G.bytes src.old }
     ensures looks { G.looks src.new ≤ G.looks src.old + (len / 512 + rest_looks (len % 512)) }
 {
     let chunks = len / 512;
-    let (passed, left) = pass_chunks(src, offset + from, chunks, n, value);
-    let others_at = from + 512 * passed;
-    let left = find_in_units::<[u8; 64], G>(src, offset, others_at, chunks - passed, left, value)?;
-    find_in_rest(src, offset, from + 512 * chunks, len % 512, left, value)
+    let at = search.offset + search.from;
+    let rest_at = search.from + 512 * chunks;
+    let (passed, left) = pass_chunks(src, at, chunks, search.n, search.value);
+    let search = Search {
+        from: search.from + 512 * passed,
+        n: left,
+        ..search
+    };
+    let left = find_in_units::<[u8; 64], G>(src, search, chunks - passed)?;
+    find_in_rest(
+        src,
+        Search {
+            from: rest_at,
+            n: left,
+            ..search
+        },
+        len % 512,
+    )
 }
 
 /// Passes chunks from bit `at` on that can't hold the `n`-th bit that is `value`. Answers how many
@@ -200,95 +218,4 @@ fn count_matching<G: Glance>(src: &mut G, at: usize, n: usize, value: bool) -> u
 {
     let ones = count_chunks(src, at, n);
     if value { ones } else { 512 * n - ones }
-}
-
-/// Searches the `len` bits at place `from` of the window at `offset`, by words and bytes. Of the
-/// bits from there on that are `value`, the `n`-th is sought.
-fn find_in_rest<G: Glance>(
-    src: &mut G,
-    offset: usize,
-    from: usize,
-    len: usize,
-    n: usize,
-    value: bool,
-) -> ControlFlow<usize, usize>
-    requires aligned { 0 < len → (offset + from) % 8 ≡ 0 }
-    requires inside { offset + from + len ≤ 8 * length (G.bytes src.old) }
-    requires fits { offset + from + len ≤ usize.MAX }
-    ensures found { Searched
-        (matching value (bits (G.bytes src.old) offset (from + len)))
-        (n + count (matching value (bits (G.bytes src.old) offset from))) result }
-    ensures same { G.bytes src.new ≡ G.bytes src.old }
-    ensures looks { G.looks src.new ≤ G.looks src.old + rest_looks len }
-{
-    let bytes_at = from + len / 64 * 64;
-    let tail_at = from + len / 8 * 8;
-    let n = find_in_units::<u64, G>(src, offset, from, len / 64, n, value)?;
-    let n = find_in_units::<u8, G>(src, offset, bytes_at, len % 64 / 8, n, value)?;
-    find_in_part(src, offset, tail_at, len % 8, n, value)
-}
-
-/// Searches the `len` bits, all of one byte, at place `from` of the window at `offset`. Of the bits
-/// from there on that are `value`, the `n`-th is sought.
-fn find_in_part<G: Glance>(
-    src: &mut G,
-    offset: usize,
-    from: usize,
-    len: usize,
-    n: usize,
-    value: bool,
-) -> ControlFlow<usize, usize>
-    requires in_byte { 0 < len → (offset + from) % 8 + len ≤ 8 }
-    requires inside { offset + from + len ≤ 8 * length (G.bytes src.old) }
-    requires fits { offset + from + len ≤ usize.MAX }
-    ensures found { Searched
-        (matching value (bits (G.bytes src.old) offset (from + len)))
-        (n + count (matching value (bits (G.bytes src.old) offset from))) result }
-    ensures same { G.bytes src.new ≡ G.bytes src.old }
-    ensures looks { G.looks src.new ≡ G.looks src.old + min len 1 }
-{
-    if len == 0 {
-        return ControlFlow::Continue(n);
-    }
-    let at = offset + from;
-    let part = byte_part(src.byte(at / 8), at % 8, len, value);
-    let here = part.count_ones() as usize;
-    if n < here {
-        ControlFlow::Break(from + select_in_word(part, n))
-    } else {
-        ControlFlow::Continue(n - here)
-    }
-}
-
-/// Searches the units at place `from` of the window at `offset`. Of the bits from there on that are
-/// `value`, the `n`-th is sought.
-#[inline(always)]
-pub(crate) fn find_in_units<U: Unit, G: Glance>(
-    src: &mut G,
-    offset: usize,
-    from: usize,
-    units: usize,
-    n: usize,
-    value: bool,
-) -> ControlFlow<usize, usize>
-    requires aligned { 0 < units → (offset + from) % 8 ≡ 0 }
-    requires inside { offset + from + 8 * (U.SIZE * units) ≤ 8 * length (G.bytes src.old) }
-    requires fits { offset + from + 8 * (U.SIZE * units) ≤ usize.MAX }
-    ensures found { Searched
-        (matching value (bits (G.bytes src.old) offset (from + 8 * (U.SIZE * units))))
-        (n + count (matching value (bits (G.bytes src.old) offset from))) result }
-    ensures same { G.bytes src.new ≡ G.bytes src.old }
-    ensures looks { G.looks src.new ≤ G.looks src.old + units }
-{
-    let mut left = n;
-    for k in 0..units {
-        let passed = U::SIZE * k;
-        let unit = U::read(src, (offset + from) / 8 + passed);
-        let here = unit.count(value);
-        if left < here {
-            return ControlFlow::Break(from + 8 * passed + unit.select(left, value));
-        }
-        left -= here;
-    }
-    ControlFlow::Continue(left)
 }

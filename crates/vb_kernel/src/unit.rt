@@ -4,10 +4,8 @@ ghost use Rattle.std.specs.Int.{w64, to_le_bytes};
 ghost use Rattle.vb_kernel.specs.Bits.{bits, count, Selects};
 ghost use Rattle.vb_kernel.specs.Searches.{matching};
 
-use crate::chunk::{chunk_ones, select_in_chunk};
 use crate::glance::Glance;
 use crate::word::{byte_part, select_in_word, turned};
-use std::simd::prelude::*;
 
 /// Bytes that one look reads, and that are then counted and searched without another look.
 ///
@@ -74,27 +72,5 @@ impl Unit for u64 {
 
     fn select(self, n: usize, value: bool) -> usize {
         select_in_word(turned(self, value), n)
-    }
-}
-
-impl Unit for [u8; 64] {
-    ghost SIZE = { 64 };
-
-    ghost bytes = { λ chunk. chunk };
-
-    const SIZE: usize = 64;
-
-    fn read<G: Glance>(src: &mut G, at: usize) -> [u8; 64] {
-        src.chunk(at)
-    }
-
-    // The words are counted as they are, and not turned over one by one.
-    fn count(self, value: bool) -> usize {
-        let ones = chunk_ones(&self);
-        if value { ones } else { 512 - ones }
-    }
-
-    fn select(self, n: usize, value: bool) -> usize {
-        select_in_chunk(u8x64::from_array(self), n, value)
     }
 }

@@ -1,0 +1,105 @@
+//! Searches of parts of a window for a bit by its rank.
+ghost use Rattle.std.specs.Prelude.{◌≡◌, ℕ, ◌+◌, ◌*◌, ◌/◌, ◌%◌, ◌<◌, ◌≤◌, min};
+ghost use Rattle.vb_kernel.specs.Searches.{IsWithin, Finds};
+ghost use Rattle.vb_kernel.specs.Windows.{rest_looks};
+
+use crate::glance::Glance;
+use crate::unit::Unit;
+use crate::word::{byte_part, select_in_word};
+use std::ops::ControlFlow;
+
+/// Where a search of a window stands, and what it seeks: of the bits from place `from` on that are
+/// `value`, the `n`-th.
+#[derive(Clone, Copy)]
+pub(crate) struct Search {
+    /// The bit at which the window begins.
+    pub(crate) offset: usize,
+    /// A place, relative to the window.
+    pub(crate) from: usize,
+    pub(crate) n: usize,
+    pub(crate) value: bool,
+}
+
+/// Searches `len` bits by words and bytes.
+///
+/// Inlined, so that the search isn't passed in memory.
+#[inline(always)]
+pub(crate) fn find_in_rest<G: Glance>(
+    src: &mut G,
+    search: Search,
+    len: usize,
+) -> ControlFlow<usize, usize>
+    requires aligned { 0 < len → (search.offset + search.from) % 8 ≡ 0 }
+    requires within { IsWithin (G.bytes src.old) search len }
+    ensures found { Finds (G.bytes src.old) search len result }
+    ensures same { G.bytes src.new ≡ G.bytes src.old }
+    ensures looks { G.looks src.new ≤ G.looks src.old + rest_looks len }
+{
+    let bytes_at = search.from + len / 64 * 64;
+    let tail_at = search.from + len / 8 * 8;
+    let n = find_in_units::<u64, G>(src, search, len / 64)?;
+    let search = Search {
+        from: bytes_at,
+        n,
+        ..search
+    };
+    let n = find_in_units::<u8, G>(src, search, len % 64 / 8)?;
+    let search = Search {
+        from: tail_at,
+        n,
+        ..search
+    };
+    find_in_part(src, search, len % 8)
+}
+
+/// Searches `len` bits, all of one byte.
+pub(crate) fn find_in_part<G: Glance>(
+    src: &mut G,
+    search: Search,
+    len: usize,
+) -> ControlFlow<usize, usize>
+    requires in_byte { 0 < len → (search.offset + search.from) % 8 + len ≤ 8 }
+    requires within { IsWithin (G.bytes src.old) search len }
+    ensures found { Finds (G.bytes src.old) search len result }
+    ensures same { G.bytes src.new ≡ G.bytes src.old }
+    ensures looks { G.looks src.new ≡ G.looks src.old + min len 1 }
+{
+    if len == 0 {
+        return ControlFlow::Continue(search.n);
+    }
+    let at = search.offset + search.from;
+    let part = byte_part(src.byte(at / 8), at % 8, len, search.value);
+    let here = part.count_ones() as usize;
+    if search.n < here {
+        ControlFlow::Break(search.from + select_in_word(part, search.n))
+    } else {
+        ControlFlow::Continue(search.n - here)
+    }
+}
+
+/// Searches so many units, one by one.
+#[inline(always)]
+pub(crate) fn find_in_units<U: Unit, G: Glance>(
+    src: &mut G,
+    search: Search,
+    units: usize,
+) -> ControlFlow<usize, usize>
+    requires aligned { 0 < units → (search.offset + search.from) % 8 ≡ 0 }
+    requires within { IsWithin (G.bytes src.old) search (8 * (U.SIZE * units)) }
+    ensures found { Finds (G.bytes src.old) search (8 * (U.SIZE * units)) result }
+    ensures same { G.bytes src.new ≡ G.bytes src.old }
+    ensures looks { G.looks src.new ≤ G.looks src.old + units }
+{
+    let mut left = search.n;
+    for k in 0..units {
+        let passed = U::SIZE * k;
+        let unit = U::read(src, (search.offset + search.from) / 8 + passed);
+        let here = unit.count(search.value);
+        if left < here {
+            let place = unit.select(left, search.value);
+            return ControlFlow::Break(search.from + 8 * passed + place);
+        }
+        left -= here;
+    }
+    ControlFlow::Continue(left)
+}
