@@ -5,5 +5,6 @@ pub mod DigitsLemmas
 pub mod BytesLemmas
 pub mod SearchesLemmas
 pub mod UnitsLemmas
+pub mod WindowLemmas
 pub mod WritesLemmas
 pub mod WordLemmas
