@@ -1,12 +1,9 @@
--- Windows of bits, counts of them, the place that a rank selects, and one bit written.
-use Rattle.std.proofs.Common.{◌^◌, ◌≢◌, eqb, set, ◌≡◌, ℕ, ◌+◌, ◌-◌, ◌*◌, ◌/◌, ◌%◌, ◌<◌, ◌≤◌, Bool, true, false, not, cond, List, [], ◌∷◌, ◌++◌, length, get_or, take, drop, Option, Some, None, refl, sym, ap, ◌∙◌, arith, ⊎_elim}
-use Rattle.std.proofs.lemmas.List.{length-map, same_lists, take-take, take-map, get_or-map, drop_at, get_or-set_same, get_or-set_other}
+-- Windows of bits, counts of them, and the place that a rank selects.
+use Rattle.std.proofs.Common.{◌≡◌, ℕ, ◌+◌, ◌-◌, ◌*◌, ◌/◌, ◌%◌, ◌<◌, ◌≤◌, Bool, true, false, not, cond, List, [], ◌∷◌, ◌++◌, length, get_or, take, drop, Option, Some, None, refl, sym, ap, ◌∙◌, arith, ⊎_elim}
+use Rattle.std.proofs.lemmas.List.{length-map, same_lists, take-take, take-map, get_or-map, drop_at}
 use Rattle.std.proofs.lemmas.List.FromFn.{length-map-range_with_len, get_or-map-range_with_len, take-map-range_with_len, map-range_with_len_more}
 use Rattle.std.proofs.lemmas.List.Sums.{sum_by-append, sum_by_push, sum_by-cons, sum_by-take-le, count_by-le-length, count_by_more_yes}
-use Rattle.std.proofs.lemmas.Bool.{cases_order, cases_eq, cond_both, cond-true, cond-false, eq-eqb}
-use Rattle.std.proofs.lemmas.Nat.Bits.{bit_at_set_same, bit_at_set_other, bit_at_clear_same, bit_at_clear_other}
-use Rattle.std.specs.Int.{w8}
-use Rattle.std.specs.Prelude.{bit_and, bit_or}
+use Rattle.std.proofs.lemmas.Bool.{cases_order, cond_both, cond-true, cond-false}
 use Rattle.vb_kernel.specs.Bits.{bit_of, bits, at, count, negated, Selects, AnswersEach}
 use Rattle.vb_kernel.proofs.RangeLemmas.{map-range_with_len-add, same_map-range_with_len}
 
@@ -137,48 +134,6 @@ pub Selects-AnswersEach : (l : List Bool) (n : ℕ) (r : Option ℕ) → Selects
 Selects-AnswersEach l n None s i h t e = absurd (omega (arith, count-take-lt l i h t))
 Selects-AnswersEach l n (Some p) s i h t e = ap Some (same_place l p i s.0 s.1 h t (s.2 ∙ sym e))
 
--- ---- one bit written
--- a bit's byte and its place there give the bit's number
-same_number : (k i : ℕ) → k / 8 ≡ i / 8 → k % 8 ≡ i % 8 → k ≡ i
-same_number k i p q = omega arith
-
--- a byte written leaves the bits of the others
-pub bit_of-set_other : (b : List ℕ) (j y k : ℕ) → k / 8 ≢ j → bit_of (set b j y) k ≡ bit_of b k
-bit_of-set_other b j y k ne = rw get_or-set_other
-
--- the bit that was set
-pub bit_of_set : (b : List ℕ) (i : ℕ) → i / 8 < length b → bit_of (set b (i / 8) (bit_or (get_or b (i / 8) 0) (1 * 2 ^ (i % 8) % 256))) i ≡ true
-bit_of_set b i h =
-    let l : i % 8 < 8 = omega arith in
-    rw get_or-set_same (eq-eqb _ 1 (bit_at_set_same w8 (get_or b (i / 8) 0) (i % 8) l))
-
--- the other bits, where one was set
-pub bit_of_set_others : (b : List ℕ) (i : ℕ) → i / 8 < length b → (k : ℕ) → k ≢ i → bit_of (set b (i / 8) (bit_or (get_or b (i / 8) 0) (1 * 2 ^ (i % 8) % 256))) k ≡ bit_of b k
-bit_of_set_others b i h k ne =
-    let l : i % 8 < 8 = omega arith in
-    ⊎_elim
-    (λ p. let q : k % 8 ≢ i % 8 = λ q. ne (same_number k i p q) in
-    rw (p, get_or-set_same) (ap (λ x. eqb x 1) (bit_at_set_other w8 (get_or b (i / 8) 0) (i % 8) l (k % 8) q)))
-    (λ p. bit_of-set_other b (i / 8) _ k p) (cases_eq (k / 8) (i / 8))
-
--- the bit that was unset
-pub bit_of_unset : (b : List ℕ) (i : ℕ) → i / 8 < length b → bit_of (set b (i / 8) (bit_and (get_or b (i / 8) 0) (255 - 1 * 2 ^ (i % 8) % 256))) i ≡ false
-bit_of_unset b i h =
-    let l : i % 8 < 8 = omega arith in
-    rw get_or-set_same (ap (λ x. eqb x 1) (bit_at_clear_same w8 (get_or b (i / 8) 0) (i % 8) l))
-
--- the other bits, where one was unset
-pub bit_of_unset_others : (b : List ℕ) (i : ℕ) → i / 8 < length b → (k : ℕ) → k ≢ i → bit_of (set b (i / 8) (bit_and (get_or b (i / 8) 0) (255 - 1 * 2 ^ (i % 8) % 256))) k ≡ bit_of b k
-bit_of_unset_others b i h k ne =
-    let l : i % 8 < 8 = omega arith in let m : k % 8 < 8 = omega arith in
-    ⊎_elim
-    (λ p. let q : k % 8 ≢ i % 8 = λ q. ne (same_number k i p q) in
-    rw (p, get_or-set_same) (ap (λ x. eqb x 1) (bit_at_clear_other w8 (get_or b (i / 8) 0) (i % 8) l (k % 8) m q)))
-    (λ p. bit_of-set_other b (i / 8) _ k p) (cases_eq (k / 8) (i / 8))
-
 -- ---- for `#[tactic(auto, using(..))]`
 -- loops over the bits of a window
 pub ruleset windows = (count-bits_none, count-bits_more, count-bits-le, length-bits, at-bits, take-bits, count-negated_more, count-negated_none, at-negated, take-negated, length-map)
-
--- writes of single bits
-pub ruleset bit_writes = (bit_of_set, bit_of_set_others, bit_of_unset, bit_of_unset_others)

@@ -5,6 +5,7 @@ pub mod DigitsLemmas
 pub mod BytesLemmas
 pub mod SearchesLemmas
 pub mod UnitsLemmas
+pub mod WindowLemmas
 pub mod WritesLemmas
 pub mod WordLemmas
 pub mod AdderLemmas

@@ -1,6 +1,7 @@
 //! Single bits.
-ghost use Rattle.std.specs.Prelude.{◌≡◌, ◌≢◌, ℕ, ◌/◌, ◌<◌, false, length, IsTrue};
+ghost use Rattle.std.specs.Prelude.{◌≡◌, ◌/◌, ◌<◌, true, false, [], ◌∷◌, length};
 ghost use Rattle.vb_kernel.specs.Bits.{bit_of};
+ghost use Rattle.vb_kernel.specs.Writes.{Writes};
 
 /// Bit `i`.
 pub fn get_bit(buf: &[u8], i: usize) -> bool
@@ -21,21 +22,26 @@ pub fn get_bit_unchecked(buf: &[u8], i: usize) -> bool
 }
 
 /// Makes bit `i` true and leaves every other bit.
-#[tactic(auto, using(crate::proofs::BitsLemmas::bit_writes))]
 pub fn set_bit_unchecked(buf: &mut [u8], i: usize)
     requires { i / 8 < length buf.old }
-    ensures set { IsTrue (bit_of buf.new i) }
-    ensures others { (k : ℕ) → k ≢ i → bit_of buf.new k ≡ bit_of buf.old k }
+    ensures { Writes buf.old buf.new i (true ∷ []) }
 {
     buf[i / 8] |= 1 << (i % 8);
 }
 
 /// Makes bit `i` false and leaves every other bit.
-#[tactic(auto, using(crate::proofs::BitsLemmas::bit_writes))]
 pub fn unset_bit_unchecked(buf: &mut [u8], i: usize)
     requires { i / 8 < length buf.old }
-    ensures unset { bit_of buf.new i ≡ false }
-    ensures others { (k : ℕ) → k ≢ i → bit_of buf.new k ≡ bit_of buf.old k }
+    ensures { Writes buf.old buf.new i (false ∷ []) }
 {
     buf[i / 8] &= !(1 << (i % 8));
+}
+
+/// Makes bit `i` `v` and leaves every other bit, without a branch on `v`.
+pub fn set_bit_to(buf: &mut [u8], i: usize, v: bool)
+    requires { i / 8 < length buf.old }
+    ensures { Writes buf.old buf.new i (v ∷ []) }
+{
+    let others = buf[i / 8] & !(1 << (i % 8));
+    buf[i / 8] = others | (u8::from(v) << (i % 8));
 }

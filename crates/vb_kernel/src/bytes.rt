@@ -1,6 +1,8 @@
-//! Many bytes of a slice read or written at once.
-ghost use Rattle.std.specs.Prelude.{◌≡◌, ◌⊎◌, ℕ, ◌+◌, ◌<◌, ◌≤◌, length, slice_index, slice_range};
+//! Many bytes of a slice read or written at once, and masks of one byte.
+ghost use Rattle.std.specs.Prelude.{◌≡◌, ◌+◌, ◌-◌, ◌*◌, ◌^◌, ◌≤◌, length, slice_range};
 ghost use Rattle.std.specs.Int.{w64, to_le_bytes};
+ghost use Rattle.vb_kernel.specs.Digits.{digits};
+ghost use Rattle.vb_kernel.specs.Writes.{Writes};
 
 use std::simd::prelude::*;
 
@@ -25,9 +27,16 @@ pub(crate) fn word_at(bytes: &[u8], at: usize) -> u64
 /// Writes `word` into the eight bytes from `at` on, least significant first.
 pub(crate) fn write_word(bytes: &mut [u8], at: usize, word: u64)
     requires { at + 8 ≤ length bytes.old }
-    ensures written { slice_range bytes.new at (at + 8) ≡ to_le_bytes w64 word }
-    ensures others { (j : ℕ) → (j < at) ⊎ (at + 8 ≤ j)
-        → slice_index bytes.new j ≡ slice_index bytes.old j }
+    ensures { Writes bytes.old bytes.new (8 * at) (digits word 0 64) }
 {
     bytes[at..at + 8].copy_from_slice(&word.to_le_bytes());
+}
+
+/// Ones in the digits from `from` up to `to`, `to` excluded.
+pub(crate) fn byte_mask(from: usize, to: usize) -> u8
+    requires ordered { from ≤ to }
+    requires in_byte { to ≤ 8 }
+    ensures { result ≡ 2 ^ to - 2 ^ from }
+{
+    ((1u16 << to) - (1u16 << from)) as u8
 }

@@ -1,6 +1,8 @@
 //! Runs of equal bits.
-ghost use Rattle.std.specs.Prelude.{◌≡◌, ℕ, ◌+◌, ◌-◌, ◌*◌, ◌%◌, ◌^◌, ◌≤◌, length};
-ghost use Rattle.vb_kernel.specs.Fills.{Fills};
+ghost use Rattle.std.specs.Prelude.{ℕ, ◌+◌, ◌-◌, ◌*◌, ◌%◌, ◌≤◌, length, replicate};
+ghost use Rattle.vb_kernel.specs.Writes.{Writes};
+
+use crate::bytes::byte_mask;
 
 /// Makes the bits from `start` up to `end` `v`, `end` excluded, and leaves every other bit; nothing
 /// where `start >= end`.
@@ -9,7 +11,7 @@ ghost use Rattle.vb_kernel.specs.Fills.{Fills};
 /// fill.
 pub fn fill_bits(bytes: &mut [u8], start: usize, end: usize, v: bool)
     requires { end ≤ 8 * length bytes.old }
-    ensures { Fills bytes.old bytes.new start end v }
+    ensures { Writes bytes.old bytes.new start (replicate (end - start) v) }
 {
     if start >= end {
         return;
@@ -30,7 +32,7 @@ fn fill_in_byte(bytes: &mut [u8], start: usize, end: usize, v: bool)
     requires ordered { start ≤ end }
     requires in_byte { start % 8 + (end - start) ≤ 8 }
     requires inside { end ≤ 8 * length bytes.old }
-    ensures { Fills bytes.old bytes.new start end v }
+    ensures { Writes bytes.old bytes.new start (replicate (end - start) v) }
 {
     if start == end {
         return;
@@ -44,20 +46,11 @@ fn fill_in_byte(bytes: &mut [u8], start: usize, end: usize, v: bool)
     }
 }
 
-/// Ones in the digits from `from` up to `to`, `to` excluded.
-fn byte_mask(from: usize, to: usize) -> u8
-    requires ordered { from ≤ to }
-    requires in_byte { to ≤ 8 }
-    ensures { result ≡ 2 ^ to - 2 ^ from }
-{
-    ((1u16 << to) - (1u16 << from)) as u8
-}
-
 /// [`fill_bits`] of the bytes from `first` up to `last`, `last` excluded.
 fn fill_bytes(bytes: &mut [u8], first: usize, last: usize, v: bool)
     requires ordered { first ≤ last }
     requires inside { last ≤ length bytes.old }
-    ensures { Fills bytes.old bytes.new (8 * first) (8 * last) v }
+    ensures { Writes bytes.old bytes.new (8 * first) (replicate (8 * last - 8 * first) v) }
 {
     bytes[first..last].fill(if v { u8::MAX } else { 0 });
 }

@@ -23,7 +23,7 @@ mod unit;
 mod window;
 mod word;
 
-pub use bit::{get_bit, get_bit_unchecked, set_bit_unchecked, unset_bit_unchecked};
+pub use bit::{get_bit, get_bit_unchecked, set_bit_to, set_bit_unchecked, unset_bit_unchecked};
 pub use count::{count_ones, count_ones_by};
 pub use fill::fill_bits;
 pub use glance::{Glance, Plain, Tally};

@@ -1,35 +1,51 @@
-//! Windows turned over.
-ghost use Rattle.std.specs.Prelude.{◌≡◌, ◌⊎◌, ℕ, ◌+◌, ◌*◌, ◌<◌, ◌≤◌, not, length, slice_index};
-ghost use Rattle.vb_kernel.specs.Bits.{bit_of};
-ghost use Rattle.vb_kernel.specs.Turns.{Turns};
+//! Windows negated.
+ghost use Rattle.std.specs.Prelude.{ℕ, ◌+◌, ◌-◌, ◌*◌, ◌%◌, ◌^◌, ◌<◌, ◌≤◌, length};
+ghost use Rattle.vb_kernel.specs.Bits.{bits, negated};
+ghost use Rattle.vb_kernel.specs.Writes.{Writes};
 
-use crate::bytes::{word_at, write_word};
+use crate::bytes::{byte_mask, word_at, write_word};
 
-/// Turns over each bit of the window.
+/// Negates each bit of the window and leaves every other bit.
 ///
-/// It goes by words of eight bytes, and by bytes at the end. What becomes of the other bits in the
-/// bytes that the window covers is left open; other bytes stay.
+/// The bits of a partial first and last byte go by a mask, the whole bytes between by words of
+/// eight bytes and then by bytes.
 pub fn map_words(bytes: &mut [u8], offset: usize, len: usize)
     requires inside { offset + len ≤ 8 * length bytes.old }
-    requires fits { offset + len ≤ usize.MAX }
-    ensures turned { (i : ℕ) → offset ≤ i → i < offset + len
-        → bit_of bytes.new i ≡ not (bit_of bytes.old i) }
-    ensures others { (j : ℕ) → (len ≡ 0) ⊎ ((8 * j + 8 ≤ offset) ⊎ (offset + len ≤ 8 * j))
-        → slice_index bytes.new j ≡ slice_index bytes.old j }
+    requires fits { offset + len < 2 ^ 64 }
+    ensures { Writes bytes.old bytes.new offset (negated (bits bytes.old offset len)) }
 {
-    if len == 0 {
+    let end = offset + len;
+    let first = offset.div_ceil(8);
+    let last = end / 8;
+    if last < first {
+        negate_in_byte(bytes, offset, end);
         return;
     }
-    let first = offset / 8;
-    let covered = (offset + len).div_ceil(8) - first;
-    turn_words(bytes, first, covered / 8);
-    turn_bytes(bytes, first + 8 * (covered / 8), covered % 8);
+    let words = (last - first) / 8;
+    negate_in_byte(bytes, offset, 8 * first);
+    negate_words(bytes, first, words);
+    negate_bytes(bytes, first + 8 * words, last);
+    negate_in_byte(bytes, 8 * last, end);
 }
 
-/// Turns over `n` words from byte `at` on.
-fn turn_words(bytes: &mut [u8], at: usize, n: usize)
+/// Negates the bits from `start` up to `end`, `end` excluded, which lie in one byte.
+fn negate_in_byte(bytes: &mut [u8], start: usize, end: usize)
+    requires ordered { start ≤ end }
+    requires in_byte { start % 8 + (end - start) ≤ 8 }
+    requires inside { end ≤ 8 * length bytes.old }
+    ensures { Writes bytes.old bytes.new start (negated (bits bytes.old start (end - start))) }
+{
+    if start == end {
+        return;
+    }
+    let from = start % 8;
+    bytes[start / 8] ^= byte_mask(from, from + (end - start));
+}
+
+/// Negates `n` words from byte `at` on.
+fn negate_words(bytes: &mut [u8], at: usize, n: usize)
     requires { at + 8 * n ≤ length bytes.old }
-    ensures { Turns bytes.old bytes.new at (at + 8 * n) }
+    ensures { Writes bytes.old bytes.new (8 * at) (negated (bits bytes.old (8 * at) (64 * n))) }
 {
     for k in 0..n {
         let word = word_at(bytes, at + 8 * k);
@@ -37,13 +53,15 @@ fn turn_words(bytes: &mut [u8], at: usize, n: usize)
     }
 }
 
-/// Turns over `n` bytes from byte `at` on.
-fn turn_bytes(bytes: &mut [u8], at: usize, n: usize)
-    requires { at + n ≤ length bytes.old }
-    ensures { Turns bytes.old bytes.new at (at + n) }
+/// Negates the bytes from `first` up to `last`, `last` excluded.
+fn negate_bytes(bytes: &mut [u8], first: usize, last: usize)
+    requires ordered { first ≤ last }
+    requires inside { last ≤ length bytes.old }
+    requires fits { 8 * last < 2 ^ 64 }
+    ensures { Writes bytes.old bytes.new (8 * first)
+        (negated (bits bytes.old (8 * first) (8 * (last - first)))) }
 {
-    for k in at..at + n {
-        let byte = bytes[k];
-        bytes[k] = !byte;
+    for k in first..last {
+        negate_in_byte(bytes, 8 * k, 8 * k + 8);
     }
 }

@@ -1,2 +1,1 @@
-pub mod ByteLemmas
-pub mod WindowLemmas
+pub mod SetLemmas

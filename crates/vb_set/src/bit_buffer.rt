@@ -42,7 +42,7 @@ impl<A: Allocator + Clone> Model for BitBuffer<A> {
     } };
 }
 
-#[tactic(auto, using(crate::proofs::WindowLemmas::windows))]
+#[tactic(auto, using(crate::proofs::SetLemmas::sets))]
 impl<A: Allocator + Clone> BitBuffer<A> {
     /// How many bits there are.
     pub fn len(&self) -> usize

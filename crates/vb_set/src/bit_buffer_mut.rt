@@ -42,7 +42,7 @@ impl<A: Allocator + Clone> Model for BitBufferMut<A> {
     ghost invariant = { λ s. (s.offset + s.len ≤ 8 * length s.buffer.list) × (s.offset + s.len < 2 ^ 64) };
 }
 
-#[tactic(auto, using(crate::proofs::WindowLemmas::windows))]
+#[tactic(auto, using(crate::proofs::SetLemmas::sets))]
 impl<A: Allocator + Clone> BitBufferMut<A> {
     /// How many bits there are.
     pub fn len(&self) -> usize

@@ -10,7 +10,7 @@ use std::alloc::Allocator;
 use vb_core::BufferError;
 use vb_mem::{Buffer, ByteBuffer};
 
-#[tactic(auto, using(crate::proofs::WindowLemmas::windows))]
+#[tactic(auto, using(crate::proofs::SetLemmas::sets))]
 impl<A: Allocator + Clone> BitBuffer<A> {
     /// The first `len` bits of a byte buffer, which have to lie in its bytes. Shares its storage;
     /// no memory is taken.

@@ -6,7 +6,7 @@ use super::BitBuffer;
 use std::alloc::Allocator;
 use vb_kernel::{bit_select, bit_select_unset, count_ones, get_bit};
 
-#[tactic(auto, using(crate::proofs::WindowLemmas::windows))]
+#[tactic(auto, using(crate::proofs::SetLemmas::sets))]
 impl<A: Allocator + Clone> BitBuffer<A> {
     /// The bit at place `i`.
     pub fn value(&self, i: usize) -> bool

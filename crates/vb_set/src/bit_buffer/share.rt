@@ -8,7 +8,7 @@ use std::ops::Range;
 use vb_core::BufferError;
 use vb_mem::BufferMut;
 
-#[tactic(auto, using(crate::proofs::WindowLemmas::windows))]
+#[tactic(auto, using(crate::proofs::SetLemmas::sets))]
 impl<A: Allocator + Clone> BitBuffer<A> {
     /// Another owner of the same bits, which shares the storage. Refused by `OutOfMemory` alone.
     pub fn clone(&self) -> Result<Self, BufferError>
@@ -62,7 +62,7 @@ impl<A: Allocator + Clone> BitBuffer<A> {
     }
 }
 
-#[tactic(auto, using(crate::proofs::WindowLemmas::windows))]
+#[tactic(auto, using(crate::proofs::SetLemmas::sets))]
 impl<A: Allocator + Clone> BitBufferMut<A> {
     /// The same bits to be shared, in the same storage, from the byte of the first bit on. Refused
     /// by `OutOfMemory` alone; then the set is gone.

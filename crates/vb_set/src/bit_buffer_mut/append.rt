@@ -1,6 +1,7 @@
 //! Room, and bits added at the end.
 ghost use Rattle.std.specs.Prelude.{◌≡◌, ◌+◌, ◌<◌, ◌≤◌, ◌∷◌, [], ◌++◌, length, max, replicate, true, false, IsOk, IsOkUnless, IsErrOf, IfOk, OnOk, OnErr};
 ghost use Rattle.std.specs.Int.{div_ceil};
+ghost use Rattle.vb_kernel.specs.Writes.{Writes, lengthened};
 ghost use Rattle.vb_set.specs.Changes.{Grows};
 
 use super::BitBufferMut;
@@ -8,7 +9,7 @@ use crate::bytes::{push_bit, push_bits, reserve_to};
 use std::alloc::Allocator;
 use vb_core::BufferError;
 
-#[tactic(auto, using(crate::proofs::WindowLemmas::windows))]
+#[tactic(auto, using(crate::proofs::SetLemmas::sets))]
 impl<A: Allocator + Clone> BitBufferMut<A> {
     /// Makes room for `n` bits more.
     ///
@@ -36,7 +37,9 @@ impl<A: Allocator + Clone> BitBufferMut<A> {
     /// [`capacity`](Self::capacity) it takes no memory and succeeds.
     pub fn append(&mut self, v: bool) -> Result<(), BufferError>
         ensures ok { OnOk result (self.new.bits ≡ self.old.bits ++ v ∷ []) }
-        ensures bytes { OnOk result (length self.new.bytes ≡ max (length self.old.bytes) (div_ceil (self.old.offset + length self.old.bits + 1) 8)) }
+        ensures bytes { OnOk result (Writes (lengthened self.old.bytes self.new.bytes) self.new.bytes
+            (self.old.offset + length self.old.bits) (v ∷ [])) }
+        ensures byte_len { OnOk result (length self.new.bytes ≡ max (length self.old.bytes) (div_ceil (self.old.offset + length self.old.bits + 1) 8)) }
         ensures grows { Grows self.old self.new }
         ensures in_room { length self.old.bits < self.old.room → IsOk result }
         ensures fits { self.old.offset + length self.old.bits < usize.MAX → IsOkUnless result BufferError.OutOfMemory }
@@ -55,7 +58,9 @@ impl<A: Allocator + Clone> BitBufferMut<A> {
     /// Adds a true bit: [`append`](Self::append) of `true`.
     pub fn append_true(&mut self) -> Result<(), BufferError>
         ensures ok { OnOk result (self.new.bits ≡ self.old.bits ++ true ∷ []) }
-        ensures bytes { OnOk result (length self.new.bytes ≡ max (length self.old.bytes) (div_ceil (self.old.offset + length self.old.bits + 1) 8)) }
+        ensures bytes { OnOk result (Writes (lengthened self.old.bytes self.new.bytes) self.new.bytes
+            (self.old.offset + length self.old.bits) (true ∷ [])) }
+        ensures byte_len { OnOk result (length self.new.bytes ≡ max (length self.old.bytes) (div_ceil (self.old.offset + length self.old.bits + 1) 8)) }
         ensures grows { Grows self.old self.new }
         ensures in_room { length self.old.bits < self.old.room → IsOk result }
         ensures fits { self.old.offset + length self.old.bits < usize.MAX → IsOkUnless result BufferError.OutOfMemory }
@@ -68,7 +73,9 @@ impl<A: Allocator + Clone> BitBufferMut<A> {
     /// Adds a false bit: [`append`](Self::append) of `false`.
     pub fn append_false(&mut self) -> Result<(), BufferError>
         ensures ok { OnOk result (self.new.bits ≡ self.old.bits ++ false ∷ []) }
-        ensures bytes { OnOk result (length self.new.bytes ≡ max (length self.old.bytes) (div_ceil (self.old.offset + length self.old.bits + 1) 8)) }
+        ensures bytes { OnOk result (Writes (lengthened self.old.bytes self.new.bytes) self.new.bytes
+            (self.old.offset + length self.old.bits) (false ∷ [])) }
+        ensures byte_len { OnOk result (length self.new.bytes ≡ max (length self.old.bytes) (div_ceil (self.old.offset + length self.old.bits + 1) 8)) }
         ensures grows { Grows self.old self.new }
         ensures in_room { length self.old.bits < self.old.room → IsOk result }
         ensures fits { self.old.offset + length self.old.bits < usize.MAX → IsOkUnless result BufferError.OutOfMemory }
@@ -85,7 +92,9 @@ impl<A: Allocator + Clone> BitBufferMut<A> {
     /// [`capacity`](Self::capacity) it takes no memory and succeeds.
     pub fn append_n(&mut self, v: bool, n: usize) -> Result<(), BufferError>
         ensures ok { OnOk result (self.new.bits ≡ self.old.bits ++ replicate n v) }
-        ensures bytes { OnOk result (length self.new.bytes ≡ max (length self.old.bytes) (div_ceil (self.old.offset + length self.old.bits + n) 8)) }
+        ensures bytes { OnOk result (Writes (lengthened self.old.bytes self.new.bytes) self.new.bytes
+            (self.old.offset + length self.old.bits) (replicate n v)) }
+        ensures byte_len { OnOk result (length self.new.bytes ≡ max (length self.old.bytes) (div_ceil (self.old.offset + length self.old.bits + n) 8)) }
         ensures grows { Grows self.old self.new }
         ensures in_room { length self.old.bits + n ≤ self.old.room → IsOk result }
         ensures fits { self.old.offset + length self.old.bits + n ≤ usize.MAX → IsOkUnless result BufferError.OutOfMemory }

@@ -1,21 +1,22 @@
 //! Edits in place.
-ghost use Rattle.std.specs.Prelude.{◌≡◌, ◌+◌, ◌<◌, ◌≤◌, [], true, false, length, take, slice_set};
+ghost use Rattle.std.specs.Prelude.{◌≡◌, ◌+◌, ◌-◌, ◌<◌, ◌≤◌, [], ◌∷◌, true, false, length, take, replicate, slice_set};
 ghost use Rattle.std.specs.Int.{div_ceil};
-ghost use Rattle.vb_set.specs.Changes.{ChangesBit, KeepsLayout};
 ghost use Rattle.vb_kernel.specs.Edits.{filled};
+ghost use Rattle.vb_kernel.specs.Writes.{Writes};
+ghost use Rattle.vb_set.specs.Changes.{KeepsLayout};
 
 use super::BitBufferMut;
-use crate::bytes::{fill, turn, write_bit};
+use crate::bytes::{fill, negate, write_bit};
 use std::alloc::Allocator;
 use std::ops::Not;
 
-#[tactic(auto, using(crate::proofs::WindowLemmas::windows))]
+#[tactic(auto, using(crate::proofs::SetLemmas::sets))]
 impl<A: Allocator + Clone> BitBufferMut<A> {
     /// Makes the bit at place `i` `v`. No other bit of the bytes changes.
     pub fn set_to(&mut self, i: usize, v: bool)
         requires { i < length self.old.bits }
         ensures bits { self.new.bits ≡ slice_set self.old.bits i v }
-        ensures bytes { ChangesBit self.old.bytes self.new.bytes (self.old.offset + i) v }
+        ensures bytes { Writes self.old.bytes self.new.bytes (self.old.offset + i) (v ∷ []) }
         ensures keeps { KeepsLayout self.old self.new }
     {
         write_bit(&mut self.buffer, self.offset + i, v);
@@ -25,7 +26,7 @@ impl<A: Allocator + Clone> BitBufferMut<A> {
     pub fn set(&mut self, i: usize)
         requires { i < length self.old.bits }
         ensures bits { self.new.bits ≡ slice_set self.old.bits i true }
-        ensures bytes { ChangesBit self.old.bytes self.new.bytes (self.old.offset + i) true }
+        ensures bytes { Writes self.old.bytes self.new.bytes (self.old.offset + i) (true ∷ []) }
         ensures keeps { KeepsLayout self.old self.new }
     {
         self.set_to(i, true);
@@ -35,7 +36,7 @@ impl<A: Allocator + Clone> BitBufferMut<A> {
     pub fn unset(&mut self, i: usize)
         requires { i < length self.old.bits }
         ensures bits { self.new.bits ≡ slice_set self.old.bits i false }
-        ensures bytes { ChangesBit self.old.bytes self.new.bytes (self.old.offset + i) false }
+        ensures bytes { Writes self.old.bytes self.new.bytes (self.old.offset + i) (false ∷ []) }
         ensures keeps { KeepsLayout self.old self.new }
     {
         self.set_to(i, false);
@@ -46,6 +47,8 @@ impl<A: Allocator + Clone> BitBufferMut<A> {
         requires order { start ≤ end }
         requires within { end ≤ length self.old.bits }
         ensures bits { self.new.bits ≡ filled self.old.bits start end v }
+        ensures bytes { Writes self.old.bytes self.new.bytes (self.old.offset + start)
+            (replicate (end - start) v) }
         ensures keeps { KeepsLayout self.old self.new }
     {
         fill(&mut self.buffer, self.offset + start, self.offset + end, v);
@@ -55,7 +58,10 @@ impl<A: Allocator + Clone> BitBufferMut<A> {
     /// `n` bits these all stay; with more the set and its bytes are unchanged. Offset and room stay.
     pub fn truncate(&mut self, n: usize)
         ensures bits { self.new.bits ≡ take n self.old.bits }
-        ensures bytes { n ≤ length self.old.bits → length self.new.bytes ≡ div_ceil (self.old.offset + n) 8 }
+        ensures bytes { n ≤ length self.old.bits
+            → self.new.bytes ≡ take (div_ceil (self.old.offset + n) 8) self.old.bytes }
+        ensures byte_len { n ≤ length self.old.bits
+            → length self.new.bytes ≡ div_ceil (self.old.offset + n) 8 }
         ensures keeps { self.new ≡ record self.old { bits = self.new.bits; bytes = self.new.bytes } }
         ensures past_end { length self.old.bits < n → self.new ≡ self.old }
     {
@@ -77,18 +83,20 @@ impl<A: Allocator + Clone> BitBufferMut<A> {
 }
 
 /// Turns over every bit in place, by words. It takes no memory.
-#[tactic(auto, using(crate::proofs::WindowLemmas::windows))]
+#[tactic(auto, using(crate::proofs::SetLemmas::sets))]
 impl<A: Allocator + Clone> Not for BitBufferMut<A> {
     ghost use Rattle.std.specs.Prelude.{◌≡◌};
     ghost use Rattle.vb_kernel.specs.Bits.{negated};
+    ghost use Rattle.vb_kernel.specs.Writes.{Writes};
     ghost use Rattle.vb_set.specs.Changes.{KeepsLayout};
 
     type Output = BitBufferMut<A>;
 
-    ghost not_gives = { λ s t. (t.bits ≡ negated s.bits) × KeepsLayout s t };
+    ghost not_gives = { λ s t. (t.bits ≡ negated s.bits)
+        × Writes s.bytes t.bytes s.offset (negated s.bits) × KeepsLayout s t };
 
     fn not(mut self) -> BitBufferMut<A> {
-        turn(&mut self.buffer, self.offset, self.len);
+        negate(&mut self.buffer, self.offset, self.len);
         self
     }
 }

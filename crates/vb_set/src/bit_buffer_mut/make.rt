@@ -10,7 +10,7 @@ use std::alloc::Allocator;
 use vb_core::BufferError;
 use vb_mem::{BufferMut, ByteBufferMut};
 
-#[tactic(auto, using(crate::proofs::WindowLemmas::windows))]
+#[tactic(auto, using(crate::proofs::SetLemmas::sets))]
 impl<A: Allocator + Clone> BitBufferMut<A> {
     /// The `len` bits of a byte buffer from bit `offset` on. They have to lie in its bytes, and
     /// `offset + len` has to be a `usize`: `vb_kernel::window_fits` is the test.

@@ -1,8 +1,9 @@
-use Rattle.std.proofs.Common.{◌≡◌, ◌-◌, ◌<◌, ℕ, length, get_or, take, drop, eqb, ap, sym, arith, ◌∙◌}
-use Rattle.std.proofs.lemmas.List.{get_or-replicate, length-take, length-drop}
-use Rattle.std.proofs.lemmas.Nat.Bits.{bit_at_ones, bit_at-zero}
+use Rattle.std.proofs.Common.{◌≡◌, ◌+◌, ◌-◌, ◌*◌, ◌<◌, ℕ, length, take, drop, replicate, ap, sym, arith, ◌∙◌}
+use Rattle.std.proofs.lemmas.List.{length-take, length-drop}
+use Rattle.vb_kernel.specs.Bits.{bits}
 use Rattle.vb_kernel.specs.Digits.{has_bit}
-use Rattle.vb_kernel.proofs.WritesLemmas.{Fills-put_mid}
+use Rattle.vb_kernel.proofs.WindowLemmas.{bits-replicate, digits-full, digits-clear}
+use Rattle.vb_kernel.proofs.WritesLemmas.{Writes-put_mid}
 use Rattle.vb_kernel.proofs.fill.fill_bytes.Goals as goal
 use Rattle.vb_kernel.proofs.fill.fill_bytes.Goals.{then-v, else-v}
 
@@ -11,11 +12,11 @@ returns c =
     let n : ℕ = c.args.last - c.args.first in
     let run = c.fill.ensures.after (λ y e. e) in
     let part : length (take n (drop c.args.first c.args.bytes.now)) ≡ n = simp (length-take, length-drop) (omega arith) in
-    let each : (j r : ℕ) → j < n → r < 8 → has_bit (get_or c.fill.new.self j 0) r ≡ c.args.v =
-    λ j r h l.
-    ap (λ xs. has_bit (get_or xs j 0) r) run ∙ ap (λ x. has_bit x r) (get_or-replicate _ j c.if-v.fill 0 (omega arith))
-    ∙ elim c.if-v.branch [
-      | then-v w ↦ ap (λ x. has_bit x r) w.fill-is ∙ ap (λ x. eqb x 1) (bit_at_ones 8 r l) ∙ sym w.if-v.true
-      | else-v w ↦ ap (λ x. has_bit x r) w.fill-is ∙ ap (λ x. eqb x 1) (bit_at-zero r) ∙ sym w.if-v.false
+    let each : (j : ℕ) → j < 8 → has_bit c.if-v.fill j ≡ c.args.v =
+    λ j l. elim c.if-v.branch [
+      | then-v w ↦ ap (λ x. has_bit x j) w.fill-is ∙ digits-full j l ∙ sym w.if-v.true
+      | else-v w ↦ ap (λ x. has_bit x j) w.fill-is ∙ digits-clear j ∙ sym w.if-v.false
     ] in
-    Fills-put_mid c.args.bytes.now c.fill.new.self c.args.first c.args.last c.args.v c.requires.ordered c.requires.inside (c.fill.ensures.len ∙ part) each
+    let size : 8 * c.args.last - 8 * c.args.first ≡ 8 * n = omega arith in
+    Writes-put_mid c.args.bytes.now c.fill.new.self c.args.first n _ (c.fill.ensures.len ∙ part) (omega arith)
+    (ap (λ l. bits l 0 (8 * n)) run ∙ bits-replicate c.if-v.fill _ (8 * n) c.args.v each (omega arith) ∙ ap (λ k. replicate k c.args.v) (sym size))

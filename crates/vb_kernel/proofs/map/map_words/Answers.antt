@@ -1,16 +1,14 @@
-use Rattle.std.proofs.Common.{◌+◌, ◌-◌, ◌*◌, ◌/◌, ◌%◌, ℕ, inl, inr, arith}
-use Rattle.vb_kernel.proofs.WritesLemmas.{Turns-add}
+use Rattle.std.proofs.Common.{◌≡◌, ◌+◌, ◌-◌, refl, arith}
+use Rattle.vb_kernel.proofs.WritesLemmas.{Writes-negated}
 use Rattle.vb_kernel.proofs.map.map_words.Goals as goal
+
+pub returns-then-last-first : goal.returns-then-last-first
+returns-then-last-first c =
+    let all : c.args.offset + c.args.len - c.args.offset ≡ c.args.len = omega arith in
+    rw all at c.negate_in_byte.ensures
 
 pub returns : goal.returns
 returns c =
-    let first : ℕ = c.args.offset / 8 in let covered : ℕ = c.div_ceil.result - first in
-    let words : ℕ = first + 8 * (covered / 8) in let last : ℕ = words + covered % 8 in
-    let whole = Turns-add _ _ _ first words last (omega arith) (omega arith) c.turn_words.ensures c.turn_bytes.ensures in
-    record {
-      turned = λ i l h. whole.turned i (omega arith) (omega arith);
-      others = λ j h. whole.others j (elim h [
-        | inl none ↦ absurd (omega arith)
-        | inr out ↦ elim out [ inl before ↦ inl (omega arith) | inr after ↦ inr (omega arith) ]
-      ]);
-    }
+    let words = Writes-negated _ _ _ _ _ _ _ _ c.negate_in_byte-2.ensures c.negate_words.ensures (omega arith) refl in
+    let bytes = Writes-negated _ _ _ _ _ _ _ _ words c.negate_bytes.ensures (omega arith) refl in
+    Writes-negated _ _ _ _ _ _ _ _ bytes c.negate_in_byte-3.ensures (omega arith) (omega arith)

@@ -2,7 +2,7 @@ use Rattle.std.proofs.Common.{◌^◌, ◌≤◌, arith}
 use Rattle.std.proofs.Math.Pow.{pow_mono}
 use Rattle.std.proofs.lemmas.Nat.{one_shl}
 use Rattle.vb_kernel.proofs.WritesLemmas.{mask_fits}
-use Rattle.vb_kernel.proofs.fill.byte_mask.Goals as goal
+use Rattle.vb_kernel.proofs.bytes.byte_mask.Goals as goal
 
 pub overflow_sub-result : goal.overflow_sub-result
 overflow_sub-result c =
