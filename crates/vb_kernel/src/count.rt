@@ -176,11 +176,7 @@ fn count_quarters<G: Glance>(src: &mut G, at: usize, turns: usize) -> usize
 {
     let mut sum = Counter::zero();
     for k in 0..turns {
-        let first = at + 256 * k;
-        let second = at + 256 * (turns + k);
-        let third = at + 256 * (2 * turns + k);
-        let fourth = at + 256 * (3 * turns + k);
-        sum = sum.add(src, first, second, third, fourth);
+        sum = sum.add(src, at + 256 * k, 256 * turns);
     }
     sum.total()
 }

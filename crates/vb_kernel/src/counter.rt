@@ -40,35 +40,24 @@ impl Counter {
         }
     }
 
-    /// Adds the true bits of four chunks from each of four bytes on.
+    /// Adds the true bits of four chunks from each of four bytes on, which lie `apart` bytes apart.
     #[inline(always)]
-    pub(crate) fn add<G: Glance>(
-        self,
-        src: &mut G,
-        first: usize,
-        second: usize,
-        third: usize,
-        fourth: usize,
-    ) -> Counter
-        requires first { first + 256 ≤ length (G.bytes src.old) }
-        requires second { second + 256 ≤ length (G.bytes src.old) }
-        requires third { third + 256 ≤ length (G.bytes src.old) }
-        requires fourth { fourth + 256 ≤ length (G.bytes src.old) }
-        requires fits { (first + 256 ≤ usize.MAX) × (second + 256 ≤ usize.MAX)
-            × (third + 256 ≤ usize.MAX) × (fourth + 256 ≤ usize.MAX) }
+    pub(crate) fn add<G: Glance>(self, src: &mut G, at: usize, apart: usize) -> Counter
+        requires inside { at + 3 * apart + 256 ≤ length (G.bytes src.old) }
+        requires fits { at + 3 * apart + 256 ≤ usize.MAX }
         requires room { self + 8192 ≤ usize.MAX }
-        ensures value { result ≡ self + count (bits (G.bytes src.old) (8 * first) 2048)
-            + count (bits (G.bytes src.old) (8 * second) 2048)
-            + count (bits (G.bytes src.old) (8 * third) 2048)
-            + count (bits (G.bytes src.old) (8 * fourth) 2048) }
+        ensures value { result ≡ self + count (bits (G.bytes src.old) (8 * at) 2048)
+            + count (bits (G.bytes src.old) (8 * (at + apart)) 2048)
+            + count (bits (G.bytes src.old) (8 * (at + 2 * apart)) 2048)
+            + count (bits (G.bytes src.old) (8 * (at + 3 * apart)) 2048) }
         ensures same { G.bytes src.new ≡ G.bytes src.old }
         ensures looks { G.looks src.new ≡ G.looks src.old + 16 }
     {
-        let (ones, twos, one) = add_four(self.ones, self.twos, src, first);
-        let (ones, twos, other) = add_four(ones, twos, src, second);
+        let (ones, twos, one) = add_four(self.ones, self.twos, src, at);
+        let (ones, twos, other) = add_four(ones, twos, src, at + apart);
         let (fours, low) = full_add(self.fours, one, other);
-        let (ones, twos, one) = add_four(ones, twos, src, third);
-        let (ones, twos, other) = add_four(ones, twos, src, fourth);
+        let (ones, twos, one) = add_four(ones, twos, src, at + 2 * apart);
+        let (ones, twos, other) = add_four(ones, twos, src, at + 3 * apart);
         let (fours, high) = full_add(fours, one, other);
         let (eights, sixteen) = full_add(self.eights, low, high);
         Counter {

@@ -20,10 +20,10 @@ plus-requires g c =
       rw same2 at c.add_four-ones-3.ensures.value,
       rw same3 at c.add_four-ones-4.ensures.value,
       c.requires.room,
-      count-bits-le b (8 * c.args.first) 2048,
-      count-bits-le b (8 * c.args.second) 2048,
-      count-bits-le b (8 * c.args.third) 2048,
-      count-bits-le b (8 * c.args.fourth) 2048,
+      count-bits-le b (8 * c.args.at) 2048,
+      count-bits-le b (8 * (c.args.at + c.args.apart)) 2048,
+      count-bits-le b (8 * (c.args.at + 2 * c.args.apart)) 2048,
+      count-bits-le b (8 * (c.args.at + 3 * c.args.apart)) 2048,
     )
 
 pub returns-clause-value : goal.returns-clause-value
