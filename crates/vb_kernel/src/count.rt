@@ -19,9 +19,6 @@ use crate::word::byte_part;
 /// they already are from 32 on.
 const MANY: usize = 64;
 
-/// So many chunks, which are 8 MiB, lie past the caches of most machines.
-const PAST_CACHES: usize = 131_072;
-
 /// How many bits of the window are true.
 pub fn count_ones(bytes: &[u8], offset: usize, len: usize) -> usize
     requires inside { offset + len ≤ 8 * length bytes.now }
@@ -142,11 +139,7 @@ pub(crate) fn count_chunks<G: Glance>(src: &mut G, at: usize, n: usize) -> usize
     }
     let turns = n / 16;
     let rest = count_few(src, at + 1024 * turns, n % 16);
-    if n < PAST_CACHES {
-        rest + count_in_order(src, at, turns)
-    } else {
-        rest + count_quarters(src, at, turns)
-    }
+    rest + count_quarters(src, at, turns)
 }
 
 /// Counts `n` chunks from byte `at` on by the counts of their words.
@@ -170,24 +163,6 @@ fn count_few<G: Glance>(src: &mut G, at: usize, n: usize) -> usize
     sum.plus(sum_chunks(src, at + n / 2 * 128, n % 2)).total()
 }
 
-/// Counts `turns` times sixteen chunks from byte `at` on, from the first to the last.
-#[tactic(auto, using(crate::proofs::BitsLemmas::windows))]
-#[inline(never)]
-fn count_in_order<G: Glance>(src: &mut G, at: usize, turns: usize) -> usize
-    requires inside { at + 1024 * turns ≤ length (G.bytes src.old) }
-    requires fits { 8 * at + 8192 * turns ≤ usize.MAX }
-    ensures value { result ≡ count (bits (G.bytes src.old) (8 * at) (8192 * turns)) }
-    ensures same { G.bytes src.new ≡ G.bytes src.old }
-    ensures looks { G.looks src.new ≡ G.looks src.old + 16 * turns }
-{
-    let mut sum = Counter::zero();
-    for k in 0..turns {
-        let place = at + 1024 * k;
-        sum = sum.add(src, place, place + 256, place + 512, place + 768);
-    }
-    sum.total()
-}
-
 /// Counts the chunks of four quarters, one behind another from byte `at` on, each of `turns` times
 /// four chunks: four of each quarter a turn, so that memory is read ahead at four places.
 #[tactic(auto, using(crate::proofs::BitsLemmas::windows))]
@@ -201,11 +176,7 @@ fn count_quarters<G: Glance>(src: &mut G, at: usize, turns: usize) -> usize
 {
     let mut sum = Counter::zero();
     for k in 0..turns {
-        let first = at + 256 * k;
-        let second = at + 256 * (turns + k);
-        let third = at + 256 * (2 * turns + k);
-        let fourth = at + 256 * (3 * turns + k);
-        sum = sum.add(src, first, second, third, fourth);
+        sum = sum.add(src, at + 256 * k, 256 * turns);
     }
     sum.total()
 }

@@ -40,34 +40,25 @@ impl Counter {
         }
     }
 
-    /// Adds the true bits of four chunks from each of four bytes on.
+    /// Adds the true bits of four chunks from each of four bytes on, which lie `apart` bytes apart.
     #[inline(always)]
-    pub(crate) fn add<G: Glance>(
-        self,
-        src: &mut G,
-        first: usize,
-        second: usize,
-        third: usize,
-        fourth: usize,
-    ) -> Counter
-        requires first { first + 256 ≤ length (G.bytes src.old) }
-        requires second { second + 256 ≤ length (G.bytes src.old) }
-        requires third { third + 256 ≤ length (G.bytes src.old) }
-        requires fourth { fourth + 256 ≤ length (G.bytes src.old) }
-        requires fits { (first + 256 ≤ usize.MAX) × (second + 256 ≤ usize.MAX)
-            × (third + 256 ≤ usize.MAX) × (fourth + 256 ≤ usize.MAX) }
+    pub(crate) fn add<G: Glance>(self, src: &mut G, at: usize, apart: usize) -> Counter
+        requires inside { at + 3 * apart + 256 ≤ length (G.bytes src.old) }
+        requires fits { at + 3 * apart + 256 ≤ usize.MAX }
         requires room { self + 8192 ≤ usize.MAX }
-        ensures value { result ≡ self + count (bits (G.bytes src.old) (8 * first) 2048)
-            + count (bits (G.bytes src.old) (8 * second) 2048)
-            + count (bits (G.bytes src.old) (8 * third) 2048)
-            + count (bits (G.bytes src.old) (8 * fourth) 2048) }
+        ensures value { result ≡ self + count (bits (G.bytes src.old) (8 * at) 2048)
+            + count (bits (G.bytes src.old) (8 * (at + apart)) 2048)
+            + count (bits (G.bytes src.old) (8 * (at + 2 * apart)) 2048)
+            + count (bits (G.bytes src.old) (8 * (at + 3 * apart)) 2048) }
         ensures same { G.bytes src.new ≡ G.bytes src.old }
         ensures looks { G.looks src.new ≡ G.looks src.old + 16 }
     {
-        let (ones, twos, fours, low) = add_eight(
-            self.ones, self.twos, self.fours, src, first, second,
-        );
-        let (ones, twos, fours, high) = add_eight(ones, twos, fours, src, third, fourth);
+        let (ones, twos, one) = add_four(self.ones, self.twos, src, at);
+        let (ones, twos, other) = add_four(ones, twos, src, at + apart);
+        let (fours, low) = full_add(self.fours, one, other);
+        let (ones, twos, one) = add_four(ones, twos, src, at + 2 * apart);
+        let (ones, twos, other) = add_four(ones, twos, src, at + 3 * apart);
+        let (fours, high) = full_add(fours, one, other);
         let (eights, sixteen) = full_add(self.eights, low, high);
         Counter {
             ones,
@@ -101,21 +92,6 @@ fn ones_at<G: Glance>(src: &mut G, at: usize) -> Ones
     Ones::of(&src.chunk(at))
 }
 
-/// Adds the bits of two chunks from byte `at` on to `ones`, and carries into a vector of twos.
-#[inline(always)]
-fn add_two<G: Glance>(ones: Ones, src: &mut G, at: usize) -> (Ones, Ones)
-    requires inside { at + 128 ≤ length (G.bytes src.old) }
-    requires fits { at + 128 ≤ usize.MAX }
-    ensures value { result.0 + 2 * result.1
-        ≡ ones + count (bits (G.bytes src.old) (8 * at) 1024) }
-    ensures same { G.bytes src.new ≡ G.bytes src.old }
-    ensures looks { G.looks src.new ≡ G.looks src.old + 2 }
-{
-    let first = ones_at(src, at);
-    let second = ones_at(src, at + 64);
-    full_add(ones, first, second)
-}
-
 /// Adds the bits of four chunks from byte `at` on, and carries into a vector of fours.
 #[inline(always)]
 fn add_four<G: Glance>(ones: Ones, twos: Ones, src: &mut G, at: usize) -> (Ones, Ones, Ones)
@@ -126,33 +102,12 @@ fn add_four<G: Glance>(ones: Ones, twos: Ones, src: &mut G, at: usize) -> (Ones,
     ensures same { G.bytes src.new ≡ G.bytes src.old }
     ensures looks { G.looks src.new ≡ G.looks src.old + 4 }
 {
-    let (ones, low) = add_two(ones, src, at);
-    let (ones, high) = add_two(ones, src, at + 128);
+    let first = ones_at(src, at);
+    let second = ones_at(src, at + 64);
+    let (ones, low) = full_add(ones, first, second);
+    let third = ones_at(src, at + 128);
+    let fourth = ones_at(src, at + 192);
+    let (ones, high) = full_add(ones, third, fourth);
     let (twos, fours) = full_add(twos, low, high);
     (ones, twos, fours)
-}
-
-/// Adds the bits of four chunks from each of two bytes on, and carries into a vector of eights.
-#[inline(always)]
-fn add_eight<G: Glance>(
-    ones: Ones,
-    twos: Ones,
-    fours: Ones,
-    src: &mut G,
-    first: usize,
-    second: usize,
-) -> (Ones, Ones, Ones, Ones)
-    requires first { first + 256 ≤ length (G.bytes src.old) }
-    requires second { second + 256 ≤ length (G.bytes src.old) }
-    requires fits { (first + 256 ≤ usize.MAX) × (second + 256 ≤ usize.MAX) }
-    ensures value { result.0 + 2 * result.1 + 4 * result.2 + 8 * result.3
-        ≡ ones + 2 * twos + 4 * fours + count (bits (G.bytes src.old) (8 * first) 2048)
-        + count (bits (G.bytes src.old) (8 * second) 2048) }
-    ensures same { G.bytes src.new ≡ G.bytes src.old }
-    ensures looks { G.looks src.new ≡ G.looks src.old + 8 }
-{
-    let (ones, twos, low) = add_four(ones, twos, src, first);
-    let (ones, twos, high) = add_four(ones, twos, src, second);
-    let (fours, eights) = full_add(fours, low, high);
-    (ones, twos, fours, eights)
 }

@@ -26,7 +26,7 @@ pub(crate) struct Search {
 #[inline(always)]
 pub(crate) fn find_in_rest<G: Glance>(
     src: &mut G,
-    search: Search,
+    mut search: Search,
     len: usize,
 ) -> ControlFlow<usize, usize>
     requires aligned { 0 < len → (search.offset + search.from) % 8 ≡ 0 }
@@ -37,18 +37,10 @@ pub(crate) fn find_in_rest<G: Glance>(
 {
     let bytes_at = search.from + len / 64 * 64;
     let tail_at = search.from + len / 8 * 8;
-    let n = find_in_units::<u64, G>(src, search, len / 64)?;
-    let search = Search {
-        from: bytes_at,
-        n,
-        ..search
-    };
-    let n = find_in_units::<u8, G>(src, search, len % 64 / 8)?;
-    let search = Search {
-        from: tail_at,
-        n,
-        ..search
-    };
+    search.n = find_in_units::<u64, G>(src, search, len / 64)?;
+    search.from = bytes_at;
+    search.n = find_in_units::<u8, G>(src, search, len % 64 / 8)?;
+    search.from = tail_at;
     find_in_part(src, search, len % 8)
 }
 

@@ -85,18 +85,14 @@ fn find<G: Glance>(
     ensures looks { G.looks src.new ≤ G.looks src.old + looks offset len }
 {
     let parts = Parts::of(offset, len);
-    let search = Search {
+    let mut search = Search {
         offset,
         from: 0,
         n,
         value,
     };
-    let n = find_in_part(src, search, parts.head)?;
-    let search = Search {
-        from: parts.head,
-        n,
-        ..search
-    };
+    search.n = find_in_part(src, search, parts.head)?;
+    search.from = parts.head;
     if parts.chunks < MANY {
         find_in_few_chunks(src, search, len - parts.head)
     } else {
@@ -108,7 +104,7 @@ fn find<G: Glance>(
 #[inline(always)]
 fn find_in_few_chunks<G: Glance>(
     src: &mut G,
-    search: Search,
+    mut search: Search,
     len: usize,
 ) -> ControlFlow<usize, usize>
     requires aligned { 0 < len → (search.offset + search.from) % 8 ≡ 0 }
@@ -125,16 +121,9 @@ fn find_in_few_chunks<G: Glance>(
             ControlFlow::Continue(rest) => left = rest,
         }
     }
-    let rest_at = search.from + len / 512 * 512;
-    find_in_rest(
-        src,
-        Search {
-            from: rest_at,
-            n: left,
-            ..search
-        },
-        len % 512,
-    )
+    search.n = left;
+    search.from += len / 512 * 512;
+    find_in_rest(src, search, len % 512)
 }
 
 /// Searches `len` bits, their chunks by counting them first.
@@ -143,7 +132,7 @@ fn find_in_few_chunks<G: Glance>(
 #[inline(never)]
 fn find_in_many_chunks<G: Glance>(
     src: &mut G,
-    search: Search,
+    mut search: Search,
     len: usize,
 ) -> ControlFlow<usize, usize>
     requires aligned { 0 < len → (search.offset + search.from) % 8 ≡ 0 }
@@ -156,21 +145,11 @@ fn find_in_many_chunks<G: Glance>(
     let at = search.offset + search.from;
     let rest_at = search.from + 512 * chunks;
     let (passed, left) = pass_chunks(src, at, chunks, search.n, search.value);
-    let search = Search {
-        from: search.from + 512 * passed,
-        n: left,
-        ..search
-    };
-    let left = find_in_units::<[u8; 64], G>(src, search, chunks - passed)?;
-    find_in_rest(
-        src,
-        Search {
-            from: rest_at,
-            n: left,
-            ..search
-        },
-        len % 512,
-    )
+    search.n = left;
+    search.from += 512 * passed;
+    search.n = find_in_units::<[u8; 64], G>(src, search, chunks - passed)?;
+    search.from = rest_at;
+    find_in_rest(src, search, len % 512)
 }
 
 /// Passes chunks from bit `at` on that can't hold the `n`-th bit that is `value`. Answers how many

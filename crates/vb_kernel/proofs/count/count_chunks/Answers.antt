@@ -2,18 +2,8 @@ use Rattle.std.proofs.Common.{◌+◌, ◌*◌, ◌/◌, ◌%◌, ℕ, List, tru
 use Rattle.vb_kernel.proofs.SearchesLemmas.{count-matching-bits_split}
 use Rattle.vb_kernel.proofs.count.count_chunks.Goals as goal
 
-pub returns-then-n-lt-PAST_CACHES-clause-value : goal.returns-then-n-lt-PAST_CACHES-clause-value
-returns-then-n-lt-PAST_CACHES-clause-value g c =
-    let b : List ℕ = g.G.Glance.bytes c.args.src.now in let o : ℕ = 8 * c.args.at in let m : ℕ = 8192 * (c.args.n / 16) in
-    omega (
-      arith,
-      c.count_few-rest.ensures.value,
-      rw c.count_few-rest.ensures.same at c.count_in_order.ensures.value,
-      count-matching-bits_split true b o m (512 * c.args.n) (8 * (c.args.at + 1024 * (c.args.n / 16))) (512 * (c.args.n % 16)) (omega arith) (omega arith),
-    )
-
-pub returns-else-n-lt-PAST_CACHES-clause-value : goal.returns-else-n-lt-PAST_CACHES-clause-value
-returns-else-n-lt-PAST_CACHES-clause-value g c =
+pub returns-clause-value : goal.returns-clause-value
+returns-clause-value g c =
     let b : List ℕ = g.G.Glance.bytes c.args.src.now in let o : ℕ = 8 * c.args.at in let m : ℕ = 8192 * (c.args.n / 16) in
     omega (
       arith,

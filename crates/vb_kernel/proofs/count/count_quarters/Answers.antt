@@ -12,9 +12,9 @@ loop-k-preserved g c =
         c.loop-k.invariant.value,
         rw same at c.add-sum.ensures.value,
         count-matching-bits_split true b (8 * at) (2048 * k) (2048 * (k + 1)) (8 * (at + 256 * k)) 2048 (omega arith) (omega arith),
-        count-matching-bits_split true b (8 * (at + 256 * p)) (2048 * k) (2048 * (k + 1)) (8 * (at + 256 * (p + k))) 2048 (omega arith) (omega arith),
-        count-matching-bits_split true b (8 * (at + 256 * (2 * p))) (2048 * k) (2048 * (k + 1)) (8 * (at + 256 * (2 * p + k))) 2048 (omega arith) (omega arith),
-        count-matching-bits_split true b (8 * (at + 256 * (3 * p))) (2048 * k) (2048 * (k + 1)) (8 * (at + 256 * (3 * p + k))) 2048 (omega arith) (omega arith),
+        count-matching-bits_split true b (8 * (at + 256 * p)) (2048 * k) (2048 * (k + 1)) (8 * (at + 256 * k + 256 * p)) 2048 (omega arith) (omega arith),
+        count-matching-bits_split true b (8 * (at + 256 * (2 * p))) (2048 * k) (2048 * (k + 1)) (8 * (at + 256 * k + 2 * (256 * p))) 2048 (omega arith) (omega arith),
+        count-matching-bits_split true b (8 * (at + 256 * (3 * p))) (2048 * k) (2048 * (k + 1)) (8 * (at + 256 * k + 3 * (256 * p))) 2048 (omega arith) (omega arith),
       );
       same = c.add-sum.ensures.same ∙ same;
       looks = omega (arith, c.loop-k.invariant.looks, c.add-sum.ensures.looks);
