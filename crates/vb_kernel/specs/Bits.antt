@@ -19,7 +19,7 @@ at l i = slice_index_or l i false
 abbrev pub count : List Bool → ℕ
 count l = count_by (λ b. b) l
 
--- each value turned over
+-- each value negated
 abbrev pub negated : List Bool → List Bool
 negated l = map not l
 

@@ -1,5 +1,7 @@
-pub mod Changes
-pub mod Sets
+pub mod Lends
+pub mod OpenSet
+pub mod SharedSet
+pub mod Windows
 pub use Rattle.vb_kernel.specs.Bits
 pub use Rattle.vb_kernel.specs.Edits
 pub use Rattle.vb_kernel.specs.Writes

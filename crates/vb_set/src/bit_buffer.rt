@@ -1,21 +1,25 @@
 //! A set of bits whose storage several owners may share.
 ghost use Rattle.std.specs.Prelude.{◌≡◌, ◌<◌, ◌==◌, ◌↔◌, length, take, IsSome, IfSome};
 ghost use Rattle.std.specs.Int.{div_ceil};
-ghost use Rattle.vb_set.specs.Sets.{IsWindow};
+ghost use Rattle.vb_set.specs.Windows.{IsWindow};
 
-use std::alloc::Allocator;
+use crate::shown::write_bits;
+use std::alloc::{Allocator, Global};
+use std::fmt;
 use std::marker::Model;
 use vb_mem::ByteBuffer;
 
+mod convert;
+mod edit;
 mod make;
 mod question;
-mod share;
+mod slice;
 
 /// A set of bits whose storage several owners may share, over a byte buffer of alignment 1.
 ///
 /// A contract sees its bits, the offset of the first one, which is below 8, and its bytes.
 #[derive(Drop)]
-pub struct BitBuffer<A: Allocator + Clone> {
+pub struct BitBuffer<A: Allocator + Clone = Global> {
     buffer: ByteBuffer<A>,
     offset: usize,
     len: usize,
@@ -24,7 +28,7 @@ pub struct BitBuffer<A: Allocator + Clone> {
 impl<A: Allocator + Clone> Model for BitBuffer<A> {
     ghost use Rattle.std.specs.Prelude.{◌≡◌, ◌+◌, ◌*◌, ◌<◌, ◌≤◌, ◌^◌, length};
     ghost use Rattle.vb_kernel.specs.Bits.{bits};
-    ghost use Rattle.vb_set.specs.Sets.{SharedSet};
+    ghost use Rattle.vb_set.specs.SharedSet.{SharedSet};
 
     ghost Value = { SharedSet };
 
@@ -87,16 +91,30 @@ impl<A: Allocator + Clone> BitBuffer<A> {
         (self.offset, self.len, self.buffer)
     }
 
-    /// The bytes of the bits, where the first bit is that of a byte; otherwise `None`. The bits of
-    /// the last byte past the length are open.
+    /// The bytes of the bits, where the offset is 0; otherwise `None`. The bits of the last byte
+    /// past the length are open.
     pub fn byte_aligned_bytes(&self) -> Option<&[u8]>
         ensures aligned { IsSome result ↔ (self.now.offset ≡ 0) }
-        ensures bytes { IfSome result (λ bytes. bytes.now ≡ take (div_ceil (length self.now.bits) 8) self.now.bytes) }
+        ensures bytes { IfSome result (λ bytes. bytes.now
+            ≡ take (div_ceil (length self.now.bits) 8) self.now.bytes) }
         ensures window { IfSome result (λ bytes. IsWindow bytes.now 0 self.now.bits) }
     {
         if self.offset != 0 {
             return None;
         }
         Some(&self.buffer.as_slice()[..self.len.div_ceil(8)])
+    }
+}
+
+/// The first 64 bits, as `BitBuffer(01101..)`.
+impl<A: Allocator + Clone> fmt::Debug for BitBuffer<A> {
+    fn fmt<W: fmt::Write>(&self, f: &mut fmt::Formatter<W>) -> fmt::Result {
+        write_bits(
+            f,
+            "BitBuffer",
+            self.buffer.as_slice(),
+            self.offset,
+            self.len,
+        )
     }
 }

@@ -1,15 +1,19 @@
 //! A set of bits that one owner edits.
 ghost use Rattle.std.specs.Prelude.{◌≡◌, ◌+◌, ◌*◌, ◌≤◌, ◌==◌, length};
-ghost use Rattle.std.specs.Borrow.{Lends, Array, u8, sem};
-ghost use Rattle.vb_set.specs.Sets.{IsWindow, bit_room, with_bytes};
-ghost use Rattle.vb_set.specs.contracts.bit_buffer_mut.BitBufferMut.{the_row};
+ghost use Rattle.std.specs.Borrow.{sem};
+ghost use Rattle.vb_set.specs.Lends.{LendsBytes};
+ghost use Rattle.vb_set.specs.OpenSet.{bit_room};
+ghost use Rattle.vb_set.specs.Windows.{IsWindow};
 
-use std::alloc::Allocator;
+use crate::shown::write_bits;
+use std::alloc::{Allocator, Global};
+use std::fmt;
 use std::marker::Model;
 use vb_mem::ByteBufferMut;
 
-mod append;
+mod convert;
 mod edit;
+mod grow;
 mod make;
 mod question;
 
@@ -18,7 +22,7 @@ mod question;
 /// A contract sees its bits, the offset of the first one, its bytes with the exponent of their
 /// alignment, and the room in bits.
 #[derive(Drop)]
-pub struct BitBufferMut<A: Allocator + Clone> {
+pub struct BitBufferMut<A: Allocator + Clone = Global> {
     buffer: ByteBufferMut<A>,
     offset: usize,
     len: usize,
@@ -27,7 +31,7 @@ pub struct BitBufferMut<A: Allocator + Clone> {
 impl<A: Allocator + Clone> Model for BitBufferMut<A> {
     ghost use Rattle.std.specs.Prelude.{◌+◌, ◌*◌, ◌<◌, ◌≤◌, ◌^◌, length};
     ghost use Rattle.vb_kernel.specs.Bits.{bits};
-    ghost use Rattle.vb_set.specs.Sets.{OpenSet, bit_room};
+    ghost use Rattle.vb_set.specs.OpenSet.{OpenSet, bit_room};
 
     ghost Value = { OpenSet };
 
@@ -39,7 +43,10 @@ impl<A: Allocator + Clone> Model for BitBufferMut<A> {
       room = bit_room s.buffer.room s.offset;
     } };
 
-    ghost invariant = { λ s. (s.offset + s.len ≤ 8 * length s.buffer.list) × (s.offset + s.len < 2 ^ 64) };
+    ghost invariant = { λ s. record {
+      inside : s.offset + s.len ≤ 8 * length s.buffer.list;
+      fits : s.offset + s.len < 2 ^ 64;
+    } };
 }
 
 #[tactic(auto, using(crate::proofs::SetLemmas::sets))]
@@ -83,7 +90,7 @@ impl<A: Allocator + Clone> BitBufferMut<A> {
 
     /// The bytes for writing. What is written is what the set then holds; offset and length stay.
     pub fn as_mut_slice(&mut self) -> &mut [u8]
-        ensures* writes_back { sem 𝓛 (Lends (the_row A.row A.Allocator A.Clone) (Array u8 0) self.entry result (with_bytes self.old)) }
+        ensures* writes_back { sem 𝓛 (LendsBytes A.row A.Allocator A.Clone self.entry result) }
         ensures bytes { result.now ≡ self.old.bytes }
         ensures window { IsWindow result.now self.old.offset self.old.bits }
     {
@@ -108,5 +115,12 @@ impl<A: Allocator + Clone> BitBufferMut<A> {
         ensures room { self.room ≡ bit_room result.room self.offset }
     {
         self.buffer
+    }
+}
+
+/// The first 64 bits, as `BitBufferMut(01101..)`.
+impl<A: Allocator + Clone> fmt::Debug for BitBufferMut<A> {
+    fn fmt<W: fmt::Write>(&self, f: &mut fmt::Formatter<W>) -> fmt::Result {
+        write_bits(f, "BitBufferMut", self.as_slice(), self.offset, self.len)
     }
 }

@@ -1,5 +1,6 @@
 //! Bits of a byte buffer: the steps of which the edits of a set are made.
-ghost use Rattle.std.specs.Prelude.{◌≡◌, ℕ, ◌+◌, ◌-◌, ◌*◌, ◌/◌, ◌^◌, ◌<◌, ◌≤◌, [], ◌∷◌, length, max, replicate, IsOk, IsOkUnless, OnOk, OnErr};
+ghost use Rattle.std.specs.Prelude.{◌≡◌, ℕ, ◌+◌, ◌-◌, ◌*◌, ◌/◌, ◌^◌, ◌<◌, ◌≤◌, [], ◌∷◌};
+ghost use Rattle.std.specs.Prelude.{length, max, replicate, IsOk, IsOkUnless, OnOk, OnErr};
 ghost use Rattle.std.specs.Int.{div_ceil};
 ghost use Rattle.vb_kernel.specs.Bits.{bits, negated};
 ghost use Rattle.vb_kernel.specs.Digits.{has_bit};
@@ -27,8 +28,10 @@ pub(crate) fn push_bit<A: Allocator + Clone>(
     v: bool,
 ) -> Result<(), BufferError>
     requires { end ≤ 8 * length bytes.old.list }
-    ensures len { OnOk result (length bytes.new.list ≡ max (length bytes.old.list) (div_ceil (end + 1) 8)) }
-    ensures bits { OnOk result (Writes (lengthened bytes.old.list bytes.new.list) bytes.new.list end (v ∷ [])) }
+    ensures len { OnOk result (length bytes.new.list
+        ≡ max (length bytes.old.list) (div_ceil (end + 1) 8)) }
+    ensures bits { OnOk result (Writes (lengthened bytes.old.list bytes.new.list) bytes.new.list
+        end (v ∷ [])) }
     ensures alignment { bytes.new.alignment ≡ bytes.old.alignment }
     ensures room { bytes.old.room ≤ bytes.new.room }
     ensures in_room { end + 1 ≤ 8 * max (length bytes.old.list) bytes.old.room → IsOk result }
@@ -61,7 +64,8 @@ pub(crate) fn fill<A: Allocator + Clone>(
 pub(crate) fn negate<A: Allocator + Clone>(bytes: &mut ByteBufferMut<A>, offset: usize, len: usize)
     requires inside { offset + len ≤ 8 * length bytes.old.list }
     requires fits { offset + len < 2 ^ 64 }
-    ensures bits { Writes bytes.old.list bytes.new.list offset (negated (bits bytes.old.list offset len)) }
+    ensures bits { Writes bytes.old.list bytes.new.list offset
+        (negated (bits bytes.old.list offset len)) }
     ensures keeps { bytes.new ≡ record bytes.old { list = bytes.new.list } }
 {
     map_words(bytes.as_mut_slice(), offset, len);
@@ -77,8 +81,10 @@ pub(crate) fn push_bits<A: Allocator + Clone>(
 ) -> Result<(), BufferError>
     requires inside { start ≤ 8 * length bytes.old.list }
     requires fits { start + n < 2 ^ 64 }
-    ensures len { OnOk result (length bytes.new.list ≡ max (length bytes.old.list) (div_ceil (start + n) 8)) }
-    ensures bits { OnOk result (Writes (lengthened bytes.old.list bytes.new.list) bytes.new.list start (replicate n v)) }
+    ensures len { OnOk result (length bytes.new.list
+        ≡ max (length bytes.old.list) (div_ceil (start + n) 8)) }
+    ensures bits { OnOk result (Writes (lengthened bytes.old.list bytes.new.list) bytes.new.list
+        start (replicate n v)) }
     ensures alignment { bytes.new.alignment ≡ bytes.old.alignment }
     ensures room { bytes.old.room ≤ bytes.new.room }
     ensures in_room { start + n ≤ 8 * max (length bytes.old.list) bytes.old.room → IsOk result }

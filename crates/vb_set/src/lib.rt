@@ -9,6 +9,7 @@
 pub mod bit_buffer;
 pub mod bit_buffer_mut;
 mod bytes;
+mod shown;
 
 pub use bit_buffer::BitBuffer;
 pub use bit_buffer_mut::BitBufferMut;

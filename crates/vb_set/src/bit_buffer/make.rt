@@ -1,5 +1,6 @@
 //! Sets that are made.
-ghost use Rattle.std.specs.Prelude.{◌≡◌, ◌+◌, ◌*◌, ◌/◌, ◌%◌, ◌≤◌, [], length, drop, replicate, true, false, IfOk, IsOkUnless};
+ghost use Rattle.std.specs.Prelude.{◌≡◌, ◌+◌, ◌*◌, ◌/◌, ◌%◌, ◌^◌, ◌<◌, ◌≤◌, [], true, false};
+ghost use Rattle.std.specs.Prelude.{length, drop, replicate, IfOk, IsOkUnless};
 ghost use Rattle.std.specs.Int.{div_ceil};
 ghost use Rattle.vb_kernel.specs.Bits.{bits};
 
@@ -16,7 +17,9 @@ impl<A: Allocator + Clone> BitBuffer<A> {
     /// no memory is taken.
     pub fn new(buffer: ByteBuffer<A>, len: usize) -> Self
         requires { len ≤ 8 * length buffer.list }
-        ensures { result ≡ record { bits = bits buffer.list 0 len; offset = 0; bytes = buffer.list } }
+        ensures value { result
+            ≡ record { bits = bits buffer.list 0 len; offset = 0; bytes = buffer.list } }
+        ensures len { length result.bits ≡ len }
     {
         BitBuffer::new_with_offset(buffer, len, 0)
     }
@@ -26,12 +29,26 @@ impl<A: Allocator + Clone> BitBuffer<A> {
     /// storage, from the byte of the first bit on; no memory is taken.
     pub fn new_with_offset(buffer: ByteBuffer<A>, len: usize, offset: usize) -> Self
         requires inside { offset + len ≤ 8 * length buffer.list }
-        requires fits { offset + len ≤ usize.MAX }
+        requires fits { offset + len < 2 ^ 64 }
         ensures bits { result.bits ≡ bits buffer.list offset len }
+        ensures len { length result.bits ≡ len }
         ensures offset { result.offset ≡ offset % 8 }
         ensures bytes { result.bytes ≡ drop (offset / 8) buffer.list }
     {
-        let mut buffer = unaligned(buffer);
+        BitBuffer::window_of(unaligned(buffer), len, offset)
+    }
+
+    /// [`new_with_offset`](Self::new_with_offset) of a buffer whose alignment is 1 already.
+    pub(super) fn window_of(buffer: ByteBuffer<A>, len: usize, offset: usize) -> Self
+        requires inside { offset + len ≤ 8 * length buffer.list }
+        requires fits { offset + len < 2 ^ 64 }
+        requires alignment { buffer.alignment ≡ 0 }
+        ensures bits { result.bits ≡ bits buffer.list offset len }
+        ensures len { length result.bits ≡ len }
+        ensures offset { result.offset ≡ offset % 8 }
+        ensures bytes { result.bytes ≡ drop (offset / 8) buffer.list }
+    {
+        let mut buffer = buffer;
         buffer.narrow(offset / 8..buffer.len());
         BitBuffer {
             buffer,
@@ -43,6 +60,7 @@ impl<A: Allocator + Clone> BitBuffer<A> {
     /// `n` bits, all true. Refused by `OutOfMemory` alone.
     pub fn new_set(alloc: A, n: usize) -> Result<Self, BufferError>
         ensures bits { IfOk result (λ s. s.bits ≡ replicate n true) }
+        ensures len { IfOk result (λ s. length s.bits ≡ n) }
         ensures offset { IfOk result (λ s. s.offset ≡ 0) }
         ensures bytes { IfOk result (λ s. length s.bytes ≡ div_ceil n 8) }
         ensures refused { IsOkUnless result BufferError.OutOfMemory }
@@ -53,6 +71,7 @@ impl<A: Allocator + Clone> BitBuffer<A> {
     /// `n` bits, all false. Refused by `OutOfMemory` alone.
     pub fn new_unset(alloc: A, n: usize) -> Result<Self, BufferError>
         ensures bits { IfOk result (λ s. s.bits ≡ replicate n false) }
+        ensures len { IfOk result (λ s. length s.bits ≡ n) }
         ensures offset { IfOk result (λ s. s.offset ≡ 0) }
         ensures bytes { IfOk result (λ s. length s.bytes ≡ div_ceil n 8) }
         ensures refused { IsOkUnless result BufferError.OutOfMemory }
@@ -63,6 +82,7 @@ impl<A: Allocator + Clone> BitBuffer<A> {
     /// `n` bits, all `v`. Refused by `OutOfMemory` alone.
     pub fn full(alloc: A, v: bool, n: usize) -> Result<Self, BufferError>
         ensures bits { IfOk result (λ s. s.bits ≡ replicate n v) }
+        ensures len { IfOk result (λ s. length s.bits ≡ n) }
         ensures offset { IfOk result (λ s. s.offset ≡ 0) }
         ensures bytes { IfOk result (λ s. length s.bytes ≡ div_ceil n 8) }
         ensures refused { IsOkUnless result BufferError.OutOfMemory }
@@ -75,14 +95,5 @@ impl<A: Allocator + Clone> BitBuffer<A> {
         ensures { result ≡ record { bits = []; offset = 0; bytes = [] } }
     {
         BitBuffer::new(Buffer::empty(alloc), 0)
-    }
-
-    /// Leaves no bits and no bytes, with the offset 0. Other owners keep theirs.
-    pub fn clear(&mut self)
-        ensures { self.new ≡ record { bits = []; offset = 0; bytes = [] } }
-    {
-        self.buffer.clear();
-        self.offset = 0;
-        self.len = 0;
     }
 }

@@ -1,9 +1,10 @@
 //! Edits in place.
-ghost use Rattle.std.specs.Prelude.{◌≡◌, ◌+◌, ◌-◌, ◌<◌, ◌≤◌, [], ◌∷◌, true, false, length, take, replicate, slice_set};
+ghost use Rattle.std.specs.Prelude.{◌≡◌, ◌+◌, ◌-◌, ◌<◌, ◌≤◌, [], ◌∷◌, true, false};
+ghost use Rattle.std.specs.Prelude.{length, min, take, replicate, slice_set};
 ghost use Rattle.std.specs.Int.{div_ceil};
 ghost use Rattle.vb_kernel.specs.Edits.{filled};
 ghost use Rattle.vb_kernel.specs.Writes.{Writes};
-ghost use Rattle.vb_set.specs.Changes.{KeepsLayout};
+ghost use Rattle.vb_set.specs.OpenSet.{IsEmptySet, KeepsLayout};
 
 use super::BitBufferMut;
 use crate::bytes::{fill, negate, write_bit};
@@ -42,7 +43,8 @@ impl<A: Allocator + Clone> BitBufferMut<A> {
         self.set_to(i, false);
     }
 
-    /// Makes the bits from `start` up to `end`, `end` excluded, `v`, by words.
+    /// Makes the bits from `start` up to `end`, `end` excluded, `v`, whole bytes at once. No other
+    /// bit of the bytes changes.
     pub fn fill_range(&mut self, start: usize, end: usize, v: bool)
         requires order { start ≤ end }
         requires within { end ≤ length self.old.bits }
@@ -54,15 +56,17 @@ impl<A: Allocator + Clone> BitBufferMut<A> {
         fill(&mut self.buffer, self.offset + start, self.offset + end, v);
     }
 
-    /// Keeps the first `n` bits, and the bytes up to the last of these. Where there are at most
-    /// `n` bits these all stay; with more the set and its bytes are unchanged. Offset and room stay.
+    /// Keeps the first `n` bits, and the bytes up to the last of these. Where there are fewer than
+    /// `n` bits, the set and its bytes are unchanged. Offset and room stay.
     pub fn truncate(&mut self, n: usize)
         ensures bits { self.new.bits ≡ take n self.old.bits }
+        ensures len { length self.new.bits ≡ min n (length self.old.bits) }
         ensures bytes { n ≤ length self.old.bits
             → self.new.bytes ≡ take (div_ceil (self.old.offset + n) 8) self.old.bytes }
         ensures byte_len { n ≤ length self.old.bits
             → length self.new.bytes ≡ div_ceil (self.old.offset + n) 8 }
-        ensures keeps { self.new ≡ record self.old { bits = self.new.bits; bytes = self.new.bytes } }
+        ensures keeps { self.new
+            ≡ record self.old { bits = self.new.bits; bytes = self.new.bytes } }
         ensures past_end { length self.old.bits < n → self.new ≡ self.old }
     {
         if n <= self.len {
@@ -73,7 +77,7 @@ impl<A: Allocator + Clone> BitBufferMut<A> {
 
     /// Leaves no bits and no bytes, with the offset 0. The room doesn't fall.
     pub fn clear(&mut self)
-        ensures left { self.new ≡ record self.old { bits = []; offset = 0; bytes = []; room = self.new.room } }
+        ensures left { IsEmptySet self.old.alignment self.new }
         ensures room { self.old.room ≤ self.new.room }
     {
         self.buffer.clear();
@@ -82,13 +86,14 @@ impl<A: Allocator + Clone> BitBufferMut<A> {
     }
 }
 
-/// Turns over every bit in place, by words. It takes no memory.
+/// Negates every bit in place, by words of eight bytes. It takes no memory, and no bit of the bytes
+/// outside of the set changes.
 #[tactic(auto, using(crate::proofs::SetLemmas::sets))]
 impl<A: Allocator + Clone> Not for BitBufferMut<A> {
     ghost use Rattle.std.specs.Prelude.{◌≡◌};
     ghost use Rattle.vb_kernel.specs.Bits.{negated};
     ghost use Rattle.vb_kernel.specs.Writes.{Writes};
-    ghost use Rattle.vb_set.specs.Changes.{KeepsLayout};
+    ghost use Rattle.vb_set.specs.OpenSet.{KeepsLayout};
 
     type Output = BitBufferMut<A>;
 

@@ -1,0 +1,61 @@
+-- What contracts see of a `BitBufferMut`.
+use Rattle.std.specs.Prelude.{◌≡◌, ℕ, ◌+◌, ◌-◌, ◌*◌, ◌^◌, ◌<◌, ◌≤◌, Bool, List, [], ◌++◌, length, min, max, Result, IsOk, IsOkUnless, IsErrOf, OnErr}
+use Rattle.std.specs.Int.{div_ceil}
+use Rattle.std.specs.List.{refill}
+use Rattle.vb_core.specs.declared.error.BufferError.{BufferError}
+use Rattle.vb_core.specs.declared.error.BufferError.TheVariants.{OutOfMemory, TooManyBits}
+use Rattle.vb_kernel.specs.Bits.{bits}
+use Rattle.vb_kernel.specs.Writes.{Writes, lengthened}
+
+-- a set that one owner edits: its bits, the place of the first one in the bytes, the bytes with the exponent of their alignment, and for how many bits there is room
+pub record OpenSet : Type 0 where
+  pub bits : List Bool
+  pub offset : ℕ
+  pub bytes : List ℕ
+  pub alignment : ℕ
+  pub room : ℕ
+
+-- how many bits from bit o on have room in n bytes, where a bit's number is one of 64 bits
+abbrev pub bit_room : ℕ → ℕ → ℕ
+bit_room n o = min (n * 8) (2 ^ 64 - 1) - o
+
+-- the same set over as many other bytes
+abbrev pub with_bytes : OpenSet → List ℕ → OpenSet
+with_bytes s bytes =
+    let filled = refill (length s.bytes) s.bytes bytes in
+    record s { bits = bits filled s.offset (length s.bits); bytes = filled }
+
+-- no bits and no bytes, with this exponent of their alignment
+pub record IsEmptySet (exponent : ℕ) (s : OpenSet) : Type 0 where
+  pub bits : s.bits ≡ []
+  pub offset : s.offset ≡ 0
+  pub bytes : s.bytes ≡ []
+  pub alignment : s.alignment ≡ exponent
+
+-- an edit in place: offset, alignment, room and the numbers of bits and bytes stay
+pub record KeepsLayout (old new : OpenSet) : Type 0 where
+  pub len : length new.bits ≡ length old.bits
+  pub offset : new.offset ≡ old.offset
+  pub byte_len : length new.bytes ≡ length old.bytes
+  pub alignment : new.alignment ≡ old.alignment
+  pub room : new.room ≡ old.room
+
+-- growth: offset and alignment stay, and the room does not shrink
+pub record Grows (old new : OpenSet) : Type 0 where
+  pub offset : new.offset ≡ old.offset
+  pub alignment : new.alignment ≡ old.alignment
+  pub room : old.room ≤ new.room
+
+-- the n bits of a list are added behind the others, in bytes that are lengthened where they need more
+pub record AddsBits (n : ℕ) (added : List Bool) (old new : OpenSet) : Type 0 where
+  pub bits : new.bits ≡ old.bits ++ added
+  pub len : length new.bits ≡ length old.bits + n
+  pub bytes : Writes (lengthened old.bytes new.bytes) new.bytes (old.offset + length old.bits) added
+  pub byte_len : length new.bytes ≡ max (length old.bytes) (div_ceil (old.offset + length old.bits + n) 8)
+
+-- how a call answers that needs n bits more: within the room it succeeds; it is refused by `TooManyBits` where the bits' numbers would pass 64 bits, else by `OutOfMemory` alone; refused, it leaves the set and its room as they were
+pub record NeedsBits {T : Type 0} (n : ℕ) (result : Result T BufferError) (old new : OpenSet) : Type 0 where
+  pub in_room : length old.bits + n ≤ old.room → IsOk result
+  pub fits : old.offset + length old.bits + n < 2 ^ 64 → IsOkUnless result OutOfMemory
+  pub too_many : 2 ^ 64 ≤ old.offset + length old.bits + n → IsErrOf result TooManyBits
+  pub err : OnErr result (new ≡ old)
