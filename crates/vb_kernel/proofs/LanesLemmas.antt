@@ -6,11 +6,11 @@ use Rattle.std.specs.Simd.Lanes.{Each1, zip2, sum_l, fold_l, number_l, digits_l}
 use Rattle.std.proofs.lemmas.Nat.{and_le_l, or_lt, xor_lt, ones_cat, ones_le_self, shr_split, mod_below, pow_pos}
 use Rattle.std.proofs.lemmas.Simd.{length-zip2, Each1-zip2, Each2-of}
 use Rattle.std.proofs.Math.Nat.{pow-zero, pow-suc, div-lt_iff_lt-mul}
-use Rattle.vb_kernel.specs.Bits.{bits, count}
-use Rattle.vb_kernel.specs.Digits.{has_bit}
-use Rattle.vb_kernel.proofs.BitsLemmas.{same_bits, count-bits_none, count-bits-add}
-use Rattle.vb_kernel.proofs.BytesLemmas.{bits_of_byte, bits_of_read_byte}
-use Rattle.vb_kernel.proofs.DigitsLemmas.{count-digits_below}
+use Rattle.vb_bits.specs.Bits.{bits, count}
+use Rattle.vb_bits.specs.Digits.{has_bit}
+use Rattle.vb_bits.proofs.BitsLemmas.{same_bits, count-bits_none, count-bits-add}
+use Rattle.vb_bits.proofs.BytesLemmas.{bits_of_byte, bits_of_read_byte}
+use Rattle.vb_bits.proofs.DigitsLemmas.{count-digits_below}
 use Rattle.vb_kernel.specs.Lanes.{Words, ones}
 use Rattle.vb_kernel.proofs.AdderLemmas.{ones-adder}
 

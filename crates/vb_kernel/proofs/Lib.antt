@@ -1,12 +1,5 @@
-pub mod RangeLemmas
-pub mod BitsLemmas
-pub mod PlacesLemmas
-pub mod DigitsLemmas
-pub mod BytesLemmas
 pub mod SearchesLemmas
 pub mod UnitsLemmas
-pub mod WindowLemmas
-pub mod WritesLemmas
 pub mod WordLemmas
 pub mod AdderLemmas
 pub mod LanesLemmas

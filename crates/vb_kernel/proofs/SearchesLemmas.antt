@@ -6,11 +6,11 @@ use Rattle.std.specs.ControlFlow.{break_value}
 use Rattle.std.proofs.lemmas.List.{length-map, map-append, length-append, get_or_append_left, get_or-append-add, take-append-le}
 use Rattle.std.proofs.Math.Seq.{take-append_seam, take-append-add}
 use Rattle.std.proofs.lemmas.Bool.{cases_lt}
-use Rattle.vb_kernel.specs.Bits.{bits, count, negated, Selects}
-use Rattle.vb_kernel.specs.Digits.{digits}
+use Rattle.vb_bits.specs.Bits.{bits, count, negated, Selects}
+use Rattle.vb_bits.specs.Digits.{digits}
 use Rattle.vb_kernel.specs.Searches.{matching, Searched}
-use Rattle.vb_kernel.proofs.BitsLemmas.{bits-add, length-bits, count-append, count-le, count-take-lt, count-take-mono, count-bits_none, count-negated, count-negated_none}
-use Rattle.vb_kernel.proofs.DigitsLemmas.{digits-add, count-digits_below}
+use Rattle.vb_bits.proofs.BitsLemmas.{bits-add, length-bits, count-append, count-le, count-take-lt, count-take-mono, count-bits_none, count-negated, count-negated_none}
+use Rattle.vb_bits.proofs.DigitsLemmas.{digits-add, count-digits_below}
 
 -- ---- a place in two lists, one after the other
 -- found in the first

@@ -4,9 +4,9 @@ use Rattle.std.proofs.Math.Nat.{mul-zero, mul-add, mul-one}
 use Rattle.std.proofs.lemmas.Nat.{column_fits}
 use Rattle.std.below.core.specs.declared.ops.ControlFlow.TheVariants.{Break}
 use Rattle.std.specs.Prelude.{slice_range}
-use Rattle.vb_kernel.specs.Bits.{bits, count}
+use Rattle.vb_bits.specs.Bits.{bits, count}
 use Rattle.vb_kernel.specs.Searches.{matching, Searched}
-use Rattle.vb_kernel.proofs.BytesLemmas.{bits_of_read}
+use Rattle.vb_bits.proofs.BytesLemmas.{bits_of_read}
 use Rattle.vb_kernel.proofs.SearchesLemmas.{count-matching-bits-add, Searched_after, Searched_longer}
 
 -- no unit has bits

@@ -4,11 +4,11 @@ use Rattle.std.specs.List.{range_with_len}
 use Rattle.std.proofs.lemmas.List.{get_or-take, get_or-map, get_or_append_left}
 use Rattle.std.proofs.lemmas.List.FromFn.{get_or-map-range_with_len}
 use Rattle.vb_kernel.specs.declared.word.TheConstants.{PLACES}
-use Rattle.vb_kernel.specs.Bits.{count, places, Selects}
-use Rattle.vb_kernel.specs.Digits.{digits}
-use Rattle.vb_kernel.proofs.BitsLemmas.{count-cons, count-le}
-use Rattle.vb_kernel.proofs.PlacesLemmas.{places_cons, length-places}
-use Rattle.vb_kernel.proofs.DigitsLemmas.{length-digits, digits-add}
+use Rattle.vb_bits.specs.Bits.{count, places, Selects}
+use Rattle.vb_bits.specs.Digits.{digits}
+use Rattle.vb_bits.proofs.BitsLemmas.{count-cons, count-le}
+use Rattle.vb_bits.proofs.PlacesLemmas.{places_cons, length-places}
+use Rattle.vb_bits.proofs.DigitsLemmas.{length-digits, digits-add}
 use Rattle.vb_kernel.proofs.SearchesLemmas.{Selects-append_left, Selects-append_right}
 
 -- found among some of a word's digits

@@ -4,7 +4,7 @@ use Rattle.std.below.core.specs.declared.int.usize.TheConstants.{MAX}
 use Rattle.std.below.core.specs.declared.ops.ControlFlow.{ControlFlow}
 use Rattle.std.below.core.specs.declared.ops.ControlFlow.TheVariants.{Continue, Break}
 use Rattle.vb_kernel.specs.declared.search.Search.{Search}
-use Rattle.vb_kernel.specs.Bits.{bits, count, negated, Selects}
+use Rattle.vb_bits.specs.Bits.{bits, count, negated, Selects}
 
 -- for each value, whether it is v
 abbrev pub matching : Bool → List Bool → List Bool

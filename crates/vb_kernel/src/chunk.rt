@@ -1,10 +1,10 @@
 //! Counting and selecting within a chunk of 64 bytes.
 ghost use Rattle.std.specs.Prelude.{◌≡◌, ℕ, ◌+◌, ◌*◌, ◌<◌, ◌≤◌, Some, length};
 ghost use Rattle.std.below.core.specs.declared.int.usize.TheConstants.{MAX};
-ghost use Rattle.vb_kernel.specs.Bits.{bits, count, Selects};
+ghost use Rattle.vb_bits.specs.Bits.{bits, count, Selects};
 ghost use Rattle.vb_kernel.specs.Searches.{matching, Searched};
 
-use crate::bytes::word_at;
+use vb_bits::word_at;
 use crate::glance::{Glance, Plain};
 use crate::search::{Search, find_in_units};
 use crate::unit::Unit;

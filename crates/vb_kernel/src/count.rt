@@ -4,15 +4,15 @@
 //! does: whole vectors first, many of them by carry-save adders, and what is left by words and
 //! bytes. The compiler chooses the count of a word or vector.
 ghost use Rattle.std.specs.Prelude.{◌≡◌, ℕ, ◌+◌, ◌*◌, ◌%◌, ◌<◌, ◌≤◌, length, min};
-ghost use Rattle.vb_kernel.specs.Bits.{bits, count};
+ghost use Rattle.vb_bits.specs.Bits.{bits, count};
 ghost use Rattle.vb_kernel.specs.Looks.{looks};
-ghost use Rattle.vb_kernel.specs.Windows.{rest_looks};
+ghost use Rattle.vb_kernel.specs.Parts.{rest_looks};
 
 use crate::chunk::{LaneSum, chunk_ones};
 use crate::counter::Counter;
 use crate::glance::{Glance, Plain};
 use crate::unit::Unit;
-use crate::window::Parts;
+use crate::parts::Parts;
 use crate::word::byte_part;
 
 /// From so many chunks on, adders are faster than the counts of words. Where a vector has 32 bytes
@@ -32,7 +32,7 @@ pub fn count_ones(bytes: &[u8], offset: usize, len: usize) -> usize
 ///
 /// It looks once at a partial first byte, once at each 64 whole bytes, once at each eight of those
 /// left, once at each byte then left, and once at a partial last byte.
-#[tactic(auto, using(crate::proofs::BitsLemmas::windows))]
+#[tactic(auto, using(vb_bits::proofs::BitsLemmas::windows))]
 pub fn count_ones_by<G: Glance>(src: &mut G, offset: usize, len: usize) -> usize
     requires inside { offset + len ≤ 8 * length (G.bytes src.old) }
     requires fits { offset + len ≤ usize.MAX }
@@ -50,7 +50,7 @@ pub fn count_ones_by<G: Glance>(src: &mut G, offset: usize, len: usize) -> usize
 }
 
 /// Counts `len` bits from bit `at` on, by words and bytes.
-#[tactic(auto, using(crate::proofs::BitsLemmas::windows))]
+#[tactic(auto, using(vb_bits::proofs::BitsLemmas::windows))]
 fn count_rest<G: Glance>(src: &mut G, at: usize, len: usize) -> usize
     requires aligned { 0 < len → at % 8 ≡ 0 }
     requires inside { at + len ≤ 8 * length (G.bytes src.old) }
@@ -72,7 +72,7 @@ fn count_rest<G: Glance>(src: &mut G, at: usize, len: usize) -> usize
 }
 
 /// Counts `len` bits that lie in one byte, from bit `at` on.
-#[tactic(auto, using(crate::proofs::BitsLemmas::windows))]
+#[tactic(auto, using(vb_bits::proofs::BitsLemmas::windows))]
 fn count_part<G: Glance>(src: &mut G, at: usize, len: usize) -> usize
     requires in_byte { 0 < len → at % 8 + len ≤ 8 }
     requires inside { at + len ≤ 8 * length (G.bytes src.old) }
@@ -87,7 +87,7 @@ fn count_part<G: Glance>(src: &mut G, at: usize, len: usize) -> usize
 }
 
 /// Counts `n` units from bit `at` on, one by one.
-#[tactic(auto, using(crate::proofs::BitsLemmas::windows))]
+#[tactic(auto, using(vb_bits::proofs::BitsLemmas::windows))]
 fn count_units<U: Unit, G: Glance>(src: &mut G, at: usize, n: usize) -> usize
     requires aligned { 0 < n → at % 8 ≡ 0 }
     requires inside { at + 8 * (U.SIZE * n) ≤ 8 * length (G.bytes src.old) }
@@ -104,7 +104,7 @@ fn count_units<U: Unit, G: Glance>(src: &mut G, at: usize, n: usize) -> usize
 }
 
 /// Adds to `ones` the true bits of `n` chunks from bit `at` on.
-#[tactic(auto, using(crate::proofs::BitsLemmas::windows))]
+#[tactic(auto, using(vb_bits::proofs::BitsLemmas::windows))]
 fn add_chunks<G: Glance>(src: &mut G, at: usize, n: usize, ones: usize) -> usize
     requires aligned { 0 < n → at % 8 ≡ 0 }
     requires inside { at + 512 * n ≤ 8 * length (G.bytes src.old) }
@@ -125,7 +125,7 @@ fn add_chunks<G: Glance>(src: &mut G, at: usize, n: usize, ones: usize) -> usize
 ///
 /// Fewer than [`MANY`] are counted by their words, more by sixteen, and what is left by words. It
 /// isn't inlined: callers with few chunks then keep nothing over it.
-#[tactic(auto, using(crate::proofs::BitsLemmas::windows))]
+#[tactic(auto, using(vb_bits::proofs::BitsLemmas::windows))]
 #[inline(never)]
 pub(crate) fn count_chunks<G: Glance>(src: &mut G, at: usize, n: usize) -> usize
     requires inside { at + 64 * n ≤ length (G.bytes src.old) }
@@ -147,7 +147,7 @@ pub(crate) fn count_chunks<G: Glance>(src: &mut G, at: usize, n: usize) -> usize
 /// Two chunks a turn, which are summed before their sum is added: a compiler that counts the bits
 /// of bytes then adds those counts as bytes and widens them once a turn. It isn't inlined: among the
 /// sums of other parts the compiler no longer sees its four as the lanes of one vector.
-#[tactic(auto, using(crate::proofs::BitsLemmas::windows))]
+#[tactic(auto, using(vb_bits::proofs::BitsLemmas::windows))]
 #[inline(never)]
 fn count_few<G: Glance>(src: &mut G, at: usize, n: usize) -> usize
     requires inside { at + 64 * n ≤ length (G.bytes src.old) }
@@ -165,7 +165,7 @@ fn count_few<G: Glance>(src: &mut G, at: usize, n: usize) -> usize
 
 /// Counts the chunks of four quarters, one behind another from byte `at` on, each of `turns` times
 /// four chunks: four of each quarter a turn, so that memory is read ahead at four places.
-#[tactic(auto, using(crate::proofs::BitsLemmas::windows))]
+#[tactic(auto, using(vb_bits::proofs::BitsLemmas::windows))]
 #[inline(never)]
 fn count_quarters<G: Glance>(src: &mut G, at: usize, turns: usize) -> usize
     requires inside { at + 1024 * turns ≤ length (G.bytes src.old) }
@@ -184,7 +184,7 @@ fn count_quarters<G: Glance>(src: &mut G, at: usize, turns: usize) -> usize
 /// Counts `n` chunks from byte `at` on, one by one.
 ///
 /// A loop also for two, since a compiler that saw one sum would add to the whole one by one.
-#[tactic(auto, using(crate::proofs::BitsLemmas::windows))]
+#[tactic(auto, using(vb_bits::proofs::BitsLemmas::windows))]
 #[inline(always)]
 fn sum_chunks<G: Glance>(src: &mut G, at: usize, n: usize) -> LaneSum
     requires inside { at + 64 * n ≤ length (G.bytes src.old) }

@@ -4,7 +4,7 @@
 //! Adders collect the true bits of sixteen vectors into one, and so the bits of one vector are
 //! counted in the place of sixteen.
 ghost use Rattle.std.specs.Prelude.{◌≡◌, ℕ, ◌+◌, ◌*◌, ◌<◌, ◌≤◌, length};
-ghost use Rattle.vb_kernel.specs.Bits.{bits, count};
+ghost use Rattle.vb_bits.specs.Bits.{bits, count};
 
 use crate::glance::Glance;
 use crate::lanes::{Ones, Sums, full_add};

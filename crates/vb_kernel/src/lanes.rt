@@ -2,7 +2,7 @@
 ghost use Rattle.std.specs.Prelude.{◌≡◌, ℕ, ◌+◌, ◌*◌, ◌<◌, ◌≤◌, ◌^◌, length};
 ghost use Rattle.std.below.core.specs.declared.int.usize.TheConstants.{MAX};
 ghost use Rattle.std.specs.Simd.Lanes.{sum_l};
-ghost use Rattle.vb_kernel.specs.Bits.{bits, count};
+ghost use Rattle.vb_bits.specs.Bits.{bits, count};
 ghost use Rattle.vb_kernel.specs.Lanes.{Words, ones};
 
 use std::marker::Model;

@@ -7,27 +7,23 @@
 //! [`count_ones_by`] for the exact number, and [`most_looks`] for a bound on it.
 #![tactic(auto)]
 
-mod bit;
-mod bytes;
 mod chunk;
 mod count;
 mod counter;
-mod fill;
 mod glance;
 mod lanes;
 mod looks;
-mod map;
+mod parts;
 mod search;
 mod select;
 mod unit;
-mod window;
 mod word;
 
-pub use bit::{get_bit, get_bit_unchecked, set_bit_to, set_bit_unchecked, unset_bit_unchecked};
 pub use count::{count_ones, count_ones_by};
-pub use fill::fill_bits;
 pub use glance::{Glance, Plain, Tally};
 pub use looks::most_looks;
-pub use map::map_words;
 pub use select::{bit_select, bit_select_by, bit_select_unset, bit_select_unset_by};
-pub use window::window_fits;
+pub use vb_bits::{
+    fill_bits, get_bit, get_bit_unchecked, map_words, set_bit_to, set_bit_unchecked,
+    unset_bit_unchecked, window_fits,
+};

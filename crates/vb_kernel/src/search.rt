@@ -1,7 +1,7 @@
 //! Searches of parts of a window for a bit by its rank.
 ghost use Rattle.std.specs.Prelude.{◌≡◌, ℕ, ◌+◌, ◌*◌, ◌/◌, ◌%◌, ◌<◌, ◌≤◌, min};
 ghost use Rattle.vb_kernel.specs.Searches.{IsWithin, Finds};
-ghost use Rattle.vb_kernel.specs.Windows.{rest_looks};
+ghost use Rattle.vb_kernel.specs.Parts.{rest_looks};
 
 use crate::glance::Glance;
 use crate::unit::Unit;

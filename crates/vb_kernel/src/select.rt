@@ -1,15 +1,15 @@
 //! The place of a bit by its rank.
 ghost use Rattle.std.specs.Prelude.{◌≡◌, ℕ, ◌+◌, ◌*◌, ◌/◌, ◌%◌, ◌<◌, ◌≤◌, length};
-ghost use Rattle.vb_kernel.specs.Bits.{bits, count, negated, Selects, AnswersEach};
+ghost use Rattle.vb_bits.specs.Bits.{bits, count, negated, Selects, AnswersEach};
 ghost use Rattle.vb_kernel.specs.Looks.{looks};
 ghost use Rattle.vb_kernel.specs.Searches.{matching, Searched, IsWithin, Finds};
-ghost use Rattle.vb_kernel.specs.Windows.{rest_looks};
+ghost use Rattle.vb_kernel.specs.Parts.{rest_looks};
 
 use crate::chunk::find_in_chunk;
 use crate::count::count_chunks;
 use crate::glance::{Glance, Plain};
 use crate::search::{Search, find_in_part, find_in_rest, find_in_units};
-use crate::window::Parts;
+use crate::parts::Parts;
 use std::ops::ControlFlow;
 
 /// Fewer chunks than these are searched by their words at once, which takes no longer than to count
@@ -187,7 +187,7 @@ fn pass_chunks<G: Glance>(
 }
 
 /// How many bits of `n` chunks from byte `at` on are `value`.
-#[tactic(auto, using(crate::proofs::BitsLemmas::windows))]
+#[tactic(auto, using(vb_bits::proofs::BitsLemmas::windows))]
 fn count_matching<G: Glance>(src: &mut G, at: usize, n: usize, value: bool) -> usize
     requires inside { at + 64 * n ≤ length (G.bytes src.old) }
     requires fits { 8 * at + 512 * n ≤ usize.MAX }

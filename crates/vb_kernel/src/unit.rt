@@ -1,7 +1,7 @@
 //! What one look reads: a byte, a word of eight bytes or a chunk of 64.
 ghost use Rattle.std.specs.Prelude.{◌≡◌, ℕ, ◌+◌, ◌*◌, ◌<◌, ◌≤◌, List, [], ◌∷◌, Some, length, slice_range};
 ghost use Rattle.std.specs.Int.{w64, to_le_bytes};
-ghost use Rattle.vb_kernel.specs.Bits.{bits, count, Selects};
+ghost use Rattle.vb_bits.specs.Bits.{bits, count, Selects};
 ghost use Rattle.vb_kernel.specs.Searches.{matching};
 
 use crate::glance::Glance;

@@ -1,8 +1,8 @@
 //! Counting and selecting within one word.
 ghost use Rattle.std.specs.Prelude.{◌≡◌, ℕ, ◌+◌, ◌*◌, ◌^◌, ◌<◌, ◌≤◌, [], ◌∷◌, Some};
 ghost use Rattle.std.specs.Int.{w64, to_le_bytes};
-ghost use Rattle.vb_kernel.specs.Bits.{bits, count, Selects};
-ghost use Rattle.vb_kernel.specs.Digits.{digits};
+ghost use Rattle.vb_bits.specs.Bits.{bits, count, Selects};
+ghost use Rattle.vb_bits.specs.Digits.{digits};
 ghost use Rattle.vb_kernel.specs.Searches.{matching};
 
 /// The `len` bits of `byte` from bit `from` on as the lowest digits of a word, each 1 where the bit

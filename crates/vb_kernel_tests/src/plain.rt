@@ -5,7 +5,7 @@ ghost use Rattle.vb_kernel.specs.Bits.{bits, count, negated, Selects};
 use vb_kernel::get_bit;
 
 /// How many bits of the window are true.
-#[tactic(auto, using(vb_kernel::proofs::BitsLemmas::windows))]
+#[tactic(auto, using(vb_bits::proofs::BitsLemmas::windows))]
 pub(crate) fn count_ones(bytes: &[u8], offset: usize, len: usize) -> usize
     requires inside { offset + len ≤ 8 * length bytes.now }
     requires fits { offset + len ≤ usize.MAX }
@@ -21,7 +21,7 @@ pub(crate) fn count_ones(bytes: &[u8], offset: usize, len: usize) -> usize
 }
 
 /// The place of the `n`-th true bit of the window.
-#[tactic(auto, using(vb_kernel::proofs::BitsLemmas::windows))]
+#[tactic(auto, using(vb_bits::proofs::BitsLemmas::windows))]
 pub(crate) fn bit_select(bytes: &[u8], offset: usize, len: usize, n: usize) -> Option<usize>
     requires inside { offset + len ≤ 8 * length bytes.now }
     requires fits { offset + len ≤ usize.MAX }
@@ -40,7 +40,7 @@ pub(crate) fn bit_select(bytes: &[u8], offset: usize, len: usize, n: usize) -> O
 }
 
 /// The place of the `n`-th false bit of the window.
-#[tactic(auto, using(vb_kernel::proofs::BitsLemmas::windows))]
+#[tactic(auto, using(vb_bits::proofs::BitsLemmas::windows))]
 pub(crate) fn bit_select_unset(bytes: &[u8], offset: usize, len: usize, n: usize) -> Option<usize>
     requires inside { offset + len ≤ 8 * length bytes.now }
     requires fits { offset + len ≤ usize.MAX }

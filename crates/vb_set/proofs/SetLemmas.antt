@@ -2,9 +2,9 @@
 use Rattle.std.proofs.Common.{◌≡◌, ℕ, ◌*◌, ◌^◌, ◌<◌, ◌≤◌, Bool, List, length, take, ap, sym, ◌∙◌, arith}
 use Rattle.std.proofs.lemmas.List.{length-take}
 use Rattle.vb_kernel.specs.Bits.{bits}
-use Rattle.vb_kernel.proofs.BitsLemmas.{length-bits}
-use Rattle.vb_kernel.proofs.WindowLemmas.{bits-take_bytes, windows}
-use Rattle.vb_kernel.proofs.WritesLemmas.{writes}
+use Rattle.vb_bits.proofs.BitsLemmas.{length-bits}
+use Rattle.vb_bits.proofs.WindowLemmas.{bits-take_bytes, windows}
+use Rattle.vb_bits.proofs.WritesLemmas.{writes}
 use Rattle.vb_set.specs.Windows.{IsWindow}
 
 -- a window that begins with the first byte, of the first m bytes

@@ -123,7 +123,7 @@ pub(crate) fn reserve_to<A: Allocator + Clone>(
 }
 
 /// The byte whose bits are all `v`.
-#[tactic(auto, using(vb_kernel::proofs::WindowLemmas::bytes_of_one))]
+#[tactic(auto, using(vb_bits::proofs::WindowLemmas::bytes_of_one))]
 pub(crate) fn byte_of(v: bool) -> u8
     ensures { (i : ℕ) → i < 8 → has_bit result i ≡ v }
 {

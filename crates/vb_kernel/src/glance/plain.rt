@@ -2,7 +2,7 @@
 ghost use Rattle.std.specs.Prelude.{◌≡◌};
 ghost use Rattle.vb_kernel.specs.Looks.{CountedBytes};
 
-use crate::bytes::{chunk_at, word_at};
+use vb_bits::{chunk_at, word_at};
 use crate::glance::Glance;
 use ghost_count::GhostCount;
 use std::marker::Model;

@@ -1,5 +1,5 @@
 use Rattle.std.proofs.Common.{sym, subst, ◌∙◌}
-use Rattle.vb_kernel.specs.Bits.{bits, Selects}
+use Rattle.vb_bits.specs.Bits.{bits, Selects}
 use Rattle.vb_kernel.specs.Searches.{matching}
 use Rattle.vb_kernel.proofs.SearchesLemmas.{Searched-Selects, IsSome-Selects}
 use Rattle.vb_kernel.proofs.chunk.select_in_chunk.Goals as goal

@@ -1,8 +1,8 @@
 use Rattle.std.proofs.Common.{◌*◌, ap, sym, refl, arith, ◌∙◌}
 use Rattle.std.specs.Int.{to_le_bytes, w64}
-use Rattle.vb_kernel.specs.Bits.{count}
-use Rattle.vb_kernel.proofs.BytesLemmas.{bits-to_le_bytes, bits_of_read}
-use Rattle.vb_kernel.proofs.DigitsLemmas.{count-digits_below}
+use Rattle.vb_bits.specs.Bits.{count}
+use Rattle.vb_bits.proofs.BytesLemmas.{bits-to_le_bytes, bits_of_read}
+use Rattle.vb_bits.proofs.DigitsLemmas.{count-digits_below}
 use Rattle.vb_kernel.proofs.chunk.word_ones.Goals as goal
 
 pub returns-clause-value : goal.returns-clause-value

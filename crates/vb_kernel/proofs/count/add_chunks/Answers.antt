@@ -1,6 +1,6 @@
 use Rattle.std.proofs.Common.{◌*◌, ◌/◌, ap, refl, arith}
-use Rattle.vb_kernel.specs.Bits.{bits, count}
-use Rattle.vb_kernel.proofs.BytesLemmas.{bits_of_read}
+use Rattle.vb_bits.specs.Bits.{bits, count}
+use Rattle.vb_bits.proofs.BytesLemmas.{bits_of_read}
 use Rattle.vb_kernel.proofs.count.add_chunks.Goals as goal
 
 pub returns-in-1-clause-value : goal.returns-in-1-clause-value

@@ -1,5 +1,5 @@
 use Rattle.std.proofs.Common.{◌+◌, ◌*◌, ◌/◌, ◌%◌, ℕ, List, true, ap, arith, ◌∙◌}
-use Rattle.vb_kernel.specs.Bits.{bits, count}
+use Rattle.vb_bits.specs.Bits.{bits, count}
 use Rattle.vb_kernel.proofs.SearchesLemmas.{count-matching-bits_split}
 use Rattle.vb_kernel.proofs.count.count_few.Goals as goal
 

@@ -1,5 +1,5 @@
 use Rattle.std.proofs.Common.{◌+◌, ◌*◌, ℕ, List, true, refl, arith, ◌∙◌}
-use Rattle.vb_kernel.specs.declared.window.Parts.{Parts}
+use Rattle.vb_kernel.specs.declared.parts.Parts.{Parts}
 use Rattle.vb_kernel.proofs.SearchesLemmas.{count-matching-bits_split}
 use Rattle.vb_kernel.proofs.count.count_ones_by.Goals as goal
 

@@ -1,7 +1,7 @@
 use Rattle.std.proofs.Common.{ap, sym, arith, ◌∙◌}
-use Rattle.vb_kernel.specs.Bits.{count}
-use Rattle.vb_kernel.proofs.BytesLemmas.{bits_of_read_byte}
-use Rattle.vb_kernel.proofs.DigitsLemmas.{count-digits_below}
+use Rattle.vb_bits.specs.Bits.{count}
+use Rattle.vb_bits.proofs.BytesLemmas.{bits_of_read_byte}
+use Rattle.vb_bits.proofs.DigitsLemmas.{count-digits_below}
 use Rattle.vb_kernel.proofs.count.count_part.Goals as goal
 
 pub returns-clause-value : goal.returns-clause-value

@@ -1,6 +1,6 @@
 use Rattle.std.proofs.Common.{◌≡◌, ◌+◌, ◌*◌, ℕ, List, true, ap, sym, refl, arith, ◌∙◌}
-use Rattle.vb_kernel.specs.Bits.{bits, count}
-use Rattle.vb_kernel.proofs.BitsLemmas.{count-bits_none, count-bits-le}
+use Rattle.vb_bits.specs.Bits.{bits, count}
+use Rattle.vb_bits.proofs.BitsLemmas.{count-bits_none, count-bits-le}
 use Rattle.vb_kernel.proofs.UnitsLemmas.{units_none, units_more, units_within, bits_of_unit, count_unit_more}
 use Rattle.vb_kernel.proofs.count.count_units.Given.{Over}
 use Rattle.vb_kernel.proofs.count.count_units.Goals as goal

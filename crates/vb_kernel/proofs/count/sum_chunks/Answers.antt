@@ -1,5 +1,5 @@
 use Rattle.std.proofs.Common.{◌+◌, ◌*◌, ℕ, List, true, arith, ◌∙◌}
-use Rattle.vb_kernel.proofs.BytesLemmas.{bits_of_read}
+use Rattle.vb_bits.proofs.BytesLemmas.{bits_of_read}
 use Rattle.vb_kernel.proofs.UnitsLemmas.{count_unit_more}
 use Rattle.vb_kernel.proofs.count.sum_chunks.Goals as goal
 

@@ -1,5 +1,5 @@
 use Rattle.std.proofs.Common.{◌≡◌, ◌+◌, ◌*◌}
-use Rattle.vb_kernel.specs.Bits.{bits, count}
+use Rattle.vb_bits.specs.Bits.{bits, count}
 use Rattle.vb_kernel.proofs.count.sum_chunks.Given as goal
 
 abbrev pub invariant-loop-k : goal.invariant-loop-k

@@ -1,6 +1,6 @@
 use Rattle.std.proofs.Common.{◌*◌, refl, ap, ◌∙◌}
-use Rattle.vb_kernel.specs.Bits.{count}
-use Rattle.vb_kernel.proofs.BytesLemmas.{bits_of_read}
+use Rattle.vb_bits.specs.Bits.{count}
+use Rattle.vb_bits.proofs.BytesLemmas.{bits_of_read}
 use Rattle.vb_kernel.proofs.counter.ones_at.Goals as goal
 
 pub returns-clause-value : goal.returns-clause-value

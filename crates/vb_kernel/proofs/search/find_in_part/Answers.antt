@@ -1,9 +1,9 @@
 use Rattle.std.proofs.Common.{◌+◌, ℕ, List, Bool, Some, ap, subst, refl, arith, ◌∙◌}
 use Rattle.std.below.core.specs.declared.ops.ControlFlow.TheVariants.{Break}
-use Rattle.vb_kernel.specs.Bits.{bits, count, Selects}
+use Rattle.vb_bits.specs.Bits.{bits, count, Selects}
 use Rattle.vb_kernel.specs.Searches.{matching, Searched}
-use Rattle.vb_kernel.proofs.BytesLemmas.{bits_of_read_byte}
-use Rattle.vb_kernel.proofs.DigitsLemmas.{count-digits_below}
+use Rattle.vb_bits.proofs.BytesLemmas.{bits_of_read_byte}
+use Rattle.vb_bits.proofs.DigitsLemmas.{count-digits_below}
 use Rattle.vb_kernel.proofs.SearchesLemmas.{count-matching-bits-add, Searched_inside, Searched_after, Selects-digits_below}
 use Rattle.vb_kernel.proofs.search.find_in_part.Given.{Over}
 use Rattle.vb_kernel.proofs.search.find_in_part.Goals as goal

@@ -1,6 +1,6 @@
 use Rattle.std.proofs.Common.{◌+◌, ◌*◌, ◌/◌, ◌%◌, ℕ, List, Bool, refl, arith, ◌∙◌}
 use Rattle.std.below.core.specs.declared.ops.ControlFlow.TheVariants.{Continue, Break}
-use Rattle.vb_kernel.specs.Bits.{bits, count}
+use Rattle.vb_bits.specs.Bits.{bits, count}
 use Rattle.vb_kernel.specs.Searches.{matching}
 use Rattle.vb_kernel.proofs.SearchesLemmas.{Searched_on, Searched_longer}
 use Rattle.vb_kernel.proofs.search.find_in_rest.Goals as goal

@@ -1,6 +1,6 @@
 use Rattle.std.proofs.Common.{◌+◌, ◌*◌, ℕ, List, refl, arith, ◌∙◌, ap}
 use Rattle.std.below.core.specs.declared.ops.ControlFlow.TheVariants.{Break}
-use Rattle.vb_kernel.specs.Bits.{bits, count}
+use Rattle.vb_bits.specs.Bits.{bits, count}
 use Rattle.vb_kernel.specs.Searches.{matching, Searched}
 use Rattle.vb_kernel.proofs.SearchesLemmas.{Searched_inside}
 use Rattle.vb_kernel.proofs.UnitsLemmas.{units_none, units_more, units_within, bits_of_unit, count_unit_more, found_in_unit}

@@ -1,6 +1,6 @@
 use Rattle.std.specs.ControlFlow.{break_value}
-use Rattle.vb_kernel.specs.Bits.{bits, negated}
-use Rattle.vb_kernel.proofs.BitsLemmas.{Selects-AnswersEach}
+use Rattle.vb_bits.specs.Bits.{bits, negated}
+use Rattle.vb_bits.proofs.BitsLemmas.{Selects-AnswersEach}
 use Rattle.vb_kernel.proofs.SearchesLemmas.{Searched-Selects}
 use Rattle.vb_kernel.proofs.select.bit_select_unset_by.Goals as goal
 

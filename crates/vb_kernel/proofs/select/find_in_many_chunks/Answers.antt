@@ -1,6 +1,6 @@
 use Rattle.std.proofs.Common.{◌≡◌, ◌+◌, ◌-◌, ◌*◌, ◌/◌, ◌%◌, ℕ, List, Bool, arith, ◌∙◌}
 use Rattle.std.below.core.specs.declared.ops.ControlFlow.TheVariants.{Continue, Break}
-use Rattle.vb_kernel.specs.Bits.{bits, count}
+use Rattle.vb_bits.specs.Bits.{bits, count}
 use Rattle.vb_kernel.specs.Searches.{matching}
 use Rattle.vb_kernel.proofs.SearchesLemmas.{Searched_on, Searched_longer, count-matching-bits-add}
 use Rattle.vb_kernel.proofs.select.find_in_many_chunks.Goals as goal

@@ -1,5 +1,5 @@
 use Rattle.std.proofs.Common.{◌≡◌, ◌+◌, ◌*◌, ◌/◌, ℕ, List, Bool, refl, arith, ◌∙◌}
-use Rattle.vb_kernel.specs.Bits.{bits, count}
+use Rattle.vb_bits.specs.Bits.{bits, count}
 use Rattle.vb_kernel.specs.Searches.{matching}
 use Rattle.vb_kernel.proofs.SearchesLemmas.{count-matching-bits-le, count-matching-bits_none, count-matching-bits_split}
 use Rattle.vb_kernel.proofs.select.pass_chunks.Goals as goal

@@ -1,9 +1,9 @@
 use Rattle.std.proofs.Common.{ap, sym, arith, ◌∙◌}
 use Rattle.std.specs.Int.{w8}
-use Rattle.vb_kernel.specs.Bits.{negated}
-use Rattle.vb_kernel.specs.Digits.{digits}
-use Rattle.vb_kernel.proofs.BytesLemmas.{bits_of_byte}
-use Rattle.vb_kernel.proofs.DigitsLemmas.{digits_masked, digits-bit_not}
+use Rattle.vb_bits.specs.Bits.{negated}
+use Rattle.vb_bits.specs.Digits.{digits}
+use Rattle.vb_bits.proofs.BytesLemmas.{bits_of_byte}
+use Rattle.vb_bits.proofs.DigitsLemmas.{digits_masked, digits-bit_not}
 use Rattle.vb_kernel.proofs.SearchesLemmas.{matching_true, matching_false}
 use Rattle.vb_kernel.proofs.word.byte_part.Goals as goal
 use Rattle.vb_kernel.proofs.word.byte_part.Goals.{then-value, else-value}

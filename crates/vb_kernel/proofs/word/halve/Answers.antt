@@ -1,7 +1,7 @@
 use Rattle.std.proofs.Common.{◌≡◌, ◌+◌, ◌*◌, ap, arith, zero-add}
-use Rattle.vb_kernel.specs.Bits.{count}
-use Rattle.vb_kernel.specs.Digits.{digits}
-use Rattle.vb_kernel.proofs.DigitsLemmas.{count-digits-add, ones_masked}
+use Rattle.vb_bits.specs.Bits.{count}
+use Rattle.vb_bits.specs.Digits.{digits}
+use Rattle.vb_bits.proofs.DigitsLemmas.{count-digits-add, ones_masked}
 use Rattle.vb_kernel.proofs.word.halve.Goals as goal
 
 pub returns-then-left-ones-clause-here : goal.returns-then-left-ones-clause-here

@@ -1,8 +1,8 @@
 use Rattle.std.proofs.Common.{◌/◌, ◌^◌, arith}
 use Rattle.std.specs.Prelude.{bit_and}
-use Rattle.vb_kernel.specs.Digits.{digits}
-use Rattle.vb_kernel.proofs.BitsLemmas.{count-le}
-use Rattle.vb_kernel.proofs.DigitsLemmas.{length-digits, masked, digits_masked}
+use Rattle.vb_bits.specs.Digits.{digits}
+use Rattle.vb_bits.proofs.BitsLemmas.{count-le}
+use Rattle.vb_bits.proofs.DigitsLemmas.{length-digits, masked, digits_masked}
 use Rattle.vb_kernel.proofs.WordLemmas.{Selects-table}
 use Rattle.vb_kernel.proofs.word.select_in_four.Goals as goal
 

@@ -1,5 +1,5 @@
 use Rattle.std.proofs.Common.{arith}
-use Rattle.vb_kernel.proofs.DigitsLemmas.{length-digits, count-digits_none}
+use Rattle.vb_bits.proofs.DigitsLemmas.{length-digits, count-digits_none}
 use Rattle.vb_kernel.proofs.WordLemmas.{Selects-digits}
 use Rattle.vb_kernel.proofs.word.select_in_word.Goals as goal
 

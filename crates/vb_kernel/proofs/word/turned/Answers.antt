@@ -1,8 +1,8 @@
 use Rattle.std.proofs.Common.{sym, arith, ap, ◌∙◌}
 use Rattle.std.specs.Int.{w64}
-use Rattle.vb_kernel.specs.Bits.{negated}
-use Rattle.vb_kernel.proofs.BytesLemmas.{bits-to_le_bytes}
-use Rattle.vb_kernel.proofs.DigitsLemmas.{digits-bit_not}
+use Rattle.vb_bits.specs.Bits.{negated}
+use Rattle.vb_bits.proofs.BytesLemmas.{bits-to_le_bytes}
+use Rattle.vb_bits.proofs.DigitsLemmas.{digits-bit_not}
 use Rattle.vb_kernel.proofs.SearchesLemmas.{matching_true, matching_false}
 use Rattle.vb_kernel.proofs.word.turned.Goals as goal
 

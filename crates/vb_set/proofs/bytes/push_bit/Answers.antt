@@ -1,5 +1,5 @@
 use Rattle.std.proofs.Common.{arith}
-use Rattle.vb_kernel.proofs.WritesLemmas.{Writes_push}
+use Rattle.vb_bits.proofs.WritesLemmas.{Writes_push}
 use Rattle.vb_set.proofs.bytes.push_bit.Goals as goal
 
 pub returns-clause-bits : goal.returns-clause-bits

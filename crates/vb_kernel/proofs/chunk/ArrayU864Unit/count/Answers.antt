@@ -1,5 +1,5 @@
 use Rattle.std.proofs.Common.{arith}
-use Rattle.vb_kernel.proofs.BitsLemmas.{count-bits-le}
+use Rattle.vb_bits.proofs.BitsLemmas.{count-bits-le}
 use Rattle.vb_kernel.proofs.SearchesLemmas.{count-matching-bits_true, count-matching-bits_false}
 use Rattle.vb_kernel.proofs.chunk.ArrayU864Unit.count.Goals as goal
 

@@ -1,5 +1,5 @@
 use Rattle.std.proofs.Common.{arith}
-use Rattle.vb_kernel.proofs.BitsLemmas.{count-bits-add}
+use Rattle.vb_bits.proofs.BitsLemmas.{count-bits-add}
 use Rattle.vb_kernel.proofs.chunk.LaneSum.add.Goals as goal
 
 pub returns : goal.returns

@@ -1,5 +1,5 @@
 use Rattle.std.proofs.Common.{◌≡◌, ◌+◌, ◌*◌, ℕ, List, arith, ◌∙◌}
-use Rattle.vb_kernel.proofs.BitsLemmas.{count-bits-le}
+use Rattle.vb_bits.proofs.BitsLemmas.{count-bits-le}
 use Rattle.vb_kernel.proofs.counter.Counter.add.Goals as goal
 
 pub plus-requires : goal.plus-requires

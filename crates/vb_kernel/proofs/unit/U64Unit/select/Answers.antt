@@ -1,5 +1,5 @@
 use Rattle.std.proofs.Common.{Some, ap, arith, subst}
-use Rattle.vb_kernel.specs.Bits.{count, Selects}
+use Rattle.vb_bits.specs.Bits.{count, Selects}
 use Rattle.vb_kernel.proofs.unit.U64Unit.select.Goals as goal
 
 pub select_in_word-requires : goal.select_in_word-requires

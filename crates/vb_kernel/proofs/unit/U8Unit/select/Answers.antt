@@ -1,6 +1,6 @@
 use Rattle.std.proofs.Common.{Some, ap, arith, subst}
-use Rattle.vb_kernel.specs.Bits.{count, Selects}
-use Rattle.vb_kernel.proofs.DigitsLemmas.{count-digits_below}
+use Rattle.vb_bits.specs.Bits.{count, Selects}
+use Rattle.vb_bits.proofs.DigitsLemmas.{count-digits_below}
 use Rattle.vb_kernel.proofs.SearchesLemmas.{Selects-digits_below}
 use Rattle.vb_kernel.proofs.unit.U8Unit.select.Goals as goal
 

@@ -1,6 +1,6 @@
 use Rattle.std.proofs.Common.{◌≡◌, rules, slice_range}
 use Rattle.vb_kernel.specs.Bits.{count}
-use Rattle.vb_kernel.proofs.WindowLemmas.{count_parts, windows}
+use Rattle.vb_bits.proofs.WindowLemmas.{count_parts, windows}
 use Rattle.vb_set.proofs.bit_buffer.BitBuffer.count_range.Goals as goal
 
 pub returns-clause-adds : goal.returns-clause-adds

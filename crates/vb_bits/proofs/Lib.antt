@@ -1,0 +1,7 @@
+pub mod RangeLemmas
+pub mod BitsLemmas
+pub mod PlacesLemmas
+pub mod DigitsLemmas
+pub mod BytesLemmas
+pub mod WindowLemmas
+pub mod WritesLemmas

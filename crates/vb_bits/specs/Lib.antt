@@ -1,0 +1,4 @@
+pub mod Bits
+pub mod Digits
+pub mod Edits
+pub mod Writes

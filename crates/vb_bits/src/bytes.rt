@@ -1,0 +1,42 @@
+//! Many bytes of a slice read or written at once, and masks of one byte.
+ghost use Rattle.std.specs.Prelude.{◌≡◌, ◌+◌, ◌-◌, ◌*◌, ◌^◌, ◌≤◌, length, slice_range};
+ghost use Rattle.std.specs.Int.{w64, to_le_bytes};
+ghost use Rattle.vb_bits.specs.Digits.{digits};
+ghost use Rattle.vb_bits.specs.Writes.{Writes};
+
+use std::simd::prelude::*;
+
+/// The 64 bytes from `at` on, by one load of a vector.
+pub fn chunk_at(bytes: &[u8], at: usize) -> [u8; 64]
+    requires { at + 64 ≤ length bytes.now }
+    ensures { result ≡ slice_range bytes.now at (at + 64) }
+{
+    u8x64::from_slice(&bytes[at..at + 64]).to_array()
+}
+
+/// The eight bytes from `at` on, least significant first.
+///
+/// A vector of eight bytes, since a slice turned into an array would leave a test of its length.
+pub fn word_at(bytes: &[u8], at: usize) -> u64
+    requires { at + 8 ≤ length bytes.now }
+    ensures { to_le_bytes w64 result ≡ slice_range bytes.now at (at + 8) }
+{
+    u64::from_le_bytes(u8x8::from_slice(&bytes[at..at + 8]).to_array())
+}
+
+/// Writes `word` into the eight bytes from `at` on, least significant first.
+pub(crate) fn write_word(bytes: &mut [u8], at: usize, word: u64)
+    requires { at + 8 ≤ length bytes.old }
+    ensures { Writes bytes.old bytes.new (8 * at) (digits word 0 64) }
+{
+    bytes[at..at + 8].copy_from_slice(&word.to_le_bytes());
+}
+
+/// Ones in the digits from `from` up to `to`, `to` excluded.
+pub(crate) fn byte_mask(from: usize, to: usize) -> u8
+    requires ordered { from ≤ to }
+    requires in_byte { to ≤ 8 }
+    ensures { result ≡ 2 ^ to - 2 ^ from }
+{
+    ((1u16 << to) - (1u16 << from)) as u8
+}

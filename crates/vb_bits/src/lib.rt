@@ -1,0 +1,18 @@
+//! Bits over slices of bytes, least significant first: bit `i` is digit `i % 8` of byte `i / 8`.
+//!
+//! A window is the `len` bits from bit `offset` on. It has to lie in the bytes, and its end has to
+//! be a `usize`; [`window_fits`] is the test. Every write says the same of the bytes: the window is
+//! as asked, and no other bit changes.
+#![tactic(auto)]
+
+mod bit;
+mod bytes;
+mod fill;
+mod map;
+mod window;
+
+pub use bit::{get_bit, get_bit_unchecked, set_bit_to, set_bit_unchecked, unset_bit_unchecked};
+pub use bytes::{chunk_at, word_at};
+pub use fill::fill_bits;
+pub use map::map_words;
+pub use window::window_fits;

@@ -1,0 +1,67 @@
+//! Windows negated.
+ghost use Rattle.std.specs.Prelude.{ℕ, ◌+◌, ◌-◌, ◌*◌, ◌%◌, ◌^◌, ◌<◌, ◌≤◌, length};
+ghost use Rattle.vb_bits.specs.Bits.{bits, negated};
+ghost use Rattle.vb_bits.specs.Writes.{Writes};
+
+use crate::bytes::{byte_mask, word_at, write_word};
+
+/// Negates each bit of the window and leaves every other bit.
+///
+/// The bits of a partial first and last byte go by a mask, the whole bytes between by words of
+/// eight bytes and then by bytes.
+pub fn map_words(bytes: &mut [u8], offset: usize, len: usize)
+    requires inside { offset + len ≤ 8 * length bytes.old }
+    requires fits { offset + len < 2 ^ 64 }
+    ensures { Writes bytes.old bytes.new offset (negated (bits bytes.old offset len)) }
+{
+    let end = offset + len;
+    let first = offset.div_ceil(8);
+    let last = end / 8;
+    if last < first {
+        negate_in_byte(bytes, offset, end);
+        return;
+    }
+    let words = (last - first) / 8;
+    negate_in_byte(bytes, offset, 8 * first);
+    negate_words(bytes, first, words);
+    negate_bytes(bytes, first + 8 * words, last);
+    negate_in_byte(bytes, 8 * last, end);
+}
+
+/// Negates the bits from `start` up to `end`, `end` excluded, which lie in one byte.
+fn negate_in_byte(bytes: &mut [u8], start: usize, end: usize)
+    requires ordered { start ≤ end }
+    requires in_byte { start % 8 + (end - start) ≤ 8 }
+    requires inside { end ≤ 8 * length bytes.old }
+    ensures { Writes bytes.old bytes.new start (negated (bits bytes.old start (end - start))) }
+{
+    if start == end {
+        return;
+    }
+    let from = start % 8;
+    bytes[start / 8] ^= byte_mask(from, from + (end - start));
+}
+
+/// Negates `n` words from byte `at` on.
+fn negate_words(bytes: &mut [u8], at: usize, n: usize)
+    requires { at + 8 * n ≤ length bytes.old }
+    ensures { Writes bytes.old bytes.new (8 * at) (negated (bits bytes.old (8 * at) (64 * n))) }
+{
+    for k in 0..n {
+        let word = word_at(bytes, at + 8 * k);
+        write_word(bytes, at + 8 * k, !word);
+    }
+}
+
+/// Negates the bytes from `first` up to `last`, `last` excluded.
+fn negate_bytes(bytes: &mut [u8], first: usize, last: usize)
+    requires ordered { first ≤ last }
+    requires inside { last ≤ length bytes.old }
+    requires fits { 8 * last < 2 ^ 64 }
+    ensures { Writes bytes.old bytes.new (8 * first)
+        (negated (bits bytes.old (8 * first) (8 * (last - first)))) }
+{
+    for k in first..last {
+        negate_in_byte(bytes, 8 * k, 8 * k + 8);
+    }
+}

@@ -1,5 +1,0 @@
-use Rattle.vb_kernel.proofs.WritesLemmas.{Writes_put}
-use Rattle.vb_kernel.proofs.bit.set_bit_to.Goals as goal
-
-pub returns : goal.returns
-returns c = Writes_put _ _ _ _ c.from.ensures c.requires

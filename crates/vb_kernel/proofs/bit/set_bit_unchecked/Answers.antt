@@ -1,5 +1,0 @@
-use Rattle.vb_kernel.proofs.WritesLemmas.{Writes_set}
-use Rattle.vb_kernel.proofs.bit.set_bit_unchecked.Goals as goal
-
-pub returns : goal.returns
-returns c = Writes_set _ _ c.requires

@@ -1,5 +1,0 @@
-use Rattle.vb_kernel.proofs.WritesLemmas.{Writes_unset}
-use Rattle.vb_kernel.proofs.bit.unset_bit_unchecked.Goals as goal
-
-pub returns : goal.returns
-returns c = Writes_unset _ _ c.requires
