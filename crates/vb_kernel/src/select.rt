@@ -93,63 +93,58 @@ fn find<G: Glance>(
     };
     search.n = find_in_part(src, search, parts.head)?;
     search.from = parts.head;
-    if parts.chunks < MANY {
-        find_in_few_chunks(src, search, len - parts.head)
-    } else {
-        find_in_many_chunks(src, search, len - parts.head)
-    }
+    search.n = find_in_chunks(src, search, parts.chunks)?;
+    search.from += 512 * parts.chunks;
+    find_in_rest(src, search, parts.rest)
 }
 
-/// Searches `len` bits, their chunks by their words.
+/// Searches so many chunks: few by their words, many by counting them first.
 #[inline(always)]
-fn find_in_few_chunks<G: Glance>(
+fn find_in_chunks<G: Glance>(
     src: &mut G,
-    mut search: Search,
-    len: usize,
+    search: Search,
+    chunks: usize,
 ) -> ControlFlow<usize, usize>
-    requires aligned { 0 < len → (search.offset + search.from) % 8 ≡ 0 }
-    requires within { IsWithin (G.bytes src.old) search len }
-    ensures found { Finds (G.bytes src.old) search len result }
+    requires aligned { 0 < chunks → (search.offset + search.from) % 8 ≡ 0 }
+    requires within { IsWithin (G.bytes src.old) search (512 * chunks) }
+    ensures found { Finds (G.bytes src.old) search (512 * chunks) result }
     ensures same { G.bytes src.new ≡ G.bytes src.old }
-    ensures looks { G.looks src.new ≤ G.looks src.old + (len / 512 + rest_looks (len % 512)) }
+    ensures looks { G.looks src.new ≤ G.looks src.old + chunks }
 {
+    if MANY <= chunks {
+        return find_in_many_chunks(src, search, chunks);
+    }
     let mut left = search.n;
-    for k in 0..len / 512 {
+    for k in 0..chunks {
         let chunk = src.chunk((search.offset + search.from) / 8 + 64 * k);
         match find_in_chunk(&chunk, left, search.value) {
             ControlFlow::Break(place) => return ControlFlow::Break(search.from + 512 * k + place),
             ControlFlow::Continue(rest) => left = rest,
         }
     }
-    search.n = left;
-    search.from += len / 512 * 512;
-    find_in_rest(src, search, len % 512)
+    ControlFlow::Continue(left)
 }
 
-/// Searches `len` bits, their chunks by counting them first.
+/// Searches so many chunks by counting them first.
 ///
 /// Called, so that the search of a short window saves no registers for it.
 #[inline(never)]
 fn find_in_many_chunks<G: Glance>(
     src: &mut G,
     mut search: Search,
-    len: usize,
+    chunks: usize,
 ) -> ControlFlow<usize, usize>
-    requires aligned { 0 < len → (search.offset + search.from) % 8 ≡ 0 }
-    requires within { IsWithin (G.bytes src.old) search len }
-    ensures found { Finds (G.bytes src.old) search len result }
+    requires aligned { 0 < chunks → (search.offset + search.from) % 8 ≡ 0 }
+    requires within { IsWithin (G.bytes src.old) search (512 * chunks) }
+    ensures found { Finds (G.bytes src.old) search (512 * chunks) result }
     ensures same { G.bytes src.new ≡ G.bytes src.old }
-    ensures looks { G.looks src.new ≤ G.looks src.old + (len / 512 + rest_looks (len % 512)) }
+    ensures looks { G.looks src.new ≤ G.looks src.old + chunks }
 {
-    let chunks = len / 512;
     let at = search.offset + search.from;
-    let rest_at = search.from + 512 * chunks;
     let (passed, left) = pass_chunks(src, at, chunks, search.n, search.value);
     search.n = left;
     search.from += 512 * passed;
-    search.n = find_in_units::<[u8; 64], G>(src, search, chunks - passed)?;
-    search.from = rest_at;
-    find_in_rest(src, search, len % 512)
+    find_in_units::<[u8; 64], G>(src, search, chunks - passed)
 }
 
 /// Passes chunks from bit `at` on that can't hold the `n`-th bit that is `value`. Answers how many

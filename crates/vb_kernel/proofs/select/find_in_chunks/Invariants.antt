@@ -1,7 +1,7 @@
 use Rattle.std.proofs.Common.{◌≡◌, ◌+◌, ◌*◌}
 use Rattle.vb_bits.specs.Bits.{bits, count}
 use Rattle.vb_kernel.specs.Searches.{matching}
-use Rattle.vb_kernel.proofs.select.find_in_few_chunks.Given as goal
+use Rattle.vb_kernel.proofs.select.find_in_chunks.Given as goal
 
 abbrev pub invariant-loop-k : goal.invariant-loop-k
 invariant-loop-k g l = record {

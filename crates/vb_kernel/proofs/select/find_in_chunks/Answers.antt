@@ -4,18 +4,18 @@ use Rattle.vb_bits.specs.Bits.{bits, count}
 use Rattle.vb_kernel.specs.Searches.{matching, Searched}
 use Rattle.vb_kernel.proofs.SearchesLemmas.{Searched_inside}
 use Rattle.vb_kernel.proofs.UnitsLemmas.{bits_of_unit, count_unit_more, found_in_unit}
-use Rattle.vb_kernel.proofs.select.find_in_few_chunks.Given.{Over}
-use Rattle.vb_kernel.proofs.select.find_in_few_chunks.Goals as goal
-use Rattle.vb_kernel.proofs.select.find_in_few_chunks.Goals.{After-struct_known-in-Break-1}
+use Rattle.vb_kernel.proofs.select.find_in_chunks.Given.{Over}
+use Rattle.vb_kernel.proofs.select.find_in_chunks.Goals as goal
+use Rattle.vb_kernel.proofs.select.find_in_chunks.Goals.{After-struct_known-in-Break-1}
 
 -- what was found in a chunk is what is sought in the window
-found : (g : Over) (c : After-struct_known-in-Break-1 g) → Searched (matching c.args.search.value (bits (g.G.Glance.bytes c.args.src.now) c.args.search.offset (c.args.search.from + c.args.len)))
+found : (g : Over) (c : After-struct_known-in-Break-1 g) → Searched (matching c.args.search.value (bits (g.G.Glance.bytes c.args.src.now) c.args.search.offset (c.args.search.from + 512 * c.args.chunks)))
     (c.args.search.n + count (matching c.args.search.value (bits (g.G.Glance.bytes c.args.src.now) c.args.search.offset c.args.search.from))) (Break (c.args.search.from + 512 * c.loop-k.k + c.in-Break.place))
 found g c =
     let b : List ℕ = g.G.Glance.bytes c.args.src.now in let xs : List ℕ = c.chunk-chunk.result in
     let v : Bool = c.args.search.value in let o : ℕ = c.args.search.offset in let k : ℕ = c.loop-k.k in let at : ℕ = c.args.search.from + 512 * k in
     let is = bits_of_unit b (g.G.Glance.bytes c.loop-k.src) xs (o + c.args.search.from) (o + at) 64 64 k c.loop-k.invariant.same refl (c.requires.aligned (omega arith)) (omega arith) c.chunk-chunk.ensures.value in
-    found_in_unit v b xs o at (c.args.search.from + c.args.len) 64 (c.args.search.n + count (matching v (bits b o c.args.search.from))) c.loop-k.left c.in-Break.place
+    found_in_unit v b xs o at (c.args.search.from + 512 * c.args.chunks) 64 (c.args.search.n + count (matching v (bits b o c.args.search.from))) c.loop-k.left c.in-Break.place
     (omega arith) is c.loop-k.invariant.passed c.in-Break.ensures
 
 pub overflow_add-result-in-Break : goal.overflow_add-result-in-Break
