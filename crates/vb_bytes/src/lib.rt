@@ -4,7 +4,7 @@
 #![tactic(auto)]
 
 ghost use Rattle.std.specs.Prelude.{◌≡◌, ◌≢◌, ◌*◌, ◌%◌, ◌^◌, ◌<◌, ◌≤◌, length, IfOk, IsOk, IsErrOf};
-ghost use Rattle.vb_bytes.specs.ByteForm.{byteform, IsReadFrom};
+ghost use Rattle.vb_bytes.specs.ByteForm.{byteform, IsReadFrom, AreOnlyItems};
 
 use vb_core::{BufferError, Element};
 
@@ -43,10 +43,11 @@ pub fn put_items<T: Element>(items: &[T], bytes: &mut [u8])
     }
 }
 
-/// Reads items from as many bytes over items.
+/// Reads items from as many bytes over items. They are the only ones that have these bytes.
 pub fn get_items<T: Element>(bytes: &[u8], items: &mut [T])
     requires { length bytes.now ≡ length items.old * T.SIZE }
-    ensures { IsReadFrom T.form T.is_in_type bytes.now items.new }
+    ensures read { IsReadFrom T.form T.is_in_type bytes.now items.new }
+    ensures only { AreOnlyItems T.form T.is_in_type bytes.now items.new }
 {
     let mut start = 0;
     for item in items.iter_mut() {

@@ -1,21 +1,34 @@
 -- What a buffer's storage and its window of it stand for.
-use Rattle.std.specs.Prelude.{ℕ, ◌+◌, ◌*◌, ◌^◌, ◌<◌, ◌≤◌, [], length, take, drop}
+use Rattle.std.specs.Prelude.{Some, None, ℕ, ◌+◌, ◌*◌, ◌^◌, ◌<◌, ◌≤◌, [], length, take, drop}
 use Rattle.vb_mem.specs.declared.content.Content.{Content}
-use Rattle.vb_mem.specs.declared.content.Content.TheVariants.{Nothing, All, Part}
+use Rattle.vb_mem.specs.declared.content.Content.TheVariants.{Nothing, Stored}
+use Rattle.std.specs.Rc.{rc_with_value}
+use Rattle.vb_mem.specs.OpenBuffer.{OpenBuffer}
 use Rattle.vb_mem.specs.SharedBuffer.{SharedBuffer, IsPlaceAligned}
 
 module _ {T A : Type 0} where
   -- what is seen, where an item has so many bytes
   abbrev pub seen : ℕ → Content T A → SharedBuffer T
   seen size (Nothing alignment) = record { list = []; alignment = alignment; declared = alignment; place = 0 }
-  seen size (All rc) = record { list = rc.value.list; alignment = rc.value.alignment; declared = rc.value.declared; place = 0 }
-  seen size (Part rc window) = record { list = take window.len (drop window.start rc.value.list); alignment = window.alignment; declared = rc.value.declared; place = window.start * size }
+  seen size (Stored rc None) = record { list = rc.value.list; alignment = rc.value.alignment; declared = rc.value.declared; place = 0 }
+  seen size (Stored rc (Some window)) = record { list = take window.len (drop window.start rc.value.list); alignment = window.alignment; declared = rc.value.declared; place = window.start * size }
 
   -- a window lies in its storage and ends within `usize`, and its place has the alignment that it reports, which is at least that of an item
   abbrev pub IsSound : ℕ → ℕ → Content T A → Type 0
   IsSound size least (Nothing alignment) = least ≤ alignment
-  IsSound size least (All rc) = Unit {0}
-  IsSound size least (Part rc window) =
+  IsSound size least (Stored rc None) = Unit {0}
+  IsSound size least (Stored rc (Some window)) =
       (window.start + window.len ≤ length rc.value.list) × (window.start + window.len < 2 ^ 64)
       × (0 < window.len → IsPlaceAligned (window.start * size) rc.value.declared window.alignment)
       × (least ≤ window.alignment) × (window.alignment ≤ rc.value.declared)
+
+  -- all of a storage is shown, and P holds of what is in it
+  abbrev pub IsWhole : (OpenBuffer T → Type 0) → Content T A → Type 0
+  IsWhole P (Nothing alignment) = ⊥
+  IsWhole P (Stored rc None) = P rc.value
+  IsWhole P (Stored rc (Some window)) = ⊥
+
+  -- the same storage with other items and alignments
+  abbrev pub with_stored : Content T A → OpenBuffer T → Content T A
+  with_stored (Nothing alignment) growing = Nothing alignment
+  with_stored (Stored rc window) growing = Stored (rc_with_value rc growing) window

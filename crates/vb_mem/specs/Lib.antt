@@ -1,4 +1,5 @@
 pub mod Collected
 pub mod Content
+pub mod Loans
 pub mod OpenBuffer
 pub mod SharedBuffer

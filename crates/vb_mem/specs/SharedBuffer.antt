@@ -1,6 +1,6 @@
 -- What contracts see of a `Buffer`.
 use Rattle.std.specs.Prelude.{◌≡◌, ℕ, ◌+◌, ◌*◌, ◌%◌, ◌^◌, ◌<◌, ◌≤◌, ◌⊎◌, List, [], length}
-use Rattle.vb_mem.specs.OpenBuffer.{OpenBuffer}
+use Rattle.vb_mem.specs.OpenBuffer.{OpenBuffer, over_aligned}
 
 -- a buffer that may be shared: its items, the exponents of its reported and its declared alignment, and the place in bytes of its first item in the storage
 pub record SharedBuffer (T : Type 0) : Type 0 where
@@ -30,10 +30,12 @@ CanSlice size least b start end alignment =
     (start ≤ end) × (end ≤ length b.list) × (least ≤ alignment)
     × ((start ≡ end) ⊎ IsPlaceAligned (b.place + start * size) b.declared alignment)
 
--- the buffer shows all that a growing one holds
-abbrev pub ShowsAll : {T : Type 0} → SharedBuffer T → OpenBuffer T → Type 0
-ShowsAll b growing = (b.list ≡ growing.list) × (b.alignment ≡ growing.alignment)
+-- the buffer that shows all that a growing one holds
+abbrev pub shown : {T : Type 0} → OpenBuffer T → SharedBuffer T
+shown growing = record { list = growing.list; alignment = growing.alignment; declared = growing.declared; place = 0 }
 
--- the items and the reported alignment are as they were
-abbrev pub KeepsItems : {T : Type 0} → SharedBuffer T → SharedBuffer T → Type 0
-KeepsItems old new = (new.list ≡ old.list) × (new.alignment ≡ old.alignment)
+-- the items and the reported alignment are as they were; the declared one is, or it is that of a copy
+pub record KeepsItems {T : Type 0} (old new : SharedBuffer T) : Type 0 where
+  pub list : new.list ≡ old.list
+  pub alignment : new.alignment ≡ old.alignment
+  pub declared : (new.declared ≡ old.declared) ⊎ (new.declared ≡ over_aligned old.alignment)

@@ -3,7 +3,7 @@ ghost use Rattle.std.specs.Prelude.{◌≡◌, ◌==◌, ◌↔◌, ◌<◌, ◌
 ghost use Rattle.vb_mem.specs.SharedBuffer.{Shows, IsAlignedTo};
 
 use crate::content::Content;
-use std::alloc::Allocator;
+use std::alloc::{Allocator, Global};
 use std::marker::Model;
 use vb_core::{Alignment, BufferError, Element};
 
@@ -18,7 +18,7 @@ mod slice;
 /// its first item in the storage, in bytes, is a multiple of it, and the storage is declared with it or with the one that
 /// it was over-aligned to, if that is greater. Equality, order and hash are those of the list.
 #[derive(Drop)]
-pub struct Buffer<T: Element, A: Allocator> {
+pub struct Buffer<T: Element, A: Allocator = Global> {
     content: Content<T, A>,
     alloc: A,
 }
@@ -42,8 +42,8 @@ impl<T: Element, A: Allocator> Buffer<T, A> {
     {
         match &self.content {
             Content::Nothing(_) => &[],
-            Content::All(storage) => storage.as_ref().as_slice(),
-            Content::Part(storage, window) => {
+            Content::Stored(storage, None) => storage.as_ref().as_slice(),
+            Content::Stored(storage, Some(window)) => {
                 &storage.as_ref().as_slice()[window.start..window.start + window.len]
             }
         }
@@ -55,8 +55,8 @@ impl<T: Element, A: Allocator> Buffer<T, A> {
     {
         match &self.content {
             Content::Nothing(_) => 0,
-            Content::All(storage) => storage.as_ref().len(),
-            Content::Part(_, window) => window.len,
+            Content::Stored(storage, None) => storage.as_ref().len(),
+            Content::Stored(_, Some(window)) => window.len,
         }
     }
 
@@ -77,8 +77,8 @@ impl<T: Element, A: Allocator> Buffer<T, A> {
     {
         match &self.content {
             Content::Nothing(alignment) => *alignment,
-            Content::All(storage) => storage.as_ref().alignment(),
-            Content::Part(_, window) => window.alignment,
+            Content::Stored(storage, None) => storage.as_ref().alignment(),
+            Content::Stored(_, Some(window)) => window.alignment,
         }
     }
 
@@ -89,8 +89,7 @@ impl<T: Element, A: Allocator> Buffer<T, A> {
     {
         match &self.content {
             Content::Nothing(alignment) => *alignment,
-            Content::All(storage) => storage.as_ref().declared(),
-            Content::Part(storage, _) => storage.as_ref().declared(),
+            Content::Stored(storage, _) => storage.as_ref().declared(),
         }
     }
 

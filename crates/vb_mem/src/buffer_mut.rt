@@ -5,7 +5,7 @@ ghost use Rattle.vb_mem.specs.OpenBuffer.{Holds, with_items};
 ghost use Rattle.vb_mem.specs.contracts.buffer_mut.BufferMut.{the_row};
 
 use crate::content::Window;
-use std::alloc::Allocator;
+use std::alloc::{Allocator, Global};
 use std::marker::Model;
 use vb_core::{Alignment, Element};
 
@@ -20,7 +20,7 @@ mod make;
 /// list reports it too. The declared alignment is that of the storage: the reported one, or the one that the buffer was
 /// over-aligned to if that is greater. Growth keeps both.
 #[derive(Drop)]
-pub struct BufferMut<T: Element, A: Allocator> {
+pub struct BufferMut<T: Element, A: Allocator = Global> {
     pub(crate) items: Vec<T, A>,
     pub(crate) alignment: Alignment,
     pub(crate) declared: Alignment,

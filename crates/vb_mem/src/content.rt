@@ -1,14 +1,15 @@
 //! Where a shared buffer has its items.
-ghost use Rattle.std.specs.Prelude.{◌≡◌, ◌↔◌, ◌+◌, ◌*◌, ◌%◌, ◌^◌, ◌≤◌, length, take, drop, slice_range, IfOk, IfErr, IsTrue};
+ghost use Rattle.std.specs.Prelude.{◌≡◌, ⊤, IfOk, IsOkUnless, ◌↔◌, ◌+◌, ◌*◌, ◌%◌, ◌^◌, ◌≤◌, length, slice_range, IsTrue};
 ghost use Rattle.std.specs.Bool.{OnTrue, OnFalse};
-ghost use Rattle.vb_mem.specs.OpenBuffer.{Holds};
-ghost use Rattle.vb_mem.specs.SharedBuffer.{Shows, CanSlice, KeepsItems};
+ghost use Rattle.std.specs.Borrow.{sem};
+ghost use Rattle.vb_mem.specs.SharedBuffer.{Shows, CanSlice, shown};
+ghost use Rattle.vb_mem.specs.Loans.{LendsStorage};
 
 use crate::buffer_mut::BufferMut;
 use std::alloc::Allocator;
 use std::ops::Range;
 use std::rc::Rc;
-use vb_core::{Alignment, Element};
+use vb_core::{Alignment, BufferError, Element};
 
 /// Items of a storage, from `start` on, and the alignment that is reported of them.
 #[derive(Clone, Copy)]
@@ -23,25 +24,30 @@ pub(crate) struct Window {
 pub(crate) enum Content<T: Element, A: Allocator> {
     /// No items and no storage, and the alignment that is reported.
     Nothing(Alignment),
-    /// All items of a storage, with the alignment that it reports.
-    All(Rc<BufferMut<T, A>, A>),
-    /// The items of a window of a storage.
-    Part(Rc<BufferMut<T, A>, A>, Window),
+    /// The items of a window of a storage, or all of them with the alignment that the storage reports.
+    Stored(Rc<BufferMut<T, A>, A>, Option<Window>),
 }
 
 impl<T: Element, A: Allocator> Content<T, A> {
-    ghost use Rattle.vb_mem.specs.Content.{seen, IsSound};
+    ghost use Rattle.vb_mem.specs.Content.{seen, IsSound, IsWhole};
+
+    // The place of the first item in the storage, in items.
+    fn start(&self) -> usize
+        ensures { (seen T.SIZE self.now).place ≡ result * T.SIZE }
+    {
+        match self {
+            Content::Nothing(_) => 0,
+            Content::Stored(_, None) => 0,
+            Content::Stored(_, Some(window)) => window.start,
+        }
+    }
 
     // Whether an alignment divides the place in bytes of the item so many on. A place that wraps keeps its remainder.
     pub(crate) fn is_place_divided(&self, alignment: Alignment, items_on: usize) -> bool
         ensures { IsTrue result ↔ (((seen T.SIZE self.now).place + items_on * T.SIZE) % 2 ^ alignment ≡ 0) }
     {
-        let first = match self {
-            Content::Nothing(_) => 0,
-            Content::All(_) => 0,
-            Content::Part(_, window) => window.start,
-        };
-        alignment.is_offset_aligned(first.wrapping_add(items_on).wrapping_mul(T::SIZE))
+        let item = self.start().wrapping_add(items_on);
+        alignment.is_offset_aligned(item.wrapping_mul(T::SIZE))
     }
 
     // The items of a range, with an alignment for which they can be sliced.
@@ -61,62 +67,49 @@ impl<T: Element, A: Allocator> Content<T, A> {
         };
         match self {
             Content::Nothing(_) => Content::Nothing(alignment),
-            Content::All(storage) => Content::Part(storage, window),
-            Content::Part(storage, outer) => {
-                window.start += outer.start;
-                Content::Part(storage, window)
-            }
+            Content::Stored(storage, outer) => match outer {
+                None => Content::Stored(storage, Some(window)),
+                Some(outer) => {
+                    window.start += outer.start;
+                    Content::Stored(storage, Some(window))
+                }
+            },
         }
     }
 
-    // All of a storage that has these items alone, where no other buffer shares it; else the same as before.
-    pub(crate) fn into_all(self) -> Result<Self, Self>
-        requires { IsSound T.SIZE T.align_exponent self }
-        ensures items { IfOk result (λ content. KeepsItems (seen T.SIZE self) (seen T.SIZE content)) }
-        ensures sound { IfOk result (IsSound T.SIZE T.align_exponent) }
-        ensures shared { IfErr result (λ content. content ≡ self) }
+    // Keeps of the storage the items that are shown, where no other buffer shares it. Answers whether it did.
+    pub(crate) fn narrow_lone(&mut self) -> bool
+        requires { IsSound T.SIZE T.align_exponent self.old }
+        ensures narrowed { OnTrue result (IsWhole (λ stored. shown stored ≡ record (seen T.SIZE self.old) { place = 0 }) self.new) }
+        ensures shared { OnFalse result (self.new ≡ self.old) }
+    {
+        let Content::Stored(storage, shown) = self else {
+            return false;
+        };
+        let Some(growing) = Rc::get_mut(storage) else {
+            return false;
+        };
+        if let Some(window) = shown.take() {
+            growing.narrow(window);
+        }
+        true
+    }
+
+    // The storage, all of which is shown, and which has no other owner.
+    //
+    // Std's contract of `Rc::get_mut` doesn't say when there is one owner, so a refusal stands where none comes.
+    pub(crate) fn whole_mut(&mut self) -> Result<&mut BufferMut<T, A>, BufferError>
+        requires { IsWhole (λ _. ⊤) self.old }
+        ensures* writes_back { sem 𝓛 (LendsStorage T.row A.row T.Element A.Allocator self.entry result) }
+        ensures value { IfOk result (λ growing. IsWhole (λ stored. growing.now ≡ stored) self.old) }
+        ensures refused { IsOkUnless result BufferError.OutOfMemory }
     {
         match self {
-            Content::Nothing(alignment) => Err(Content::Nothing(alignment)),
-            Content::All(mut storage) => {
-                let window = Window {
-                    start: 0,
-                    len: storage.as_ref().len(),
-                    alignment: storage.as_ref().alignment(),
-                };
-                if narrow_unshared(&mut storage, &window) {
-                    Ok(Content::All(storage))
-                } else {
-                    Err(Content::All(storage))
-                }
-            }
-            Content::Part(mut storage, window) => {
-                if narrow_unshared(&mut storage, &window) {
-                    Ok(Content::All(storage))
-                } else {
-                    Err(Content::Part(storage, window))
-                }
-            }
+            Content::Nothing(_) => unreachable!(),
+            Content::Stored(storage, _) => match Rc::get_mut(storage) {
+                Some(growing) => Ok(growing),
+                None => Err(BufferError::OutOfMemory),
+            },
         }
-    }
-}
-
-// Keeps the items of a window of a storage, where no other buffer shares it. Answers whether it did.
-fn narrow_unshared<T: Element, A: Allocator>(
-    storage: &mut Rc<BufferMut<T, A>, A>,
-    window: &Window,
-) -> bool
-    requires within { window.now.start + window.now.len ≤ length storage.old.value.list }
-    requires at_least { T.align_exponent ≤ window.now.alignment }
-    requires fits { window.now.alignment ≤ storage.old.value.declared }
-    ensures narrowed { OnTrue result (Holds (take window.now.len (drop window.now.start storage.old.value.list)) window.now.alignment storage.old.value.declared storage.new.value) }
-    ensures shared { OnFalse result (storage.new ≡ storage.old) }
-{
-    match Rc::get_mut(storage) {
-        Some(growing) => {
-            growing.narrow(*window);
-            true
-        }
-        None => false,
     }
 }

@@ -6,7 +6,7 @@ ghost use Rattle.std.specs.Slice.Iter.{iter_rest};
 ghost use Rattle.vb_core.specs.ExactCounts.{list_counts};
 
 use crate::buffer::Buffer;
-use std::alloc::Allocator;
+use std::alloc::{Allocator, Global};
 use std::marker::Model;
 use vb_core::{Element, TrustedLen};
 
@@ -15,7 +15,7 @@ pub type Iter<'a, T> = std::slice::Iter<'a, T>;
 
 /// The items of a buffer, which it keeps.
 #[derive(Drop)]
-pub struct BufferIterator<T: Element, A: Allocator> {
+pub struct BufferIterator<T: Element, A: Allocator = Global> {
     buffer: Buffer<T, A>,
     index: usize,
 }

@@ -4,18 +4,19 @@
 //! without a copy, and [`Buffer::into_mut`] a `BufferMut` again. No owner sees what another one writes.
 #![tactic(auto)]
 
-pub mod buffer;
-pub mod buffer_mut;
+mod buffer;
+mod buffer_mut;
 mod compare;
 mod content;
-pub mod iter;
+mod iter;
 
 pub use buffer::Buffer;
 pub use buffer_mut::BufferMut;
 pub use iter::{BufferIterator, Iter};
+use std::alloc::Global;
 
 /// A buffer of bytes.
-pub type ByteBuffer<A> = Buffer<u8, A>;
+pub type ByteBuffer<A = Global> = Buffer<u8, A>;
 
 /// A growing buffer of bytes.
-pub type ByteBufferMut<A> = BufferMut<u8, A>;
+pub type ByteBufferMut<A = Global> = BufferMut<u8, A>;

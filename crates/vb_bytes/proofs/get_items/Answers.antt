@@ -1,6 +1,9 @@
-use Rattle.std.proofs.Common.{◌≡◌, ◌+◌, ◌-◌, ◌*◌, ◌≤◌, length, take, drop, ap, sym, ◌∙◌, arith}
+use Rattle.std.proofs.Common.{◌≡◌, ◌+◌, ◌-◌, ◌*◌, ◌≤◌, length, take, drop, ap, sym, ◌∙◌, subst, arith}
 use Rattle.std.proofs.Math.Nat.{mul-le-mul_right}
-use Rattle.std.proofs.lemmas.List.{length-take, length-drop}
+use Rattle.std.proofs.lemmas.List.{length-take, length-drop, take_all}
+use Rattle.std.specs.List.{All}
+use Rattle.vb_bytes.specs.ByteForm.{byteform}
+use Rattle.vb_bytes.proofs.ByteForms.{byteform-injective}
 use Rattle.vb_bytes.proofs.ReadForms.{IsReadFrom-more, part_are_bytes}
 use Rattle.vb_bytes.proofs.get_items.Goals as goal
 
@@ -20,3 +23,16 @@ loop-item-preserved g c =
       place = omega arith;
       read = rw size (IsReadFrom-more element.form element.is_in_type bytes c.loop-item.items start element.SIZE c.loop-item.item-index c.get.result (omega arith) kept.read next c.get.ensures.in_type);
     }
+
+-- other items with these bytes are the same ones, since items and bytes determine each other
+pub returns-clause-only : goal.returns-clause-only
+returns-clause-only g c others valid same =
+    let element = g.T.Element in
+    let items = c.loop-item.items in
+    let kept = c.loop-item.invariant in
+    let bytes = c.args.bytes.now in
+    let count : c.loop-item.item-index ≡ length c.args.items.now = omega (arith, c.loop-item-test.false) in
+    let long : c.loop-item.start ≡ length bytes = kept.place ∙ ap (λ n. n * element.SIZE) count ∙ sym c.requires in
+    let all : take c.loop-item.item-index items ≡ items = take_all c.loop-item.item-index items (omega arith) in
+    let read : byteform element.form items ≡ bytes = ap (byteform element.form) (sym all) ∙ kept.read.bytes_are ∙ take_all c.loop-item.start bytes (omega (arith, long)) in
+    byteform-injective element.SIZE element.ALIGN element.align_exponent element.is_in_type element.form element.value_of g.met.T.Element.lawful others items valid (subst (All element.is_in_type) all kept.read.in_type) (same ∙ sym read)

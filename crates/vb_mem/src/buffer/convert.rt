@@ -1,16 +1,14 @@
 //! More owners of a buffer, other alignments, and items to be written.
-ghost use Rattle.std.specs.Prelude.{◌≡◌, ◌<◌, ◌≤◌, ◌⊎◌, IfOk, IfErr, OnOk, OnErr, IsOkAnd, IsErrOf, IsOkUnless};
-ghost use Rattle.std.specs.Borrow.{LendsSoOk, sem};
+ghost use Rattle.std.specs.Prelude.{◌≡◌, ◌<◌, ◌≤◌, ◌⊎◌, IfOk, IfErr, IsOkAnd, IsErrOf, IsOkUnless};
+ghost use Rattle.std.specs.Borrow.{sem};
 ghost use Rattle.vb_mem.specs.OpenBuffer.{Holds, over_aligned};
-ghost use Rattle.vb_mem.specs.SharedBuffer.{Shows, ShowsAll, KeepsItems, IsAlignedTo};
-ghost use Rattle.vb_mem.specs.contracts.buffer.Buffer.{the_row};
-ghost use Rattle.vb_mem.specs.contracts.buffer_mut.BufferMut.{the_row as open_row};
+ghost use Rattle.vb_mem.specs.SharedBuffer.{Shows, IsAlignedTo};
+ghost use Rattle.vb_mem.specs.Loans.{LendsAll};
 
 use super::Buffer;
 use crate::buffer_mut::BufferMut;
 use crate::content::Content;
 use std::alloc::Allocator;
-use std::mem;
 use std::rc::Rc;
 use vb_core::{Alignment, BufferError, Element};
 
@@ -22,23 +20,23 @@ impl<T: Element, A: Allocator> Buffer<T, A> {
         ensures err { IfErr result (λ b. b ≡ self) }
     {
         let Buffer { content, alloc } = self;
-        let content = match content {
+        match content {
             Content::Nothing(alignment) => {
-                return Ok(BufferMut::empty_preferred_aligned(alloc, alignment, None));
+                Ok(BufferMut::empty_preferred_aligned(alloc, alignment, None))
             }
-            Content::All(storage) => match Rc::try_unwrap(storage) {
-                Ok(growing) => return Ok(growing),
-                Err(storage) => Content::All(storage),
-            },
-            Content::Part(storage, window) => match Rc::try_unwrap(storage) {
+            Content::Stored(storage, window) => match Rc::try_unwrap(storage) {
                 Ok(mut growing) => {
-                    growing.narrow(window);
-                    return Ok(growing);
+                    if let Some(window) = window {
+                        growing.narrow(window);
+                    }
+                    Ok(growing)
                 }
-                Err(storage) => Content::Part(storage, window),
+                Err(storage) => {
+                    let content = Content::Stored(storage, window);
+                    Err(Buffer { content, alloc })
+                }
             },
-        };
-        Err(Buffer { content, alloc })
+        }
     }
 
     /// The same buffer with another alignment, which is at least that of an item. It takes no memory. Refused with
@@ -67,8 +65,7 @@ impl<T: Element, A: Allocator + Clone> Buffer<T, A> {
     {
         let content = match &self.content {
             Content::Nothing(alignment) => Content::Nothing(*alignment),
-            Content::All(storage) => Content::All(storage.clone()?),
-            Content::Part(storage, window) => Content::Part(storage.clone()?, *window),
+            Content::Stored(storage, window) => Content::Stored(storage.clone()?, *window),
         };
         let alloc = self.alloc.clone()?;
         Ok(Buffer { content, alloc })
@@ -107,45 +104,26 @@ impl<T: Element, A: Allocator + Clone> Buffer<T, A> {
         BufferMut::copy_from_aligned(alloc, self.as_slice(), alignment)?.freeze()
     }
 
-    /// The items, to be written; all other owners keep theirs. Where there are others, the items are copied first.
+    /// The items, to be written; all other owners keep theirs. A lone owner's items stay in their storage, of which the
+    /// others are dropped, in time linear in the part and without memory. Where there are other owners the items are
+    /// copied, over-aligned to 256 bytes.
     ///
-    /// What is lent is the growing buffer that holds the items, so `buffer.items_mut()?.as_mut_slice()` are the items; in
-    /// the end the buffer has the items that are left there. Place and declared alignment are open from then on. Refused
-    /// with `OutOfMemory`; the items and the alignment are unchanged then.
+    /// What is lent is the growing buffer that holds the items, so `buffer.items_mut()?.as_mut_slice()` are the items. In
+    /// the end the buffer shows all that is left there, from the front of its storage on. Refused with `OutOfMemory`:
+    /// the items and the reported alignment are unchanged then, and the declared one is the storage's or a copy's.
     pub fn items_mut(&mut self) -> Result<&mut BufferMut<T, A>, BufferError>
-        ensures* writes_back { sem 𝓛 (LendsSoOk (the_row T.row A.row T.Element A.Allocator) (open_row T.row A.row T.Element A.Allocator) self.entry result ShowsAll (KeepsItems self.old)) }
+        ensures* writes_back { sem 𝓛 (LendsAll T.row A.row T.Element A.Allocator self.entry result) }
         ensures list { IfOk result (λ growing. growing.now.list ≡ self.old.list) }
         ensures alignment { IfOk result (λ growing. growing.now.alignment ≡ self.old.alignment) }
+        ensures declared { IfOk result (λ growing. (growing.now.declared ≡ self.old.declared) ⊎ (growing.now.declared ≡ over_aligned self.old.alignment)) }
         ensures refused { IsOkUnless result BufferError.OutOfMemory }
     {
-        self.own_items()?;
-        match &mut self.content {
-            Content::All(storage) => match Rc::get_mut(storage) {
-                Some(growing) => Ok(growing),
-                None => Err(BufferError::OutOfMemory),
-            },
-            _ => Err(BufferError::OutOfMemory),
+        if self.content.narrow_lone() {
+            return self.content.whole_mut();
         }
-    }
-
-    // Makes the buffer the only owner of a storage that has its items alone.
-    fn own_items(&mut self) -> Result<(), BufferError>
-        ensures kept { KeepsItems self.old self.new }
-        ensures err { OnErr result (self.new ≡ self.old) }
-        ensures refused { IsOkUnless result BufferError.OutOfMemory }
-    {
-        let alignment = self.alignment();
-        let content = mem::replace(&mut self.content, Content::Nothing(alignment));
-        match content.into_all() {
-            Ok(content) => self.content = content,
-            Err(content) => {
-                self.content = content;
-                let alloc = self.alloc.clone()?;
-                let copy = BufferMut::copy_from_aligned(alloc, self.as_slice(), alignment)?;
-                let storage = Rc::new(self.alloc.clone()?, copy)?;
-                self.content = Content::All(storage);
-            }
-        }
-        Ok(())
+        let alloc = self.alloc.clone()?;
+        let copy = BufferMut::copy_from_aligned(alloc, self.as_slice(), self.alignment())?;
+        self.content = Content::Stored(Rc::new(self.alloc.clone()?, copy)?, None);
+        self.content.whole_mut()
     }
 }

@@ -156,7 +156,7 @@ impl<T: Element, A: Allocator + Clone> Buffer<T, A> {
         let alloc = growing.items.allocator().clone()?;
         let storage = Rc::new(alloc.clone()?, growing)?;
         Ok(Buffer {
-            content: Content::All(storage),
+            content: Content::Stored(storage, None),
             alloc,
         })
     }

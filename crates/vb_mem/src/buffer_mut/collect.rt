@@ -1,5 +1,5 @@
 //! Items that come from iterators.
-ghost use Rattle.std.specs.Prelude.{◌≡◌, ◌≢◌, ⊤, List, length, IfOk, OnOk, OnErr, IsOk, IsOkUnless};
+ghost use Rattle.std.specs.Prelude.{◌≡◌, ◌≢◌, ⊤, List, [], length, IfOk, OnOk, OnErr, IsOk, IsOkUnless};
 ghost use Rattle.std.specs.Iterator.{Drains, ExtendsWithItems, HoldsAlong, IsFiniteIterable};
 ghost use Rattle.vb_mem.specs.OpenBuffer.{Holds, Lengthens, HasRoom, over_aligned};
 ghost use Rattle.vb_mem.specs.Collected.{OfItems, GivesValues, GivesError, IfStopped};
@@ -52,18 +52,43 @@ impl<T: Element, A: Allocator> BufferMut<T, A> {
         Ok(buffer)
     }
 
-    /// Adds the items that an iterator gives. Within the capacity it takes no memory and succeeds; else it may be
-    /// refused with `OutOfMemory`, and the items that came before stay then.
+    /// Adds the items that an iterator gives. Within the capacity it takes no memory and succeeds.
+    ///
+    /// Else it may be refused with `OutOfMemory`: the items that came until the capacity was reached stay then. How many
+    /// items the iterator hints at guides how much room is asked for. Where that is refused, room for one is asked for,
+    /// so a hint decides no answer.
     pub fn extend<I: IntoIterator<Item = T>>(&mut self, iter: I) -> Result<(), BufferError>
         requires { IsFiniteIterable I.into_iter_gives I.IntoIter.can_next I.IntoIter.remaining iter }
-        ensures lengthens { ExtendsWithItems I.into_iter_gives I.IntoIter.next_gives (λ old items new. Lengthens items old new) iter self.old self.new result }
-        ensures in_place { ((it : I.IntoIter) → I.into_iter_gives iter it → HoldsAlong I.IntoIter.next_gives it (λ items. HasRoom self.old (length items))) → IsOk result }
+        ensures lengthens { ExtendsWithItems I.into_iter_gives I.IntoIter.next_gives
+            (λ old items new. Lengthens items old new) iter self.old self.new result }
+        ensures in_place { ((it : I.IntoIter) → I.into_iter_gives iter it
+            → HoldsAlong I.IntoIter.next_gives it (λ items. HasRoom self.old (length items))) → IsOk result }
+        ensures full { OnErr result (length self.new.list ≡ self.new.room) }
         ensures refused { IsOkUnless result BufferError.OutOfMemory }
     {
+        let iter = iter.into_iter();
+        let end = self.items.len().saturating_add(iter.size_hint().0);
         for item in iter {
-            self.push(item)?;
+            let len = self.items.len();
+            if len == self.items.capacity() {
+                self.reserve_by_hint(end.saturating_sub(len))?;
+            }
+            self.push_unchecked(item);
         }
         Ok(())
+    }
+
+    // Makes room for one more item, and for as many as are hinted at where memory allows it.
+    fn reserve_by_hint(&mut self, hint: usize) -> Result<(), BufferError>
+        ensures ok { OnOk result (Lengthens [] self.old self.new) }
+        ensures room { OnOk result (HasRoom self.new 1) }
+        ensures err { OnErr result (self.new ≡ self.old) }
+        ensures refused { IsOkUnless result BufferError.OutOfMemory }
+    {
+        if self.reserve(hint.max(1)).is_ok() {
+            return Ok(());
+        }
+        self.reserve(1)
     }
 
     /// Adds the items that an iterator of known length gives, all of them or none. Within the capacity it takes no

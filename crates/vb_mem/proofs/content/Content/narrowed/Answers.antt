@@ -4,14 +4,15 @@ use Rattle.vb_mem.proofs.Windows.{slice_range-window}
 use Rattle.vb_mem.proofs.content.Content.narrowed.Goals as goal
 
 -- the part's window is cut from the one that was shown
-pub returns-in-Part-clause-shows : goal.returns-in-Part-clause-shows
-returns-in-Part-clause-shows g c =
+pub returns-in-Some-clause-shows : goal.returns-in-Some-clause-shows
+returns-in-Some-clause-shows g c =
     let range = c.args.range in
-    let part = c.in-Part in
-    let within = rw part.is at c.requires.can_slice in
-    let short : range.end ≤ part.outer.len = omega (arith, simp length-take at within.1) in
-    rw part.is (record {
-      list = sym (slice_range-window part.storage.value.list part.outer.start part.outer.len range.start range.end within.0 short);
+    let rc = c.in-Stored.storage in
+    let outer = c.in-Some.outer in
+    let within = rw (c.in-Stored.is, c.in-Some.is) at c.requires.can_slice in
+    let short : range.end ≤ outer.len = omega (arith, simp length-take at within.1) in
+    rw (c.in-Stored.is, c.in-Some.is) (record {
+      list = sym (slice_range-window rc.value.list outer.start outer.len range.start range.end within.0 short);
       alignment = refl;
       place = λ _. omega arith;
       declared = λ _. refl;
