@@ -2,7 +2,8 @@
 use std::alloc::Allocator;
 use std::fmt::Debug;
 use std::process::Abort;
-use vb_mem::{Buffer, BufferMut};
+use vb_core::BufferError;
+use vb_mem::Buffer;
 
 /// The two values are equal.
 pub fn equal<T: Copy + PartialEq + Debug>(rt: &impl Abort, given: T, wanted: T) {
@@ -14,26 +15,16 @@ pub fn equal_lists<T: PartialEq + Debug>(rt: &impl Abort, given: &[T], wanted: &
     assert_eq!(rt; given, wanted);
 }
 
-/// A growing buffer has these items, and these alignments in bytes: the reported and the declared one.
-pub fn holds<A: Allocator>(
-    rt: &impl Abort,
-    buffer: BufferMut<u32, A>,
-    items: &[u32],
-    (alignment, declared): (usize, usize),
-) {
-    equal_lists(rt, buffer.as_slice(), items);
-    equal(rt, buffer.alignment().as_usize(), alignment);
-    equal(rt, buffer.declared().as_usize(), declared);
-}
-
-/// A shared buffer has these items, and these alignments in bytes: the reported and the declared one.
+/// What was made has these items, and these alignments in bytes: the reported and the declared one.
 pub fn shows<A: Allocator>(
     rt: &impl Abort,
-    buffer: Buffer<u32, A>,
+    made: Result<Buffer<u32, A>, BufferError>,
     items: &[u32],
     (alignment, declared): (usize, usize),
-) {
+) -> Result<(), BufferError> {
+    let buffer = made?;
     equal_lists(rt, buffer.as_slice(), items);
-    equal(rt, buffer.alignment().as_usize(), alignment);
-    equal(rt, buffer.declared().as_usize(), declared);
+    let alignments = (buffer.alignment().as_usize(), buffer.declared().as_usize());
+    equal(rt, alignments, (alignment, declared));
+    Ok(())
 }

@@ -1,21 +1,22 @@
-//! Tests of list buffers: examples with known answers, and each request for memory refused in turn.
+//! Tests of list buffers: examples with known answers, each request for memory refused in turn, and what calls ask of the
+//! allocator.
 #![tactic(auto)]
 
 #[cfg(test)]
 mod byte_form;
 #[cfg(test)]
+mod changes;
+#[cfg(test)]
 mod compared;
+#[cfg(test)]
+mod costs;
 #[cfg(test)]
 mod growth;
 #[cfg(test)]
 mod iterators;
 #[cfg(test)]
+mod makers;
+#[cfg(test)]
 mod places;
-#[cfg(test)]
-mod refused_changes;
-#[cfg(test)]
-mod refused_makers;
-#[cfg(test)]
-mod requests;
 #[cfg(test)]
 mod sharing;

@@ -1,9 +1,8 @@
 //! Alignments and places of buffers and of their slices.
 use crate::compared::{equal, equal_lists, shows};
-use std::alloc::Global;
 use std::test::Fail;
 use vb_core::{Alignment, BufferError};
-use vb_mem::Buffer;
+use vb_mem::{Buffer, BufferMut};
 
 #[test]
 fn a_slice_keeps_its_place(rt: HostRuntime) -> Result<(), Fail> {
@@ -14,20 +13,8 @@ fn a_slice_keeps_its_place(rt: HostRuntime) -> Result<(), Fail> {
     equal(&rt, tail.is_aligned(Alignment::of::<u32>()), true);
     let refused = tail.clone()?.ensure_aligned(Alignment::of::<u64>()).err();
     equal(&rt, refused, Some(BufferError::NotAligned));
-    shows(
-        &rt,
-        tail.aligned(Alignment::of::<u64>())?,
-        &[2, 3],
-        (8, 256),
-    );
-    Ok(())
-}
-
-#[test]
-fn a_slice_of_nothing_has_every_alignment(rt: HostRuntime) -> Result<(), Fail> {
-    let buffer = Buffer::copy_from(rt.alloc(), &[1u32, 2, 3])?;
-    let nothing = buffer.slice_unaligned(0..0)?;
-    equal(&rt, nothing.is_aligned(Alignment::MAX), true);
+    let eight = Alignment::of::<u64>();
+    shows(&rt, tail.aligned(eight), &[2, 3], (8, 256))?;
     Ok(())
 }
 
@@ -38,6 +25,8 @@ fn a_slice_of_nothing_keeps_its_alignment(rt: HostRuntime) -> Result<(), Fail> {
     let nothing = zeros.slice(0..0)?;
     equal(&rt, nothing.is_empty(), true);
     equal(&rt, nothing.alignment().as_usize(), 64);
+    let nothing = zeros.slice_unaligned(0..0)?;
+    equal(&rt, nothing.is_aligned(Alignment::MAX), true);
     Ok(())
 }
 
@@ -50,27 +39,20 @@ fn storage_is_over_aligned_unless_asked(rt: HostRuntime) -> Result<(), Fail> {
     let eight = Alignment::of::<u64>();
     let word = Buffer::copy_from_preferred_aligned(rt.alloc(), &[7u64], eight, None)?;
     equal(&rt, word.declared().as_usize(), 8);
-    Ok(())
-}
-
-/// The bytes of the numbers from 0 to 4.
-fn five_numbers(alloc: Global) -> Result<Buffer<u8, Global>, BufferError> {
-    Buffer::copy_from(alloc, &[0i32, 1, 2, 3, 4])?.into_byte_buffer()
-}
-
-#[test]
-fn a_slice_of_bytes_may_be_out_of_place(rt: HostRuntime) -> Result<(), Fail> {
-    let bytes = five_numbers(rt.alloc())?;
-    equal(&rt, bytes.can_slice(1..2, Alignment::of::<i32>()), false);
-    assert!(rt; bytes.len() == 20);
-    equal_lists(&rt, bytes.slice_unaligned(1..2)?.as_slice(), &[0]);
+    let empty = Buffer::<u64, _>::empty(rt.alloc());
+    equal(&rt, empty.alignment().as_usize(), 8);
+    let empty = BufferMut::<u64, _>::empty(rt.alloc());
+    equal(&rt, empty.declared().as_usize(), 256);
     Ok(())
 }
 
 #[test]
 fn a_slice_is_placed_from_the_start_of_the_storage(rt: HostRuntime) -> Result<(), Fail> {
-    let bytes = five_numbers(rt.alloc())?;
+    let numbers = Buffer::copy_from(rt.alloc(), &[0i32, 1, 2, 3, 4])?;
+    let bytes = numbers.into_byte_buffer()?;
+    equal(&rt, bytes.can_slice(1..2, Alignment::of::<i32>()), false);
     assert!(rt; bytes.len() == 20);
+    equal_lists(&rt, bytes.slice_unaligned(1..2)?.as_slice(), &[0]);
     let tail = bytes.slice_unaligned(1..20)?;
     equal(&rt, tail.can_slice(0..4, Alignment::of::<i32>()), false);
     equal(&rt, tail.can_slice(3..7, Alignment::of::<i32>()), true);
@@ -81,11 +63,7 @@ fn a_slice_is_placed_from_the_start_of_the_storage(rt: HostRuntime) -> Result<()
 fn an_alignment_that_is_there_needs_no_copy(rt: HostRuntime) -> Result<(), Fail> {
     let buffer = Buffer::copy_from(rt.alloc(), &[1u32, 2, 3, 4])?;
     let tail = buffer.slice_unaligned(2..4)?;
-    shows(
-        &rt,
-        tail.ensure_aligned(Alignment::of::<u64>())?,
-        &[3, 4],
-        (8, 256),
-    );
+    let eight = Alignment::of::<u64>();
+    shows(&rt, tail.ensure_aligned(eight), &[3, 4], (8, 256))?;
     Ok(())
 }

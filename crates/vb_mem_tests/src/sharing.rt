@@ -71,17 +71,3 @@ fn a_buffer_is_narrowed_and_cleared(rt: HostRuntime) -> Result<(), Fail> {
     equal_lists(&rt, twin.as_slice(), &[1, 2, 3]);
     Ok(())
 }
-
-#[test]
-fn an_empty_buffer_has_an_alignment(rt: HostRuntime) {
-    equal(
-        &rt,
-        Buffer::<u64, _>::empty(rt.alloc()).alignment().as_usize(),
-        8,
-    );
-    equal(
-        &rt,
-        BufferMut::<u64, _>::empty(rt.alloc()).declared().as_usize(),
-        256,
-    );
-}

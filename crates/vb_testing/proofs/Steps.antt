@@ -1,5 +1,5 @@
 -- The names that the walks of the allocators cite.
-pub use Rattle.std.proofs.Common.{◌≡◌, ℕ, [], ◌∷◌, refl, ap, sym, subst, w64}
+pub use Rattle.std.proofs.Common.{◌≡◌, ◌^◌, ℕ, [], ◌∷◌, refl, ap, sym, subst, w64}
 pub use Rattle.std.proofs.raw_atomic.Walks.{proved}
 pub use Rattle.std.proofs.VecSteps.Shapes.{after}
 pub use Rattle.std.proofs.alloc.Calls.{Al, token, Takes, at_takes, Answered, Takes-goes, Takes-gives, Answer, answer_val, Answer-typed, Gives, at_gives, Gives-goes, Gives-Gives}
@@ -13,7 +13,7 @@ pub use mir.MapTy.{inst_fn}
 pub use mir.Syntax.{Fn, ty_unit, named}
 pub use mir.Val.{Val, vunit, vint, vptr, has_ty, WT}
 pub use prog.Wp.{WpFn}
-pub use types.Kit.{‵, raw, ◌⊛◌, some, later, given, prop, at_ret, Sq, ◌$◌, ◌∵◌, !, qed, done, move, keep, drop, use0, use1, use2, split, split3, join, fsplit, fjoin, feq_i, feq_l, pick, learn, await, regoal, suffices, group}
+pub use types.Kit.{‵, raw, ◌⊛◌, some, later, given, prop, at_ret, Sq, ◌$◌, ◌∵◌, !, qed, done, move, keep, drop, use0, use1, use2, split, split3, join, fsplit, fjoin, feq_i, feq_l, flt_i, pick, learn, await, regoal, suffices, group}
 pub use types.Run.{enter, of_opd, lit, unit_lit, addr, stop, fld, no_more, and_then, first, blocks, branches, skips, exec, returns, returns_within}
 pub use types.ByLocal.{alloc_all, pass_all, free_all, look_at, get, through, sets, lands_as, lands_last, env}
 pub use types.Logic.{sem}

@@ -1,10 +1,11 @@
-//! An allocator that refuses one request, so that a test can let each request fail in turn.
+//! An allocator that refuses one request, so that a test can let each request fail in turn, and that counts what is
+//! asked of it, so that a test can hold a call to what it may take.
 ghost use Rattle.std.specs.Prelude.{◌≡◌};
 
 use std::alloc::{AllocError, Allocator};
 use std::cell::Cell;
 
-/// Passes requests for memory on to another allocator, counts them, and refuses one of them.
+/// Passes requests for memory on to another allocator, counts them and their bytes, and refuses one of them.
 ///
 /// A `&` to it is an allocator too, which can be copied and shares the count, so code under test
 /// takes `&heap` while the test keeps `heap`, asks it how many requests there were, and refuses
@@ -33,6 +34,7 @@ impl<B: Allocator> Refusing<B> {
             inner,
             requests: Requests {
                 asked: Cell::new(0),
+                bytes: Cell::new(0),
                 refused: Cell::new(n),
             },
         }
@@ -42,6 +44,7 @@ impl<B: Allocator> Refusing<B> {
     /// at 0.
     pub fn refuse(&self, n: u64) {
         self.requests.asked.set(0);
+        self.requests.bytes.set(0);
         self.requests.refused.set(n);
     }
 
@@ -49,6 +52,12 @@ impl<B: Allocator> Refusing<B> {
     /// The count stops at `u64::MAX`.
     pub fn asked(&self) -> u64 {
         self.requests.asked.get()
+    }
+
+    /// How many bytes were asked for since `new` or the last `refuse`, by the refused request too. To grow a block asks
+    /// for all bytes of the greater one. The count stops at `usize::MAX`.
+    pub fn asked_bytes(&self) -> usize {
+        self.requests.bytes.get()
     }
 
     /// Whether the request that was to be refused came, since `new` or the last `refuse`.
@@ -59,7 +68,7 @@ impl<B: Allocator> Refusing<B> {
 
     // Counts one request that is none for memory, and answers whether it is the one that is refused.
     pub(crate) fn refuses_next(&self) -> bool {
-        self.requests.refuses_next()
+        self.requests.refuses_next(0)
     }
 }
 
@@ -67,7 +76,7 @@ unsafe impl<B: Allocator> Allocator for Refusing<B> {
     ghost dealloc_token = { λ heap. B.dealloc_token heap.inner };
 
     fn allocate(&self, size: usize, align: usize) -> Result<*mut u8, AllocError> {
-        if self.requests.refuses_next() {
+        if self.requests.refuses_next(size) {
             return Err(AllocError);
         }
         self.inner.allocate(size, align)
@@ -78,18 +87,20 @@ unsafe impl<B: Allocator> Allocator for Refusing<B> {
     }
 }
 
-/// The number of requests so far, and the number of the one that is refused, 0 for none.
+/// The number of requests so far and of their bytes, and the number of the one that is refused, 0 for none.
 #[derive(Drop)]
 struct Requests {
     asked: Cell<u64>,
+    bytes: Cell<usize>,
     refused: Cell<u64>,
 }
 
 impl Requests {
-    // Counts one request, and answers whether it is the one that is refused.
-    fn refuses_next(&self) -> bool {
+    // Counts one request for so many bytes, and answers whether it is the one that is refused.
+    fn refuses_next(&self, size: usize) -> bool {
         let number = self.asked.get().saturating_add(1);
         self.asked.set(number);
+        self.bytes.set(self.bytes.get().saturating_add(size));
         number == self.refused.get()
     }
 }

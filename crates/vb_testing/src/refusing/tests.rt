@@ -75,3 +75,16 @@ fn a_lone_owner_makes_no_request_and_a_shared_one_makes_one(rt: HostRuntime) -> 
     assert_eq!(rt; (heap.asked(), *shared, *twin), (2, 7, 6));
     Ok(())
 }
+
+#[test]
+fn counts_bytes_and_forgets_them(rt: HostRuntime) -> Result<(), Fail> {
+    let heap = Refusing::new(rt.alloc(), 0);
+    let mut list = Vec::from_elem(&heap, 1u32, 5)?;
+    assert_eq!(rt; (heap.asked(), heap.asked_bytes()), (1, 20));
+    list.reserve_exact(3)?;
+    assert_eq!(rt; (heap.asked(), heap.asked_bytes()), (2, 20 + 32));
+    heap.refuse(0);
+    drop(list);
+    assert_eq!(rt; (heap.asked(), heap.asked_bytes()), (0, 0));
+    Ok(())
+}

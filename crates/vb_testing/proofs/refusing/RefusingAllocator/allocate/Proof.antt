@@ -1,5 +1,5 @@
 -- A request is counted through a `&` to the counts, and then refused or passed on through a `&` to the allocator within. Assumes `Logic`.
-use Rattle.vb_testing.proofs.Steps.{◌≡◌, ℕ, [], ◌∷◌, refl, ap, w64, proved, after, Al, token, Takes, at_takes, Answered, Takes-goes, Takes-gives, Answer, answer_val, Answer-typed, id⊢, ftrue, flft, ◌⊑◌, ⊑_trans, fact, tables, inst_fn, Fn, named, vptr, ‵, raw, ◌⊛◌, some, later, given, prop, at_ret, Sq, ◌$◌, ◌∵◌, !, qed, done, move, keep, drop, use0, use1, use2, split, split3, join, fsplit, fjoin, feq_i, feq_l, pick, learn, await, suffices, group, enter, lit, addr, stop, fld, no_more, and_then, first, branches, skips, exec, returns, returns_within, alloc_all, pass_all, free_all, look_at, get, through, sets, lands_as, env, agg, usize, bool, RefOf, yes, hidden_shr, param, uint_vals, uint_Tells, owns, only, shr_vals, shr_Tells, Slot, plain, types_at, heard, nothing, calls_at, Ended, lasts, triple_of, framed, Stays, walk_of, stay_dropped, Goes-dropped, ends_at}
+use Rattle.vb_testing.proofs.Steps.{◌≡◌, ◌^◌, ℕ, [], ◌∷◌, refl, ap, w64, proved, after, Al, token, Takes, at_takes, Answered, Takes-goes, Takes-gives, Answer, answer_val, Answer-typed, id⊢, ftrue, flft, ◌⊑◌, ⊑_trans, fact, tables, inst_fn, Fn, named, vint, vptr, ‵, raw, ◌⊛◌, some, later, given, prop, at_ret, Sq, ◌$◌, ◌∵◌, !, qed, done, move, keep, drop, use0, use1, use2, split, split3, join, fsplit, fjoin, feq_i, feq_l, flt_i, pick, learn, await, suffices, group, enter, lit, addr, stop, fld, no_more, and_then, first, branches, skips, exec, returns, returns_within, alloc_all, pass_all, free_all, look_at, get, through, sets, lands_as, env, agg, usize, bool, RefOf, yes, hidden_shr, param, uint_vals, uint_Tells, owns, only, shr_vals, shr_Tells, Slot, plain, types_at, heard, nothing, calls_at, Ended, lasts, triple_of, framed, Stays, walk_of, stay_dropped, Goes-dropped, ends_at}
 use mathlib.Core.Bool.{Bool, false}
 use Rattle.std.specs.Allocator.{block_if_ok, HasLayout}
 use Rattle.std.proofs.alloc.Calls.{got}
@@ -54,12 +54,13 @@ allocate_spec 𝓤 𝓛 𝓜 𝓡 wired B L gs d dd met md =
     enter ! _ _ _ _ _ $ alloc_all ! (λ l. pass_all ! refl ((tt, tt), ((tt, record { fits = are.1.0.1 }), ((tt, record { fits = are.1.1.0.1 }), tt))) $
     sets ! (addr ! (through ! refl (fld ! refl (stop !)))) refl (tt, tt) $
     let G = triple_of 𝓛 g.signature (g.spec 𝓛 𝓜.mem 𝓡.returns) in
-    let z : G.Ghost = (((κ, tt), (qs.0, tt), tt, (record { ref_ptr = (b, requests_at B o); now = heap.requests }, tt), (vptr b (requests_at B o) ∷ [], tt)), tt) in
-    feq_i ! _ (vptr b (requests_at B o) ∷ []) _ refl $ fjoin ! $ nothing ! $ move ! (1 ∷ 0 ∷ []) $ join ! $
+    let z : G.Ghost = (((κ, tt), (qs.0, tt), tt, (record { ref_ptr = (b, requests_at B o); now = heap.requests }, (size, tt)), (vptr b (requests_at B o) ∷ [], (uint_vals w64 size, tt))), tt) in
+    nothing ! $ flt_i ! size (2 ^ 64) are.1.0.1 $ feq_i ! _ (vint w64 size ∷ []) _ refl $ fjoin ! $ fjoin ! $ move ! (1 ∷ 0 ∷ []) $
+    feq_i ! _ (vptr b (requests_at B o) ∷ []) _ refl $ fjoin ! $ fjoin ! $
     nothing ! $ move ! (2 ∷ 0 ∷ []) $ join ! $ join ! $ nothing ! $ move ! (1 ∷ 0 ∷ []) $ use2 𝓛 (raw (G.pre z)) (id⊢ 𝓤 _) $
-    calls_at ! (framed 𝓤 𝓛.H 𝓜 𝓣) G (counted.met 𝓤 𝓛 𝓜 𝓡 (code.calls-vb_testing::refusing::Requests::refuses_next 𝓡.env wired)) z (and_then ! (get ! refl) (no_more !)) (λ v.
+    calls_at ! (framed 𝓤 𝓛.H 𝓜 𝓣) G (counted.met 𝓤 𝓛 𝓜 𝓡 (code.calls-vb_testing::refusing::Requests::refuses_next 𝓡.env wired)) z (and_then ! (get ! refl) (and_then ! (get ! refl) (no_more !))) (λ v.
     use1 𝓛 (later (some (λ (refuses : Bool). ((‵ (flft κ qs.0) ⊛ ‵ ftrue) ⊛ ‵ (bool.own_val refuses (v ∷ []))) ⊛
-    some (λ (ws : Unit {0} × Unit {0}). ‵ (lasts g.ended z.0.0 z.0.3 ws) ⊛ ‵ ftrue)))) (id⊢ 𝓤 _) $ await ! tt $ pick ! (λ refuses.
+    some (λ (ws : Unit {0} × (Unit {0} × Unit {0})). ‵ (lasts g.ended z.0.0 z.0.3 ws) ⊛ ‵ ftrue)))) (id⊢ 𝓤 _) $ await ! tt $ pick ! (λ refuses.
     split ! $ split ! $ split ! $ move ! (2 ∷ []) $ feq_l ! (λ is_bool. move ! (1 ∷ 2 ∷ []) $ drop ! $ drop ! $
     lands_as ! (ap only is_bool) refl (tt, tt) $
     -- [the token of κ; the `&` to the allocator within; the other token]

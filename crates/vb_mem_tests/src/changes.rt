@@ -1,0 +1,199 @@
+//! Changes of a buffer: what stands after a refused one, and that none gives up while there is memory.
+use crate::compared::{equal, equal_lists};
+use std::alloc::Allocator;
+use std::process::Abort;
+use std::test::Fail;
+use vb_core::{BufferError, ExtendError, trusted_len};
+use vb_mem::{Buffer, BufferMut};
+use vb_testing::{Handle, Refusing, answers_refusal, each_refused};
+
+/// A change of a growing buffer that is made as a whole or not at all.
+enum Change {
+    Reserve,
+    Push,
+    PushN,
+    ExtendFromSlice,
+    Extend,
+    ExtendTrusted,
+    TryExtendTrusted,
+    Take,
+}
+
+impl Change {
+    fn make<A: Allocator + Clone>(
+        &self,
+        buffer: &mut BufferMut<u32, A>,
+    ) -> Result<(), BufferError> {
+        match self {
+            Change::Reserve => {
+                buffer.reserve(3)?;
+                buffer.push_n_unchecked(8, 3);
+                Ok(())
+            }
+            Change::Push => buffer.push(8),
+            Change::PushN => buffer.push_n(8, 3),
+            Change::ExtendFromSlice => buffer.extend_from_slice(&[8; 3]),
+            Change::Extend => buffer.extend(0..3u32),
+            Change::ExtendTrusted => buffer.extend_trusted(0..3u32),
+            Change::TryExtendTrusted => try_extend(buffer),
+            Change::Take => {
+                buffer.take()?;
+                Ok(())
+            }
+        }
+    }
+}
+
+fn try_extend<A: Allocator>(buffer: &mut BufferMut<u32, A>) -> Result<(), BufferError> {
+    let values = [Ok::<u32, BufferError>(8)];
+    match buffer.try_extend_trusted(trusted_len(values.iter().copied(), 1)) {
+        Ok(()) => Ok(()),
+        Err(ExtendError::Memory) => Err(BufferError::OutOfMemory),
+        Err(ExtendError::Item(error)) => Err(error),
+    }
+}
+
+/// A change in a state in which it takes memory.
+enum Trial {
+    /// Of sevens up to the capacity.
+    Full(Change),
+    /// Items are added one by one, and the room is made more than once.
+    Extend,
+    /// A clone is made mutable.
+    OpenClone,
+    /// The items of a clone are written.
+    WriteClone,
+}
+
+impl Trial {
+    /// Makes the change. What its refusal leaves is compared here.
+    fn make<A: Allocator + Clone>(&self, rt: &impl Abort, alloc: A) -> Result<(), BufferError> {
+        match self {
+            Trial::Full(change) => change_sevens(rt, alloc, change),
+            Trial::Extend => extend(rt, BufferMut::copy_from(alloc, &[0, 1, 2])?),
+            Trial::OpenClone => open_clone(rt, Buffer::copy_from(alloc, &[1, 2, 3])?),
+            Trial::WriteClone => write_clone(rt, Buffer::copy_from(alloc, &[1, 2, 3])?),
+        }
+    }
+}
+
+fn change_sevens<A: Allocator + Clone>(
+    rt: &impl Abort,
+    alloc: A,
+    change: &Change,
+) -> Result<(), BufferError> {
+    let mut buffer = BufferMut::with_capacity(alloc, 4)?;
+    let room = buffer.capacity();
+    buffer.push_n(7, room)?;
+    let answer = change.make(&mut buffer);
+    if answer.is_err() {
+        equal(rt, (buffer.len(), buffer.capacity()), (room, room));
+        equal(rt, buffer.as_slice().iter().all(|item| *item == 7), true);
+    }
+    answer
+}
+
+/// Adds items of which each is its place. Those that came before a refusal stay.
+fn extend<A: Allocator>(
+    rt: &impl Abort,
+    mut buffer: BufferMut<usize, A>,
+) -> Result<(), BufferError> {
+    let answer = buffer.extend(3..100usize);
+    let kept = match answer {
+        Ok(()) => 100,
+        Err(_) => buffer.capacity(),
+    };
+    equal(rt, buffer.as_slice().iter().copied().eq(0..kept), true);
+    answer
+}
+
+fn open_clone<A: Allocator + Clone>(
+    rt: &impl Abort,
+    original: Buffer<u32, A>,
+) -> Result<(), BufferError> {
+    let opened = original.clone()?.into_mut();
+    equal_lists(rt, original.as_slice(), &[1, 2, 3]);
+    equal_lists(rt, opened?.as_slice(), &[1, 2, 3]);
+    Ok(())
+}
+
+fn write_clone<A: Allocator + Clone>(
+    rt: &impl Abort,
+    original: Buffer<u32, A>,
+) -> Result<(), BufferError> {
+    let mut copy = original.clone()?;
+    let answer = copy.items_mut().map(|items| items.clear());
+    equal_lists(rt, original.as_slice(), &[1, 2, 3]);
+    let kept = if answer.is_ok() { 0 } else { 3 };
+    equal(rt, (copy.len(), copy.alignment().as_usize()), (kept, 4));
+    answer
+}
+
+/// The changes, and how many requests each makes with its buffer: at least, and at most.
+const TRIALS: &[(Trial, u64, u64)] = &[
+    (Trial::Full(Change::Reserve), 2, 2),
+    (Trial::Full(Change::Push), 2, 2),
+    (Trial::Full(Change::PushN), 2, 2),
+    (Trial::Full(Change::ExtendFromSlice), 2, 2),
+    (Trial::Full(Change::Extend), 2, 2),
+    (Trial::Full(Change::ExtendTrusted), 2, 2),
+    (Trial::Full(Change::TryExtendTrusted), 2, 2),
+    (Trial::Full(Change::Take), 2, 2),
+    (Trial::Extend, 3, 99),
+    (Trial::OpenClone, 4, 99),
+    (Trial::WriteClone, 4, 99),
+];
+
+#[test]
+fn a_refused_change_leaves_the_buffer(rt: HostRuntime) -> Result<(), Fail> {
+    for (trial, least, most) in TRIALS {
+        let requests = each_refused(rt.alloc(), |heap| {
+            let answer = trial.make(&rt, Handle { inner: heap });
+            answers_refusal(heap, answer, BufferError::OutOfMemory)
+        })?;
+        assert!(rt; Some(*least) <= requests && requests <= Some(*most));
+    }
+    Ok(())
+}
+
+/// The changes that lengthen, each with the items that it adds.
+const GROWING: &[(Change, &[u32])] = &[
+    (Change::Reserve, &[8, 8, 8]),
+    (Change::Push, &[8]),
+    (Change::PushN, &[8, 8, 8]),
+    (Change::ExtendFromSlice, &[8, 8, 8]),
+    (Change::Extend, &[0, 1, 2]),
+    (Change::ExtendTrusted, &[0, 1, 2]),
+    (Change::TryExtendTrusted, &[8]),
+];
+
+/// Makes a change again and again, from no room on.
+fn grow<A: Allocator + Clone>(
+    rt: &impl Abort,
+    alloc: A,
+    change: &Change,
+    items: &[u32],
+) -> Result<(), BufferError> {
+    let mut buffer = BufferMut::empty(alloc);
+    for _ in 0..5000 {
+        change.make(&mut buffer)?;
+    }
+    equal(rt, buffer.len(), 5000usize.saturating_mul(items.len()));
+    for (added, wanted) in buffer.as_slice().iter().zip(items.iter().cycle()) {
+        equal(rt, *added, *wanted);
+    }
+    Ok(())
+}
+
+/// A body that gives up once the buffer has grown to some length fails here, and so does one that asks for room at each
+/// call, or for more and more of it.
+#[test]
+fn growth_goes_on_while_there_is_memory(rt: HostRuntime) -> Result<(), Fail> {
+    for (change, items) in GROWING {
+        let heap = Refusing::new(rt.alloc(), 0);
+        grow(&rt, &heap, change, items)?;
+        equal(&rt, heap.asked() <= 20, true);
+        equal(&rt, heap.asked_bytes() <= 4 * 4 * 15_000, true);
+    }
+    Ok(())
+}

@@ -1,0 +1,294 @@
+//! Calls that make a buffer: what they make, and each of their requests for memory refused in turn.
+use crate::compared::shows;
+use std::alloc::Allocator;
+use std::test::Fail;
+use vb_core::{Alignment, BufferError, ExtendError, trusted_len};
+use vb_mem::{Buffer, BufferMut};
+use vb_testing::{Handle, answers_refusal, each_refused};
+
+/// A call that makes a growing buffer.
+enum Growing {
+    WithCapacity,
+    WithCapacityAligned,
+    WithCapacityPreferredAligned,
+    Zeroed,
+    ZeroedAligned,
+    ZeroedPreferredAligned,
+    Full,
+    Clone,
+    Aligned,
+    CopyFrom,
+    CopyFromAligned,
+    CopyFromPreferredAligned,
+    FromIter,
+    FromTrustedLenIter,
+    TryFromTrustedLenIter,
+    IntoMut,
+}
+
+impl Growing {
+    fn make<A: Allocator + Clone>(&self, alloc: A) -> Result<BufferMut<u32, A>, BufferError> {
+        let (four, wide) = (Alignment::of::<u32>(), Alignment::from_exponent(9));
+        match self {
+            Growing::WithCapacity => BufferMut::with_capacity(alloc, 3),
+            Growing::WithCapacityAligned => BufferMut::with_capacity_aligned(alloc, 3, wide),
+            Growing::WithCapacityPreferredAligned => {
+                BufferMut::with_capacity_preferred_aligned(alloc, 3, four, None)
+            }
+            Growing::Zeroed => BufferMut::zeroed(alloc, 2),
+            Growing::ZeroedAligned => BufferMut::zeroed_aligned(alloc, 2, wide),
+            Growing::ZeroedPreferredAligned => {
+                BufferMut::zeroed_preferred_aligned(alloc, 2, four, Some(wide))
+            }
+            Growing::Full => BufferMut::full(alloc, 7, 3),
+            Growing::Clone => cloned(BufferMut::copy_from(alloc, &[1, 2])?),
+            Growing::Aligned => BufferMut::copy_from(alloc, &[1, 2])?.aligned(wide),
+            Growing::CopyFrom => BufferMut::copy_from(alloc, &[1, 2]),
+            Growing::CopyFromAligned => BufferMut::copy_from_aligned(alloc, &[1, 2], wide),
+            Growing::CopyFromPreferredAligned => {
+                BufferMut::copy_from_preferred_aligned(alloc, &[1, 2], four, None)
+            }
+            Growing::FromIter => BufferMut::from_iter(alloc, 3..6u32),
+            Growing::FromTrustedLenIter => BufferMut::from_trusted_len_iter(alloc, 3..6u32),
+            Growing::TryFromTrustedLenIter => try_collected(alloc),
+            Growing::IntoMut => Buffer::copy_from(alloc, &[1, 2])?.into_mut(),
+        }
+    }
+}
+
+pub fn cloned<A: Allocator + Clone>(
+    buffer: BufferMut<u32, A>,
+) -> Result<BufferMut<u32, A>, BufferError> {
+    buffer.clone()
+}
+
+fn try_collected<A: Allocator>(alloc: A) -> Result<BufferMut<u32, A>, BufferError> {
+    let values = [Ok::<u32, BufferError>(20)];
+    let values = trusted_len(values.iter().copied(), 1);
+    match BufferMut::try_from_trusted_len_iter(alloc, values) {
+        Ok(buffer) => Ok(buffer),
+        Err(ExtendError::Memory) => Err(BufferError::OutOfMemory),
+        Err(ExtendError::Item(error)) => Err(error),
+    }
+}
+
+/// A call that makes a buffer that may be shared.
+enum Shared {
+    Frozen(Growing),
+    Clone,
+    Aligned,
+    CopyFromAligned,
+    CopyFromPreferredAligned,
+    Zeroed,
+    ZeroedAligned,
+    ZeroedPreferredAligned,
+    Full,
+    FromIter,
+    FromTrustedLenIter,
+    FromVec,
+    SliceUnaligned,
+    Slice,
+    SliceWithAlignment,
+    Bytes(Form),
+}
+
+impl Shared {
+    fn make<A: Allocator + Clone>(&self, alloc: A) -> Result<Buffer<u32, A>, BufferError> {
+        let (four, wide) = (Alignment::of::<u32>(), Alignment::from_exponent(9));
+        match self {
+            Shared::Frozen(call) => call.make(alloc)?.freeze(),
+            Shared::Clone => twin(Buffer::copy_from(alloc, &[1, 2])?),
+            Shared::Aligned => Buffer::copy_from(alloc, &[1, 2])?.aligned(wide),
+            Shared::CopyFromAligned => Buffer::copy_from_aligned(alloc, &[1, 2], wide),
+            Shared::CopyFromPreferredAligned => {
+                Buffer::copy_from_preferred_aligned(alloc, &[1, 2], four, None)
+            }
+            Shared::Zeroed => Buffer::zeroed(alloc, 2),
+            Shared::ZeroedAligned => Buffer::zeroed_aligned(alloc, 2, wide),
+            Shared::ZeroedPreferredAligned => {
+                Buffer::zeroed_preferred_aligned(alloc, 2, four, Some(wide))
+            }
+            Shared::Full => Buffer::full(alloc, 7, 3),
+            Shared::FromIter => Buffer::from_iter(alloc, 3..6u32),
+            Shared::FromTrustedLenIter => Buffer::from_trusted_len_iter(alloc, 3..6u32),
+            Shared::FromVec => of_vector(alloc),
+            Shared::SliceUnaligned => unaligned_part(Buffer::copy_from(alloc, &[1, 2, 3])?),
+            Shared::Slice => sliced(Buffer::copy_from(alloc, &[1, 2, 3, 4])?, 2, 4),
+            Shared::SliceWithAlignment => aligned_part(Buffer::copy_from(alloc, &[1, 2, 3, 4])?),
+            Shared::Bytes(form) => form.make(alloc),
+        }
+    }
+}
+
+pub fn twin<A: Allocator + Clone>(buffer: Buffer<u32, A>) -> Result<Buffer<u32, A>, BufferError> {
+    buffer.clone()
+}
+
+fn of_vector<A: Allocator + Clone>(alloc: A) -> Result<Buffer<u32, A>, BufferError> {
+    let vector = [1u32, 2].to_vec(alloc.clone()?)?;
+    Buffer::from_vec(alloc, vector)
+}
+
+fn unaligned_part<A: Allocator + Clone>(
+    whole: Buffer<u32, A>,
+) -> Result<Buffer<u32, A>, BufferError> {
+    if whole.len() < 2 {
+        return Err(BufferError::NotAligned);
+    }
+    whole.slice_unaligned(1..2)
+}
+
+pub fn sliced<A: Allocator + Clone>(
+    whole: Buffer<u32, A>,
+    start: usize,
+    end: usize,
+) -> Result<Buffer<u32, A>, BufferError> {
+    if !whole.can_slice(start..end, whole.alignment()) {
+        return Err(BufferError::NotAligned);
+    }
+    whole.slice(start..end)
+}
+
+fn aligned_part<A: Allocator + Clone>(
+    whole: Buffer<u32, A>,
+) -> Result<Buffer<u32, A>, BufferError> {
+    let four = Alignment::of::<u32>();
+    if !whole.can_slice(3..4, four) {
+        return Err(BufferError::NotAligned);
+    }
+    whole.slice_with_alignment(3..4, four)
+}
+
+/// A way from items to bytes and back.
+enum Form {
+    AsBytes,
+    IntoByteBuffer,
+    IntoByteBufferOfGrowing,
+    FromByteBufferAligned,
+    IntoBytes,
+    FromBytesAligned,
+}
+
+impl Form {
+    fn make<A: Allocator + Clone>(&self, alloc: A) -> Result<Buffer<u32, A>, BufferError> {
+        let wide = Alignment::from_exponent(9);
+        match self {
+            Form::AsBytes => Buffer::from_byte_buffer(bytes_of(Buffer::copy_from(
+                alloc,
+                &[1, 2],
+            )?)?),
+            Form::IntoByteBuffer => {
+                Buffer::from_byte_buffer(Buffer::copy_from(alloc, &[1u32, 2])?.into_byte_buffer()?)
+            }
+            Form::IntoByteBufferOfGrowing => {
+                let bytes = BufferMut::copy_from(alloc, &[1u32, 2])?.into_byte_buffer()?;
+                Buffer::from_byte_buffer(bytes.freeze()?)
+            }
+            Form::FromByteBufferAligned => Buffer::from_byte_buffer_aligned(
+                bytes_of(Buffer::copy_from(alloc, &[1, 2])?)?,
+                wide,
+            ),
+            Form::IntoBytes => {
+                let bytes = Buffer::copy_from(alloc.clone()?, &[1u32, 2])?.into_bytes()?;
+                Buffer::from_bytes(alloc, bytes)
+            }
+            Form::FromBytesAligned => {
+                let bytes = Buffer::copy_from(alloc.clone()?, &[1u32, 2])?.into_bytes()?;
+                Buffer::from_bytes_aligned(alloc, bytes, wide)
+            }
+        }
+    }
+}
+
+fn bytes_of<A: Allocator + Clone>(items: Buffer<u32, A>) -> Result<Buffer<u8, A>, BufferError> {
+    items.as_bytes()
+}
+
+/// The calls, each with the items of what it makes, and the alignments: the reported and the declared one.
+const ROWS: &[(Shared, &[u32], (usize, usize))] = &[
+    (Shared::Frozen(Growing::WithCapacity), &[], (4, 256)),
+    (
+        Shared::Frozen(Growing::WithCapacityAligned),
+        &[],
+        (512, 512),
+    ),
+    (
+        Shared::Frozen(Growing::WithCapacityPreferredAligned),
+        &[],
+        (4, 4),
+    ),
+    (Shared::Frozen(Growing::Zeroed), &[0, 0], (4, 256)),
+    (Shared::Frozen(Growing::ZeroedAligned), &[0, 0], (512, 512)),
+    (
+        Shared::Frozen(Growing::ZeroedPreferredAligned),
+        &[0, 0],
+        (4, 512),
+    ),
+    (Shared::Frozen(Growing::Full), &[7, 7, 7], (4, 256)),
+    (Shared::Frozen(Growing::Clone), &[1, 2], (4, 256)),
+    (Shared::Frozen(Growing::Aligned), &[1, 2], (512, 512)),
+    (Shared::Frozen(Growing::CopyFrom), &[1, 2], (4, 256)),
+    (
+        Shared::Frozen(Growing::CopyFromAligned),
+        &[1, 2],
+        (512, 512),
+    ),
+    (
+        Shared::Frozen(Growing::CopyFromPreferredAligned),
+        &[1, 2],
+        (4, 4),
+    ),
+    (Shared::Frozen(Growing::FromIter), &[3, 4, 5], (4, 256)),
+    (
+        Shared::Frozen(Growing::FromTrustedLenIter),
+        &[3, 4, 5],
+        (4, 256),
+    ),
+    (
+        Shared::Frozen(Growing::TryFromTrustedLenIter),
+        &[20],
+        (4, 256),
+    ),
+    (Shared::Frozen(Growing::IntoMut), &[1, 2], (4, 256)),
+    (Shared::Clone, &[1, 2], (4, 256)),
+    (Shared::Aligned, &[1, 2], (512, 512)),
+    (Shared::CopyFromAligned, &[1, 2], (512, 512)),
+    (Shared::CopyFromPreferredAligned, &[1, 2], (4, 4)),
+    (Shared::Zeroed, &[0, 0], (4, 256)),
+    (Shared::ZeroedAligned, &[0, 0], (512, 512)),
+    (Shared::ZeroedPreferredAligned, &[0, 0], (4, 512)),
+    (Shared::Full, &[7, 7, 7], (4, 256)),
+    (Shared::FromIter, &[3, 4, 5], (4, 256)),
+    (Shared::FromTrustedLenIter, &[3, 4, 5], (4, 256)),
+    (Shared::FromVec, &[1, 2], (4, 4)),
+    (Shared::SliceUnaligned, &[2], (4, 256)),
+    (Shared::Slice, &[3, 4], (4, 256)),
+    (Shared::SliceWithAlignment, &[4], (4, 256)),
+    (Shared::Bytes(Form::AsBytes), &[1, 2], (4, 256)),
+    (Shared::Bytes(Form::IntoByteBuffer), &[1, 2], (4, 256)),
+    (
+        Shared::Bytes(Form::IntoByteBufferOfGrowing),
+        &[1, 2],
+        (4, 256),
+    ),
+    (
+        Shared::Bytes(Form::FromByteBufferAligned),
+        &[1, 2],
+        (512, 512),
+    ),
+    (Shared::Bytes(Form::IntoBytes), &[1, 2], (4, 256)),
+    (Shared::Bytes(Form::FromBytesAligned), &[1, 2], (512, 512)),
+];
+
+#[test]
+fn buffers_are_made_or_refused(rt: HostRuntime) -> Result<(), Fail> {
+    for (call, items, alignments) in ROWS {
+        let requests = each_refused(rt.alloc(), |heap| {
+            let made = call.make(Handle { inner: heap });
+            let answer = shows(&rt, made, items, *alignments);
+            answers_refusal(heap, answer, BufferError::OutOfMemory)
+        })?;
+        assert!(rt; requests >= Some(1), "room for the items");
+    }
+    Ok(())
+}

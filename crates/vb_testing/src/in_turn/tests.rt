@@ -1,0 +1,45 @@
+use crate::{WrongAnswer, answers_refusal, each_refused};
+use std::alloc::{AllocError, Allocator};
+use std::test::Fail;
+
+// Two requests.
+fn two_lists<A: Allocator + Clone>(alloc: A) -> Result<(), AllocError> {
+    let first = Vec::from_elem(alloc.clone()?, 1u8, 2)?;
+    let second = Vec::from_elem(alloc, 1u8, 2)?;
+    drop((first, second));
+    Ok(())
+}
+
+#[test]
+fn each_request_is_refused_and_then_none(rt: HostRuntime) -> Result<(), Fail> {
+    let requests = each_refused(rt.alloc(), |heap| {
+        answers_refusal(heap, two_lists(heap), AllocError)
+    })?;
+    assert_eq!(rt; requests, Some(2));
+    Ok(())
+}
+
+#[test]
+fn a_refusal_that_is_not_answered_is_an_error(rt: HostRuntime) {
+    let answer = each_refused(rt.alloc(), |heap| {
+        let _ = two_lists(heap);
+        answers_refusal(heap, Ok(()), AllocError)
+    });
+    let wrong = WrongAnswer {
+        request: 1,
+        answer: Ok(()),
+    };
+    assert_eq!(rt; answer, Err(wrong));
+}
+
+#[test]
+fn an_error_that_no_refusal_made_is_an_error(rt: HostRuntime) {
+    let answer = each_refused(rt.alloc(), |heap| {
+        answers_refusal(heap, Err(AllocError), AllocError)
+    });
+    let wrong = WrongAnswer {
+        request: 0,
+        answer: Err(AllocError),
+    };
+    assert_eq!(rt; answer, Err(wrong));
+}
