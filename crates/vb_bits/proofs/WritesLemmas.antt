@@ -1,6 +1,6 @@
 -- Writes of bits: one byte, a run of bytes, a word, one write after another, and what a write makes of a window.
 use Rattle.std.proofs.Common.{◌≡◌, ◌≢◌, ◌⊎◌, inl, inr, ℕ, zero, suc, ◌+◌, ◌-◌, ◌*◌, ◌/◌, ◌%◌, ◌^◌, ◌<◌, ◌≤◌, Bool, true, false, not, eqb, max, min, List, [], ◌∷◌, ◌++◌, length, get_or, set, take, drop, replicate, get_or-set_same, get_or-set_other, refl, sym, ap, subst, ◌∙◌, arith, rules, zero-add, add-zero}
-use Rattle.std.proofs.lemmas.List.{places, same_lists, length-append, length-replicate, length-map, length-set, length-take, length-drop, get_or-replicate, get_or-map, get_or-take, get_or-drop, get_or_append_left, get_or-append_right, replicate-append-replicate, map-append, set_split, append-nil, append_assoc, drop_all, get_or_push}
+use Rattle.std.proofs.lemmas.List.{places, same_lists, length-append, length-replicate, length-map, length-set, length-drop, get_or-replicate, get_or-map, get_or-append_right, replicate-append-replicate, map-append, set_split, append-nil, append_assoc, drop_all, get_or_push}
 use Rattle.std.proofs.lemmas.Bool.{cases_eq, cases_lt}
 use Rattle.std.proofs.lemmas.Nat.{pow_pos}
 use Rattle.std.proofs.lemmas.Nat.Bits.{bit_at_or, bit_at_and, bit_at_xor, bit_at_not, bit_at-lt, bit_at_mask_inside, bit_at_mask_below, bit_at_mask_above, bit_at_set_same, bit_at_set_other, bit_at_clear_same, bit_at_clear_other}
@@ -13,7 +13,7 @@ use Rattle.vb_bits.specs.Bits.{bit_of, bits, negated}
 use Rattle.vb_bits.specs.Digits.{has_bit, digits}
 use Rattle.vb_bits.specs.Edits.{replaced, filled}
 use Rattle.vb_bits.specs.Writes.{Writes, lengthened}
-use Rattle.vb_bits.proofs.BitsLemmas.{at-bits, length-bits, take-bits, drop-bits, bits_none, bits-add, same_bits}
+use Rattle.vb_bits.proofs.BitsLemmas.{at-bits, length-bits, take-bits, drop-bits, bits-add, same_bits}
 use Rattle.vb_bits.proofs.BytesLemmas.{bits-to_le_bytes, bits_of_read}
 use Rattle.vb_bits.proofs.DigitsLemmas.{digits-bit_not}
 use Rattle.vb_bits.proofs.WindowLemmas.{bits-append, bit_of-append, bit_of-lengthened}

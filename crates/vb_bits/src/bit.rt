@@ -3,7 +3,7 @@ ghost use Rattle.std.specs.Prelude.{◌≡◌, ◌/◌, ◌<◌, true, false, []
 ghost use Rattle.vb_bits.specs.Bits.{bit_of};
 ghost use Rattle.vb_bits.specs.Writes.{Writes};
 
-/// Bit `i`.
+/// Bit `i`, which has to lie in the bytes.
 pub fn get_bit(buf: &[u8], i: usize) -> bool
     requires { i / 8 < length buf.now }
     ensures { result ≡ bit_of buf.now i }
@@ -21,7 +21,7 @@ pub fn get_bit_unchecked(buf: &[u8], i: usize) -> bool
     get_bit(buf, i)
 }
 
-/// Makes bit `i` true and leaves every other bit.
+/// Makes bit `i`, which has to lie in the bytes, true and leaves every other bit.
 pub fn set_bit_unchecked(buf: &mut [u8], i: usize)
     requires { i / 8 < length buf.old }
     ensures { Writes buf.old buf.new i (true ∷ []) }
@@ -29,7 +29,7 @@ pub fn set_bit_unchecked(buf: &mut [u8], i: usize)
     buf[i / 8] |= 1 << (i % 8);
 }
 
-/// Makes bit `i` false and leaves every other bit.
+/// Makes bit `i`, which has to lie in the bytes, false and leaves every other bit.
 pub fn unset_bit_unchecked(buf: &mut [u8], i: usize)
     requires { i / 8 < length buf.old }
     ensures { Writes buf.old buf.new i (false ∷ []) }
@@ -37,7 +37,8 @@ pub fn unset_bit_unchecked(buf: &mut [u8], i: usize)
     buf[i / 8] &= !(1 << (i % 8));
 }
 
-/// Makes bit `i` `v` and leaves every other bit, without a branch on `v`.
+/// Makes bit `i`, which has to lie in the bytes, `v` and leaves every other bit, without a branch on
+/// `v`.
 pub fn set_bit_to(buf: &mut [u8], i: usize, v: bool)
     requires { i / 8 < length buf.old }
     ensures { Writes buf.old buf.new i (v ∷ []) }

@@ -3,6 +3,8 @@
 //! A window is the `len` bits from bit `offset` on. It has to lie in the bytes, and its end has to
 //! be a `usize`; [`window_fits`] is the test. Places and counts are of bits, relative to the window.
 //!
+//! A write changes the bits of its window and no other bit, whichever bytes these share.
+//!
 //! Counting and selecting read a [`Glance`], a source of bytes that counts its reads: see
 //! [`count_ones_by`] for the exact number, and [`most_looks`] for a bound on it.
 #![tactic(auto)]

@@ -109,12 +109,7 @@ impl<A: Allocator + Clone> BitBuffer<A> {
 /// The first 64 bits, as `BitBuffer(01101..)`.
 impl<A: Allocator + Clone> fmt::Debug for BitBuffer<A> {
     fn fmt<W: fmt::Write>(&self, f: &mut fmt::Formatter<W>) -> fmt::Result {
-        write_bits(
-            f,
-            "BitBuffer",
-            self.buffer.as_slice(),
-            self.offset,
-            self.len,
-        )
+        let bytes = self.buffer.as_slice();
+        write_bits(f, "BitBuffer", bytes, self.offset, self.len)
     }
 }

@@ -23,7 +23,8 @@ impl<A: Allocator + Clone> BitBuffer<A> {
     }
 
     /// The same bits for editing, where no other owner has the storage, with all the bytes and no
-    /// copy; otherwise the set itself, as an `Err`.
+    /// memory taken; otherwise the set itself, as an `Err`. Bytes that don't begin the storage are
+    /// moved to its front; else it takes constant time.
     pub fn try_into_mut(self) -> Result<BitBufferMut<A>, BitBuffer<A>>
         ensures bits { IfOk result (λ s. s.bits ≡ self.bits) }
         ensures offset { IfOk result (λ s. s.offset ≡ self.offset) }

@@ -1,4 +1,4 @@
-use Rattle.std.proofs.Common.{◌-◌, replicate, refl, arith}
+use Rattle.std.proofs.Common.{◌-◌, refl, arith}
 use Rattle.std.proofs.lemmas.List.{length-replicate}
 use Rattle.vb_bits.proofs.WritesLemmas.{Writes_none, Writes-run}
 use Rattle.vb_bits.proofs.fill.fill_bits.Goals as goal

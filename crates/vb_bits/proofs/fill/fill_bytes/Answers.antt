@@ -1,4 +1,4 @@
-use Rattle.std.proofs.Common.{◌≡◌, ◌+◌, ◌-◌, ◌*◌, ◌<◌, ℕ, length, take, drop, replicate, ap, sym, arith, ◌∙◌}
+use Rattle.std.proofs.Common.{◌≡◌, ◌-◌, ◌*◌, ◌<◌, ℕ, length, take, drop, replicate, ap, sym, arith, ◌∙◌}
 use Rattle.std.proofs.lemmas.List.{length-take, length-drop}
 use Rattle.vb_bits.specs.Bits.{bits}
 use Rattle.vb_bits.specs.Digits.{has_bit}
