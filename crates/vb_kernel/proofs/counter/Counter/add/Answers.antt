@@ -1,4 +1,4 @@
-use Rattle.std.proofs.Common.{◌≡◌, ◌+◌, ◌*◌, ℕ, List, arith, ◌∙◌}
+use Rattle.std.proofs.Common.{◌+◌, ◌*◌, ℕ, List, arith, ◌∙◌}
 use Rattle.vb_bits.proofs.BitsLemmas.{count-bits-le}
 use Rattle.vb_kernel.proofs.counter.Counter.add.Goals as goal
 
