@@ -180,6 +180,3 @@ impl fmt::Display for Alignment {
         write!(f, "{bytes}")
     }
 }
-
-#[cfg(test)]
-mod tests;

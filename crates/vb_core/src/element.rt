@@ -59,6 +59,3 @@ pub trait Element: Copy {
     // Values and bytes determine each other.
     ghost lawful: { IsElement SIZE ALIGN align_exponent is_in_type form value_of };
 }
-
-#[cfg(test)]
-mod tests;

@@ -113,6 +113,3 @@ pub enum ExtendError<E> {
     /// The first item that was an error, with that error.
     Item(E),
 }
-
-#[cfg(test)]
-mod tests;

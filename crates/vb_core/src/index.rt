@@ -107,6 +107,3 @@ impl BitIndex for isize {
         (self as i64).place()
     }
 }
-
-#[cfg(test)]
-mod tests;

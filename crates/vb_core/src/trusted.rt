@@ -84,6 +84,3 @@ impl<I: Iterator> TrustedLen for TrustedLenAdapter<I> {
         self.left
     }
 }
-
-#[cfg(test)]
-mod tests;

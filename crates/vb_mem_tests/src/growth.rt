@@ -30,12 +30,16 @@ fn items_are_added_at_the_end(rt: HostRuntime) -> Result<(), Fail> {
 }
 
 #[test]
-fn reserved_room_is_filled_without_more(rt: HostRuntime) -> Result<(), Fail> {
+fn room_is_filled_or_refused(rt: HostRuntime) -> Result<(), Fail> {
     let mut buffer = BufferMut::copy_from(rt.alloc(), &[1u32])?;
     buffer.reserve(3)?;
     buffer.push_unchecked(2);
     buffer.push_n_unchecked(3, 2);
     buffer.truncate(9);
+    // Room past the address space.
+    let refused = Err(BufferError::OutOfMemory);
+    equal(&rt, buffer.reserve(usize::MAX), refused);
+    equal(&rt, buffer.push_n(0, usize::MAX / 4), refused);
     equal_lists(&rt, buffer.as_slice(), &[1, 2, 3, 3]);
     buffer.clear();
     equal(
@@ -43,16 +47,6 @@ fn reserved_room_is_filled_without_more(rt: HostRuntime) -> Result<(), Fail> {
         (buffer.is_empty(), buffer.capacity() >= 4),
         (true, true),
     );
-    Ok(())
-}
-
-#[test]
-fn room_past_the_address_space_is_refused(rt: HostRuntime) -> Result<(), Fail> {
-    let mut buffer = BufferMut::copy_from(rt.alloc(), &[7u64])?;
-    let refused = Err(BufferError::OutOfMemory);
-    equal(&rt, buffer.reserve(usize::MAX), refused);
-    equal(&rt, buffer.push_n(0, usize::MAX / 8), refused);
-    equal_lists(&rt, buffer.as_slice(), &[7]);
     Ok(())
 }
 

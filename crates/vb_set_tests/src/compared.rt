@@ -1,27 +1,37 @@
 //! Comparisons of what is given with what is wanted. Each is proved once here, and so tests are proved in less time.
-use crate::shown::Shown;
-use std::alloc::Global;
+use std::alloc::Allocator;
 use std::fmt::Debug;
 use std::process::Abort;
-use std::test::Fail;
+use vb_set::{BitBuffer, BitBufferMut, BufferError};
 
 /// The two values are equal.
 pub(crate) fn equal<T: Copy + PartialEq + Debug>(rt: &impl Abort, given: T, wanted: T) {
     assert_eq!(rt; given, wanted);
 }
 
-/// The two texts are equal.
-fn equal_texts(rt: &impl Abort, given: &str, wanted: &str) {
-    assert_eq!(rt; given, wanted);
+/// The set that was made has these bits, `1` for a true one, and no others.
+pub(crate) fn shows<A: Allocator + Clone>(
+    rt: &impl Abort,
+    made: Result<BitBuffer<A>, BufferError>,
+    bits: &str,
+) -> Result<(), BufferError> {
+    let set = made?;
+    equal(rt, set.len(), bits.len());
+    for (i, digit) in bits.bytes().enumerate() {
+        if i < set.len() {
+            equal(rt, set.value(i), digit == b'1');
+        }
+    }
+    Ok(())
 }
 
-/// A set has these bits, and no others.
-pub(crate) fn holds<S: Shown>(
-    rt: &impl Abort,
-    global: Global,
-    set: &S,
-    bits: &str,
-) -> Result<(), Fail> {
-    equal_texts(rt, set.shown(global)?.as_str(), bits);
-    Ok(())
+/// The set has these bits, by each of them and by its count.
+pub(crate) fn same<A: Allocator + Clone>(rt: &impl Abort, set: &BitBufferMut<A>, list: &[bool]) {
+    let ones = list.iter().filter(|bit| **bit).count();
+    equal(rt, (set.len(), set.true_count()), (list.len(), ones));
+    for (i, bit) in list.iter().enumerate() {
+        if i < set.len() {
+            equal(rt, set.value(i), *bit);
+        }
+    }
 }

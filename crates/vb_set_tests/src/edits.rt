@@ -1,5 +1,5 @@
 //! Edits of sets beside the same edits of plain lists.
-use crate::compared::{equal, holds};
+use crate::compared::same;
 use crate::made::window;
 use std::alloc::Global;
 use std::process::Abort;
@@ -7,19 +7,14 @@ use std::test::Fail;
 use vb_set::BitBufferMut;
 
 /// The places of the first bit, and the lengths, at which each edit is tried.
-const OFFSETS: [usize; 5] = [0, 3, 5, 7, 13];
+pub(crate) const OFFSETS: [usize; 5] = [0, 3, 5, 7, 13];
 
-const LENGTHS: [usize; 9] = [0, 1, 7, 8, 63, 64, 65, 129, 200];
+pub(crate) const LENGTHS: [usize; 9] = [0, 1, 7, 8, 63, 64, 65, 129, 200];
 
 /// The bits that every byte of the sets has, those outside of the window too.
 const PATTERN: u8 = 0b1011_0010;
 
-/// A window of bytes of the pattern, which go on behind it.
-fn set_of(alloc: Global, offset: usize, len: usize) -> Result<BitBufferMut<Global>, Fail> {
-    window(alloc, (PATTERN, 30), offset, len)
-}
-
-/// The bits of that window.
+/// The bits of a window of such bytes.
 fn list_of(alloc: Global, offset: usize, len: usize) -> Result<Vec<bool>, Fail> {
     let mut bits = Vec::new(alloc);
     for i in 0..len {
@@ -27,25 +22,6 @@ fn list_of(alloc: Global, offset: usize, len: usize) -> Result<Vec<bool>, Fail> 
         bits.push((PATTERN >> digit) & 1 == 1)?;
     }
     Ok(bits)
-}
-
-/// The set is the list, by each of its bits and by its count.
-fn same(
-    rt: &impl Abort,
-    alloc: Global,
-    set: &BitBufferMut<Global>,
-    list: &[bool],
-) -> Result<(), Fail> {
-    let mut text = String::new(alloc);
-    for bit in list {
-        text.push(if *bit { '1' } else { '0' })?;
-    }
-    equal(
-        rt,
-        set.true_count(),
-        list.iter().filter(|bit| **bit).count(),
-    );
-    holds(rt, alloc, set, text.as_str())
 }
 
 /// Writes one bit in the middle, and the bits of a part.
@@ -82,61 +58,50 @@ fn shorten(set: &mut BitBufferMut<Global>, list: &mut Vec<bool>) {
     list.truncate(n);
 }
 
-/// Every edit of the window, each beside that of the list.
-fn edits_are_plain(rt: &impl Abort, alloc: Global, offset: usize, len: usize) -> Result<(), Fail> {
-    let mut set = set_of(alloc, offset, len)?;
-    let mut list = list_of(alloc, offset, len)?;
-    edited_is_plain(rt, alloc, &mut set, &mut list, true)?;
-    edited_is_plain(rt, alloc, &mut set, &mut list, false)?;
-    turned_is_plain(rt, alloc, set, &list)
-}
-
 /// The edits with bits `v`, and with the others.
 fn edited_is_plain(
     rt: &impl Abort,
-    alloc: Global,
     set: &mut BitBufferMut<Global>,
     list: &mut Vec<bool>,
     v: bool,
 ) -> Result<(), Fail> {
     write(set, list, v);
-    same(rt, alloc, set, list)?;
+    same(rt, set, list);
     lengthen(set, list, v)?;
-    same(rt, alloc, set, list)?;
+    same(rt, set, list);
     shorten(set, list);
-    same(rt, alloc, set, list)?;
+    same(rt, set, list);
     // The bits that were cut off stand behind the end now.
     lengthen(set, list, !v)?;
-    same(rt, alloc, set, list)
+    same(rt, set, list);
+    Ok(())
 }
 
 /// The set turned over, and then cleared, beside the list.
 fn turned_is_plain(
     rt: &impl Abort,
-    alloc: Global,
     set: BitBufferMut<Global>,
-    list: &[bool],
+    mut list: Vec<bool>,
 ) -> Result<(), Fail> {
     let mut set = !set;
-    same_turned(rt, alloc, &set, list)?;
+    for bit in list.iter_mut() {
+        *bit = !*bit;
+    }
+    same(rt, &set, &list);
     set.clear();
-    same(rt, alloc, &set, &[])?;
+    same(rt, &set, &[]);
     set.append_n(true, 9)?;
-    same(rt, alloc, &set, &[true; 9])
+    same(rt, &set, &[true; 9]);
+    Ok(())
 }
 
-/// The set is the list turned over.
-fn same_turned(
-    rt: &impl Abort,
-    alloc: Global,
-    set: &BitBufferMut<Global>,
-    list: &[bool],
-) -> Result<(), Fail> {
-    let mut turned = Vec::new(alloc);
-    for bit in list {
-        turned.push(!*bit)?;
-    }
-    same(rt, alloc, set, &turned)
+/// Every edit of the window, each beside that of the list.
+fn edits_are_plain(rt: &impl Abort, alloc: Global, offset: usize, len: usize) -> Result<(), Fail> {
+    let mut list = list_of(alloc, offset, len)?;
+    let mut set = window(alloc, (PATTERN, 30), offset, len)?;
+    edited_is_plain(rt, &mut set, &mut list, true)?;
+    edited_is_plain(rt, &mut set, &mut list, false)?;
+    turned_is_plain(rt, set, list)
 }
 
 #[test]

@@ -1,6 +1,6 @@
-use super::Alignment;
-use crate::error::BufferError;
+//! Alignments: worked values, and the numbers that are refused.
 use std::alloc::AllocError;
+use vb_core::{Alignment, BufferError};
 
 #[test]
 fn an_alignment_is_its_exponent(rt: HostRuntime) {

@@ -1,7 +1,8 @@
+//! Numbers as bytes, and back.
 ghost use Rattle.std.specs.Prelude.{◌≡◌, length};
 
-use super::Element;
 use std::process::Abort;
+use vb_core::Element;
 
 /// Writes the value over `out`, reads its bytes, and writes again what was read.
 fn assert_form<T: Element + PartialEq>(rt: &impl Abort, value: T, bytes: &[u8], out: &mut [u8])

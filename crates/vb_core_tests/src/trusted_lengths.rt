@@ -1,7 +1,8 @@
+//! Iterators that know how many items they give.
 ghost use Rattle.std.specs.Prelude.{◌≡◌};
 
-use super::{TrustedLen, trusted_len};
 use std::process::Abort;
+use vb_core::{TrustedLen, trusted_len};
 
 /// Takes all items, of which there are to be `n`, and looks at the count before each.
 fn assert_counts_down<I: TrustedLen>(rt: &impl Abort, mut iter: I, n: usize)
@@ -47,7 +48,7 @@ fn slices_and_adapters_count_down(rt: HostRuntime) {
 }
 
 #[test]
-#[tactic(auto, using(crate::specs::ExactCounts::unsigned_range_counts))]
+#[tactic(auto, using(vb_core::specs::ExactCounts::unsigned_range_counts))]
 fn what_a_closure_makes_of_a_range_is_counted(rt: HostRuntime) {
     let halves = trusted_len((0..3usize).map(|number| number / 2), 3);
     assert_eq!(rt; halves.exact_len(), 3);

@@ -1,4 +1,5 @@
-use super::BitIndex;
+//! Numbers that name places.
+use vb_core::BitIndex;
 
 fn place_of<I: BitIndex>(index: I) -> Option<usize> {
     index.place()

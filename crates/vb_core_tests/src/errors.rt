@@ -1,5 +1,6 @@
-use super::{BufferError, ExtendError};
+//! What refusals say.
 use std::alloc::{AllocError, AllocFailed};
+use vb_core::BufferError;
 
 /// The fourteen refusals, each with its text.
 const TEXTS: [(BufferError, &str); 14] = [

@@ -1,0 +1,144 @@
+//! Edits that take memory: what stands after a refused one, and that none gives up while there is memory.
+use crate::compared::equal;
+use crate::made::ones;
+use std::alloc::Allocator;
+use std::process::Abort;
+use std::test::Fail;
+use vb_set::{BitBufferMut, BufferError};
+use vb_testing::{Handle, Refusing, answers_refusal, each_refused};
+
+/// An edit that takes memory where there is no room left.
+enum Edit {
+    Append,
+    AppendTrue,
+    AppendFalse,
+    AppendN,
+    Reserve,
+}
+
+impl Edit {
+    fn make<A: Allocator + Clone>(&self, set: &mut BitBufferMut<A>) -> Result<(), BufferError> {
+        match self {
+            Edit::Append => set.append(false),
+            Edit::AppendTrue => set.append_true(),
+            Edit::AppendFalse => set.append_false(),
+            Edit::AppendN => set.append_n(false, 100),
+            Edit::Reserve => {
+                set.reserve(100)?;
+                set.append_n(true, 100)
+            }
+        }
+    }
+}
+
+/// The edits, and how many true or how many false bits each adds.
+const EDITS: &[(Edit, usize, usize)] = &[
+    (Edit::Append, 0, 1),
+    (Edit::AppendTrue, 1, 0),
+    (Edit::AppendFalse, 0, 1),
+    (Edit::AppendN, 0, 100),
+    (Edit::Reserve, 100, 0),
+];
+
+/// Edits a set of true bits up to its room. A refusal leaves the set and its room.
+fn edit_ones<A: Allocator + Clone>(
+    rt: &impl Abort,
+    mut set: BitBufferMut<A>,
+    edit: &Edit,
+    (trues, falses): (usize, usize),
+) -> Result<(), BufferError> {
+    set.append_n(true, set.capacity() - set.len())?;
+    let (len, room) = (set.len(), set.capacity());
+    let answer = edit.make(&mut set);
+    if answer.is_err() {
+        equal(rt, (set.len(), set.capacity()), (len, room));
+        equal(rt, set.true_count(), len);
+    } else {
+        let counts = (set.true_count(), set.false_count());
+        equal(rt, counts, (len.saturating_add(trues), falses));
+        let first_false = if falses > 0 { Some(len) } else { None };
+        equal(rt, set.select_unset(0), first_false);
+    }
+    answer
+}
+
+#[test]
+fn a_refused_edit_leaves_the_set(rt: HostRuntime) -> Result<(), Fail> {
+    for (edit, trues, falses) in EDITS {
+        let requests = each_refused(rt.alloc(), |heap| {
+            let answer = match ones(Handle { inner: heap }, 8) {
+                Ok(set) => edit_ones(&rt, set, edit, (*trues, *falses)),
+                Err(error) => Err(error),
+            };
+            answers_refusal(heap, answer, BufferError::OutOfMemory)
+        })?;
+        // The room for the first bits, and what the edit asks for.
+        equal(&rt, requests, Some(2));
+    }
+    Ok(())
+}
+
+/// Takes a set. A refusal leaves the set and its room.
+fn take<A: Allocator + Clone>(
+    rt: &impl Abort,
+    mut set: BitBufferMut<A>,
+) -> Result<(), BufferError> {
+    let room = set.capacity();
+    match set.take() {
+        Ok(taken) => {
+            equal(rt, set.is_empty(), true);
+            equal(rt, (taken.len(), taken.true_count()), (9, 9));
+            Ok(())
+        }
+        Err(error) => {
+            equal(rt, (set.true_count(), set.capacity()), (9, room));
+            Err(error)
+        }
+    }
+}
+
+#[test]
+fn a_refused_take_leaves_the_set(rt: HostRuntime) -> Result<(), Fail> {
+    let requests = each_refused(rt.alloc(), |heap| {
+        let answer = match ones(Handle { inner: heap }, 9) {
+            Ok(set) => take(&rt, set),
+            Err(error) => Err(error),
+        };
+        answers_refusal(heap, answer, BufferError::OutOfMemory)
+    })?;
+    equal(&rt, requests, Some(2));
+    Ok(())
+}
+
+/// Makes an edit again and again, from no room on.
+fn grow<A: Allocator + Clone>(
+    rt: &impl Abort,
+    alloc: A,
+    edit: &Edit,
+    (trues, falses): (usize, usize),
+) -> Result<(), BufferError> {
+    let mut set = BitBufferMut::empty(alloc);
+    for _ in 0..5000 {
+        edit.make(&mut set)?;
+    }
+    let counts = (set.true_count(), set.false_count());
+    equal(
+        rt,
+        counts,
+        (trues.saturating_mul(5000), falses.saturating_mul(5000)),
+    );
+    Ok(())
+}
+
+/// A body that gives up once the set has grown to some length fails here, and so does one that asks
+/// for room at each call, or for more and more of it.
+#[test]
+fn growth_goes_on_while_there_is_memory(rt: HostRuntime) -> Result<(), Fail> {
+    for (edit, trues, falses) in EDITS {
+        let heap = Refusing::new(rt.alloc(), 0);
+        grow(&rt, &heap, edit, (*trues, *falses))?;
+        equal(&rt, heap.asked() <= 20, true);
+        equal(&rt, heap.asked_bytes() <= 4 * 62_500, true);
+    }
+    Ok(())
+}

@@ -1,0 +1,164 @@
+//! What calls ask of the allocator: nothing where they share or work in place, and at most twice the bytes that they
+//! need where they copy or grow.
+use crate::compared::equal;
+use crate::made::ones;
+use crate::makers::{cloned, copied, sliced, twin};
+use std::alloc::{Allocator, Global};
+use std::process::Abort;
+use std::test::Fail;
+use vb_set::{BitBuffer, BitBufferMut, BufferError, ByteBuffer};
+use vb_testing::Refusing;
+
+/// A call on a set to edit of eight thousand true bits.
+enum Open {
+    Freeze,
+    Take,
+    Clone,
+    Reserve,
+    Within,
+    Not,
+}
+
+impl Open {
+    fn make<A: Allocator + Clone>(
+        &self,
+        mut set: BitBufferMut<A>,
+    ) -> Result<BitBufferMut<A>, BufferError> {
+        match self {
+            Open::Freeze => opened(set.freeze()?),
+            Open::Take => set.take(),
+            Open::Clone => cloned(set),
+            Open::Reserve => {
+                set.reserve(8000)?;
+                Ok(set)
+            }
+            Open::Within => {
+                set.truncate(100);
+                set.append_n(true, 7900)?;
+                Ok(set)
+            }
+            Open::Not => Ok(!!set),
+        }
+    }
+}
+
+fn opened<A: Allocator + Clone>(set: BitBuffer<A>) -> Result<BitBufferMut<A>, BufferError> {
+    match set.try_into_mut() {
+        Ok(open) => Ok(open),
+        Err(_) => Err(BufferError::NotAligned),
+    }
+}
+
+/// The calls, and how many bytes each asks for: at least, and at most. An owner takes less than 256 bytes.
+const OPEN: &[(Open, usize, usize)] = &[
+    // A body that copies the bytes fails here.
+    (Open::Freeze, 1, 256),
+    (Open::Take, 0, 0),
+    (Open::Clone, 1000, 2000),
+    // A body that asks for four times the room fails here.
+    (Open::Reserve, 2000, 4000),
+    (Open::Within, 0, 0),
+    (Open::Not, 0, 0),
+];
+
+/// Of what was asked for since the last count: the bytes lie within these bounds.
+fn asks(rt: &impl Abort, heap: &Refusing<Global>, least: usize, most: usize) {
+    let bytes = heap.asked_bytes();
+    assert!(rt;
+        least <= bytes && bytes <= most,
+        "{bytes} for {least} to {most}"
+    );
+    heap.refuse(0);
+}
+
+#[test]
+fn sets_to_edit_ask_for_what_they_need(rt: HostRuntime) -> Result<(), Fail> {
+    for (call, least, most) in OPEN {
+        let heap = Refusing::new(rt.alloc(), 0);
+        let set = ones(&heap, 8000)?;
+        asks(&rt, &heap, 1000, 2000);
+        let made = call.make(set)?;
+        asks(&rt, &heap, *least, *most);
+        equal(&rt, (made.len(), made.true_count()), (8000, 8000));
+    }
+    Ok(())
+}
+
+/// A call on a set of eight thousand true bits that has no other owner.
+enum Shared {
+    Clone,
+    Slice,
+    SliceOfClone,
+    IntoInner,
+    CopyFrom,
+}
+
+impl Shared {
+    fn make<A: Allocator + Clone>(
+        &self,
+        set: BitBuffer<A>,
+        alloc: A,
+    ) -> Result<BitBuffer<A>, BufferError> {
+        match self {
+            Shared::Clone => twin(set),
+            Shared::Slice => sliced(set, 13, 7000),
+            Shared::SliceOfClone => sliced(twin(set)?, 13, 7000),
+            Shared::IntoInner => Ok(windowed(set.into_inner())),
+            Shared::CopyFrom => copied(alloc, set)?.freeze(),
+        }
+    }
+}
+
+fn windowed<A: Allocator + Clone>(
+    (offset, len, bytes): (usize, usize, ByteBuffer<A>),
+) -> BitBuffer<A> {
+    let bits = bytes.len().saturating_mul(8);
+    if offset <= bits && len <= bits - offset {
+        return BitBuffer::new_with_offset(bytes, len, offset);
+    }
+    BitBuffer::new(bytes, 0)
+}
+
+/// The calls, and how many bytes each asks for: at least, and at most. `freeze` asks for an owner.
+const SHARED: &[(Shared, usize, usize)] = &[
+    // A body that copies the bytes fails here.
+    (Shared::Clone, 0, 0),
+    (Shared::Slice, 0, 0),
+    (Shared::SliceOfClone, 0, 0),
+    (Shared::IntoInner, 0, 0),
+    (Shared::CopyFrom, 1000, 2256),
+];
+
+#[test]
+fn shared_sets_ask_for_what_they_need(rt: HostRuntime) -> Result<(), Fail> {
+    for (call, least, most) in SHARED {
+        let heap = Refusing::new(rt.alloc(), 0);
+        let set = BitBuffer::new_set(&heap, 8000)?;
+        asks(&rt, &heap, 1000, 2256);
+        let made = call.make(set, &heap)?;
+        asks(&rt, &heap, *least, *most);
+        equal(&rt, (made.false_count(), made.len() >= 6987), (0, true));
+    }
+    Ok(())
+}
+
+/// A body that asks for a megabyte more fails here.
+#[test]
+fn room_is_what_was_asked_for(rt: HostRuntime) -> Result<(), Fail> {
+    let heap = Refusing::new(rt.alloc(), 0);
+    let set = BitBufferMut::with_capacity(&heap, 8000)?;
+    equal(&rt, (heap.asked(), set.len()), (1, 0));
+    equal(&rt, set.capacity() >= 8000, true);
+    asks(&rt, &heap, 1000, 2000);
+    Ok(())
+}
+
+#[test]
+fn one_of_two_owners_may_not_edit(rt: HostRuntime) -> Result<(), Fail> {
+    let set = BitBuffer::new_set(rt.alloc(), 9)?;
+    let twin = set.clone()?;
+    let answer = set.try_into_mut();
+    assert!(rt; answer.is_err());
+    equal(&rt, twin.true_count(), 9);
+    Ok(())
+}
