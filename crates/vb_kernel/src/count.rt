@@ -19,6 +19,9 @@ use crate::word::byte_part;
 /// they already are from 32 on.
 const MANY: usize = 64;
 
+/// So many chunks, which are 8 MiB, lie past the caches of most machines.
+const PAST_CACHES: usize = 131_072;
+
 /// How many bits of the window are true.
 pub fn count_ones(bytes: &[u8], offset: usize, len: usize) -> usize
     requires inside { offset + len ≤ 8 * length bytes.now }
@@ -137,8 +140,9 @@ pub(crate) fn count_chunks<G: Glance>(src: &mut G, at: usize, n: usize) -> usize
     if n < MANY {
         return count_few(src, at, n);
     }
-    let turns = n / 16;
-    let rest = count_few(src, at + 1024 * turns, n % 16);
+    // Of memory, quarters that are a power of two apart are read an eighth slower.
+    let turns = n / 16 - usize::from(PAST_CACHES <= n);
+    let rest = count_few(src, at + 1024 * turns, n - 16 * turns);
     rest + count_quarters(src, at, turns)
 }
 
