@@ -15,8 +15,8 @@ use crate::unit::Unit;
 use crate::window::Parts;
 use crate::word::byte_part;
 
-/// From so many chunks on, adders are faster than the counts of words. Where a vector has 32 bytes
-/// they already are from 32 on.
+/// From so many chunks on, adders count. Where a vector has 32 bytes they are faster than the counts
+/// of words, and already from 32 on; where it has 16, that depends on the processor.
 const MANY: usize = 64;
 
 /// So many chunks, which are 8 MiB, lie past the caches of most machines.
