@@ -15,9 +15,12 @@ use crate::unit::Unit;
 use crate::parts::Parts;
 use crate::word::byte_part;
 
-/// From so many chunks on, adders are faster than the counts of words. Where a vector has 32 bytes
-/// they already are from 32 on.
+/// From so many chunks on, adders count. Where a vector has 32 bytes they are faster than the counts
+/// of words, and already from 32 on; where it has 16, that depends on the processor.
 const MANY: usize = 64;
+
+/// So many chunks, which are 8 MiB, lie past the caches of most machines.
+const PAST_CACHES: usize = 131_072;
 
 /// How many bits of the window are true.
 pub fn count_ones(bytes: &[u8], offset: usize, len: usize) -> usize
@@ -137,8 +140,9 @@ pub(crate) fn count_chunks<G: Glance>(src: &mut G, at: usize, n: usize) -> usize
     if n < MANY {
         return count_few(src, at, n);
     }
-    let turns = n / 16;
-    let rest = count_few(src, at + 1024 * turns, n % 16);
+    // Of memory, quarters that are a power of two apart are read an eighth slower.
+    let turns = n / 16 - usize::from(PAST_CACHES <= n);
+    let rest = count_few(src, at + 1024 * turns, n - 16 * turns);
     rest + count_quarters(src, at, turns)
 }
 
