@@ -4,7 +4,11 @@
 #[cfg(test)]
 mod byte_form;
 #[cfg(test)]
+mod callers;
+#[cfg(test)]
 mod compared;
+#[cfg(test)]
+mod declared;
 #[cfg(test)]
 mod growth;
 #[cfg(test)]

@@ -93,7 +93,7 @@ fn a_refused_change_leaves_the_buffer(rt: HostRuntime) {
 /// Adds items of which each is its place.
 fn extend<A: Allocator>(rt: &impl Abort, alloc: A) -> Result<(), BufferError> {
     let mut buffer = BufferMut::copy_from(alloc, &[0usize, 1, 2])?;
-    let answer = buffer.extend(3..100usize);
+    let answer = buffer.extend((3..100usize).filter(|n| *n > 0));
     let kept = match answer {
         Ok(()) => 100,
         Err(_) => buffer.capacity(),
