@@ -1,3 +1,4 @@
+pub mod Alignments
 pub mod ElementLaws
 pub mod Elements
 pub mod ExactCounts

@@ -2,6 +2,7 @@
 ghost use Rattle.std.specs.Prelude.{◌≡◌, ◌^◌, ◌<◌, ◌≤◌, ◌%◌, ◌↔◌, IsTrue, IsErrOf, IsOkAnd, Some};
 ghost use Rattle.std.specs.Int.{is_power_of_two};
 ghost use Rattle.std.specs.Fmt.{decimal};
+ghost use Rattle.vb_core.specs.Alignments.{IsPower};
 
 use crate::element::Element;
 use crate::error::BufferError;
@@ -41,9 +42,9 @@ impl Alignment {
     /// The greatest alignment: `2^63` bytes.
     pub const MAX: Alignment = Alignment { exponent: 63 };
 
-    /// The alignment of `align` bytes, which is a power of two.
+    /// The alignment of `align` bytes, which is a power of two. Of a literal that is shown by computing.
     pub fn new(align: usize) -> Alignment
-        requires { IsTrue (is_power_of_two align) }
+        requires { IsPower align }
         ensures { 2 ^ result ≡ align }
     {
         Alignment {

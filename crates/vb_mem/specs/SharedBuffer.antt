@@ -39,3 +39,9 @@ pub record KeepsItems {T : Type 0} (old new : SharedBuffer T) : Type 0 where
   pub list : new.list ≡ old.list
   pub alignment : new.alignment ≡ old.alignment
   pub declared : (new.declared ≡ old.declared) ⊎ (new.declared ≡ over_aligned old.alignment)
+
+-- the items from start up to end can be seen with the reported alignment. The buffer has it, so it is enough that the range starts so many bytes on
+abbrev pub CanNarrow : {T : Type 0} → ℕ → ℕ → SharedBuffer T → ℕ → ℕ → Type 0
+CanNarrow size least b start end =
+    CanSlice size least b start end b.alignment
+    ⊎ ((start ≤ end) × (end ≤ length b.list) × (start * size % 2 ^ b.alignment ≡ 0))

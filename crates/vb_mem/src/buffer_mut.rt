@@ -19,6 +19,10 @@ mod make;
 /// The reported alignment is the one that was asked for, or that of an item; a [`Buffer`](crate::Buffer) made of the
 /// list reports it too. The declared alignment is that of the storage: the reported one, or the one that the buffer was
 /// over-aligned to if that is greater. Growth keeps both.
+///
+/// An alignment that is asked for is at least that of an item. Storage that is "over-aligned to 256 bytes" is declared
+/// with the greater of 256 bytes and what is asked; where a preferred alignment is given, with the greater of that one
+/// and what is asked. `None` prefers no more than what is asked.
 #[derive(Drop)]
 pub struct BufferMut<T: Element, A: Allocator = Global> {
     pub(crate) items: Vec<T, A>,

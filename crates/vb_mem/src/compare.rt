@@ -1,4 +1,4 @@
-//! Equality, order and hash of buffers: those of their lists. Alignments don't count.
+//! Equality, order and hash of buffers, and their text for programmers: those of their lists. Alignments don't count.
 ghost use Rattle.std.specs.Cmp.{on_per, on_equiv, on_po, on_total};
 ghost use Rattle.std.specs.Cmp.Lexicographic.{pointwise, lists_per, lists_equiv, lists_po, lists_total, lists_agrees, lists_ties, slice_cmp, slice_partial_cmp};
 ghost use Rattle.std.specs.Hash as fed;
@@ -8,6 +8,7 @@ use crate::buffer::Buffer;
 use crate::buffer_mut::BufferMut;
 use std::alloc::Allocator;
 use std::cmp::Ordering;
+use std::fmt::{self, Debug};
 use std::hash::{Hash, Hasher};
 use vb_core::Element;
 
@@ -70,5 +71,17 @@ impl<T: Element + Hash, A: Allocator> Hash for Buffer<T, A> {
 
     fn hash<H: Hasher>(&self, state: &mut H) {
         self.as_slice().hash(state);
+    }
+}
+
+impl<T: Element + Debug, A: Allocator> Debug for BufferMut<T, A> {
+    fn fmt<W: fmt::Write>(&self, f: &mut fmt::Formatter<W>) -> fmt::Result {
+        Debug::fmt(&self.as_slice(), f)
+    }
+}
+
+impl<T: Element + Debug, A: Allocator> Debug for Buffer<T, A> {
+    fn fmt<W: fmt::Write>(&self, f: &mut fmt::Formatter<W>) -> fmt::Result {
+        Debug::fmt(&self.as_slice(), f)
     }
 }

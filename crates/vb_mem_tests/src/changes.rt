@@ -1,5 +1,5 @@
 //! Changes of a buffer: what stands after a refused one, and that none gives up while there is memory.
-use crate::compared::{equal, equal_lists};
+use crate::compared::{each, equal, equal_lists};
 use std::alloc::Allocator;
 use std::process::Abort;
 use std::test::Fail;
@@ -33,7 +33,7 @@ impl Change {
             Change::Push => buffer.push(8),
             Change::PushN => buffer.push_n(8, 3),
             Change::ExtendFromSlice => buffer.extend_from_slice(&[8; 3]),
-            Change::Extend => buffer.extend(0..3u32),
+            Change::Extend => buffer.extend((0..3u32).filter(each)),
             Change::ExtendTrusted => buffer.extend_trusted(0..3u32),
             Change::TryExtendTrusted => try_extend(buffer),
             Change::Take => {
@@ -98,7 +98,7 @@ fn extend<A: Allocator>(
     rt: &impl Abort,
     mut buffer: BufferMut<usize, A>,
 ) -> Result<(), BufferError> {
-    let answer = buffer.extend(3..100usize);
+    let answer = buffer.extend((3..100usize).filter(each));
     let kept = match answer {
         Ok(()) => 100,
         Err(_) => buffer.capacity(),

@@ -5,11 +5,15 @@
 #[cfg(test)]
 mod byte_form;
 #[cfg(test)]
+mod callers;
+#[cfg(test)]
 mod changes;
 #[cfg(test)]
 mod compared;
 #[cfg(test)]
 mod costs;
+#[cfg(test)]
+mod declared;
 #[cfg(test)]
 mod growth;
 #[cfg(test)]

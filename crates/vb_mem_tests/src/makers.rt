@@ -48,7 +48,7 @@ impl Growing {
             Growing::CopyFromPreferredAligned => {
                 BufferMut::copy_from_preferred_aligned(alloc, &[1, 2], four, None)
             }
-            Growing::FromIter => BufferMut::from_iter(alloc, 3..6u32),
+            Growing::FromIter => BufferMut::from_iter(alloc, (3..6u32).filter(each)),
             Growing::FromTrustedLenIter => BufferMut::from_trusted_len_iter(alloc, 3..6u32),
             Growing::TryFromTrustedLenIter => try_collected(alloc),
             Growing::IntoMut => Buffer::copy_from(alloc, &[1, 2])?.into_mut(),
@@ -109,7 +109,7 @@ impl Shared {
                 Buffer::zeroed_preferred_aligned(alloc, 2, four, Some(wide))
             }
             Shared::Full => Buffer::full(alloc, 7, 3),
-            Shared::FromIter => Buffer::from_iter(alloc, 3..6u32),
+            Shared::FromIter => Buffer::from_iter(alloc, (3..6u32).filter(each)),
             Shared::FromTrustedLenIter => Buffer::from_trusted_len_iter(alloc, 3..6u32),
             Shared::FromVec => of_vector(alloc),
             Shared::SliceUnaligned => unaligned_part(Buffer::copy_from(alloc, &[1, 2, 3])?),

@@ -14,7 +14,7 @@ use vb_core::{Alignment, BufferError, Element};
 
 impl<T: Element, A: Allocator> Buffer<T, A> {
     /// The same items, to be changed, at the front of their storage, where no other buffer shares it; else the buffer is
-    /// given back. It takes no memory.
+    /// given back. It takes no memory, and the time that the items of a part take to be moved to the front.
     pub fn try_into_mut(self) -> Result<BufferMut<T, A>, Self>
         ensures ok { IfOk result (Holds self.list self.alignment self.declared) }
         ensures err { IfErr result (λ b. b ≡ self) }
@@ -71,8 +71,9 @@ impl<T: Element, A: Allocator + Clone> Buffer<T, A> {
         Ok(Buffer { content, alloc })
     }
 
-    /// The same items, to be changed; all other owners keep theirs. Where there are others, the items are copied.
-    /// Refused with `OutOfMemory`; the buffer is gone then.
+    /// The same items, to be changed; all other owners keep theirs. A lone owner's stay in their storage, as in
+    /// [`Buffer::try_into_mut`]; where there are others, the items are copied. Refused with `OutOfMemory`; the buffer is
+    /// gone then.
     pub fn into_mut(self) -> Result<BufferMut<T, A>, BufferError>
         ensures list { IfOk result (λ b. b.list ≡ self.list) }
         ensures alignment { IfOk result (λ b. b.alignment ≡ self.alignment) }

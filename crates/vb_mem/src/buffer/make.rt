@@ -1,5 +1,5 @@
 //! Buffers made from nothing, of equal items, of copies and of what grew.
-ghost use Rattle.std.specs.Prelude.{◌≡◌, ◌≤◌, max, unwrap_or, List, [], replicate, IfOk, IsOkUnless};
+ghost use Rattle.std.specs.Prelude.{◌≡◌, ◌≤◌, max, unwrap_or, length, List, [], replicate, IfOk, IsOkUnless};
 ghost use Rattle.std.specs.Iterator.{Drains, IsFiniteIterable};
 ghost use Rattle.vb_mem.specs.Collected.{OfItems};
 ghost use Rattle.vb_mem.specs.OpenBuffer.{over_aligned};
@@ -127,6 +127,7 @@ impl<T: Element, A: Allocator + Clone> Buffer<T, A> {
         requires { I.can_next iter }
         ensures ok { IfOk result (λ b. (items : List T) × Drains I.next_gives iter items
             × Shows items T.align_exponent 0 (over_aligned T.align_exponent) b) }
+        ensures len { IfOk result (λ b. length b.list ≡ I.left iter) }
         ensures refused { IsOkUnless result BufferError.OutOfMemory }
     {
         BufferMut::from_trusted_len_iter(alloc, iter)?.freeze()

@@ -1,6 +1,6 @@
 //! Parts of a buffer, which share its storage: they are made in constant time, and nothing is copied.
 ghost use Rattle.std.specs.Prelude.{◌≡◌, ◌↔◌, ◌≤◌, ◌+◌, ◌*◌, length, slice_range, IfOk, IsTrue, IsOkUnless};
-ghost use Rattle.vb_mem.specs.SharedBuffer.{Shows, CanSlice};
+ghost use Rattle.vb_mem.specs.SharedBuffer.{Shows, CanSlice, CanNarrow};
 
 use super::Buffer;
 use crate::content::Content;
@@ -24,12 +24,14 @@ impl<T: Element, A: Allocator> Buffer<T, A> {
                     && alignment <= self.declared()))
     }
 
-    /// Keeps the items of a range, for which [`Buffer::can_slice`] holds at the buffer's alignment. It takes no memory.
+    /// Keeps the items of a range, for which [`Buffer::can_slice`] holds at the buffer's alignment: so it does where the
+    /// range starts a multiple of that many bytes on. It takes no memory.
     pub fn narrow(&mut self, range: Range<usize>)
-        requires { CanSlice T.SIZE T.align_exponent self.old range.start range.end self.old.alignment }
+        requires { CanNarrow T.SIZE T.align_exponent self.old range.start range.end }
         ensures { Shows (slice_range self.old.list range.start range.end) self.old.alignment (self.old.place + range.start * T.SIZE) self.old.declared self.new }
     {
-        self.narrow_with_alignment(range, self.alignment());
+        let alignment = self.alignment();
+        self.narrow_with_alignment(range, alignment);
     }
 
     // Keeps the items of a range and reports an alignment, for which `can_slice` holds.
@@ -43,14 +45,15 @@ impl<T: Element, A: Allocator> Buffer<T, A> {
 }
 
 impl<T: Element, A: Allocator + Clone> Buffer<T, A> {
-    /// The items of a range, for which [`Buffer::can_slice`] holds at the buffer's alignment, which the part keeps; it
-    /// shares the storage. Refused with `OutOfMemory` where a copy of the allocator finds no memory.
+    /// The items of a range, for which [`Buffer::can_slice`] holds at the buffer's alignment, which the part keeps: so it
+    /// does where the range starts a multiple of that many bytes on. The part shares the storage. Refused with `OutOfMemory` where a copy of the allocator finds no memory.
     pub fn slice(&self, range: Range<usize>) -> Result<Self, BufferError>
-        requires { CanSlice T.SIZE T.align_exponent self.now range.start range.end self.now.alignment }
+        requires { CanNarrow T.SIZE T.align_exponent self.now range.start range.end }
         ensures ok { IfOk result (Shows (slice_range self.now.list range.start range.end) self.now.alignment (self.now.place + range.start * T.SIZE) self.now.declared) }
         ensures refused { IsOkUnless result BufferError.OutOfMemory }
     {
-        self.slice_with_alignment(range, self.alignment())
+        let alignment = self.alignment();
+        self.slice_with_alignment(range, alignment)
     }
 
     /// The items of a range with an alignment, for which [`Buffer::can_slice`] holds; the part shares the storage. Refused

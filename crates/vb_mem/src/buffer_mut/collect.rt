@@ -1,5 +1,5 @@
 //! Items that come from iterators.
-ghost use Rattle.std.specs.Prelude.{◌≡◌, ◌≢◌, ⊤, List, [], length, IfOk, OnOk, OnErr, IsOk, IsOkUnless};
+ghost use Rattle.std.specs.Prelude.{◌≡◌, ◌≢◌, ◌+◌, ⊤, List, [], length, IfOk, OnOk, OnErr, IsOk, IsOkUnless};
 ghost use Rattle.std.specs.Iterator.{Drains, ExtendsWithItems, HoldsAlong, IsFiniteIterable};
 ghost use Rattle.vb_mem.specs.OpenBuffer.{Holds, Lengthens, HasRoom, over_aligned};
 ghost use Rattle.vb_mem.specs.Collected.{OfItems, GivesValues, GivesError, IfStopped};
@@ -29,6 +29,7 @@ impl<T: Element, A: Allocator> BufferMut<T, A> {
         requires { I.can_next iter }
         ensures ok { IfOk result (λ b. (items : List T) × Drains I.next_gives iter items
             × Holds items T.align_exponent (over_aligned T.align_exponent) b) }
+        ensures len { IfOk result (λ b. length b.list ≡ I.left iter) }
         ensures refused { IsOkUnless result BufferError.OutOfMemory }
     {
         let mut buffer = BufferMut::empty(alloc);
@@ -85,7 +86,7 @@ impl<T: Element, A: Allocator> BufferMut<T, A> {
         ensures err { OnErr result (self.new ≡ self.old) }
         ensures refused { IsOkUnless result BufferError.OutOfMemory }
     {
-        if self.reserve(hint.max(1)).is_ok() {
+        if hint > 1 && self.reserve(hint).is_ok() {
             return Ok(());
         }
         self.reserve(1)
@@ -96,6 +97,7 @@ impl<T: Element, A: Allocator> BufferMut<T, A> {
     pub fn extend_trusted<I: TrustedLen<Item = T>>(&mut self, iter: I) -> Result<(), BufferError>
         requires { I.can_next iter }
         ensures ok { OnOk result ((items : List T) × Drains I.next_gives iter items × Lengthens items self.old self.new) }
+        ensures len { OnOk result (length self.new.list ≡ length self.old.list + I.left iter) }
         ensures in_place { HasRoom self.old (I.left iter) → IsOk result }
         ensures err { OnErr result (self.new ≡ self.old) }
         ensures refused { IsOkUnless result BufferError.OutOfMemory }

@@ -24,7 +24,7 @@ impl<T: Element, A: Allocator + Clone> BufferMut<T, A> {
         Ok(std::mem::replace(self, empty))
     }
 
-    /// A copy of the same alignment. Refused with `OutOfMemory`.
+    /// A copy of the same alignment, as a block, over-aligned to 256 bytes. Refused with `OutOfMemory`.
     pub fn clone(&self) -> Result<Self, BufferError>
         ensures ok { IfOk result (Holds self.now.list self.now.alignment (over_aligned self.now.alignment)) }
         ensures refused { IsOkUnless result BufferError.OutOfMemory }
@@ -53,7 +53,8 @@ impl<T: Element, A: Allocator + Clone> BufferMut<T, A> {
         Ok(buffer)
     }
 
-    /// The same items, to be shared; the storage is handed on. Refused with `OutOfMemory`; the buffer is gone then.
+    /// The same items, to be shared, in constant time: the storage is handed on, and memory is taken for its count of
+    /// owners alone. Refused with `OutOfMemory`; the buffer is gone then.
     pub fn freeze(self) -> Result<Buffer<T, A>, BufferError>
         ensures ok { IfOk result (Shows self.list self.alignment 0 self.declared) }
         ensures refused { IsOkUnless result BufferError.OutOfMemory }

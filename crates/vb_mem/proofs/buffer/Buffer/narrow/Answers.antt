@@ -1,0 +1,8 @@
+use Rattle.vb_mem.proofs.Slices.{can_slice-narrow}
+use Rattle.vb_mem.proofs.buffer.Buffer.narrow.Goals as goal
+
+pub narrow_with_alignment-requires : goal.narrow_with_alignment-requires
+narrow_with_alignment-requires g c =
+    let range = c.args.range in
+    let reported = c.alignment-alignment.ensures in
+    can_slice-narrow g.T.Element.SIZE g.T.Element.align_exponent c.args.self.now range.start range.end c.alignment-alignment.result reported.value reported.at_least reported.fits reported.aligned c.requires

@@ -1,0 +1,61 @@
+//! Calls as a new user writes them, proved with no hint.
+ghost use Rattle.std.specs.Prelude.{◌≡◌, IfOk, length};
+
+use std::alloc::Allocator;
+use std::test::Fail;
+use vb_core::{Alignment, BufferError};
+use vb_mem::{Buffer, BufferMut, ByteBuffer};
+
+#[test]
+fn a_literal_power_of_two_is_an_alignment(rt: HostRuntime) {
+    assert_eq!(rt; Alignment::new(64).exponent(), 6);
+    assert_eq!(rt; Alignment::new(1).exponent(), 0);
+    assert_eq!(rt; Alignment::new(1 << 63), Alignment::MAX);
+}
+
+#[test]
+fn numbers_of_a_range_are_as_many_as_it_has(rt: HostRuntime) -> Result<(), Fail> {
+    let hundred = Buffer::from_trusted_len_iter(rt.alloc(), 0..100u32)?;
+    let part = hundred.slice(64..96)?;
+    assert_eq!(rt; part.len(), 32);
+    assert_eq!(rt; part.as_slice().first().copied(), Some(64));
+    Ok(())
+}
+
+/// The first two items, where there are two.
+fn first_two<A: Allocator + Clone>(
+    values: &Buffer<u32, A>,
+) -> Result<Option<Buffer<u32, A>>, BufferError> {
+    if values.len() >= 2 {
+        return Ok(Some(values.slice(0..2)?));
+    }
+    Ok(None)
+}
+
+#[test]
+fn a_front_is_sliced_after_a_look_at_the_length(rt: HostRuntime) -> Result<(), Fail> {
+    let values = Buffer::copy_from(rt.alloc(), &[1u32, 2, 3])?;
+    let front = first_two(&values)?;
+    assert_eq!(rt; front.map(|part| part.len()), Some(2));
+    let mut part = values.slice(1..3)?;
+    if part.len() >= 1 {
+        part.narrow(0..1);
+    }
+    assert_eq!(rt; part.as_slice().first().copied(), Some(2));
+    Ok(())
+}
+
+#[test]
+fn buffers_are_compared_and_printed(rt: HostRuntime) -> Result<(), Fail> {
+    let bytes: ByteBuffer<_> = Buffer::copy_from(rt.alloc(), &[1u8, 2, 3])?;
+    let twin = bytes.clone()?;
+    assert_eq!(rt; bytes, twin);
+    let text = format!(in rt.alloc(); "{:?}", twin)?;
+    assert_eq!(rt; text.as_str(), "[1, 2, 3]");
+    drop(twin);
+    let growing = bytes.try_into_mut()?;
+    assert_eq!(rt; growing.len(), 3);
+    let copy = BufferMut::copy_from(rt.alloc(), &[1u8, 2, 3])?;
+    assert_eq!(rt; growing, copy);
+    Ok(())
+}
