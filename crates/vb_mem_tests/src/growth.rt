@@ -62,10 +62,10 @@ fn values_before_an_error_stay(rt: HostRuntime) -> Result<(), Fail> {
 
 #[test]
 fn no_size_hint_is_relied_on(rt: HostRuntime) -> Result<(), Fail> {
-    let three = (0..u32::MAX).take_while(|number| *number < 3);
-    equal(&rt, three.size_hint(), (0, Some(4_294_967_295)));
+    let three = (0..usize::MAX).take_while(|number| *number < 3);
+    equal(&rt, three.size_hint(), (0, Some(usize::MAX)));
     let buffer = BufferMut::from_iter(rt.alloc(), three)?;
-    shows(&rt, buffer.freeze(), &[0, 1, 2], (4, 256))?;
+    equal_lists(&rt, buffer.as_slice(), &[0, 1, 2]);
     let thousand = (0u32..).take_while(|number| *number < 1000);
     equal(&rt, thousand.size_hint(), (0, None));
     let buffer = BufferMut::from_iter(rt.alloc(), thousand)?;

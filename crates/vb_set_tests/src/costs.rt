@@ -162,3 +162,16 @@ fn one_of_two_owners_may_not_edit(rt: HostRuntime) -> Result<(), Fail> {
     equal(&rt, twin.true_count(), 9);
     Ok(())
 }
+
+#[test]
+fn a_lone_owner_edits_without_memory(rt: HostRuntime) -> Result<(), Fail> {
+    let heap = Refusing::new(rt.alloc(), 0);
+    let set = BitBuffer::new_set(&heap, 9)?;
+    drop(set.clone()?);
+    heap.refuse(1);
+    match set.try_into_mut() {
+        Ok(set) => equal(&rt, (set.true_count(), heap.asked()), (9, 0)),
+        Err(_) => assert!(rt; false, "there is no other owner"),
+    }
+    Ok(())
+}
