@@ -21,17 +21,19 @@ use std::alloc::Allocator;
 /// one a line. The slots are empty at first and gone at the end.
 ///
 /// The answers to all whole lines that were read are written before more bytes are asked for.
-/// Memory is taken for the sets, for the longest line and answer, and for a chunk of 65536 bytes
-/// each of the input and of the answers. What the contract says of the bytes read and written it
-/// says of streams that tell them; where a stream doesn't, that part is empty.
+/// Memory is taken for the sets and what a command answers, for the longest line and a chunk of
+/// 65536 bytes of the input, and once for 65536 bytes of answers: none is taken to print them. What
+/// clause `ends` says of the bytes read and written it says of streams that tell them; where the
+/// sink alone tells them, or none does, `ran` holds.
 ///
 /// - `Ok`: the input ended, and each of its lines was answered.
 /// - `Unreadable`: this line can't be read and did nothing; the lines before it were answered.
 /// - `Read`: a read failed, as the source's count of faults tells; the lines that had ended were
 ///   answered.
 /// - `Write`: a write failed, as the sink's count of faults tells.
-/// - `Memory`: a request for memory was refused outside of a command; some first lines were
-///   answered.
+/// - `Memory`: a request for memory was refused outside of a command; some first ones of the lines
+///   that had ended were answered. If the next one had ended too, it is an `import` that can be
+///   read.
 pub fn drive<A: Allocator + Clone, R: Source, W: Sink>(
     alloc: A,
     input: &mut R,
