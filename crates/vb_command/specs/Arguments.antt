@@ -1,48 +1,77 @@
--- What the words after a command's name ask for.
-use Rattle.std.specs.Prelude.{ℕ, Bool, List, Option, option_map}
+-- What a line of words asks for: one equation a command, its name and then its fields.
+use Rattle.std.specs.Prelude.{ℕ, Bool, List, [], ◌∷◌, codes, Option, Some, None, if◌then◌else◌}
+use Rattle.std.specs.Str.{bytes_eq}
+use Rattle.vb_command.specs.Hex.{hex}
 use Rattle.vb_command.specs.Machine.{Order, Import, Full, Set, Append, Appendn, Fill, Truncate, Clear, Flip, Freeze, Thaw, Clone, Slice, Drop, Len, Count, Get, Countrange, Select, Selectunset, Bits}
-use Rattle.vb_command.specs.Fields.{one_number, two_numbers, three_numbers, four_numbers, number_and_truth, two_numbers_and_truth, three_numbers_and_truth, number_truth_number, numbers_and_bytes}
-use Rattle.vb_command.specs.declared.keyword.Keyword.{Keyword}
-use Rattle.vb_command.specs.declared.keyword.Keyword.TheVariants as keywords
-use Rattle.vb_command.specs.declared.keyword.SlotKeyword.{SlotKeyword}
-use Rattle.vb_command.specs.declared.keyword.SlotKeyword.TheVariants as slots
-use Rattle.vb_command.specs.declared.keyword.NumberKeyword.{NumberKeyword}
-use Rattle.vb_command.specs.declared.keyword.NumberKeyword.TheVariants as numbers
-use Rattle.vb_command.specs.declared.keyword.RunKeyword.{RunKeyword}
-use Rattle.vb_command.specs.declared.keyword.RunKeyword.TheVariants as runs
+use Rattle.vb_command.specs.Optional.{◌>>=◌}
+use Rattle.vb_command.specs.Words.{number, truth, only_word, only_two, only_three, only_four}
 
--- the order of a slot
-abbrev pub slot_order : SlotKeyword → ℕ → Order
-slot_order slots.Clear k = Clear k
-slot_order slots.Flip k = Flip k
-slot_order slots.Freeze k = Freeze k
-slot_order slots.Thaw k = Thaw k
-slot_order slots.Drop k = Drop k
-slot_order slots.Len k = Len k
-slot_order slots.Count k = Count k
-slot_order slots.Bits k = Bits k
+-- an order of one field
+abbrev pub one : {A : Type 0} → (A → Order) → (List ℕ → Option A) → List (List ℕ) → Option Order
+one make f ws = do
+  a ← only_word ws
+  x ← f a
+  Some (make x)
 
--- the order of a slot and a number
-abbrev pub number_order : NumberKeyword → ℕ × ℕ → Order
-number_order numbers.Truncate (k, n) = Truncate k n
-number_order numbers.Clone (k, t) = Clone k t
-number_order numbers.Get (k, i) = Get k i
-number_order numbers.Select (k, n) = Select k n
-number_order numbers.Selectunset (k, n) = Selectunset k n
+-- an order of two fields
+abbrev pub two : {A B : Type 0} → (A → B → Order) → (List ℕ → Option A) → (List ℕ → Option B) → List (List ℕ) → Option Order
+two make f g ws = do
+  (a, b) ← only_two ws
+  x ← f a
+  y ← g b
+  Some (make x y)
 
--- the order of a slot and a number of equal truth values
-abbrev pub run_order : RunKeyword → ℕ × Bool × ℕ → Order
-run_order runs.Full (k, v, n) = Full k v n
-run_order runs.Appendn (k, v, n) = Appendn k v n
+-- an order of three fields
+abbrev pub three : {A B C : Type 0} → (A → B → C → Order) → (List ℕ → Option A) → (List ℕ → Option B) → (List ℕ → Option C) → List (List ℕ) → Option Order
+three make f g h ws = do
+  (a, b, c) ← only_three ws
+  x ← f a
+  y ← g b
+  z ← h c
+  Some (make x y z)
 
--- what a command with these words after its name asks for
-unfoldable pub arguments_of : Keyword → List (List ℕ) → Option Order
-arguments_of (keywords.Slot name) ws = option_map (slot_order name) (one_number ws)
-arguments_of (keywords.Number name) ws = option_map (number_order name) (two_numbers ws)
-arguments_of (keywords.Run name) ws = option_map (run_order name) (number_truth_number ws)
-arguments_of keywords.Import ws = option_map (λ (t, o, n, bytes). Import t o n bytes) (numbers_and_bytes ws)
-arguments_of keywords.Set ws = option_map (λ (k, i, v). Set k i v) (two_numbers_and_truth ws)
-arguments_of keywords.Append ws = option_map (λ (k, v). Append k v) (number_and_truth ws)
-arguments_of keywords.Fill ws = option_map (λ (k, a, b, v). Fill k a b v) (three_numbers_and_truth ws)
-arguments_of keywords.Slice ws = option_map (λ (k, a, b, t). Slice k a b t) (four_numbers ws)
-arguments_of keywords.Countrange ws = option_map (λ (k, a, b). Countrange k a b) (three_numbers ws)
+-- an order of four fields
+abbrev pub four : {A B C D : Type 0} → (A → B → C → D → Order) → (List ℕ → Option A) → (List ℕ → Option B) → (List ℕ → Option C) → (List ℕ → Option D) → List (List ℕ) → Option Order
+four make f g h i ws = do
+  (a, b, c, d) ← only_four ws
+  w ← f a
+  x ← g b
+  y ← h c
+  z ← i d
+  Some (make w x y z)
+
+-- the order of a question
+unfoldable pub question_of : List ℕ → List (List ℕ) → Option Order
+question_of name ws =
+    if bytes_eq name (codes "len") then one Len number ws else
+    if bytes_eq name (codes "count") then one Count number ws else
+    if bytes_eq name (codes "get") then two Get number number ws else
+    if bytes_eq name (codes "countrange") then three Countrange number number number ws else
+    if bytes_eq name (codes "select") then two Select number number ws else
+    if bytes_eq name (codes "selectunset") then two Selectunset number number ws else
+    if bytes_eq name (codes "bits") then one Bits number ws else
+    None
+
+-- the order of an edit, or of a question
+unfoldable pub edit_of : List ℕ → List (List ℕ) → Option Order
+edit_of name ws =
+    if bytes_eq name (codes "set") then three Set number number truth ws else
+    if bytes_eq name (codes "append") then two Append number truth ws else
+    if bytes_eq name (codes "appendn") then three Appendn number truth number ws else
+    if bytes_eq name (codes "fill") then four Fill number number number truth ws else
+    if bytes_eq name (codes "truncate") then two Truncate number number ws else
+    if bytes_eq name (codes "clear") then one Clear number ws else
+    if bytes_eq name (codes "flip") then one Flip number ws else
+    question_of name ws
+
+-- what a name and the words after it ask for
+unfoldable pub arguments_of : List ℕ → List (List ℕ) → Option Order
+arguments_of name ws =
+    if bytes_eq name (codes "import") then four Import number number number hex ws else
+    if bytes_eq name (codes "full") then three Full number truth number ws else
+    if bytes_eq name (codes "clone") then two Clone number number ws else
+    if bytes_eq name (codes "slice") then four Slice number number number number ws else
+    if bytes_eq name (codes "freeze") then one Freeze number ws else
+    if bytes_eq name (codes "thaw") then one Thaw number ws else
+    if bytes_eq name (codes "drop") then one Drop number ws else
+    edit_of name ws

@@ -1,10 +1,9 @@
 pub mod Machine
 pub mod Views
 pub mod Printed
+pub mod Parts
 pub mod Optional
 pub mod Words
 pub mod Hex
-pub mod Keywords
-pub mod Fields
 pub mod Arguments
 pub mod Reading

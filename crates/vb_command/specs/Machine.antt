@@ -128,32 +128,32 @@ abbrev pub Checks : Bool → Reason → Effect → Effect
 Checks passed why Then s r t = MatchBool passed (Then s r t) (Refuses why s r t)
 
 -- where a slot holds nothing of the kind the order is refused, and else something follows of what it holds
-abbrev pub Takes : {X : Type 0} → Option X → (X → Effect) → Effect
-Takes held Then s r t = MatchOption held (Refuses BadSlot s r t) (λ x. Then x s r t)
+abbrev pub Needs : {X : Type 0} → Option X → (X → Effect) → Effect
+Needs held Then s r t = MatchOption held (Refuses BadSlot s r t) (λ x. Then x s r t)
 
 -- the list at k is asked a question, and every slot stays
 abbrev pub Asks : ℕ → (List Bool → Reply → Type 0) → Effect
-Asks k Answers s r t = Takes (list_at s k) (λ l s r t. Answers l r × (t ≡ s)) s r t
+Asks k Answers s r t = Needs (list_at s k) (λ l s r t. Answers l r × (t ≡ s)) s r t
 
 -- the open list at k is edited
 abbrev pub Edits : ℕ → (List Bool → List Bool) → Effect
-Edits k edit s r t = Takes (open_at s k) (λ l. Puts k (Open (edit l))) s r t
+Edits k edit s r t = Needs (open_at s k) (λ l. Puts k (Open (edit l))) s r t
 
 -- the open list at k is edited where these places are its own
 abbrev pub EditsWithin : ℕ → (List Bool → Bool) → (List Bool → List Bool) → Effect
-EditsWithin k within edit s r t = Takes (open_at s k) (λ l. Checks (within l) OutOfRange (Puts k (Open (edit l)))) s r t
+EditsWithin k within edit s r t = Needs (open_at s k) (λ l. Checks (within l) OutOfRange (Puts k (Open (edit l)))) s r t
 
 -- truth values are added to the open list at k, whose new length has to be a number of 64 bits
-abbrev pub Appends : ℕ → List Bool → Effect
-Appends k more s r t = Takes (open_at s k) (λ l s r t. (length l + length more < 2 ^ 64) × Puts k (Open (l ++ more)) s r t) s r t
+abbrev pub AppendsValues : ℕ → List Bool → Effect
+AppendsValues k more s r t = Needs (open_at s k) (λ l s r t. (length l + length more < 2 ^ 64) × Puts k (Open (l ++ more)) s r t) s r t
 
 -- the answer is the value at place i, which has to be below the length
 abbrev pub Gets : ℕ → List Bool → Reply → Type 0
 Gets i l r = MatchBool (nat_lt i (length l)) (r ≡ Truth (at l i)) (r ≡ Refused OutOfRange)
 
 -- the answer is how many values from place a up to b are true; the places have to be a range of the list
-abbrev pub Counts : ℕ → ℕ → List Bool → Reply → Type 0
-Counts a b l r = MatchBool (is_range a b l) (r ≡ Number (count (slice_range l a b))) (r ≡ Refused OutOfRange)
+abbrev pub CountsRange : ℕ → ℕ → List Bool → Reply → Type 0
+CountsRange a b l r = MatchBool (is_range a b l) (r ≡ Number (count (slice_range l a b))) (r ≡ Refused OutOfRange)
 
 -- the answer is the place of the true value with n true ones before it, or none where there are at most n
 abbrev pub Finds : ℕ → List Bool → Reply → Type 0
@@ -164,22 +164,22 @@ abbrev pub Step : List Slot → Order → Reply → List Slot → Type 0
 Step s (Import k o n bytes) r t = Checks (vacant_at s k) BadSlot (Checks (fits o n bytes) BadWindow (Puts k (Open (bits bytes o n)))) s r t
 Step s (Full k v n) r t = Checks (vacant_at s k) BadSlot (Puts k (Open (replicate n v))) s r t
 Step s (Set k i v) r t = EditsWithin k (λ l. nat_lt i (length l)) (λ l. slice_set l i v) s r t
-Step s (Append k v) r t = Appends k (v ∷ []) s r t
-Step s (Appendn k v n) r t = Appends k (replicate n v) s r t
+Step s (Append k v) r t = AppendsValues k (v ∷ []) s r t
+Step s (Appendn k v n) r t = AppendsValues k (replicate n v) s r t
 Step s (Fill k a b v) r t = EditsWithin k (is_range a b) (λ l. filled l a b v) s r t
 Step s (Truncate k n) r t = Edits k (take n) s r t
 Step s (Clear k) r t = Edits k (λ l. []) s r t
 Step s (Flip k) r t = Edits k negated s r t
-Step s (Freeze k) r t = Takes (open_at s k) (λ l. Puts k (Frozen l)) s r t
-Step s (Thaw k) r t = Takes (frozen_at s k) (λ l. Puts k (Open l)) s r t
-Step s (Clone k j) r t = Takes (kept_at s k) (λ x. Checks (vacant_at s j) BadSlot (Puts j x)) s r t
+Step s (Freeze k) r t = Needs (open_at s k) (λ l. Puts k (Frozen l)) s r t
+Step s (Thaw k) r t = Needs (frozen_at s k) (λ l. Puts k (Open l)) s r t
+Step s (Clone k j) r t = Needs (kept_at s k) (λ x. Checks (vacant_at s j) BadSlot (Puts j x)) s r t
 Step s (Slice k a b j) r t =
-    Takes (frozen_at s k) (λ l. Checks (vacant_at s j) BadSlot (Checks (is_range a b l) OutOfRange (Puts j (Frozen (slice_range l a b))))) s r t
-Step s (Drop k) r t = Takes (kept_at s k) (λ x. Puts k Empty) s r t
+    Needs (frozen_at s k) (λ l. Checks (vacant_at s j) BadSlot (Checks (is_range a b l) OutOfRange (Puts j (Frozen (slice_range l a b))))) s r t
+Step s (Drop k) r t = Needs (kept_at s k) (λ x. Puts k Empty) s r t
 Step s (Len k) r t = Asks k (λ l a. a ≡ Number (length l)) s r t
 Step s (Count k) r t = Asks k (λ l a. a ≡ Number (count l)) s r t
 Step s (Get k i) r t = Asks k (Gets i) s r t
-Step s (Countrange k a b) r t = Asks k (Counts a b) s r t
+Step s (Countrange k a b) r t = Asks k (CountsRange a b) s r t
 Step s (Select k n) r t = Asks k (Finds n) s r t
 Step s (Selectunset k n) r t = Asks k (λ l. Finds n (negated l)) s r t
 Step s (Bits k) r t = Asks k (λ l a. a ≡ Listed l) s r t
@@ -189,8 +189,8 @@ abbrev pub Passes : Bool → Effect → Effect
 Passes passed Then s r t = IsTrue passed × Then s r t
 
 -- something follows of what a slot holds, which has to hold something of the kind
-abbrev pub Holds : {X : Type 0} → Option X → (X → Effect) → Effect
-Holds held Then s r t = MatchOption held ⊥ (λ x. Then x s r t)
+abbrev pub Has : {X : Type 0} → Option X → (X → Effect) → Effect
+Has held Then s r t = MatchOption held ⊥ (λ x. Then x s r t)
 
 -- memory is refused after slot k gave its list away: it is empty, and all others stay
 abbrev pub Loses : ℕ → Effect
@@ -204,13 +204,13 @@ RefusesLength n s r t = ((n < 2 ^ 64) × Refuses OutOfMemory s r t) ⊎ ((2 ^ 64
 abbrev pub GivesUp : List Slot → Order → Reply → List Slot → Type 0
 GivesUp s (Import k o n bytes) r t = Passes (vacant_at s k) (Passes (fits o n bytes) (Refuses OutOfMemory)) s r t
 GivesUp s (Full k v n) r t = Passes (vacant_at s k) (Refuses OutOfMemory) s r t
-GivesUp s (Append k v) r t = Holds (open_at s k) (λ l. RefusesLength (length l + 1)) s r t
-GivesUp s (Appendn k v n) r t = Holds (open_at s k) (λ l. RefusesLength (length l + n)) s r t
-GivesUp s (Freeze k) r t = Holds (open_at s k) (λ l. Loses k) s r t
-GivesUp s (Thaw k) r t = Holds (frozen_at s k) (λ l. Loses k) s r t
-GivesUp s (Clone k j) r t = Holds (kept_at s k) (λ x. Passes (vacant_at s j) (Refuses OutOfMemory)) s r t
-GivesUp s (Slice k a b j) r t = Holds (frozen_at s k) (λ l. Passes (vacant_at s j) (Passes (is_range a b l) (Refuses OutOfMemory))) s r t
-GivesUp s (Bits k) r t = Holds (list_at s k) (λ l. Refuses OutOfMemory) s r t
+GivesUp s (Append k v) r t = Has (open_at s k) (λ l. RefusesLength (length l + 1)) s r t
+GivesUp s (Appendn k v n) r t = Has (open_at s k) (λ l. RefusesLength (length l + n)) s r t
+GivesUp s (Freeze k) r t = Has (open_at s k) (λ l. Loses k) s r t
+GivesUp s (Thaw k) r t = Has (frozen_at s k) (λ l. Loses k) s r t
+GivesUp s (Clone k j) r t = Has (kept_at s k) (λ x. Passes (vacant_at s j) (Refuses OutOfMemory)) s r t
+GivesUp s (Slice k a b j) r t = Has (frozen_at s k) (λ l. Passes (vacant_at s j) (Passes (is_range a b l) (Refuses OutOfMemory))) s r t
+GivesUp s (Bits k) r t = Has (list_at s k) (λ l. Refuses OutOfMemory) s r t
 GivesUp s c r t = ⊥
 
 -- what may come of an order, want of memory included

@@ -14,8 +14,8 @@ name_of TooManyBits = codes "TooManyBits"
 name_of OutOfMemory = codes "OutOfMemory"
 
 -- the text of a refusal
-abbrev pub refusal_of : Reason → List ℕ
-refusal_of why = codes "refused " ++ name_of why
+abbrev pub refusal_text : Reason → List ℕ
+refusal_text why = codes "refused " ++ name_of why
 
 -- a truth value as a binary digit
 abbrev pub digit_of : Bool → List ℕ
@@ -35,7 +35,7 @@ text_of (Truth b) = digit_of b
 text_of (Place None) = codes "none"
 text_of (Place (Some p)) = decimal p
 text_of (Listed bs) = digits_of bs
-text_of (Refused why) = refusal_of why
+text_of (Refused why) = refusal_text why
 
 -- the line of an answer
 abbrev pub line_of : Reply → List ℕ

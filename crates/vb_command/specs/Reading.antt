@@ -1,19 +1,17 @@
 -- What the lines of an input ask for.
-use Rattle.std.specs.Prelude.{◌≡◌, ℕ, ◌+◌, ◌-◌, ◌^◌, Bool, false, List, [], ◌∷◌, Option, Some, None, Result, Ok, Err, nat_lt, ◌==◌, slice_index, if◌then◌else◌}
+use Rattle.std.specs.Prelude.{◌≡◌, ℕ, ◌+◌, ◌-◌, ◌^◌, Bool, true, false, IsTrue, is_some, List, [], ◌∷◌, Option, Some, None, Result, Ok, Err, nat_lt, ◌==◌, slice_index, if◌then◌else◌}
 use Rattle.std.specs.List.{list_all}
-use Rattle.std.specs.Option.{option_map_or}
-use Rattle.vb_command.specs.Machine.{Order}
+use Rattle.vb_command.specs.Machine.{Order, Import}
 use Rattle.vb_command.specs.Optional.{◌>>=◌}
 use Rattle.vb_command.specs.Words.{words}
-use Rattle.vb_command.specs.Keywords.{keyword, holds_bytes}
 use Rattle.vb_command.specs.Arguments.{arguments_of}
 use Rattle.vb_command.specs.declared.unread.Unread.{Unread}
 use Rattle.vb_command.specs.declared.unread.Unread.TheVariants as unread
 
--- a function gives what a definition reads, unless memory is refused
+-- a function gives what a definition reads; where memory is refused there is something to be read
 abbrev pub Gives : {X Y : Type 0} → (X → Y) → Result X Unread → Option Y → Type 0
 Gives view (Ok x) read = read ≡ Some (view x)
-Gives view (Err unread.Memory) read = Unit {0}
+Gives view (Err unread.Memory) read = IsTrue (is_some read)
 Gives view (Err unread.Unreadable) read = read ≡ None
 
 -- the same of a function that takes no memory
@@ -34,14 +32,19 @@ is_comment w = slice_index w 0 == 35
 unfoldable pub request_of : List (List ℕ) → Option (Option Order)
 request_of [] = Some None
 request_of (w ∷ ws) = if is_comment w then Some None else (do
-  name ← keyword w
-  c ← arguments_of name ws
+  c ← arguments_of w ws
   Some (Some c))
 
--- whether memory is taken for what these words ask for
-abbrev pub takes_memory : List (List ℕ) → Bool
-takes_memory [] = false
-takes_memory (w ∷ ws) = option_map_or holds_bytes (keyword w) false
+-- whether an order holds bytes, for which memory is taken
+abbrev pub holds_bytes : Order → Bool
+holds_bytes (Import t o n bytes) = true
+holds_bytes c = false
+
+-- whether what a line asks for holds bytes
+abbrev pub asks_memory : Option (Option Order) → Bool
+asks_memory None = false
+asks_memory (Some None) = false
+asks_memory (Some (Some c)) = holds_bytes c
 
 -- what a line asks for, if it can be read: a command, or nothing
 abbrev pub reading : List ℕ → Option (Option Order)

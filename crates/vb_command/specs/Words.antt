@@ -1,7 +1,7 @@
--- The words of a line, and the number that a word writes.
-use Rattle.std.specs.Prelude.{ℕ, ◌^◌, Bool, ◌&&◌, List, length, filter, Option, Some, None, nat_lt, ◌==◌, if◌then◌else◌}
+-- The words of a line, and the numbers and truth values that words write.
+use Rattle.std.specs.Prelude.{ℕ, ◌^◌, Bool, true, false, ◌&&◌, List, [], ◌∷◌, codes, length, filter, Option, Some, None, nat_lt, ◌==◌, if◌then◌else◌}
 use Rattle.std.specs.List.{slice_split}
-use Rattle.std.specs.Str.{all_ascii_digits}
+use Rattle.std.specs.Str.{all_ascii_digits, bytes_eq}
 use Rattle.std.specs.Str.Parse.{digits_value}
 
 -- whether a byte is a space, whose code is 32
@@ -23,3 +23,30 @@ is_number w = all_ascii_digits w && nat_lt 0 (length w) && nat_lt (digits_value 
 -- the number that a word writes, if it is one
 abbrev pub number : List ℕ → Option ℕ
 number w = if is_number w then Some (digits_value 10 w) else None
+
+-- the truth value that a word writes, if it is one
+abbrev pub truth : List ℕ → Option Bool
+truth w =
+    if bytes_eq w (codes "0") then Some false else
+    if bytes_eq w (codes "1") then Some true else
+    None
+
+-- the word of a list of one
+abbrev pub only_word : List (List ℕ) → Option (List ℕ)
+only_word (a ∷ []) = Some a
+only_word ws = None
+
+-- the words of a list of two
+abbrev pub only_two : List (List ℕ) → Option (List ℕ × List ℕ)
+only_two (a ∷ b ∷ []) = Some (a, b)
+only_two ws = None
+
+-- the words of a list of three
+abbrev pub only_three : List (List ℕ) → Option (List ℕ × List ℕ × List ℕ)
+only_three (a ∷ b ∷ c ∷ []) = Some (a, b, c)
+only_three ws = None
+
+-- the words of a list of four
+abbrev pub only_four : List (List ℕ) → Option (List ℕ × List ℕ × List ℕ × List ℕ)
+only_four (a ∷ b ∷ c ∷ d ∷ []) = Some (a, b, c, d)
+only_four ws = None

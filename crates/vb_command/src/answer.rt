@@ -1,5 +1,7 @@
 //! What a command is answered, and how answers are printed.
-ghost use Rattle.std.specs.Prelude.{Some};
+ghost use Rattle.std.specs.Prelude.{◌≡◌, Some};
+ghost use Rattle.std.specs.Fmt.{WritesOnOk};
+ghost use Rattle.vb_command.specs.Parts.{parts_text};
 
 use crate::digits::{Digits, digit};
 use std::alloc::Allocator;
@@ -28,22 +30,37 @@ pub enum Refusal {
     OutOfMemory,
 }
 
-impl fmt::Display for Refusal {
-    ghost use Rattle.vb_command.specs.Printed.{refusal_of};
+impl Refusal {
+    ghost use Rattle.vb_command.specs.Parts.{parts_text};
+    ghost use Rattle.vb_command.specs.Printed.{refusal_text};
     ghost use Rattle.vb_command.specs.Views.{reason};
 
-    ghost output = { λ why. Some (refusal_of (reason why)) };
+    /// The text of the refusal: words, and the number that follows them, if there is one.
+    fn parts(self) -> (Part<'static>, Option<usize>)
+        ensures { parts_text result.0 result.1 ≡ refusal_text (reason self) }
+    {
+        match self {
+            Refusal::BadSlot => (Part::Words("refused BadSlot"), None),
+            Refusal::BadWindow => (Part::Words("refused BadWindow"), None),
+            Refusal::OutOfRange => (Part::Words("refused OutOfRange"), None),
+            Refusal::LengthMismatch => (Part::Words("refused LengthMismatch"), None),
+            Refusal::TakeOutOfRange(position) => {
+                (Part::Words("refused TakeOutOfRange "), Some(position))
+            }
+            Refusal::TooManyBits => (Part::Words("refused TooManyBits"), None),
+            Refusal::OutOfMemory => (Part::Words("refused OutOfMemory"), None),
+        }
+    }
+}
+
+impl fmt::Display for Refusal {
+    ghost use Rattle.vb_command.specs.Printed.{refusal_text};
+    ghost use Rattle.vb_command.specs.Views.{reason};
+
+    ghost output = { λ why. Some (refusal_text (reason why)) };
 
     fn fmt<W: fmt::Write>(&self, f: &mut fmt::Formatter<W>) -> fmt::Result {
-        match self {
-            Refusal::BadSlot => write!(f, "refused BadSlot"),
-            Refusal::BadWindow => write!(f, "refused BadWindow"),
-            Refusal::OutOfRange => write!(f, "refused OutOfRange"),
-            Refusal::LengthMismatch => write!(f, "refused LengthMismatch"),
-            Refusal::TakeOutOfRange(position) => write!(f, "refused TakeOutOfRange {position}"),
-            Refusal::TooManyBits => write!(f, "refused TooManyBits"),
-            Refusal::OutOfMemory => write!(f, "refused OutOfMemory"),
-        }
+        print(self.parts(), f)
     }
 }
 
@@ -65,6 +82,39 @@ pub enum Answer<A: Allocator> {
     Refused(Refusal),
 }
 
+/// A part of an answer's text.
+#[derive(Clone, Copy, Debug)]
+pub enum Part<'a> {
+    /// These words.
+    Words(&'static str),
+    /// A number in decimal.
+    Number(usize),
+    /// Truth values as `1` and `0`, with nothing between them, or `-` where there are none.
+    Bits(&'a [bool]),
+}
+
+impl<A: Allocator> Answer<A> {
+    ghost use Rattle.vb_command.specs.Parts.{parts_text};
+    ghost use Rattle.vb_command.specs.Printed.{text_of};
+    ghost use Rattle.vb_command.specs.Views.{reply};
+
+    /// The text of the answer: a part, and the number that follows it, if there is one. This takes
+    /// no memory.
+    pub fn parts(&self) -> (Part<'_>, Option<usize>)
+        ensures { parts_text result.0 result.1 ≡ text_of (reply self.now) }
+    {
+        match self {
+            Answer::Done => (Part::Words("ok"), None),
+            Answer::Number(n) => (Part::Number(*n), None),
+            Answer::Truth(bit) => (Part::Words(digit(*bit)), None),
+            Answer::Place(None) => (Part::Words("none"), None),
+            Answer::Place(Some(place)) => (Part::Number(*place), None),
+            Answer::Bits(bits) => (Part::Bits(bits), None),
+            Answer::Refused(why) => why.parts(),
+        }
+    }
+}
+
 impl<A: Allocator> fmt::Display for Answer<A> {
     ghost use Rattle.vb_command.specs.Printed.{text_of};
     ghost use Rattle.vb_command.specs.Views.{reply};
@@ -72,14 +122,22 @@ impl<A: Allocator> fmt::Display for Answer<A> {
     ghost output = { λ answer. Some (text_of (reply answer)) };
 
     fn fmt<W: fmt::Write>(&self, f: &mut fmt::Formatter<W>) -> fmt::Result {
-        match self {
-            Answer::Done => write!(f, "ok"),
-            Answer::Number(n) => write!(f, "{n}"),
-            Answer::Truth(bit) => write!(f, "{}", digit(*bit)),
-            Answer::Place(None) => write!(f, "none"),
-            Answer::Place(Some(place)) => write!(f, "{place}"),
-            Answer::Bits(bits) => write!(f, "{}", Digits(bits)),
-            Answer::Refused(why) => write!(f, "{why}"),
-        }
+        print(self.parts(), f)
+    }
+}
+
+/// Prints a part, and the number that follows it, if there is one.
+fn print<W: fmt::Write>(parts: (Part<'_>, Option<usize>), f: &mut fmt::Formatter<W>) -> fmt::Result
+    ensures { WritesOnOk W.write_str_gives f.old result (parts_text parts.entry.0 parts.entry.1) f.new }
+{
+    let (part, number) = parts;
+    match part {
+        Part::Words(words) => f.write_str(words)?,
+        Part::Number(n) => write!(f, "{n}")?,
+        Part::Bits(bits) => write!(f, "{}", Digits(bits))?,
+    }
+    match number {
+        Some(number) => write!(f, "{number}"),
+        None => Ok(()),
     }
 }

@@ -1,102 +1,112 @@
-//! What the words after a command's name ask for.
-ghost use Rattle.std.specs.Prelude.{◌≡◌, IsErrOf, IsTrue};
-ghost use Rattle.vb_command.specs.Words.{words};
-ghost use Rattle.vb_command.specs.Keywords.{holds_bytes};
-ghost use Rattle.vb_command.specs.Arguments.{slot_order, number_order, run_order, arguments_of};
-ghost use Rattle.vb_command.specs.Reading.{Gives};
+//! What a line of words asks for.
+ghost use Rattle.std.specs.Prelude.{◌≡◌, IsErrOf, IsTrue, Some, option_map};
+ghost use Rattle.vb_command.specs.Arguments.{arguments_of, edit_of, question_of};
+ghost use Rattle.vb_command.specs.Reading.{Gives, Tells, asks_memory};
 ghost use Rattle.vb_command.specs.Views.{order};
 
 use crate::command::Command;
-use crate::keyword::{Keyword, NumberKeyword, RunKeyword, SlotKeyword};
-use crate::shapes::{
-    four_numbers, number_and_truth, number_truth_number, numbers_and_bytes, one_number,
-    three_numbers, three_numbers_and_truth, two_numbers, two_numbers_and_truth,
-};
+use crate::hex::{bytes_of_pairs, hex_pairs};
+use crate::number::number;
+use crate::truth::truth;
 use crate::unread::Unread;
+use crate::words::Words;
 use std::alloc::Allocator;
 
-/// The command of a slot.
-fn slot_command<A: Allocator>(name: SlotKeyword, k: usize) -> Command<A>
-    ensures { order result ≡ slot_order name k }
-{
-    match name {
-        SlotKeyword::Clear => Command::Clear(k),
-        SlotKeyword::Flip => Command::Flip(k),
-        SlotKeyword::Freeze => Command::Freeze(k),
-        SlotKeyword::Thaw => Command::Thaw(k),
-        SlotKeyword::Drop => Command::Drop(k),
-        SlotKeyword::Len => Command::Len(k),
-        SlotKeyword::Count => Command::Count(k),
-        SlotKeyword::Bits => Command::Bits(k),
-    }
-}
-
-/// The command of a slot and a number.
-fn number_command<A: Allocator>(name: NumberKeyword, k: usize, n: usize) -> Command<A>
-    ensures { order result ≡ number_order name (k, n) }
-{
-    match name {
-        NumberKeyword::Truncate => Command::Truncate(k, n),
-        NumberKeyword::Clone => Command::Clone(k, n),
-        NumberKeyword::Get => Command::Get(k, n),
-        NumberKeyword::Select => Command::Select(k, n),
-        NumberKeyword::Selectunset => Command::Selectunset(k, n),
-    }
-}
-
-/// The command of a slot and a number of equal bits.
-fn run_command<A: Allocator>(name: RunKeyword, k: usize, v: bool, n: usize) -> Command<A>
-    ensures { order result ≡ run_order name (k, v, n) }
-{
-    match name {
-        RunKeyword::Full => Command::Full(k, v, n),
-        RunKeyword::Appendn => Command::Appendn(k, v, n),
-    }
-}
-
-/// What a command asks for that has this text after its name.
+/// The command of this name with these words after it. Memory is taken only for a command that can
+/// be read.
 #[tactic(auto, unfolding(crate::specs::Arguments::arguments_of))]
 pub fn arguments<A: Allocator + Clone>(
     alloc: &A,
-    keyword: Keyword,
-    text: &str,
+    name: &str,
+    words: &mut Words<'_>,
 ) -> Result<Command<A>, Unread>
-    ensures read { Gives order result (arguments_of keyword (words text.now)) }
-    ensures memory { IsErrOf result Unread.Memory → IsTrue (holds_bytes keyword) }
+    ensures read { Gives order result (arguments_of name.now words.old) }
+    ensures memory { IsErrOf result Unread.Memory →
+        IsTrue (asks_memory (option_map Some (arguments_of name.now words.old))) }
 {
-    match keyword {
-        Keyword::Slot(name) => Ok(slot_command(name, one_number(text)?)),
-        Keyword::Number(name) => {
-            let (k, n) = two_numbers(text)?;
-            Ok(number_command(name, k, n))
+    match name {
+        "import" => {
+            let (t, o, n, digits) = words.four()?;
+            let (t, o, n) = (number(t)?, number(o)?, number(n)?);
+            let pairs = hex_pairs(digits)?;
+            Ok(Command::Import(t, o, n, bytes_of_pairs(alloc.clone()?, pairs)?))
         }
-        Keyword::Run(name) => {
-            let (k, v, n) = number_truth_number(text)?;
-            Ok(run_command(name, k, v, n))
+        "full" => {
+            let (t, v, n) = words.three()?;
+            Ok(Command::Full(number(t)?, truth(v)?, number(n)?))
         }
-        Keyword::Import => {
-            let (t, o, n, bytes) = numbers_and_bytes(alloc, text)?;
-            Ok(Command::Import(t, o, n, bytes))
+        "clone" => {
+            let (k, t) = words.two()?;
+            Ok(Command::Clone(number(k)?, number(t)?))
         }
-        Keyword::Set => {
-            let (k, i, v) = two_numbers_and_truth(text)?;
-            Ok(Command::Set(k, i, v))
+        "slice" => {
+            let (k, a, b, t) = words.four()?;
+            Ok(Command::Slice(number(k)?, number(a)?, number(b)?, number(t)?))
         }
-        Keyword::Append => {
-            let (k, v) = number_and_truth(text)?;
-            Ok(Command::Append(k, v))
+        "freeze" => Ok(Command::Freeze(number(words.one()?)?)),
+        "thaw" => Ok(Command::Thaw(number(words.one()?)?)),
+        "drop" => Ok(Command::Drop(number(words.one()?)?)),
+        _ => edit(name, words),
+    }
+}
+
+/// The command of this name if it is an edit or a question.
+#[tactic(auto, unfolding(crate::specs::Arguments::edit_of))]
+fn edit<A: Allocator>(name: &str, words: &mut Words<'_>) -> Result<Command<A>, Unread>
+    ensures { Tells order result (edit_of name.now words.old) }
+{
+    match name {
+        "set" => {
+            let (k, i, v) = words.three()?;
+            Ok(Command::Set(number(k)?, number(i)?, truth(v)?))
         }
-        Keyword::Fill => {
-            let (k, a, b, v) = three_numbers_and_truth(text)?;
-            Ok(Command::Fill(k, a, b, v))
+        "append" => {
+            let (k, v) = words.two()?;
+            Ok(Command::Append(number(k)?, truth(v)?))
         }
-        Keyword::Slice => {
-            let (k, a, b, t) = four_numbers(text)?;
-            Ok(Command::Slice(k, a, b, t))
+        "appendn" => {
+            let (k, v, n) = words.three()?;
+            Ok(Command::Appendn(number(k)?, truth(v)?, number(n)?))
         }
-        Keyword::Countrange => {
-            let (k, a, b) = three_numbers(text)?;
-            Ok(Command::Countrange(k, a, b))
+        "fill" => {
+            let (k, a, b, v) = words.four()?;
+            Ok(Command::Fill(number(k)?, number(a)?, number(b)?, truth(v)?))
         }
+        "truncate" => {
+            let (k, n) = words.two()?;
+            Ok(Command::Truncate(number(k)?, number(n)?))
+        }
+        "clear" => Ok(Command::Clear(number(words.one()?)?)),
+        "flip" => Ok(Command::Flip(number(words.one()?)?)),
+        _ => question(name, words),
+    }
+}
+
+/// The command of this name if it is a question.
+#[tactic(auto, unfolding(crate::specs::Arguments::question_of))]
+fn question<A: Allocator>(name: &str, words: &mut Words<'_>) -> Result<Command<A>, Unread>
+    ensures { Tells order result (question_of name.now words.old) }
+{
+    match name {
+        "len" => Ok(Command::Len(number(words.one()?)?)),
+        "count" => Ok(Command::Count(number(words.one()?)?)),
+        "get" => {
+            let (k, i) = words.two()?;
+            Ok(Command::Get(number(k)?, number(i)?))
+        }
+        "countrange" => {
+            let (k, a, b) = words.three()?;
+            Ok(Command::Countrange(number(k)?, number(a)?, number(b)?))
+        }
+        "select" => {
+            let (k, n) = words.two()?;
+            Ok(Command::Select(number(k)?, number(n)?))
+        }
+        "selectunset" => {
+            let (k, n) = words.two()?;
+            Ok(Command::Selectunset(number(k)?, number(n)?))
+        }
+        "bits" => Ok(Command::Bits(number(words.one()?)?)),
+        _ => Err(Unread::Unreadable),
     }
 }

@@ -26,7 +26,7 @@ impl fmt::Display for Digits<'_> {
             return write!(f, "-");
         }
         for bit in self.0 {
-            write!(f, "{}", digit(*bit))?;
+            f.write_str(digit(*bit))?;
         }
         Ok(())
     }

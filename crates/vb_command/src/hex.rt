@@ -1,10 +1,9 @@
 //! Bytes that are written in hexadecimal.
-ghost use Rattle.std.specs.Prelude.{◌≡◌, ◌<◌, IfSome};
+ghost use Rattle.std.specs.Prelude.{◌≡◌, ◌<◌, Some, None, IfOk, IfSome, IsTrue, MatchResult, is_some};
 ghost use Rattle.vb_command.specs.Hex.{hex_value, hex_byte, hex_pairs, hex};
-ghost use Rattle.vb_command.specs.Reading.{Gives};
 
 use crate::unread::Unread;
-use std::alloc::Allocator;
+use std::alloc::{AllocError, Allocator};
 
 /// The value of a digit of either case.
 fn digit_value(digit: u8) -> Option<u8>
@@ -26,30 +25,44 @@ fn byte_of(high: u8, low: u8) -> Option<u8>
     Some(16 * digit_value(high)? + digit_value(low)?)
 }
 
-/// The bytes of pairs of digits.
-fn bytes_of_pairs<A: Allocator>(alloc: A, digits: &[u8]) -> Result<Vec<u8, A>, Unread>
-    ensures { Gives (λ bytes. bytes.items) result (hex_pairs digits.now) }
+/// Whether these are pairs of digits.
+fn are_pairs(digits: &[u8]) -> bool
+    ensures { result ≡ is_some (hex_pairs digits.now) }
 {
-    let mut bytes = Vec::with_capacity(alloc, digits.len() / 2)?;
     let mut rest = digits;
     while let [high, low, more @ ..] = rest {
-        let byte = byte_of(*high, *low).ok_or(Unread::Unreadable)?;
-        bytes.push(byte)?;
-        rest = more;
+        match byte_of(*high, *low) {
+            Some(_) => rest = more,
+            None => return false,
+        }
     }
-    if rest.is_empty() {
-        Ok(bytes)
+    rest.is_empty()
+}
+
+/// The pairs of digits that write the bytes of a word. This takes no memory.
+pub fn hex_pairs(word: &str) -> Result<&[u8], Unread>
+    ensures { MatchResult result
+        (λ digits. (hex word.now ≡ hex_pairs digits.now) × IsTrue (is_some (hex word.now)))
+        (λ unread. (unread ≡ Unread.Unreadable) × (hex word.now ≡ None)) }
+{
+    let digits = if word == "-" { b"" } else { word.as_bytes() };
+    if are_pairs(digits) {
+        Ok(digits)
     } else {
         Err(Unread::Unreadable)
     }
 }
 
-/// The bytes that a word writes as pairs of hexadecimal digits; `-` writes none.
-pub fn hex_bytes<A: Allocator>(alloc: A, word: &str) -> Result<Vec<u8, A>, Unread>
-    ensures { Gives (λ bytes. bytes.items) result (hex word.now) }
+/// The bytes of pairs of digits, in memory by one request.
+pub fn bytes_of_pairs<A: Allocator>(alloc: A, digits: &[u8]) -> Result<Vec<u8, A>, AllocError>
+    requires { IsTrue (is_some (hex_pairs digits.now)) }
+    ensures { IfOk result (λ bytes. hex_pairs digits.now ≡ Some bytes.items) }
 {
-    if word == "-" {
-        return Ok(Vec::new(alloc));
+    let mut bytes = Vec::with_capacity(alloc, digits.len() / 2)?;
+    let mut rest = digits;
+    while let [high, low, more @ ..] = rest {
+        bytes.push(byte_of(*high, *low).unwrap())?;
+        rest = more;
     }
-    bytes_of_pairs(alloc, word.as_bytes())
+    Ok(bytes)
 }

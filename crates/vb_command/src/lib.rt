@@ -9,19 +9,17 @@ mod answer;
 mod arguments;
 mod command;
 mod digits;
-mod fields;
 mod hex;
-mod keyword;
 mod line;
 mod number;
-mod shapes;
 #[cfg(test)]
 mod tests;
 mod truth;
 mod unread;
 mod words;
 
-pub use answer::{Answer, Refusal};
+pub use answer::{Answer, Part, Refusal};
 pub use command::{Command, Mode};
+pub use digits::digit;
 pub use line::command_of;
 pub use unread::Unread;

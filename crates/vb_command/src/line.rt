@@ -1,14 +1,13 @@
 //! Lines as commands.
 ghost use Rattle.std.specs.Prelude.{◌≡◌, true, false, MatchOption, option_map, IsErrOf, IsTrue};
 ghost use Rattle.vb_command.specs.Words.{words};
-ghost use Rattle.vb_command.specs.Reading.{Gives, all_ascii, request_of, takes_memory, reading};
+ghost use Rattle.vb_command.specs.Reading.{Gives, all_ascii, request_of, asks_memory, reading};
 ghost use Rattle.vb_command.specs.Views.{order};
 
 use crate::arguments::arguments;
 use crate::command::Command;
-use crate::keyword::keyword_of;
 use crate::unread::Unread;
-use crate::words::next_word;
+use crate::words::Words;
 use std::alloc::Allocator;
 
 /// The line as a text, if it is ASCII.
@@ -28,17 +27,17 @@ fn ascii_text(line: &[u8]) -> Option<&str>
 #[tactic(auto, unfolding(crate::specs::Reading::request_of))]
 fn request<A: Allocator + Clone>(alloc: &A, text: &str) -> Result<Option<Command<A>>, Unread>
     ensures read { Gives (option_map order) result (request_of (words text.now)) }
-    ensures memory { IsErrOf result Unread.Memory → IsTrue (takes_memory (words text.now)) }
+    ensures memory { IsErrOf result Unread.Memory →
+        IsTrue (asks_memory (request_of (words text.now))) }
 {
-    let Some((name, rest)) = next_word(text) else {
+    let mut words = Words::new(text);
+    let Some(name) = words.next() else {
         return Ok(None);
     };
     if name.starts_with('#') {
         return Ok(None);
     }
-    let keyword = keyword_of(name).ok_or(Unread::Unreadable)?;
-    let command = arguments(alloc, keyword, rest)?;
-    Ok(Some(command))
+    Ok(Some(arguments(alloc, name, &mut words)?))
 }
 
 /// Reads a line: the command that it asks for, or `None` where it has no words or is a comment.
@@ -53,9 +52,9 @@ fn request<A: Allocator + Clone>(alloc: &A, text: &str) -> Result<Option<Command
 /// a comment, or if it has words, is no comment, and its first word names no command, words are
 /// missing or left over, or one is of another kind. No other line is answered so.
 ///
-/// Memory is taken where the first word names `import`: for a copy of `alloc`, and for the bytes as
-/// much as they need. Where that is refused the answer is `Unread::Memory`, even if the line can't
-/// be read; no other line is answered so.
+/// Memory is taken for an `import` that can be read: for a copy of `alloc`, and for the bytes as
+/// much as they need. Where that is refused the answer is `Unread::Memory`; no other line is
+/// answered so.
 ///
 /// The time is proportional to the line's length.
 pub fn command_of<A: Allocator + Clone>(
@@ -63,7 +62,7 @@ pub fn command_of<A: Allocator + Clone>(
     line: &[u8],
 ) -> Result<Option<Command<A>>, Unread>
     ensures read { Gives (option_map order) result (reading line.now) }
-    ensures memory { IsErrOf result Unread.Memory → IsTrue (takes_memory (words line.now)) }
+    ensures memory { IsErrOf result Unread.Memory → IsTrue (asks_memory (reading line.now)) }
 {
     let text = ascii_text(line).ok_or(Unread::Unreadable)?;
     request(alloc, text)

@@ -1,14 +1,16 @@
 //! Truth values that are written as a binary digit.
-ghost use Rattle.std.specs.Prelude.{◌≡◌};
-ghost use Rattle.vb_command.specs.Fields.{truth};
+ghost use Rattle.vb_command.specs.Reading.{Tells};
+ghost use Rattle.vb_command.specs.Words.{truth};
+
+use crate::unread::Unread;
 
 /// The truth value that a word writes: `0` or `1`.
-pub fn truth(word: &str) -> Option<bool>
-    ensures { result ≡ truth word.now }
+pub fn truth(word: &str) -> Result<bool, Unread>
+    ensures { Tells (λ v. v) result (truth word.now) }
 {
     match word {
-        "0" => Some(false),
-        "1" => Some(true),
-        _ => None,
+        "0" => Ok(false),
+        "1" => Ok(true),
+        _ => Err(Unread::Unreadable),
     }
 }

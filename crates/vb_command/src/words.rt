@@ -1,10 +1,104 @@
 //! The words of a line: its parts between spaces that aren't empty.
-ghost use Rattle.std.specs.Prelude.{◌≡◌, [], ◌∷◌, MatchOption};
-ghost use Rattle.vb_command.specs.Words.{words};
+ghost use Rattle.std.specs.Prelude.{◌≡◌, ℕ, List, [], ◌∷◌, MatchOption, MatchResult};
+ghost use Rattle.vb_command.specs.Reading.{Tells};
+ghost use Rattle.vb_command.specs.Words.{words, only_word, only_two, only_three, only_four};
+
+use crate::unread::Unread;
+use std::marker::Model;
+
+/// The words of a text that are still to come. Contracts see the list of them.
+#[derive(Drop)]
+pub struct Words<'a> {
+    rest: &'a str,
+}
+
+impl<'a> Model for Words<'a> {
+    ghost use Rattle.std.specs.Prelude.{ℕ, List};
+    ghost use Rattle.vb_command.specs.Words.{words};
+
+    ghost Value = { List (List ℕ) };
+
+    ghost view = { λ w. words w.rest.now };
+}
+
+impl<'a> Words<'a> {
+    /// The words of a text.
+    pub fn new(text: &'a str) -> Self
+        ensures { result ≡ words text.now }
+    {
+        Words { rest: text }
+    }
+
+    /// The next word, if there is one.
+    pub fn next(&mut self) -> Option<&'a str>
+        ensures { MatchOption result
+            (self.old ≡ [])
+            (λ word. self.old ≡ word.now ∷ self.new) }
+    {
+        let (word, rest) = next_word(self.rest)?;
+        self.rest = rest;
+        Some(word)
+    }
+
+    /// The one word that is left.
+    pub fn one(&mut self) -> Result<&'a str, Unread>
+        ensures { Tells (λ word. word.now) result (only_word self.old) }
+    {
+        let a = self.next().ok_or(Unread::Unreadable)?;
+        self.end()?;
+        Ok(a)
+    }
+
+    /// The two words that are left.
+    pub fn two(&mut self) -> Result<(&'a str, &'a str), Unread>
+        ensures { Tells (λ (a, b). (a.now, b.now)) result (only_two self.old) }
+    {
+        let a = self.next().ok_or(Unread::Unreadable)?;
+        let b = self.next().ok_or(Unread::Unreadable)?;
+        self.end()?;
+        Ok((a, b))
+    }
+
+    /// The three words that are left.
+    pub fn three(&mut self) -> Result<(&'a str, &'a str, &'a str), Unread>
+        ensures { Tells (λ (a, b, c). (a.now, b.now, c.now)) result (only_three self.old) }
+    {
+        let a = self.next().ok_or(Unread::Unreadable)?;
+        let b = self.next().ok_or(Unread::Unreadable)?;
+        let c = self.next().ok_or(Unread::Unreadable)?;
+        self.end()?;
+        Ok((a, b, c))
+    }
+
+    /// The four words that are left.
+    pub fn four(&mut self) -> Result<(&'a str, &'a str, &'a str, &'a str), Unread>
+        ensures { Tells (λ (a, b, c, d). (a.now, b.now, c.now, d.now)) result (only_four self.old) }
+    {
+        let a = self.next().ok_or(Unread::Unreadable)?;
+        let b = self.next().ok_or(Unread::Unreadable)?;
+        let c = self.next().ok_or(Unread::Unreadable)?;
+        let d = self.next().ok_or(Unread::Unreadable)?;
+        self.end()?;
+        Ok((a, b, c, d))
+    }
+
+    /// Nothing, if no words are left.
+    fn end(&self) -> Result<(), Unread>
+        ensures { MatchResult result
+            (λ _. self.now ≡ [])
+            (λ unread. (unread ≡ Unread.Unreadable)
+            × (first : List ℕ) × (more : List (List ℕ)) × (self.now ≡ first ∷ more)) }
+    {
+        match next_word(self.rest) {
+            None => Ok(()),
+            Some(_) => Err(Unread::Unreadable),
+        }
+    }
+}
 
 /// The first word of a text, and what follows it.
 #[tactic(auto, using(crate::proofs::WordLists::parts))]
-pub fn next_word(text: &str) -> Option<(&str, &str)>
+fn next_word(text: &str) -> Option<(&str, &str)>
     ensures { MatchOption result
         (words text.now ≡ [])
         (λ (word, rest). words text.now ≡ word.now ∷ words rest.now) }

@@ -16,18 +16,49 @@ Keeps-trans (Some xs) None c h k = absurd h
 Keeps-trans (Some xs) (Some ys) None h k = absurd k
 Keeps-trans (Some xs) (Some ys) (Some zs) h k = k ∙ h
 
--- more bytes are to be written
-pub Keeps-append : (first written : Option (List ℕ)) (text out more : List ℕ) → Keeps (append_known first text) (append_known written out) → Keeps (append_known first (text ++ more)) (append_known written (out ++ more))
-Keeps-append None written text out more k = tt
-Keeps-append (Some f) None text out more k = absurd k
-Keeps-append (Some f) (Some w) text out more k = sym (append_assoc w out more) ∙ (ap (λ xs. xs ++ more) k ∙ append_assoc f text more)
+-- bytes are added twice
+pub Appends-trans : (a b c : Option (List ℕ)) (xs ys : List ℕ) → Appends a b xs → Appends b c ys → Appends a c (xs ++ ys)
+Appends-trans None b c xs ys h k = tt
+Appends-trans (Some x) None c xs ys h k = absurd h
+Appends-trans (Some x) (Some y) None xs ys h k = absurd k
+Appends-trans (Some x) (Some y) (Some z) xs ys h k = k ∙ (ap (λ l. l ++ ys) h ∙ append_assoc x xs ys)
+
+-- bytes are added, and then kept
+pub Appends-Keeps : (a b c : Option (List ℕ)) (xs : List ℕ) → Appends a b xs → Keeps b c → Appends a c xs
+Appends-Keeps None b c xs h k = tt
+Appends-Keeps (Some x) None c xs h k = absurd h
+Appends-Keeps (Some x) (Some y) None xs h k = absurd k
+Appends-Keeps (Some x) (Some y) (Some z) xs h k = k ∙ h
 
 -- the bytes that waited are written
-pub Keeps-Appends : (first written written' : Option (List ℕ)) (text out : List ℕ) → Keeps (append_known first text) (append_known written out) → Appends written written' out → Appends first written' text
-Keeps-Appends None written written' text out k h = tt
-Keeps-Appends (Some f) None written' text out k h = absurd k
-Keeps-Appends (Some f) (Some w) None text out k h = absurd h
-Keeps-Appends (Some f) (Some w) (Some z) text out k h = h ∙ k
+pub Appends-written : (first written written' : Option (List ℕ)) (out text : List ℕ) → Appends first (append_known written out) text → Appends written written' out → Appends first written' text
+Appends-written None written written' out text h k = tt
+Appends-written (Some f) None written' out text h k = absurd h
+Appends-written (Some f) (Some w) None out text h k = absurd k
+Appends-written (Some f) (Some w) (Some z) out text h k = k ∙ h
+
+-- no bytes wait
+pub Appends-wait-nil : (first : Option (List ℕ)) → Appends first (append_known first []) []
+Appends-wait-nil None = tt
+Appends-wait-nil (Some xs) = refl
+
+-- bytes wait behind others
+pub Appends-wait : (written : Option (List ℕ)) (out text : List ℕ) → Appends (append_known written out) (append_known written (out ++ text)) text
+Appends-wait None out text = tt
+Appends-wait (Some w) out text = sym (append_assoc w out text)
+
+-- bytes wait where those before them were written
+pub Appends-flushed : (written written' : Option (List ℕ)) (out text : List ℕ) → Appends written written' out → Appends (append_known written out) (append_known written' text) text
+Appends-flushed None written' out text h = tt
+Appends-flushed (Some w) None out text h = absurd h
+Appends-flushed (Some w) (Some z) out text h = ap (λ l. l ++ text) h
+
+-- bytes are written behind those that waited
+pub Appends-past : (written written' written'' : Option (List ℕ)) (out text : List ℕ) → Appends written written' out → Appends written' written'' text → Appends (append_known written out) (append_known written'' []) text
+Appends-past None written' written'' out text h k = tt
+Appends-past (Some w) None written'' out text h k = absurd h
+Appends-past (Some w) (Some z) None out text h k = absurd k
+Appends-past (Some w) (Some z) (Some y) out text h k = append-nil y ∙ (k ∙ ap (λ l. l ++ text) h)
 
 -- nothing is written
 pub Appends-nil : (known : Option (List ℕ)) → Appends known known []
@@ -47,3 +78,6 @@ nil_at_end remaining rest e h = let P : Option (List ℕ) → Type 0 = IsAtEnd i
 pub IfSome-known : (known : Option (List ℕ)) (P : List ℕ → Type 0) → ((bytes : List ℕ) → known ≡ Some bytes → P bytes) → IfSome known P
 IfSome-known None P h = tt
 IfSome-known (Some bytes) P h = h bytes refl
+
+-- for `#[tactic(auto, using(..))]`: bytes that wait and bytes that are written
+pub ruleset known_bytes = (Appends-wait, Appends-flushed, Appends-past)

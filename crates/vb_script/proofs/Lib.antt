@@ -1,4 +1,3 @@
-pub mod DriveErrorLemmas
 pub mod InputLines
 pub mod KnownBytes
 pub mod Progress

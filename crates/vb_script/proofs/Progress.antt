@@ -1,6 +1,6 @@
 -- How far a session has come, and what that says where it ends.
-use Rattle.std.proofs.Common.{◌≡◌, ◌⊎◌, ℕ, ◌+◌, ◌-◌, ◌^◌, ◌<◌, true, false, List, [], ◌∷◌, ◌++◌, length, take, drop, refl, sym, ap, ◌∙◌, Option, Some, None, arith, eqb, subst, append_assoc, length-append}
-use Rattle.std.specs.Prelude.{replicate, position, is_some, IsSomeAnd, MatchOption, ⊤}
+use Rattle.std.proofs.Common.{◌≡◌, ◌⊎◌, ℕ, ◌+◌, ◌-◌, ◌^◌, ◌<◌, true, false, List, [], ◌∷◌, ◌++◌, length, take, drop, refl, sym, ap, ◌∙◌, Option, Some, None, Result, Ok, Err, arith, eqb, subst, append_assoc, length-append}
+use Rattle.std.specs.Prelude.{replicate, position, is_some, slice_get, IfErr, IfSome, IsSomeAnd, IsTrue, MatchOption, OnOk, ⊤}
 use Rattle.std.proofs.Math.Seq.{take-append_seam}
 use Rattle.std.specs.Str.Lines.{lines, strip_carriage_return}
 use Rattle.std.specs.Io.KnownBytes.{prepend_known, append_known, Keeps, Appends, IsAtEnd}
@@ -8,12 +8,15 @@ use Rattle.std.proofs.lemmas.Grind.{flat_map-append}
 use mathlib.Core.List.{append-nil}
 use Rattle.vb_command.specs.Machine.{Slot, Empty, Order, Reply, Run}
 use Rattle.vb_command.specs.Printed.{line_of}
-use Rattle.vb_command.specs.Reading.{reading, script}
+use Rattle.vb_command.specs.Reading.{asks_memory, before, reading, script}
 use Rattle.vb_pool.proofs.Runs.{Run-append}
 use Rattle.vb_script.specs.Feed.{next_line}
-use Rattle.vb_script.specs.Session.{Serves, ServesNext, printed, AnswersLines, AnswersSome, AnswersEnded, StopsAt, ended_lines}
+use Rattle.vb_script.specs.DriveError.{IfMemory, IfOfLine, IfReadOrMemory, IfUnreadable, IsNoRead, IsOutside, IsWrite, UnlessWrite}
+use Rattle.vb_script.specs.Session.{Serves, ServesNext, line_of_any, printed, AnswersRun, AnswersLines, AnswersSome, AnswersEnded, StopsAt, SessionEnds, count_ended, ended_lines}
+use Rattle.vb_script.specs.declared.error.DriveError.{DriveError}
+use Rattle.vb_script.specs.declared.error.DriveError.TheVariants.{Unreadable, Read, Write, Memory}
 use Rattle.vb_script.proofs.InputLines.{line_feeds, line_feeds-append, line_feeds-within, lines-line_feed, lines-last, within_first, within_all, cut_at_line_feed}
-use Rattle.vb_script.proofs.KnownBytes.{Keeps-refl, Keeps-trans, Keeps-append, Keeps-Appends, Appends-nil, known_rest, nil_at_end}
+use Rattle.vb_script.proofs.KnownBytes.{Appends-Keeps, Appends-nil, Appends-trans, Appends-wait-nil, Appends-written, known_rest, nil_at_end}
 use Rattle.vb_script.proofs.Scripts.{script-append}
 
 -- of the input these lines were passed; the bytes fed come next, and then the remaining ones
@@ -70,6 +73,27 @@ Passed-ended_lines input done fed remaining p none =
     let count : line_feeds (p.used ++ fed) ≡ length done = omega (arith, line_feeds-append p.used fed, line_feeds-within fed (within_all fed none), p.ended) in
     ap (λ n. take n (lines (p.used ++ fed))) count ∙ (ap (take (length done)) (p.split fed) ∙ take-append_seam done (lines fed))
 
+-- the lines that were passed are the first ones of the input
+pub Passed-front : (input : List ℕ) (done : List (List ℕ)) (fed : List ℕ) (remaining : Option (List ℕ)) → Passed input done fed remaining → take (length done) (lines input) ≡ done
+Passed-front input done fed remaining p = ap (take (length done)) (Passed-lines input done fed remaining p) ∙ take-append_seam done (lines (fed ++ p.rest))
+
+-- where no line feed waits, as many lines have ended as were passed
+pub Passed-count : (input : List ℕ) (done : List (List ℕ)) (fed : List ℕ) (remaining : Option (List ℕ)) → (p : Passed input done fed remaining) → position (λ b. eqb b 10) fed ≡ None → count_ended (p.used ++ fed) ≡ length done
+Passed-count input done fed remaining p none = omega (arith, line_feeds-append p.used fed, line_feeds-within fed (within_all fed none), p.ended)
+
+-- what holds of an element stands at its place
+at_seam : (done : List (List ℕ)) (line : List ℕ) (later : List (List ℕ)) (P : List ℕ → Type 0) → P line → IsSomeAnd (slice_get (done ++ line ∷ later) (length done)) P
+at_seam [] line later P h = h
+at_seam (x ∷ done) line later P h = at_seam done line later P h
+
+-- what holds of a line in the middle of a list
+pub next_of : (ls done : List (List ℕ)) (line : List ℕ) (later : List (List ℕ)) (P : List ℕ → Type 0) → ls ≡ done ++ line ∷ later → P line → IsSomeAnd (slice_get ls (length done)) P
+next_of ls done line later P e h = subst (λ (xs : List (List ℕ)). IsSomeAnd (slice_get xs (length done)) P) (sym e) (at_seam done line later P h)
+
+-- the same lines, as if no more were to come
+Passed-here : (input : List ℕ) (done : List (List ℕ)) (fed : List ℕ) (remaining : Option (List ℕ)) → (p : Passed input done fed remaining) → Passed (p.used ++ fed) done fed (Some [])
+Passed-here input done fed remaining p = record { used = p.used; rest = []; known = refl; whole = ap (λ xs. p.used ++ xs) (sym (append-nil fed)); split = p.split; ended = p.ended }
+
 -- nothing is left
 pub Passed-all : (input : List ℕ) (done : List (List ℕ)) (remaining : Option (List ℕ)) → Passed input done [] remaining → IsAtEnd remaining → lines input ≡ done
 Passed-all input done remaining p end =
@@ -92,53 +116,156 @@ Passed-next_line input done fed remaining (Some k) P p here end some =
 Passed-next_line input done [] remaining None P p here end some = absurd some
 Passed-next_line input done (b ∷ bytes) remaining None P p here end some = (b ∷ bytes, [], Passed-last input done (b ∷ bytes) remaining p (sym here) (omega arith) (end refl), some)
 
--- these lines were answered, and of the answers those of out wait to be written
-pub record Answered (ls : List (List ℕ)) (first written : Option (List ℕ)) (out : List ℕ) (slots : List Slot) : Type 0 where
-  pub commands : List Order
-  pub read : script 1 ls ≡ Some commands
+-- commands were run, and of their answers those of out wait to be written
+pub record Ran (commands : List Order) (first written : Option (List ℕ)) (out : List ℕ) (slots : List Slot) : Type 0 where
   pub replies : List Reply
   pub ran : Run (replicate 16 Empty) commands replies slots
-  pub told : Keeps (append_known first (printed replies)) (append_known written out)
+  pub told : Appends first (append_known written out) (printed replies)
 
--- no line was answered
-pub Answered-nil : (first : Option (List ℕ)) → Answered [] first first [] (replicate 16 Empty)
-Answered-nil first = record { commands = []; read = refl; replies = []; ran = refl; told = Keeps-refl (append_known first []) }
+-- no command was run
+pub Ran-nil : (first : Option (List ℕ)) → Ran [] first first [] (replicate 16 Empty)
+Ran-nil first = record { replies = []; ran = refl; told = Appends-wait-nil first }
 
 -- answers were written
-pub Answered-Keeps : (ls : List (List ℕ)) (first written : Option (List ℕ)) (out : List ℕ) (written' : Option (List ℕ)) (out' : List ℕ) (slots : List Slot)
-    → Answered ls first written out slots → Keeps (append_known written out) (append_known written' out') → Answered ls first written' out' slots
-Answered-Keeps ls first written out written' out' slots a told =
-    record { commands = a.commands; read = a.read; replies = a.replies; ran = a.ran; told = Keeps-trans (append_known first (printed a.replies)) (append_known written out) (append_known written' out') a.told told }
-
--- all answers were written
-pub Answered-Appends : (ls : List (List ℕ)) (first written : Option (List ℕ)) (out : List ℕ) (written' : Option (List ℕ)) (slots : List Slot)
-    → Answered ls first written out slots → Appends written written' out → AnswersLines ls first written'
-Answered-Appends ls first written out written' slots a wrote =
-    record { commands = a.commands; read = a.read; replies = a.replies; last = slots; ran = a.ran; written = Keeps-Appends first written written' (printed a.replies) out a.told wrote }
+pub Ran-Keeps : (commands : List Order) (first written : Option (List ℕ)) (out : List ℕ) (written' : Option (List ℕ)) (out' : List ℕ) (slots : List Slot)
+    → Ran commands first written out slots → Keeps (append_known written out) (append_known written' out') → Ran commands first written' out' slots
+Ran-Keeps commands first written out written' out' slots a told =
+    record { replies = a.replies; ran = a.ran; told = Appends-Keeps first (append_known written out) (append_known written' out') (printed a.replies) a.told told }
 
 -- one more answer
 printed-append : (replies : List Reply) (r : Reply) → printed (replies ++ r ∷ []) ≡ printed replies ++ line_of r
 printed-append replies r = flat_map-append line_of replies (r ∷ []) ∙ ap (λ xs. printed replies ++ xs) (append-nil (line_of r))
 
+-- one more line was served
+pub Ran-append : (commands : List Order) (first written : Option (List ℕ)) (out : List ℕ) (slots : List Slot) (o : Option (Option Order)) (r : Option Reply) (written' : Option (List ℕ)) (out' : List ℕ) (slots' : List Slot)
+    → Ran commands first written out slots → Serves o slots r slots' → Appends (append_known written out) (append_known written' out') (line_of_any r)
+    → (c : Option Order) × (o ≡ Some c) × Ran (commands ++ before c []) first written' out' slots'
+Ran-append commands first written out slots None r written' out' slots' a served told = absurd served
+Ran-append commands first written out slots (Some None) r written' out' slots' a served told = (
+  None,
+  refl,
+  subst (λ (cs : List Order). Ran cs first written' out' slots') (sym (append-nil commands)) (record {
+    replies = a.replies;
+    ran = subst (λ (s : List Slot). Run (replicate 16 Empty) commands a.replies s) (sym served.1) a.ran;
+    told = subst (λ (x : List ℕ). Appends first (append_known written' out') x) (ap (λ q. printed a.replies ++ line_of_any q) served.0 ∙ append-nil (printed a.replies))
+        (Appends-trans first (append_known written out) (append_known written' out') (printed a.replies) (line_of_any r) a.told told);
+  }),
+)
+Ran-append commands first written out slots (Some (Some c)) None written' out' slots' a served told = absurd served
+Ran-append commands first written out slots (Some (Some c)) (Some r) written' out' slots' a outcome told = (
+  Some c,
+  refl,
+  record {
+    replies = a.replies ++ r ∷ [];
+    ran = Run-append (replicate 16 Empty) commands a.replies slots c r slots' a.ran outcome;
+    told = subst (λ (x : List ℕ). Appends first (append_known written' out') x) (sym (printed-append a.replies r))
+        (Appends-trans first (append_known written out) (append_known written' out') (printed a.replies) (line_of r) a.told told);
+  },
+)
+
+-- all answers were written
+pub Ran-AnswersRun : (commands : List Order) (first written : Option (List ℕ)) (out : List ℕ) (written' : Option (List ℕ)) (slots : List Slot)
+    → Ran commands first written out slots → Appends written written' out → AnswersRun first written'
+Ran-AnswersRun commands first written out written' slots a wrote =
+    record { commands = commands; replies = a.replies; last = slots; ran = a.ran; written = Appends-written first written written' out (printed a.replies) a.told wrote }
+
+-- some commands were run
+abbrev pub RanAny : (first written : Option (List ℕ)) (out : List ℕ) (slots : List Slot) → Type 0
+RanAny first written out slots = (commands : List Order) × Ran commands first written out slots
+
+-- a line, if there is one, was served
+pub RanAny-next : (first written : Option (List ℕ)) (out : List ℕ) (slots : List Slot) (line : Option (List ℕ)) (written' : Option (List ℕ)) (out' : List ℕ) (slots' : List Slot)
+    → RanAny first written out slots → ServesNext line slots (append_known written out) slots' (append_known written' out') → RanAny first written' out' slots'
+RanAny-next first written out slots None written' out' slots' (commands, a) served = (
+  commands,
+  record {
+    replies = a.replies;
+    ran = subst (λ (s : List Slot). Run (replicate 16 Empty) commands a.replies s) (sym served.0) a.ran;
+    told = subst (λ (x : List ℕ). Appends first (append_known written' out') x) (append-nil (printed a.replies)) (Appends-trans first (append_known written out) (append_known written' out') (printed a.replies) [] a.told served.1);
+  },
+)
+RanAny-next first written out slots (Some line) written' out' slots' (commands, a) (r, served, told) =
+    let next = Ran-append commands first written out slots (reading line) r written' out' slots' a served told in
+    (commands ++ before next.0 [], next.2)
+
+-- answers were written
+pub RanAny-Keeps : (first written : Option (List ℕ)) (out : List ℕ) (written' : Option (List ℕ)) (out' : List ℕ) (slots : List Slot)
+    → RanAny first written out slots → Keeps (append_known written out) (append_known written' out') → RanAny first written' out' slots
+RanAny-Keeps first written out written' out' slots (commands, a) told = (commands, Ran-Keeps commands first written out written' out' slots a told)
+
+-- no further line came
+pub RanAny-unready : (first written : Option (List ℕ)) (out : List ℕ) (slots : List Slot) (written' : Option (List ℕ)) (e : DriveError) (Q : Type 0)
+    → RanAny first written out slots → IfReadOrMemory {X = Option ℕ} (Err e) (Appends written written' out × Q) → IsOutside e → UnlessWrite {X = Unit {0}} (Err e) (AnswersRun first written')
+RanAny-unready first written out slots written' (Unreadable l) Q a stopped outside = absurd outside
+RanAny-unready first written out slots written' Write Q a stopped outside = tt
+RanAny-unready first written out slots written' Read Q (commands, a) stopped outside = Ran-AnswersRun commands first written out written' slots a stopped.0
+RanAny-unready first written out slots written' Memory Q (commands, a) stopped outside = Ran-AnswersRun commands first written out written' slots a stopped.0
+
+-- the next line gave no command, or its answer could not be written
+pub RanAny-unserved : (first written : Option (List ℕ)) (out : List ℕ) (slots : List Slot) (written' : Option (List ℕ)) (e : DriveError)
+    → RanAny first written out slots → IfOfLine {X = Unit {0}} (Err e) (Appends written written' out) → IsNoRead e → UnlessWrite {X = Unit {0}} (Err e) (AnswersRun first written')
+RanAny-unserved first written out slots written' Read a wrote no_read = absurd no_read
+RanAny-unserved first written out slots written' Write a wrote no_read = tt
+RanAny-unserved first written out slots written' (Unreadable l) (commands, a) wrote no_read = Ran-AnswersRun commands first written out written' slots a wrote
+RanAny-unserved first written out slots written' Memory (commands, a) wrote no_read = Ran-AnswersRun commands first written out written' slots a wrote
+
+-- the last answers were written, or were not
+pub RanAny-ends : (first written : Option (List ℕ)) (out : List ℕ) (slots : List Slot) (written' : Option (List ℕ)) (r : Result (Unit {0}) DriveError)
+    → RanAny first written out slots → OnOk r (Appends written written' out) → IfErr r IsWrite → UnlessWrite r (AnswersRun first written')
+RanAny-ends first written out slots written' (Ok x) (commands, a) wrote fault = Ran-AnswersRun commands first written out written' slots a wrote
+RanAny-ends first written out slots written' (Err Write) a wrote fault = tt
+RanAny-ends first written out slots written' (Err Memory) a wrote fault = absurd fault
+RanAny-ends first written out slots written' (Err Read) a wrote fault = absurd fault
+RanAny-ends first written out slots written' (Err (Unreadable l)) a wrote fault = absurd fault
+
+-- no command was run, and nothing written
+pub AnswersRun-none : (written : Option (List ℕ)) → AnswersRun written written
+AnswersRun-none written = Ran-AnswersRun [] written written [] written (replicate 16 Empty) (Ran-nil written) (Appends-nil written)
+
+-- these lines were answered, and of the answers those of out wait to be written
+pub record Answered (ls : List (List ℕ)) (first written : Option (List ℕ)) (out : List ℕ) (slots : List Slot) : Type 0 where
+  pub commands : List Order
+  pub read : script 1 ls ≡ Some commands
+  pub ran : Ran commands first written out slots
+
+-- no line was answered
+pub Answered-nil : (first : Option (List ℕ)) → Answered [] first first [] (replicate 16 Empty)
+Answered-nil first = record { commands = []; read = refl; ran = Ran-nil first }
+
+-- answers were written
+pub Answered-Keeps : (ls : List (List ℕ)) (first written : Option (List ℕ)) (out : List ℕ) (written' : Option (List ℕ)) (out' : List ℕ) (slots : List Slot)
+    → Answered ls first written out slots → Keeps (append_known written out) (append_known written' out') → Answered ls first written' out' slots
+Answered-Keeps ls first written out written' out' slots a told =
+    record { commands = a.commands; read = a.read; ran = Ran-Keeps a.commands first written out written' out' slots a.ran told }
+
+-- all answers were written
+pub Answered-AnswersLines : (ls : List (List ℕ)) (first written : Option (List ℕ)) (out : List ℕ) (written' : Option (List ℕ)) (slots : List Slot)
+    → Answered ls first written out slots → Appends written written' out → AnswersLines ls first written'
+Answered-AnswersLines ls first written out written' slots a wrote =
+    record { commands = a.commands; read = a.read; replies = a.ran.replies; last = slots; ran = a.ran.ran; written = Appends-written first written written' out (printed a.ran.replies) a.ran.told wrote }
+
 -- one more line was answered
-pub Answered-append : (ls : List (List ℕ)) (first written : Option (List ℕ)) (out : List ℕ) (slots : List Slot) (line : List ℕ) (o : Option (Option Order)) (out' : List ℕ) (slots' : List Slot)
-    → Answered ls first written out slots → 1 + length ls < 2 ^ 64 - 1 → reading line ≡ o → Serves o slots out slots' out' → Answered (ls ++ line ∷ []) first written out' slots'
-Answered-append ls first written out slots line None out' slots' a small read served = absurd served
-Answered-append ls first written out slots line (Some None) out' slots' a small read served = record {
+pub Answered-append : (ls : List (List ℕ)) (first written : Option (List ℕ)) (out : List ℕ) (slots : List Slot) (line : List ℕ) (written' : Option (List ℕ)) (out' : List ℕ) (slots' : List Slot)
+    → Answered ls first written out slots → 1 + length ls < 2 ^ 64 - 1 → ServesNext (Some line) slots (append_known written out) slots' (append_known written' out') → Answered (ls ++ line ∷ []) first written' out' slots'
+Answered-append ls first written out slots line written' out' slots' a small (r, served, told) =
+    let next = Ran-append a.commands first written out slots (reading line) r written' out' slots' a.ran served told in
+    record {
+      commands = a.commands ++ before next.0 [];
+      read = script-append 1 ls line a.commands next.0 small next.1 a.read;
+      ran = next.2;
+    }
+
+-- no line was there to be answered
+Answered-same : (ls : List (List ℕ)) (first written : Option (List ℕ)) (out : List ℕ) (slots : List Slot) (written' : Option (List ℕ)) (out' : List ℕ) (slots' : List Slot)
+    → Answered ls first written out slots → ServesNext None slots (append_known written out) slots' (append_known written' out') → Answered ls first written' out' slots'
+Answered-same ls first written out slots written' out' slots' a served = record {
   commands = a.commands;
-  read = script-append 1 ls line a.commands None small read a.read ∙ ap Some (append-nil a.commands);
-  replies = a.replies;
-  ran = subst (λ (s : List Slot). Run (replicate 16 Empty) a.commands a.replies s) (sym served.0) a.ran;
-  told = subst (λ (x : List ℕ). Keeps (append_known first (printed a.replies)) (append_known written x)) (sym served.1) a.told;
-}
-Answered-append ls first written out slots line (Some (Some c)) out' slots' a small read (r, outcome, pushed) = record {
-  commands = a.commands ++ c ∷ [];
-  read = script-append 1 ls line a.commands (Some c) small read a.read;
-  replies = a.replies ++ r ∷ [];
-  ran = Run-append (replicate 16 Empty) a.commands a.replies slots c r slots' a.ran outcome;
-  told =
-      subst (λ (x : List ℕ). Keeps (append_known first x) (append_known written out')) (sym (printed-append a.replies r))
-      (subst (λ (x : List ℕ). Keeps (append_known first (printed a.replies ++ line_of r)) (append_known written x)) (sym pushed) (Keeps-append first written (printed a.replies) out (line_of r) a.told));
+  read = a.read;
+  ran = record {
+    replies = a.ran.replies;
+    ran = subst (λ (s : List Slot). Run (replicate 16 Empty) a.commands a.ran.replies s) (sym served.0) a.ran.ran;
+    told = subst (λ (x : List ℕ). Appends first (append_known written' out') x) (append-nil (printed a.ran.replies)) (Appends-trans first (append_known written out) (append_known written' out') (printed a.ran.replies) [] a.ran.told served.1);
+  };
 }
 
 -- the next line has number n: those before it were passed and answered
@@ -164,77 +291,134 @@ module _ {input : List ℕ} {first : Option (List ℕ)} where
   }
 
   -- a line was served that a line feed ended
-  pub Progress-next : (n : ℕ) (fed : List ℕ) (remaining written : Option (List ℕ)) (out : List ℕ) (slots : List Slot) (at : Option ℕ) (fed' out' : List ℕ) (slots' : List Slot)
-      → Progress input first n fed remaining written out slots → n < 2 ^ 64 - 1 → at ≡ position (λ b. eqb b 10) fed → is_some at ≡ true
-      → ServesNext (next_line at fed) slots out slots' out' → MatchOption at (fed' ≡ fed) (λ k. fed' ≡ drop (k + 1) fed) → Progress input first (n + 1) fed' remaining written out' slots'
-  Progress-next n fed remaining written out slots None fed' out' slots' p small here some served rest = absurd (cc)
-  Progress-next n fed remaining written out slots (Some k) fed' out' slots' p small here some served rest =
+  pub Progress-next : (n : ℕ) (fed : List ℕ) (remaining written : Option (List ℕ)) (out : List ℕ) (slots : List Slot) (at : Option ℕ) (fed' : List ℕ) (written' : Option (List ℕ)) (out' : List ℕ) (slots' : List Slot)
+      → Progress input first n fed remaining written out slots → IfSome (next_line at fed) (λ line. n < 2 ^ 64 - 1) → at ≡ position (λ b. eqb b 10) fed → is_some at ≡ true
+      → ServesNext (next_line at fed) slots (append_known written out) slots' (append_known written' out') → MatchOption at (fed' ≡ fed) (λ k. fed' ≡ drop (k + 1) fed) → Progress input first (n + 1) fed' remaining written' out' slots'
+  Progress-next n fed remaining written out slots None fed' written' out' slots' p small here some served rest = absurd (cc)
+  Progress-next n fed remaining written out slots (Some k) fed' written' out' slots' p small here some served rest =
       let line = strip_carriage_return (take k fed) in
+      let below : n < 2 ^ 64 - 1 = small in
       record {
         done = p.done ++ line ∷ [];
         number = omega (arith, length-append p.done (line ∷ []), p.number);
         passed = subst (λ (x : List ℕ). Passed input (p.done ++ line ∷ []) x remaining) (sym rest) (Passed-append input p.done fed remaining k p.passed (sym here));
-        answered = Answered-append p.done first written out slots line (reading line) out' slots' p.answered (omega (arith, p.number)) refl served;
+        answered = Answered-append p.done first written out slots line written' out' slots' p.answered (omega (arith, below, p.number)) served;
       }
 
-  -- some first lines were answered
-  pub Progress-AnswersSome : (n : ℕ) (fed : List ℕ) (remaining written : Option (List ℕ)) (out : List ℕ) (slots : List Slot) (written' : Option (List ℕ))
-      → Progress input first n fed remaining written out slots → Appends written written' out → AnswersSome input first written'
-  Progress-AnswersSome n fed remaining written out slots written' p wrote =
-      let rest = lines (fed ++ p.passed.rest) in
-      let front : take (length p.done) (lines input) ≡ p.done = ap (take (length p.done)) (Passed-lines input p.done fed remaining p.passed) ∙ take-append_seam p.done rest in
-      (length p.done, subst (λ (ls : List (List ℕ)). AnswersLines ls first written') (sym front) (Answered-Appends p.done first written out written' slots p.answered wrote))
+  -- the last line was served, if there was one
+  pub Progress-last : (n : ℕ) (fed : List ℕ) (remaining written : Option (List ℕ)) (out : List ℕ) (slots : List Slot) (at : Option ℕ) (written' : Option (List ℕ)) (out' : List ℕ) (slots' : List Slot) (written'' : Option (List ℕ))
+      → Progress input first n fed remaining written out slots → IfSome (next_line at fed) (λ line. n < 2 ^ 64 - 1) → at ≡ position (λ b. eqb b 10) fed → is_some at ≡ false → (at ≡ None → IsAtEnd remaining)
+      → ServesNext (next_line at fed) slots (append_known written out) slots' (append_known written' out') → Appends written' written'' out' → AnswersLines (lines input) first written''
+  Progress-last n fed remaining written out slots (Some k) written' out' slots' written'' p small here none end served wrote = absurd (cc)
+  Progress-last n [] remaining written out slots None written' out' slots' written'' p small here none end served wrote =
+      let all : lines input ≡ p.done = Passed-all input p.done remaining p.passed (end refl) in
+      let a = Answered-same p.done first written out slots written' out' slots' p.answered served in
+      subst (λ (ls : List (List ℕ)). AnswersLines ls first written'') (sym all) (Answered-AnswersLines p.done first written' out' written'' slots' a wrote)
+  Progress-last n (b ∷ bytes) remaining written out slots None written' out' slots' written'' p small here none end served wrote =
+      let line = b ∷ bytes in
+      let below : n < 2 ^ 64 - 1 = small in
+      let all : lines input ≡ p.done ++ line ∷ [] = Passed-last input p.done line remaining p.passed (sym here) (omega arith) (end refl) in
+      let a = Answered-append p.done first written out slots line written' out' slots' p.answered (omega (arith, below, p.number)) served in
+      subst (λ (ls : List (List ℕ)). AnswersLines ls first written'') (sym all) (Answered-AnswersLines (p.done ++ line ∷ []) first written' out' written'' slots' a wrote)
 
-  -- a read failed: all lines that had ended were answered
-  pub Progress-AnswersEnded : (n : ℕ) (fed : List ℕ) (remaining written : Option (List ℕ)) (out : List ℕ) (slots : List Slot) (fed' : List ℕ) (remaining' written' : Option (List ℕ))
-      → Progress input first n fed remaining written out slots → Keeps (prepend_known fed remaining) (prepend_known fed' remaining') → position (λ b. eqb b 10) fed' ≡ None
-      → Appends written written' out → IsSomeAnd remaining' (λ rest. AnswersEnded input rest first written')
-  Progress-AnswersEnded n fed remaining written out slots fed' remaining' written' p kept none wrote =
+  -- the input ended and its last answers were written, or were not
+  pub Progress-ends : (n : ℕ) (fed : List ℕ) (remaining written : Option (List ℕ)) (out : List ℕ) (slots : List Slot) (at : Option ℕ) (written' : Option (List ℕ)) (out' : List ℕ) (slots' : List Slot) (written'' : Option (List ℕ)) (r : Result (Unit {0}) DriveError)
+      → Progress input first n fed remaining written out slots → IfSome (next_line at fed) (λ line. n < 2 ^ 64 - 1) → at ≡ position (λ b. eqb b 10) fed → is_some at ≡ false → (at ≡ None → IsAtEnd remaining)
+      → ServesNext (next_line at fed) slots (append_known written out) slots' (append_known written' out') → OnOk r (Appends written' written'' out') → IfErr r IsWrite
+      → IsSomeAnd remaining (λ rest. SessionEnds r input rest first written'')
+  Progress-ends n fed remaining written out slots (Some k) written' out' slots' written'' r p small here none end served wrote fault = absurd (cc)
+  Progress-ends n fed remaining written out slots None written' out' slots' written'' (Ok x) p small here none end served wrote fault =
+      subst (λ (o : Option (List ℕ)). IsSomeAnd o (λ rest. SessionEnds (Ok x) input rest first written'')) (sym p.passed.known)
+      (Progress-last n fed remaining written out slots None written' out' slots' written'' p small here none end served wrote, nil_at_end remaining p.passed.rest p.passed.known (end refl))
+  Progress-ends n fed remaining written out slots None written' out' slots' written'' (Err Write) p small here none end served wrote fault =
+      subst (λ (o : Option (List ℕ)). IsSomeAnd o (λ rest. Unit {0})) (sym p.passed.known) tt
+  Progress-ends n fed remaining written out slots None written' out' slots' written'' (Err Memory) p small here none end served wrote fault = absurd fault
+  Progress-ends n fed remaining written out slots None written' out' slots' written'' (Err Read) p small here none end served wrote fault = absurd fault
+  Progress-ends n fed remaining written out slots None written' out' slots' written'' (Err (Unreadable l)) p small here none end served wrote fault = absurd fault
+
+  -- no further line came
+  pub Progress-unready : (n : ℕ) (fed : List ℕ) (remaining written : Option (List ℕ)) (out : List ℕ) (slots : List Slot) (fed' : List ℕ) (remaining' written' : Option (List ℕ)) (e : DriveError)
+      → Progress input first n fed remaining written out slots → Keeps (prepend_known fed remaining) (prepend_known fed' remaining')
+      → IfReadOrMemory {X = Option ℕ} (Err e) (Appends written written' out × (position (λ b. eqb b 10) fed' ≡ None)) → IsOutside e
+      → IsSomeAnd remaining' (λ rest. SessionEnds {X = Unit {0}} (Err e) input rest first written')
+  Progress-unready n fed remaining written out slots fed' remaining' written' (Unreadable l) p kept stopped outside = absurd outside
+  Progress-unready n fed remaining written out slots fed' remaining' written' Write p kept stopped outside =
+      let q = Passed-Keeps input p.done fed remaining fed' remaining' p.passed kept in
+      subst (λ (o : Option (List ℕ)). IsSomeAnd o (λ rest. Unit {0})) (sym q.known) tt
+  Progress-unready n fed remaining written out slots fed' remaining' written' Read p kept stopped outside =
       let q = Passed-Keeps input p.done fed remaining fed' remaining' p.passed kept in
       subst (λ (o : Option (List ℕ)). IsSomeAnd o (λ rest. AnswersEnded input rest first written')) (sym q.known) (
         q.used ++ fed',
         q.whole ∙ sym (append_assoc q.used fed' q.rest),
-        subst (λ (ls : List (List ℕ)). AnswersLines ls first written') (sym (Passed-ended_lines input p.done fed' remaining' q none)) (Answered-Appends p.done first written out written' slots p.answered wrote),
+        subst (λ (ls : List (List ℕ)). AnswersLines ls first written') (sym (Passed-ended_lines input p.done fed' remaining' q stopped.1)) (Answered-AnswersLines p.done first written out written' slots p.answered stopped.0),
       )
+  Progress-unready n fed remaining written out slots fed' remaining' written' Memory p kept stopped outside =
+      let q = Passed-Keeps input p.done fed remaining fed' remaining' p.passed kept in
+      let ended : count_ended (q.used ++ fed') ≡ length p.done = Passed-count input p.done fed' remaining' q stopped.1 in
+      subst (λ (o : Option (List ℕ)). IsSomeAnd o (λ rest. AnswersSome input rest first written')) (sym q.known) (record {
+        bytes = q.used ++ fed';
+        front = q.whole ∙ sym (append_assoc q.used fed' q.rest);
+        number = length p.done;
+        ended = omega (arith, ended);
+        answered = subst (λ (ls : List (List ℕ)). AnswersLines ls first written') (sym (Passed-front input p.done fed remaining p.passed)) (Answered-AnswersLines p.done first written out written' slots p.answered stopped.0);
+        next = λ more. absurd (omega (arith, more, ended));
+      })
 
-  -- the next line can't be read
-  pub Progress-StopsAt : (n : ℕ) (fed : List ℕ) (remaining written : Option (List ℕ)) (out : List ℕ) (slots : List Slot) (at : Option ℕ) (written' : Option (List ℕ)) (P : List ℕ → Type 0)
+  -- the next line gave no command, or its answer could not be written
+  pub Progress-unserved : (n : ℕ) (fed : List ℕ) (remaining written : Option (List ℕ)) (out : List ℕ) (slots : List Slot) (at : Option ℕ) (written' : Option (List ℕ)) (e : DriveError)
       → Progress input first n fed remaining written out slots → at ≡ position (λ b. eqb b 10) fed → (at ≡ None → IsAtEnd remaining)
-      → IsSomeAnd (next_line at fed) P → ((line : List ℕ) → P line → (n ≡ 2 ^ 64 - 1) ⊎ (reading line ≡ None)) → Appends written written' out → StopsAt input n first written'
-  Progress-StopsAt n fed remaining written out slots at written' P p here end some unread wrote =
-      let q = Passed-next_line input p.done fed remaining at P p.passed here end some in
-      record {
+      → IfUnreadable {X = Unit {0}} (Err e) (λ m. (m ≡ n) × IsSomeAnd (next_line at fed) (λ line. (n ≡ 2 ^ 64 - 1) ⊎ (reading line ≡ None)))
+      → IfMemory {X = Unit {0}} (Err e) (IsSomeAnd (next_line at fed) (λ line. IsTrue (asks_memory (reading line))))
+      → IfOfLine {X = Unit {0}} (Err e) (Appends written written' out) → IsNoRead e
+      → IsSomeAnd remaining (λ rest. SessionEnds {X = Unit {0}} (Err e) input rest first written')
+  Progress-unserved n fed remaining written out slots at written' Read p here end unread memory wrote no_read = absurd no_read
+  Progress-unserved n fed remaining written out slots at written' Write p here end unread memory wrote no_read =
+      subst (λ (o : Option (List ℕ)). IsSomeAnd o (λ rest. Unit {0})) (sym p.passed.known) tt
+  Progress-unserved n fed remaining written out slots at written' (Unreadable l) p here end unread memory wrote no_read =
+      let q = Passed-next_line input p.done fed remaining at _ p.passed here end unread.1 in
+      let h = Passed-next_line (p.passed.used ++ fed) p.done fed (Some []) at _ (Passed-here input p.done fed remaining p.passed) here (λ none. refl) unread.1 in
+      subst (λ (o : Option (List ℕ)). IsSomeAnd o (λ rest. StopsAt input rest l first written')) (sym p.passed.known) (record {
+        bytes = p.passed.used ++ fed;
+        front = p.passed.whole ∙ sym (append_assoc p.passed.used fed p.passed.rest);
+        within = rw h.2 (omega (arith, length-append p.done (h.0 ∷ h.1), p.number, unread.0));
         earlier = p.done;
         this = q.0;
         later = q.1;
         whole = q.2;
-        number = p.number;
-        unread = unread q.0 q.3;
-        answered = Answered-Appends p.done first written out written' slots p.answered wrote;
-      }
+        number = p.number ∙ sym unread.0;
+        unread = rw unread.0 q.3;
+        answered = Answered-AnswersLines p.done first written out written' slots p.answered wrote;
+      })
+  Progress-unserved n fed remaining written out slots at written' Memory p here end unread memory wrote no_read =
+      let q = Passed-next_line input p.done fed remaining at _ p.passed here end memory in
+      subst (λ (o : Option (List ℕ)). IsSomeAnd o (λ rest. AnswersSome input rest first written')) (sym p.passed.known) (record {
+        bytes = p.passed.used ++ fed;
+        front = p.passed.whole ∙ sym (append_assoc p.passed.used fed p.passed.rest);
+        number = length p.done;
+        ended = omega (arith, line_feeds-append p.passed.used fed, p.passed.ended);
+        answered = subst (λ (ls : List (List ℕ)). AnswersLines ls first written') (sym (Passed-front input p.done fed remaining p.passed)) (Answered-AnswersLines p.done first written out written' slots p.answered wrote);
+        next = λ more. next_of (lines input) p.done q.0 q.1 _ q.2 q.3;
+      })
 
-  -- the last line was served, if there was one
-  pub Progress-last : (n : ℕ) (fed : List ℕ) (remaining written : Option (List ℕ)) (out : List ℕ) (slots : List Slot) (at : Option ℕ) (out' : List ℕ) (slots' : List Slot) (written' : Option (List ℕ))
-      → Progress input first n fed remaining written out slots → n < 2 ^ 64 - 1 → at ≡ position (λ b. eqb b 10) fed → is_some at ≡ false → (at ≡ None → IsAtEnd remaining)
-      → ServesNext (next_line at fed) slots out slots' out' → Appends written written' out' → AnswersLines (lines input) first written'
-  Progress-last n fed remaining written out slots (Some k) out' slots' written' p small here none end served wrote = absurd (cc)
-  Progress-last n [] remaining written out slots None out' slots' written' p small here none end served wrote =
-      let all : lines input ≡ p.done = Passed-all input p.done remaining p.passed (end refl) in
-      let a = subst (λ (s : List Slot). Answered p.done first written out s) (sym served.0) p.answered in
-      subst (λ (ls : List (List ℕ)). AnswersLines ls first written') (sym all) (Answered-Appends p.done first written out written' slots' a (subst (λ (x : List ℕ). Appends written written' x) served.1 wrote))
-  Progress-last n (b ∷ bytes) remaining written out slots None out' slots' written' p small here none end served wrote =
-      let line = b ∷ bytes in
-      let all : lines input ≡ p.done ++ line ∷ [] = Passed-last input p.done line remaining p.passed (sym here) (omega arith) (end refl) in
-      let a = Answered-append p.done first written out slots line (reading line) out' slots' p.answered (omega (arith, p.number)) refl served in
-      subst (λ (ls : List (List ℕ)). AnswersLines ls first written') (sym all) (Answered-Appends (p.done ++ line ∷ []) first written out' written' slots' a wrote)
+-- no byte was read and no line answered
+pub AnswersSome-none : (input : List ℕ) (written : Option (List ℕ)) → AnswersSome input input written written
+AnswersSome-none input written = record {
+  bytes = [];
+  front = refl;
+  number = 0;
+  ended = omega arith;
+  answered = Answered-AnswersLines [] written written [] written (replicate 16 Empty) (Answered-nil written) (Appends-nil written);
+  next = λ more. absurd (omega (arith, more));
+}
 
-  -- no line was left
-  pub Progress-end : (n : ℕ) (fed : List ℕ) (remaining written : Option (List ℕ)) (out : List ℕ) (slots : List Slot) (written' : Option (List ℕ))
-      → Progress input first n fed remaining written out slots → length fed ≡ 0 → IsAtEnd remaining → Appends written written' out → AnswersLines (lines input) first written'
-  Progress-end n (b ∷ bytes) remaining written out slots written' p none end wrote = absurd (omega arith)
-  Progress-end n [] remaining written out slots written' p none end wrote =
-      subst (λ (ls : List (List ℕ)). AnswersLines ls first written') (sym (Passed-all input p.done remaining p.passed end)) (Answered-Appends p.done first written out written' slots p.answered wrote)
+-- memory was refused before any byte was read
+pub SessionEnds-none : (input : List ℕ) (remaining written : Option (List ℕ)) → remaining ≡ Some input → IsSomeAnd remaining (λ rest. SessionEnds {X = Unit {0}} (Err Memory) input rest written written)
+SessionEnds-none input remaining written e = subst (λ (o : Option (List ℕ)). IsSomeAnd o (λ rest. AnswersSome input rest written written)) (sym e) (AnswersSome-none input written)
 
--- none of its lines was answered
-pub AnswersSome-none : (input : List ℕ) (written : Option (List ℕ)) → AnswersSome input written written
-AnswersSome-none input written = (0, Answered-Appends [] written written [] written (replicate 16 Empty) (Answered-nil written) (Appends-nil written))
+-- what holds anyway holds unless a write failed
+pub UnlessWrite-anyway : (r : Result (Unit {0}) DriveError) (P : Type 0) → P → UnlessWrite r P
+UnlessWrite-anyway (Ok x) P h = h
+UnlessWrite-anyway (Err (Unreadable line)) P h = h
+UnlessWrite-anyway (Err Read) P h = h
+UnlessWrite-anyway (Err Write) P h = tt
+UnlessWrite-anyway (Err Memory) P h = h

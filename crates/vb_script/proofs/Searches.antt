@@ -1,10 +1,11 @@
 -- Searches that go on where an earlier one ended.
-use Rattle.std.proofs.Common.{◌≡◌, ℕ, zero, suc, ◌+◌, ◌<◌, ◌≤◌, Bool, true, false, cond, List, [], ◌∷◌, ◌++◌, length, drop, sym, ap, ◌∙◌, Some, None, arith, lt-ltb, ⊎_elim}
+use Rattle.std.proofs.Common.{◌≡◌, ℕ, zero, suc, ◌+◌, ◌<◌, ◌≤◌, Bool, true, false, cond, List, [], ◌∷◌, ◌++◌, length, drop, sym, ap, ◌∙◌, Option, Some, None, arith, lt-ltb, ⊎_elim}
 use Rattle.std.specs.Prelude.{position, option_map}
 use Rattle.std.specs.List.{prefix_len, position_or_len}
-use Rattle.std.proofs.lemmas.Bool.{cases_lt, le-ltb}
+use Rattle.std.proofs.lemmas.Bool.{cases_lt, false_from_ne_true, le-ltb}
 use Rattle.std.proofs.lemmas.List.{length-drop}
-use Rattle.std.proofs.lemmas.List.Sums.{prefix_len-le-length}
+use Rattle.std.proofs.lemmas.List.Sums.{position_or_len_is, prefix_len-le-length}
+use Rattle.memchr.specs.Find.{IsFirstByte}
 
 drop_one : (p : ℕ → Bool) (b : Bool) (x : ℕ) (xs : List ℕ) (n : ℕ) → (n ≤ prefix_len p xs → n + prefix_len p (drop n xs) ≡ prefix_len p xs) → suc n ≤ cond b (1 + prefix_len p xs) 0 → suc n + prefix_len p (drop n xs) ≡ cond b (1 + prefix_len p xs) 0
 drop_one p true x xs n rest h = let r = rest (omega arith) in omega arith
@@ -52,5 +53,17 @@ position-drop p xs n h =
     (λ past. position_past p xs past ∙ sym (ap (option_map (λ k. n + k)) (position_past p (drop n xs) (omega arith))))
     (cases_lt (position_or_len p xs) (length xs))
 
+-- the first place whose byte passes
+pub position-IsFirstByte : (p : ℕ → Bool) (xs : List ℕ) (r : Option ℕ) → IsFirstByte p xs r → r ≡ position p xs
+position-IsFirstByte p xs None h =
+    let all : position_or_len p xs ≡ length xs = position_or_len_is p xs (length xs) 0 (omega arith) (λ k lt. false_from_ne_true _ (h k (omega arith) lt)) (λ lt. absurd (omega (arith, lt))) in
+    sym (position_past p xs (omega (arith, all)))
+position-IsFirstByte p xs (Some k) h =
+    let here : position_or_len p xs ≡ k = position_or_len_is p xs k 0 (omega (arith, h.0.high)) (λ i lt. false_from_ne_true _ (h.0.before i (omega arith) lt)) (λ lt. h.1) in
+    sym (position_before p xs (omega (arith, here, h.0.high)) ∙ ap Some here)
+
 -- for `#[tactic(auto, using(..))]`: searches for a line feed
 pub ruleset searches = (position_or_len-le, position_or_len-le-append, position-drop)
+
+-- the same of what `memchr` answers
+pub ruleset first_byte = (position-IsFirstByte, position_or_len-le)

@@ -4,11 +4,10 @@ pub mod FromRead
 pub mod Session
 pub mod ToWrite
 pub use Rattle.vb_command.specs.Arguments
-pub use Rattle.vb_command.specs.Fields
 pub use Rattle.vb_command.specs.Hex
-pub use Rattle.vb_command.specs.Keywords
 pub use Rattle.vb_command.specs.Machine
 pub use Rattle.vb_command.specs.Optional
+pub use Rattle.vb_command.specs.Parts
 pub use Rattle.vb_command.specs.Printed
 pub use Rattle.vb_command.specs.Reading
 pub use Rattle.vb_command.specs.Views

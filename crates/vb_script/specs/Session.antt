@@ -1,28 +1,43 @@
 -- What a session answers to the lines of its input.
-use Rattle.std.specs.Prelude.{◌≡◌, ℕ, ◌+◌, ◌-◌, ◌^◌, ◌⊎◌, ◌==◌, List, ◌∷◌, ◌++◌, length, take, count_by, Option, Some, None, replicate}
+use Rattle.std.specs.Prelude.{◌≡◌, ℕ, ◌+◌, ◌-◌, ◌^◌, ◌<◌, ◌≤◌, ◌⊎◌, ◌==◌, List, [], ◌∷◌, ◌++◌, length, take, slice_get, count_by, Option, Some, None, replicate, Result, Ok, Err, IsTrue, IsSomeAnd}
 use Rattle.std.specs.List.{flat_map}
 use Rattle.std.specs.Str.Lines.{lines}
-use Rattle.std.specs.Io.KnownBytes.{Appends}
+use Rattle.std.specs.Io.KnownBytes.{Appends, Keeps}
 use Rattle.vb_command.specs.Machine.{Slot, Empty, Order, Reply, Outcome, Run}
 use Rattle.vb_command.specs.Printed.{line_of}
-use Rattle.vb_command.specs.Reading.{reading, script}
+use Rattle.vb_command.specs.Reading.{asks_memory, reading, script}
+use Rattle.vb_script.specs.declared.error.DriveError.{DriveError}
+use Rattle.vb_script.specs.declared.error.DriveError.TheVariants.{Unreadable, Read, Write, Memory}
 
--- what a line does to the slots and to the text of the answers: nothing, or what its command does, and the answer's line
-abbrev pub Serves : Option (Option Order) → List Slot → List ℕ → List Slot → List ℕ → Type 0
-Serves None s out t new = ⊥
-Serves (Some None) s out t new = (t ≡ s) × (new ≡ out)
-Serves (Some (Some c)) s out t new = (r : Reply) × Outcome s c r t × (new ≡ out ++ line_of r)
+-- what a line does to the slots, and what it is answered: nothing, or what its command does
+abbrev pub Serves : Option (Option Order) → List Slot → Option Reply → List Slot → Type 0
+Serves None s r t = ⊥
+Serves (Some None) s r t = (r ≡ None) × (t ≡ s)
+Serves (Some (Some c)) s r t = IsSomeAnd r (λ answer. Outcome s c answer t)
 
--- the same where there may be no line
-abbrev pub ServesNext : Option (List ℕ) → List Slot → List ℕ → List Slot → List ℕ → Type 0
-ServesNext None s out t new = (t ≡ s) × (new ≡ out)
-ServesNext (Some line) s out t new = Serves (reading line) s out t new
+-- the line of an answer, if there is one
+abbrev pub line_of_any : Option Reply → List ℕ
+line_of_any None = []
+line_of_any (Some r) = line_of r
+
+-- what a line, if there is one, does to the slots and to the text of the answers
+abbrev pub ServesNext : Option (List ℕ) → List Slot → Option (List ℕ) → List Slot → Option (List ℕ) → Type 0
+ServesNext None s old t new = (t ≡ s) × Appends old new []
+ServesNext (Some line) s old t new = (r : Option Reply) × Serves (reading line) s r t × Appends old new (line_of_any r)
 
 -- the answers, one a line
 abbrev pub printed : List Reply → List ℕ
 printed replies = flat_map line_of replies
 
--- the first lines of an input were answered: their commands were run from sixteen empty slots on, and the answers written
+-- commands were run from sixteen empty slots on, and the answers written
+pub record AnswersRun (old new : Option (List ℕ)) : Type 0 where
+  pub commands : List Order
+  pub replies : List Reply
+  pub last : List Slot
+  pub ran : Run (replicate 16 Empty) commands replies last
+  pub written : Appends old new (printed replies)
+
+-- the lines were answered: their commands were run from sixteen empty slots on, and the answers written
 pub record AnswersLines (ls : List (List ℕ)) (old new : Option (List ℕ)) : Type 0 where
   pub commands : List Order
   pub read : script 1 ls ≡ Some commands
@@ -31,8 +46,11 @@ pub record AnswersLines (ls : List (List ℕ)) (old new : Option (List ℕ)) : T
   pub ran : Run (replicate 16 Empty) commands replies last
   pub written : Appends old new (printed replies)
 
--- the line of this number can't be read, and those before it were answered
-pub record StopsAt (input : List ℕ) (line : ℕ) (old new : Option (List ℕ)) : Type 0 where
+-- the line of this number, which stands in what was read, can't be read, and those before it were answered
+pub record StopsAt (input rest : List ℕ) (line : ℕ) (old new : Option (List ℕ)) : Type 0 where
+  pub bytes : List ℕ
+  pub front : input ≡ bytes ++ rest
+  pub within : line ≤ length (lines bytes)
   pub earlier : List (List ℕ)
   pub this : List ℕ
   pub later : List (List ℕ)
@@ -41,14 +59,32 @@ pub record StopsAt (input : List ℕ) (line : ℕ) (old new : Option (List ℕ))
   pub unread : (line ≡ 2 ^ 64 - 1) ⊎ (reading this ≡ None)
   pub answered : AnswersLines earlier old new
 
--- some first lines were answered
-abbrev pub AnswersSome : List ℕ → Option (List ℕ) → Option (List ℕ) → Type 0
-AnswersSome input old new = (n : ℕ) × AnswersLines (take n (lines input)) old new
+-- how many lines end within the bytes, one a line feed
+abbrev pub count_ended : List ℕ → ℕ
+count_ended bytes = count_by (λ b. b == 10) bytes
 
--- the lines that end within the bytes, one a line feed
+-- the lines that end within the bytes
 abbrev pub ended_lines : List ℕ → List (List ℕ)
-ended_lines bytes = take (count_by (λ b. b == 10) bytes) (lines bytes)
+ended_lines bytes = take (count_ended bytes) (lines bytes)
 
 -- all but the rest of the input was read, and the lines that end in what was read were answered
 abbrev pub AnswersEnded : List ℕ → List ℕ → Option (List ℕ) → Option (List ℕ) → Type 0
 AnswersEnded input rest old new = (bytes : List ℕ) × (input ≡ bytes ++ rest) × AnswersLines (ended_lines bytes) old new
+
+-- all but the rest of the input was read, and of the lines that end in what was read some first ones were answered;
+-- if the next one ends there too, it is a command that takes memory to be read
+pub record AnswersSome (input rest : List ℕ) (old new : Option (List ℕ)) : Type 0 where
+  pub bytes : List ℕ
+  pub front : input ≡ bytes ++ rest
+  pub number : ℕ
+  pub ended : number ≤ count_ended bytes
+  pub answered : AnswersLines (take number (lines input)) old new
+  pub next : number < count_ended bytes → IsSomeAnd (slice_get (lines input) number) (λ line. IsTrue (asks_memory (reading line)))
+
+-- what a session read of its input and what it wrote, by how it ended; the rest of the input is still to come
+abbrev pub SessionEnds : {X : Type 0} → Result X DriveError → List ℕ → List ℕ → Option (List ℕ) → Option (List ℕ) → Type 0
+SessionEnds (Ok x) input rest old new = AnswersLines (lines input) old new × (rest ≡ [])
+SessionEnds (Err (Unreadable line)) input rest old new = StopsAt input rest line old new
+SessionEnds (Err Read) input rest old new = AnswersEnded input rest old new
+SessionEnds (Err Write) input rest old new = Unit {0}
+SessionEnds (Err Memory) input rest old new = AnswersSome input rest old new

@@ -2,11 +2,12 @@
 ghost use Rattle.std.specs.Prelude.{◌≡◌, ℕ, ◌<◌, ◌≤◌, ◌==◌, List, [], length, drop, position, OnErr, IfOk, IfErr};
 ghost use Rattle.std.specs.Io.KnownBytes.{prepend_known, Keeps};
 ghost use Rattle.std.specs.List.{position_or_len};
-ghost use Rattle.vb_script.specs.DriveError.{Counts, IsOutside};
+ghost use Rattle.vb_script.specs.DriveError.{CountsFaults, IsOutside};
 ghost use Rattle.vb_script.specs.Feed.{Fills};
 
 use crate::error::DriveError;
 use crate::source::Source;
+use memchr::memchr;
 use std::alloc::Allocator;
 use std::marker::Model;
 
@@ -90,7 +91,7 @@ impl<A: Allocator> Feed<A> {
         ensures fills { IfOk result (λ more. Fills self.old self.new (R.remaining input.new) more) }
         ensures err { OnErr result (self.new ≡ self.old) }
         ensures outside { IfErr result IsOutside }
-        ensures counts { Counts result (R.faults input.old) 0 (R.faults input.new) 0 }
+        ensures counts { CountsFaults result (R.faults input.old) 0 (R.faults input.new) 0 }
     {
         drop_front(&mut self.bytes, self.start);
         self.start = 0;
@@ -116,10 +117,11 @@ fn line_feed_from(bytes: &[u8], searched: usize) -> Option<usize>
 }
 
 /// The place of the first line feed.
+#[tactic(auto, using(crate::proofs::Searches::first_byte))]
 fn line_feed(bytes: &[u8]) -> Option<usize>
     ensures { result ≡ position (λ b. b == 10) bytes.now }
 {
-    bytes.iter().position(|b| *b == b'\n')
+    memchr(b'\n', bytes)
 }
 
 /// Moves the bytes from `n` on to the front.

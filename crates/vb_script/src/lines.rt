@@ -1,8 +1,10 @@
 //! Lines of the input, as they come.
-ghost use Rattle.std.specs.Prelude.{◌≡◌, ◌==◌, ℕ, None, position, IfErr, IfOk, OnOk};
+ghost use Rattle.std.specs.Prelude.{◌≡◌, ◌<◌, ◌==◌, ℕ, None, length, option_map, position, IfErr, IfOk, OnOk};
 ghost use Rattle.std.specs.Io.KnownBytes.{append_known, prepend_known, Appends, IsAtEnd, Keeps};
+ghost use Rattle.std.specs.Option.{ForSome};
 ghost use Rattle.std.specs.Str.Lines.{strip_carriage_return};
-ghost use Rattle.vb_script.specs.DriveError.{Counts, IfReadOrMemory, IsOutside};
+ghost use Rattle.vb_script.specs.Feed.{next_line};
+ghost use Rattle.vb_script.specs.DriveError.{CountsFaults, IfReadOrMemory, IsOutside};
 
 use crate::error::DriveError;
 use crate::feed::Feed;
@@ -31,10 +33,9 @@ pub fn line_ready<A: Allocator, R: Source, W: Sink>(
     ensures ready { IfOk result (λ at. at ≡ position (λ b. b == 10) feed.new) }
     ensures end { IfOk result (λ at. at ≡ None → IsAtEnd (R.remaining input.new)) }
     ensures outside { IfErr result IsOutside }
-    ensures counts { Counts result
+    ensures counts { CountsFaults result
         (R.faults input.old) (W.faults output.old) (R.faults input.new) (W.faults output.new) }
 {
-    out.flush_if_full(output)?;
     loop {
         if let Some(at) = feed.line_feed() {
             return Ok(Some(at));
@@ -46,8 +47,21 @@ pub fn line_ready<A: Allocator, R: Source, W: Sink>(
     }
 }
 
+/// The line at the front of these bytes, which ends at the line feed at this place; at `None` all
+/// bytes, if there are any.
+pub fn next_line(bytes: &[u8], at: Option<usize>) -> Option<&[u8]>
+    requires { ForSome at (λ k. k < length bytes.now) }
+    ensures { option_map (λ line. line.now) result ≡ next_line at bytes.now }
+{
+    match at {
+        Some(at) => Some(without_carriage_return(&bytes[..at])),
+        None if bytes.is_empty() => None,
+        None => Some(bytes),
+    }
+}
+
 /// The line without the carriage return at its end.
-pub fn without_carriage_return(line: &[u8]) -> &[u8]
+fn without_carriage_return(line: &[u8]) -> &[u8]
     ensures { result.now ≡ strip_carriage_return line.now }
 {
     match line {

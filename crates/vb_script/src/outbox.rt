@@ -1,55 +1,118 @@
 //! Answers that wait to be written.
-ghost use Rattle.std.specs.Prelude.{◌≡◌, ◌++◌, [], OnOk, OnErr, IfOk, IfErr};
-ghost use Rattle.std.specs.Io.KnownBytes.{append_known, Appends, Keeps};
-ghost use Rattle.vb_command.specs.Printed.{line_of};
+ghost use Rattle.std.specs.Prelude.{◌≡◌, [], decimal, IfOk, IfErr, OnOk};
+ghost use Rattle.std.specs.Io.KnownBytes.{append_known, Appends};
+ghost use Rattle.vb_command.specs.Printed.{digits_of, line_of};
 ghost use Rattle.vb_command.specs.Views.{reply};
-ghost use Rattle.vb_script.specs.DriveError.{Counts, IsWrite};
+ghost use Rattle.vb_script.specs.DriveError.{CountsFaults, IsWrite};
 
 use crate::error::DriveError;
 use crate::sink::Sink;
+use itoa::Buffer;
 use std::alloc::{AllocError, Allocator};
 use std::marker::Model;
-use vb_command::Answer;
+use vb_command::{Answer, Part, digit};
 
-/// From how many bytes on the answers don't wait any longer.
-const FULL: usize = 65536;
+/// How many bytes wait at most.
+const ROOM: usize = 65536;
 
-/// The lines of the answers that wait to be written. Contracts see their text.
+/// The text of the answers that waits to be written. Contracts see its bytes.
+///
+/// Its room is there from the start, so that no answer takes memory: what goes beyond is written.
 #[derive(Drop)]
 pub struct Outbox<A: Allocator> {
-    lines: String<A>,
-    line: String<A>,
+    bytes: Vec<u8, A>,
 }
 
 impl<A: Allocator> Model for Outbox<A> {
-    ghost use Rattle.std.specs.Prelude.{ℕ, List, string_bytes};
+    ghost use Rattle.std.specs.Prelude.{ℕ, List, ◌≤◌, length, vec_capacity};
 
     ghost Value = { List ℕ };
 
-    ghost view = { λ o. string_bytes o.lines };
-}
+    ghost view = { λ o. o.bytes.items };
 
-impl<A: Allocator + Clone> Outbox<A> {
-    /// No answers.
-    pub fn new(alloc: &A) -> Result<Self, AllocError>
-        ensures { IfOk result (λ out. out ≡ []) }
-    {
-        Ok(Outbox {
-            lines: String::new(alloc.clone()?),
-            line: String::new(alloc.clone()?),
-        })
-    }
+    ghost invariant = { λ o. (length o.bytes.items ≤ 65536) × (65536 ≤ vec_capacity o.bytes) };
 }
 
 impl<A: Allocator> Outbox<A> {
-    /// Adds the line of an answer, or nothing: the line is made whole before it joins the others.
-    pub fn push(&mut self, answer: &Answer<A>) -> Result<(), AllocError>
-        ensures ok { OnOk result (self.new ≡ self.old ++ line_of (reply answer.now)) }
-        ensures err { OnErr result (self.new ≡ self.old) }
+    /// No answers, and room for them.
+    pub fn new(alloc: A) -> Result<Self, AllocError>
+        ensures { IfOk result (λ out. out ≡ []) }
     {
-        self.line.clear();
-        writeln!(self.line, "{answer}").map_err(|_| AllocError)?;
-        self.lines.push_str(&self.line)
+        Ok(Outbox {
+            bytes: Vec::with_capacity(alloc, ROOM)?,
+        })
+    }
+
+    /// Adds the line of an answer.
+    pub fn push<W: Sink>(&mut self, answer: &Answer<A>, output: &mut W) -> Result<(), DriveError>
+        ensures told { OnOk result (Appends
+            (append_known (W.contents output.old) self.old)
+            (append_known (W.contents output.new) self.new)
+            (line_of (reply answer.now))) }
+        ensures write { IfErr result IsWrite }
+        ensures counts { CountsFaults result 0 (W.faults output.old) 0 (W.faults output.new) }
+    {
+        let (part, position) = answer.parts();
+        match part {
+            Part::Words(words) => self.put(words.as_bytes(), output)?,
+            Part::Number(n) => self.put_number(n, output)?,
+            Part::Bits(bits) => self.put_bits(bits, output)?,
+        }
+        if let Some(position) = position {
+            self.put_number(position, output)?;
+        }
+        self.put(b"\n", output)
+    }
+
+    /// Adds a number in decimal.
+    fn put_number<W: Sink>(&mut self, n: usize, output: &mut W) -> Result<(), DriveError>
+        ensures told { OnOk result (Appends
+            (append_known (W.contents output.old) self.old)
+            (append_known (W.contents output.new) self.new)
+            (decimal n)) }
+        ensures write { IfErr result IsWrite }
+        ensures counts { CountsFaults result 0 (W.faults output.old) 0 (W.faults output.new) }
+    {
+        let mut digits = Buffer::new();
+        self.put(digits.format(n).as_bytes(), output)
+    }
+
+    /// Adds truth values as binary digits.
+    fn put_bits<W: Sink>(&mut self, bits: &[bool], output: &mut W) -> Result<(), DriveError>
+        ensures told { OnOk result (Appends
+            (append_known (W.contents output.old) self.old)
+            (append_known (W.contents output.new) self.new)
+            (digits_of bits.now)) }
+        ensures write { IfErr result IsWrite }
+        ensures counts { CountsFaults result 0 (W.faults output.old) 0 (W.faults output.new) }
+    {
+        if bits.is_empty() {
+            return self.put(b"-", output);
+        }
+        for bit in bits {
+            self.put(digit(*bit).as_bytes(), output)?;
+        }
+        Ok(())
+    }
+
+    /// Adds bytes. What waits is written first where there is no room for both.
+    #[tactic(auto, using(crate::proofs::KnownBytes::known_bytes))]
+    fn put<W: Sink>(&mut self, bytes: &[u8], output: &mut W) -> Result<(), DriveError>
+        ensures told { OnOk result (Appends
+            (append_known (W.contents output.old) self.old)
+            (append_known (W.contents output.new) self.new)
+            bytes.now) }
+        ensures write { IfErr result IsWrite }
+        ensures counts { CountsFaults result 0 (W.faults output.old) 0 (W.faults output.new) }
+    {
+        if bytes.len() > ROOM - self.bytes.len() {
+            self.flush(output)?;
+        }
+        if bytes.len() > ROOM {
+            return output.write(bytes).map_err(|_| DriveError::Write);
+        }
+        self.bytes.extend_from_slice(bytes).unwrap();
+        Ok(())
     }
 
     /// Writes all that waits.
@@ -58,29 +121,13 @@ impl<A: Allocator> Outbox<A> {
             (Appends (W.contents output.old) (W.contents output.new) self.old) }
         ensures empty { OnOk result (self.new ≡ []) }
         ensures write { IfErr result IsWrite }
-        ensures counts { Counts result 0 (W.faults output.old) 0 (W.faults output.new) }
+        ensures counts { CountsFaults result 0 (W.faults output.old) 0 (W.faults output.new) }
     {
-        if self.lines.is_empty() {
+        if self.bytes.is_empty() {
             return Ok(());
         }
-        output
-            .write(self.lines.as_bytes())
-            .map_err(|_| DriveError::Write)?;
-        self.lines.clear();
-        Ok(())
-    }
-
-    /// Writes all that waits once it is much, so that the answers of many lines don't pile up.
-    pub fn flush_if_full<W: Sink>(&mut self, output: &mut W) -> Result<(), DriveError>
-        ensures told { OnOk result (Keeps
-            (append_known (W.contents output.old) self.old)
-            (append_known (W.contents output.new) self.new)) }
-        ensures write { IfErr result IsWrite }
-        ensures counts { Counts result 0 (W.faults output.old) 0 (W.faults output.new) }
-    {
-        if self.lines.len() >= FULL {
-            self.flush(output)?;
-        }
+        output.write(&self.bytes).map_err(|_| DriveError::Write)?;
+        self.bytes.clear();
         Ok(())
     }
 }

@@ -1,47 +1,53 @@
 //! What the lines of an input are run on.
-ghost use Rattle.std.specs.Prelude.{◌≡◌, [], None, replicate, IfOk, IsErrOf, OnOk, OnErr};
+ghost use Rattle.std.specs.Prelude.{◌≡◌, ◌<◌, ◌-◌, ◌^◌, ◌⊎◌, None, replicate, option_map, IfOk, IfErr, IsTrue};
 ghost use Rattle.vb_command.specs.Machine.{Empty};
-ghost use Rattle.vb_command.specs.Reading.{reading};
+ghost use Rattle.vb_command.specs.Reading.{asks_memory, reading};
+ghost use Rattle.vb_command.specs.Views.{reply};
+ghost use Rattle.vb_script.specs.DriveError.{IfMemory, IfUnreadable, IsOfLine};
 ghost use Rattle.vb_script.specs.Session.{Serves};
 
-use crate::outbox::Outbox;
-use std::alloc::{AllocError, Allocator};
-use vb_command::{Unread, command_of};
+use crate::error::DriveError;
+use std::alloc::Allocator;
+use vb_command::{Answer, Unread, command_of};
 use vb_pool::Pool;
 
-/// The slots of a session, and the answers that wait to be written.
+/// The slots of a session, and the allocator that their sets are made with.
 #[derive(Drop)]
 pub struct Session<A: Allocator + Clone> {
     alloc: A,
     pub pool: Pool<A>,
-    pub out: Outbox<A>,
 }
 
 impl<A: Allocator + Clone> Session<A> {
-    /// All slots are empty, and no answer waits.
-    pub fn new(alloc: A) -> Result<Self, AllocError>
-        ensures slots { IfOk result (λ s. s.pool ≡ replicate 16 Empty) }
-        ensures out { IfOk result (λ s. s.out ≡ []) }
+    /// All slots are empty. This takes no memory.
+    pub fn new(alloc: A) -> Self
+        ensures { result.pool ≡ replicate 16 Empty }
     {
-        let out = Outbox::new(&alloc)?;
-        Ok(Session {
+        Session {
             alloc,
             pool: Pool::new(),
-            out,
-        })
+        }
     }
 
-    /// Reads a line, runs its command and adds the answer. The line comes without its line feed.
-    pub fn serve_line(&mut self, line: &[u8]) -> Result<(), Unread>
-        ensures ok { OnOk result (Serves (reading line.now)
-            self.old.pool self.old.out self.new.pool self.new.out) }
-        ensures unread { IsErrOf result Unread.Unreadable → reading line.now ≡ None }
-        ensures err { OnErr result (self.new.out ≡ self.old.out) }
+    /// Reads the line of this number, carries out its command and answers it; a line that asks for
+    /// nothing has no answer. The line comes without its line feed.
+    pub fn serve(&mut self, line: &[u8], number: u64) -> Result<Option<Answer<A>>, DriveError>
+        ensures ok { IfOk result (λ answer. Serves (reading line.now)
+            self.old.pool (option_map reply answer) self.new.pool) }
+        ensures numbered { IfOk result (λ _. number < 2 ^ 64 - 1) }
+        ensures unreadable { IfUnreadable result (λ n. (n ≡ number)
+            × ((number ≡ 2 ^ 64 - 1) ⊎ (reading line.now ≡ None))) }
+        ensures memory { IfMemory result (IsTrue (asks_memory (reading line.now))) }
+        ensures of_line { IfErr result IsOfLine }
     {
-        if let Some(command) = command_of(&self.alloc, line)? {
-            let answer = self.pool.serve(&self.alloc, &command);
-            self.out.push(&answer).map_err(|_| Unread::Memory)?;
+        if number == u64::MAX {
+            return Err(DriveError::Unreadable { line: number });
         }
-        Ok(())
+        match command_of(&self.alloc, line) {
+            Ok(Some(command)) => Ok(Some(self.pool.serve(&self.alloc, &command))),
+            Ok(None) => Ok(None),
+            Err(Unread::Unreadable) => Err(DriveError::Unreadable { line: number }),
+            Err(Unread::Memory) => Err(DriveError::Memory),
+        }
     }
 }

@@ -1,0 +1,16 @@
+-- The text of an answer, as parts that follow one another.
+use Rattle.std.specs.Prelude.{ℕ, List, ◌++◌, decimal, Option, Some, None}
+use Rattle.vb_command.specs.Printed.{digits_of}
+use Rattle.vb_command.specs.declared.answer.Part.{Part}
+use Rattle.vb_command.specs.declared.answer.Part.TheVariants.{Words, Number, Bits}
+
+-- the text of a part
+abbrev pub part_text : Part → List ℕ
+part_text (Words words) = words.now
+part_text (Number n) = decimal n
+part_text (Bits bits) = digits_of bits.now
+
+-- the text of a part and of the number that follows it, if there is one
+abbrev pub parts_text : Part → Option ℕ → List ℕ
+parts_text part None = part_text part
+parts_text part (Some number) = part_text part ++ decimal number
