@@ -5,6 +5,8 @@
 #[cfg(test)]
 mod compared;
 #[cfg(test)]
+mod drive_memory;
+#[cfg(test)]
 mod plain;
 #[cfg(test)]
 mod readme;

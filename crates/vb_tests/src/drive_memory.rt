@@ -1,0 +1,57 @@
+//! Memory that is refused in the middle of a session: the lines before it are answered, and a line
+//! that can't be read asks for none.
+use crate::compared::{ends, equal};
+use std::alloc::Global;
+use vb_script::{DriveError, FromRead, ToWrite, drive};
+use vb_testing::Refusing;
+
+/// Lines whose commands take no memory, and what they are answered.
+const LINES: &[u8] = b"len 0\ncount 1\ndrop 2\n";
+const ANSWERED: &str = "refused BadSlot\nrefused BadSlot\nrefused BadSlot\n";
+
+/// The same lines, then one whose bytes take memory, and one more.
+const IMPORT: &[u8] = b"len 0\ncount 1\ndrop 2\nimport 0 0 8 14\ncount 0\n";
+
+/// The same lines, then one whose bytes can't be read, and one more.
+const NO_DIGIT: &[u8] = b"len 0\ncount 1\ndrop 2\nimport 0 0 8 1g\ncount 0\n";
+
+/// The same lines, then one with a word too many, and one more.
+const LONG: &[u8] = b"len 0\ncount 1\ndrop 2\nimport 0 0 8 14 14\ncount 0\n";
+
+/// How a session over these lines ends, and what it writes.
+fn session(
+    global: Global,
+    heap: &Refusing<Global>,
+    lines: &[u8],
+) -> (Result<(), DriveError>, Vec<u8>) {
+    let mut source = FromRead::new(lines);
+    let mut sink = ToWrite::new(Vec::new(global));
+    let ended = drive(heap, &mut source, &mut sink);
+    (ended, sink.into_inner())
+}
+
+/// How many requests a session makes for lines that take no memory.
+fn asked(global: Global) -> u64 {
+    let heap = Refusing::new(global, 0);
+    let _ = session(global, &heap, LINES);
+    heap.asked()
+}
+
+#[test]
+fn lines_before_refused_memory_are_answered(rt: HostRuntime) {
+    let heap = Refusing::new(rt.alloc(), asked(rt.alloc()).saturating_add(1));
+    let ended = session(rt.alloc(), &heap, IMPORT);
+    ends(&rt, IMPORT, ended, Err(DriveError::Memory), ANSWERED);
+    equal(&rt, heap.has_refused(), true);
+}
+
+#[test]
+fn a_line_that_cannot_be_read_asks_for_no_memory(rt: HostRuntime) {
+    for lines in [NO_DIGIT, LONG] {
+        let heap = Refusing::new(rt.alloc(), asked(rt.alloc()).saturating_add(1));
+        let ended = session(rt.alloc(), &heap, lines);
+        let unreadable = DriveError::Unreadable { line: 4 };
+        ends(&rt, lines, ended, Err(unreadable), ANSWERED);
+        equal(&rt, heap.has_refused(), false);
+    }
+}
