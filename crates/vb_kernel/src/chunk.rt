@@ -4,13 +4,13 @@ ghost use Rattle.std.below.core.specs.declared.int.usize.TheConstants.{MAX};
 ghost use Rattle.vb_bits.specs.Bits.{bits, count, Selects};
 ghost use Rattle.vb_kernel.specs.Searches.{matching, Searched};
 
-use vb_bits::word_at;
 use crate::glance::{Glance, Plain};
 use crate::search::{Search, find_in_units};
 use crate::unit::Unit;
 use std::marker::Model;
 use std::ops::ControlFlow;
 use std::simd::prelude::*;
+use vb_bits::word_at;
 
 /// A sum in four parts. They are kept apart, as the lanes of a vector are, so that the counts of a
 /// chunk's words don't wait for one another.

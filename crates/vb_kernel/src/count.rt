@@ -11,8 +11,8 @@ ghost use Rattle.vb_kernel.specs.Parts.{rest_looks};
 use crate::chunk::{LaneSum, chunk_ones};
 use crate::counter::Counter;
 use crate::glance::{Glance, Plain};
-use crate::unit::Unit;
 use crate::parts::Parts;
+use crate::unit::Unit;
 use crate::word::byte_part;
 
 /// From so many chunks on, adders count. Where a vector has 32 bytes they are faster than the counts

@@ -8,8 +8,8 @@ ghost use Rattle.vb_kernel.specs.Parts.{rest_looks};
 use crate::chunk::find_in_chunk;
 use crate::count::count_chunks;
 use crate::glance::{Glance, Plain};
-use crate::search::{Search, find_in_part, find_in_rest, find_in_units};
 use crate::parts::Parts;
+use crate::search::{Search, find_in_part, find_in_rest, find_in_units};
 use std::ops::ControlFlow;
 
 /// Fewer chunks than these are searched by their words at once, which takes no longer than to count

@@ -1,5 +1,5 @@
 //! Calls that make a buffer: what they make, and each of their requests for memory refused in turn.
-use crate::compared::shows;
+use crate::compared::{each, shows};
 use std::alloc::Allocator;
 use std::test::Fail;
 use vb_core::{Alignment, BufferError, ExtendError, trusted_len};

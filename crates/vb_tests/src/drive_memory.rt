@@ -7,6 +7,7 @@ use vb_testing::Refusing;
 
 /// Lines whose commands take no memory, and what they are answered.
 const LINES: &[u8] = b"len 0\ncount 1\ndrop 2\n";
+
 const ANSWERED: &str = "refused BadSlot\nrefused BadSlot\nrefused BadSlot\n";
 
 /// The same lines, then one whose bytes take memory, and one more.

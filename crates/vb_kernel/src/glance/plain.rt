@@ -2,10 +2,10 @@
 ghost use Rattle.std.specs.Prelude.{◌≡◌};
 ghost use Rattle.vb_kernel.specs.Looks.{CountedBytes};
 
-use vb_bits::{chunk_at, word_at};
 use crate::glance::Glance;
 use ghost_count::GhostCount;
 use std::marker::Model;
+use vb_bits::{chunk_at, word_at};
 
 /// The bytes of a slice. Its looks are counted in contracts alone: the value is no more than the
 /// slice, and no instruction counts.

@@ -3,10 +3,10 @@ ghost use Rattle.std.specs.Prelude.{◌≡◌, ◌+◌, min};
 ghost use Rattle.std.below.core.specs.declared.int.u64.TheConstants.{MAX};
 ghost use Rattle.vb_kernel.specs.Looks.{CountedBytes};
 
-use vb_bits::{chunk_at, word_at};
 use crate::glance::Glance;
 use ghost_count::GhostCount;
 use std::marker::Model;
+use vb_bits::{chunk_at, word_at};
 
 /// The bytes of a slice, and a count of the looks at them.
 #[derive(Drop)]
