@@ -1,7 +1,8 @@
-//! The example of the README, a test for each of its three parts.
+//! The example of the README, a test for each of its four parts.
 use std::test::Fail;
 use vb_kernel::{bit_select, count_ones, window_fits};
 use vb_mem::Buffer;
+use vb_script::{Answer, Command, Pool, run};
 use vb_set::BitBufferMut;
 
 #[test]
@@ -34,5 +35,24 @@ fn sets(rt: HostRuntime) -> Result<(), Fail> {
     let shared = rows.freeze()?;
     assert_eq!(rt; shared.slice(2..5)?.true_count(), 2);
     assert_eq!(rt; shared.select_unset(0), Some(4));
+    Ok(())
+}
+
+#[test]
+fn commands(rt: HostRuntime) -> Result<(), Fail> {
+    // Ten rows from bit 3 of the first byte on, questioned by commands.
+    let bytes = [0b1110_1000u8, 0b0000_0110].to_vec(rt.alloc())?;
+    let commands = [
+        Command::Import(0, 3, 10, bytes),
+        Command::Count(0),
+        Command::Select(0, 1),
+    ];
+    let answers = run(rt.alloc(), &mut Pool::new(), &commands)?;
+    assert!(rt;
+        matches!(
+            answers.as_slice(),
+            [Answer::Done, Answer::Number(6), Answer::Place(Some(2))]
+        )
+    );
     Ok(())
 }
