@@ -2,7 +2,7 @@
 import unittest
 
 from trials.batch import batches, callees
-from trials.coverage import unreached
+from trials.coverage import public_clauses, unreached
 from trials.edit import parsed, placed
 from trials.judge import Outcome
 
@@ -30,3 +30,14 @@ class Batches(unittest.TestCase):
     def test_clauses_that_no_edit_reaches_are_listed(self):
         outcomes = [Outcome(edit("1"), True, "", ["small"])]
         self.assertEqual(unreached(outcomes, TEXTS), ["low.value"])
+
+    def test_what_the_root_exports_is_public(self):
+        texts = {
+            "src/lib.rt": "mod set;\npub mod line;\npub use set::{Set, one};\n",
+            "src/set.rt": "pub fn one() -> u8\n    ensures { a }\n{\n}\npub fn two()\n    ensures { a }\n{\n}\n"
+            "impl Set {\n    pub fn len(&self)\n        ensures { a }\n    {\n    }\n}\n"
+            "impl Hidden {\n    pub fn len(&self)\n        ensures { a }\n    {\n    }\n}\n",
+            "src/line.rt": "pub fn read()\n    ensures { a }\n{\n}\n",
+        }
+        public = sorted(name for name, _ in public_clauses(texts))
+        self.assertEqual(public, ["Set::len", "one", "read"])
