@@ -1,291 +1,286 @@
-//! The commands on plain lists of truth values.
-use std::alloc::{AllocError, AllocFailed, Allocator, Global};
-use vb_script::{Answer, Command, Refusal};
+//! The commands on plain lists of truth values, of up to 128 bits each. They take no memory.
+use std::alloc::Allocator;
+use std::test::Fail;
+use vb_script::{Command, Refusal};
 
-/// A list in a slot.
-#[derive(Drop)]
-struct Kept {
-    bits: Vec<bool>,
-    frozen: bool,
+/// How many bits a list has room for.
+const ROOM: usize = 128;
+
+/// A list of truth values.
+#[derive(Clone, Copy)]
+pub struct List {
+    bits: [bool; ROOM],
+    len: usize,
 }
 
-/// Why a command isn't done.
-#[derive(Drop)]
-struct Refused(Refusal);
+const NO_BITS: List = List {
+    bits: [false; ROOM],
+    len: 0,
+};
 
-impl From<AllocError> for Refused {
-    fn from(_error: AllocError) -> Refused {
-        Refused(Refusal::OutOfMemory)
+impl List {
+    fn as_slice(&self) -> &[bool] {
+        &self.bits[..self.len.min(ROOM)]
     }
-}
 
-impl<T: Drop> From<AllocFailed<T>> for Refused {
-    fn from(_failed: AllocFailed<T>) -> Refused {
-        Refused(Refusal::OutOfMemory)
+    /// With `n` bits `v` behind it.
+    fn lengthened(&self, v: bool, n: usize) -> Result<List, Refusal> {
+        let len = self.len.checked_add(n).ok_or(Refusal::TooManyBits)?;
+        let mut list = *self;
+        // No command is answered with this, and so no test passes with a list past its room.
+        let added = list.bits.get_mut(self.len..len);
+        added.ok_or(Refusal::LengthMismatch)?.fill(v);
+        list.len = len;
+        Ok(list)
     }
-}
 
-/// Sixteen slots for plain lists.
-#[derive(Drop)]
-pub struct Plain {
-    alloc: Global,
-    slots: Vec<Option<Kept>>,
-}
+    /// With the bits from `a` up to `b` made `v`.
+    fn filled(&self, a: usize, b: usize, v: bool) -> Result<List, Refusal> {
+        let mut list = *self;
+        let part = list.bits[..self.len.min(ROOM)].get_mut(a..b);
+        part.ok_or(Refusal::OutOfRange)?.fill(v);
+        Ok(list)
+    }
 
-impl Plain {
-    /// All slots are empty.
-    pub fn new(alloc: Global) -> Result<Plain, AllocError> {
-        let mut slots = Vec::new(alloc);
-        for _ in 0..16 {
-            slots.push(None)?;
+    /// The bits from `a` up to `b`.
+    fn part(&self, a: usize, b: usize) -> Result<List, Refusal> {
+        let mut list = NO_BITS;
+        for bit in self.as_slice().get(a..b).ok_or(Refusal::OutOfRange)? {
+            list = list.lengthened(*bit, 1)?;
         }
-        Ok(Plain { alloc, slots })
+        Ok(list)
     }
 
-    /// What a command is answered where its memory is refused, and where it isn't.
-    pub fn answer<A: Allocator>(&mut self, command: &Command<A>, refused: bool) -> Answer<Global> {
-        match self.serve(command, refused) {
-            Ok(answer) => answer,
-            Err(Refused(why)) => Answer::Refused(why),
-        }
+    fn count(&self) -> usize {
+        self.as_slice().iter().filter(|bit| **bit).count()
     }
 
-    fn serve<A: Allocator>(
-        &mut self,
-        command: &Command<A>,
-        refused: bool,
-    ) -> Result<Answer<Global>, Refused> {
-        match command {
-            Command::Import(t, o, n, bytes) => self.import(*t, *o, *n, bytes, refused),
-            Command::Full(t, v, n) => self.full(*t, *v, *n, refused),
-            Command::Set(k, i, v) => self.fill(*k, *i, i.saturating_add(1), *v),
-            Command::Append(k, v) => self.append(*k, *v, 1, refused),
-            Command::Appendn(k, v, n) => self.append(*k, *v, *n, refused),
-            Command::Fill(k, a, b, v) => self.fill(*k, *a, *b, *v),
-            Command::Truncate(k, n) => self.truncate(*k, *n),
-            Command::Clear(k) => self.truncate(*k, 0),
-            Command::Flip(k) => self.flip(*k),
-            Command::Freeze(k) => self.change(*k, true, refused),
-            Command::Thaw(k) => self.change(*k, false, refused),
-            Command::Clone(k, t) => self.copy(*k, *t, refused),
-            Command::Slice(k, a, b, t) => self.slice(*k, *a, *b, *t, refused),
-            Command::Drop(k) => self.drop(*k),
-            Command::Len(k) => self.len(*k),
-            Command::Count(k) => self.count(*k),
-            Command::Get(k, i) => self.get(*k, *i),
-            Command::Countrange(k, a, b) => self.count_range(*k, *a, *b),
-            Command::Select(k, n) => self.select(*k, true, *n),
-            Command::Selectunset(k, n) => self.select(*k, false, *n),
-            Command::Bits(k) => self.bits(*k, refused),
-        }
-    }
-
-    fn import(
-        &mut self,
-        t: usize,
-        offset: usize,
-        len: usize,
-        bytes: &[u8],
-        refused: bool,
-    ) -> Result<Answer<Global>, Refused> {
-        self.vacant(t)?;
-        let bits = bits_of(self.alloc, bytes)?;
-        let end = offset.checked_add(len);
-        match end.and_then(|end| bits.get(offset..end)) {
-            Some(list) if offset < 8 => {
-                ample(refused)?;
-                self.put(t, list.to_vec(self.alloc)?, false)
+    /// The place of the `n`-th bit that is `v`.
+    fn place(&self, v: bool, n: usize) -> Option<usize> {
+        let mut left = n;
+        for (place, bit) in self.as_slice().iter().enumerate() {
+            if *bit == v {
+                if left == 0 {
+                    return Some(place);
+                }
+                left -= 1;
             }
-            _ => Err(Refused(Refusal::BadWindow)),
         }
-    }
-
-    fn full(
-        &mut self,
-        t: usize,
-        v: bool,
-        n: usize,
-        refused: bool,
-    ) -> Result<Answer<Global>, Refused> {
-        self.vacant(t)?;
-        ample(refused)?;
-        let mut bits = Vec::new(self.alloc);
-        bits.resize(n, v)?;
-        self.put(t, bits, false)
-    }
-
-    fn append(
-        &mut self,
-        k: usize,
-        v: bool,
-        n: usize,
-        refused: bool,
-    ) -> Result<Answer<Global>, Refused> {
-        let mut bits = self.of_kind(k, false)?;
-        let Some(len) = bits.len().checked_add(n) else {
-            return Err(Refused(Refusal::TooManyBits));
-        };
-        ample(refused)?;
-        bits.resize(len, v)?;
-        self.put(k, bits, false)
-    }
-
-    fn fill(&mut self, k: usize, a: usize, b: usize, v: bool) -> Result<Answer<Global>, Refused> {
-        let mut bits = self.of_kind(k, false)?;
-        if a > b || b > bits.len() {
-            return Err(Refused(Refusal::OutOfRange));
-        }
-        bits[a..b].fill(v);
-        self.put(k, bits, false)
-    }
-
-    fn truncate(&mut self, k: usize, n: usize) -> Result<Answer<Global>, Refused> {
-        let mut bits = self.of_kind(k, false)?;
-        bits.truncate(n);
-        self.put(k, bits, false)
-    }
-
-    fn flip(&mut self, k: usize) -> Result<Answer<Global>, Refused> {
-        let bits = self.of_kind(k, false)?;
-        let mut flipped = Vec::new(self.alloc);
-        for bit in bits.iter() {
-            flipped.push(!*bit)?;
-        }
-        self.put(k, flipped, false)
-    }
-
-    /// Changes the kind of a set, which is gone where memory is refused.
-    fn change(&mut self, k: usize, frozen: bool, refused: bool) -> Result<Answer<Global>, Refused> {
-        let bits = self.of_kind(k, !frozen)?;
-        self.drop(k)?;
-        ample(refused)?;
-        self.put(k, bits, frozen)
-    }
-
-    fn copy(&mut self, k: usize, t: usize, refused: bool) -> Result<Answer<Global>, Refused> {
-        let bits = self.list(k)?.to_vec(self.alloc)?;
-        self.vacant(t)?;
-        ample(refused)?;
-        let frozen = self.is_frozen(k);
-        self.put(t, bits, frozen)
-    }
-
-    fn slice(
-        &mut self,
-        k: usize,
-        a: usize,
-        b: usize,
-        t: usize,
-        refused: bool,
-    ) -> Result<Answer<Global>, Refused> {
-        let bits = self.of_kind(k, true)?;
-        self.vacant(t)?;
-        let bits = part(&bits, a, b)?.to_vec(self.alloc)?;
-        ample(refused)?;
-        self.put(t, bits, true)
-    }
-
-    fn len(&self, k: usize) -> Result<Answer<Global>, Refused> {
-        Ok(Answer::Number(self.list(k)?.len()))
-    }
-
-    fn count(&self, k: usize) -> Result<Answer<Global>, Refused> {
-        Ok(Answer::Number(count(self.list(k)?)))
-    }
-
-    fn get(&self, k: usize, i: usize) -> Result<Answer<Global>, Refused> {
-        Ok(Answer::Truth(value(self.list(k)?, i)?))
-    }
-
-    fn count_range(&self, k: usize, a: usize, b: usize) -> Result<Answer<Global>, Refused> {
-        Ok(Answer::Number(count(part(self.list(k)?, a, b)?)))
-    }
-
-    fn select(&self, k: usize, value: bool, n: usize) -> Result<Answer<Global>, Refused> {
-        Ok(Answer::Place(place(self.list(k)?, value, n)))
-    }
-
-    fn bits(&self, k: usize, refused: bool) -> Result<Answer<Global>, Refused> {
-        let bits = self.list(k)?.to_vec(self.alloc)?;
-        ample(refused)?;
-        Ok(Answer::Bits(bits))
-    }
-
-    fn drop(&mut self, k: usize) -> Result<Answer<Global>, Refused> {
-        self.list(k)?;
-        if let Some(slot) = self.slots.get_mut(k) {
-            *slot = None;
-        }
-        Ok(Answer::Done)
-    }
-
-    fn put(&mut self, k: usize, bits: Vec<bool>, frozen: bool) -> Result<Answer<Global>, Refused> {
-        if let Some(slot) = self.slots.get_mut(k) {
-            *slot = Some(Kept { bits, frozen });
-        }
-        Ok(Answer::Done)
-    }
-
-    fn vacant(&self, t: usize) -> Result<(), Refused> {
-        match self.slots.get(t) {
-            Some(None) => Ok(()),
-            _ => Err(Refused(Refusal::BadSlot)),
-        }
-    }
-
-    fn is_frozen(&self, k: usize) -> bool {
-        matches!(self.slots.get(k), Some(Some(kept)) if kept.frozen)
-    }
-
-    /// The list in a slot.
-    fn list(&self, k: usize) -> Result<&[bool], Refused> {
-        match self.slots.get(k) {
-            Some(Some(kept)) => Ok(&kept.bits),
-            _ => Err(Refused(Refusal::BadSlot)),
-        }
-    }
-
-    /// A copy of the list in a slot of this kind.
-    fn of_kind(&self, k: usize, frozen: bool) -> Result<Vec<bool>, Refused> {
-        let bits = self.list(k)?;
-        if self.is_frozen(k) != frozen {
-            return Err(Refused(Refusal::BadSlot));
-        }
-        Ok(bits.to_vec(self.alloc)?)
+        None
     }
 }
 
-/// The bits of bytes, the lowest one of each byte first.
-fn bits_of(alloc: Global, bytes: &[u8]) -> Result<Vec<bool>, Refused> {
-    let mut bits = Vec::new(alloc);
+/// The window of `len` bits from bit `offset` on, the lowest one of each byte first.
+fn window(bytes: &[u8], offset: usize, len: usize) -> Result<List, Refusal> {
+    let mut bits = NO_BITS;
     for byte in bytes {
         for k in 0..8u32 {
-            bits.push((*byte >> k) & 1 == 1)?;
+            bits = bits.lengthened((*byte >> k) & 1 == 1, 1)?;
         }
     }
-    Ok(bits)
+    match offset.checked_add(len) {
+        Some(end) if offset < 8 && end <= bits.len => bits.part(offset, end),
+        _ => Err(Refusal::BadWindow),
+    }
 }
 
-fn ample(refused: bool) -> Result<(), Refused> {
-    if refused {
-        return Err(Refused(Refusal::OutOfMemory));
+/// What a command is answered.
+#[derive(Clone, Copy)]
+pub enum Reply {
+    Done,
+    Number(usize),
+    Place(Option<usize>),
+    Bits(List),
+}
+
+/// Adds the line of an answer.
+pub fn add_reply(text: &mut String, reply: Result<Reply, Refusal>) -> Result<(), Fail> {
+    match reply {
+        Ok(Reply::Done) => text.push_str("ok")?,
+        Ok(Reply::Number(number)) => write!(text, "{number}")?,
+        Ok(Reply::Place(Some(place))) => write!(text, "{place}")?,
+        Ok(Reply::Place(None)) => text.push_str("none")?,
+        Ok(Reply::Bits(list)) if list.len == 0 => text.push_str("-")?,
+        Ok(Reply::Bits(list)) => {
+            for bit in list.as_slice() {
+                text.push(if *bit { '1' } else { '0' })?;
+            }
+        }
+        Err(why) => write!(text, "{why}")?,
     }
+    text.push('\n')?;
     Ok(())
 }
 
-fn part(list: &[bool], a: usize, b: usize) -> Result<&[bool], Refused> {
-    list.get(a..b).ok_or(Refused(Refusal::OutOfRange))
+/// The kind of a set.
+#[derive(Clone, Copy, PartialEq)]
+enum Kind {
+    Open,
+    Frozen,
 }
 
-fn value(list: &[bool], i: usize) -> Result<bool, Refused> {
-    list.get(i).copied().ok_or(Refused(Refusal::OutOfRange))
+/// Sixteen slots for plain lists.
+#[derive(Clone, Copy)]
+pub struct Plain {
+    slots: [Option<(Kind, List)>; 16],
 }
 
-fn count(list: &[bool]) -> usize {
-    list.iter().filter(|bit| **bit).count()
-}
+/// All slots are empty.
+pub const EMPTY: Plain = Plain { slots: [None; 16] };
 
-fn place(list: &[bool], value: bool, n: usize) -> Option<usize> {
-    let mut places = list.iter().enumerate().filter(|item| *item.1 == value);
-    places.nth(n).map(|item| item.0)
+impl Plain {
+    /// What a command is answered where its memory is refused, and where it isn't.
+    pub fn serve<A: Allocator>(
+        &mut self,
+        command: &Command<A>,
+        refused: bool,
+    ) -> Result<Reply, Refusal> {
+        match command {
+            Command::Import(t, o, n, bytes) => {
+                self.vacant(*t)?;
+                let list = window(bytes, *o, *n)?;
+                self.put(*t, Some((Kind::Open, list)), refused)
+            }
+            Command::Full(t, v, n) => {
+                self.vacant(*t)?;
+                let list = NO_BITS.lengthened(*v, *n)?;
+                self.put(*t, Some((Kind::Open, list)), refused)
+            }
+            Command::Clone(k, t) => {
+                let (kind, list) = self.slot(*k)?;
+                self.vacant(*t)?;
+                self.put(*t, Some((kind, list)), refused)
+            }
+            Command::Slice(k, a, b, t) => {
+                let list = self.of_kind(*k, Kind::Frozen)?;
+                self.vacant(*t)?;
+                let part = list.part(*a, *b)?;
+                self.put(*t, Some((Kind::Frozen, part)), refused)
+            }
+            // The set is gone where memory is refused.
+            Command::Freeze(k) => {
+                let list = self.of_kind(*k, Kind::Open)?;
+                self.put(*k, None, false)?;
+                self.put(*k, Some((Kind::Frozen, list)), refused)
+            }
+            Command::Thaw(k) => {
+                let list = self.of_kind(*k, Kind::Frozen)?;
+                self.put(*k, None, false)?;
+                self.put(*k, Some((Kind::Open, list)), refused)
+            }
+            Command::Drop(k) => {
+                self.slot(*k)?;
+                self.put(*k, None, false)
+            }
+            _ => self.edit(command, refused),
+        }
+    }
+
+    /// The commands that edit an open set.
+    fn edit<A: Allocator>(
+        &mut self,
+        command: &Command<A>,
+        refused: bool,
+    ) -> Result<Reply, Refusal> {
+        let (k, list, asks) = match command {
+            Command::Set(k, i, v) => {
+                let list = self.of_kind(*k, Kind::Open)?;
+                (*k, list.filled(*i, i.saturating_add(1), *v)?, false)
+            }
+            Command::Fill(k, a, b, v) => {
+                (*k, self.of_kind(*k, Kind::Open)?.filled(*a, *b, *v)?, false)
+            }
+            Command::Append(k, v) => {
+                (
+                    *k,
+                    self.of_kind(*k, Kind::Open)?.lengthened(*v, 1)?,
+                    refused,
+                )
+            }
+            Command::Appendn(k, v, n) => {
+                (
+                    *k,
+                    self.of_kind(*k, Kind::Open)?.lengthened(*v, *n)?,
+                    refused,
+                )
+            }
+            Command::Truncate(k, n) => {
+                let list = self.of_kind(*k, Kind::Open)?;
+                (*k, list.part(0, list.len.min(*n))?, false)
+            }
+            Command::Clear(k) => {
+                self.of_kind(*k, Kind::Open)?;
+                (*k, NO_BITS, false)
+            }
+            Command::Flip(k) => {
+                let mut flipped = NO_BITS;
+                for bit in self.of_kind(*k, Kind::Open)?.as_slice() {
+                    flipped = flipped.lengthened(!*bit, 1)?;
+                }
+                (*k, flipped, false)
+            }
+            _ => return self.ask(command, refused),
+        };
+        self.put(k, Some((Kind::Open, list)), asks)
+    }
+
+    /// The commands that ask.
+    fn ask<A: Allocator>(&self, command: &Command<A>, refused: bool) -> Result<Reply, Refusal> {
+        match command {
+            Command::Len(k) => Ok(Reply::Number(self.slot(*k)?.1.len)),
+            Command::Count(k) => Ok(Reply::Number(self.slot(*k)?.1.count())),
+            Command::Countrange(k, a, b) => {
+                Ok(Reply::Number(self.slot(*k)?.1.part(*a, *b)?.count()))
+            }
+            Command::Get(k, i) => {
+                let bit = self.slot(*k)?.1.part(*i, i.saturating_add(1))?;
+                Ok(Reply::Number(bit.count()))
+            }
+            Command::Select(k, n) => Ok(Reply::Place(self.slot(*k)?.1.place(true, *n))),
+            Command::Selectunset(k, n) => Ok(Reply::Place(self.slot(*k)?.1.place(false, *n))),
+            Command::Bits(k) => {
+                let list = self.slot(*k)?.1;
+                if refused {
+                    return Err(Refusal::OutOfMemory);
+                }
+                Ok(Reply::Bits(list))
+            }
+            // All other commands are served before.
+            _ => Err(Refusal::LengthMismatch),
+        }
+    }
+
+    fn vacant(&self, t: usize) -> Result<(), Refusal> {
+        match self.slots.get(t) {
+            Some(None) => Ok(()),
+            _ => Err(Refusal::BadSlot),
+        }
+    }
+
+    fn slot(&self, k: usize) -> Result<(Kind, List), Refusal> {
+        self.slots.get(k).copied().flatten().ok_or(Refusal::BadSlot)
+    }
+
+    fn of_kind(&self, k: usize, kind: Kind) -> Result<List, Refusal> {
+        match self.slot(k)? {
+            (its, list) if its == kind => Ok(list),
+            _ => Err(Refusal::BadSlot),
+        }
+    }
+
+    /// Puts a set into a slot, or nothing, unless the memory for it is refused.
+    fn put(
+        &mut self,
+        k: usize,
+        set: Option<(Kind, List)>,
+        refused: bool,
+    ) -> Result<Reply, Refusal> {
+        if refused {
+            return Err(Refusal::OutOfMemory);
+        }
+        if let Some(slot) = self.slots.get_mut(k) {
+            *slot = set;
+        }
+        Ok(Reply::Done)
+    }
 }

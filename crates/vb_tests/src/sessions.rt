@@ -13,19 +13,12 @@ use vb_script::{DriveError, FromRead, ToWrite, drive};
 
 /// What is written where all lines are answered. Its contract rests on that of `drive` alone.
 fn answers(alloc: Global, input: &[u8]) -> Result<Vec<u8>, DriveError>
-    ensures { IfOk result (λ written. AnswersLines (lines input.now) (Some []) (Some written.items)) }
+    ensures { IfOk result (λ bytes. AnswersLines (lines input.now) (Some []) (Some bytes.items)) }
 {
     let mut source = FromRead::new(input);
     let mut sink = ToWrite::new(Vec::new(alloc));
     drive(alloc, &mut source, &mut sink)?;
     Ok(sink.into_inner())
-}
-
-fn all_lines_are_answered(rt: &impl Abort, alloc: Global, lines: &str, answered: &str) {
-    match answers(alloc, lines.as_bytes()) {
-        Ok(written) => ends(rt, lines.as_bytes(), (Ok(()), written), Ok(()), answered),
-        Err(_) => assert!(rt; false, "{lines}"),
-    }
 }
 
 /// Gives its bytes a few at a time.
@@ -105,40 +98,32 @@ const ANSWERED: &[(&str, &str)] = &[
         "import 0 0 8 ff\nimport 1 0 8 0f\ncount 0\ncount 1\nget 2 0\n",
         "ok\nok\n8\n4\nrefused BadSlot\n",
     ),
+    (
+        "full 0 0 10\nfill 0 2 7 1\ncountrange 0 3 9\ntruncate 0 99\ntruncate 0 4\nappend 0 0\n\
+         bits 0\nfreeze 0\nslice 0 3 2 1\n",
+        "ok\nok\n4\nok\nok\nok\n00110\nok\nrefused OutOfRange\n",
+    ),
+    (
+        "full 0 1 1\nappendn 0 1 18446744073709551615\nbits 0\nclear 0\nbits 0\n",
+        "ok\nrefused TooManyBits\n1\nok\n-\n",
+    ),
+    // Other owners keep their bits.
+    (
+        "full 0 1 4\nfreeze 0\nclone 0 1\nslice 0 1 4 2\nthaw 1\nset 1 0 0\nappend 1 0\nflip 1\n\
+         bits 0\nbits 1\nbits 2\n",
+        "ok\nok\nok\nok\nok\nok\nok\nok\n1111\n10001\n111\n",
+    ),
 ];
 
 #[test]
 fn lines_are_answered(rt: HostRuntime) {
     for (lines, answered) in ANSWERED {
-        all_lines_are_answered(&rt, rt.alloc(), lines, answered);
+        match answers(rt.alloc(), lines.as_bytes()) {
+            Ok(written) => ends(&rt, lines.as_bytes(), (Ok(()), written), Ok(()), answered),
+            Err(_) => assert!(rt; false, "{lines}"),
+        }
         pieces_end(&rt, rt.alloc(), lines.as_bytes(), Ok(()), answered);
     }
-}
-
-#[test]
-fn sets_are_edited(rt: HostRuntime) {
-    all_lines_are_answered(
-        &rt,
-        rt.alloc(),
-        "full 0 0 10\nfill 0 2 7 1\ncountrange 0 3 9\ntruncate 0 99\ntruncate 0 4\nappend 0 0\nbits 0\nfreeze 0\nslice 0 3 2 1\n",
-        "ok\nok\n4\nok\nok\nok\n00110\nok\nrefused OutOfRange\n",
-    );
-    all_lines_are_answered(
-        &rt,
-        rt.alloc(),
-        "full 0 1 1\nappendn 0 1 18446744073709551615\nbits 0\nclear 0\nbits 0\n",
-        "ok\nrefused TooManyBits\n1\nok\n-\n",
-    );
-}
-
-#[test]
-fn other_owners_keep_their_bits(rt: HostRuntime) {
-    all_lines_are_answered(
-        &rt,
-        rt.alloc(),
-        "full 0 1 4\nfreeze 0\nclone 0 1\nslice 0 1 4 2\nthaw 1\nset 1 0 0\nappend 1 0\nflip 1\nbits 0\nbits 1\nbits 2\n",
-        "ok\nok\nok\nok\nok\nok\nok\nok\n1111\n10001\n111\n",
-    );
 }
 
 /// Lines, the number of the one that can't be read, and what those before it are answered.
@@ -166,25 +151,21 @@ fn a_line_that_cannot_be_read_ends_the_session(rt: HostRuntime) {
     }
 }
 
-/// An error has this text.
-fn says(rt: &impl Abort, alloc: Global, error: DriveError, text: &str) -> Result<(), Fail> {
-    equal_texts(rt, format!(in alloc; "{error}")?.as_str(), text);
-    Ok(())
-}
-
 #[test]
 fn errors_say_what_ended_the_session(rt: HostRuntime) -> Result<(), Fail> {
-    let unreadable = DriveError::Unreadable {
-        line: 18446744073709551615,
-    };
-    let text = "line 18446744073709551615 can't be read";
-    says(&rt, rt.alloc(), unreadable, text)?;
-    says(&rt, rt.alloc(), DriveError::Read, "input can't be read")?;
-    says(
-        &rt,
-        rt.alloc(),
-        DriveError::Write,
-        "output can't be written",
-    )?;
-    says(&rt, rt.alloc(), DriveError::Memory, "out of memory")
+    for (error, text) in [
+        (
+            DriveError::Unreadable {
+                line: 18446744073709551615,
+            },
+            "line 18446744073709551615 can't be read",
+        ),
+        (DriveError::Read, "input can't be read"),
+        (DriveError::Write, "output can't be written"),
+        (DriveError::Memory, "out of memory"),
+    ] {
+        let shown = format!(in rt.alloc(); "{error}")?;
+        equal_texts(&rt, shown.as_str(), text);
+    }
+    Ok(())
 }

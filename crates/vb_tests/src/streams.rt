@@ -54,10 +54,11 @@ fn a_failed_write_ends_the_session(rt: HostRuntime) {
     write_fails(&rt, rt.alloc(), "\n", Ok(()));
 }
 
-/// How many bytes were written so far, and in how many at most at a time.
-#[derive(Drop)]
+/// What was written so far: how many bytes, in how many writes, and the widest of these.
+#[derive(Default, Drop)]
 struct Written {
     bytes: Cell<usize>,
+    writes: Cell<usize>,
     widest: Cell<usize>,
 }
 
@@ -67,10 +68,11 @@ struct Counting<'a>(&'a Written);
 
 impl Write for Counting<'_> {
     fn write(&mut self, buf: &[u8]) -> io::Result<usize> {
-        self.0
-            .bytes
-            .set(self.0.bytes.get().saturating_add(buf.len()));
-        self.0.widest.set(self.0.widest.get().max(buf.len()));
+        let written = self.0;
+        let bytes = written.bytes.get().saturating_add(buf.len());
+        written.bytes.set(bytes);
+        written.writes.set(written.writes.get().saturating_add(1));
+        written.widest.set(written.widest.get().max(buf.len()));
         Ok(buf.len())
     }
 
@@ -79,13 +81,13 @@ impl Write for Counting<'_> {
     }
 }
 
-/// Gives a line a read, and only where all lines before it were answered.
+/// Gives some lines a read, and only where all lines before them were answered.
 #[derive(Drop)]
 struct Asking<'a> {
-    line: &'a [u8],
+    lines: &'a [u8],
     left: usize,
     wanted: usize,
-    answer: usize,
+    answers: usize,
     written: &'a Written,
 }
 
@@ -98,44 +100,56 @@ impl Read for Asking<'_> {
             return Ok(0);
         }
         self.left -= 1;
-        self.wanted = self.wanted.saturating_add(self.answer);
-        let mut line = self.line;
-        line.read(buf)
+        self.wanted = self.wanted.saturating_add(self.answers);
+        let mut lines = self.lines;
+        lines.read(buf)
     }
+}
+
+/// Lines that come by so many reads are answered by so many bytes a read, in one write a read.
+fn asked(rt: &impl Abort, alloc: Global, lines: &[u8], reads: usize, answers: usize) {
+    let written = Written::default();
+    let mut source = FromRead::new(Asking {
+        lines,
+        left: reads,
+        wanted: 0,
+        answers,
+        written: &written,
+    });
+    let mut sink = ToWrite::new(Counting(&written));
+    equal(rt, drive(alloc, &mut source, &mut sink), Ok(()));
+    let counts = (written.writes.get(), written.bytes.get());
+    equal(rt, counts, (reads, reads.saturating_mul(answers)));
 }
 
 #[test]
 fn answers_are_written_before_the_next_read(rt: HostRuntime) {
-    let written = Written {
-        bytes: Cell::new(0),
-        widest: Cell::new(0),
-    };
-    let mut source = FromRead::new(Asking {
-        line: b"len 0\nlen 1\n",
-        left: 5,
-        wanted: 0,
-        answer: 32,
-        written: &written,
-    });
-    let mut sink = ToWrite::new(Counting(&written));
-    equal(&rt, drive(rt.alloc(), &mut source, &mut sink), Ok(()));
-    equal(&rt, written.bytes.get(), 160);
+    asked(&rt, rt.alloc(), b"len 0\nlen 1\n", 5, 32);
+}
+
+/// Four lines of which the answers are `ok` three times, and a refusal.
+const FOUR_LINES: &[u8] = b"full 0 1 9\nappend 0 1\ndrop 0\nlen 0\n";
+
+/// A body that answers `Memory` after 100,000 lines fails here, and so does one that writes at
+/// every line.
+#[test]
+fn many_lines_are_answered(rt: HostRuntime) -> Result<(), Fail> {
+    let lines = b"len 0\n".repeat(rt.alloc(), 4000)?;
+    asked(&rt, rt.alloc(), &lines, 38, 64_000);
+    let lines = FOUR_LINES.repeat(rt.alloc(), 1000)?;
+    asked(&rt, rt.alloc(), &lines, 25, 25_000);
+    Ok(())
 }
 
 #[test]
 fn answers_do_not_pile_up(rt: HostRuntime) -> Result<(), Fail> {
-    let mut lines = Vec::new(rt.alloc());
-    for _ in 0..50_000 {
-        lines.extend_from_slice(b"len 0\n")?;
-    }
-    let written = Written {
-        bytes: Cell::new(0),
-        widest: Cell::new(0),
-    };
+    let lines = b"len 0\n".repeat(rt.alloc(), 50_000)?;
+    let written = Written::default();
     let mut source = FromRead::new(lines.as_slice());
     let mut sink = ToWrite::new(Counting(&written));
     equal(&rt, drive(rt.alloc(), &mut source, &mut sink), Ok(()));
     equal(&rt, written.bytes.get(), 800_000);
     assert!(rt; written.widest.get() < 65536 + 16);
+    assert!(rt; written.writes.get() <= 20, "by blocks");
     Ok(())
 }
