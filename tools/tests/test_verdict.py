@@ -23,7 +23,7 @@ logic=not-proved
 '''
 TEXTS = {
     "src/lib.rt": "pub fn one() -> u8\n    ensures { result ≡ 1 }\n{\n    1\n}\nfn two() {\n    2\n}\nfn three() {\n    3\n}\nfn four() {\n    4\n}\n",
-    "src/deep.rt": "impl Set {\n    pub fn len(&self) -> u8\n        ensures value { a }\n        ensures kept { b }\n    {\n        5\n    }\n}\n",
+    "src/deep/grow.rt": "impl Set {\n    pub fn len(&self) -> u8\n        ensures value { a }\n        ensures kept { b }\n    {\n        5\n    }\n}\n",
 }
 
 
@@ -43,7 +43,7 @@ class Verdicts(unittest.TestCase):
         self.assertEqual((found.is_right, found.clauses), (True, ["ensures"]))
 
     def test_the_clause_is_told_by_notes_and_proof_files(self):
-        it = edit("src/deep.rt", "5")
+        it = edit("src/deep/grow.rt", "5")
         verdict = verdict_on(it.function, judged(SAID))
         self.assertEqual(verdict.goals, ["overflow_add-n", "returns-clause-value"])
         self.assertEqual(clauses_of(verdict, it.function), ["value"])

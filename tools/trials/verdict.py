@@ -58,17 +58,18 @@ def module_of(file: str) -> list[str]:
 
 
 def verdict_on(function: Function, verdicts: dict[str, Verdict]) -> Verdict | None:
-    """The verdict on this function: the one at its module, with its name and its type."""
-    modules = module_of(function.file)
+    """The verdict on this function: by its module and name, or, where it is a method, by its type
+    and name, since a path has the module of the type and not that of the impl."""
     found = []
     for verdict in verdicts.values():
         parts = verdict.path.split("::")[1:]
-        rest = parts[len(modules) : -1]
-        if parts[: len(modules)] == modules and parts[-1] == function.name and bool(rest) == bool(function.block):
-            found.append((rest[0] if rest else "", verdict))
-    if len(found) > 1:
-        found = [it for it in found if fits(function, it[0])] or found
-    return found[0][1] if len(found) == 1 else None
+        if parts[-1] != function.name:
+            continue
+        if not function.block and parts[:-1] == module_of(function.file):
+            found.append(verdict)
+        if function.block and len(parts) > 1 and fits(function, parts[-2]):
+            found.append(verdict)
+    return found[0] if len(found) == 1 else None
 
 
 def fits(function: Function, part: str) -> bool:
