@@ -76,12 +76,12 @@ count-take_more l i h t = count_by_more_yes (λ b. b) l i false h t
 pub count-take-lt : (l : List Bool) (i : ℕ) → i < length l → at l i ≡ true → count (take i l) < count l
 count-take-lt l i h t = omega (arith, count-take_more l i h t, count-take-le (i + 1) l)
 
--- ---- values turned over
--- a value turned over
+-- ---- values negated
+-- a value negated
 pub at-negated : (l : List Bool) (i : ℕ) → i < length l → at (negated l) i ≡ not (at l i)
 at-negated l i h = get_or-map not l i false false h
 
--- the front of a list turned over
+-- the front of a list negated
 pub take-negated : (l : List Bool) (i : ℕ) → take i (negated l) ≡ negated (take i l)
 take-negated l i = take-map not i l
 

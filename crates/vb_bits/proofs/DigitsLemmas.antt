@@ -99,18 +99,18 @@ digits_masked w a k h = ap (λ x. digits x 0 k) (masked w a k h) ∙ digits_part
 pub ones_masked : (w a k : ℕ) → k < 64 → count_ones (bit_and (w / 2 ^ a) (1 * 2 ^ k % 2 ^ 64 - 1)) ≡ count (digits w a k)
 ones_masked w a k h = ap count_ones (masked w a k h) ∙ sym (count-digits w a k)
 
--- ---- a number turned over
--- a digit of a number turned over
+-- ---- a number negated
+-- a digit of a number negated
 pub has_bit-bit_not : (v : Width) (w i : ℕ) → w < 2 ^ width v → i < width v → has_bit (bit_not v w) i ≡ not (has_bit w i)
 has_bit-bit_not v w i small h =
-    ap (λ x. eqb x 1) (bit_at_not v w i small h) ∙ turned (bit_at w i) (bit_at-lt w i)
+    ap (λ x. eqb x 1) (bit_at_not v w i small h) ∙ negated_digit (bit_at w i) (bit_at-lt w i)
   where
-    turned : (x : ℕ) → x < 2 → eqb (1 - x) 1 ≡ not (eqb x 1)
-    turned zero h = refl
-    turned (suc zero) h = refl
-    turned (suc (suc x)) h = absurd (omega arith)
+    negated_digit : (x : ℕ) → x < 2 → eqb (1 - x) 1 ≡ not (eqb x 1)
+    negated_digit zero h = refl
+    negated_digit (suc zero) h = refl
+    negated_digit (suc (suc x)) h = absurd (omega arith)
 
--- the digits of a number turned over
+-- the digits of a number negated
 pub digits-bit_not : (v : Width) (w a k : ℕ) → w < 2 ^ width v → a + k ≤ width v → digits (bit_not v w) a k ≡ negated (digits w a k)
 digits-bit_not v w a k small within =
     same_lists _ _ (length-digits (bit_not v w) a k ∙ sym (length-map (digits w a k) not ∙ length-digits w a k))

@@ -172,7 +172,7 @@ Writes_or_mask b o n within there =
     let same : max (bit_at x r) (bit_at (2 ^ hi - 2 ^ lo) r) ≡ bit_at x r = omega arith in
     ap (λ z. eqb z 1) (bit_at_or x (2 ^ hi - 2 ^ lo) r ∙ same))
 
--- a digit of a byte under a mask that is turned over
+-- a digit of a byte under a mask that is negated
 not_mask : (x m i : ℕ) → m < 2 ^ 8 → i < 8 → bit_at (bit_and x (bit_not w8 m)) i ≡ min (bit_at x i) (1 - bit_at m i)
 not_mask x m i small h = bit_at_and x (bit_not w8 m) i ∙ ap (λ z. min (bit_at x i) z) (bit_at_not w8 m i small h)
 

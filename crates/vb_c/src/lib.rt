@@ -5,7 +5,7 @@
 //! meets what it requires.
 #![tactic(auto)]
 
-ghost use Rattle.std.specs.Prelude.{◌≡◌, ◌+◌, ◌*◌, ◌≤◌, length};
+ghost use Rattle.std.specs.Prelude.{◌≡◌, ◌+◌, ◌*◌, ◌^◌, ◌<◌, ◌≤◌, length};
 ghost use Rattle.vb_kernel.specs.Bits.{bits, count, negated, Selects, AnswersEach};
 ghost use Rattle.vb_c.specs.Place.{place_of};
 
@@ -36,7 +36,7 @@ impl From<Option<usize>> for Place {
 #[unsafe(no_mangle)]
 pub extern "C" fn vb_count_ones(bytes: &[u8], offset: usize, len: usize) -> usize
     requires inside { offset + len ≤ 8 * length bytes.now }
-    requires fits { offset + len ≤ usize.MAX }
+    requires fits { offset + len < 2 ^ 64 }
     ensures { result ≡ count (bits bytes.now offset len) }
 {
     vb_kernel::count_ones(bytes, offset, len)
@@ -47,7 +47,7 @@ pub extern "C" fn vb_count_ones(bytes: &[u8], offset: usize, len: usize) -> usiz
 #[unsafe(no_mangle)]
 pub extern "C" fn vb_bit_select(bytes: &[u8], offset: usize, len: usize, n: usize) -> Place
     requires inside { offset + len ≤ 8 * length bytes.now }
-    requires fits { offset + len ≤ usize.MAX }
+    requires fits { offset + len < 2 ^ 64 }
     ensures place { Selects (bits bytes.now offset len) n (place_of result) }
     ensures each { AnswersEach (bits bytes.now offset len) n (place_of result) }
 {
@@ -59,7 +59,7 @@ pub extern "C" fn vb_bit_select(bytes: &[u8], offset: usize, len: usize, n: usiz
 #[unsafe(no_mangle)]
 pub extern "C" fn vb_bit_select_unset(bytes: &[u8], offset: usize, len: usize, n: usize) -> Place
     requires inside { offset + len ≤ 8 * length bytes.now }
-    requires fits { offset + len ≤ usize.MAX }
+    requires fits { offset + len < 2 ^ 64 }
     ensures place { Selects (negated (bits bytes.now offset len)) n (place_of result) }
     ensures each { AnswersEach (negated (bits bytes.now offset len)) n (place_of result) }
 {

@@ -38,7 +38,7 @@ pub enum Command<A: Allocator> {
     Truncate(usize, usize),
     /// `clear k`: takes all bits from the open set in slot `k`.
     Clear(usize),
-    /// `flip k`: turns over every bit of the open set in slot `k`.
+    /// `flip k`: negates every bit of the open set in slot `k`.
     Flip(usize),
     /// `freeze k`: makes the open set in slot `k` a frozen one.
     Freeze(usize),

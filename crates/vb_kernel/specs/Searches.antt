@@ -1,6 +1,5 @@
 -- A search that goes from list to list with what is left of a rank.
-use Rattle.std.specs.Prelude.{◌≡◌, ℕ, ◌+◌, ◌*◌, ◌≤◌, Bool, true, false, List, Some, length}
-use Rattle.std.below.core.specs.declared.int.usize.TheConstants.{MAX}
+use Rattle.std.specs.Prelude.{◌≡◌, ℕ, ◌+◌, ◌*◌, ◌^◌, ◌<◌, ◌≤◌, Bool, true, false, List, Some, length}
 use Rattle.std.below.core.specs.declared.ops.ControlFlow.{ControlFlow}
 use Rattle.std.below.core.specs.declared.ops.ControlFlow.TheVariants.{Continue, Break}
 use Rattle.vb_kernel.specs.declared.search.Search.{Search}
@@ -19,7 +18,7 @@ Searched l n (Continue left) = n ≡ left + count l
 -- the n bits from where the search stands lie in the bytes, and end at a usize
 pub record IsWithin (bytes : List ℕ) (s : Search) (n : ℕ) : Type 0 where
   pub inside : s.offset + s.from + n ≤ 8 * length bytes
-  pub fits : s.offset + s.from + n ≤ MAX
+  pub fits : s.offset + s.from + n < 2 ^ 64
 
 -- what the search of the n bits from where it stands answers
 abbrev pub Finds : List ℕ → Search → ℕ → ControlFlow ℕ ℕ → Type 0

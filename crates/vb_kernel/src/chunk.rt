@@ -1,6 +1,5 @@
 //! Counting and selecting within a chunk of 64 bytes.
-ghost use Rattle.std.specs.Prelude.{◌≡◌, ℕ, ◌+◌, ◌*◌, ◌<◌, ◌≤◌, Some, length};
-ghost use Rattle.std.below.core.specs.declared.int.usize.TheConstants.{MAX};
+ghost use Rattle.std.specs.Prelude.{◌≡◌, ℕ, ◌+◌, ◌*◌, ◌^◌, ◌<◌, ◌≤◌, Some, length};
 ghost use Rattle.vb_bits.specs.Bits.{bits, count, Selects};
 ghost use Rattle.vb_kernel.specs.Searches.{matching, Searched};
 
@@ -27,7 +26,7 @@ impl Model for LaneSum {
 
     ghost view = { λ s. s.a + s.b + s.c + s.d };
 
-    ghost invariant = { λ s. s.a + s.b + s.c + s.d ≤ MAX };
+    ghost invariant = { λ s. s.a + s.b + s.c + s.d < 2 ^ 64 };
 }
 
 impl LaneSum {
@@ -46,7 +45,7 @@ impl LaneSum {
     /// Adds the true bits of a chunk: words 0 and 4 to the first part, 1 and 5 to the second, and
     /// so on, which is the order that a vector of four words has.
     pub(crate) fn add(self, chunk: &[u8; 64]) -> LaneSum
-        requires { self + 512 ≤ usize.MAX }
+        requires { self + 512 < 2 ^ 64 }
         ensures { result ≡ self + count (bits chunk.now 0 512) }
     {
         LaneSum {
@@ -59,7 +58,7 @@ impl LaneSum {
 
     /// Both sums.
     pub(crate) fn plus(self, other: LaneSum) -> LaneSum
-        requires { self + other ≤ usize.MAX }
+        requires { self + other < 2 ^ 64 }
         ensures { result ≡ self + other }
     {
         LaneSum {
@@ -133,7 +132,7 @@ impl Unit for [u8; 64] {
         src.chunk(at)
     }
 
-    // The words are counted as they are, and not turned over one by one.
+    // The words are counted as they are, and not negated one by one.
     fn count(self, value: bool) -> usize {
         let ones = chunk_ones(&self);
         if value { ones } else { 512 - ones }

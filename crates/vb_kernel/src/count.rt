@@ -3,7 +3,7 @@
 //! The window is read as Mula, Kurz and Lemire's "Faster Population Counts Using AVX2 Instructions"
 //! does: whole vectors first, many of them by carry-save adders, and what is left by words and
 //! bytes. The compiler chooses the count of a word or vector.
-ghost use Rattle.std.specs.Prelude.{◌≡◌, ℕ, ◌+◌, ◌*◌, ◌%◌, ◌<◌, ◌≤◌, length, min};
+ghost use Rattle.std.specs.Prelude.{◌≡◌, ℕ, ◌+◌, ◌*◌, ◌%◌, ◌^◌, ◌<◌, ◌≤◌, length, min};
 ghost use Rattle.vb_bits.specs.Bits.{bits, count};
 ghost use Rattle.vb_kernel.specs.Looks.{looks};
 ghost use Rattle.vb_kernel.specs.Parts.{rest_looks};
@@ -25,7 +25,7 @@ const PAST_CACHES: usize = 131_072;
 /// How many bits of the window are true.
 pub fn count_ones(bytes: &[u8], offset: usize, len: usize) -> usize
     requires inside { offset + len ≤ 8 * length bytes.now }
-    requires fits { offset + len ≤ usize.MAX }
+    requires fits { offset + len < 2 ^ 64 }
     ensures { result ≡ count (bits bytes.now offset len) }
 {
     count_ones_by(&mut Plain::new(bytes), offset, len)
@@ -38,7 +38,7 @@ pub fn count_ones(bytes: &[u8], offset: usize, len: usize) -> usize
 #[tactic(auto, using(vb_bits::proofs::BitsLemmas::windows))]
 pub fn count_ones_by<G: Glance>(src: &mut G, offset: usize, len: usize) -> usize
     requires inside { offset + len ≤ 8 * length (G.bytes src.old) }
-    requires fits { offset + len ≤ usize.MAX }
+    requires fits { offset + len < 2 ^ 64 }
     ensures value { result ≡ count (bits (G.bytes src.old) offset len) }
     ensures same { G.bytes src.new ≡ G.bytes src.old }
     ensures looks { G.looks src.new ≡ G.looks src.old + looks offset len }
@@ -57,7 +57,7 @@ pub fn count_ones_by<G: Glance>(src: &mut G, offset: usize, len: usize) -> usize
 fn count_rest<G: Glance>(src: &mut G, at: usize, len: usize) -> usize
     requires aligned { 0 < len → at % 8 ≡ 0 }
     requires inside { at + len ≤ 8 * length (G.bytes src.old) }
-    requires fits { at + len ≤ usize.MAX }
+    requires fits { at + len < 2 ^ 64 }
     ensures value { result ≡ count (bits (G.bytes src.old) at len) }
     ensures same { G.bytes src.new ≡ G.bytes src.old }
     ensures looks { G.looks src.new ≡ G.looks src.old + rest_looks len }
@@ -94,7 +94,7 @@ fn count_part<G: Glance>(src: &mut G, at: usize, len: usize) -> usize
 fn count_units<U: Unit, G: Glance>(src: &mut G, at: usize, n: usize) -> usize
     requires aligned { 0 < n → at % 8 ≡ 0 }
     requires inside { at + 8 * (U.SIZE * n) ≤ 8 * length (G.bytes src.old) }
-    requires fits { at + 8 * (U.SIZE * n) ≤ usize.MAX }
+    requires fits { at + 8 * (U.SIZE * n) < 2 ^ 64 }
     ensures value { result ≡ count (bits (G.bytes src.old) at (8 * (U.SIZE * n))) }
     ensures same { G.bytes src.new ≡ G.bytes src.old }
     ensures looks { G.looks src.new ≡ G.looks src.old + n }
@@ -111,8 +111,8 @@ fn count_units<U: Unit, G: Glance>(src: &mut G, at: usize, n: usize) -> usize
 fn add_chunks<G: Glance>(src: &mut G, at: usize, n: usize, ones: usize) -> usize
     requires aligned { 0 < n → at % 8 ≡ 0 }
     requires inside { at + 512 * n ≤ 8 * length (G.bytes src.old) }
-    requires fits { at + 512 * n ≤ usize.MAX }
-    requires room { ones + 512 * n ≤ usize.MAX }
+    requires fits { at + 512 * n < 2 ^ 64 }
+    requires room { ones + 512 * n < 2 ^ 64 }
     ensures value { result ≡ ones + count (bits (G.bytes src.old) at (512 * n)) }
     ensures same { G.bytes src.new ≡ G.bytes src.old }
     ensures looks { G.looks src.new ≡ G.looks src.old + n }
@@ -132,7 +132,7 @@ fn add_chunks<G: Glance>(src: &mut G, at: usize, n: usize, ones: usize) -> usize
 #[inline(never)]
 pub(crate) fn count_chunks<G: Glance>(src: &mut G, at: usize, n: usize) -> usize
     requires inside { at + 64 * n ≤ length (G.bytes src.old) }
-    requires fits { 8 * at + 512 * n ≤ usize.MAX }
+    requires fits { 8 * at + 512 * n < 2 ^ 64 }
     ensures value { result ≡ count (bits (G.bytes src.old) (8 * at) (512 * n)) }
     ensures same { G.bytes src.new ≡ G.bytes src.old }
     ensures looks { G.looks src.new ≡ G.looks src.old + n }
@@ -155,7 +155,7 @@ pub(crate) fn count_chunks<G: Glance>(src: &mut G, at: usize, n: usize) -> usize
 #[inline(never)]
 fn count_few<G: Glance>(src: &mut G, at: usize, n: usize) -> usize
     requires inside { at + 64 * n ≤ length (G.bytes src.old) }
-    requires fits { 8 * at + 512 * n ≤ usize.MAX }
+    requires fits { 8 * at + 512 * n < 2 ^ 64 }
     ensures value { result ≡ count (bits (G.bytes src.old) (8 * at) (512 * n)) }
     ensures same { G.bytes src.new ≡ G.bytes src.old }
     ensures looks { G.looks src.new ≡ G.looks src.old + n }
@@ -173,7 +173,7 @@ fn count_few<G: Glance>(src: &mut G, at: usize, n: usize) -> usize
 #[inline(never)]
 fn count_quarters<G: Glance>(src: &mut G, at: usize, turns: usize) -> usize
     requires inside { at + 1024 * turns ≤ length (G.bytes src.old) }
-    requires fits { 8 * at + 8192 * turns ≤ usize.MAX }
+    requires fits { 8 * at + 8192 * turns < 2 ^ 64 }
     ensures value { result ≡ count (bits (G.bytes src.old) (8 * at) (8192 * turns)) }
     ensures same { G.bytes src.new ≡ G.bytes src.old }
     ensures looks { G.looks src.new ≡ G.looks src.old + 16 * turns }
@@ -192,7 +192,7 @@ fn count_quarters<G: Glance>(src: &mut G, at: usize, turns: usize) -> usize
 #[inline(always)]
 fn sum_chunks<G: Glance>(src: &mut G, at: usize, n: usize) -> LaneSum
     requires inside { at + 64 * n ≤ length (G.bytes src.old) }
-    requires fits { 8 * at + 512 * n ≤ usize.MAX }
+    requires fits { 8 * at + 512 * n < 2 ^ 64 }
     ensures value { result ≡ count (bits (G.bytes src.old) (8 * at) (512 * n)) }
     ensures same { G.bytes src.new ≡ G.bytes src.old }
     ensures looks { G.looks src.new ≡ G.looks src.old + n }

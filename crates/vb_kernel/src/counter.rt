@@ -3,7 +3,7 @@
 //!
 //! Adders collect the true bits of sixteen vectors into one, and so the bits of one vector are
 //! counted in the place of sixteen.
-ghost use Rattle.std.specs.Prelude.{◌≡◌, ℕ, ◌+◌, ◌*◌, ◌<◌, ◌≤◌, length};
+ghost use Rattle.std.specs.Prelude.{◌≡◌, ℕ, ◌+◌, ◌*◌, ◌^◌, ◌<◌, ◌≤◌, length};
 ghost use Rattle.vb_bits.specs.Bits.{bits, count};
 
 use crate::glance::Glance;
@@ -44,8 +44,8 @@ impl Counter {
     #[inline(always)]
     pub(crate) fn add<G: Glance>(self, src: &mut G, at: usize, apart: usize) -> Counter
         requires inside { at + 3 * apart + 256 ≤ length (G.bytes src.old) }
-        requires fits { at + 3 * apart + 256 ≤ usize.MAX }
-        requires room { self + 8192 ≤ usize.MAX }
+        requires fits { at + 3 * apart + 256 < 2 ^ 64 }
+        requires room { self + 8192 < 2 ^ 64 }
         ensures value { result ≡ self + count (bits (G.bytes src.old) (8 * at) 2048)
             + count (bits (G.bytes src.old) (8 * (at + apart)) 2048)
             + count (bits (G.bytes src.old) (8 * (at + 2 * apart)) 2048)
@@ -71,7 +71,7 @@ impl Counter {
 
     /// The whole count.
     pub(crate) fn total(self) -> usize
-        requires { self ≤ usize.MAX }
+        requires { self < 2 ^ 64 }
         ensures { result ≡ self }
     {
         let eights = self.sixteens.twice().plus(self.eights.sums());
@@ -96,7 +96,7 @@ fn ones_at<G: Glance>(src: &mut G, at: usize) -> Ones
 #[inline(always)]
 fn add_four<G: Glance>(ones: Ones, twos: Ones, src: &mut G, at: usize) -> (Ones, Ones, Ones)
     requires inside { at + 256 ≤ length (G.bytes src.old) }
-    requires fits { at + 256 ≤ usize.MAX }
+    requires fits { at + 256 < 2 ^ 64 }
     ensures value { result.0 + 2 * result.1 + 4 * result.2
         ≡ ones + 2 * twos + count (bits (G.bytes src.old) (8 * at) 2048) }
     ensures same { G.bytes src.new ≡ G.bytes src.old }

@@ -1,6 +1,5 @@
 //! Vectors of eight words, and sums of their true bits.
 ghost use Rattle.std.specs.Prelude.{◌≡◌, ℕ, ◌+◌, ◌*◌, ◌<◌, ◌≤◌, ◌^◌, length};
-ghost use Rattle.std.below.core.specs.declared.int.usize.TheConstants.{MAX};
 ghost use Rattle.std.specs.Simd.Lanes.{sum_l};
 ghost use Rattle.vb_bits.specs.Bits.{bits, count};
 ghost use Rattle.vb_kernel.specs.Lanes.{Words, ones};
@@ -81,7 +80,7 @@ impl Sums {
 
     /// Both sums.
     pub(crate) fn plus(self, other: Sums) -> Sums
-        requires { self + other ≤ usize.MAX }
+        requires { self + other < 2 ^ 64 }
         ensures { result ≡ self + other }
     {
         Sums {
@@ -91,7 +90,7 @@ impl Sums {
 
     /// Twice the sum.
     pub(crate) fn twice(self) -> Sums
-        requires { 2 * self ≤ usize.MAX }
+        requires { 2 * self < 2 ^ 64 }
         ensures { result ≡ 2 * self }
     {
         Sums {
@@ -101,7 +100,7 @@ impl Sums {
 
     /// The whole sum.
     pub(crate) fn total(self) -> usize
-        requires { self ≤ usize.MAX }
+        requires { self < 2 ^ 64 }
         ensures { result ≡ self }
     {
         self.lanes.reduce_sum() as usize

@@ -1,5 +1,5 @@
 //! The place of a bit by its rank.
-ghost use Rattle.std.specs.Prelude.{◌≡◌, ℕ, ◌+◌, ◌*◌, ◌/◌, ◌%◌, ◌<◌, ◌≤◌, length};
+ghost use Rattle.std.specs.Prelude.{◌≡◌, ℕ, ◌+◌, ◌*◌, ◌/◌, ◌%◌, ◌^◌, ◌<◌, ◌≤◌, length};
 ghost use Rattle.vb_bits.specs.Bits.{bits, count, negated, Selects, AnswersEach};
 ghost use Rattle.vb_kernel.specs.Looks.{looks};
 ghost use Rattle.vb_kernel.specs.Searches.{matching, Searched, IsWithin, Finds};
@@ -20,7 +20,7 @@ const MANY: usize = 4;
 /// window has at most `n`.
 pub fn bit_select(bytes: &[u8], offset: usize, len: usize, n: usize) -> Option<usize>
     requires inside { offset + len ≤ 8 * length bytes.now }
-    requires fits { offset + len ≤ usize.MAX }
+    requires fits { offset + len < 2 ^ 64 }
     ensures place { Selects (bits bytes.now offset len) n result }
     ensures each { AnswersEach (bits bytes.now offset len) n result }
 {
@@ -31,7 +31,7 @@ pub fn bit_select(bytes: &[u8], offset: usize, len: usize, n: usize) -> Option<u
 /// window has at most `n`.
 pub fn bit_select_unset(bytes: &[u8], offset: usize, len: usize, n: usize) -> Option<usize>
     requires inside { offset + len ≤ 8 * length bytes.now }
-    requires fits { offset + len ≤ usize.MAX }
+    requires fits { offset + len < 2 ^ 64 }
     ensures place { Selects (negated (bits bytes.now offset len)) n result }
     ensures each { AnswersEach (negated (bits bytes.now offset len)) n result }
 {
@@ -41,7 +41,7 @@ pub fn bit_select_unset(bytes: &[u8], offset: usize, len: usize, n: usize) -> Op
 /// [`bit_select`] of the window of `src`, by at most the looks of a count of the window.
 pub fn bit_select_by<G: Glance>(src: &mut G, offset: usize, len: usize, n: usize) -> Option<usize>
     requires inside { offset + len ≤ 8 * length (G.bytes src.old) }
-    requires fits { offset + len ≤ usize.MAX }
+    requires fits { offset + len < 2 ^ 64 }
     ensures place { Selects (bits (G.bytes src.old) offset len) n result }
     ensures each { AnswersEach (bits (G.bytes src.old) offset len) n result }
     ensures same { G.bytes src.new ≡ G.bytes src.old }
@@ -58,7 +58,7 @@ pub fn bit_select_unset_by<G: Glance>(
     n: usize,
 ) -> Option<usize>
     requires inside { offset + len ≤ 8 * length (G.bytes src.old) }
-    requires fits { offset + len ≤ usize.MAX }
+    requires fits { offset + len < 2 ^ 64 }
     ensures place { Selects (negated (bits (G.bytes src.old) offset len)) n result }
     ensures each { AnswersEach (negated (bits (G.bytes src.old) offset len)) n result }
     ensures same { G.bytes src.new ≡ G.bytes src.old }
@@ -79,7 +79,7 @@ fn find<G: Glance>(
     value: bool,
 ) -> ControlFlow<usize, usize>
     requires inside { offset + len ≤ 8 * length (G.bytes src.old) }
-    requires fits { offset + len ≤ usize.MAX }
+    requires fits { offset + len < 2 ^ 64 }
     ensures found { Searched (matching value (bits (G.bytes src.old) offset len)) n result }
     ensures same { G.bytes src.new ≡ G.bytes src.old }
     ensures looks { G.looks src.new ≤ G.looks src.old + looks offset len }
@@ -162,7 +162,7 @@ fn pass_chunks<G: Glance>(
 ) -> (usize, usize)
     requires aligned { 0 < chunks → at % 8 ≡ 0 }
     requires inside { at + 512 * chunks ≤ 8 * length (G.bytes src.old) }
-    requires fits { at + 512 * chunks ≤ usize.MAX }
+    requires fits { at + 512 * chunks < 2 ^ 64 }
     ensures within { result.0 ≤ chunks }
     ensures passed { n ≡ result.1
         + count (matching value (bits (G.bytes src.old) at (512 * result.0))) }
@@ -185,7 +185,7 @@ fn pass_chunks<G: Glance>(
 #[tactic(auto, using(vb_bits::proofs::BitsLemmas::windows))]
 fn count_matching<G: Glance>(src: &mut G, at: usize, n: usize, value: bool) -> usize
     requires inside { at + 64 * n ≤ length (G.bytes src.old) }
-    requires fits { 8 * at + 512 * n ≤ usize.MAX }
+    requires fits { 8 * at + 512 * n < 2 ^ 64 }
     ensures value { result ≡ count (matching value (bits (G.bytes src.old) (8 * at) (512 * n))) }
     ensures same { G.bytes src.new ≡ G.bytes src.old }
     ensures looks { G.looks src.new ≡ G.looks src.old + n }

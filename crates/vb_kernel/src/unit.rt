@@ -5,7 +5,7 @@ ghost use Rattle.vb_bits.specs.Bits.{bits, count, Selects};
 ghost use Rattle.vb_kernel.specs.Searches.{matching};
 
 use crate::glance::Glance;
-use crate::word::{byte_part, select_in_word, turned};
+use crate::word::{byte_part, matching_word, select_in_word};
 
 /// Bytes that one look reads, and that are then counted and searched without another look.
 ///
@@ -67,10 +67,10 @@ impl Unit for u64 {
     }
 
     fn count(self, value: bool) -> usize {
-        turned(self, value).count_ones() as usize
+        matching_word(self, value).count_ones() as usize
     }
 
     fn select(self, n: usize, value: bool) -> usize {
-        select_in_word(turned(self, value), n)
+        select_in_word(matching_word(self, value), n)
     }
 }

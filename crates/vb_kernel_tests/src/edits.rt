@@ -1,4 +1,4 @@
-//! Fills and windows turned over, compared with single bits.
+//! Fills and negated windows, compared with single bits.
 use crate::sample;
 use std::alloc::AllocError;
 use std::process::Abort;
@@ -29,20 +29,9 @@ fn map_is_plain(rt: &impl Abort, before: &[u8; 32], offset: usize, len: usize) {
     assert!(rt; end <= 256);
     map_words(&mut after, offset, end - offset);
     for i in 0..256 {
-        let covered = len > 0 && offset / 8 <= i / 8 && i / 8 < end.div_ceil(8);
-        if offset <= i && i < end {
-            assert_eq!(rt;
-                get_bit(&after, i),
-                !get_bit(before, i),
-                "at {offset}, {len}, {i}"
-            );
-        } else if !covered {
-            assert_eq!(rt;
-                get_bit(&after, i),
-                get_bit(before, i),
-                "at {offset}, {len}, {i}"
-            );
-        }
+        let inside = offset <= i && i < end;
+        let wanted = get_bit(before, i) != inside;
+        assert_eq!(rt; get_bit(&after, i), wanted, "at {offset}, {len}, {i}");
     }
 }
 

@@ -1,5 +1,5 @@
 //! Counting and selecting bit by bit, as the definitions say it.
-ghost use Rattle.std.specs.Prelude.{◌≡◌, ◌+◌, ◌*◌, ◌≤◌, length};
+ghost use Rattle.std.specs.Prelude.{◌≡◌, ◌+◌, ◌*◌, ◌^◌, ◌<◌, ◌≤◌, length};
 ghost use Rattle.vb_kernel.specs.Bits.{bits, count, negated, Selects};
 
 use vb_kernel::get_bit;
@@ -8,7 +8,7 @@ use vb_kernel::get_bit;
 #[tactic(auto, using(vb_bits::proofs::BitsLemmas::windows))]
 pub(crate) fn count_ones(bytes: &[u8], offset: usize, len: usize) -> usize
     requires inside { offset + len ≤ 8 * length bytes.now }
-    requires fits { offset + len ≤ usize.MAX }
+    requires fits { offset + len < 2 ^ 64 }
     ensures { result ≡ count (bits bytes.now offset len) }
 {
     let mut ones = 0;
@@ -24,7 +24,7 @@ pub(crate) fn count_ones(bytes: &[u8], offset: usize, len: usize) -> usize
 #[tactic(auto, using(vb_bits::proofs::BitsLemmas::windows))]
 pub(crate) fn bit_select(bytes: &[u8], offset: usize, len: usize, n: usize) -> Option<usize>
     requires inside { offset + len ≤ 8 * length bytes.now }
-    requires fits { offset + len ≤ usize.MAX }
+    requires fits { offset + len < 2 ^ 64 }
     ensures { Selects (bits bytes.now offset len) n result }
 {
     let mut left = n;
@@ -43,7 +43,7 @@ pub(crate) fn bit_select(bytes: &[u8], offset: usize, len: usize, n: usize) -> O
 #[tactic(auto, using(vb_bits::proofs::BitsLemmas::windows))]
 pub(crate) fn bit_select_unset(bytes: &[u8], offset: usize, len: usize, n: usize) -> Option<usize>
     requires inside { offset + len ≤ 8 * length bytes.now }
-    requires fits { offset + len ≤ usize.MAX }
+    requires fits { offset + len < 2 ^ 64 }
     ensures { Selects (negated (bits bytes.now offset len)) n result }
 {
     let mut left = n;

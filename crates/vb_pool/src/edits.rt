@@ -91,7 +91,7 @@ impl<A: Allocator + Clone> Pool<A> {
         }
     }
 
-    /// Turns over every bit.
+    /// Negates every bit.
     pub(crate) fn flip(&mut self, k: usize) -> Answer<A>
         ensures { Step self.old (machine.Flip k) (reply result) self.new }
     {

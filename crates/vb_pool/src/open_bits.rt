@@ -1,5 +1,5 @@
 //! The sets that commands edit.
-ghost use Rattle.std.specs.Prelude.{◌≡◌, ◌+◌, ◌*◌, ◌<◌, ◌≤◌, [], ◌∷◌, ◌++◌, length, take, replicate, slice_set, IfOk, IsOkUnless, OnOk, OnErr};
+ghost use Rattle.std.specs.Prelude.{◌≡◌, ◌+◌, ◌*◌, ◌^◌, ◌<◌, ◌≤◌, [], ◌∷◌, ◌++◌, length, take, replicate, slice_set, IfOk, IsOkUnless, OnOk, OnErr};
 ghost use Rattle.vb_core.specs.declared.error.BufferError.TheVariants.{OutOfMemory};
 ghost use Rattle.vb_kernel.specs.Bits.{bits, negated};
 ghost use Rattle.vb_kernel.specs.Edits.{filled};
@@ -49,7 +49,7 @@ impl<A: Allocator + Clone> OpenBits<A> {
     ) -> Result<Self, BufferError>
         requires first_byte { offset < 8 }
         requires inside { offset + len ≤ 8 * length bytes.now }
-        requires fits { offset + len ≤ usize.MAX }
+        requires fits { offset + len < 2 ^ 64 }
         ensures bits { IfOk result (λ s. s ≡ bits bytes.now offset len) }
         ensures refused { IsOkUnless result OutOfMemory }
     {
@@ -158,7 +158,7 @@ impl<A: Allocator + Clone> OpenBits<A> {
         self.set.clear();
     }
 
-    /// Each bit turned over, in place.
+    /// Each bit negated, in place.
     pub fn flipped(self) -> Self
         ensures { result ≡ negated self }
     {

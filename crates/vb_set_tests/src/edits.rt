@@ -77,7 +77,7 @@ fn edited_is_plain(
     Ok(())
 }
 
-/// The set turned over, and then cleared, beside the list.
+/// The set negated, and then cleared, beside the list.
 fn turned_is_plain(
     rt: &impl Abort,
     set: BitBufferMut<Global>,

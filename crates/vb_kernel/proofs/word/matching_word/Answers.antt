@@ -4,7 +4,7 @@ use Rattle.vb_bits.specs.Bits.{negated}
 use Rattle.vb_bits.proofs.BytesLemmas.{bits-to_le_bytes}
 use Rattle.vb_bits.proofs.DigitsLemmas.{digits-bit_not}
 use Rattle.vb_kernel.proofs.SearchesLemmas.{matching_true, matching_false}
-use Rattle.vb_kernel.proofs.word.turned.Goals as goal
+use Rattle.vb_kernel.proofs.word.matching_word.Goals as goal
 
 pub returns-then-value : goal.returns-then-value
 returns-then-value c = sym (matching_true c.args.value _ c.if-value.true ∙ bits-to_le_bytes c.args.word 0 64 (omega arith))
