@@ -3,5 +3,5 @@ use Rattle.std.specs.Prelude.{ℕ, Option, Some, None, if◌then◌else◌}
 use Rattle.vb_c.specs.declared.Place.{Place}
 
 -- the index, if there is one
-abbrev pub place_of : Place → Option ℕ
-place_of p = if p.found then Some p.index else None
+abbrev pub answered_place : Place → Option ℕ
+answered_place p = if p.found then Some p.index else None

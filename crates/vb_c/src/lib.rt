@@ -7,7 +7,7 @@
 
 ghost use Rattle.std.specs.Prelude.{◌≡◌, ◌+◌, ◌*◌, ◌^◌, ◌<◌, ◌≤◌, length};
 ghost use Rattle.vb_kernel.specs.Bits.{bits, count, negated, Selects, AnswersEach};
-ghost use Rattle.vb_c.specs.Place.{place_of};
+ghost use Rattle.vb_c.specs.Place.{answered_place};
 
 /// The place of a bit, as an `Option<usize>` crosses to C: `index` says something only where
 /// `found` is true.
@@ -19,7 +19,7 @@ pub struct Place {
 }
 
 impl From<Option<usize>> for Place {
-    ghost from_gives = { λ place result. place_of result ≡ place };
+    ghost from_gives = { λ place result. answered_place result ≡ place };
 
     fn from(place: Option<usize>) -> Self {
         match place {
@@ -48,8 +48,8 @@ pub extern "C" fn vb_count_ones(bytes: &[u8], offset: usize, len: usize) -> usiz
 pub extern "C" fn vb_bit_select(bytes: &[u8], offset: usize, len: usize, n: usize) -> Place
     requires inside { offset + len ≤ 8 * length bytes.now }
     requires fits { offset + len < 2 ^ 64 }
-    ensures place { Selects (bits bytes.now offset len) n (place_of result) }
-    ensures each { AnswersEach (bits bytes.now offset len) n (place_of result) }
+    ensures place { Selects (bits bytes.now offset len) n (answered_place result) }
+    ensures each { AnswersEach (bits bytes.now offset len) n (answered_place result) }
 {
     vb_kernel::bit_select(bytes, offset, len, n).into()
 }
@@ -60,8 +60,8 @@ pub extern "C" fn vb_bit_select(bytes: &[u8], offset: usize, len: usize, n: usiz
 pub extern "C" fn vb_bit_select_unset(bytes: &[u8], offset: usize, len: usize, n: usize) -> Place
     requires inside { offset + len ≤ 8 * length bytes.now }
     requires fits { offset + len < 2 ^ 64 }
-    ensures place { Selects (negated (bits bytes.now offset len)) n (place_of result) }
-    ensures each { AnswersEach (negated (bits bytes.now offset len)) n (place_of result) }
+    ensures place { Selects (negated (bits bytes.now offset len)) n (answered_place result) }
+    ensures each { AnswersEach (negated (bits bytes.now offset len)) n (answered_place result) }
 {
     vb_kernel::bit_select_unset(bytes, offset, len, n).into()
 }

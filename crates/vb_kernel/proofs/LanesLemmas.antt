@@ -11,25 +11,25 @@ use Rattle.vb_bits.specs.Digits.{has_bit}
 use Rattle.vb_bits.proofs.BitsLemmas.{same_bits, count-bits_none, count-bits-add}
 use Rattle.vb_bits.proofs.BytesLemmas.{bits_of_byte, bits_of_read_byte}
 use Rattle.vb_bits.proofs.DigitsLemmas.{count-digits_below}
-use Rattle.vb_kernel.specs.Lanes.{Words, ones}
+use Rattle.vb_kernel.specs.Lanes.{EightWords, ones}
 use Rattle.vb_kernel.proofs.AdderLemmas.{ones-adder}
 
 -- ---- vectors of words
 -- an operator that keeps words
-Words-zip2 : (f : ℕ → ℕ → ℕ) → ((a b : ℕ) → a < 2 ^ 64 → b < 2 ^ 64 → f a b < 2 ^ 64) → (xs ys : List ℕ) → Words xs → Words ys → Words (zip2 f xs ys)
-Words-zip2 f keeps xs ys v w = (
+EightWords-zip2 : (f : ℕ → ℕ → ℕ) → ((a b : ℕ) → a < 2 ^ 64 → b < 2 ^ 64 → f a b < 2 ^ 64) → (xs ys : List ℕ) → EightWords xs → EightWords ys → EightWords (zip2 f xs ys)
+EightWords-zip2 f keeps xs ys v w = (
   length-zip2 f xs ys (v.0 ∙ sym w.0) ∙ v.0,
   Each1-zip2 f (λ x. x < 2 ^ 64) xs ys (Each2-of (λ x. x < 2 ^ 64) (λ x. x < 2 ^ 64) (λ x y. f x y < 2 ^ 64) keeps xs ys v.1 w.1),
 )
 
-pub Words-xor : (xs ys : List ℕ) → Words xs → Words ys → Words (zip2 bit_xor xs ys)
-Words-xor = Words-zip2 bit_xor (xor_lt 64)
+pub EightWords-xor : (xs ys : List ℕ) → EightWords xs → EightWords ys → EightWords (zip2 bit_xor xs ys)
+EightWords-xor = EightWords-zip2 bit_xor (xor_lt 64)
 
-pub Words-or : (xs ys : List ℕ) → Words xs → Words ys → Words (zip2 bit_or xs ys)
-Words-or = Words-zip2 bit_or (or_lt 64)
+pub EightWords-or : (xs ys : List ℕ) → EightWords xs → EightWords ys → EightWords (zip2 bit_or xs ys)
+EightWords-or = EightWords-zip2 bit_or (or_lt 64)
 
-pub Words-and : (xs ys : List ℕ) → Words xs → Words ys → Words (zip2 bit_and xs ys)
-Words-and = Words-zip2 bit_and (λ a b h k. omega (arith, and_le_l a b))
+pub EightWords-and : (xs ys : List ℕ) → EightWords xs → EightWords ys → EightWords (zip2 bit_and xs ys)
+EightWords-and = EightWords-zip2 bit_and (λ a b h k. omega (arith, and_le_l a b))
 
 -- the full adder, lane by lane
 adder_l : (xs ys zs : List ℕ) → length xs ≡ length ys → length xs ≡ length zs → Each1 (λ x. x < 2 ^ 64) xs → Each1 (λ x. x < 2 ^ 64) ys → Each1 (λ x. x < 2 ^ 64) zs
@@ -41,14 +41,14 @@ adder_l (x ∷ xs) [] zs e d p q r = absurd (omega arith)
 adder_l (x ∷ xs) (y ∷ ys) [] e d p q r = absurd (omega arith)
 adder_l (x ∷ xs) (y ∷ ys) (z ∷ zs) e d p q r = omega (arith, ones-adder 64 x y z p.0 q.0 r.0, adder_l xs ys zs (omega arith) (omega arith) p.1 q.1 r.1)
 
-pub ones-adder_l : (xs ys zs : List ℕ) → Words xs → Words ys → Words zs
+pub ones-adder_l : (xs ys zs : List ℕ) → EightWords xs → EightWords ys → EightWords zs
     → ones (zip2 bit_xor (zip2 bit_xor xs ys) zs) + 2 * ones (zip2 bit_or (zip2 bit_and xs ys) (zip2 bit_and (zip2 bit_xor xs ys) zs)) ≡ ones xs + ones ys + ones zs
 ones-adder_l xs ys zs u v w = adder_l xs ys zs (u.0 ∙ sym v.0) (u.0 ∙ sym w.0) u.1 v.1 w.1
 
 -- ---- sums
 -- the counts of words, as a vector computes them, are words
-pub Words-counts : (xs : List ℕ) → Words xs → Words (map (λ n. n) (map count_ones xs))
-Words-counts xs v = (length-map (map count_ones xs) (λ n. n) ∙ length-map xs count_ones ∙ v.0, each xs v.1)
+pub EightWords-counts : (xs : List ℕ) → EightWords xs → EightWords (map (λ n. n) (map count_ones xs))
+EightWords-counts xs v = (length-map (map count_ones xs) (λ n. n) ∙ length-map xs count_ones ∙ v.0, each xs v.1)
   where
     each : (xs : List ℕ) → Each1 (λ x. x < 2 ^ 64) xs → Each1 (λ x. x < 2 ^ 64) (map (λ n. n) (map count_ones xs))
     each [] h = tt
@@ -66,8 +66,8 @@ sum-wrapped [] (y ∷ ys) e h = absurd (omega arith)
 sum-wrapped (x ∷ xs) [] e h = absurd (omega arith)
 sum-wrapped (x ∷ xs) (y ∷ ys) e h = omega (arith, sum-wrapped xs ys (omega arith) (omega arith))
 
-pub Words-wrapped : (xs ys : List ℕ) → Words xs → Words ys → Words (zip2 (λ a b. (a + b) % 2 ^ 64) xs ys)
-Words-wrapped = Words-zip2 (λ a b. (a + b) % 2 ^ 64) (λ a b h k. omega arith)
+pub EightWords-wrapped : (xs ys : List ℕ) → EightWords xs → EightWords ys → EightWords (zip2 (λ a b. (a + b) % 2 ^ 64) xs ys)
+EightWords-wrapped = EightWords-zip2 (λ a b. (a + b) % 2 ^ 64) (λ a b h k. omega arith)
 
 pub fold-wrapped : (a : ℕ) (xs : List ℕ) → a + sum_l xs < 2 ^ 64 → fold_l (λ s x. (s + x) % 2 ^ 64) a xs ≡ a + sum_l xs
 fold-wrapped a [] h = omega arith

@@ -21,5 +21,5 @@ pub record IsWithin (bytes : List ℕ) (s : Search) (n : ℕ) : Type 0 where
   pub fits : s.offset + s.from + n < 2 ^ 64
 
 -- what the search of the n bits from where it stands answers
-abbrev pub Finds : List ℕ → Search → ℕ → ControlFlow ℕ ℕ → Type 0
-Finds bytes s n r = Searched (matching s.value (bits bytes s.offset (s.from + n))) (s.n + count (matching s.value (bits bytes s.offset s.from))) r
+abbrev pub SearchAnswers : List ℕ → Search → ℕ → ControlFlow ℕ ℕ → Type 0
+SearchAnswers bytes s n r = Searched (matching s.value (bits bytes s.offset (s.from + n))) (s.n + count (matching s.value (bits bytes s.offset s.from))) r

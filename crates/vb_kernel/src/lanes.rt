@@ -2,7 +2,7 @@
 ghost use Rattle.std.specs.Prelude.{◌≡◌, ℕ, ◌+◌, ◌*◌, ◌<◌, ◌≤◌, ◌^◌, length};
 ghost use Rattle.std.specs.Simd.Lanes.{sum_l};
 ghost use Rattle.vb_bits.specs.Bits.{bits, count};
-ghost use Rattle.vb_kernel.specs.Lanes.{Words, ones};
+ghost use Rattle.vb_kernel.specs.Lanes.{EightWords, ones};
 
 use std::marker::Model;
 use std::simd::prelude::*;
@@ -18,7 +18,7 @@ impl Model for Ones {
 
     ghost view = { λ s. ones s.lanes };
 
-    ghost invariant = { λ s. Words s.lanes };
+    ghost invariant = { λ s. EightWords s.lanes };
 }
 
 /// Eight sums. Its value is their sum.
@@ -32,7 +32,7 @@ impl Model for Sums {
 
     ghost view = { λ s. sum_l s.lanes };
 
-    ghost invariant = { λ s. Words s.lanes };
+    ghost invariant = { λ s. EightWords s.lanes };
 }
 
 impl Ones {

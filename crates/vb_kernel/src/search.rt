@@ -1,6 +1,6 @@
 //! Searches of parts of a window for a bit by its rank.
 ghost use Rattle.std.specs.Prelude.{◌≡◌, ℕ, ◌+◌, ◌*◌, ◌/◌, ◌%◌, ◌<◌, ◌≤◌, min};
-ghost use Rattle.vb_kernel.specs.Searches.{IsWithin, Finds};
+ghost use Rattle.vb_kernel.specs.Searches.{IsWithin, SearchAnswers};
 ghost use Rattle.vb_kernel.specs.Parts.{rest_looks};
 
 use crate::glance::Glance;
@@ -31,7 +31,7 @@ pub(crate) fn find_in_rest<G: Glance>(
 ) -> ControlFlow<usize, usize>
     requires aligned { 0 < len → (search.offset + search.from) % 8 ≡ 0 }
     requires within { IsWithin (G.bytes src.old) search len }
-    ensures found { Finds (G.bytes src.old) search len result }
+    ensures found { SearchAnswers (G.bytes src.old) search len result }
     ensures same { G.bytes src.new ≡ G.bytes src.old }
     ensures looks { G.looks src.new ≤ G.looks src.old + rest_looks len }
 {
@@ -52,7 +52,7 @@ pub(crate) fn find_in_part<G: Glance>(
 ) -> ControlFlow<usize, usize>
     requires in_byte { 0 < len → (search.offset + search.from) % 8 + len ≤ 8 }
     requires within { IsWithin (G.bytes src.old) search len }
-    ensures found { Finds (G.bytes src.old) search len result }
+    ensures found { SearchAnswers (G.bytes src.old) search len result }
     ensures same { G.bytes src.new ≡ G.bytes src.old }
     ensures looks { G.looks src.new ≡ G.looks src.old + min len 1 }
 {
@@ -78,7 +78,7 @@ pub(crate) fn find_in_units<U: Unit, G: Glance>(
 ) -> ControlFlow<usize, usize>
     requires aligned { 0 < units → (search.offset + search.from) % 8 ≡ 0 }
     requires within { IsWithin (G.bytes src.old) search (8 * (U.SIZE * units)) }
-    ensures found { Finds (G.bytes src.old) search (8 * (U.SIZE * units)) result }
+    ensures found { SearchAnswers (G.bytes src.old) search (8 * (U.SIZE * units)) result }
     ensures same { G.bytes src.new ≡ G.bytes src.old }
     ensures looks { G.looks src.new ≤ G.looks src.old + units }
 {

@@ -2,7 +2,7 @@
 ghost use Rattle.std.specs.Prelude.{◌≡◌, ℕ, ◌+◌, ◌*◌, ◌/◌, ◌%◌, ◌^◌, ◌<◌, ◌≤◌, length};
 ghost use Rattle.vb_bits.specs.Bits.{bits, count, negated, Selects, AnswersEach};
 ghost use Rattle.vb_kernel.specs.Looks.{looks};
-ghost use Rattle.vb_kernel.specs.Searches.{matching, Searched, IsWithin, Finds};
+ghost use Rattle.vb_kernel.specs.Searches.{matching, Searched, IsWithin, SearchAnswers};
 ghost use Rattle.vb_kernel.specs.Parts.{rest_looks};
 
 use crate::chunk::find_in_chunk;
@@ -107,7 +107,7 @@ fn find_in_chunks<G: Glance>(
 ) -> ControlFlow<usize, usize>
     requires aligned { 0 < chunks → (search.offset + search.from) % 8 ≡ 0 }
     requires within { IsWithin (G.bytes src.old) search (512 * chunks) }
-    ensures found { Finds (G.bytes src.old) search (512 * chunks) result }
+    ensures found { SearchAnswers (G.bytes src.old) search (512 * chunks) result }
     ensures same { G.bytes src.new ≡ G.bytes src.old }
     ensures looks { G.looks src.new ≤ G.looks src.old + chunks }
 {
@@ -136,7 +136,7 @@ fn find_in_many_chunks<G: Glance>(
 ) -> ControlFlow<usize, usize>
     requires aligned { 0 < chunks → (search.offset + search.from) % 8 ≡ 0 }
     requires within { IsWithin (G.bytes src.old) search (512 * chunks) }
-    ensures found { Finds (G.bytes src.old) search (512 * chunks) result }
+    ensures found { SearchAnswers (G.bytes src.old) search (512 * chunks) result }
     ensures same { G.bytes src.new ≡ G.bytes src.old }
     ensures looks { G.looks src.new ≤ G.looks src.old + chunks }
 {

@@ -12,10 +12,10 @@ abbrev pub bytes_until_fault : {R : Type 0} → FaultyReader R → Option ℕ
 bytes_until_fault r = r.until_fault
 
 -- n of what is left before a fault are gone, and where no fault is to come none will
-abbrev pub CountsDown : Option ℕ → Option ℕ → ℕ → Type 0
-CountsDown None new n = new ≡ None
-CountsDown (Some old) None n = ⊥
-CountsDown (Some old) (Some new) n = new + n ≡ old
+abbrev pub LeavesUntilFault : Option ℕ → Option ℕ → ℕ → Type 0
+LeavesUntilFault None new n = new ≡ None
+LeavesUntilFault (Some old) None n = ⊥
+LeavesUntilFault (Some old) (Some new) n = new + n ≡ old
 
 -- the writer that is written to
 abbrev pub writer_inner : {W : Type 0} → FaultyWriter W → W

@@ -35,7 +35,7 @@ impl<R> FaultyReader<R> {
 }
 
 impl<R: Read> Read for FaultyReader<R> {
-    ghost use Rattle.vb_testing.specs.Faulty.{reader_inner, bytes_until_fault, CountsDown};
+    ghost use Rattle.vb_testing.specs.Faulty.{reader_inner, bytes_until_fault, LeavesUntilFault};
 
     ghost remaining = { λ r. R.remaining (reader_inner r) };
 
@@ -48,7 +48,7 @@ impl<R: Read> Read for FaultyReader<R> {
         ensures bytes { ReadConsumes (R.remaining (reader_inner self.old))
             (R.remaining (reader_inner self.new)) result buf.new }
         ensures counts { IfOk result (λ n.
-            CountsDown (bytes_until_fault self.old) (bytes_until_fault self.new) n) }
+            LeavesUntilFault (bytes_until_fault self.old) (bytes_until_fault self.new) n) }
         ensures fault { bytes_until_fault self.old ≡ Some 0 →
             IsErrAnd result (λ e. error_kind e ≡ ErrorKind.BrokenPipe)
             × (bytes_until_fault self.new ≡ None) × (reader_inner self.new ≡ reader_inner self.old) }

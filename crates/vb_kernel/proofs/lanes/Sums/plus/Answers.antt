@@ -1,9 +1,9 @@
 use Rattle.std.proofs.Common.{arith, ◌∙◌, sym}
-use Rattle.vb_kernel.proofs.LanesLemmas.{Words-wrapped, sum-wrapped}
+use Rattle.vb_kernel.proofs.LanesLemmas.{EightWords-wrapped, sum-wrapped}
 use Rattle.vb_kernel.proofs.lanes.Sums.plus.Goals as goal
 
 pub invariant_of-result : goal.invariant_of-result
-invariant_of-result c = Words-wrapped c.self.inside.lanes c.other.inside.lanes c.self.invariant c.other.invariant
+invariant_of-result c = EightWords-wrapped c.self.inside.lanes c.other.inside.lanes c.self.invariant c.other.invariant
 
 pub returns : goal.returns
 returns c =
