@@ -6,7 +6,7 @@ use Rattle.vb_mem.specs.SharedBuffer.{SharedBuffer, IsAlignedTo, CanSlice, CanNa
 
 -- so many bytes on, a multiple of the alignment, the alignment is there again
 pub can_slice-narrow : {T : Type 0} (size least : ℕ) (b : SharedBuffer T) (start end alignment : ℕ)
-    → alignment ≡ b.alignment → least ≤ alignment → alignment ≤ b.declared → IsAlignedTo b alignment
+    → alignment ≡ b.exponent → least ≤ alignment → alignment ≤ b.declared_exponent → IsAlignedTo b alignment
     → CanNarrow size least b start end → CanSlice size least b start end alignment
 can_slice-narrow size least b start end alignment same at_least fits aligned can =
     elim can [

@@ -9,26 +9,26 @@ use Rattle.vb_mem.specs.SharedBuffer.{SharedBuffer, IsPlaceAligned}
 module _ {T A : Type 0} where
   -- what is seen, where an item has so many bytes
   abbrev pub seen : ℕ → Content T A → SharedBuffer T
-  seen size (Nothing alignment) = record { list = []; alignment = alignment; declared = alignment; place = 0 }
-  seen size (Stored rc None) = record { list = rc.value.list; alignment = rc.value.alignment; declared = rc.value.declared; place = 0 }
-  seen size (Stored rc (Some window)) = record { list = take window.len (drop window.start rc.value.list); alignment = window.alignment; declared = rc.value.declared; place = window.start * size }
+  seen size (Nothing exponent) = record { list = []; exponent = exponent; declared_exponent = exponent; place = 0 }
+  seen size (Stored rc None) = record { list = rc.value.list; exponent = rc.value.exponent; declared_exponent = rc.value.declared_exponent; place = 0 }
+  seen size (Stored rc (Some window)) = record { list = take window.len (drop window.start rc.value.list); exponent = window.alignment; declared_exponent = rc.value.declared_exponent; place = window.start * size }
 
   -- a window lies in its storage and ends within `usize`, and its place has the alignment that it reports, which is at least that of an item
   abbrev pub IsSound : ℕ → ℕ → Content T A → Type 0
-  IsSound size least (Nothing alignment) = least ≤ alignment
+  IsSound size least (Nothing exponent) = least ≤ exponent
   IsSound size least (Stored rc None) = Unit {0}
   IsSound size least (Stored rc (Some window)) =
       (window.start + window.len ≤ length rc.value.list) × (window.start + window.len < 2 ^ 64)
-      × (0 < window.len → IsPlaceAligned (window.start * size) rc.value.declared window.alignment)
-      × (least ≤ window.alignment) × (window.alignment ≤ rc.value.declared)
+      × (0 < window.len → IsPlaceAligned (window.start * size) rc.value.declared_exponent window.alignment)
+      × (least ≤ window.alignment) × (window.alignment ≤ rc.value.declared_exponent)
 
   -- all of a storage is shown, and P holds of what is in it
   abbrev pub IsWhole : (OpenBuffer T → Type 0) → Content T A → Type 0
-  IsWhole P (Nothing alignment) = ⊥
+  IsWhole P (Nothing exponent) = ⊥
   IsWhole P (Stored rc None) = P rc.value
   IsWhole P (Stored rc (Some window)) = ⊥
 
   -- the same storage with other items and alignments
   abbrev pub with_stored : Content T A → OpenBuffer T → Content T A
-  with_stored (Nothing alignment) growing = Nothing alignment
+  with_stored (Nothing exponent) growing = Nothing exponent
   with_stored (Stored rc window) growing = Stored (rc_with_value rc growing) window

@@ -5,21 +5,21 @@ use Rattle.std.specs.List.{refill}
 -- a growing buffer: its items, the exponents of its reported and its declared alignment, and how many items fit without more memory
 pub record OpenBuffer (T : Type 0) : Type 0 where
   pub list : List T
-  pub alignment : ℕ
-  pub declared : ℕ
+  pub exponent : ℕ
+  pub declared_exponent : ℕ
   pub room : ℕ
 
 -- a buffer has these items, reports this alignment, and its storage is declared with that one
 pub record Holds {T : Type 0} (items : List T) (reported kept : ℕ) (b : OpenBuffer T) : Type 0 where
   pub list : b.list ≡ items
-  pub alignment : b.alignment ≡ reported
-  pub declared : b.declared ≡ kept
+  pub alignment : b.exponent ≡ reported
+  pub declared : b.declared_exponent ≡ kept
 
 -- the items were added at the end; both alignments stayed, and the room didn't shrink
 pub record Lengthens {T : Type 0} (added : List T) (old new : OpenBuffer T) : Type 0 where
   pub list : new.list ≡ old.list ++ added
-  pub alignment : new.alignment ≡ old.alignment
-  pub declared : new.declared ≡ old.declared
+  pub alignment : new.exponent ≡ old.exponent
+  pub declared : new.declared_exponent ≡ old.declared_exponent
   pub room : old.room ≤ new.room
 
 -- so many more items fit without more memory

@@ -70,9 +70,9 @@ impl<T: Element, A: Allocator> Buffer<T, A> {
     /// The alignment that the buffer reports: at least that of an item, at most the declared one, and one that the
     /// buffer is aligned to.
     pub fn alignment(&self) -> Alignment
-        ensures value { result ≡ self.now.alignment }
+        ensures value { result ≡ self.now.exponent }
         ensures at_least { T.align_exponent ≤ result }
-        ensures fits { result ≤ self.now.declared }
+        ensures fits { result ≤ self.now.declared_exponent }
         ensures aligned { IsAlignedTo self.now result }
     {
         match &self.content {
@@ -84,8 +84,8 @@ impl<T: Element, A: Allocator> Buffer<T, A> {
 
     /// The alignment that the storage is declared with; of an empty buffer, one that is at least the reported one.
     pub fn declared(&self) -> Alignment
-        ensures value { result ≡ self.now.declared }
-        ensures at_least { self.now.alignment ≤ result }
+        ensures value { result ≡ self.now.declared_exponent }
+        ensures at_least { self.now.exponent ≤ result }
     {
         match &self.content {
             Content::Nothing(alignment) => *alignment,
@@ -105,7 +105,7 @@ impl<T: Element, A: Allocator> Buffer<T, A> {
     /// Drops all items. The alignment stays.
     pub fn clear(&mut self)
         ensures list { self.new.list ≡ [] }
-        ensures alignment { self.new.alignment ≡ self.old.alignment }
+        ensures alignment { self.new.exponent ≡ self.old.exponent }
     {
         self.content = Content::Nothing(self.alignment());
     }

@@ -36,7 +36,7 @@ impl<T: Element, A: Allocator> Model for BufferMut<T, A> {
 
     ghost Value = { OpenBuffer T };
 
-    ghost view = { λ b. record { list = b.items.items; alignment = b.alignment; declared = b.declared; room = vec_capacity b.items } };
+    ghost view = { λ b. record { list = b.items.items; exponent = b.alignment; declared_exponent = b.declared; room = vec_capacity b.items } };
 
     ghost invariant = { λ b. record { at_least : T.align_exponent ≤ b.alignment; fits : b.alignment ≤ b.declared } };
 }
@@ -44,17 +44,17 @@ impl<T: Element, A: Allocator> Model for BufferMut<T, A> {
 impl<T: Element, A: Allocator> BufferMut<T, A> {
     /// The alignment that the buffer reports: at least that of an item, at most the declared one.
     pub fn alignment(&self) -> Alignment
-        ensures value { result ≡ self.now.alignment }
+        ensures value { result ≡ self.now.exponent }
         ensures at_least { T.align_exponent ≤ result }
-        ensures fits { result ≤ self.now.declared }
+        ensures fits { result ≤ self.now.declared_exponent }
     {
         self.alignment
     }
 
     /// The alignment that the storage is declared with.
     pub fn declared(&self) -> Alignment
-        ensures value { result ≡ self.now.declared }
-        ensures at_least { self.now.alignment ≤ result }
+        ensures value { result ≡ self.now.declared_exponent }
+        ensures at_least { self.now.exponent ≤ result }
     {
         self.declared
     }
@@ -114,8 +114,8 @@ impl<T: Element, A: Allocator> BufferMut<T, A> {
     pub(crate) fn narrow(&mut self, window: Window)
         requires within { window.start + window.len ≤ length self.old.list }
         requires at_least { T.align_exponent ≤ window.alignment }
-        requires fits { window.alignment ≤ self.old.declared }
-        ensures { Holds (take window.len (drop window.start self.old.list)) window.alignment self.old.declared self.new }
+        requires fits { window.alignment ≤ self.old.declared_exponent }
+        ensures { Holds (take window.len (drop window.start self.old.list)) window.alignment self.old.declared_exponent self.new }
     {
         let Window {
             start,

@@ -54,7 +54,7 @@ impl<T: Element, A: Allocator> Content<T, A> {
     pub(crate) fn narrowed(self, range: Range<usize>, alignment: Alignment) -> Self
         requires sound { IsSound T.SIZE T.align_exponent self }
         requires can_slice { CanSlice T.SIZE T.align_exponent (seen T.SIZE self) range.start range.end alignment }
-        ensures shows { Shows (slice_range (seen T.SIZE self).list range.start range.end) alignment ((seen T.SIZE self).place + range.start * T.SIZE) (seen T.SIZE self).declared (seen T.SIZE result) }
+        ensures shows { Shows (slice_range (seen T.SIZE self).list range.start range.end) alignment ((seen T.SIZE self).place + range.start * T.SIZE) (seen T.SIZE self).declared_exponent (seen T.SIZE result) }
         ensures sound { IsSound T.SIZE T.align_exponent result }
     {
         if range.start == range.end {

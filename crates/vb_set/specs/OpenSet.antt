@@ -12,7 +12,7 @@ pub record OpenSet : Type 0 where
   pub bits : List Bool
   pub offset : ℕ
   pub bytes : List ℕ
-  pub alignment : ℕ
+  pub exponent : ℕ
   pub room : ℕ
 
 -- how many bits from bit o on have room in n bytes, where a bit's number is one of 64 bits
@@ -30,20 +30,20 @@ pub record IsEmptySet (exponent : ℕ) (s : OpenSet) : Type 0 where
   pub bits : s.bits ≡ []
   pub offset : s.offset ≡ 0
   pub bytes : s.bytes ≡ []
-  pub alignment : s.alignment ≡ exponent
+  pub alignment : s.exponent ≡ exponent
 
 -- an edit in place: offset, alignment, room and the numbers of bits and bytes stay
 pub record KeepsLayout (old new : OpenSet) : Type 0 where
   pub len : length new.bits ≡ length old.bits
   pub offset : new.offset ≡ old.offset
   pub byte_len : length new.bytes ≡ length old.bytes
-  pub alignment : new.alignment ≡ old.alignment
+  pub alignment : new.exponent ≡ old.exponent
   pub room : new.room ≡ old.room
 
 -- growth: offset and alignment stay, and the room does not shrink
 pub record Grows (old new : OpenSet) : Type 0 where
   pub offset : new.offset ≡ old.offset
-  pub alignment : new.alignment ≡ old.alignment
+  pub alignment : new.exponent ≡ old.exponent
   pub room : old.room ≤ new.room
 
 -- the n bits of a list are added behind the others, in bytes that are lengthened where they need more

@@ -42,7 +42,7 @@ impl<A: Allocator + Clone> Model for BitBuffer<A> {
       inside : s.offset + s.len ≤ 8 * length s.buffer.list;
       first_byte : s.offset < 8;
       fits : s.offset + s.len < 2 ^ 64;
-      alignment : s.buffer.alignment ≡ 0;
+      alignment : s.buffer.exponent ≡ 0;
     } };
 }
 
@@ -74,7 +74,7 @@ impl<A: Allocator + Clone> BitBuffer<A> {
     pub fn inner(&self) -> &ByteBuffer<A>
         ensures bytes { result.now.list ≡ self.now.bytes }
         ensures window { IsWindow result.now.list self.now.offset self.now.bits }
-        ensures alignment { result.now.alignment ≡ 0 }
+        ensures alignment { result.now.exponent ≡ 0 }
     {
         &self.buffer
     }
@@ -86,7 +86,7 @@ impl<A: Allocator + Clone> BitBuffer<A> {
         ensures len { result.1 ≡ length self.bits }
         ensures bytes { result.2.list ≡ self.bytes }
         ensures window { IsWindow result.2.list self.offset self.bits }
-        ensures alignment { result.2.alignment ≡ 0 }
+        ensures alignment { result.2.exponent ≡ 0 }
     {
         (self.offset, self.len, self.buffer)
     }

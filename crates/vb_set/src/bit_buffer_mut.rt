@@ -39,7 +39,7 @@ impl<A: Allocator + Clone> Model for BitBufferMut<A> {
       bits = bits s.buffer.list s.offset s.len;
       offset = s.offset;
       bytes = s.buffer.list;
-      alignment = s.buffer.alignment;
+      exponent = s.buffer.exponent;
       room = bit_room s.buffer.room s.offset;
     } };
 
@@ -101,7 +101,7 @@ impl<A: Allocator + Clone> BitBufferMut<A> {
     pub fn inner(&self) -> &ByteBufferMut<A>
         ensures bytes { result.now.list ≡ self.now.bytes }
         ensures window { IsWindow result.now.list self.now.offset self.now.bits }
-        ensures alignment { result.now.alignment ≡ self.now.alignment }
+        ensures alignment { result.now.exponent ≡ self.now.exponent }
         ensures room { self.now.room ≡ bit_room result.now.room self.now.offset }
     {
         &self.buffer
@@ -111,7 +111,7 @@ impl<A: Allocator + Clone> BitBufferMut<A> {
     pub fn into_inner(self) -> ByteBufferMut<A>
         ensures bytes { result.list ≡ self.bytes }
         ensures window { IsWindow result.list self.offset self.bits }
-        ensures alignment { result.alignment ≡ self.alignment }
+        ensures alignment { result.exponent ≡ self.exponent }
         ensures room { self.room ≡ bit_room result.room self.offset }
     {
         self.buffer

@@ -32,7 +32,7 @@ pub(crate) fn push_bit<A: Allocator + Clone>(
         ≡ max (length bytes.old.list) (div_ceil (end + 1) 8)) }
     ensures bits { OnOk result (Writes (lengthened bytes.old.list bytes.new.list) bytes.new.list
         end (v ∷ [])) }
-    ensures alignment { bytes.new.alignment ≡ bytes.old.alignment }
+    ensures alignment { bytes.new.exponent ≡ bytes.old.exponent }
     ensures room { bytes.old.room ≤ bytes.new.room }
     ensures in_room { end + 1 ≤ 8 * max (length bytes.old.list) bytes.old.room → IsOk result }
     ensures err { OnErr result (bytes.new ≡ bytes.old) }
@@ -85,7 +85,7 @@ pub(crate) fn push_bits<A: Allocator + Clone>(
         ≡ max (length bytes.old.list) (div_ceil (start + n) 8)) }
     ensures bits { OnOk result (Writes (lengthened bytes.old.list bytes.new.list) bytes.new.list
         start (replicate n v)) }
-    ensures alignment { bytes.new.alignment ≡ bytes.old.alignment }
+    ensures alignment { bytes.new.exponent ≡ bytes.old.exponent }
     ensures room { bytes.old.room ≤ bytes.new.room }
     ensures in_room { start + n ≤ 8 * max (length bytes.old.list) bytes.old.room → IsOk result }
     ensures err { OnErr result (bytes.new ≡ bytes.old) }
@@ -133,7 +133,7 @@ pub(crate) fn byte_of(v: bool) -> u8
 /// The same bytes, with alignment 1.
 pub(crate) fn unaligned<A: Allocator + Clone>(bytes: ByteBuffer<A>) -> ByteBuffer<A>
     ensures list { result.list ≡ bytes.list }
-    ensures alignment { result.alignment ≡ 0 }
+    ensures alignment { result.exponent ≡ 0 }
 {
     match bytes.ensure_aligned(Alignment::none()) {
         Ok(bytes) => bytes,

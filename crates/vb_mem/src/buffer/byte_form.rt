@@ -24,7 +24,7 @@ impl<T: Element, A: Allocator + Clone> Buffer<T, A> {
     /// The bytes of the items, of the same alignment, copied. Refused with `TooManyBytes` where their number passes
     /// `usize`, and else with `OutOfMemory`; the buffer is gone then.
     pub fn into_byte_buffer(self) -> Result<Buffer<u8, A>, BufferError>
-        ensures ok { IfOk result (Shows (byteform T.form self.list) self.alignment 0 (over_aligned self.alignment)) }
+        ensures ok { IfOk result (Shows (byteform T.form self.list) self.exponent 0 (over_aligned self.exponent)) }
         ensures fits { length self.list * T.SIZE < 2 ^ 64 → IsOkUnless result BufferError.OutOfMemory }
         ensures too_many { 2 ^ 64 ≤ length self.list * T.SIZE → IsErrOf result BufferError.TooManyBytes }
     {

@@ -16,7 +16,7 @@ impl<T: Element, A: Allocator> Buffer<T, A> {
     /// The same items, to be changed, at the front of their storage, where no other buffer shares it; else the buffer is
     /// given back. It takes no memory, and the time that the items of a part take to be moved to the front.
     pub fn try_into_mut(self) -> Result<BufferMut<T, A>, Self>
-        ensures ok { IfOk result (Holds self.list self.alignment self.declared) }
+        ensures ok { IfOk result (Holds self.list self.exponent self.declared_exponent) }
         ensures err { IfErr result (λ b. b ≡ self) }
     {
         let Buffer { content, alloc } = self;
@@ -43,7 +43,7 @@ impl<T: Element, A: Allocator> Buffer<T, A> {
     /// `NotAligned` exactly where [`Buffer::is_aligned`] is false of it; the buffer is gone then.
     pub fn ensure_aligned(self, alignment: Alignment) -> Result<Self, BufferError>
         requires { T.align_exponent ≤ alignment }
-        ensures aligned { IsAlignedTo self alignment → IsOkAnd result (Shows self.list alignment self.place self.declared) }
+        ensures aligned { IsAlignedTo self alignment → IsOkAnd result (Shows self.list alignment self.place self.declared_exponent) }
         ensures not_aligned { ¬ (IsAlignedTo self alignment) → IsErrOf result BufferError.NotAligned }
     {
         if !self.is_aligned(alignment) {
@@ -76,8 +76,8 @@ impl<T: Element, A: Allocator + Clone> Buffer<T, A> {
     /// gone then.
     pub fn into_mut(self) -> Result<BufferMut<T, A>, BufferError>
         ensures list { IfOk result (λ b. b.list ≡ self.list) }
-        ensures alignment { IfOk result (λ b. b.alignment ≡ self.alignment) }
-        ensures declared { IfOk result (λ b. (b.declared ≡ self.declared) ⊎ (b.declared ≡ over_aligned self.alignment)) }
+        ensures alignment { IfOk result (λ b. b.exponent ≡ self.exponent) }
+        ensures declared { IfOk result (λ b. (b.declared_exponent ≡ self.declared_exponent) ⊎ (b.declared_exponent ≡ over_aligned self.exponent)) }
         ensures refused { IsOkUnless result BufferError.OutOfMemory }
     {
         match self.try_into_mut() {
@@ -94,7 +94,7 @@ impl<T: Element, A: Allocator + Clone> Buffer<T, A> {
     /// `OutOfMemory`; the buffer is gone then.
     pub fn aligned(self, alignment: Alignment) -> Result<Self, BufferError>
         requires { T.align_exponent ≤ alignment }
-        ensures in_place { IsAlignedTo self alignment → IsOkAnd result (Shows self.list alignment self.place self.declared) }
+        ensures in_place { IsAlignedTo self alignment → IsOkAnd result (Shows self.list alignment self.place self.declared_exponent) }
         ensures copied { ¬ (IsAlignedTo self alignment) → IfOk result (Shows self.list alignment 0 (over_aligned alignment)) }
         ensures refused { IsOkUnless result BufferError.OutOfMemory }
     {
@@ -115,8 +115,8 @@ impl<T: Element, A: Allocator + Clone> Buffer<T, A> {
     pub fn items_mut(&mut self) -> Result<&mut BufferMut<T, A>, BufferError>
         ensures* writes_back { sem 𝓛 (LendsAll T.row A.row T.Element A.Allocator self.entry result) }
         ensures list { IfOk result (λ growing. growing.now.list ≡ self.old.list) }
-        ensures alignment { IfOk result (λ growing. growing.now.alignment ≡ self.old.alignment) }
-        ensures declared { IfOk result (λ growing. (growing.now.declared ≡ self.old.declared) ⊎ (growing.now.declared ≡ over_aligned self.old.alignment)) }
+        ensures alignment { IfOk result (λ growing. growing.now.exponent ≡ self.old.exponent) }
+        ensures declared { IfOk result (λ growing. (growing.now.declared_exponent ≡ self.old.declared_exponent) ⊎ (growing.now.declared_exponent ≡ over_aligned self.old.exponent)) }
         ensures refused { IsOkUnless result BufferError.OutOfMemory }
     {
         if self.content.narrow_lone() {

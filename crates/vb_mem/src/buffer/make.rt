@@ -16,7 +16,7 @@ impl<T: Element, A: Allocator> Buffer<T, A> {
     /// No items and no storage, of the alignment of an item. It takes no memory.
     pub fn empty(alloc: A) -> Self
         ensures list { result.list ≡ [] }
-        ensures alignment { result.alignment ≡ T.align_exponent }
+        ensures alignment { result.exponent ≡ T.align_exponent }
     {
         Buffer::empty_aligned(alloc, Alignment::of::<T>())
     }
@@ -25,7 +25,7 @@ impl<T: Element, A: Allocator> Buffer<T, A> {
     pub fn empty_aligned(alloc: A, alignment: Alignment) -> Self
         requires { T.align_exponent ≤ alignment }
         ensures list { result.list ≡ [] }
-        ensures alignment { result.alignment ≡ alignment }
+        ensures alignment { result.exponent ≡ alignment }
     {
         Buffer {
             content: Content::Nothing(alignment),
@@ -151,7 +151,7 @@ impl<T: Element, A: Allocator + Clone> Buffer<T, A> {
 
     /// A growing buffer, to be shared; its storage is handed on. Refused with `OutOfMemory`; the buffer is gone then.
     pub fn from_mut(growing: BufferMut<T, A>) -> Result<Self, BufferError>
-        ensures ok { IfOk result (Shows growing.list growing.alignment 0 growing.declared) }
+        ensures ok { IfOk result (Shows growing.list growing.exponent 0 growing.declared_exponent) }
         ensures refused { IsOkUnless result BufferError.OutOfMemory }
     {
         let alloc = growing.items.allocator().clone()?;

@@ -28,7 +28,7 @@ impl<T: Element, A: Allocator> Buffer<T, A> {
     /// range starts a multiple of that many bytes on. It takes no memory.
     pub fn narrow(&mut self, range: Range<usize>)
         requires { CanNarrow T.SIZE T.align_exponent self.old range.start range.end }
-        ensures { Shows (slice_range self.old.list range.start range.end) self.old.alignment (self.old.place + range.start * T.SIZE) self.old.declared self.new }
+        ensures { Shows (slice_range self.old.list range.start range.end) self.old.exponent (self.old.place + range.start * T.SIZE) self.old.declared_exponent self.new }
     {
         let alignment = self.alignment();
         self.narrow_with_alignment(range, alignment);
@@ -37,7 +37,7 @@ impl<T: Element, A: Allocator> Buffer<T, A> {
     // Keeps the items of a range and reports an alignment, for which `can_slice` holds.
     pub(super) fn narrow_with_alignment(&mut self, range: Range<usize>, alignment: Alignment)
         requires { CanSlice T.SIZE T.align_exponent self.old range.start range.end alignment }
-        ensures { Shows (slice_range self.old.list range.start range.end) alignment (self.old.place + range.start * T.SIZE) self.old.declared self.new }
+        ensures { Shows (slice_range self.old.list range.start range.end) alignment (self.old.place + range.start * T.SIZE) self.old.declared_exponent self.new }
     {
         let content = mem::replace(&mut self.content, Content::Nothing(alignment));
         self.content = content.narrowed(range, alignment);
@@ -49,7 +49,7 @@ impl<T: Element, A: Allocator + Clone> Buffer<T, A> {
     /// does where the range starts a multiple of that many bytes on. The part shares the storage. Refused with `OutOfMemory` where a copy of the allocator finds no memory.
     pub fn slice(&self, range: Range<usize>) -> Result<Self, BufferError>
         requires { CanNarrow T.SIZE T.align_exponent self.now range.start range.end }
-        ensures ok { IfOk result (Shows (slice_range self.now.list range.start range.end) self.now.alignment (self.now.place + range.start * T.SIZE) self.now.declared) }
+        ensures ok { IfOk result (Shows (slice_range self.now.list range.start range.end) self.now.exponent (self.now.place + range.start * T.SIZE) self.now.declared_exponent) }
         ensures refused { IsOkUnless result BufferError.OutOfMemory }
     {
         let alignment = self.alignment();
@@ -64,7 +64,7 @@ impl<T: Element, A: Allocator + Clone> Buffer<T, A> {
         alignment: Alignment,
     ) -> Result<Self, BufferError>
         requires { CanSlice T.SIZE T.align_exponent self.now range.start range.end alignment }
-        ensures ok { IfOk result (Shows (slice_range self.now.list range.start range.end) alignment (self.now.place + range.start * T.SIZE) self.now.declared) }
+        ensures ok { IfOk result (Shows (slice_range self.now.list range.start range.end) alignment (self.now.place + range.start * T.SIZE) self.now.declared_exponent) }
         ensures refused { IsOkUnless result BufferError.OutOfMemory }
     {
         let mut part = self.clone()?;
@@ -77,7 +77,7 @@ impl<T: Element, A: Allocator + Clone> Buffer<T, A> {
     pub fn slice_unaligned(&self, range: Range<usize>) -> Result<Self, BufferError>
         requires start_le_end { range.start ≤ range.end }
         requires in_bounds { range.end ≤ length self.now.list }
-        ensures ok { IfOk result (Shows (slice_range self.now.list range.start range.end) T.align_exponent (self.now.place + range.start * T.SIZE) self.now.declared) }
+        ensures ok { IfOk result (Shows (slice_range self.now.list range.start range.end) T.align_exponent (self.now.place + range.start * T.SIZE) self.now.declared_exponent) }
         ensures refused { IsOkUnless result BufferError.OutOfMemory }
     {
         // Its contract says of the place what the call below asks for.

@@ -15,7 +15,7 @@ impl<T: Element, A: Allocator + Clone> BufferMut<T, A> {
     /// the allocator finds no memory; the buffer is unchanged then.
     pub fn take(&mut self) -> Result<Self, BufferError>
         ensures taken { IfOk result (λ b. b ≡ self.old) }
-        ensures left { OnOk result (Holds [] self.old.alignment (over_aligned self.old.alignment) self.new) }
+        ensures left { OnOk result (Holds [] self.old.exponent (over_aligned self.old.exponent) self.new) }
         ensures err { OnErr result (self.new ≡ self.old) }
         ensures refused { IsOkUnless result BufferError.OutOfMemory }
     {
@@ -26,7 +26,7 @@ impl<T: Element, A: Allocator + Clone> BufferMut<T, A> {
 
     /// A copy of the same alignment, as a block, over-aligned to 256 bytes. Refused with `OutOfMemory`.
     pub fn clone(&self) -> Result<Self, BufferError>
-        ensures ok { IfOk result (Holds self.now.list self.now.alignment (over_aligned self.now.alignment)) }
+        ensures ok { IfOk result (Holds self.now.list self.now.exponent (over_aligned self.now.exponent)) }
         ensures refused { IsOkUnless result BufferError.OutOfMemory }
     {
         let alloc = self.items.allocator().clone()?;
@@ -38,9 +38,9 @@ impl<T: Element, A: Allocator + Clone> BufferMut<T, A> {
     /// other one are copied. Refused with `OutOfMemory`; the buffer is gone then.
     pub fn aligned(self, alignment: Alignment) -> Result<Self, BufferError>
         requires { T.align_exponent ≤ alignment }
-        ensures in_place { (self.list ≡ []) ⊎ (alignment ≤ self.declared) →
-            IsOkAnd result (λ b. b ≡ record self { alignment = alignment; declared = max self.declared alignment }) }
-        ensures copied { 0 < length self.list → self.declared < alignment → IfOk result (Holds self.list alignment (over_aligned alignment)) }
+        ensures in_place { (self.list ≡ []) ⊎ (alignment ≤ self.declared_exponent) →
+            IsOkAnd result (λ b. b ≡ record self { exponent = alignment; declared_exponent = max self.declared_exponent alignment }) }
+        ensures copied { 0 < length self.list → self.declared_exponent < alignment → IfOk result (Holds self.list alignment (over_aligned alignment)) }
         ensures refused { IsOkUnless result BufferError.OutOfMemory }
     {
         if !self.items.is_empty() && self.declared < alignment {
@@ -56,7 +56,7 @@ impl<T: Element, A: Allocator + Clone> BufferMut<T, A> {
     /// The same items, to be shared, in constant time: the storage is handed on, and memory is taken for its count of
     /// owners alone. Refused with `OutOfMemory`; the buffer is gone then.
     pub fn freeze(self) -> Result<Buffer<T, A>, BufferError>
-        ensures ok { IfOk result (Shows self.list self.alignment 0 self.declared) }
+        ensures ok { IfOk result (Shows self.list self.exponent 0 self.declared_exponent) }
         ensures refused { IsOkUnless result BufferError.OutOfMemory }
     {
         Buffer::from_mut(self)
@@ -65,7 +65,7 @@ impl<T: Element, A: Allocator + Clone> BufferMut<T, A> {
     /// The bytes of the items, of the same alignment, copied. Refused with `TooManyBytes` where their number passes
     /// `usize`, and else with `OutOfMemory`; the buffer is gone then.
     pub fn into_byte_buffer(self) -> Result<BufferMut<u8, A>, BufferError>
-        ensures ok { IfOk result (Holds (byteform T.form self.list) self.alignment (over_aligned self.alignment)) }
+        ensures ok { IfOk result (Holds (byteform T.form self.list) self.exponent (over_aligned self.exponent)) }
         ensures fits { length self.list * T.SIZE < 2 ^ 64 → IsOkUnless result BufferError.OutOfMemory }
         ensures too_many { 2 ^ 64 ≤ length self.list * T.SIZE → IsErrOf result BufferError.TooManyBytes }
     {

@@ -29,7 +29,7 @@ impl<A: Allocator + Clone> BitBuffer<A> {
         ensures bits { IfOk result (λ s. s.bits ≡ self.bits) }
         ensures offset { IfOk result (λ s. s.offset ≡ self.offset) }
         ensures bytes { IfOk result (λ s. s.bytes ≡ self.bytes) }
-        ensures alignment { IfOk result (λ s. s.alignment ≡ 0) }
+        ensures alignment { IfOk result (λ s. s.exponent ≡ 0) }
         ensures shared { IfErr result (λ s. s ≡ self) }
     {
         let BitBuffer {

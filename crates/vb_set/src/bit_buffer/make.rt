@@ -42,7 +42,7 @@ impl<A: Allocator + Clone> BitBuffer<A> {
     pub(super) fn window_of(buffer: ByteBuffer<A>, len: usize, offset: usize) -> Self
         requires inside { offset + len ≤ 8 * length buffer.list }
         requires fits { offset + len < 2 ^ 64 }
-        requires alignment { buffer.alignment ≡ 0 }
+        requires alignment { buffer.exponent ≡ 0 }
         ensures bits { result.bits ≡ bits buffer.list offset len }
         ensures len { length result.bits ≡ len }
         ensures offset { result.offset ≡ offset % 8 }

@@ -24,7 +24,7 @@ impl<A: Allocator + Clone> BitBufferMut<A> {
     /// room are unchanged.
     pub fn take(&mut self) -> Result<Self, BufferError>
         ensures taken { IfOk result (λ s. s ≡ self.old) }
-        ensures left { OnOk result (IsEmptySet self.old.alignment self.new) }
+        ensures left { OnOk result (IsEmptySet self.old.exponent self.new) }
         ensures refused { IsOkUnless result BufferError.OutOfMemory }
         ensures err { OnErr result (self.new ≡ self.old) }
     {

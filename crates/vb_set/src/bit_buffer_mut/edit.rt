@@ -77,7 +77,7 @@ impl<A: Allocator + Clone> BitBufferMut<A> {
 
     /// Leaves no bits and no bytes, with the offset 0. The room doesn't fall.
     pub fn clear(&mut self)
-        ensures left { IsEmptySet self.old.alignment self.new }
+        ensures left { IsEmptySet self.old.exponent self.new }
         ensures room { self.old.room ≤ self.new.room }
     {
         self.buffer.clear();

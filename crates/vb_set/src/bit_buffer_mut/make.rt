@@ -23,7 +23,7 @@ impl<A: Allocator + Clone> BitBufferMut<A> {
         ensures len { length result.bits ≡ len }
         ensures offset { result.offset ≡ offset }
         ensures bytes { result.bytes ≡ buffer.list }
-        ensures alignment { result.alignment ≡ buffer.alignment }
+        ensures alignment { result.exponent ≡ buffer.exponent }
         ensures room { result.room ≡ bit_room buffer.room offset }
     {
         BitBufferMut {
@@ -49,7 +49,7 @@ impl<A: Allocator + Clone> BitBufferMut<A> {
         ensures len { IfOk result (λ s. length s.bits ≡ n) }
         ensures offset { IfOk result (λ s. s.offset ≡ 0) }
         ensures bytes { IfOk result (λ s. length s.bytes ≡ div_ceil n 8) }
-        ensures alignment { IfOk result (λ s. s.alignment ≡ 0) }
+        ensures alignment { IfOk result (λ s. s.exponent ≡ 0) }
         ensures refused { IsOkUnless result BufferError.OutOfMemory }
     {
         BitBufferMut::full(alloc, true, n)
@@ -61,7 +61,7 @@ impl<A: Allocator + Clone> BitBufferMut<A> {
         ensures len { IfOk result (λ s. length s.bits ≡ n) }
         ensures offset { IfOk result (λ s. s.offset ≡ 0) }
         ensures bytes { IfOk result (λ s. length s.bytes ≡ div_ceil n 8) }
-        ensures alignment { IfOk result (λ s. s.alignment ≡ 0) }
+        ensures alignment { IfOk result (λ s. s.exponent ≡ 0) }
         ensures refused { IsOkUnless result BufferError.OutOfMemory }
     {
         BitBufferMut::full(alloc, false, n)
@@ -73,7 +73,7 @@ impl<A: Allocator + Clone> BitBufferMut<A> {
         ensures len { IfOk result (λ s. length s.bits ≡ n) }
         ensures offset { IfOk result (λ s. s.offset ≡ 0) }
         ensures bytes { IfOk result (λ s. length s.bytes ≡ div_ceil n 8) }
-        ensures alignment { IfOk result (λ s. s.alignment ≡ 0) }
+        ensures alignment { IfOk result (λ s. s.exponent ≡ 0) }
         ensures refused { IsOkUnless result BufferError.OutOfMemory }
     {
         let buffer = BufferMut::full(alloc, byte_of(v), n.div_ceil(8))?;
@@ -93,7 +93,7 @@ impl<A: Allocator + Clone> BitBufferMut<A> {
         ensures bits { IfOk result (λ s. s.bits ≡ set.now.bits) }
         ensures offset { IfOk result (λ s. s.offset ≡ set.now.offset) }
         ensures bytes { IfOk result (λ s. s.bytes ≡ set.now.bytes) }
-        ensures alignment { IfOk result (λ s. s.alignment ≡ 0) }
+        ensures alignment { IfOk result (λ s. s.exponent ≡ 0) }
         ensures refused { IsOkUnless result BufferError.OutOfMemory }
     {
         let buffer = BufferMut::copy_from(alloc, set.inner().as_slice())?;
