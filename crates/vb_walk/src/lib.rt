@@ -5,6 +5,8 @@
 //! and places are counted in bits. No call takes memory.
 #![tactic(auto)]
 
+mod chunks;
 mod meta;
 
+pub use chunks::{BitChunkIterator, BitChunks, PaddedChunkIterator};
 pub use meta::BitBufferMeta;
