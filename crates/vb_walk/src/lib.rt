@@ -6,7 +6,11 @@
 #![tactic(auto)]
 
 mod chunks;
+mod cursor;
+mod index;
 mod meta;
+mod other;
 
 pub use chunks::{BitChunkIterator, BitChunks, PaddedChunkIterator};
+pub use index::BitIndexIterator;
 pub use meta::BitBufferMeta;
