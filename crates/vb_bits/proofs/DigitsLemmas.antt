@@ -42,7 +42,7 @@ same_digits v w a b k h = same_map-range_with_len (has_bit v) (has_bit w) a b k 
 
 -- ---- how many are set
 -- the lowest digit and the others
-digits-suc : (w k : ℕ) → digits w 0 (suc k) ≡ has_bit w 0 ∷ digits (w / 2) 0 k
+pub digits-suc : (w k : ℕ) → digits w 0 (suc k) ≡ has_bit w 0 ∷ digits (w / 2) 0 k
 unfolding digits
 digits-suc w k =
     ap (λ l. has_bit w 0 ∷ l) (same_map-range_with_len (has_bit w) (has_bit (w / 2)) 1 0 k
@@ -51,7 +51,7 @@ digits-suc w k =
     ap (has_bit w) e ∙ ap (λ x. eqb x 1) (bit_at-suc w (0 + i))))
 
 -- the lowest digit as a number
-lowest : (w : ℕ) → cond (has_bit w 0) 1 0 ≡ w % 2
+pub lowest : (w : ℕ) → cond (has_bit w 0) 1 0 ≡ w % 2
 lowest w =
     ap (λ x. cond (eqb x 1) 1 0) (bit_at_lowest w)
     ∙ cond_both (eqb (w % 2) 1) 1 0 (λ x. x ≡ w % 2) (λ t. omega (arith, eqb-true (w % 2) 1 t)) (λ f. let ne = eqb-false (w % 2) 1 f in omega (arith, ne))

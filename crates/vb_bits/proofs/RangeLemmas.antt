@@ -17,7 +17,7 @@ pub map-range_with_len-add : (f : ℕ → Bool) (a m n : ℕ) → map f (range_w
 map-range_with_len-add f a m n = ap (map f) (range_with_len-add a m n) ∙ map-append f (range_with_len a m) (range_with_len (a + m) n)
 
 -- two functions that agree number by number make one list
-pub same_map-range_with_len : (f g : ℕ → Bool) (a b n : ℕ) → ((i : ℕ) → i < n → f (a + i) ≡ g (b + i)) → map f (range_with_len a n) ≡ map g (range_with_len b n)
+pub same_map-range_with_len : {A : Type 0} (f g : ℕ → A) (a b n : ℕ) → ((i : ℕ) → i < n → f (a + i) ≡ g (b + i)) → map f (range_with_len a n) ≡ map g (range_with_len b n)
 same_map-range_with_len f g a b n h =
     same_lists _ _ (length-map-range_with_len f a n ∙ sym (length-map-range_with_len g b n))
     (λ k d l.

@@ -51,7 +51,7 @@ bit_of-take : (m : ℕ) (b : List ℕ) (k : ℕ) → k < 8 * m → bit_of (take 
 bit_of-take m b k h = ap (λ y. has_bit y (k % 8)) (get_or-take m b (k / 8) 0 (omega arith))
 
 -- a bit after the first m bytes
-bit_of-drop : (m : ℕ) (b : List ℕ) (k : ℕ) → bit_of (drop m b) k ≡ bit_of b (8 * m + k)
+pub bit_of-drop : (m : ℕ) (b : List ℕ) (k : ℕ) → bit_of (drop m b) k ≡ bit_of b (8 * m + k)
 bit_of-drop m b k =
     let byte : m + k / 8 ≡ (8 * m + k) / 8 = omega arith in
     let digit : k % 8 ≡ (8 * m + k) % 8 = omega arith in

@@ -225,16 +225,16 @@ Writes_xor_mask b o n within there =
 
 -- ---- runs of bytes
 -- a byte of a run that was written
-get_or-put_mid_inside : (a k : ℕ) (xs ys : List ℕ) (j : ℕ) → length ys ≡ k → a + k ≤ length xs → j < k → get_or (put_mid a k xs ys) (a + j) 0 ≡ get_or ys j 0
+pub get_or-put_mid_inside : (a k : ℕ) (xs ys : List ℕ) (j : ℕ) → length ys ≡ k → a + k ≤ length xs → j < k → get_or (put_mid a k xs ys) (a + j) 0 ≡ get_or ys j 0
 get_or-put_mid_inside a k xs ys j long within h = search (rules, places)
 
 -- a byte outside of the run
-get_or-put_mid_outside : (a k : ℕ) (xs ys : List ℕ) (j : ℕ) → length ys ≡ k → a + k ≤ length xs → (j < a) ⊎ (a + k ≤ j) → get_or (put_mid a k xs ys) j 0 ≡ get_or xs j 0
+pub get_or-put_mid_outside : (a k : ℕ) (xs ys : List ℕ) (j : ℕ) → length ys ≡ k → a + k ≤ length xs → (j < a) ⊎ (a + k ≤ j) → get_or (put_mid a k xs ys) j 0 ≡ get_or xs j 0
 get_or-put_mid_outside a k xs ys j long within (inl h) = search (rules, places)
 get_or-put_mid_outside a k xs ys j long within (inr h) = search (rules, places)
 
 -- as many bytes
-length-put_mid : (a k : ℕ) (xs ys : List ℕ) → length ys ≡ k → a + k ≤ length xs → length (put_mid a k xs ys) ≡ length xs
+pub length-put_mid : (a k : ℕ) (xs ys : List ℕ) → length ys ≡ k → a + k ≤ length xs → length (put_mid a k xs ys) ≡ length xs
 length-put_mid a k xs ys long within = search (rules, places)
 
 -- a run of bytes is written

@@ -1,0 +1,63 @@
+//! Up to 64 bits as one number.
+ghost use Rattle.std.specs.Prelude.{◌≡◌, ◌+◌, ◌*◌, ◌^◌, ◌<◌, ◌≤◌, length};
+ghost use Rattle.vb_bits.specs.Bits.{bits};
+ghost use Rattle.vb_bits.specs.Digits.{digits};
+
+use crate::bytes::word_at;
+
+/// The bytes, at most eight, as one number: its lowest digits are those of the first byte, and its
+/// digits past the last byte are 0.
+pub fn read_u64_le(bytes: &[u8]) -> u64
+    requires { length bytes.now ≤ 8 }
+    ensures { digits result 0 64 ≡ bits bytes.now 0 64 }
+{
+    let mut eight = [0u8; 8];
+    eight[..bytes.len()].copy_from_slice(bytes);
+    u64::from_le_bytes(eight)
+}
+
+/// The window of `count` bits from bit `at` on, at most 64, as one number: its lowest digit is bit
+/// `at`, and its digits from `count` on are 0.
+///
+/// At most nine bytes are read, by one load of eight where so many are left.
+pub fn read_bits(bytes: &[u8], at: usize, count: usize) -> u64
+    requires in_word { count ≤ 64 }
+    requires inside { at + count ≤ 8 * length bytes.now }
+    ensures digits { digits result 0 count ≡ bits bytes.now at count }
+    ensures clear { result < 2 ^ count }
+{
+    let word = realigned(bytes, at, count);
+    if count == 64 {
+        word
+    } else {
+        word & ((1 << count) - 1)
+    }
+}
+
+/// [`read_bits`], with any digits from `count` on.
+fn realigned(bytes: &[u8], at: usize, count: usize) -> u64
+    requires in_word { count ≤ 64 }
+    requires inside { at + count ≤ 8 * length bytes.now }
+    ensures { digits result 0 count ≡ bits bytes.now at count }
+{
+    let first = at / 8;
+    let shift = at % 8;
+    let low = word_from(bytes, first) >> shift;
+    if shift + count > 64 {
+        low | u64::from(bytes[first + 8]) << (64 - shift)
+    } else {
+        low
+    }
+}
+
+/// The eight bytes from byte `first` on, or those that are left, as one number.
+fn word_from(bytes: &[u8], first: usize) -> u64
+    requires { first ≤ length bytes.now }
+    ensures { digits result 0 64 ≡ bits bytes.now (8 * first) 64 }
+{
+    if bytes.len() - first >= 8 {
+        word_at(bytes, first)
+    } else {
+        read_u64_le(&bytes[first..])
+    }
+}

@@ -1,0 +1,29 @@
+-- Lists of truth values as words of 64 digits.
+use Rattle.std.specs.Prelude.{ℕ, ◌+◌, ◌*◌, ◌/◌, Bool, cond, List, [], ◌∷◌, length, map, take, drop, Option, Some, None}
+use Rattle.std.specs.List.{range_with_len}
+
+-- the number whose digits are the values, lowest first
+abbrev pub number : List Bool → ℕ
+number [] = 0
+number (b ∷ l) = cond b 1 0 + 2 * number l
+
+-- word k: the number of the values from place 64 * k on, of which it takes at most 64
+abbrev pub word : List Bool → ℕ → ℕ
+word l k = number (take 64 (drop (64 * k) l))
+
+-- the first n words
+unfoldable pub words : List Bool → ℕ → List ℕ
+words l n = map (word l) (range_with_len 0 n)
+
+-- the words that are full
+abbrev pub full_words : List Bool → List ℕ
+full_words l = words l (length l / 64)
+
+-- the full words, and then always one word more, of the values behind them
+abbrev pub padded : List Bool → List ℕ
+padded l = words l (length l / 64 + 1)
+
+-- the item, if there is one
+abbrev pub item_of : Option ℕ → List ℕ
+item_of None = []
+item_of (Some w) = w ∷ []
