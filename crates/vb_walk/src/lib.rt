@@ -7,6 +7,10 @@
 
 mod chunks;
 mod meta;
+mod mut_view;
+mod view;
 
 pub use chunks::{BitChunkIterator, BitChunks, PaddedChunkIterator};
 pub use meta::BitBufferMeta;
+pub use mut_view::{BitBufferMutView, BitStore};
+pub use view::BitBufferView;
