@@ -1,9 +1,0 @@
--- Bytes that are handed out with the place of a set's bits in them.
-use Rattle.std.specs.Prelude.{◌≡◌, ℕ, ◌+◌, ◌*◌, ◌^◌, ◌<◌, ◌≤◌, Bool, List, length}
-use Rattle.vb_kernel.specs.Bits.{bits}
-
--- the list is the window of the bytes from bit o on, and the window's end is a number of 64 bits
-pub record IsWindow (bytes : List ℕ) (o : ℕ) (list : List Bool) : Type 0 where
-  pub inside : o + length list ≤ 8 * length bytes
-  pub fits : o + length list < 2 ^ 64
-  pub same : bits bytes o (length list) ≡ list
