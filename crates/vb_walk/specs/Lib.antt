@@ -1,2 +1,8 @@
-pub mod Words
+pub mod MutView
+pub mod View
 pub mod Walks
+pub mod Windows
+pub mod Words
+pub use Rattle.vb_bits.specs.Bits
+pub use Rattle.vb_bits.specs.Edits
+pub use Rattle.vb_bits.specs.Writes

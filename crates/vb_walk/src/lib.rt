@@ -9,8 +9,12 @@ mod chunks;
 mod cursor;
 mod index;
 mod meta;
+mod mut_view;
 mod other;
+mod view;
 
 pub use chunks::{BitChunkIterator, BitChunks, PaddedChunkIterator};
 pub use index::BitIndexIterator;
 pub use meta::BitBufferMeta;
+pub use mut_view::{BitBufferMutView, BitStore};
+pub use view::BitBufferView;
