@@ -37,8 +37,8 @@ pub fn unset_bit_unchecked(buf: &mut [u8], i: usize)
     buf[i / 8] &= !(1 << (i % 8));
 }
 
-/// Makes bit `i`, which has to lie in the bytes, `v` and leaves every other bit, without a branch on
-/// `v`.
+/// Makes bit `i`, which has to lie in the bytes, `v` and leaves every other bit, without a branch
+/// on `v`.
 pub fn set_bit_to(buf: &mut [u8], i: usize, v: bool)
     requires { i / 8 < length buf.old }
     ensures { Writes buf.old buf.new i (v ∷ []) }

@@ -15,8 +15,8 @@ use crate::parts::Parts;
 use crate::unit::Unit;
 use crate::word::byte_part;
 
-/// From so many chunks on, adders count. Where a vector has 32 bytes they are faster than the counts
-/// of words, and already from 32 on; where it has 16, that depends on the processor.
+/// From so many chunks on, adders count. Where a vector has 32 bytes they are faster than the
+/// counts of words, and already from 32 on; where it has 16, that depends on the processor.
 const MANY: usize = 64;
 
 /// So many chunks, which are 8 MiB, lie past the caches of most machines.
@@ -149,8 +149,8 @@ pub(crate) fn count_chunks<G: Glance>(src: &mut G, at: usize, n: usize) -> usize
 /// Counts `n` chunks from byte `at` on by the counts of their words.
 ///
 /// Two chunks a turn, which are summed before their sum is added: a compiler that counts the bits
-/// of bytes then adds those counts as bytes and widens them once a turn. It isn't inlined: among the
-/// sums of other parts the compiler no longer sees its four as the lanes of one vector.
+/// of bytes then adds those counts as bytes and widens them once a turn. It isn't inlined: among
+/// the sums of other parts the compiler no longer sees its four as the lanes of one vector.
 #[tactic(auto, using(vb_bits::proofs::BitsLemmas::windows))]
 #[inline(never)]
 fn count_few<G: Glance>(src: &mut G, at: usize, n: usize) -> usize

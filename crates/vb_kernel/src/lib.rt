@@ -1,7 +1,8 @@
 //! Bits over slices of bytes, least significant first: bit `i` is digit `i % 8` of byte `i / 8`.
 //!
 //! A window is the `len` bits from bit `offset` on. It has to lie in the bytes, and its end has to
-//! be a `usize`; [`window_fits`] is the test. Places and counts are of bits, relative to the window.
+//! be a `usize`; [`window_fits`] is the test. Places and counts are of bits, relative to the
+//! window.
 //!
 //! A write changes the bits of its window and no other bit, whichever bytes these share.
 //!

@@ -1,4 +1,5 @@
-//! Edits that take memory: what stands after a refused one, and that none gives up while there is memory.
+//! Edits that take memory: what stands after a refused one, and that none gives up while there is
+//! memory.
 use crate::compared::equal;
 use crate::made::ones;
 use std::alloc::Allocator;

@@ -1,5 +1,5 @@
-//! What calls ask of the allocator: nothing where they share or work in place, and at most twice the bytes that they
-//! need where they copy or grow.
+//! What calls ask of the allocator: nothing where they share or work in place, and at most twice
+//! the bytes that they need where they copy or grow.
 use crate::compared::equal;
 use crate::made::ones;
 use crate::makers::{cloned, copied, sliced, twin};
@@ -49,7 +49,8 @@ fn opened<A: Allocator + Clone>(set: BitBuffer<A>) -> Result<BitBufferMut<A>, Bu
     }
 }
 
-/// The calls, and how many bytes each asks for: at least, and at most. An owner takes less than 256 bytes.
+/// The calls, and how many bytes each asks for: at least, and at most. An owner takes less than 256
+/// bytes.
 const OPEN: &[(Open, usize, usize)] = &[
     // A body that copies the bytes fails here.
     (Open::Freeze, 1, 256),

@@ -1,5 +1,6 @@
-//! Tests of sets of bits: worked rows, edits beside those of plain lists and answers beside those of the kernels, calls
-//! whose requests for memory are refused, and what calls ask of the allocator.
+//! Tests of sets of bits: worked rows, edits beside those of plain lists and answers beside those
+//! of the kernels, calls whose requests for memory are refused, and what calls ask of the
+//! allocator.
 #![tactic(auto)]
 
 #[cfg(test)]

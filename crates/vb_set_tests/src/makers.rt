@@ -1,4 +1,5 @@
-//! Calls that make a set: the bits that they make, and each of their requests for memory refused in turn.
+//! Calls that make a set: the bits that they make, and each of their requests for memory refused in
+//! turn.
 use crate::compared::shows;
 use crate::made::ones;
 use std::alloc::Allocator;

@@ -51,7 +51,8 @@ impl<R: Read> Read for FaultyReader<R> {
             LeavesUntilFault (bytes_until_fault self.old) (bytes_until_fault self.new) n) }
         ensures fault { bytes_until_fault self.old ≡ Some 0 →
             IsErrAnd result (λ e. error_kind e ≡ ErrorKind.BrokenPipe)
-            × (bytes_until_fault self.new ≡ None) × (reader_inner self.new ≡ reader_inner self.old) }
+            × (bytes_until_fault self.new ≡ None)
+            × (reader_inner self.new ≡ reader_inner self.old) }
         ensures err { bytes_until_fault self.old ≢ Some 0 →
             OnErr result (bytes_until_fault self.new ≡ bytes_until_fault self.old) }
     {
@@ -111,7 +112,8 @@ impl<W: Write> Write for FaultyWriter<W> {
         ensures bound { WritesAtMost result buf.now }
         ensures bytes { WriteAppends (W.contents (writer_inner self.old))
             (W.contents (writer_inner self.new)) result buf.now }
-        ensures counts { writes_until_fault self.new ≡ writes_after_one (writes_until_fault self.old) }
+        ensures counts { writes_until_fault self.new
+            ≡ writes_after_one (writes_until_fault self.old) }
         ensures fault { writes_until_fault self.old ≡ Some 0 →
             IsErrAnd result (λ e. error_kind e ≡ ErrorKind.BrokenPipe)
             × (writer_inner self.new ≡ writer_inner self.old) }

@@ -1,4 +1,5 @@
-//! A handle to an allocator that refuses one request, so that a test can let a copy of an allocator fail.
+//! A handle to an allocator that refuses one request, so that a test can let a copy of an allocator
+//! fail.
 ghost use Rattle.std.specs.Prelude.{◌≡◌};
 
 use crate::Refusing;

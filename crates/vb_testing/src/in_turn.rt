@@ -36,8 +36,8 @@ pub struct WrongAnswer<E> {
     pub answer: Result<(), E>,
 }
 
-/// Whether calls answered as they should in a run of [`each_refused`]: `refusal` where a request was
-/// refused, and `Ok` where none was.
+/// Whether calls answered as they should in a run of [`each_refused`]: `refusal` where a request
+/// was refused, and `Ok` where none was.
 pub fn answers_refusal<E: Copy + PartialEq>(
     heap: &Refusing<Global>,
     answer: Result<(), E>,

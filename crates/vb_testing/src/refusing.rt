@@ -1,11 +1,12 @@
-//! An allocator that refuses one request, so that a test can let each request fail in turn, and that counts what is
-//! asked of it, so that a test can hold a call to what it may take.
+//! An allocator that refuses one request, so that a test can let each request fail in turn, and
+//! that counts what is asked of it, so that a test can hold a call to what it may take.
 ghost use Rattle.std.specs.Prelude.{◌≡◌};
 
 use std::alloc::{AllocError, Allocator};
 use std::cell::Cell;
 
-/// Passes requests for memory on to another allocator, counts them and their bytes, and refuses one of them.
+/// Passes requests for memory on to another allocator, counts them and their bytes, and refuses one
+/// of them.
 ///
 /// A `&` to it is an allocator too, which can be copied and shares the count, so code under test
 /// takes `&heap` while the test keeps `heap`, asks it how many requests there were, and refuses
@@ -54,8 +55,8 @@ impl<B: Allocator> Refusing<B> {
         self.requests.asked.get()
     }
 
-    /// How many bytes were asked for since `new` or the last `refuse`, by the refused request too. To grow a block asks
-    /// for all bytes of the greater one. The count stops at `usize::MAX`.
+    /// How many bytes were asked for since `new` or the last `refuse`, by the refused request too.
+    /// To grow a block asks for all bytes of the greater one. The count stops at `usize::MAX`.
     pub fn asked_bytes(&self) -> usize {
         self.requests.bytes.get()
     }
@@ -66,7 +67,8 @@ impl<B: Allocator> Refusing<B> {
         refused > 0 && self.asked() >= refused
     }
 
-    // Counts one request that is none for memory, and answers whether it is the one that is refused.
+    // Counts one request that is none for memory, and answers whether it is the one that is
+    // refused.
     pub(crate) fn refuses_next(&self) -> bool {
         self.requests.refuses_next(0)
     }
@@ -87,7 +89,8 @@ unsafe impl<B: Allocator> Allocator for Refusing<B> {
     }
 }
 
-/// The number of requests so far and of their bytes, and the number of the one that is refused, 0 for none.
+/// The number of requests so far and of their bytes, and the number of the one that is refused, 0
+/// for none.
 #[derive(Drop)]
 struct Requests {
     asked: Cell<u64>,

@@ -3,7 +3,8 @@ use std::alloc::{AllocError, Allocator};
 use std::rc::Rc;
 use std::test::Fail;
 
-// Four requests: a list's block and its growth, a shared number, a text. Answers the sum of what it made.
+// Four requests: a list's block and its growth, a shared number, a text. Answers the sum of what it
+// made.
 fn build<A: Allocator + Clone>(alloc: A) -> Result<usize, AllocError> {
     let mut list = Vec::with_capacity(alloc.clone()?, 1)?;
     list.push(1u8)?;
