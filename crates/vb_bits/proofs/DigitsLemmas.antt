@@ -1,12 +1,12 @@
 -- The digits of a number, and how many of them are set.
-use Rattle.std.proofs.Common.{◌≡◌, ℕ, zero, suc, ◌+◌, ◌-◌, ◌*◌, ◌/◌, ◌%◌, ◌^◌, ◌<◌, ◌≤◌, Bool, not, cond, eqb, [], ◌∷◌, ◌++◌, length, get_or, refl, sym, ap, ◌∙◌, arith, zero-add}
-use Rattle.std.specs.Prelude.{count_ones, bit_and}
+use Rattle.std.proofs.Common.{◌≡◌, ℕ, zero, suc, ◌+◌, ◌-◌, ◌*◌, ◌/◌, ◌%◌, ◌^◌, ◌<◌, ◌≤◌, Bool, not, ◌&&◌, ◌||◌, cond, eqb, max, min, [], ◌∷◌, ◌++◌, length, get_or, refl, sym, ap, ◌∙◌, arith, zero-add}
+use Rattle.std.specs.Prelude.{count_ones, bit_and, bit_or, bit_xor}
 use Rattle.std.specs.Int.{bit_at, bit_not, Width}
 use mir.Val.{bits as width}
 use Rattle.std.specs.Int.Count.{ones_step}
 use Rattle.std.proofs.lemmas.List.{same_lists, length-map, get_or-map}
 use Rattle.std.proofs.lemmas.List.FromFn.{length-map-range_with_len, get_or-map-range_with_len}
-use Rattle.std.proofs.lemmas.Nat.Bits.{bit_at-suc, bit_at_lowest, bit_at_cat_low, bit_at_not, bit_at-lt}
+use Rattle.std.proofs.lemmas.Nat.Bits.{bit_at-suc, bit_at_lowest, bit_at_cat_low, bit_at_and, bit_at_or, bit_at_xor, bit_at_not, bit_at-lt}
 use Rattle.std.proofs.lemmas.Nat.{ones_le_self, shr_split, shr-shr, mod_below, pow_pos, and_mask, one_shl}
 use Rattle.std.proofs.Math.Nat.{pow-suc}
 use Rattle.std.proofs.lemmas.Bool.{cond_both, eqb-true, eqb-false}
@@ -118,3 +118,43 @@ digits-bit_not v w a k small within =
     let lt : i < k = omega (arith, length-digits (bit_not v w) a k) in
     at-digits (bit_not v w) a k i d lt ∙ has_bit-bit_not v w (a + i) small (omega arith)
     ∙ sym (get_or-map not (digits w a k) i d d (omega (arith, length-digits w a k)) ∙ ap not (at-digits w a k i d lt)))
+
+-- ---- two numbers combined
+-- a digit of both
+pub has_bit-and : (v w i : ℕ) → has_bit (bit_and v w) i ≡ (has_bit v i && has_bit w i)
+has_bit-and v w i = ap (λ x. eqb x 1) (bit_at_and v w i) ∙ both (bit_at v i) (bit_at w i) (bit_at-lt v i) (bit_at-lt w i)
+  where
+    both : (x y : ℕ) → x < 2 → y < 2 → eqb (min x y) 1 ≡ (eqb x 1 && eqb y 1)
+    both zero zero g h = refl
+    both zero (suc zero) g h = refl
+    both (suc zero) zero g h = refl
+    both (suc zero) (suc zero) g h = refl
+    both (suc (suc x)) y g h = absurd (omega arith)
+    both zero (suc (suc y)) g h = absurd (omega arith)
+    both (suc zero) (suc (suc y)) g h = absurd (omega arith)
+
+-- a digit of either
+pub has_bit-or : (v w i : ℕ) → has_bit (bit_or v w) i ≡ (has_bit v i || has_bit w i)
+has_bit-or v w i = ap (λ x. eqb x 1) (bit_at_or v w i) ∙ either (bit_at v i) (bit_at w i) (bit_at-lt v i) (bit_at-lt w i)
+  where
+    either : (x y : ℕ) → x < 2 → y < 2 → eqb (max x y) 1 ≡ (eqb x 1 || eqb y 1)
+    either zero zero g h = refl
+    either zero (suc zero) g h = refl
+    either (suc zero) zero g h = refl
+    either (suc zero) (suc zero) g h = refl
+    either (suc (suc x)) y g h = absurd (omega arith)
+    either zero (suc (suc y)) g h = absurd (omega arith)
+    either (suc zero) (suc (suc y)) g h = absurd (omega arith)
+
+-- a digit of one of the two
+pub has_bit-xor : (v w i : ℕ) → has_bit (bit_xor v w) i ≡ cond (has_bit v i) (not (has_bit w i)) (has_bit w i)
+has_bit-xor v w i = ap (λ x. eqb x 1) (bit_at_xor v w i) ∙ one (bit_at v i) (bit_at w i) (bit_at-lt v i) (bit_at-lt w i)
+  where
+    one : (x y : ℕ) → x < 2 → y < 2 → eqb ((x + y) % 2) 1 ≡ cond (eqb x 1) (not (eqb y 1)) (eqb y 1)
+    one zero zero g h = refl
+    one zero (suc zero) g h = refl
+    one (suc zero) zero g h = refl
+    one (suc zero) (suc zero) g h = refl
+    one (suc (suc x)) y g h = absurd (omega arith)
+    one zero (suc (suc y)) g h = absurd (omega arith)
+    one (suc zero) (suc (suc y)) g h = absurd (omega arith)

@@ -4,6 +4,8 @@ pub mod PlacesLemmas
 pub mod DigitsLemmas
 pub mod BytesLemmas
 pub mod ReadLemmas
+pub mod ShiftLemmas
 pub mod WindowLemmas
 pub mod WritesLemmas
+pub mod OperatorsLemmas
 pub mod RunsLemmas

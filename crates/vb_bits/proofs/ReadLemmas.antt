@@ -1,5 +1,5 @@
 -- Numbers whose digits are the bits of a window.
-use Rattle.std.proofs.Common.{◌≡◌, inl, inr, ℕ, ◌+◌, ◌-◌, ◌*◌, ◌/◌, ◌%◌, ◌^◌, ◌<◌, ◌≤◌, false, eqb, max, List, length, get_or, drop, replicate, refl, sym, ap, subst, ◌∙◌, arith, zero-add}
+use Rattle.std.proofs.Common.{◌≡◌, inl, inr, ℕ, ◌+◌, ◌-◌, ◌*◌, ◌/◌, ◌%◌, ◌^◌, ◌<◌, ◌≤◌, Bool, true, false, ◌||◌, eqb, max, List, length, get_or, drop, replicate, refl, sym, ap, subst, ◌∙◌, arith, zero-add}
 use Rattle.std.specs.Prelude.{slice_range}
 use Rattle.std.specs.Int.{bit_at, w64, to_le_bytes, from_le_bytes}
 use Rattle.std.specs.Int.Bits.{bit_or}
@@ -11,8 +11,9 @@ use borrow.Rule.Slice.PartMut.{put_mid}
 use Rattle.vb_bits.specs.Bits.{bit_of, bits}
 use Rattle.vb_bits.specs.Digits.{has_bit, digits}
 use Rattle.vb_bits.proofs.BitsLemmas.{at-bits, same_bits}
-use Rattle.vb_bits.proofs.DigitsLemmas.{at-digits, same_digits}
+use Rattle.vb_bits.proofs.DigitsLemmas.{at-digits, same_digits, has_bit-or}
 use Rattle.vb_bits.proofs.BytesLemmas.{bits-digits, bits-to_le_bytes, bits_of_read}
+use Rattle.vb_bits.proofs.ShiftLemmas.{has_bit_shr, shl_low, shl_high, bit_at_cut}
 use Rattle.vb_bits.proofs.WindowLemmas.{bit_of-drop}
 use Rattle.vb_bits.proofs.WritesLemmas.{get_or-put_mid_inside, get_or-put_mid_outside, length-put_mid}
 
@@ -29,22 +30,7 @@ digits-bits b w o n h = sym (bits-digits b o w 0 n (λ i l. sym (h i l) ∙ ap (
 pub digits_of_word : (b : List ℕ) (w a : ℕ) → to_le_bytes w64 w ≡ slice_range b a (a + 8) → digits w 0 64 ≡ bits b (8 * a) 64
 digits_of_word b w a read = sym (bits-to_le_bytes w 0 64 (omega arith)) ∙ bits_of_read b b (to_le_bytes w64 w) a 8 (8 * a) refl read refl
 
--- ---- shifts
--- a digit of a number that is shifted down
-pub has_bit_shr : (w s i : ℕ) → has_bit (w / 2 ^ s) i ≡ has_bit w (s + i)
-has_bit_shr w s i = ap (λ y. eqb (y % 2) 1) (shr-shr w s i)
-
--- the digits of a number that is shifted up, below and from the shift on
-shl_low : (x k i : ℕ) → i < k → bit_at (x * 2 ^ k) i ≡ 0
-shl_low x k i l = let e : x * 2 ^ k + 0 ≡ x * 2 ^ k = omega arith in ap (λ y. bit_at y i) (sym e) ∙ bit_at_cat_low x k 0 i l ∙ bit_at-zero i
-
-shl_high : (x k i : ℕ) → k ≤ i → bit_at (x * 2 ^ k) i ≡ bit_at x (i - k)
-shl_high x k i l = let e : x * 2 ^ k + 0 ≡ x * 2 ^ k = omega arith in ap (λ y. bit_at y i) (sym e) ∙ bit_at_cat_high x k 0 i (pow_pos k) l
-
--- a digit that a cut leaves
-pub bit_at_cut : (n k i : ℕ) → i < k → bit_at (n % 2 ^ k) i ≡ bit_at n i
-bit_at_cut n k i l = sym (bit_at_cat_low (n / 2 ^ k) k (n % 2 ^ k) i l) ∙ ap (λ x. bit_at x i) (shr_split n k)
-
+-- ---- windows that begin within a byte
 -- a window that begins within the first byte of a word and ends in the word
 pub digits_shifted : (b : List ℕ) (f s n w at : ℕ) → digits w 0 64 ≡ bits b (8 * f) 64 → at ≡ 8 * f + s → s + n ≤ 64 → digits (w / 2 ^ s) 0 n ≡ bits b at n
 digits_shifted b f s n w at e from within =
@@ -75,6 +61,43 @@ digits_joined b f s n w at e from fits small within =
           let place : (at + i) % 8 ≡ i - (64 - s) = omega arith in
           ap (λ y. eqb y 1) here ∙ sym (ap (λ j. has_bit (get_or b j 0) ((at + i) % 8)) byte ∙ ap (has_bit x) place)
     ])
+
+-- two words, the second from the next byte on: where they overlap both have the digit
+pub digits_overlapped : (b : List ℕ) (f s v w : ℕ) → digits v 0 64 ≡ bits b (8 * f) 64 → digits w 0 64 ≡ bits b (8 * (f + 1)) 64 → v < 2 ^ 64 → s < 8
+    → digits (bit_or (v / 2 ^ s) (w * 2 ^ (8 - s) % 2 ^ 64)) 0 64 ≡ bits b (8 * f + s) 64
+digits_overlapped b f s v w first second fits small =
+    digits-bits b (bit_or (v / 2 ^ s) (w * 2 ^ (8 - s) % 2 ^ 64)) (8 * f + s) 64 (λ i l.
+    let place : 8 * f + (s + i) ≡ 8 * f + s + i = omega arith in
+    let low : s + i < 64 → has_bit (v / 2 ^ s) i ≡ bit_of b (8 * f + s + i) = λ h. has_bit_shr v s i ∙ has_bit-bits b v (8 * f) 64 (s + i) first h ∙ ap (bit_of b) place in
+    let cut : has_bit (w * 2 ^ (8 - s) % 2 ^ 64) i ≡ has_bit (w * 2 ^ (8 - s)) i = ap (λ y. eqb y 1) (bit_at_cut (w * 2 ^ (8 - s)) 64 i l) in
+    has_bit-or (v / 2 ^ s) (w * 2 ^ (8 - s) % 2 ^ 64) i ∙ elim (cases_lt i (8 - s)) [
+      | inl before ↦ either_left (low (omega arith)) (cut ∙ ap (λ y. eqb y 1) (shl_low w (8 - s) i before))
+      | inr behind ↦
+          let there : 8 * (f + 1) + (i - (8 - s)) ≡ 8 * f + s + i = omega arith in
+          let high : has_bit (w * 2 ^ (8 - s) % 2 ^ 64) i ≡ bit_of b (8 * f + s + i) =
+          cut ∙ ap (λ y. eqb y 1) (shl_high w (8 - s) i behind) ∙ has_bit-bits b w (8 * (f + 1)) 64 (i - (8 - s)) second (omega arith) ∙ ap (bit_of b) there in
+          elim (cases_lt (s + i) 64) [
+            | inl inside ↦ either_same (low inside) high
+            | inr past ↦ either_right (has_bit_shr v s i ∙ ap (λ y. eqb y 1) (bit_at_above v 64 (s + i) fits past)) high
+          ]
+    ])
+  where
+    or_false : (x : Bool) → (x || false) ≡ x
+    or_false true = refl
+    or_false false = refl
+
+    or_self : (x : Bool) → (x || x) ≡ x
+    or_self true = refl
+    or_self false = refl
+
+    either_left : {x y t : Bool} → x ≡ t → y ≡ false → (x || y) ≡ t
+    either_left {x} {y} {t} e none = ap (λ z. x || z) none ∙ or_false x ∙ e
+
+    either_same : {x y t : Bool} → x ≡ t → y ≡ t → (x || y) ≡ t
+    either_same {x} {y} {t} e f = ap (λ z. z || y) e ∙ ap (λ z. t || z) f ∙ or_self t
+
+    either_right : {x y t : Bool} → x ≡ false → y ≡ t → (x || y) ≡ t
+    either_right {x} {y} {t} none e = ap (λ z. z || y) none ∙ e
 
 -- the digits that a cut leaves
 pub digits_cut : (w n : ℕ) → digits (w % 2 ^ n) 0 n ≡ digits w 0 n

@@ -15,7 +15,8 @@ use Rattle.vb_bits.specs.Edits.{replaced, filled}
 use Rattle.vb_bits.specs.Writes.{Writes, lengthened}
 use Rattle.vb_bits.proofs.BitsLemmas.{at-bits, length-bits, take-bits, drop-bits, bits-add, same_bits}
 use Rattle.vb_bits.proofs.BytesLemmas.{bits-to_le_bytes, bits_of_read}
-use Rattle.vb_bits.proofs.DigitsLemmas.{digits-bit_not}
+use Rattle.vb_bits.proofs.DigitsLemmas.{digits-bit_not, length-digits, at-digits}
+use Rattle.vb_bits.proofs.ShiftLemmas.{shl_high, bit_at_cut}
 use Rattle.vb_bits.proofs.WindowLemmas.{bits-append, bit_of-append, bit_of-lengthened}
 
 -- ---- writes by their bits
@@ -57,7 +58,7 @@ Writes-run b c d o p m n k v one two at whole =
     (Writes-add b c d o p (replicate m v) (replicate n v) (omega arith) one two)
 
 -- a window that is not written
-bits_outside : (b c : List ℕ) (o p n : ℕ) (m : List Bool) → Writes b c o m → o + length m ≤ p → bits c p n ≡ bits b p n
+pub bits_outside : (b c : List ℕ) (o p n : ℕ) (m : List Bool) → Writes b c o m → o + length m ≤ p → bits c p n ≡ bits b p n
 bits_outside b c o p n m w behind = same_bits c b p p n (λ i h. w.others (p + i) (inr (omega arith)))
 
 -- no bits are negated
@@ -222,6 +223,34 @@ Writes_xor_mask b o n within there =
     let none = mask_outside lo hi r (elim h [ inl a ↦ inl a | inr a ↦ inr (omega arith) ]) in
     let same : (bit_at x r + bit_at (2 ^ hi - 2 ^ lo) r) % 2 ≡ bit_at x r = omega (arith, low r) in
     ap (λ z. eqb z 1) (bit_at_xor x (2 ^ hi - 2 ^ lo) r ∙ same))
+
+-- the bits under a mask are the lowest digits of a number
+pub Writes_masked : (b : List ℕ) (o n w : ℕ) → o % 8 + n ≤ 8 → o / 8 < length b
+    → Writes b (set b (o / 8) (bit_or (bit_and (get_or b (o / 8) 0) (bit_not w8 (2 ^ (o % 8 + n) - 2 ^ (o % 8)))) (bit_and (bit_and (w * 2 ^ (o % 8) % 2 ^ 64) 255) (2 ^ (o % 8 + n) - 2 ^ (o % 8))))) o (digits w 0 n)
+Writes_masked b o n w within there =
+    let x : ℕ = get_or b (o / 8) 0 in let lo : ℕ = o % 8 in let hi : ℕ = o % 8 + n in
+    let m : ℕ = 2 ^ hi - 2 ^ lo in
+    let y : ℕ = bit_and (w * 2 ^ lo % 2 ^ 64) 255 in
+    let long : length (digits w 0 n) ≡ n = length-digits w 0 n in
+    let small : m < 2 ^ 8 = mask_fits lo hi within in
+    let low : (z r : ℕ) → bit_at z r < 2 = bit_at-lt in
+    let parts : (r : ℕ) → r < 8 → bit_at (bit_or (bit_and x (bit_not w8 m)) (bit_and y m)) r ≡ max (min (bit_at x r) (1 - bit_at m r)) (min (bit_at y r) (bit_at m r)) =
+    λ r l. bit_at_or (bit_and x (bit_not w8 m)) (bit_and y m) r ∙ ap (λ z. max z (bit_at (bit_and y m) r)) (not_mask x m r small l) ∙ ap (max (min (bit_at x r) (1 - bit_at m r))) (bit_at_and y m r) in
+    Writes-in_byte b o _ (digits w 0 n) (omega arith) there
+    (λ i d l.
+    let one : bit_at m (lo + i) ≡ 1 = bit_at_mask_inside lo hi (lo + i) (omega arith) (omega arith) in
+    let all : bit_at 255 (lo + i) ≡ 1 = bit_at_mask_inside 0 8 (lo + i) (omega arith) (omega arith) in
+    let digit : bit_at (w * 2 ^ lo % 2 ^ 64) (lo + i) ≡ bit_at w i = bit_at_cut (w * 2 ^ lo) 64 (lo + i) (omega arith) ∙ shl_high w lo (lo + i) (omega arith) ∙ ap (bit_at w) (place i) in
+    let here : max (min (bit_at x (lo + i)) (1 - bit_at m (lo + i))) (min (bit_at y (lo + i)) (bit_at m (lo + i))) ≡ bit_at w i =
+    omega (arith, low w i, bit_at_and (w * 2 ^ lo % 2 ^ 64) 255 (lo + i)) in
+    ap (λ z. eqb z 1) (parts (lo + i) (omega arith) ∙ here) ∙ ap (has_bit w) (sym (zero-add i)) ∙ sym (at-digits w 0 n i d (omega arith)))
+    (λ r l h.
+    let none : bit_at m r ≡ 0 = mask_outside lo hi r (elim h [ inl a ↦ inl a | inr a ↦ inr (omega arith) ]) in
+    let here : max (min (bit_at x r) (1 - bit_at m r)) (min (bit_at y r) (bit_at m r)) ≡ bit_at x r = omega (arith, low x r) in
+    ap (λ z. eqb z 1) (parts r l ∙ here))
+  where
+    place : (i : ℕ) → o % 8 + i - o % 8 ≡ i
+    place i = omega arith
 
 -- ---- runs of bytes
 -- a byte of a run that was written

@@ -1,5 +1,6 @@
 pub mod Bits
 pub mod Digits
 pub mod Edits
-pub mod Writes
+pub mod Operators
 pub mod Runs
+pub mod Writes

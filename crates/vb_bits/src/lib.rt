@@ -9,8 +9,11 @@ mod bit;
 mod bytes;
 mod fill;
 mod map;
+mod merge;
 mod read;
 mod window;
+mod write;
+mod zip;
 
 pub use bit::{get_bit, get_bit_unchecked, set_bit_to, set_bit_unchecked, unset_bit_unchecked};
 pub use bytes::{chunk_at, word_at};
@@ -18,3 +21,4 @@ pub use fill::fill_bits;
 pub use map::map_words;
 pub use read::{read_bits, read_u64_le};
 pub use window::window_fits;
+pub use zip::{BitOp, copy_bits, zip_words};

@@ -61,3 +61,15 @@ fn word_from(bytes: &[u8], first: usize) -> u64
         read_u64_le(&bytes[first..])
     }
 }
+
+/// The 64 bits from bit `shift` of byte `first` on as one number: the digits of eight bytes, and
+/// those of the eight that begin a byte later, which have the missing ones.
+#[inline(always)]
+pub(crate) fn shifted_word(bytes: &[u8], first: usize, shift: usize) -> u64
+    requires part { 0 < shift }
+    requires in_byte { shift < 8 }
+    requires inside { first + 9 ≤ length bytes.now }
+    ensures { digits result 0 64 ≡ bits bytes.now (8 * first + shift) 64 }
+{
+    word_at(bytes, first) >> shift | word_at(bytes, first + 1) << (8 - shift)
+}

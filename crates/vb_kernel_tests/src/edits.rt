@@ -1,8 +1,8 @@
-//! Fills and negated windows, compared with single bits.
+//! Fills, negated, copied and combined windows, compared with single bits.
 use crate::sample;
 use std::alloc::AllocError;
 use std::process::Abort;
-use vb_kernel::{fill_bits, get_bit, map_words};
+use vb_kernel::{BitOp, copy_bits, fill_bits, get_bit, map_words, zip_words};
 
 const OFFSETS: [usize; 5] = [0, 3, 5, 7, 13];
 
@@ -35,6 +35,52 @@ fn map_is_plain(rt: &impl Abort, before: &[u8; 32], offset: usize, len: usize) {
     }
 }
 
+/// What a window of other bytes does to one.
+#[derive(Clone, Copy, Debug)]
+enum Combined {
+    Copied,
+    Zipped(BitOp),
+}
+
+const COMBINED: [Combined; 5] = [
+    Combined::Copied,
+    Combined::Zipped(BitOp::And),
+    Combined::Zipped(BitOp::Or),
+    Combined::Zipped(BitOp::Xor),
+    Combined::Zipped(BitOp::AndNot),
+];
+
+impl Combined {
+    fn bit(self, left: bool, right: bool) -> bool {
+        match self {
+            Combined::Copied => right,
+            Combined::Zipped(BitOp::And) => left && right,
+            Combined::Zipped(BitOp::Or) => left || right,
+            Combined::Zipped(BitOp::Xor) => left != right,
+            Combined::Zipped(BitOp::AndNot) => left && !right,
+        }
+    }
+}
+
+/// Where a window begins that is written, where one that is read, and how long both are.
+type Windows = (usize, usize, usize);
+
+fn combined_is_plain(rt: &impl Abort, left: &[u8; 32], how: Combined, (d, s, len): Windows) {
+    let right = left.map(|byte| byte.rotate_left(3));
+    let mut after = *left;
+    assert!(rt; d <= 16 && s <= 16 && len <= 200);
+    match how {
+        Combined::Copied => copy_bits(&mut after, d, &right, s, len),
+        Combined::Zipped(op) => zip_words(&mut after, d, &right, s, len, op),
+    }
+    for i in 0..256 {
+        let old = get_bit(left, i);
+        let inside = d <= i && i < d + len;
+        let wanted = if inside { how.bit(old, get_bit(&right, s + i - d)) } else { old };
+        assert_eq!(rt; get_bit(&after, i), wanted, "{how:?} at {d}, {s}, {len}, {i}");
+    }
+}
+
 #[test]
 fn edits_are_plain(rt: HostRuntime) -> Result<(), AllocError> {
     let mixed = sample::mixed_bytes(rt.alloc(), 32)?;
@@ -47,9 +93,21 @@ fn edits_are_plain(rt: HostRuntime) -> Result<(), AllocError> {
             fill_is_plain(&rt, &bytes, offset, len, true);
             fill_is_plain(&rt, &bytes, offset, len, false);
             map_is_plain(&rt, &bytes, offset, len);
+            for source in OFFSETS {
+                for how in COMBINED {
+                    combined_is_plain(&rt, &bytes, how, (offset, source, len));
+                }
+            }
         }
     }
     Ok(())
+}
+
+#[test]
+fn copy_within_two_bytes(rt: HostRuntime) {
+    let mut bytes = [0xFF; 2];
+    copy_bits(&mut bytes, 3, &[0; 2], 5, 7);
+    assert_eq!(rt; bytes, [0x07, 0xFC]);
 }
 
 #[test]

@@ -1,0 +1,117 @@
+//! Windows combined by an operator, and copied.
+ghost use Rattle.std.specs.Prelude.{◌+◌, ◌*◌, ◌^◌, ◌<◌, ◌≤◌, length};
+ghost use Rattle.vb_bits.specs.Bits.{bits};
+ghost use Rattle.vb_bits.specs.Operators.{combined};
+ghost use Rattle.vb_bits.specs.Writes.{Writes};
+
+use crate::merge::{Merge, merge_bits};
+
+/// How two bits are combined.
+#[derive(Clone, Copy, Debug, PartialEq, Eq)]
+pub enum BitOp {
+    /// Both are true.
+    And,
+    /// One of them is true, or both are.
+    Or,
+    /// One of them is true, and not both.
+    Xor,
+    /// The left one is true and the right one isn't.
+    AndNot,
+}
+
+/// Makes each of the `len` bits of `dst` from bit `d` on what `op` makes of it, as the left one,
+/// and of that of `src` from bit `s` on, and leaves every other bit of `dst`.
+///
+/// It goes by words of 64 bits whatever the two offsets are.
+pub fn zip_words(dst: &mut [u8], d: usize, src: &[u8], s: usize, len: usize, op: BitOp)
+    requires into { d + len ≤ 8 * length dst.old }
+    requires into_fits { d + len < 2 ^ 64 }
+    requires from { s + len ≤ 8 * length src.now }
+    requires from_fits { s + len < 2 ^ 64 }
+    ensures { Writes dst.old dst.new d
+        (combined op (bits dst.old d len) (bits src.now s len)) }
+{
+    match op {
+        BitOp::And => merge_bits::<And>(dst, d, src, s, len),
+        BitOp::Or => merge_bits::<Or>(dst, d, src, s, len),
+        BitOp::Xor => merge_bits::<Xor>(dst, d, src, s, len),
+        BitOp::AndNot => merge_bits::<AndNot>(dst, d, src, s, len),
+    }
+}
+
+/// Copies the `len` bits of `src` from bit `s` on to the bits of `dst` from bit `d` on, and leaves
+/// every other bit of `dst`.
+///
+/// It goes by words of 64 bits whatever the two offsets are.
+pub fn copy_bits(dst: &mut [u8], d: usize, src: &[u8], s: usize, len: usize)
+    requires into { d + len ≤ 8 * length dst.old }
+    requires into_fits { d + len < 2 ^ 64 }
+    requires from { s + len ≤ 8 * length src.now }
+    requires from_fits { s + len < 2 ^ 64 }
+    ensures { Writes dst.old dst.new d (bits src.now s len) }
+{
+    merge_bits::<Right>(dst, d, src, s, len);
+}
+
+/// Both bits.
+struct And;
+
+/// Either bit.
+struct Or;
+
+/// One bit of two.
+struct Xor;
+
+/// The left bit without the right one.
+struct AndNot;
+
+/// The right bit.
+struct Right;
+
+impl Merge for And {
+    ghost use Rattle.std.specs.Prelude.{◌&&◌};
+
+    ghost bit = { λ a b. a && b };
+
+    fn merge(left: u64, right: u64) -> u64 {
+        left & right
+    }
+}
+
+impl Merge for Or {
+    ghost use Rattle.std.specs.Prelude.{◌||◌};
+
+    ghost bit = { λ a b. a || b };
+
+    fn merge(left: u64, right: u64) -> u64 {
+        left | right
+    }
+}
+
+impl Merge for Xor {
+    ghost use Rattle.std.specs.Prelude.{cond, not};
+
+    ghost bit = { λ a b. cond a (not b) b };
+
+    fn merge(left: u64, right: u64) -> u64 {
+        left ^ right
+    }
+}
+
+impl Merge for AndNot {
+    ghost use Rattle.std.specs.Prelude.{◌&&◌, not};
+
+    ghost bit = { λ a b. a && not b };
+
+    fn merge(left: u64, right: u64) -> u64 {
+        left & !right
+    }
+}
+
+impl Merge for Right {
+    ghost bit = { λ a b. b };
+
+    fn merge(left: u64, right: u64) -> u64 {
+        right
+    }
+}
