@@ -1,1 +1,2 @@
+mod CutLemmas
 pub mod WordsLemmas

@@ -1,3 +1,4 @@
+pub mod Cut
 pub mod MutView
 pub mod View
 pub mod Windows

@@ -8,9 +8,11 @@
 mod chunks;
 mod meta;
 mod mut_view;
+mod unaligned;
 mod view;
 
 pub use chunks::{BitChunkIterator, BitChunks, PaddedChunkIterator};
 pub use meta::BitBufferMeta;
 pub use mut_view::{BitBufferMutView, BitStore};
+pub use unaligned::{UnalignedBitChunk, UnalignedBitChunkIterator};
 pub use view::BitBufferView;

@@ -88,6 +88,7 @@ impl<S: BitStore> BitBufferMutView<S> {
         ensures store { store_of result ≡ store }
         ensures place { place_of result ≡ offset }
         ensures len { mut_len_of result ≡ len }
+        ensures bit_len { length (mut_bits_of result) ≡ len }
     {
         BitBufferMutView { store, offset, len }
     }
@@ -238,6 +239,7 @@ impl<'a> BitStore for &'a mut [u8] {
     }
 }
 
+#[tactic(auto, using(vb_bits::proofs::WindowLemmas::windows))]
 impl<'a> BitBufferMutView<&'a mut [u8]> {
     ghost use Rattle.vb_walk.specs.MutView.{mut_bits_of, store_of, place_of, mut_len_of};
 
@@ -247,6 +249,7 @@ impl<'a> BitBufferMutView<&'a mut [u8]> {
         ensures bits { mut_bits_of result ≡ window bytes.old 0 len }
         ensures place { place_of result ≡ 0 }
         ensures len { mut_len_of result ≡ len }
+        ensures bit_len { length (mut_bits_of result) ≡ len }
         ensures bytes { (store_of result).now ≡ bytes.old }
         ensures same_reference { (store_of result).ghost_name ≡ bytes.entry.ghost_name }
     {
@@ -261,6 +264,7 @@ impl<'a> BitBufferMutView<&'a mut [u8]> {
         ensures bits { mut_bits_of result ≡ window bytes.old offset len }
         ensures place { place_of result ≡ offset }
         ensures len { mut_len_of result ≡ len }
+        ensures bit_len { length (mut_bits_of result) ≡ len }
         ensures bytes { (store_of result).now ≡ bytes.old }
         ensures same_reference { (store_of result).ghost_name ≡ bytes.entry.ghost_name }
     {
