@@ -1,2 +1,3 @@
+mod CompareLemmas
 mod CutLemmas
 pub mod WordsLemmas

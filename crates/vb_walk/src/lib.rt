@@ -6,6 +6,7 @@
 #![tactic(auto)]
 
 mod chunks;
+mod compare;
 mod meta;
 mod mut_view;
 mod unaligned;

@@ -2,11 +2,12 @@
 ghost use Rattle.std.specs.Prelude.{◌≡◌, ◌+◌, ◌-◌, ◌*◌, ◌/◌, ◌%◌, ◌^◌, ◌<◌, ◌≤◌, ◌==◌};
 ghost use Rattle.std.specs.Prelude.{length, drop, slice_get, slice_range, Some};
 ghost use Rattle.vb_bits.specs.Bits.{bits, count, negated, Selects, AnswersEach};
+ghost use Rattle.vb_walk.specs.Cut.{IsCut};
 ghost use Rattle.vb_walk.specs.Windows.{IsWindow};
-ghost use Rattle.vb_walk.specs.Words.{full_words, padded};
 
 use crate::chunks::BitChunks;
 use crate::meta::BitBufferMeta;
+use crate::unaligned::UnalignedBitChunk;
 use std::ops::Range;
 use vb_bits::get_bit;
 use vb_kernel::{bit_select, bit_select_unset, count_ones};
@@ -137,6 +138,13 @@ impl<'a> BitBufferView<'a> {
         ensures { result ≡ bits_of self.now }
     {
         BitChunks::new(self.bytes, self.offset, self.len)
+    }
+
+    /// The bytes of the bits, by eights from the first one, as words.
+    pub fn unaligned_chunks(&self) -> UnalignedBitChunk<'a>
+        ensures { IsCut (offset_of self.now) (bits_of self.now) result }
+    {
+        UnalignedBitChunk::new(self.bytes, self.offset, self.len)
     }
 
     /// How many bits are true. It reads every byte of the bits once, 64 at a time.
