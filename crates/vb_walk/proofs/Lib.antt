@@ -3,3 +3,5 @@ pub mod OthersLemmas
 pub mod WalkLemmas
 pub mod PlacesLemmas
 pub mod OnesLemmas
+pub mod RunsInLemmas
+pub mod TakenRunLemmas

@@ -1,2 +1,3 @@
 pub mod Words
+pub mod Ones
 pub mod Walks

@@ -9,8 +9,11 @@ mod chunks;
 mod cursor;
 mod index;
 mod meta;
+mod ones;
 mod other;
+mod slices;
 
 pub use chunks::{BitChunkIterator, BitChunks, PaddedChunkIterator};
 pub use index::BitIndexIterator;
 pub use meta::BitBufferMeta;
+pub use slices::BitSliceIterator;
