@@ -6,3 +6,4 @@ pub mod BytesLemmas
 pub mod ReadLemmas
 pub mod WindowLemmas
 pub mod WritesLemmas
+pub mod RunsLemmas

@@ -1,3 +1,9 @@
 mod CompareLemmas
 mod CutLemmas
 pub mod WordsLemmas
+pub mod OthersLemmas
+pub mod WalkLemmas
+pub mod PlacesLemmas
+pub mod OnesLemmas
+pub mod RunsInLemmas
+pub mod TakenRunLemmas

@@ -1,0 +1,109 @@
+-- Walks over a window by words: a word in hand, whole words behind it, and fewer than 64 bits behind these.
+use Rattle.std.specs.Prelude.{◌≡◌, ◌≢◌, ◌⊎◌, ℕ, ◌+◌, ◌-◌, ◌*◌, ◌%◌, ◌^◌, ◌<◌, ◌≤◌, Bool, true, false, cond, nat_lt, List, length, filter, map, Option, Some, None}
+use Rattle.std.specs.Int.{bit_not, w64}
+use Rattle.std.specs.List.{range_with_len}
+use Rattle.vb_bits.specs.Bits.{bit_of}
+use Rattle.vb_bits.specs.Digits.{has_bit}
+use Rattle.vb_walk.specs.declared.cursor.Cursor.{Cursor}
+use Rattle.vb_bits.specs.Runs.{runs, moved}
+use Rattle.vb_walk.specs.declared.other.OtherWord.{OtherWord}
+use Rattle.vb_walk.specs.declared.slices.TakenRun.{TakenRun}
+
+-- ---- words with a digit that isn't v
+-- the digits that aren't v
+abbrev pub others : Bool → ℕ → ℕ
+others v word = cond v (bit_not w64 word) word
+
+-- the bits from a below b are all v
+abbrev pub AreAll : List ℕ → Bool → ℕ → ℕ → Type 0
+AreAll bytes v a b = (i : ℕ) → a ≤ i → i < b → bit_of bytes i ≡ v
+
+-- of the whole words from byte `at` up to byte `end`, the first one with a digit that isn't v
+pub record IsOther (bytes : List ℕ) (at end : ℕ) (v : Bool) (o : OtherWord) : Type 0 where
+  pub from : at + 8 ≤ o.behind
+  pub within : o.behind ≤ end
+  pub whole : (end - o.behind) % 8 ≡ 0
+  pub passed : AreAll bytes v (8 * at) (8 * (o.behind - 8))
+  pub read : (i : ℕ) → i < 64 → has_bit o.word i ≡ bit_of bytes (8 * (o.behind - 8) + i)
+  pub other : others v o.word ≢ 0
+
+-- it, or None where there is none
+abbrev pub FindsOther : List ℕ → ℕ → ℕ → Bool → Option OtherWord → Type 0
+FindsOther bytes at end v None = AreAll bytes v (8 * at) (8 * end)
+FindsOther bytes at end v (Some o) = IsOther bytes at end v o
+
+-- ---- where a walk stands
+-- how many bits are behind the word in hand
+abbrev pub ahead : Cursor → ℕ
+ahead c = 8 * (c.end - c.byte) + c.left
+
+-- the place behind the window
+abbrev pub stop : Cursor → ℕ
+stop c = c.next + ahead c
+
+-- the numbers of a walk fit together: the word in hand has the places from `base` below `next`, and what is ahead begins at byte `byte`
+pub record IsCursor (bytes : List ℕ) (c : Cursor) : Type 0 where
+  pub room : c.offset + stop c ≤ 8 * length bytes
+  pub fits : c.offset + stop c < 2 ^ 64
+  pub walked : c.base ≤ c.next
+  pub near : c.next ≤ c.base + 64
+  pub clear : c.word < 2 ^ (c.next - c.base)
+  pub order : c.byte ≤ c.end
+  pub whole : (c.end - c.byte) % 8 ≡ 0
+  pub short : c.left < 64
+  pub here : 0 < ahead c → 8 * c.byte ≡ c.offset + c.next
+
+-- what is still to come at place i: below `next` a digit of the word in hand, and then the bit
+abbrev pub pending : List ℕ → Cursor → ℕ → Bool
+pending bytes c i = cond (nat_lt i c.next) (has_bit c.word (i - c.base)) (bit_of bytes (c.offset + i))
+
+-- d is c with another word in hand: the next one with a digit that isn't v, or else what is behind the whole words
+pub record IsRefilled (bytes : List ℕ) (c : Cursor) (v : Bool) (d : Cursor) : Type 0 where
+  pub valid : IsCursor bytes d
+  pub offset : d.offset ≡ c.offset
+  pub ends : stop d ≡ stop c
+  pub later : c.next ≤ d.base
+  pub passed : (i : ℕ) → c.next ≤ i → i < d.base → bit_of bytes (c.offset + i) ≡ v
+  pub read : (i : ℕ) → d.base ≤ i → i < d.next → has_bit d.word (i - d.base) ≡ bit_of bytes (c.offset + i)
+  pub other : ((others v d.word ≢ 0) × (d.next ≡ d.base + 64)) ⊎ ((ahead d ≡ 0) × (d.next < d.base + 64))
+
+-- d is c with a word in hand that isn't 0, if one is to come: the same is to come, and nothing before
+pub record IsSkipped (bytes : List ℕ) (c d : Cursor) : Type 0 where
+  pub valid : IsCursor bytes d
+  pub ends : stop d ≡ stop c
+  pub later : c.base ≤ d.base
+  pub passed : (i : ℕ) → c.base ≤ i → i < d.base → pending bytes c i ≡ false
+  pub same : (i : ℕ) → d.base ≤ i → i < stop d → pending bytes d i ≡ pending bytes c i
+  pub last : d.word ≡ 0 → ahead d ≡ 0
+
+-- ---- places
+-- the numbers from a below a + n at which t is true, in ascending order
+unfoldable pub places_in : (ℕ → Bool) → ℕ → ℕ → List ℕ
+places_in t a n = filter t (range_with_len a n)
+
+-- the places that are still to come
+abbrev pub places_left : List ℕ → Cursor → List ℕ
+places_left bytes c = places_in (pending bytes c) c.base (stop c - c.base)
+
+-- ---- runs
+-- the runs of t among the n places from a on
+unfoldable pub runs_in : (ℕ → Bool) → ℕ → ℕ → List (ℕ × ℕ)
+runs_in t a n = map (moved a) (runs (map t (range_with_len a n)))
+
+-- the runs that are still to come
+abbrev pub runs_left : List ℕ → Cursor → List (ℕ × ℕ)
+runs_left bytes c = runs_in (pending bytes c) c.base (stop c - c.base)
+
+-- r is the first run that is to come, and r.cursor is c without it
+pub record TakesRun (bytes : List ℕ) (c : Cursor) (r : TakenRun) : Type 0 where
+  pub valid : IsCursor bytes r.cursor
+  pub ends : stop r.cursor ≡ stop c
+  pub from : c.base ≤ r.start
+  pub some : r.start < r.end
+  pub within : r.end ≤ stop c
+  pub later : r.cursor.base ≤ r.end
+  pub off : (i : ℕ) → c.base ≤ i → i < r.start → pending bytes c i ≡ false
+  pub on : (i : ℕ) → r.start ≤ i → i < r.end → pending bytes c i ≡ true
+  pub over : (r.end ≡ stop c) ⊎ (pending bytes c r.end ≡ false)
+  pub gone : (i : ℕ) → r.cursor.base ≤ i → i < r.end → pending bytes r.cursor i ≡ false
+  pub same : (i : ℕ) → r.end ≤ i → i < stop c → pending bytes r.cursor i ≡ pending bytes c i

@@ -1,0 +1,106 @@
+//! Where a walk over a window by words stands.
+ghost use Rattle.std.specs.Prelude.{◌≡◌, ℕ, ◌+◌, ◌-◌, ◌*◌, ◌%◌, ◌^◌, ◌<◌, ◌≤◌, ◌↔◌, length, IsTrue, false};
+ghost use Rattle.vb_bits.specs.Bits.{bit_of};
+ghost use Rattle.vb_walk.specs.Walks.{ahead, stop, pending, IsCursor, IsRefilled, IsSkipped};
+
+use crate::other::first_other;
+use vb_bits::read_bits;
+
+/// A word of the window of bits from bit `offset` on, and what is behind it.
+#[derive(Clone, Copy)]
+pub(crate) struct Cursor {
+    /// The first bit of the window. Places are counted from it.
+    pub(crate) offset: usize,
+    /// The place of the word's lowest digit.
+    pub(crate) base: usize,
+    /// The place behind the word.
+    pub(crate) next: usize,
+    /// The byte from which on whole words are ahead.
+    pub(crate) byte: usize,
+    /// The byte behind them.
+    pub(crate) end: usize,
+    /// How many bits are behind the whole words, fewer than 64.
+    pub(crate) left: usize,
+    /// The word in hand. The digits that were walked over are 0.
+    pub(crate) word: u64,
+}
+
+impl Cursor {
+    /// The front of the window of `len` bits from bit `offset` on.
+    ///
+    /// The first word ends with a byte, so that whole words are read from whole bytes.
+    #[inline]
+    pub(crate) fn new(bytes: &[u8], offset: usize, len: usize) -> Cursor
+        requires inside { offset + len ≤ 8 * length bytes.now }
+        requires fits { offset + len < 2 ^ 64 }
+        ensures valid { IsCursor bytes.now result }
+        ensures base { result.base ≡ 0 }
+        ensures stop { stop result ≡ len }
+        ensures bits { (i : ℕ) → i < len → pending bytes.now result i ≡ bit_of bytes.now (offset + i) }
+    {
+        let count = len.min(64 - offset % 8);
+        let byte = (offset + count) / 8;
+        Cursor {
+            offset,
+            base: 0,
+            next: count,
+            byte,
+            end: byte + (len - count) / 64 * 8,
+            left: (len - count) % 64,
+            word: read_bits(bytes, offset, count),
+        }
+    }
+
+    /// Whether anything is behind the word in hand.
+    #[inline(always)]
+    pub(crate) fn has_more(self) -> bool
+        requires { self.byte ≤ self.end }
+        ensures { IsTrue result ↔ (0 < ahead self) }
+    {
+        self.byte < self.end || self.left > 0
+    }
+
+    /// The next word with a digit that isn't `value`, or else what is behind the whole words.
+    #[inline(always)]
+    pub(crate) fn refill(self, bytes: &[u8], value: bool) -> Cursor
+        requires valid { IsCursor bytes.now self }
+        requires more { 0 < ahead self }
+        ensures { IsRefilled bytes.now self value result }
+    {
+        match first_other(bytes, self.byte, self.end, value) {
+            Some(other) => {
+                let next = 8 * other.behind - self.offset;
+                Cursor {
+                    base: next - 64,
+                    next,
+                    byte: other.behind,
+                    word: other.word,
+                    ..self
+                }
+            },
+            None => {
+                let base = 8 * self.end - self.offset;
+                Cursor {
+                    base,
+                    next: base + self.left,
+                    byte: self.end,
+                    left: 0,
+                    word: read_bits(bytes, 8 * self.end, self.left),
+                    ..self
+                }
+            },
+        }
+    }
+
+    /// A word that isn't 0, if one is still to come.
+    #[inline(always)]
+    pub(crate) fn skip_zeros(self, bytes: &[u8]) -> Cursor
+        requires { IsCursor bytes.now self }
+        ensures { IsSkipped bytes.now self result }
+    {
+        if self.word != 0 || !self.has_more() {
+            return self;
+        }
+        self.refill(bytes, false)
+    }
+}

@@ -1,0 +1,63 @@
+//! The places of true bits.
+ghost use Rattle.std.specs.Prelude.{◌≡◌, length, ℕ, ◌+◌, ◌-◌, ◌*◌, ◌^◌, ◌<◌, ◌≤◌};
+ghost use Rattle.std.specs.Iterator.{YieldsFirst, item_count};
+ghost use Rattle.vb_bits.specs.Bits.{bits, places};
+
+use crate::cursor::Cursor;
+use std::marker::Model;
+
+/// The places of the true bits of a window, in ascending order, each once.
+///
+/// Contracts see the list of those that are still to come.
+#[derive(Drop)]
+pub struct BitIndexIterator<'a> {
+    bytes: &'a [u8],
+    cursor: Cursor,
+}
+
+impl<'a> Model for BitIndexIterator<'a> {
+    ghost use Rattle.std.specs.Prelude.{List, ℕ};
+
+    ghost Value = { List ℕ };
+
+    ghost use Rattle.vb_walk.specs.Walks.{places_left, IsCursor};
+
+    ghost view = { λ it. places_left it.bytes.now it.cursor };
+
+    ghost invariant = { λ it. IsCursor it.bytes.now it.cursor };
+}
+
+impl<'a> BitIndexIterator<'a> {
+    /// The places within the window of `len` bits from bit `offset` on. It has to lie in the bytes,
+    /// and `offset + len` has to be a `usize`.
+    #[inline]
+    pub fn new(bytes: &'a [u8], offset: usize, len: usize) -> Self
+        requires inside { offset + len ≤ 8 * length bytes.now }
+        requires fits { offset + len < 2 ^ 64 }
+        ensures { result ≡ places (bits bytes.now offset len) }
+    {
+        BitIndexIterator {
+            bytes,
+            cursor: Cursor::new(bytes, offset, len),
+        }
+    }
+}
+
+impl Iterator for BitIndexIterator<'_> {
+    type Item = usize;
+
+    ghost next_gives = { YieldsFirst (λ rest. rest) };
+
+    ghost remaining = { item_count (λ rest. rest) };
+
+    #[inline(always)]
+    fn next(&mut self) -> Option<usize> {
+        self.cursor = self.cursor.skip_zeros(self.bytes);
+        let word = self.cursor.word;
+        if word == 0 {
+            return None;
+        }
+        self.cursor.word = word & (word - 1);
+        Some(self.cursor.base + word.trailing_zeros() as usize)
+    }
+}
