@@ -5,6 +5,7 @@
 //! and places are counted in bits. No call takes memory.
 #![tactic(auto)]
 
+mod bit;
 mod chunks;
 mod cursor;
 mod index;
@@ -13,6 +14,7 @@ mod ones;
 mod other;
 mod slices;
 
+pub use bit::BitIterator;
 pub use chunks::{BitChunkIterator, BitChunks, PaddedChunkIterator};
 pub use index::BitIndexIterator;
 pub use meta::BitBufferMeta;
