@@ -1,7 +1,7 @@
 //! A set of bits whose storage several owners may share.
 ghost use Rattle.std.specs.Prelude.{◌≡◌, ◌<◌, ◌==◌, ◌↔◌, length, take, IsSome, IfSome};
 ghost use Rattle.std.specs.Int.{div_ceil};
-ghost use Rattle.vb_set.specs.Windows.{IsWindow};
+ghost use Rattle.vb_walk.specs.Windows.{IsWindow};
 
 use crate::shown::write_bits;
 use std::alloc::{Allocator, Global};
@@ -14,6 +14,7 @@ mod edit;
 mod make;
 mod question;
 mod slice;
+mod view;
 
 /// A set of bits whose storage several owners may share, over a byte buffer of alignment 1.
 ///

@@ -15,3 +15,7 @@ pub use bit_buffer::BitBuffer;
 pub use bit_buffer_mut::BitBufferMut;
 pub use vb_core::BufferError;
 pub use vb_mem::{ByteBuffer, ByteBufferMut};
+pub use vb_walk::{
+    BitBufferMeta, BitBufferMutView, BitBufferView, BitChunkIterator, BitChunks, BitStore,
+    PaddedChunkIterator,
+};

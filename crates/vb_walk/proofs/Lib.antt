@@ -1,3 +1,5 @@
+mod CompareLemmas
+mod CutLemmas
 pub mod WordsLemmas
 pub mod OthersLemmas
 pub mod WalkLemmas

@@ -1,6 +1,6 @@
--- Bytes that are handed out with the place of a set's bits in them.
+-- Bytes that are handed out with the place of some bits in them.
 use Rattle.std.specs.Prelude.{◌≡◌, ℕ, ◌+◌, ◌*◌, ◌^◌, ◌<◌, ◌≤◌, Bool, List, length}
-use Rattle.vb_kernel.specs.Bits.{bits}
+use Rattle.vb_bits.specs.Bits.{bits}
 
 -- the list is the window of the bytes from bit o on, and the window's end is a number of 64 bits
 pub record IsWindow (bytes : List ℕ) (o : ℕ) (list : List Bool) : Type 0 where
