@@ -1,12 +1,15 @@
 //! Bits over borrowed bytes.
 ghost use Rattle.std.specs.Prelude.{◌≡◌, ◌+◌, ◌-◌, ◌*◌, ◌/◌, ◌%◌, ◌^◌, ◌<◌, ◌≤◌, ◌==◌};
 ghost use Rattle.std.specs.Prelude.{length, drop, slice_get, slice_range, Some};
-ghost use Rattle.vb_bits.specs.Bits.{bits, count, negated, Selects, AnswersEach};
+ghost use Rattle.vb_bits.specs.Bits.{bits, count, negated, places, Selects, AnswersEach};
+ghost use Rattle.vb_bits.specs.Runs.{runs};
 ghost use Rattle.vb_walk.specs.Cut.{IsCut};
 ghost use Rattle.vb_walk.specs.Windows.{IsWindow};
 
 use crate::chunks::BitChunks;
+use crate::index::BitIndexIterator;
 use crate::meta::BitBufferMeta;
+use crate::slices::BitSliceIterator;
 use crate::unaligned::UnalignedBitChunk;
 use std::ops::Range;
 use vb_bits::get_bit;
@@ -145,6 +148,20 @@ impl<'a> BitBufferView<'a> {
         ensures { IsCut (offset_of self.now) (bits_of self.now) result }
     {
         UnalignedBitChunk::new(self.bytes, self.offset, self.len)
+    }
+
+    /// The places of the true bits, in ascending order.
+    pub fn set_indices(&self) -> BitIndexIterator<'a>
+        ensures { result ≡ places (bits_of self.now) }
+    {
+        BitIndexIterator::new(self.bytes, self.offset, self.len)
+    }
+
+    /// The runs of true bits, from front to end: where each begins, and the place behind it.
+    pub fn set_slices(&self) -> BitSliceIterator<'a>
+        ensures { result ≡ runs (bits_of self.now) }
+    {
+        BitSliceIterator::new(self.bytes, self.offset, self.len)
     }
 
     /// How many bits are true. It reads every byte of the bits once, 64 at a time.
