@@ -7,3 +7,4 @@ pub mod ReadLemmas
 pub mod WindowLemmas
 pub mod WritesLemmas
 pub mod RunsLemmas
+pub mod LastLemmas

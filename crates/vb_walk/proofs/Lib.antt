@@ -7,3 +7,4 @@ pub mod PlacesLemmas
 pub mod OnesLemmas
 pub mod RunsInLemmas
 pub mod TakenRunLemmas
+pub mod BitsToCome

@@ -5,6 +5,7 @@
 //! and places are counted in bits. No call takes memory.
 #![tactic(auto)]
 
+mod bit;
 mod chunks;
 mod compare;
 mod cursor;
@@ -17,6 +18,7 @@ mod slices;
 mod unaligned;
 mod view;
 
+pub use bit::BitIterator;
 pub use chunks::{BitChunkIterator, BitChunks, PaddedChunkIterator};
 pub use index::BitIndexIterator;
 pub use meta::BitBufferMeta;

@@ -13,7 +13,7 @@ use std::marker::Model;
 /// it. Each is as long as can be.
 ///
 /// Contracts see the list of those that are still to come.
-#[derive(Drop)]
+#[derive(Clone, Debug, Drop)]
 pub struct BitSliceIterator<'a> {
     bytes: &'a [u8],
     cursor: Cursor,
