@@ -19,5 +19,6 @@ pub use vb_core::BufferError;
 pub use vb_mem::{ByteBuffer, ByteBufferMut};
 pub use vb_walk::{
     BitBufferMeta, BitBufferMutView, BitBufferView, BitChunkIterator, BitChunks, BitIndexIterator,
-    BitSliceIterator, BitStore, PaddedChunkIterator, UnalignedBitChunk, UnalignedBitChunkIterator,
+    BitIterator, BitSliceIterator, BitStore, PaddedChunkIterator, UnalignedBitChunk,
+    UnalignedBitChunkIterator,
 };

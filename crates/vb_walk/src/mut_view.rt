@@ -9,6 +9,7 @@ ghost use Rattle.vb_bits.specs.Writes.{Writes};
 ghost use Rattle.vb_walk.specs.Windows.{IsWindow};
 ghost use Rattle.vb_walk.specs.View.{bits_of, offset_of, bytes_of};
 
+use crate::bit::BitIterator;
 use crate::view::BitBufferView;
 use vb_bits::{fill_bits, set_bit_to};
 
@@ -154,6 +155,13 @@ impl<S: BitStore> BitBufferMutView<S> {
         ensures { result ≡ count (negated (mut_bits_of self.now)) }
     {
         self.as_view().false_count()
+    }
+
+    /// The bits as truth values, from either end.
+    pub fn iter(&self) -> BitIterator<'_>
+        ensures { result ≡ mut_bits_of self.now }
+    {
+        self.as_view().iter()
     }
 
     /// Makes the bit at place `i` `v`. No other bit of the bytes changes.
