@@ -9,3 +9,4 @@ pub mod WindowLemmas
 pub mod WritesLemmas
 pub mod OperatorsLemmas
 pub mod RunsLemmas
+pub mod LastLemmas

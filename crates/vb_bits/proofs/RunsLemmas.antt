@@ -4,7 +4,7 @@ use Rattle.std.specs.List.{range_with_len, zip}
 use Rattle.std.proofs.lemmas.Bool.{cases_lt, cases_eq}
 use Rattle.std.proofs.lemmas.List.{get_or_past}
 use Rattle.vb_bits.specs.Bits.{at}
-use Rattle.vb_bits.specs.Runs.{before, runs}
+use Rattle.vb_bits.specs.Runs.{before, runs, moved}
 
 -- P is the runs of t among the places from a below e: nothing is true before the first one, all of it is, and the place behind it is the end or isn't
 abbrev pub AreRuns : (ℕ → Bool) → ℕ → ℕ → List (ℕ × ℕ) → Type 0
@@ -16,11 +16,11 @@ AreRuns t a e (p ∷ ps) =
     × ((p.1 ≡ e) ⊎ (t p.1 ≡ false))
     × AreRuns t p.1 e ps
 
--- one more place in front, which is false
-AreRuns-widen : (t : ℕ → Bool) (a e : ℕ) (P : List (ℕ × ℕ)) → t a ≡ false → AreRuns t (a + 1) e P → AreRuns t a e P
-AreRuns-widen t a e [] z h = λ i l r. elim (cases_eq a i) [ inl q ↦ ap t (sym q) ∙ z | inr ne ↦ h i (omega arith) r ]
-AreRuns-widen t a e (p ∷ ps) z h =
-    (omega (arith, h.0), h.1, h.2, λ i l r. elim (cases_eq a i) [ inl q ↦ ap t (sym q) ∙ z | inr ne ↦ h.3 i (omega arith) r ], h.4, h.5, h.6)
+-- places in front that are false
+pub AreRuns-front : (t : ℕ → Bool) (a b e : ℕ) (P : List (ℕ × ℕ)) → a ≤ b → ((i : ℕ) → a ≤ i → i < b → t i ≡ false) → AreRuns t b e P → AreRuns t a e P
+AreRuns-front t a b e [] le off h = λ i l r. elim (cases_lt i b) [ inl low ↦ off i l low | inr high ↦ h i high r ]
+AreRuns-front t a b e (p ∷ ps) le off h =
+    (omega (arith, h.0), h.1, h.2, λ i l r. elim (cases_lt i b) [ inl low ↦ off i l low | inr high ↦ h.3 i high r ], h.4, h.5, h.6)
 
 true_or_false : (b : Bool) → (b ≡ true) ⊎ (b ≡ false)
 true_or_false true = inl refl
@@ -77,7 +77,7 @@ module _ (t u : ℕ → Bool) (e : ℕ) (next : (i : ℕ) → u (i + 1) ≡ t i)
       let rest = paired n (a + 1) (omega arith) in
       let more : (s : ℕ) → s ≤ a → t a ≡ true → ((i : ℕ) → s ≤ i → i < a → t i ≡ true) → AreRuns t s e (zip (s ∷ rise (a + 1) (suc n)) (fall (a + 1) (suc n))) = λ s from on all.
       rest.1 s (next a ∙ on) (omega arith) (λ i lo hi. elim (cases_eq a i) [ inl q ↦ ap t (sym q) ∙ on | inr ne ↦ all i lo (omega arith) ]) in
-      let wide : t a ≡ false → AreRuns t a e (zip (rise (a + 1) (suc n)) (fall (a + 1) (suc n))) = λ off. AreRuns-widen t a e _ off (rest.0 (next a ∙ off)) in (
+      let wide : t a ≡ false → AreRuns t a e (zip (rise (a + 1) (suc n)) (fall (a + 1) (suc n))) = λ off. AreRuns-front t a (a + 1) e _ (omega arith) (λ i l r. let q : a ≡ i = omega arith in ap t (sym q) ∙ off) (rest.0 (next a ∙ off)) in (
         λ low. elim (t_cases a) [
           | inl on ↦ rw (rise_true a (suc n) on low, fall_none a (suc n) low) (more a (omega arith) on (λ i lo hi. absurd (omega arith)))
           | inr off ↦ rw (rise_none a (suc n) off, fall_none a (suc n) low) (wide off)
@@ -156,10 +156,7 @@ AreRuns-same t u a e (p ∷ ps) same h = (
   AreRuns-same t u p.1 e ps (λ i l r. same i (omega (arith, h.0, h.1)) r) h.6,
 )
 
--- a run that is moved up
-abbrev pub moved : ℕ → ℕ × ℕ → ℕ × ℕ
-moved a p = (a + p.0, a + p.1)
-
+-- runs that lie m places further on
 pub AreRuns-moved : (t u : ℕ → Bool) (m a e : ℕ) (P : List (ℕ × ℕ)) → ((i : ℕ) → a ≤ i → i < e → t (m + i) ≡ u i) → AreRuns u a e P → AreRuns t (m + a) (m + e) (map (moved m) P)
 AreRuns-moved t u m a e [] same h = λ i l r.
     let place : m + (i - m) ≡ i = omega arith in

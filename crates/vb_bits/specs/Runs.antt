@@ -19,6 +19,10 @@ falls l = filter (λ i. before l i && not (at l i)) (range_with_len 0 (length l 
 unfoldable pub runs : List Bool → List (ℕ × ℕ)
 runs l = zip (rises l) (falls l)
 
+-- a run that lies a places further on
+abbrev pub moved : ℕ → ℕ × ℕ → ℕ × ℕ
+moved a r = (a + r.0, a + r.1)
+
 -- the last place that is true, or None where there is none
 abbrev pub last_place : List Bool → Option ℕ
 last_place l = last_or None (places l)

@@ -10,12 +10,15 @@ pub mod bit_buffer;
 pub mod bit_buffer_mut;
 mod bytes;
 mod shown;
+mod to_bit_buffer;
 
 pub use bit_buffer::BitBuffer;
 pub use bit_buffer_mut::BitBufferMut;
+pub use to_bit_buffer::ToBitBuffer;
 pub use vb_core::BufferError;
 pub use vb_mem::{ByteBuffer, ByteBufferMut};
 pub use vb_walk::{
-    BitBufferMeta, BitBufferMutView, BitBufferView, BitChunkIterator, BitChunks, BitStore,
-    PaddedChunkIterator,
+    BitBufferMeta, BitBufferMutView, BitBufferView, BitChunkIterator, BitChunks, BitIndexIterator,
+    BitIterator, BitSliceIterator, BitStore, PaddedChunkIterator, UnalignedBitChunk,
+    UnalignedBitChunkIterator,
 };

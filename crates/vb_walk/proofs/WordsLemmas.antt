@@ -53,7 +53,7 @@ same_words l m n h =
 
 -- ---- words of windows
 -- the front of a window, or all of it where it is shorter
-take-window : (b : List ℕ) (o n k : ℕ) → take k (bits b o n) ≡ bits b o (min k n)
+pub take-window : (b : List ℕ) (o n k : ℕ) → take k (bits b o n) ≡ bits b o (min k n)
 take-window b o n k = elim (cases_lt k n) [
   | inl shorter ↦
       let e : min k n ≡ k = omega arith in

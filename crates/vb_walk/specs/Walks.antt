@@ -1,11 +1,13 @@
 -- Walks over a window by words: a word in hand, whole words behind it, and fewer than 64 bits behind these.
-use Rattle.std.specs.Prelude.{◌≡◌, ◌≢◌, ◌⊎◌, ℕ, ◌+◌, ◌-◌, ◌*◌, ◌%◌, ◌^◌, ◌<◌, ◌≤◌, Bool, false, cond, nat_lt, List, length, filter, Option, Some, None}
+use Rattle.std.specs.Prelude.{◌≡◌, ◌≢◌, ◌⊎◌, ℕ, ◌+◌, ◌-◌, ◌*◌, ◌%◌, ◌^◌, ◌<◌, ◌≤◌, Bool, true, false, cond, nat_lt, List, length, filter, map, Option, Some, None}
 use Rattle.std.specs.Int.{bit_not, w64}
 use Rattle.std.specs.List.{range_with_len}
 use Rattle.vb_bits.specs.Bits.{bit_of}
 use Rattle.vb_bits.specs.Digits.{has_bit}
 use Rattle.vb_walk.specs.declared.cursor.Cursor.{Cursor}
+use Rattle.vb_bits.specs.Runs.{runs, moved}
 use Rattle.vb_walk.specs.declared.other.OtherWord.{OtherWord}
+use Rattle.vb_walk.specs.declared.slices.TakenRun.{TakenRun}
 
 -- ---- words with a digit that isn't v
 -- the digits that aren't v
@@ -63,7 +65,7 @@ pub record IsRefilled (bytes : List ℕ) (c : Cursor) (v : Bool) (d : Cursor) : 
   pub later : c.next ≤ d.base
   pub passed : (i : ℕ) → c.next ≤ i → i < d.base → bit_of bytes (c.offset + i) ≡ v
   pub read : (i : ℕ) → d.base ≤ i → i < d.next → has_bit d.word (i - d.base) ≡ bit_of bytes (c.offset + i)
-  pub other : (others v d.word ≢ 0) ⊎ ((ahead d ≡ 0) × (d.next < d.base + 64))
+  pub other : ((others v d.word ≢ 0) × (d.next ≡ d.base + 64)) ⊎ ((ahead d ≡ 0) × (d.next < d.base + 64))
 
 -- d is c with a word in hand that isn't 0, if one is to come: the same is to come, and nothing before
 pub record IsSkipped (bytes : List ℕ) (c d : Cursor) : Type 0 where
@@ -82,3 +84,26 @@ places_in t a n = filter t (range_with_len a n)
 -- the places that are still to come
 abbrev pub places_left : List ℕ → Cursor → List ℕ
 places_left bytes c = places_in (pending bytes c) c.base (stop c - c.base)
+
+-- ---- runs
+-- the runs of t among the n places from a on
+unfoldable pub runs_in : (ℕ → Bool) → ℕ → ℕ → List (ℕ × ℕ)
+runs_in t a n = map (moved a) (runs (map t (range_with_len a n)))
+
+-- the runs that are still to come
+abbrev pub runs_left : List ℕ → Cursor → List (ℕ × ℕ)
+runs_left bytes c = runs_in (pending bytes c) c.base (stop c - c.base)
+
+-- r is the first run that is to come, and r.cursor is c without it
+pub record TakesRun (bytes : List ℕ) (c : Cursor) (r : TakenRun) : Type 0 where
+  pub valid : IsCursor bytes r.cursor
+  pub ends : stop r.cursor ≡ stop c
+  pub from : c.base ≤ r.start
+  pub some : r.start < r.end
+  pub within : r.end ≤ stop c
+  pub later : r.cursor.base ≤ r.end
+  pub off : (i : ℕ) → c.base ≤ i → i < r.start → pending bytes c i ≡ false
+  pub on : (i : ℕ) → r.start ≤ i → i < r.end → pending bytes c i ≡ true
+  pub over : (r.end ≡ stop c) ⊎ (pending bytes c r.end ≡ false)
+  pub gone : (i : ℕ) → r.cursor.base ≤ i → i < r.end → pending bytes r.cursor i ≡ false
+  pub same : (i : ℕ) → r.end ≤ i → i < stop c → pending bytes r.cursor i ≡ pending bytes c i

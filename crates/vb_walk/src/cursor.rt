@@ -7,7 +7,7 @@ use crate::other::first_other;
 use vb_bits::read_bits;
 
 /// A word of the window of bits from bit `offset` on, and what is behind it.
-#[derive(Clone, Copy)]
+#[derive(Clone, Copy, Debug)]
 pub(crate) struct Cursor {
     /// The first bit of the window. Places are counted from it.
     pub(crate) offset: usize,

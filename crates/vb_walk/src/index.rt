@@ -9,7 +9,7 @@ use std::marker::Model;
 /// The places of the true bits of a window, in ascending order, each once.
 ///
 /// Contracts see the list of those that are still to come.
-#[derive(Drop)]
+#[derive(Clone, Debug, Drop)]
 pub struct BitIndexIterator<'a> {
     bytes: &'a [u8],
     cursor: Cursor,

@@ -5,16 +5,24 @@
 //! and places are counted in bits. No call takes memory.
 #![tactic(auto)]
 
+mod bit;
 mod chunks;
+mod compare;
 mod cursor;
 mod index;
 mod meta;
 mod mut_view;
+mod ones;
 mod other;
+mod slices;
+mod unaligned;
 mod view;
 
+pub use bit::BitIterator;
 pub use chunks::{BitChunkIterator, BitChunks, PaddedChunkIterator};
 pub use index::BitIndexIterator;
 pub use meta::BitBufferMeta;
 pub use mut_view::{BitBufferMutView, BitStore};
+pub use slices::BitSliceIterator;
+pub use unaligned::{UnalignedBitChunk, UnalignedBitChunkIterator};
 pub use view::BitBufferView;

@@ -9,6 +9,7 @@ ghost use Rattle.vb_bits.specs.Writes.{Writes};
 ghost use Rattle.vb_walk.specs.Windows.{IsWindow};
 ghost use Rattle.vb_walk.specs.View.{bits_of, offset_of, bytes_of};
 
+use crate::bit::BitIterator;
 use crate::view::BitBufferView;
 use vb_bits::{fill_bits, set_bit_to};
 
@@ -88,6 +89,7 @@ impl<S: BitStore> BitBufferMutView<S> {
         ensures store { store_of result ≡ store }
         ensures place { place_of result ≡ offset }
         ensures len { mut_len_of result ≡ len }
+        ensures bit_len { length (mut_bits_of result) ≡ len }
     {
         BitBufferMutView { store, offset, len }
     }
@@ -153,6 +155,13 @@ impl<S: BitStore> BitBufferMutView<S> {
         ensures { result ≡ count (negated (mut_bits_of self.now)) }
     {
         self.as_view().false_count()
+    }
+
+    /// The bits as truth values, from either end.
+    pub fn iter(&self) -> BitIterator<'_>
+        ensures { result ≡ mut_bits_of self.now }
+    {
+        self.as_view().iter()
     }
 
     /// Makes the bit at place `i` `v`. No other bit of the bytes changes.
@@ -238,6 +247,7 @@ impl<'a> BitStore for &'a mut [u8] {
     }
 }
 
+#[tactic(auto, using(vb_bits::proofs::WindowLemmas::windows))]
 impl<'a> BitBufferMutView<&'a mut [u8]> {
     ghost use Rattle.vb_walk.specs.MutView.{mut_bits_of, store_of, place_of, mut_len_of};
 
@@ -247,6 +257,7 @@ impl<'a> BitBufferMutView<&'a mut [u8]> {
         ensures bits { mut_bits_of result ≡ window bytes.old 0 len }
         ensures place { place_of result ≡ 0 }
         ensures len { mut_len_of result ≡ len }
+        ensures bit_len { length (mut_bits_of result) ≡ len }
         ensures bytes { (store_of result).now ≡ bytes.old }
         ensures same_reference { (store_of result).ghost_name ≡ bytes.entry.ghost_name }
     {
@@ -261,6 +272,7 @@ impl<'a> BitBufferMutView<&'a mut [u8]> {
         ensures bits { mut_bits_of result ≡ window bytes.old offset len }
         ensures place { place_of result ≡ offset }
         ensures len { mut_len_of result ≡ len }
+        ensures bit_len { length (mut_bits_of result) ≡ len }
         ensures bytes { (store_of result).now ≡ bytes.old }
         ensures same_reference { (store_of result).ghost_name ≡ bytes.entry.ghost_name }
     {

@@ -1,14 +1,19 @@
 //! Bits over borrowed bytes.
 ghost use Rattle.std.specs.Prelude.{◌≡◌, ◌+◌, ◌-◌, ◌*◌, ◌/◌, ◌%◌, ◌^◌, ◌<◌, ◌≤◌, ◌==◌};
 ghost use Rattle.std.specs.Prelude.{length, drop, slice_get, slice_range, Some};
-ghost use Rattle.vb_bits.specs.Bits.{bits, count, negated, Selects, AnswersEach};
+ghost use Rattle.vb_bits.specs.Bits.{bits, count, negated, places, Selects, AnswersEach};
+ghost use Rattle.vb_bits.specs.Runs.{runs, last_place};
+ghost use Rattle.vb_walk.specs.Cut.{IsCut};
 ghost use Rattle.vb_walk.specs.Windows.{IsWindow};
-ghost use Rattle.vb_walk.specs.Words.{full_words, padded};
 
+use crate::bit::BitIterator;
 use crate::chunks::BitChunks;
+use crate::index::BitIndexIterator;
 use crate::meta::BitBufferMeta;
+use crate::slices::BitSliceIterator;
+use crate::unaligned::UnalignedBitChunk;
 use std::ops::Range;
-use vb_bits::get_bit;
+use vb_bits::{get_bit, last_set_index};
 use vb_kernel::{bit_select, bit_select_unset, count_ones};
 
 /// A list of bits that lies in borrowed bytes, and that may be copied freely.
@@ -139,6 +144,34 @@ impl<'a> BitBufferView<'a> {
         BitChunks::new(self.bytes, self.offset, self.len)
     }
 
+    /// The bytes of the bits, by eights from the first one, as words.
+    pub fn unaligned_chunks(&self) -> UnalignedBitChunk<'a>
+        ensures { IsCut (offset_of self.now) (bits_of self.now) result }
+    {
+        UnalignedBitChunk::new(self.bytes, self.offset, self.len)
+    }
+
+    /// The bits as truth values, from either end.
+    pub fn iter(&self) -> BitIterator<'a>
+        ensures { result ≡ bits_of self.now }
+    {
+        BitIterator::new(self.bytes, self.offset, self.len)
+    }
+
+    /// The places of the true bits, in ascending order.
+    pub fn set_indices(&self) -> BitIndexIterator<'a>
+        ensures { result ≡ places (bits_of self.now) }
+    {
+        BitIndexIterator::new(self.bytes, self.offset, self.len)
+    }
+
+    /// The runs of true bits, from front to end: where each begins, and the place behind it.
+    pub fn set_slices(&self) -> BitSliceIterator<'a>
+        ensures { result ≡ runs (bits_of self.now) }
+    {
+        BitSliceIterator::new(self.bytes, self.offset, self.len)
+    }
+
     /// How many bits are true. It reads every byte of the bits once, 64 at a time.
     pub fn true_count(&self) -> usize
         ensures { result ≡ count (bits_of self.now) }
@@ -169,5 +202,28 @@ impl<'a> BitBufferView<'a> {
         ensures each { AnswersEach (negated (bits_of self.now)) n result }
     {
         bit_select_unset(self.bytes, self.offset, self.len, n)
+    }
+
+    /// The place of the last true bit; `None` where no bit is true. It reads from the end, a word
+    /// at a time, up to the word that has it.
+    pub fn last_set_index(&self) -> Option<usize>
+        ensures { result ≡ last_place (bits_of self.now) }
+    {
+        last_set_index(self.bytes, self.offset, self.len)
+    }
+}
+
+impl<'a> IntoIterator for BitBufferView<'a> {
+    ghost use Rattle.std.specs.Prelude.{◌≡◌};
+    ghost use Rattle.vb_walk.specs.View.{bits_of};
+
+    type Item = bool;
+
+    type IntoIter = BitIterator<'a>;
+
+    ghost into_iter_gives = { λ v it. it ≡ bits_of v };
+
+    fn into_iter(self) -> BitIterator<'a> {
+        self.iter()
     }
 }

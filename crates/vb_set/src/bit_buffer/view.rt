@@ -1,10 +1,15 @@
 //! The bits lent for questions.
-ghost use Rattle.std.specs.Prelude.{◌≡◌};
+ghost use Rattle.std.specs.Prelude.{◌≡◌, ◌<◌, ◌^◌, length};
+ghost use Rattle.vb_kernel.specs.Bits.{places};
+ghost use Rattle.vb_walk.specs.Runs.{runs};
+ghost use Rattle.vb_walk.specs.Cut.{IsCut};
 ghost use Rattle.vb_walk.specs.View.{bits_of, offset_of, bytes_of};
 
 use super::BitBuffer;
 use std::alloc::Allocator;
-use vb_walk::{BitBufferView, BitChunks};
+use vb_walk::{
+    BitBufferView, BitChunks, BitIndexIterator, BitIterator, BitSliceIterator, UnalignedBitChunk,
+};
 
 #[tactic(auto, using(crate::proofs::SetLemmas::sets))]
 impl<A: Allocator + Clone> BitBuffer<A> {
@@ -17,10 +22,53 @@ impl<A: Allocator + Clone> BitBuffer<A> {
         BitBufferView::new_with_offset(self.buffer.as_slice(), self.len, self.offset)
     }
 
+    /// The bits as truth values, from either end.
+    pub fn iter(&self) -> BitIterator<'_>
+        ensures value { result ≡ self.now.bits }
+        ensures fits { length self.now.bits < 2 ^ 64 }
+    {
+        self.as_view().iter()
+    }
+
+    /// The places of the true bits, in ascending order.
+    pub fn set_indices(&self) -> BitIndexIterator<'_>
+        ensures { result ≡ places self.now.bits }
+    {
+        self.as_view().set_indices()
+    }
+
+    /// The runs of true bits, from front to end: where each begins, and the place behind it.
+    pub fn set_slices(&self) -> BitSliceIterator<'_>
+        ensures { result ≡ runs self.now.bits }
+    {
+        self.as_view().set_slices()
+    }
+
     /// The bits as words of 64 bits from the first bit on.
     pub fn chunks(&self) -> BitChunks<'_>
         ensures { result ≡ self.now.bits }
     {
         self.as_view().chunks()
+    }
+
+    /// The bytes of the bits, by eights from the first one, as words.
+    pub fn unaligned_chunks(&self) -> UnalignedBitChunk<'_>
+        ensures { IsCut self.now.offset self.now.bits result }
+    {
+        self.as_view().unaligned_chunks()
+    }
+}
+
+impl<'a, A: Allocator + Clone> IntoIterator for &'a BitBuffer<A> {
+    ghost use Rattle.std.specs.Prelude.{◌≡◌, ◌<◌, ◌^◌, length};
+
+    type Item = bool;
+
+    type IntoIter = BitIterator<'a>;
+
+    ghost into_iter_gives = { λ s it. (it ≡ s.now.bits) × (length it < 2 ^ 64) };
+
+    fn into_iter(self) -> BitIterator<'a> {
+        self.iter()
     }
 }

@@ -1,0 +1,48 @@
+//! Views copied into sets.
+ghost use Rattle.std.specs.Prelude.{◌≡◌, ◌+◌, ◌<◌, Bool, List, length, IfOk, IsOkUnless};
+ghost use Rattle.std.specs.Int.{div_ceil};
+ghost use Rattle.vb_walk.specs.MutView.{mut_bits_of};
+ghost use Rattle.vb_walk.specs.View.{bits_of};
+
+use crate::bit_buffer::BitBuffer;
+use std::alloc::Allocator;
+use vb_core::BufferError;
+use vb_mem::ByteBuffer;
+use vb_walk::{BitBufferMutView, BitBufferView, BitStore};
+
+/// Bits that can be copied into a set of their own.
+pub trait ToBitBuffer {
+    // the bits
+    ghost bits: { Self → List Bool };
+
+    /// A set of the same bits, over a copy of the bytes in which they lie and of no others. Refused
+    /// by `OutOfMemory` alone.
+    fn to_bit_buffer<A: Allocator + Clone>(&self, alloc: A) -> Result<BitBuffer<A>, BufferError>
+        ensures bits { IfOk result (λ s. s.bits ≡ bits self.now) }
+        ensures byte_len { IfOk result (λ s. length s.bytes
+            ≡ div_ceil (s.offset + length s.bits) 8) }
+        ensures refused { IsOkUnless result BufferError.OutOfMemory };
+}
+
+#[tactic(auto, using(crate::proofs::SetLemmas::sets))]
+impl ToBitBuffer for BitBufferView<'_> {
+    ghost use Rattle.vb_walk.specs.View.{bits_of};
+
+    ghost bits = { bits_of };
+
+    fn to_bit_buffer<A: Allocator + Clone>(&self, alloc: A) -> Result<BitBuffer<A>, BufferError> {
+        let covered = &self.inner()[..self.meta().byte_len()];
+        let bytes = ByteBuffer::copy_from(alloc, covered)?;
+        Ok(BitBuffer::new_with_offset(bytes, self.len(), self.offset()))
+    }
+}
+
+impl<S: BitStore> ToBitBuffer for BitBufferMutView<S> {
+    ghost use Rattle.vb_walk.specs.MutView.{mut_bits_of};
+
+    ghost bits = { mut_bits_of };
+
+    fn to_bit_buffer<A: Allocator + Clone>(&self, alloc: A) -> Result<BitBuffer<A>, BufferError> {
+        self.as_view().to_bit_buffer(alloc)
+    }
+}

@@ -1,0 +1,12 @@
+-- Runs of ones within a word.
+use Rattle.std.specs.Prelude.{◌≡◌, ℕ, ◌<◌, ◌≤◌, true, false}
+use Rattle.vb_bits.specs.Digits.{has_bit}
+
+-- the digits of the word from a below b are ones, the next one isn't, and `rest` is the word without any digit below b
+pub record CutsOnes (word a b rest : ℕ) : Type 0 where
+  pub within : b ≤ 64
+  pub ones : (i : ℕ) → a ≤ i → i < b → has_bit word i ≡ true
+  pub stop : b < 64 → has_bit word b ≡ false
+  pub gone : (i : ℕ) → i < b → has_bit rest i ≡ false
+  pub kept : (i : ℕ) → b ≤ i → i < 64 → has_bit rest i ≡ has_bit word i
+  pub fewer : rest ≤ word

@@ -1,0 +1,116 @@
+//! Truth values, one after the other.
+ghost use Rattle.std.specs.Prelude.{◌≡◌, ◌+◌, ◌*◌, ◌^◌, ◌<◌, ◌≤◌, length, Some, IfSome};
+ghost use Rattle.std.specs.Iterator.{YieldsFirst, YieldsLast, UpTo, at_most, item_count};
+ghost use Rattle.std.specs.Iterator.SizeHint.{IsWithinCount};
+ghost use Rattle.vb_bits.specs.Bits.{bits};
+ghost use Rattle.vb_core.specs.ExactCounts.{list_counts};
+
+use std::marker::Model;
+use vb_bits::get_bit;
+use vb_core::TrustedLen;
+
+/// The bits of a window as truth values, from either end.
+///
+/// Contracts see the list of those that are still to come.
+#[derive(Clone, Debug, Drop)]
+pub struct BitIterator<'a> {
+    bytes: &'a [u8],
+    start: usize,
+    end: usize,
+}
+
+impl<'a> Model for BitIterator<'a> {
+    ghost use Rattle.std.specs.Prelude.{List, Bool, length, ◌-◌, ◌*◌, ◌^◌, ◌<◌, ◌≤◌};
+    ghost use Rattle.vb_bits.specs.Bits.{bits};
+
+    ghost Value = { List Bool };
+
+    ghost view = { λ it. bits it.bytes.now it.start (it.end - it.start) };
+
+    ghost invariant = { λ it. record {
+      order : it.start ≤ it.end;
+      inside : it.end ≤ 8 * length it.bytes.now;
+      fits : it.end < 2 ^ 64;
+    } };
+}
+
+#[tactic(auto, using(crate::proofs::BitsToCome::bits_to_come))]
+impl<'a> BitIterator<'a> {
+    /// The `len` bits from bit `offset` on. They have to lie in the bytes, and `offset + len` has
+    /// to be a `usize`.
+    #[inline]
+    pub fn new(bytes: &'a [u8], offset: usize, len: usize) -> Self
+        requires inside { offset + len ≤ 8 * length bytes.now }
+        requires fits { offset + len < 2 ^ 64 }
+        ensures value { result ≡ bits bytes.now offset len }
+        ensures len { length result ≡ len }
+    {
+        BitIterator {
+            bytes,
+            start: offset,
+            end: offset + len,
+        }
+    }
+}
+
+#[tactic(auto, using(crate::proofs::BitsToCome::bits_to_come))]
+impl Iterator for BitIterator<'_> {
+    type Item = bool;
+
+    ghost next_gives = { YieldsFirst (λ rest. rest) };
+
+    ghost remaining = { item_count (λ rest. rest) };
+
+    #[inline(always)]
+    fn next(&mut self) -> Option<bool> {
+        if self.start == self.end {
+            return None;
+        }
+        let bit = get_bit(self.bytes, self.start);
+        self.start += 1;
+        Some(bit)
+    }
+
+    /// The number of bits still to come, as both bounds.
+    fn size_hint(&self) -> (usize, Option<usize>)
+        ensures exact { result ≡ (length self.now, Some (length self.now)) }
+        ensures lower { IsWithinCount result.0 (at_most (length self.now)) }
+        ensures upper { IfSome result.1 (UpTo (at_most (length self.now))) }
+    {
+        (self.len(), Some(self.len()))
+    }
+}
+
+#[tactic(auto, using(crate::proofs::BitsToCome::bits_to_come))]
+impl DoubleEndedIterator for BitIterator<'_> {
+    ghost next_back_gives = { YieldsLast (λ rest. rest) };
+
+    #[inline(always)]
+    fn next_back(&mut self) -> Option<bool> {
+        if self.start == self.end {
+            return None;
+        }
+        self.end -= 1;
+        Some(get_bit(self.bytes, self.end))
+    }
+}
+
+#[tactic(auto, using(crate::proofs::BitsToCome::bits_to_come))]
+impl ExactSizeIterator for BitIterator<'_> {
+    /// The number of bits still to come.
+    fn len(&self) -> usize
+        ensures { result ≡ length self.now }
+    {
+        self.end - self.start
+    }
+}
+
+impl TrustedLen for BitIterator<'_> {
+    ghost left = { length };
+
+    ghost counts = { list_counts (λ x. x) (λ s. s) };
+
+    fn exact_len(&self) -> usize {
+        self.len()
+    }
+}

@@ -1,0 +1,41 @@
+//! The lowest ones of a word.
+ghost use Rattle.std.specs.Prelude.{◌≡◌, ℕ, ◌+◌, ◌^◌, ◌<◌, false};
+ghost use Rattle.vb_bits.specs.Digits.{has_bit};
+ghost use Rattle.vb_walk.specs.Ones.{CutsOnes};
+
+/// The lowest run of ones of a word.
+#[derive(Clone, Copy)]
+pub(crate) struct LowestRun {
+    /// Its first digit.
+    pub(crate) start: usize,
+    /// The digit behind it.
+    pub(crate) end: usize,
+    /// The word without it.
+    pub(crate) rest: u64,
+}
+
+/// The lowest run of ones of a word that isn't 0.
+#[inline(always)]
+pub(crate) fn lowest_run(word: u64) -> LowestRun
+    requires { 0 < word }
+    ensures some { result.start < result.end }
+    ensures below { (i : ℕ) → i < result.start → has_bit word i ≡ false }
+    ensures cut { CutsOnes word result.start result.end result.rest }
+{
+    let filled = word | (word - 1);
+    LowestRun {
+        start: word.trailing_zeros() as usize,
+        end: filled.trailing_ones() as usize,
+        rest: word & filled.wrapping_add(1),
+    }
+}
+
+/// How many ones a word has below its lowest 0, and the word without them.
+#[inline(always)]
+pub(crate) fn lowest_ones(word: u64) -> (usize, u64)
+    requires { word + 1 < 2 ^ 64 }
+    ensures few { result.0 < 64 }
+    ensures cut { CutsOnes word 0 result.0 result.1 }
+{
+    (word.trailing_ones() as usize, word & (word + 1))
+}

@@ -1,0 +1,106 @@
+//! The runs of true bits.
+ghost use Rattle.std.specs.Prelude.{◌≡◌, length, ℕ, ◌+◌, ◌-◌, ◌*◌, ◌^◌, ◌<◌, ◌≤◌};
+ghost use Rattle.std.specs.Iterator.{YieldsFirst, item_count};
+ghost use Rattle.vb_bits.specs.Bits.{bits};
+ghost use Rattle.vb_bits.specs.Runs.{runs};
+ghost use Rattle.vb_walk.specs.Walks.{IsCursor, TakesRun};
+
+use crate::cursor::Cursor;
+use crate::ones::{lowest_ones, lowest_run};
+use std::marker::Model;
+
+/// The runs of true bits of a window, from front to end: where each begins, and the place behind
+/// it. Each is as long as can be.
+///
+/// Contracts see the list of those that are still to come.
+#[derive(Clone, Debug, Drop)]
+pub struct BitSliceIterator<'a> {
+    bytes: &'a [u8],
+    cursor: Cursor,
+}
+
+impl<'a> Model for BitSliceIterator<'a> {
+    ghost use Rattle.std.specs.Prelude.{List, ℕ};
+
+    ghost Value = { List (ℕ × ℕ) };
+
+    ghost use Rattle.vb_walk.specs.Walks.{runs_left, IsCursor};
+
+    ghost view = { λ it. runs_left it.bytes.now it.cursor };
+
+    ghost invariant = { λ it. IsCursor it.bytes.now it.cursor };
+}
+
+impl<'a> BitSliceIterator<'a> {
+    /// The runs within the window of `len` bits from bit `offset` on. It has to lie in the bytes,
+    /// and `offset + len` has to be a `usize`.
+    #[inline]
+    pub fn new(bytes: &'a [u8], offset: usize, len: usize) -> Self
+        requires inside { offset + len ≤ 8 * length bytes.now }
+        requires fits { offset + len < 2 ^ 64 }
+        ensures { result ≡ runs (bits bytes.now offset len) }
+    {
+        BitSliceIterator {
+            bytes,
+            cursor: Cursor::new(bytes, offset, len),
+        }
+    }
+}
+
+impl Iterator for BitSliceIterator<'_> {
+    type Item = (usize, usize);
+
+    ghost next_gives = { YieldsFirst (λ rest. rest) };
+
+    ghost remaining = { item_count (λ rest. rest) };
+
+    #[inline(always)]
+    fn next(&mut self) -> Option<(usize, usize)> {
+        self.cursor = self.cursor.skip_zeros(self.bytes);
+        if self.cursor.word == 0 {
+            return None;
+        }
+        let run = take_run(self.bytes, self.cursor);
+        self.cursor = run.cursor;
+        Some((run.start, run.end))
+    }
+}
+
+/// A run, and where the walk stands behind it.
+#[derive(Clone, Copy)]
+pub(crate) struct TakenRun {
+    cursor: Cursor,
+    start: usize,
+    end: usize,
+}
+
+/// The lowest run of the word in hand, which isn't 0. Where it goes on behind the word, it ends in
+/// the next word that isn't all ones.
+#[inline(always)]
+fn take_run(bytes: &[u8], cursor: Cursor) -> TakenRun
+    requires valid { IsCursor bytes.now cursor }
+    requires some { 0 < cursor.word }
+    ensures { TakesRun bytes.now cursor result }
+{
+    let run = lowest_run(cursor.word);
+    let start = cursor.base + run.start;
+    let end = cursor.base + run.end;
+    let rest = Cursor {
+        word: run.rest,
+        ..cursor
+    };
+    if end < cursor.next || !cursor.has_more() {
+        return TakenRun {
+            cursor: rest,
+            start,
+            end,
+        };
+    }
+    let far = rest.refill(bytes, true);
+    let (ones, word) = lowest_ones(far.word);
+    TakenRun {
+        cursor: Cursor { word, ..far },
+        start,
+        end: far.base + ones,
+    }
+}
