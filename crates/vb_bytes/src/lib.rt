@@ -8,7 +8,8 @@ ghost use Rattle.vb_bytes.specs.ByteForm.{byteform, IsReadFrom, AreOnlyItems};
 
 use vb_core::{BufferError, Element};
 
-/// The number of bytes of so many items. Refused with `TooManyBytes` exactly where it passes `usize`.
+/// The number of bytes of so many items. Refused with `TooManyBytes` exactly where it passes
+/// `usize`.
 pub fn byte_count<T: Element>(items: usize) -> Result<usize, BufferError>
     ensures fits { items * T.SIZE < 2 ^ 64 → result ≡ Ok (items * T.SIZE) }
     ensures too_many { 2 ^ 64 ≤ items * T.SIZE → IsErrOf result BufferError.TooManyBytes }
@@ -16,8 +17,8 @@ pub fn byte_count<T: Element>(items: usize) -> Result<usize, BufferError>
     items.checked_mul(T::SIZE).ok_or(BufferError::TooManyBytes)
 }
 
-/// The number of items that `len` bytes are. Refused with `ByteLength` exactly where the size of an item doesn't divide
-/// it.
+/// The number of items that `len` bytes are. Refused with `ByteLength` exactly where the size of an
+/// item doesn't divide it.
 pub fn item_count<T: Element>(len: usize) -> Result<usize, BufferError>
     ensures items { IfOk result (λ items. items * T.SIZE ≡ len) }
     ensures whole { len % T.SIZE ≡ 0 → IsOk result }

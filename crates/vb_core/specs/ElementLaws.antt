@@ -1,12 +1,16 @@
--- The whole numbers of each width, as elements. The laws of `Element` cite these lemmas, and so they stand in specs.
+-- The whole numbers of each width, as elements. The laws of `Element` cite these lemmas, and so
+-- they stand in specs.
 use Rattle.std.proofs.Common.{◌≡◌, ℕ, ◌^◌, ◌<◌, FitsSigned, refl, ap, ◌∙◌, lit<}
-use Rattle.std.specs.Int.{Width, w8, w16, w32, w64, w128, byte_len, to_le_bytes, from_le_bytes, cast_signed, cast_unsigned}
+use Rattle.std.specs.Int.{Width, w8, w16, w32, w64, w128, byte_len, to_le_bytes, from_le_bytes}
+use Rattle.std.specs.Int.{cast_signed, cast_unsigned}
 use Rattle.std.proofs.Math.Nat.{mod_self}
 use Rattle.std.proofs.Math.Facts.{Fits-of_z}
 use Rattle.std.proofs.lemmas.Int.{of_z-to_z, to_z-of_z}
 use mir.Val.{bits}
 use Rattle.vb_core.specs.Elements.{IsElement}
-use Rattle.vb_core.specs.LittleEndian.{length-to_le_bytes, to_le_bytes_are_bytes, from_le_bytes-to_le_bytes, to_le_bytes-from_le_bytes, from_le_bytes_fits}
+use Rattle.vb_core.specs.LittleEndian.{length-to_le_bytes, to_le_bytes_are_bytes}
+use Rattle.vb_core.specs.LittleEndian.{from_le_bytes-to_le_bytes, to_le_bytes-from_le_bytes}
+use Rattle.vb_core.specs.LittleEndian.{from_le_bytes_fits}
 
 -- a width's number of bytes is 2 to this power
 abbrev pub byte_exponent : Width → ℕ
@@ -31,7 +35,9 @@ byte_len_is_size w64 = record { positive = lit< tt; power = refl; in_range = lit
 byte_len_is_size w128 = record { positive = lit< tt; power = refl; in_range = lit< tt }
 
 -- the unsigned numbers of a width
-pub unsigned_laws : (w : Width) → IsElement (byte_len w) (byte_len w) (byte_exponent w) (λ x. x < 2 ^ bits w) (to_le_bytes w) (from_le_bytes w)
+pub unsigned_laws : (w : Width)
+    → IsElement (byte_len w) (byte_len w) (byte_exponent w) (λ x. x < 2 ^ bits w) (to_le_bytes w)
+    (from_le_bytes w)
 unsigned_laws w = record {
   size_is_positive = (byte_len_is_size w).positive;
   align_is_power = (byte_len_is_size w).power;
@@ -44,7 +50,9 @@ unsigned_laws w = record {
 }
 
 -- the signed numbers of a width, in two's complement
-pub signed_laws : (w : Width) → IsElement (byte_len w) (byte_len w) (byte_exponent w) (FitsSigned w) (λ x. to_le_bytes w (cast_unsigned w x)) (λ bytes. cast_signed w (from_le_bytes w bytes))
+pub signed_laws : (w : Width)
+    → IsElement (byte_len w) (byte_len w) (byte_exponent w) (FitsSigned w)
+    (λ x. to_le_bytes w (cast_unsigned w x)) (λ bytes. cast_signed w (from_le_bytes w bytes))
 signed_laws w = record {
   size_is_positive = (byte_len_is_size w).positive;
   align_is_power = (byte_len_is_size w).power;
@@ -52,7 +60,10 @@ signed_laws w = record {
   align_divides_size = mod_self (byte_len w);
   form_has_size = λ x _. length-to_le_bytes w (cast_unsigned w x);
   form_is_bytes = λ x _. to_le_bytes_are_bytes w (cast_unsigned w x);
-  get_after_put = λ x fits. ap (cast_signed w) (from_le_bytes-to_le_bytes w (cast_unsigned w x) (Fits-of_z fits).fits) ∙ to_z-of_z w x fits;
+  get_after_put =
+      λ x fits. ap (cast_signed w)
+      (from_le_bytes-to_le_bytes w (cast_unsigned w x) (Fits-of_z fits).fits) ∙ to_z-of_z w x fits;
   put_after_get = λ bytes len all.
-      ap (to_le_bytes w) (of_z-to_z w (from_le_bytes w bytes) (from_le_bytes_fits w bytes len all)) ∙ to_le_bytes-from_le_bytes w bytes len all;
+      ap (to_le_bytes w) (of_z-to_z w (from_le_bytes w bytes) (from_le_bytes_fits w bytes len all))
+      ∙ to_le_bytes-from_le_bytes w bytes len all;
 }

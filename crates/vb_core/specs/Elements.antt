@@ -6,8 +6,10 @@ use Rattle.std.specs.List.{All}
 abbrev pub AreBytes : List ℕ → Type 0
 AreBytes = All (λ byte. byte < 256)
 
--- the laws of `Element`: values of the type and lists of as many bytes as its size determine each other
-pub record IsElement {T : Type 0} (size align align_exponent : ℕ) (is_in_type : T → Type 0) (form : T → List ℕ) (value_of : List ℕ → T) : Type 0 where
+-- the laws of `Element`: values of the type and lists of as many bytes as its size determine each
+-- other
+pub record IsElement {T : Type 0} (size align align_exponent : ℕ) (is_in_type : T → Type 0)
+    (form : T → List ℕ) (value_of : List ℕ → T) : Type 0 where
   pub size_is_positive : 0 < size
   pub align_is_power : align ≡ 2 ^ align_exponent
   pub align_in_range : align_exponent < 64
@@ -15,4 +17,5 @@ pub record IsElement {T : Type 0} (size align align_exponent : ℕ) (is_in_type 
   pub form_has_size : (x : T) → is_in_type x → length (form x) ≡ size
   pub form_is_bytes : (x : T) → is_in_type x → AreBytes (form x)
   pub get_after_put : (x : T) → is_in_type x → value_of (form x) ≡ x
-  pub put_after_get : (bytes : List ℕ) → length bytes ≡ size → AreBytes bytes → form (value_of bytes) ≡ bytes
+  pub put_after_get : (bytes : List ℕ) → length bytes ≡ size → AreBytes bytes
+      → form (value_of bytes) ≡ bytes

@@ -1,5 +1,7 @@
--- Iterators whose items are counted. The laws of `TrustedLen` cite these lemmas, and so they stand in specs.
-use Rattle.std.specs.Prelude.{ℕ, ◌≡◌, ◌+◌, ◌-◌, ◌<◌, ℤ, pos, negsuc, ◌+ℤ◌, List, [], ◌∷◌, length, Option, Some, None}
+-- Iterators whose items are counted. The laws of `TrustedLen` cite these lemmas, and so they stand
+-- in specs.
+use Rattle.std.specs.Prelude.{ℕ, ◌≡◌, ◌+◌, ◌-◌, ◌<◌, ℤ, pos, negsuc, ◌+ℤ◌, List, [], ◌∷◌, length}
+use Rattle.std.specs.Prelude.{Option, Some, None}
 use Rattle.std.proofs.Common.{suc, zero, true, arith, ap, ◌∙◌}
 use Rattle.std.proofs.Math.IntN.{suc_ℤ, +ℤ_one}
 use Rattle.std.specs.Int.{int_gap}
@@ -13,7 +15,8 @@ module _ {S A : Type 0} (steps : S → Option A → S → Type 0) where
   -- what a run that ends in `None` gave
   drained : (run : Run steps) → run.whole ≡ true → Drains steps run.from run.items
   unfolding YieldsRun
-  drained run whole = let last = run.gave.0.2 whole in (last.0, (run.gave.0.0, run.gave.0.1, last.1))
+  drained run whole =
+      let last = run.gave.0.2 whole in (last.0, (run.gave.0.0, run.gave.0.1, last.1))
 
   module _ (remaining : S → Count) (left : S → ℕ)
       (one_less : (s : S) (item : A) (t : S) → steps s (Some item) t → left t + 1 ≡ left s)
@@ -32,7 +35,9 @@ module _ {S A : Type 0} (steps : S → Option A → S → Type 0) where
     -- and an exact count, where the items end
     pub exact_count : ((s : S) → IsFinite (remaining s)) → IsExactCount steps remaining left
     exact_count finite = record {
-      is_length = λ s run _ from whole. run.long ∙ length-Drains run.from run.items (drained run whole) ∙ ap left from;
+      is_length =
+          λ s run _ from whole. run.long ∙ length-Drains run.from run.items (drained run whole)
+          ∙ ap left from;
       one_less = one_less;
       none_left = none_left;
       finite = finite;
@@ -41,16 +46,21 @@ module _ {S A : Type 0} (steps : S → Option A → S → Type 0) where
 -- a range has as many items as its start lies below its end
 range_counts : {A : Type 0} (gap : A → A → ℕ) (is_successor : A → A → Type 0)
     → ((x y end : A) → is_successor x y → 0 < gap x end → gap y end + 1 ≡ gap x end)
-    → IsExactCount (range_steps gap is_successor) (λ s. at_most (gap s.start s.end)) (λ s. gap s.start s.end)
+    → IsExactCount (range_steps gap is_successor) (λ s. at_most (gap s.start s.end))
+    (λ s. gap s.start s.end)
 range_counts gap is_successor nearer =
-    exact_count (range_steps gap is_successor) (λ s. at_most (gap s.start s.end)) (λ s. gap s.start s.end)
-    (λ s item t step. ap (λ end. gap t.start end + 1) step.0 ∙ nearer s.start t.start s.end step.1.2 step.1.0)
+    exact_count (range_steps gap is_successor) (λ s. at_most (gap s.start s.end))
+    (λ s. gap s.start s.end)
+    (λ s item t step.
+    ap (λ end. gap t.start end + 1) step.0 ∙ nearer s.start t.start s.end step.1.2 step.1.0)
     (λ s t step. step.1.0)
     (λ s. tt)
 
 -- the ranges of unsigned numbers
-pub unsigned_range_counts : IsExactCount (range_steps (λ (x y : ℕ). y - x) (λ x y. y ≡ x + 1)) (λ s. at_most (s.end - s.start)) (λ s. s.end - s.start)
-unsigned_range_counts = range_counts (λ (x y : ℕ). y - x) (λ x y. y ≡ x + 1) (λ x y end next below. omega arith)
+pub unsigned_range_counts : IsExactCount (range_steps (λ (x y : ℕ). y - x) (λ x y. y ≡ x + 1))
+    (λ s. at_most (s.end - s.start)) (λ s. s.end - s.start)
+unsigned_range_counts =
+    range_counts (λ (x y : ℕ). y - x) (λ x y. y ≡ x + 1) (λ x y end next below. omega arith)
 
 -- the next integer is nearer by one to what lies above
 int_gap-suc_ℤ : (x end : ℤ) → 0 < int_gap x end → int_gap (suc_ℤ x) end + 1 ≡ int_gap x end
@@ -62,13 +72,16 @@ int_gap-suc_ℤ (negsuc (suc a)) (pos b) below = omega arith
 int_gap-suc_ℤ (negsuc (suc a)) (negsuc b) below = omega arith
 
 -- the ranges of signed numbers
-pub signed_range_counts : IsExactCount (range_steps int_gap (λ x y. y ≡ x +ℤ pos 1)) (λ s. at_most (int_gap s.start s.end)) (λ s. int_gap s.start s.end)
+pub signed_range_counts : IsExactCount (range_steps int_gap (λ x y. y ≡ x +ℤ pos 1))
+    (λ s. at_most (int_gap s.start s.end)) (λ s. int_gap s.start s.end)
 signed_range_counts =
     range_counts int_gap (λ x y. y ≡ x +ℤ pos 1)
-    (λ x y end next below. ap (λ z. int_gap z end + 1) (next ∙ +ℤ_one x) ∙ int_gap-suc_ℤ x end below)
+    (λ x y end next below.
+    ap (λ z. int_gap z end + 1) (next ∙ +ℤ_one x) ∙ int_gap-suc_ℤ x end below)
 
 -- what is left of a slice is a list
-pub slice_iter_counts : {T : Type 0} → IsExactCount (iter_steps {A = T}) (λ s. at_most (length (iter_rest s))) (λ s. length (iter_rest s))
+pub slice_iter_counts : {T : Type 0} → IsExactCount (iter_steps {A = T})
+    (λ s. at_most (length (iter_rest s))) (λ s. length (iter_rest s))
 slice_iter_counts =
     exact_count iter_steps (λ s. at_most (length (iter_rest s))) (λ s. length (iter_rest s))
     (λ s item t step. let same = ap length step in omega arith)
@@ -77,9 +90,13 @@ slice_iter_counts =
 
 -- an iterator that is kept with its number of items counts them down
 pub adapter_counts : {I A : Type 0} (steps : I → Option A → I → Type 0)
-    → IsExactCount (λ (s : Counted I) r (t : Counted I). CountsDown (steps s.iter r t.iter) s.left r t.left) (λ s. at_most s.left) (λ s. s.left)
+    → IsExactCount
+    (λ (s : Counted I) r (t : Counted I). CountsDown (steps s.iter r t.iter) s.left r t.left)
+    (λ s. at_most s.left) (λ s. s.left)
 adapter_counts steps =
-    exact_count (λ (s : Counted _) r (t : Counted _). CountsDown (steps s.iter r t.iter) s.left r t.left) (λ s. at_most s.left) (λ s. s.left)
+    exact_count
+    (λ (s : Counted _) r (t : Counted _). CountsDown (steps s.iter r t.iter) s.left r t.left)
+    (λ s. at_most s.left) (λ s. s.left)
     (λ s item t step. step.0)
     (λ s t step. step.0)
     (λ s. tt)

@@ -7,8 +7,10 @@ use Rattle.std.specs.Iterator.Runs.{EachRunFrom}
 abbrev pub IsLength : {S A : Type 0} → (S → Option A → S → Type 0) → S → ℕ → Type 0
 IsLength steps s n = EachRunFrom steps s (λ run. run.whole ≡ true → run.len ≡ n)
 
--- the law of `TrustedLen`: as many items come as are left, each leaves one less, `None` comes where none is left, and it does come
-pub record IsExactCount {S A : Type 0} (steps : S → Option A → S → Type 0) (remaining : S → Count) (left : S → ℕ) : Type 0 where
+-- the law of `TrustedLen`: as many items come as are left, each leaves one less, `None` comes where
+-- none is left, and it does come
+pub record IsExactCount {S A : Type 0} (steps : S → Option A → S → Type 0) (remaining : S → Count)
+    (left : S → ℕ) : Type 0 where
   pub is_length : (s : S) → IsLength steps s (left s)
   pub one_less : (s : S) (item : A) (t : S) → steps s (Some item) t → left t + 1 ≡ left s
   pub none_left : (s t : S) → steps s None t → left s ≡ 0

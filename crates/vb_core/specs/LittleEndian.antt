@@ -1,8 +1,10 @@
 -- A number below `256 ^ n` and its n bytes, the least significant first, determine each other.
-use Rattle.std.proofs.Common.{◌/◌, ◌%◌, ◌≡◌, ℕ, zero, suc, ◌+◌, ◌*◌, ◌^◌, ◌<◌, List, [], ◌∷◌, length, slice_index, refl, sym, ap, ◌∙◌, arith}
+use Rattle.std.proofs.Common.{◌/◌, ◌%◌, ◌≡◌, ℕ, zero, suc, ◌+◌, ◌*◌, ◌^◌, ◌<◌, List, [], ◌∷◌}
+use Rattle.std.proofs.Common.{length, slice_index, refl, sym, ap, ◌∙◌, arith}
 use Rattle.std.proofs.lemmas.List.Elements.{All-nil, All-cons, All-head, All-tail}
 use Rattle.std.proofs.Math.Nat.{div-div-eq-div-mul, div-one, pow-suc}
-use Rattle.std.specs.Int.{Width, w8, w16, w32, w64, w128, byte_at, byte_len, byte_worth, bytes_low_first, sum_through, to_le_bytes, from_le_bytes}
+use Rattle.std.specs.Int.{Width, w8, w16, w32, w64, w128, byte_at, byte_len, byte_worth}
+use Rattle.std.specs.Int.{bytes_low_first, sum_through, to_le_bytes, from_le_bytes}
 use mir.Val.{bits}
 use Rattle.vb_core.specs.Elements.{AreBytes}
 
@@ -24,7 +26,9 @@ length-digits (suc n) x = let rest = length-digits n (x / 256) in omega arith
 -- each from 0 to 255
 digits_are_bytes : (n x : ℕ) → AreBytes (digits n x)
 digits_are_bytes zero x = All-nil (λ b. b < 256)
-digits_are_bytes (suc n) x = All-cons (λ b. b < 256) (x % 256) (digits n (x / 256)) (omega arith) (digits_are_bytes n (x / 256))
+digits_are_bytes (suc n) x =
+    All-cons (λ b. b < 256) (x % 256) (digits n (x / 256)) (omega arith)
+    (digits_are_bytes n (x / 256))
 
 -- the bytes of a number that fits stand for it
 number-digits : (n x : ℕ) → x < 256 ^ n → number (digits n x) ≡ x
@@ -65,7 +69,8 @@ bytes_low_first-digits i (suc k) x =
     rw (byte_at-pow i x, bytes_low_first-digits (suc i) k x, shift) refl
 
 -- a sum with its first term in front
-sum_through-first : (f : ℕ → ℕ) (k : ℕ) → sum_through f (suc k) ≡ f 0 + sum_through (λ i. f (suc i)) k
+sum_through-first : (f : ℕ → ℕ) (k : ℕ)
+    → sum_through f (suc k) ≡ f 0 + sum_through (λ i. f (suc i)) k
 sum_through-first f zero = refl
 sum_through-first f (suc k) = let rest = sum_through-first f k in omega arith
 
@@ -77,14 +82,16 @@ byte_worth-suc (suc i) b =
     rw power (grind arith)
 
 -- and so are all bytes of a sum
-sum_through-up : (g : ℕ → ℕ) (k : ℕ) → sum_through (λ i. byte_worth (suc i) (g i)) k ≡ 256 * sum_through (λ i. byte_worth i (g i)) k
+sum_through-up : (g : ℕ → ℕ) (k : ℕ)
+    → sum_through (λ i. byte_worth (suc i) (g i)) k ≡ 256 * sum_through (λ i. byte_worth i (g i)) k
 sum_through-up g zero = byte_worth-suc 0 (g 0)
 sum_through-up g (suc k) =
     let rest = sum_through-up g k in
     let top = byte_worth-suc (suc k) (g (suc k)) in omega arith
 
 -- std's sum over bytes is the number that they stand for
-sum_through-number : (bs : List ℕ) (k : ℕ) → length bs ≡ suc k → sum_through (λ i. byte_worth i (slice_index bs i)) k ≡ number bs
+sum_through-number : (bs : List ℕ) (k : ℕ) → length bs ≡ suc k
+    → sum_through (λ i. byte_worth i (slice_index bs i)) k ≡ number bs
 sum_through-number [] k len = absurd (omega arith)
 sum_through-number (b ∷ []) zero len = omega arith
 sum_through-number (b ∷ []) (suc k) len = absurd (omega arith)
@@ -96,7 +103,8 @@ sum_through-number (b ∷ c ∷ bs) (suc k) len =
     omega arith
 
 -- what is read of as many bytes as a width has is their number
-from_le_bytes-number : (w : Width) (bs : List ℕ) → length bs ≡ byte_len w → from_le_bytes w bs ≡ number bs
+from_le_bytes-number : (w : Width) (bs : List ℕ) → length bs ≡ byte_len w
+    → from_le_bytes w bs ≡ number bs
 from_le_bytes-number w8 bs len = sum_through-number bs 0 len
 from_le_bytes-number w16 bs len = sum_through-number bs 1 len
 from_le_bytes-number w32 bs len = sum_through-number bs 3 len
@@ -113,7 +121,8 @@ pow-bits w128 = refl
 
 -- what is written of a number are its bytes
 to_le_bytes-digits : (w : Width) (x : ℕ) → to_le_bytes w x ≡ digits (byte_len w) x
-to_le_bytes-digits w x = bytes_low_first-digits 0 (byte_len w) x ∙ ap (digits (byte_len w)) (div-one x)
+to_le_bytes-digits w x =
+    bytes_low_first-digits 0 (byte_len w) x ∙ ap (digits (byte_len w)) (div-one x)
 
 -- as many bytes as the width has
 pub length-to_le_bytes : (w : Width) (x : ℕ) → length (to_le_bytes w x) ≡ byte_len w
@@ -124,19 +133,23 @@ pub to_le_bytes_are_bytes : (w : Width) (x : ℕ) → AreBytes (to_le_bytes w x)
 to_le_bytes_are_bytes w x = rw (to_le_bytes-digits w x) (digits_are_bytes (byte_len w) x)
 
 -- reading after writing gives the number
-pub from_le_bytes-to_le_bytes : (w : Width) (x : ℕ) → x < 2 ^ bits w → from_le_bytes w (to_le_bytes w x) ≡ x
+pub from_le_bytes-to_le_bytes : (w : Width) (x : ℕ) → x < 2 ^ bits w
+    → from_le_bytes w (to_le_bytes w x) ≡ x
 from_le_bytes-to_le_bytes w x fits =
     from_le_bytes-number w (to_le_bytes w x) (length-to_le_bytes w x)
     ∙ ap number (to_le_bytes-digits w x)
     ∙ number-digits (byte_len w) x (rw (← pow-bits w) fits)
 
 -- writing after reading gives the bytes
-pub to_le_bytes-from_le_bytes : (w : Width) (bs : List ℕ) → length bs ≡ byte_len w → AreBytes bs → to_le_bytes w (from_le_bytes w bs) ≡ bs
+pub to_le_bytes-from_le_bytes : (w : Width) (bs : List ℕ) → length bs ≡ byte_len w → AreBytes bs
+    → to_le_bytes w (from_le_bytes w bs) ≡ bs
 to_le_bytes-from_le_bytes w bs len all =
     to_le_bytes-digits w (from_le_bytes w bs)
     ∙ ap (digits (byte_len w)) (from_le_bytes-number w bs len)
     ∙ ap (λ k. digits k (number bs)) (sym len) ∙ digits-number bs all
 
 -- what is read is a number of the width
-pub from_le_bytes_fits : (w : Width) (bs : List ℕ) → length bs ≡ byte_len w → AreBytes bs → from_le_bytes w bs < 2 ^ bits w
-from_le_bytes_fits w bs len all = rw (from_le_bytes-number w bs len, pow-bits w, ← len) (number_fits bs all)
+pub from_le_bytes_fits : (w : Width) (bs : List ℕ) → length bs ≡ byte_len w → AreBytes bs
+    → from_le_bytes w bs < 2 ^ bits w
+from_le_bytes_fits w bs len all =
+    rw (from_le_bytes-number w bs len, pow-bits w, ← len) (number_fits bs all)

@@ -9,9 +9,11 @@ use crate::error::BufferError;
 use std::fmt;
 use std::marker::Model;
 
-/// A power of two below `2^64`: the number that divides the place in bytes of the first item of a buffer.
+/// A power of two below `2^64`: the number that divides the place in bytes of the first item of a
+/// buffer.
 ///
-/// Contracts see an alignment as its exponent. Equality, order and hash are those of the exponent. No call takes memory.
+/// Contracts see an alignment as its exponent. Equality, order and hash are those of the exponent.
+/// No call takes memory.
 #[derive(Clone, Copy, Debug, PartialEq, Eq, PartialOrd, Ord, Hash)]
 pub struct Alignment {
     exponent: u8,
@@ -30,19 +32,22 @@ impl Model for Alignment {
 }
 
 impl Alignment {
-    /// The alignment that a buffer declares where no other is asked for: 256 bytes, more than any vector register has.
+    /// The alignment that a buffer declares where no other is asked for: 256 bytes, more than any
+    /// vector register has.
     pub const DEFAULT_ALIGNMENT: Alignment = Alignment { exponent: 8 };
 
     /// The alignment of copies from a device to the host: 256 bytes.
     pub const HOST_COPY: Alignment = Alignment { exponent: 8 };
 
-    /// The greatest alignment that untrusted input may ask for: 65536 bytes, the size of the largest common page.
+    /// The greatest alignment that untrusted input may ask for: 65536 bytes, the size of the
+    /// largest common page.
     pub const MAX_UNTRUSTED: Alignment = Alignment { exponent: 16 };
 
     /// The greatest alignment: `2^63` bytes.
     pub const MAX: Alignment = Alignment { exponent: 63 };
 
-    /// The alignment of `align` bytes, which is a power of two. Of a literal that is shown by computing.
+    /// The alignment of `align` bytes, which is a power of two. Of a literal that is shown by
+    /// computing.
     pub fn new(align: usize) -> Alignment
         requires { IsPower align }
         ensures { 2 ^ result ≡ align }
@@ -75,7 +80,8 @@ impl Alignment {
         Alignment { exponent }
     }
 
-    /// The alignment of `2^exponent` bytes. Refused with `ExponentTooLarge` exactly where the exponent is 64 or more.
+    /// The alignment of `2^exponent` bytes. Refused with `ExponentTooLarge` exactly where the
+    /// exponent is 64 or more.
     pub fn try_from_exponent(exponent: u8) -> Result<Alignment, BufferError>
         ensures fits { exponent < 64 → result ≡ Ok exponent }
         ensures too_large { 64 ≤ exponent → IsErrOf result (BufferError.ExponentTooLarge exponent) }
@@ -86,12 +92,13 @@ impl Alignment {
         Ok(Alignment::from_exponent(exponent))
     }
 
-    /// The alignment of `2^exponent` bytes, where the exponent comes from input that isn't trusted and so isn't to
-    /// ask for more than `MAX_UNTRUSTED`. Refused with `ExponentTooLarge` exactly where the exponent is 64 or more,
-    /// and with `Untrusted` exactly where it is 17 to 63.
+    /// The alignment of `2^exponent` bytes, where the exponent comes from input that isn't trusted
+    /// and so isn't to ask for more than `MAX_UNTRUSTED`. Refused with `ExponentTooLarge` exactly
+    /// where the exponent is 64 or more, and with `Untrusted` exactly where it is 17 to 63.
     pub fn try_from_untrusted_exponent(exponent: u8) -> Result<Alignment, BufferError>
         ensures fits { exponent ≤ 16 → result ≡ Ok exponent }
-        ensures untrusted { 16 < exponent → exponent < 64 → IsErrOf result (BufferError.Untrusted exponent) }
+        ensures untrusted { 16 < exponent → exponent < 64 →
+            IsErrOf result (BufferError.Untrusted exponent) }
         ensures too_large { 64 ≤ exponent → IsErrOf result (BufferError.ExponentTooLarge exponent) }
     {
         let alignment = Alignment::try_from_exponent(exponent)?;
@@ -101,12 +108,14 @@ impl Alignment {
         Ok(alignment)
     }
 
-    /// The alignment of `align` bytes. Refused with `AlignmentZero` exactly where `align` is 0, and with
-    /// `NotPowerOfTwo` exactly where it is another number that is no power of two.
+    /// The alignment of `align` bytes. Refused with `AlignmentZero` exactly where `align` is 0, and
+    /// with `NotPowerOfTwo` exactly where it is another number that is no power of two.
     pub fn try_from_u32(align: u32) -> Result<Alignment, BufferError>
-        ensures power { IsTrue (is_power_of_two align) → IsOkAnd result (λ alignment. 2 ^ alignment ≡ align) }
+        ensures power { IsTrue (is_power_of_two align) →
+            IsOkAnd result (λ alignment. 2 ^ alignment ≡ align) }
         ensures zero { align ≡ 0 → IsErrOf result BufferError.AlignmentZero }
-        ensures no_power { 0 < align → ¬ IsTrue (is_power_of_two align) → IsErrOf result (BufferError.NotPowerOfTwo align) }
+        ensures no_power { 0 < align → ¬ IsTrue (is_power_of_two align) →
+            IsErrOf result (BufferError.NotPowerOfTwo align) }
     {
         let value = align as usize;
         if value == 0 {

@@ -7,8 +7,8 @@ mod unsigned;
 
 /// An item of a buffer: a value that `SIZE` bytes stand for, and that these bytes determine.
 ///
-/// The twelve whole-number types are elements. Their bytes are those of little-endian order, the least significant
-/// one first, with two's complement for the signed types.
+/// The twelve whole-number types are elements. Their bytes are those of little-endian order, the
+/// least significant one first, with two's complement for the signed types.
 pub trait Element: Copy {
     /// The number of bytes of an element; not 0.
     const SIZE: usize;
@@ -51,7 +51,8 @@ pub trait Element: Copy {
         ensures value { result ≡ value_of bytes.now }
         ensures in_type { is_in_type result };
 
-    /// Always true: each value in hand is one of the type. Contracts that want this of a value learn it here.
+    /// Always true: each value in hand is one of the type. Contracts that want this of a value
+    /// learn it here.
     fn is_value(self) -> bool
         ensures holds { IsTrue result }
         ensures in_type { is_in_type self };

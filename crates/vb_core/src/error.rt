@@ -7,7 +7,8 @@ use thiserror::Error;
 /// Why a call is refused. The contract of each call says which of these it gives, and exactly when.
 #[derive(Clone, Copy, Debug, PartialEq, Eq, Hash, Error)]
 pub enum BufferError {
-    /// A request for memory was refused, or the room wanted is more than `isize::MAX` bytes, or a length passes `usize`.
+    /// A request for memory was refused, or the room wanted is more than `isize::MAX` bytes, or a
+    /// length passes `usize`.
     #[error("out of memory")]
     OutOfMemory,
     /// An alignment was to be made of 0.

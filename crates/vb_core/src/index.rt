@@ -7,7 +7,8 @@ pub trait BitIndex: Copy {
     // The number that it is.
     ghost number: { Self → ℤ };
 
-    /// The place that the number names: `None` exactly where the number is below 0 or past `usize::MAX`.
+    /// The place that the number names: `None` exactly where the number is below 0 or past
+    /// `usize::MAX`.
     fn place(self) -> Option<usize>
         ensures { result ≡ place_of (number self) };
 }

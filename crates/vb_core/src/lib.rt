@@ -1,12 +1,12 @@
-//! What every crate of the memory layer speaks of: alignments, the elements of buffers, indices of bits, iterators of
-//! known length, and the reasons for which a call is refused.
+//! What every crate of the memory layer speaks of: alignments, the elements of buffers, indices of
+//! bits, iterators of known length, and the reasons for which a call is refused.
 #![tactic(auto)]
 
-pub mod alignment;
-pub mod element;
-pub mod error;
-pub mod index;
-pub mod trusted;
+mod alignment;
+mod element;
+mod error;
+mod index;
+mod trusted;
 
 pub use alignment::Alignment;
 pub use element::Element;

@@ -9,7 +9,8 @@ mod std_iterators;
 
 use std::marker::Model;
 
-/// An iterator that knows how many items it has still to give, so that room for all can be made at once.
+/// An iterator that knows how many items it has still to give, so that room for all can be made at
+/// once.
 pub trait TrustedLen: Iterator {
     // How many items are still to come.
     ghost left: { Self → ℕ };
@@ -37,7 +38,8 @@ impl<I> Model for TrustedLenAdapter<I> {
     ghost view = { λ adapter. record { iter = adapter.iter; left = adapter.left } };
 }
 
-/// The iterator `iter` with the number of its items. The caller vouches that exactly `n` items come from it.
+/// The iterator `iter` with the number of its items. The caller vouches that exactly `n` items come
+/// from it.
 pub fn trusted_len<I: Iterator>(iter: I, n: usize) -> TrustedLenAdapter<I>
     requires { IsLength I.next_gives iter n }
     ensures iter { result.iter ≡ iter }

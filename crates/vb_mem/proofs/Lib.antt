@@ -1,3 +1,5 @@
+pub mod Growth
+pub mod Made
 pub mod Places
 pub mod Runs
 pub mod Slices

@@ -1,12 +1,25 @@
 -- What runs of iterators do to a list.
-use Rattle.std.specs.Prelude.{Option, Result, Ok, Err, List, ◌∷◌, ◌++◌, [], map}
-use Rattle.std.specs.Iterator.{Drains, Yields}
+use Rattle.std.specs.Prelude.{ℕ, Option, MatchOption, Result, Ok, Err, List, ◌∷◌, ◌++◌, [], map}
+use Rattle.std.specs.Iterator.{Count, Drains, Yields, YieldsThen, IsNearerEnd}
+use Rattle.std.specs.Iterator.Runs.{WholeRun}
 use Rattle.vb_core.specs.declared.error.ExtendError.{ExtendError}
 use Rattle.vb_core.specs.declared.error.ExtendError.TheVariants.{Memory, Item}
 
--- an iterator that is made of `source` came to its end, and P holds of the items that it gave
-abbrev pub OfItems : {U S A : Type 0} → (U → S → Type 0) → (S → Option A → S → Type 0) → U → (List A → Type 0) → Type 0
-OfItems {U} {S} {A} becomes steps source P = (s : S) × (items : List A) × becomes source s × Drains steps s items × P items
+module _ {U S A : Type 0} (becomes : U → S → Type 0) (steps : S → Option A → S → Type 0) where
+  -- an iterator that is made of `source` came to its end, and P holds of the items that it gave
+  abbrev pub OfItems : U → (List A → Type 0) → Type 0
+  OfItems source P = (s : S) × (items : List A) × becomes source s × Drains steps s items × P items
+
+  -- and P holds of their number
+  abbrev pub OfRun : U → (ℕ → Type 0) → Type 0
+  OfRun source P = (s : S) × becomes source s × WholeRun steps s (λ run. P run.len)
+
+module _ {S A : Type 0} (can : S → Type 0) (left : S → Count)
+    (steps : S → Option A → S → Type 0) where
+  -- calls from s gave the items and then r, and left t. After an item t may be called, and ends
+  abbrev pub GivesThen : S → List A → Option A → S → Type 0
+  GivesThen s items r t = YieldsThen steps s items r t
+      × MatchOption r (Unit {0}) (λ _. IsNearerEnd can left s t)
 
 module _ {S A E : Type 0} (steps : S → Option (Result A E) → S → Type 0) where
   -- calls from s gave values only, and came to an end
@@ -15,7 +28,8 @@ module _ {S A E : Type 0} (steps : S → Option (Result A E) → S → Type 0) w
 
   -- calls from s gave values and then an error e
   abbrev pub GivesError : S → E → (List A → Type 0) → Type 0
-  GivesError s e P = (items : List A) × (t : S) × Yields steps s (map Ok items ++ Err e ∷ []) t × P items
+  GivesError s e P = (items : List A) × (t : S)
+      × Yields steps s (map Ok items ++ Err e ∷ []) t × P items
 
 -- P holds of the error of an item, or Q where memory was refused
 abbrev pub IfStopped : {B E : Type 0} → Result B (ExtendError E) → (E → Type 0) → Type 0 → Type 0

@@ -4,22 +4,35 @@ use Rattle.vb_mem.specs.declared.content.Content.{Content}
 use Rattle.vb_mem.specs.declared.content.Content.TheVariants.{Nothing, Stored}
 use Rattle.std.specs.Rc.{rc_with_value}
 use Rattle.vb_mem.specs.OpenBuffer.{OpenBuffer}
-use Rattle.vb_mem.specs.SharedBuffer.{SharedBuffer, IsPlaceAligned}
+use Rattle.vb_mem.specs.SharedBuffer.{SharedBuffer, IsPlaceAligned, shown}
 
 module _ {T A : Type 0} where
   -- what is seen, where an item has so many bytes
   abbrev pub seen : ℕ → Content T A → SharedBuffer T
-  seen size (Nothing exponent) = record { list = []; exponent = exponent; declared_exponent = exponent; place = 0 }
-  seen size (Stored rc None) = record { list = rc.value.list; exponent = rc.value.exponent; declared_exponent = rc.value.declared_exponent; place = 0 }
-  seen size (Stored rc (Some window)) = record { list = take window.len (drop window.start rc.value.list); exponent = window.alignment; declared_exponent = rc.value.declared_exponent; place = window.start * size }
+  seen size (Nothing exponent) = record {
+    list = [];
+    exponent = exponent;
+    declared_exponent = exponent;
+    place = 0;
+  }
+  seen size (Stored rc None) = shown rc.value
+  seen size (Stored rc (Some window)) = record {
+    list = take window.len (drop window.start rc.value.list);
+    exponent = window.alignment;
+    declared_exponent = rc.value.declared_exponent;
+    place = window.start * size;
+  }
 
-  -- a window lies in its storage and ends within `usize`, and its place has the alignment that it reports, which is at least that of an item
+  -- a window lies in its storage and ends within `usize`, and its place has the alignment that it
+  -- reports, which is at least that of an item
   abbrev pub IsSound : ℕ → ℕ → Content T A → Type 0
   IsSound size least (Nothing exponent) = least ≤ exponent
   IsSound size least (Stored rc None) = Unit {0}
   IsSound size least (Stored rc (Some window)) =
-      (window.start + window.len ≤ length rc.value.list) × (window.start + window.len < 2 ^ 64)
-      × (0 < window.len → IsPlaceAligned (window.start * size) rc.value.declared_exponent window.alignment)
+      (window.start + window.len ≤ length rc.value.list)
+      × (window.start + window.len < 2 ^ 64)
+      × (0 < window.len
+      → IsPlaceAligned (window.start * size) rc.value.declared_exponent window.alignment)
       × (least ≤ window.alignment) × (window.alignment ≤ rc.value.declared_exponent)
 
   -- all of a storage is shown, and P holds of what is in it

@@ -1,3 +1,4 @@
+pub mod Answers
 pub mod Collected
 pub mod Content
 pub mod Loans

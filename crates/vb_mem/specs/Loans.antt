@@ -13,9 +13,15 @@ use Rattle.vb_mem.specs.contracts.buffer_mut.BufferMut.{the_row as open_row}
 
 module _ (T A : RattleType) (t : OfElement T.Denot) (a : OfAllocator A.Denot) where
   -- the storage has what is left behind the reference; at `Err` all is as it was
-  abbrev pub LendsStorage : {E : Type 0} → MutBor (Content T.Denot A.Denot) → Result (MutBor (OpenBuffer T.Denot)) E → Fml
-  LendsStorage content lent = LendsIfOk (content_row T A t a) (open_row T A t a) content lent (with_stored content.now) content.now
+  abbrev pub LendsStorage : {E : Type 0} → MutBor (Content T.Denot A.Denot)
+      → Result (MutBor (OpenBuffer T.Denot)) E → Fml
+  LendsStorage content lent =
+      LendsIfOk (content_row T A t a) (open_row T A t a) content lent
+      (with_stored content.now) content.now
 
   -- the buffer shows what is left behind the reference; at `Err` it keeps its items
-  abbrev pub LendsAll : {E : Type 0} → MutBor (SharedBuffer T.Denot) → Result (MutBor (OpenBuffer T.Denot)) E → Fml
-  LendsAll buffer lent = LendsSoOk (shared_row T A t a) (open_row T A t a) buffer lent (λ b growing. b ≡ shown growing) (KeepsItems buffer.now)
+  abbrev pub LendsAll : {E : Type 0} → MutBor (SharedBuffer T.Denot)
+      → Result (MutBor (OpenBuffer T.Denot)) E → Fml
+  LendsAll buffer lent =
+      LendsSoOk (shared_row T A t a) (open_row T A t a) buffer lent
+      (λ b growing. b ≡ shown growing) (KeepsItems buffer.now)

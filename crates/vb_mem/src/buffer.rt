@@ -1,22 +1,26 @@
-//! A buffer that shares its storage.
-ghost use Rattle.std.specs.Prelude.{◌≡◌, ◌==◌, ◌↔◌, ◌<◌, ◌≤◌, ◌+◌, ◌*◌, ◌%◌, ◌^◌, [], length, IfOk, IsTrue, IsOkUnless};
-ghost use Rattle.vb_mem.specs.SharedBuffer.{Shows, IsAlignedTo};
+//! A buffer that shares its storage, and its parts: these are made in constant time, and nothing is
+//! copied.
+ghost use Rattle.std.specs.Prelude.{◌≡◌, ◌==◌, ◌↔◌, ◌≤◌, [], length, IsTrue};
+ghost use Rattle.vb_mem.specs.Answers.{Makes};
+ghost use Rattle.vb_mem.specs.SharedBuffer.{IsAlignedTo, ShowsPart, CanSlice, CanNarrow};
 
+use crate::Result;
 use crate::content::Content;
 use std::alloc::{Allocator, Global};
 use std::marker::Model;
-use vb_core::{Alignment, BufferError, Element};
+use std::ops::Range;
+use vb_core::{Alignment, Element};
 
 mod byte_form;
 mod convert;
 mod make;
-mod slice;
 
 /// A list of items whose storage other buffers may share, with an alignment.
 ///
-/// The reported alignment is the one that was asked for, or that of an item. Where the buffer isn't empty, the place of
-/// its first item in the storage, in bytes, is a multiple of it, and the storage is declared with it or with the one that
-/// it was over-aligned to, if that is greater. Equality, order and hash are those of the list.
+/// The reported alignment is the one that was asked for, or that of an item. Where the buffer isn't
+/// empty, the place of its first item in the storage, in bytes, is a multiple of it, and the
+/// storage is declared with it or with the one that it was over-aligned to, if that is greater.
+/// Equality, order and hash are those of the list.
 #[derive(Drop)]
 pub struct Buffer<T: Element, A: Allocator = Global> {
     content: Content<T, A>,
@@ -67,8 +71,8 @@ impl<T: Element, A: Allocator> Buffer<T, A> {
         self.len() == 0
     }
 
-    /// The alignment that the buffer reports: at least that of an item, at most the declared one, and one that the
-    /// buffer is aligned to.
+    /// The alignment that the buffer reports: at least that of an item, at most the declared one,
+    /// and one that the buffer is aligned to.
     pub fn alignment(&self) -> Alignment
         ensures value { result ≡ self.now.exponent }
         ensures at_least { T.align_exponent ≤ result }
@@ -82,7 +86,8 @@ impl<T: Element, A: Allocator> Buffer<T, A> {
         }
     }
 
-    /// The alignment that the storage is declared with; of an empty buffer, one that is at least the reported one.
+    /// The alignment that the storage is declared with; of an empty buffer, one that is at least
+    /// the reported one.
     pub fn declared(&self) -> Alignment
         ensures value { result ≡ self.now.declared_exponent }
         ensures at_least { self.now.exponent ≤ result }
@@ -93,8 +98,8 @@ impl<T: Element, A: Allocator> Buffer<T, A> {
         }
     }
 
-    /// Whether the buffer is aligned to an alignment: it is empty, or the place in bytes of its first item is a
-    /// multiple of the alignment and its storage is declared with it or more.
+    /// Whether the buffer is aligned to an alignment: it is empty, or the place in bytes of its
+    /// first item is a multiple of the alignment and its storage is declared with it or more.
     pub fn is_aligned(&self, alignment: Alignment) -> bool
         ensures { IsTrue result ↔ IsAlignedTo self.now alignment }
     {
@@ -108,5 +113,67 @@ impl<T: Element, A: Allocator> Buffer<T, A> {
         ensures alignment { self.new.exponent ≡ self.old.exponent }
     {
         self.content = Content::Nothing(self.alignment());
+    }
+
+    /// Whether the items of a range can be sliced with an alignment: the range lies within the
+    /// buffer, the alignment is at least that of an item, and the range is empty or the place in
+    /// bytes of its first item is a multiple of the alignment and the storage is declared with it
+    /// or more.
+    pub fn can_slice(&self, range: Range<usize>, alignment: Alignment) -> bool
+        ensures { IsTrue result
+            ↔ CanSlice T.SIZE T.align_exponent self.now range.start range.end alignment }
+    {
+        range.start <= range.end
+            && range.end <= self.len()
+            && Alignment::of::<T>() <= alignment
+            && (range.start == range.end
+                || (self.content.is_place_divided(alignment, range.start)
+                    && alignment <= self.declared()))
+    }
+
+    /// Keeps the items of a range, for which [`Buffer::can_slice`] holds at the buffer's alignment,
+    /// which stays: so it does where the range starts a multiple of that many bytes on. It takes no
+    /// memory.
+    pub fn narrow(&mut self, range: Range<usize>)
+        requires { CanNarrow T.SIZE T.align_exponent self.old range.start range.end }
+        ensures { ShowsPart T.SIZE self.old range.start range.end self.old.exponent self.new }
+    {
+        let alignment = self.alignment();
+        self.content.narrow(range, alignment);
+    }
+}
+
+impl<T: Element, A: Allocator + Clone> Buffer<T, A> {
+    /// The items of a range as [`Buffer::narrow`] keeps them; the part shares the storage. Refused
+    /// with `OutOfMemory` where a copy of the allocator finds no memory.
+    pub fn slice(&self, range: Range<usize>) -> Result<Self>
+        requires { CanNarrow T.SIZE T.align_exponent self.now range.start range.end }
+        ensures { Makes (ShowsPart T.SIZE self.now range.start range.end self.now.exponent) result }
+    {
+        let alignment = self.alignment();
+        self.slice_with_alignment(range, alignment)
+    }
+
+    /// The items of a range with an alignment, for which [`Buffer::can_slice`] holds; the part
+    /// shares the storage. Refused as [`Buffer::slice`] is.
+    pub fn slice_with_alignment(&self, range: Range<usize>, alignment: Alignment) -> Result<Self>
+        requires { CanSlice T.SIZE T.align_exponent self.now range.start range.end alignment }
+        ensures { Makes (ShowsPart T.SIZE self.now range.start range.end alignment) result }
+    {
+        let mut part = self.clone()?;
+        part.content.narrow(range, alignment);
+        Ok(part)
+    }
+
+    /// The items of a range within the buffer, of the alignment of an item; the part shares the
+    /// storage. Refused as [`Buffer::slice`] is.
+    pub fn slice_unaligned(&self, range: Range<usize>) -> Result<Self>
+        requires start_le_end { range.start ≤ range.end }
+        requires in_bounds { range.end ≤ length self.now.list }
+        ensures { Makes (ShowsPart T.SIZE self.now range.start range.end T.align_exponent) result }
+    {
+        // Its contract tells the proof that the place is a multiple of an item's alignment.
+        let _ = self.alignment();
+        self.slice_with_alignment(range, Alignment::of::<T>())
     }
 }

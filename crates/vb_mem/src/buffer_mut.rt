@@ -9,20 +9,18 @@ use std::alloc::{Allocator, Global};
 use std::marker::Model;
 use vb_core::{Alignment, Element};
 
-mod collect;
 mod convert;
 mod grow;
 mod make;
 
 /// A list of items that grows, with an alignment.
 ///
-/// The reported alignment is the one that was asked for, or that of an item; a [`Buffer`](crate::Buffer) made of the
-/// list reports it too. The declared alignment is that of the storage: the reported one, or the one that the buffer was
-/// over-aligned to if that is greater. Growth keeps both.
+/// The reported alignment is the one that was asked for, or that of an item; a
+/// [`Buffer`](crate::Buffer) made of the list reports it too. The declared alignment is that of the
+/// storage: the greater of the reported one and the one that it was over-aligned to, which is 256
+/// bytes or the preferred one, where one may be given (`None` prefers none). Growth keeps both.
 ///
-/// An alignment that is asked for is at least that of an item. Storage that is "over-aligned to 256 bytes" is declared
-/// with the greater of 256 bytes and what is asked; where a preferred alignment is given, with the greater of that one
-/// and what is asked. `None` prefers no more than what is asked.
+/// An alignment that is asked for is at least that of an item.
 #[derive(Drop)]
 pub struct BufferMut<T: Element, A: Allocator = Global> {
     pub(crate) items: Vec<T, A>,
@@ -36,9 +34,17 @@ impl<T: Element, A: Allocator> Model for BufferMut<T, A> {
 
     ghost Value = { OpenBuffer T };
 
-    ghost view = { λ b. record { list = b.items.items; exponent = b.alignment; declared_exponent = b.declared; room = vec_capacity b.items } };
+    ghost view = { λ b. record {
+      list = b.items.items;
+      exponent = b.alignment;
+      declared_exponent = b.declared;
+      room = vec_capacity b.items;
+    } };
 
-    ghost invariant = { λ b. record { at_least : T.align_exponent ≤ b.alignment; fits : b.alignment ≤ b.declared } };
+    ghost invariant = { λ b. record {
+      at_least : T.align_exponent ≤ b.alignment;
+      fits : b.alignment ≤ b.declared;
+    } };
 }
 
 impl<T: Element, A: Allocator> BufferMut<T, A> {
@@ -90,7 +96,8 @@ impl<T: Element, A: Allocator> BufferMut<T, A> {
 
     /// The items, to be written. All else stays.
     pub fn as_mut_slice(&mut self) -> &mut [T]
-        ensures* writes_back { sem 𝓛 (Lends (the_row T.row A.row T.Element A.Allocator) (Array T.row 0) self.entry result (with_items self.old)) }
+        ensures* writes_back { sem 𝓛 (Lends (the_row T.row A.row T.Element A.Allocator)
+            (Array T.row 0) self.entry result (with_items self.old)) }
         ensures value { result.now ≡ self.old.list }
     {
         self.items.as_mut_slice()
@@ -103,29 +110,27 @@ impl<T: Element, A: Allocator> BufferMut<T, A> {
         self.items.clear();
     }
 
-    /// Keeps the first `len` items. Where there are no more than these, nothing changes. The capacity stays.
+    /// Keeps the first `len` items, or all where there are no more. The capacity stays.
     pub fn truncate(&mut self, len: usize)
         ensures { self.new ≡ record self.old { list = take len self.old.list } }
     {
         self.items.truncate(len);
     }
 
-    // Moves the items of a window to the front, drops the others and reports the window's alignment.
+    // Moves the items of a window to the front, drops the others and reports the window's
+    // alignment.
     pub(crate) fn narrow(&mut self, window: Window)
         requires within { window.start + window.len ≤ length self.old.list }
         requires at_least { T.align_exponent ≤ window.alignment }
         requires fits { window.alignment ≤ self.old.declared_exponent }
-        ensures { Holds (take window.len (drop window.start self.old.list)) window.alignment self.old.declared_exponent self.new }
+        ensures { Holds (take window.len (drop window.start self.old.list)) window.alignment
+            self.old.declared_exponent self.new }
     {
-        let Window {
-            start,
-            len,
-            alignment,
-        } = window;
-        if start != 0 {
-            self.items.copy_within(start..start + len, 0);
+        if window.start != 0 {
+            self.items
+                .copy_within(window.start..window.start + window.len, 0);
         }
-        self.truncate(len);
-        self.alignment = alignment;
+        self.truncate(window.len);
+        self.alignment = window.alignment;
     }
 }

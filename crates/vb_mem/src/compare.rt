@@ -1,6 +1,9 @@
-//! Equality, order and hash of buffers, and their text for programmers: those of their lists. Alignments don't count.
+//! Equality, order and hash of buffers, and their text for programmers: those of their lists.
+//! Alignments don't count.
 ghost use Rattle.std.specs.Cmp.{on_per, on_equiv, on_po, on_total};
-ghost use Rattle.std.specs.Cmp.Lexicographic.{pointwise, lists_per, lists_equiv, lists_po, lists_total, lists_agrees, lists_ties, slice_cmp, slice_partial_cmp};
+ghost use Rattle.std.specs.Cmp.Lexicographic.{pointwise, slice_cmp, slice_partial_cmp};
+ghost use Rattle.std.specs.Cmp.Lexicographic.{lists_per, lists_equiv, lists_po, lists_total};
+ghost use Rattle.std.specs.Cmp.Lexicographic.{lists_agrees, lists_ties};
 ghost use Rattle.std.specs.Hash as fed;
 ghost use Rattle.std.specs.Hash.{on_Alike, items_Alike};
 

@@ -1,10 +1,11 @@
 //! Where a shared buffer has its items.
-ghost use Rattle.std.specs.Prelude.{◌≡◌, ⊤, IfOk, IsOkUnless, ◌↔◌, ◌+◌, ◌*◌, ◌%◌, ◌^◌, ◌≤◌, length, slice_range, IsTrue};
+ghost use Rattle.std.specs.Prelude.{◌≡◌, ◌↔◌, ◌+◌, ◌*◌, ◌%◌, ◌^◌, ⊤, IsTrue, IfOk, IsOkUnless};
 ghost use Rattle.std.specs.Bool.{OnTrue, OnFalse};
 ghost use Rattle.std.specs.Borrow.{sem};
-ghost use Rattle.vb_mem.specs.SharedBuffer.{Shows, CanSlice, shown};
+ghost use Rattle.vb_mem.specs.SharedBuffer.{ShowsPart, CanSlice, shown};
 ghost use Rattle.vb_mem.specs.Loans.{LendsStorage};
 
+use crate::Result;
 use crate::buffer_mut::BufferMut;
 use std::alloc::Allocator;
 use std::ops::Range;
@@ -24,7 +25,8 @@ pub(crate) struct Window {
 pub(crate) enum Content<T: Element, A: Allocator> {
     /// No items and no storage, and the alignment that is reported.
     Nothing(Alignment),
-    /// The items of a window of a storage, or all of them with the alignment that the storage reports.
+    /// The items of a window of a storage, or all of them with the alignment that the storage
+    /// reports.
     Stored(Rc<BufferMut<T, A>, A>, Option<Window>),
 }
 
@@ -36,51 +38,64 @@ impl<T: Element, A: Allocator> Content<T, A> {
         ensures { (seen T.SIZE self.now).place ≡ result * T.SIZE }
     {
         match self {
-            Content::Nothing(_) => 0,
-            Content::Stored(_, None) => 0,
+            Content::Nothing(_) | Content::Stored(_, None) => 0,
             Content::Stored(_, Some(window)) => window.start,
         }
     }
 
-    // Whether an alignment divides the place in bytes of the item so many on. A place that wraps keeps its remainder.
+    // Whether an alignment divides the place in bytes of the item so many on. A place that wraps
+    // keeps its remainder.
     pub(crate) fn is_place_divided(&self, alignment: Alignment, items_on: usize) -> bool
-        ensures { IsTrue result ↔ (((seen T.SIZE self.now).place + items_on * T.SIZE) % 2 ^ alignment ≡ 0) }
+        ensures { IsTrue result
+            ↔ (((seen T.SIZE self.now).place + items_on * T.SIZE) % 2 ^ alignment ≡ 0) }
     {
         let item = self.start().wrapping_add(items_on);
         alignment.is_offset_aligned(item.wrapping_mul(T::SIZE))
     }
 
-    // The items of a range, with an alignment for which they can be sliced.
-    pub(crate) fn narrowed(self, range: Range<usize>, alignment: Alignment) -> Self
-        requires sound { IsSound T.SIZE T.align_exponent self }
-        requires can_slice { CanSlice T.SIZE T.align_exponent (seen T.SIZE self) range.start range.end alignment }
-        ensures shows { Shows (slice_range (seen T.SIZE self).list range.start range.end) alignment ((seen T.SIZE self).place + range.start * T.SIZE) (seen T.SIZE self).declared_exponent (seen T.SIZE result) }
-        ensures sound { IsSound T.SIZE T.align_exponent result }
+    // Keeps the items of a range, and reports an alignment for which they can be sliced.
+    pub(crate) fn narrow(&mut self, range: Range<usize>, alignment: Alignment)
+        requires sound { IsSound T.SIZE T.align_exponent self.old }
+        requires can_slice { CanSlice T.SIZE T.align_exponent (seen T.SIZE self.old)
+            range.start range.end alignment }
+        ensures shows { ShowsPart T.SIZE (seen T.SIZE self.old) range.start range.end alignment
+            (seen T.SIZE self.new) }
+        ensures sound { IsSound T.SIZE T.align_exponent self.new }
     {
         if range.start == range.end {
-            return Content::Nothing(alignment);
+            *self = Content::Nothing(alignment);
+            return;
         }
-        let mut window = Window {
-            start: range.start,
-            len: range.end - range.start,
-            alignment,
+        let len = range.end - range.start;
+        let Content::Stored(_, shown) = self else {
+            return;
         };
-        match self {
-            Content::Nothing(_) => Content::Nothing(alignment),
-            Content::Stored(storage, outer) => match outer {
-                None => Content::Stored(storage, Some(window)),
-                Some(outer) => {
-                    window.start += outer.start;
-                    Content::Stored(storage, Some(window))
-                }
-            },
+        match *shown {
+            Some(window) => {
+                let start = window.start + range.start;
+                *shown = Some(Window {
+                    start,
+                    len,
+                    alignment,
+                });
+            }
+            None => {
+                let start = range.start;
+                *shown = Some(Window {
+                    start,
+                    len,
+                    alignment,
+                });
+            }
         }
     }
 
-    // Keeps of the storage the items that are shown, where no other buffer shares it. Answers whether it did.
+    // Keeps of the storage the items that are shown, where no other buffer shares it. Answers
+    // whether it did.
     pub(crate) fn narrow_lone(&mut self) -> bool
         requires { IsSound T.SIZE T.align_exponent self.old }
-        ensures narrowed { OnTrue result (IsWhole (λ stored. shown stored ≡ record (seen T.SIZE self.old) { place = 0 }) self.new) }
+        ensures narrowed { OnTrue result (IsWhole
+            (λ stored. shown stored ≡ record (seen T.SIZE self.old) { place = 0 }) self.new) }
         ensures shared { OnFalse result (self.new ≡ self.old) }
     {
         let Content::Stored(storage, shown) = self else {
@@ -97,8 +112,9 @@ impl<T: Element, A: Allocator> Content<T, A> {
 
     // The storage, all of which is shown, and which has no other owner.
     //
-    // Std's contract of `Rc::get_mut` doesn't say when there is one owner, so a refusal stands where none comes.
-    pub(crate) fn whole_mut(&mut self) -> Result<&mut BufferMut<T, A>, BufferError>
+    // Std's contract of `Rc::get_mut` doesn't say when there is one owner, so a refusal stands
+    // where none comes.
+    pub(crate) fn whole_mut(&mut self) -> Result<&mut BufferMut<T, A>>
         requires { IsWhole (λ _. ⊤) self.old }
         ensures* writes_back { sem 𝓛 (LendsStorage T.row A.row T.Element A.Allocator self.entry result) }
         ensures value { IfOk result (λ growing. IsWhole (λ stored. growing.now ≡ stored) self.old) }

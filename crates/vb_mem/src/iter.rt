@@ -7,7 +7,6 @@ ghost use Rattle.vb_core.specs.ExactCounts.{list_counts};
 
 use crate::buffer::Buffer;
 use std::alloc::{Allocator, Global};
-use std::fmt::{self, Debug};
 use std::marker::Model;
 use vb_core::{Element, TrustedLen};
 
@@ -60,13 +59,6 @@ impl<T: Element, A: Allocator> Iterator for BufferIterator<T, A> {
         ensures upper { IfSome result.1 (UpTo (at_most (length self.now))) }
     {
         (self.len(), Some(self.len()))
-    }
-}
-
-/// The items still to come.
-impl<T: Element + Debug, A: Allocator> Debug for BufferIterator<T, A> {
-    fn fmt<W: fmt::Write>(&self, f: &mut fmt::Formatter<W>) -> fmt::Result {
-        Debug::fmt(&&self.buffer.as_slice()[self.index..], f)
     }
 }
 

@@ -1,7 +1,8 @@
 //! List buffers: lists of whole numbers that grow, and lists that share their storage.
 //!
-//! A [`BufferMut`] owns its storage and grows. [`BufferMut::freeze`] makes a [`Buffer`] of it, which is cloned and sliced
-//! without a copy, and [`Buffer::into_mut`] a `BufferMut` again. No owner sees what another one writes.
+//! A [`BufferMut`] owns its storage and grows. [`BufferMut::freeze`] makes a [`Buffer`] of it,
+//! which is cloned and sliced without a copy, and [`Buffer::into_mut`] a `BufferMut` again. No
+//! owner sees what another one writes.
 #![tactic(auto)]
 
 mod buffer;
@@ -14,6 +15,10 @@ pub use buffer::Buffer;
 pub use buffer_mut::BufferMut;
 pub use iter::{BufferIterator, Iter};
 use std::alloc::Global;
+use vb_core::BufferError;
+
+/// What a call of this crate answers that can be refused.
+pub type Result<T, E = BufferError> = std::result::Result<T, E>;
 
 /// A buffer of bytes.
 pub type ByteBuffer<A = Global> = Buffer<u8, A>;

@@ -1,6 +1,7 @@
 //! The signed whole numbers as elements, in two's complement.
 ghost use Rattle.std.specs.Prelude.{FitsSigned, pos};
-ghost use Rattle.std.specs.Int.{w8, w16, w32, w64, w128, to_le_bytes, from_le_bytes, cast_signed, cast_unsigned};
+ghost use Rattle.std.specs.Int.{w8, w16, w32, w64, w128, to_le_bytes, from_le_bytes, cast_signed};
+ghost use Rattle.std.specs.Int.{cast_unsigned};
 ghost use Rattle.vb_core.specs.ElementLaws.{signed_laws};
 
 use crate::element::Element;

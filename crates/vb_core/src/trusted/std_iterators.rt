@@ -2,7 +2,8 @@
 ghost use Rattle.std.specs.Prelude.{◌≡◌, ◌-◌, length};
 ghost use Rattle.std.specs.Int.{int_gap};
 ghost use Rattle.std.specs.Slice.Iter.{iter_rest};
-ghost use Rattle.vb_core.specs.ExactCounts.{unsigned_range_counts, signed_range_counts, slice_iter_counts};
+ghost use Rattle.vb_core.specs.ExactCounts.{unsigned_range_counts, signed_range_counts};
+ghost use Rattle.vb_core.specs.ExactCounts.{slice_iter_counts};
 
 use crate::trusted::TrustedLen;
 use std::ops::Range;

@@ -1,11 +1,13 @@
 //! More owners of a buffer, other alignments, and items to be written.
-ghost use Rattle.std.specs.Prelude.{◌≡◌, ◌<◌, ◌≤◌, ◌⊎◌, IfOk, IfErr, IsOkAnd, IsErrOf, IsOkUnless};
+ghost use Rattle.std.specs.Prelude.{◌≡◌, ◌≤◌, IfOk, IfErr, IsOkAnd, IsErrOf, IsOkUnless};
 ghost use Rattle.std.specs.Borrow.{sem};
-ghost use Rattle.vb_mem.specs.OpenBuffer.{Holds, over_aligned};
-ghost use Rattle.vb_mem.specs.SharedBuffer.{Shows, IsAlignedTo};
+ghost use Rattle.vb_mem.specs.Answers.{Makes};
+ghost use Rattle.vb_mem.specs.OpenBuffer.{Holds};
+ghost use Rattle.vb_mem.specs.SharedBuffer.{Shows, ShowsMade, IsAlignedTo, KeepsItems, shown};
 ghost use Rattle.vb_mem.specs.Loans.{LendsAll};
 
 use super::Buffer;
+use crate::Result;
 use crate::buffer_mut::BufferMut;
 use crate::content::Content;
 use std::alloc::Allocator;
@@ -13,8 +15,8 @@ use std::rc::Rc;
 use vb_core::{Alignment, BufferError, Element};
 
 impl<T: Element, A: Allocator> Buffer<T, A> {
-    /// The same items, to be changed, at the front of their storage, where no other buffer shares it; else the buffer is
-    /// given back. It takes no memory, and the time that the items of a part take to be moved to the front.
+    /// The same items, to be changed, moved to the front of their storage, where no other buffer
+    /// shares it; else the buffer is given back. It takes no memory.
     pub fn try_into_mut(self) -> Result<BufferMut<T, A>, Self>
         ensures ok { IfOk result (Holds self.list self.exponent self.declared_exponent) }
         ensures err { IfErr result (λ b. b ≡ self) }
@@ -39,29 +41,31 @@ impl<T: Element, A: Allocator> Buffer<T, A> {
         }
     }
 
-    /// The same buffer with another alignment, which is at least that of an item. It takes no memory. Refused with
-    /// `NotAligned` exactly where [`Buffer::is_aligned`] is false of it; the buffer is gone then.
-    pub fn ensure_aligned(self, alignment: Alignment) -> Result<Self, BufferError>
+    /// The same buffer with another alignment, which is at least that of an item. It takes no
+    /// memory. Refused with `NotAligned` exactly where [`Buffer::is_aligned`] is false of it; the
+    /// buffer is gone then.
+    pub fn ensure_aligned(self, alignment: Alignment) -> Result<Self>
         requires { T.align_exponent ≤ alignment }
-        ensures aligned { IsAlignedTo self alignment → IsOkAnd result (Shows self.list alignment self.place self.declared_exponent) }
-        ensures not_aligned { ¬ (IsAlignedTo self alignment) → IsErrOf result BufferError.NotAligned }
+        ensures aligned { IsAlignedTo self alignment →
+            IsOkAnd result (Shows self.list alignment self.place self.declared_exponent) }
+        ensures not_aligned { ¬ (IsAlignedTo self alignment) →
+            IsErrOf result BufferError.NotAligned }
     {
         if !self.is_aligned(alignment) {
             return Err(BufferError::NotAligned);
         }
         let mut buffer = self;
         let len = buffer.len();
-        buffer.narrow_with_alignment(0..len, alignment);
+        buffer.content.narrow(0..len, alignment);
         Ok(buffer)
     }
 }
 
 impl<T: Element, A: Allocator + Clone> Buffer<T, A> {
-    /// One more owner of the same items, in constant time and without memory for the storage. Refused with `OutOfMemory`
-    /// where a copy of the allocator finds no memory.
-    pub fn clone(&self) -> Result<Self, BufferError>
-        ensures same { IfOk result (λ b. b ≡ self.now) }
-        ensures refused { IsOkUnless result BufferError.OutOfMemory }
+    /// One more owner of the same items, in constant time and without memory for the storage.
+    /// Refused with `OutOfMemory` where a copy of the allocator finds no memory.
+    pub fn clone(&self) -> Result<Self>
+        ensures { Makes (λ b. b ≡ self.now) result }
     {
         let content = match &self.content {
             Content::Nothing(alignment) => Content::Nothing(*alignment),
@@ -71,14 +75,11 @@ impl<T: Element, A: Allocator + Clone> Buffer<T, A> {
         Ok(Buffer { content, alloc })
     }
 
-    /// The same items, to be changed; all other owners keep theirs. A lone owner's stay in their storage, as in
-    /// [`Buffer::try_into_mut`]; where there are others, the items are copied. Refused with `OutOfMemory`; the buffer is
-    /// gone then.
-    pub fn into_mut(self) -> Result<BufferMut<T, A>, BufferError>
-        ensures list { IfOk result (λ b. b.list ≡ self.list) }
-        ensures alignment { IfOk result (λ b. b.exponent ≡ self.exponent) }
-        ensures declared { IfOk result (λ b. (b.declared_exponent ≡ self.declared_exponent) ⊎ (b.declared_exponent ≡ over_aligned self.exponent)) }
-        ensures refused { IsOkUnless result BufferError.OutOfMemory }
+    /// The same items, to be changed; all other owners keep theirs. A lone owner's stay in their
+    /// storage, as in [`Buffer::try_into_mut`]; where there are others, the items are copied.
+    /// Refused with `OutOfMemory`; the buffer is gone then.
+    pub fn into_mut(self) -> Result<BufferMut<T, A>>
+        ensures { Makes (λ b. KeepsItems self (shown b)) result }
     {
         match self.try_into_mut() {
             Ok(growing) => Ok(growing),
@@ -89,13 +90,15 @@ impl<T: Element, A: Allocator + Clone> Buffer<T, A> {
         }
     }
 
-    /// The same items with another alignment, which is at least that of an item. Where [`Buffer::is_aligned`] holds of
-    /// it, the buffer keeps its storage, takes no memory and isn't refused; else the items are copied. Refused with
-    /// `OutOfMemory`; the buffer is gone then.
-    pub fn aligned(self, alignment: Alignment) -> Result<Self, BufferError>
+    /// The same items with another alignment, which is at least that of an item. Where
+    /// [`Buffer::is_aligned`] holds of it, the buffer keeps its storage, takes no memory and isn't
+    /// refused; else the items are copied. Refused with `OutOfMemory`; the buffer is gone then.
+    pub fn aligned(self, alignment: Alignment) -> Result<Self>
         requires { T.align_exponent ≤ alignment }
-        ensures in_place { IsAlignedTo self alignment → IsOkAnd result (Shows self.list alignment self.place self.declared_exponent) }
-        ensures copied { ¬ (IsAlignedTo self alignment) → IfOk result (Shows self.list alignment 0 (over_aligned alignment)) }
+        ensures in_place { IsAlignedTo self alignment →
+            IsOkAnd result (Shows self.list alignment self.place self.declared_exponent) }
+        ensures copied { ¬ (IsAlignedTo self alignment) →
+            IfOk result (ShowsMade self.list alignment) }
         ensures refused { IsOkUnless result BufferError.OutOfMemory }
     {
         if self.is_aligned(alignment) {
@@ -105,19 +108,16 @@ impl<T: Element, A: Allocator + Clone> Buffer<T, A> {
         BufferMut::copy_from_aligned(alloc, self.as_slice(), alignment)?.freeze()
     }
 
-    /// The items, to be written; all other owners keep theirs. A lone owner's items stay in their storage, of which the
-    /// others are dropped, in time linear in the part and without memory. Where there are other owners the items are
-    /// copied, over-aligned to 256 bytes.
+    /// The items, to be written; all other owners keep theirs. A lone owner's items stay in their
+    /// storage, of which the others are dropped, in time linear in the part and without memory.
+    /// Where there are other owners the items are copied, over-aligned to 256 bytes.
     ///
-    /// What is lent is the growing buffer that holds the items, so `buffer.items_mut()?.as_mut_slice()` are the items. In
-    /// the end the buffer shows all that is left there, from the front of its storage on. Refused with `OutOfMemory`:
-    /// the items and the reported alignment are unchanged then, and the declared one is the storage's or a copy's.
-    pub fn items_mut(&mut self) -> Result<&mut BufferMut<T, A>, BufferError>
+    /// What is lent is the growing buffer that holds the items. In the end the buffer shows all
+    /// that is left there, from the front of its storage on. Refused with `OutOfMemory`: the items
+    /// and the reported alignment stay then, and the declared one is the storage's or a copy's.
+    pub fn items_mut(&mut self) -> Result<&mut BufferMut<T, A>>
         ensures* writes_back { sem 𝓛 (LendsAll T.row A.row T.Element A.Allocator self.entry result) }
-        ensures list { IfOk result (λ growing. growing.now.list ≡ self.old.list) }
-        ensures alignment { IfOk result (λ growing. growing.now.exponent ≡ self.old.exponent) }
-        ensures declared { IfOk result (λ growing. (growing.now.declared_exponent ≡ self.old.declared_exponent) ⊎ (growing.now.declared_exponent ≡ over_aligned self.old.exponent)) }
-        ensures refused { IsOkUnless result BufferError.OutOfMemory }
+        ensures value { Makes (λ growing. KeepsItems self.old (shown growing.now)) result }
     {
         if self.content.narrow_lone() {
             return self.content.whole_mut();

@@ -1,46 +1,54 @@
-//! What a growing buffer is turned into: an empty one, a copy, one of another alignment, a shared one.
-ghost use Rattle.std.specs.Prelude.{◌≡◌, ◌<◌, ◌≤◌, ◌⊎◌, ◌*◌, ◌^◌, max, [], length, IfOk, OnOk, OnErr, IsErrOf, IsOkAnd, IsOkUnless};
+//! What a growing buffer is turned into: an empty one, a copy, one of another alignment, a shared
+//! one.
+ghost use Rattle.std.specs.Prelude.{◌≡◌, ◌<◌, ◌≤◌, ◌⊎◌, ◌*◌, max, [], length};
+ghost use Rattle.std.specs.Prelude.{IfOk, OnOk, OnErr, IsOkAnd, IsOkUnless};
 ghost use Rattle.vb_bytes.specs.ByteForm.{byteform};
-ghost use Rattle.vb_mem.specs.OpenBuffer.{Holds, over_aligned};
+ghost use Rattle.vb_mem.specs.Answers.{Makes, MakesBytes};
+ghost use Rattle.vb_mem.specs.OpenBuffer.{HoldsMade};
 ghost use Rattle.vb_mem.specs.SharedBuffer.{Shows};
 
 use super::BufferMut;
+use crate::Result;
 use crate::buffer::Buffer;
 use std::alloc::Allocator;
 use vb_bytes::{byte_count, put_items};
 use vb_core::{Alignment, BufferError, Element};
 
 impl<T: Element, A: Allocator + Clone> BufferMut<T, A> {
-    /// Hands out the buffer, and leaves an empty one of the same alignment. Refused with `OutOfMemory` where a copy of
-    /// the allocator finds no memory; the buffer is unchanged then.
-    pub fn take(&mut self) -> Result<Self, BufferError>
-        ensures taken { IfOk result (λ b. b ≡ self.old) }
-        ensures left { OnOk result (Holds [] self.old.exponent (over_aligned self.old.exponent) self.new) }
+    /// Hands out the buffer, and leaves an empty one of the same alignment. Refused with
+    /// `OutOfMemory` where a copy of the allocator finds no memory; the buffer is unchanged then.
+    pub fn take(&mut self) -> Result<Self>
+        ensures taken { Makes (λ b. b ≡ self.old) result }
+        ensures left { OnOk result (HoldsMade [] self.old.exponent self.new) }
         ensures err { OnErr result (self.new ≡ self.old) }
-        ensures refused { IsOkUnless result BufferError.OutOfMemory }
     {
         let alloc = self.items.allocator().clone()?;
         let empty = BufferMut::empty_aligned(alloc, self.alignment);
         Ok(std::mem::replace(self, empty))
     }
 
-    /// A copy of the same alignment, as a block, over-aligned to 256 bytes. Refused with `OutOfMemory`.
-    pub fn clone(&self) -> Result<Self, BufferError>
-        ensures ok { IfOk result (Holds self.now.list self.now.exponent (over_aligned self.now.exponent)) }
-        ensures refused { IsOkUnless result BufferError.OutOfMemory }
+    /// A copy of the same alignment, as a block, over-aligned to 256 bytes. Refused with
+    /// `OutOfMemory`.
+    pub fn clone(&self) -> Result<Self>
+        ensures { Makes (HoldsMade self.now.list self.now.exponent) result }
     {
         let alloc = self.items.allocator().clone()?;
         BufferMut::copy_from_aligned(alloc, self.as_slice(), self.alignment)
     }
 
-    /// The same items with another alignment, which is at least that of an item. An empty buffer, and one that is
-    /// declared with this alignment or more, keeps its storage, takes no memory and isn't refused; the items of any
-    /// other one are copied. Refused with `OutOfMemory`; the buffer is gone then.
-    pub fn aligned(self, alignment: Alignment) -> Result<Self, BufferError>
+    /// The same items with another alignment, which is at least that of an item. An empty buffer,
+    /// and one that is declared with this alignment or more, keeps its storage, takes no memory and
+    /// isn't refused; the items of any other one are copied. Refused with `OutOfMemory`; the buffer
+    /// is gone then.
+    pub fn aligned(self, alignment: Alignment) -> Result<Self>
         requires { T.align_exponent ≤ alignment }
         ensures in_place { (self.list ≡ []) ⊎ (alignment ≤ self.declared_exponent) →
-            IsOkAnd result (λ b. b ≡ record self { exponent = alignment; declared_exponent = max self.declared_exponent alignment }) }
-        ensures copied { 0 < length self.list → self.declared_exponent < alignment → IfOk result (Holds self.list alignment (over_aligned alignment)) }
+            IsOkAnd result (λ b. b ≡ record self {
+              exponent = alignment;
+              declared_exponent = max self.declared_exponent alignment;
+            }) }
+        ensures copied { 0 < length self.list → self.declared_exponent < alignment →
+            IfOk result (HoldsMade self.list alignment) }
         ensures refused { IsOkUnless result BufferError.OutOfMemory }
     {
         if !self.items.is_empty() && self.declared < alignment {
@@ -53,21 +61,19 @@ impl<T: Element, A: Allocator + Clone> BufferMut<T, A> {
         Ok(buffer)
     }
 
-    /// The same items, to be shared, in constant time: the storage is handed on, and memory is taken for its count of
-    /// owners alone. Refused with `OutOfMemory`; the buffer is gone then.
-    pub fn freeze(self) -> Result<Buffer<T, A>, BufferError>
-        ensures ok { IfOk result (Shows self.list self.exponent 0 self.declared_exponent) }
-        ensures refused { IsOkUnless result BufferError.OutOfMemory }
+    /// The same items, to be shared, in constant time: the storage is handed on, and memory is
+    /// taken for its count of owners alone. Refused with `OutOfMemory`; the buffer is gone then.
+    pub fn freeze(self) -> Result<Buffer<T, A>>
+        ensures { Makes (Shows self.list self.exponent 0 self.declared_exponent) result }
     {
         Buffer::from_mut(self)
     }
 
-    /// The bytes of the items, of the same alignment, copied. Refused with `TooManyBytes` where their number passes
-    /// `usize`, and else with `OutOfMemory`; the buffer is gone then.
-    pub fn into_byte_buffer(self) -> Result<BufferMut<u8, A>, BufferError>
-        ensures ok { IfOk result (Holds (byteform T.form self.list) self.exponent (over_aligned self.exponent)) }
-        ensures fits { length self.list * T.SIZE < 2 ^ 64 → IsOkUnless result BufferError.OutOfMemory }
-        ensures too_many { 2 ^ 64 ≤ length self.list * T.SIZE → IsErrOf result BufferError.TooManyBytes }
+    /// The bytes of the items, of the same alignment, copied. Refused with `TooManyBytes` where
+    /// their number passes `usize`, and else with `OutOfMemory`; the buffer is gone then.
+    pub fn into_byte_buffer(self) -> Result<BufferMut<u8, A>>
+        ensures { MakesBytes (length self.list * T.SIZE)
+            (HoldsMade (byteform T.form self.list) self.exponent) result }
     {
         BufferMut::bytes_of(self.items.allocator(), self.as_slice(), self.alignment)
     }
@@ -79,10 +85,9 @@ impl<A: Allocator + Clone> BufferMut<u8, A> {
         alloc: &A,
         items: &[T],
         alignment: Alignment,
-    ) -> Result<BufferMut<u8, A>, BufferError>
-        ensures ok { IfOk result (Holds (byteform T.form items.now) alignment (over_aligned alignment)) }
-        ensures fits { length items.now * T.SIZE < 2 ^ 64 → IsOkUnless result BufferError.OutOfMemory }
-        ensures too_many { 2 ^ 64 ≤ length items.now * T.SIZE → IsErrOf result BufferError.TooManyBytes }
+    ) -> Result<BufferMut<u8, A>>
+        ensures { MakesBytes (length items.now * T.SIZE)
+            (HoldsMade (byteform T.form items.now) alignment) result }
     {
         let len = byte_count::<T>(items.len())?;
         let mut bytes = BufferMut::zeroed_aligned(alloc.clone()?, len, alignment)?;

@@ -1,31 +1,33 @@
-//! Growth at the end.
-ghost use Rattle.std.specs.Prelude.{◌≡◌, [], ◌∷◌, length, replicate, OnOk, OnErr, IsOk, IsOkUnless};
+//! Growth at the end: of single items, of slices, and of what iterators give.
+ghost use Rattle.std.specs.Prelude.{◌≡◌, ◌≢◌, ◌+◌, List, [], ◌∷◌, length, replicate};
+ghost use Rattle.std.specs.Prelude.{OnOk, OnErr, IsOk, IsOkUnless, IfSome};
+ghost use Rattle.std.specs.Iterator.{Drains, ExtendsWithItems, HoldsAlong};
+ghost use Rattle.std.specs.Iterator.{IsFinite, IsFiniteIterable};
+ghost use Rattle.vb_mem.specs.Answers.{NeedsRoom};
 ghost use Rattle.vb_mem.specs.OpenBuffer.{Lengthens, HasRoom};
+ghost use Rattle.vb_mem.specs.Collected.{GivesThen, GivesValues, GivesError, IfStopped};
 
 use super::BufferMut;
+use crate::Result;
 use std::alloc::Allocator;
-use vb_core::{BufferError, Element};
+use vb_core::{BufferError, Element, ExtendError, TrustedLen};
 
 impl<T: Element, A: Allocator> BufferMut<T, A> {
     /// Makes room for so many more items. Refused with `OutOfMemory`; the buffer is unchanged then.
-    pub fn reserve(&mut self, additional: usize) -> Result<(), BufferError>
+    pub fn reserve(&mut self, additional: usize) -> Result<()>
         ensures ok { OnOk result (Lengthens [] self.old self.new) }
         ensures room { OnOk result (HasRoom self.new additional) }
-        ensures in_place { HasRoom self.old additional → IsOk result }
-        ensures err { OnErr result (self.new ≡ self.old) }
-        ensures refused { IsOkUnless result BufferError.OutOfMemory }
+        ensures needs_room { NeedsRoom additional result self.old self.new }
     {
         self.items.reserve(additional)?;
         Ok(())
     }
 
-    /// Adds an item. Within the capacity it takes no memory and succeeds; else it is refused with `OutOfMemory`, and
-    /// the buffer is unchanged then. Amortised, the cost of a push is constant.
-    pub fn push(&mut self, item: T) -> Result<(), BufferError>
+    /// Adds an item. Within the capacity it takes no memory and succeeds; else it is refused with
+    /// `OutOfMemory`, and the buffer is unchanged then. Amortised, the cost of a push is constant.
+    pub fn push(&mut self, item: T) -> Result<()>
         ensures ok { OnOk result (Lengthens (item ∷ []) self.old self.new) }
-        ensures in_place { HasRoom self.old 1 → IsOk result }
-        ensures err { OnErr result (self.new ≡ self.old) }
-        ensures refused { IsOkUnless result BufferError.OutOfMemory }
+        ensures needs_room { NeedsRoom 1 result self.old self.new }
     {
         self.reserve(1)?;
         self.push_unchecked(item);
@@ -40,13 +42,10 @@ impl<T: Element, A: Allocator> BufferMut<T, A> {
         self.items.push_reserved(item);
     }
 
-    /// Adds `n` copies of an item. Within the capacity it takes no memory and succeeds; else it is refused with
-    /// `OutOfMemory`, and the buffer is unchanged then.
-    pub fn push_n(&mut self, item: T, n: usize) -> Result<(), BufferError>
+    /// Adds `n` copies of an item. Takes memory and is refused as [`BufferMut::push`] is.
+    pub fn push_n(&mut self, item: T, n: usize) -> Result<()>
         ensures ok { OnOk result (Lengthens (replicate n item) self.old self.new) }
-        ensures in_place { HasRoom self.old n → IsOk result }
-        ensures err { OnErr result (self.new ≡ self.old) }
-        ensures refused { IsOkUnless result BufferError.OutOfMemory }
+        ensures needs_room { NeedsRoom n result self.old self.new }
     {
         self.reserve(n)?;
         self.push_n_unchecked(item, n);
@@ -62,16 +61,120 @@ impl<T: Element, A: Allocator> BufferMut<T, A> {
         let _ = self.items.resize(len + n, item);
     }
 
-    /// Adds copies of the items of a slice, as a block. Within the capacity it takes no memory and succeeds; else it
-    /// is refused with `OutOfMemory`, and the buffer is unchanged then.
-    pub fn extend_from_slice(&mut self, items: &[T]) -> Result<(), BufferError>
+    /// Adds copies of the items of a slice, as a block. Refused as [`BufferMut::push`] is.
+    pub fn extend_from_slice(&mut self, items: &[T]) -> Result<()>
         ensures ok { OnOk result (Lengthens items.now self.old self.new) }
-        ensures in_place { HasRoom self.old (length items.now) → IsOk result }
-        ensures err { OnErr result (self.new ≡ self.old) }
-        ensures refused { IsOkUnless result BufferError.OutOfMemory }
+        ensures needs_room { NeedsRoom (length items.now) result self.old self.new }
     {
         self.items.reserve(items.len())?;
         self.items.extend_from_slice(items)?;
+        Ok(())
+    }
+
+    /// Adds the items that an iterator gives. Within the capacity it takes no memory and succeeds.
+    ///
+    /// Else it may be refused with `OutOfMemory`: the items that came until the capacity was reached
+    /// stay then. The iterator's hint guides how much room is asked for, and decides no answer.
+    pub fn extend<I: IntoIterator<Item = T>>(&mut self, iter: I) -> Result<()>
+        requires { IsFiniteIterable I.into_iter_gives I.IntoIter.can_next
+            I.IntoIter.remaining iter }
+        ensures lengthens { ExtendsWithItems I.into_iter_gives I.IntoIter.next_gives
+            (λ old items new. Lengthens items old new) iter self.old self.new result }
+        ensures in_place { ((it : I.IntoIter) → I.into_iter_gives iter it
+            → HoldsAlong I.IntoIter.next_gives it (λ items. HasRoom self.old (length items)))
+            → IsOk result }
+        ensures full { OnErr result (length self.new.list ≡ self.new.room) }
+        ensures refused { IsOkUnless result BufferError.OutOfMemory }
+    {
+        let mut rest = iter.into_iter();
+        let end = self.items.len().saturating_add(rest.size_hint().0);
+        loop {
+            let (over, left) = self.fill_room(rest);
+            rest = left;
+            let Some(item) = over else {
+                return Ok(());
+            };
+            let hint = end.saturating_sub(self.items.len());
+            self.reserve_by_hint(hint)?;
+            self.push_unchecked(item);
+        }
+    }
+
+    // Adds what an iterator gives as long as there is room. Answers the item that found none, and
+    // the iterator.
+    fn fill_room<I: Iterator<Item = T>>(&mut self, mut iter: I) -> (Option<T>, I)
+        requires can { I.can_next iter }
+        requires finite { IsFinite (I.remaining iter) }
+        ensures fills { (items : List T) × Lengthens items self.old self.new
+            × GivesThen I.can_next I.remaining I.next_gives iter items result.0 result.1 }
+        ensures room { self.new.room ≡ self.old.room }
+        ensures full { IfSome result.0 (λ _. length self.new.list ≡ self.new.room) }
+    {
+        for _ in self.items.len()..self.items.capacity() {
+            let Some(item) = iter.next() else {
+                return (None, iter);
+            };
+            self.items.push_reserved(item);
+        }
+        let over = iter.next();
+        (over, iter)
+    }
+
+    // Makes room for one more item, and for as many as are hinted at where memory allows it.
+    fn reserve_by_hint(&mut self, hint: usize) -> Result<()>
+        ensures ok { OnOk result (Lengthens [] self.old self.new) }
+        ensures room { OnOk result (HasRoom self.new 1) }
+        ensures err { OnErr result (self.new ≡ self.old) }
+        ensures refused { IsOkUnless result BufferError.OutOfMemory }
+    {
+        if hint > 1 && self.reserve(hint).is_ok() {
+            return Ok(());
+        }
+        self.reserve(1)
+    }
+
+    /// Adds the items that an iterator of known length gives, all of them or none. Refused as
+    /// [`BufferMut::push`] is.
+    pub fn extend_trusted<I: TrustedLen<Item = T>>(&mut self, iter: I) -> Result<()>
+        requires { I.can_next iter }
+        ensures ok { OnOk result ((items : List T) × Drains I.next_gives iter items
+            × Lengthens items self.old self.new) }
+        ensures len { OnOk result (length self.new.list ≡ length self.old.list + I.left iter) }
+        ensures needs_room { NeedsRoom (I.left iter) result self.old self.new }
+    {
+        self.reserve(iter.exact_len())?;
+        for item in iter {
+            self.items.push_reserved(item);
+        }
+        Ok(())
+    }
+
+    /// Adds the values that an iterator of known length gives, up to its first error.
+    ///
+    /// Refused with `Memory` before the first item is asked for, and unchanged then; within the
+    /// capacity it takes no memory. Stopped with `Item` at the first error; the values before it
+    /// stay then.
+    pub fn try_extend_trusted<E, I: TrustedLen<Item = Result<T, E>>>(
+        &mut self,
+        iter: I,
+    ) -> Result<(), ExtendError<E>>
+        requires { I.can_next iter }
+        ensures ok { OnOk result
+            (GivesValues I.next_gives iter (λ items. Lengthens items self.old self.new)) }
+        ensures in_place { HasRoom self.old (I.left iter) → result ≢ Err ExtendError.Memory }
+        ensures err { IfStopped result
+            (λ e. GivesError I.next_gives iter e (λ items. Lengthens items self.old self.new))
+            (self.new ≡ self.old) }
+    {
+        if self.reserve(iter.exact_len()).is_err() {
+            return Err(ExtendError::Memory);
+        }
+        for item in iter {
+            match item {
+                Ok(value) => self.items.push_reserved(value),
+                Err(error) => return Err(ExtendError::Item(error)),
+            }
+        }
         Ok(())
     }
 }

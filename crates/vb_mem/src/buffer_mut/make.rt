@@ -1,49 +1,48 @@
-//! Buffers made from nothing, of equal items and of copies.
-ghost use Rattle.std.specs.Prelude.{◌≡◌, ◌≤◌, max, unwrap_or, [], replicate, IfOk, IsOkUnless};
-ghost use Rattle.vb_mem.specs.OpenBuffer.{Holds, over_aligned};
+//! Buffers made from nothing, of equal items, of copies and of what iterators give.
+ghost use Rattle.std.specs.Prelude.{◌≡◌, ◌≤◌, ⊤, List, [], length, replicate, IfOk};
+ghost use Rattle.std.specs.Iterator.{Drains, IsFiniteIterable};
+ghost use Rattle.vb_mem.specs.Answers.{Makes};
+ghost use Rattle.vb_mem.specs.Collected.{OfItems, OfRun};
+ghost use Rattle.vb_mem.specs.Collected.{GivesValues, GivesError, IfStopped};
+ghost use Rattle.vb_mem.specs.OpenBuffer.{Holds, HoldsMade, preferred_over};
 
 use super::BufferMut;
+use crate::Result;
 use std::alloc::Allocator;
-use vb_core::{Alignment, BufferError, Element};
+use vb_core::{Alignment, Element, ExtendError, TrustedLen};
 
 // What storage is over-aligned to where nothing else is preferred.
 const DEFAULT: Option<Alignment> = Some(Alignment::DEFAULT_ALIGNMENT);
 
 impl<T: Element, A: Allocator> BufferMut<T, A> {
-    /// An empty buffer with room for `capacity` items, over-aligned to 256 bytes. Refused with `OutOfMemory`.
-    pub fn with_capacity(alloc: A, capacity: usize) -> Result<Self, BufferError>
-        ensures ok { IfOk result (Holds [] T.align_exponent (over_aligned T.align_exponent)) }
-        ensures room { IfOk result (λ b. capacity ≤ b.room) }
-        ensures refused { IsOkUnless result BufferError.OutOfMemory }
+    /// An empty buffer with room for `capacity` items, over-aligned to 256 bytes. Refused with
+    /// `OutOfMemory`.
+    pub fn with_capacity(alloc: A, capacity: usize) -> Result<Self>
+        ensures { Makes (λ b. HoldsMade [] T.align_exponent b × (capacity ≤ b.room)) result }
     {
         BufferMut::with_capacity_aligned(alloc, capacity, Alignment::of::<T>())
     }
 
-    /// No items, room for `capacity`, and an alignment, over-aligned to 256 bytes. Refused with `OutOfMemory`.
-    pub fn with_capacity_aligned(
-        alloc: A,
-        capacity: usize,
-        alignment: Alignment,
-    ) -> Result<Self, BufferError>
+    /// No items, room for `capacity`, and an alignment, over-aligned to 256 bytes. Refused with
+    /// `OutOfMemory`.
+    pub fn with_capacity_aligned(alloc: A, capacity: usize, alignment: Alignment) -> Result<Self>
         requires { T.align_exponent ≤ alignment }
-        ensures ok { IfOk result (Holds [] alignment (over_aligned alignment)) }
-        ensures room { IfOk result (λ b. capacity ≤ b.room) }
-        ensures refused { IsOkUnless result BufferError.OutOfMemory }
+        ensures { Makes (λ b. HoldsMade [] alignment b × (capacity ≤ b.room)) result }
     {
         BufferMut::with_capacity_preferred_aligned(alloc, capacity, alignment, DEFAULT)
     }
 
-    /// No items, room for `capacity`, and an alignment, over-aligned to a preferred one. Refused with `OutOfMemory`.
+    /// No items, room for `capacity`, and an alignment, over-aligned to a preferred one. Refused
+    /// with `OutOfMemory`.
     pub fn with_capacity_preferred_aligned(
         alloc: A,
         capacity: usize,
         alignment: Alignment,
         preferred: Option<Alignment>,
-    ) -> Result<Self, BufferError>
+    ) -> Result<Self>
         requires { T.align_exponent ≤ alignment }
-        ensures ok { IfOk result (Holds [] alignment (max alignment (unwrap_or preferred 0))) }
-        ensures room { IfOk result (λ b. capacity ≤ b.room) }
-        ensures refused { IsOkUnless result BufferError.OutOfMemory }
+        ensures { Makes (λ b. Holds [] alignment (preferred_over alignment preferred) b
+            × (capacity ≤ b.room)) result }
     {
         let mut buffer = BufferMut::empty_preferred_aligned(alloc, alignment, preferred);
         buffer.reserve(capacity)?;
@@ -51,32 +50,31 @@ impl<T: Element, A: Allocator> BufferMut<T, A> {
     }
 
     /// `len` zeros, over-aligned to 256 bytes. Refused with `OutOfMemory`.
-    pub fn zeroed(alloc: A, len: usize) -> Result<Self, BufferError>
-        ensures ok { IfOk result (Holds (replicate len T.zero) T.align_exponent (over_aligned T.align_exponent)) }
-        ensures refused { IsOkUnless result BufferError.OutOfMemory }
+    pub fn zeroed(alloc: A, len: usize) -> Result<Self>
+        ensures { Makes (HoldsMade (replicate len T.zero) T.align_exponent) result }
     {
         BufferMut::zeroed_aligned(alloc, len, Alignment::of::<T>())
     }
 
     /// `len` zeros with an alignment, over-aligned to 256 bytes. Refused with `OutOfMemory`.
-    pub fn zeroed_aligned(alloc: A, len: usize, alignment: Alignment) -> Result<Self, BufferError>
+    pub fn zeroed_aligned(alloc: A, len: usize, alignment: Alignment) -> Result<Self>
         requires { T.align_exponent ≤ alignment }
-        ensures ok { IfOk result (Holds (replicate len T.zero) alignment (over_aligned alignment)) }
-        ensures refused { IsOkUnless result BufferError.OutOfMemory }
+        ensures { Makes (HoldsMade (replicate len T.zero) alignment) result }
     {
         BufferMut::zeroed_preferred_aligned(alloc, len, alignment, DEFAULT)
     }
 
-    /// `len` zeros with an alignment, over-aligned to the preferred one. Refused with `OutOfMemory`.
+    /// `len` zeros with an alignment, over-aligned to the preferred one. Refused with
+    /// `OutOfMemory`.
     pub fn zeroed_preferred_aligned(
         alloc: A,
         len: usize,
         alignment: Alignment,
         preferred: Option<Alignment>,
-    ) -> Result<Self, BufferError>
+    ) -> Result<Self>
         requires { T.align_exponent ≤ alignment }
-        ensures ok { IfOk result (Holds (replicate len T.zero) alignment (max alignment (unwrap_or preferred 0))) }
-        ensures refused { IsOkUnless result BufferError.OutOfMemory }
+        ensures { Makes (Holds (replicate len T.zero) alignment
+            (preferred_over alignment preferred)) result }
     {
         let mut buffer = BufferMut::empty_preferred_aligned(alloc, alignment, preferred);
         buffer.push_n(T::zero(), len)?;
@@ -85,7 +83,7 @@ impl<T: Element, A: Allocator> BufferMut<T, A> {
 
     /// An empty buffer, over-aligned to 256 bytes. It takes no memory.
     pub fn empty(alloc: A) -> Self
-        ensures { Holds [] T.align_exponent (over_aligned T.align_exponent) result }
+        ensures { HoldsMade [] T.align_exponent result }
     {
         BufferMut::empty_aligned(alloc, Alignment::of::<T>())
     }
@@ -93,7 +91,7 @@ impl<T: Element, A: Allocator> BufferMut<T, A> {
     /// An empty buffer with an alignment, over-aligned to 256 bytes. It takes no memory.
     pub fn empty_aligned(alloc: A, alignment: Alignment) -> Self
         requires { T.align_exponent ≤ alignment }
-        ensures { Holds [] alignment (over_aligned alignment) result }
+        ensures { HoldsMade [] alignment result }
     {
         BufferMut::empty_preferred_aligned(alloc, alignment, DEFAULT)
     }
@@ -105,7 +103,7 @@ impl<T: Element, A: Allocator> BufferMut<T, A> {
         preferred: Option<Alignment>,
     ) -> Self
         requires { T.align_exponent ≤ alignment }
-        ensures { Holds [] alignment (max alignment (unwrap_or preferred 0)) result }
+        ensures { Holds [] alignment (preferred_over alignment preferred) result }
     {
         BufferMut {
             items: Vec::new(alloc),
@@ -115,9 +113,8 @@ impl<T: Element, A: Allocator> BufferMut<T, A> {
     }
 
     /// `len` copies of an item, over-aligned to 256 bytes. Refused with `OutOfMemory`.
-    pub fn full(alloc: A, item: T, len: usize) -> Result<Self, BufferError>
-        ensures ok { IfOk result (Holds (replicate len item) T.align_exponent (over_aligned T.align_exponent)) }
-        ensures refused { IsOkUnless result BufferError.OutOfMemory }
+    pub fn full(alloc: A, item: T, len: usize) -> Result<Self>
+        ensures { Makes (HoldsMade (replicate len item) T.align_exponent) result }
     {
         let mut buffer = BufferMut::empty(alloc);
         buffer.push_n(item, len)?;
@@ -125,39 +122,77 @@ impl<T: Element, A: Allocator> BufferMut<T, A> {
     }
 
     /// A copy of a slice, as a block, over-aligned to 256 bytes. Refused with `OutOfMemory`.
-    pub fn copy_from(alloc: A, items: &[T]) -> Result<Self, BufferError>
-        ensures ok { IfOk result (Holds items.now T.align_exponent (over_aligned T.align_exponent)) }
-        ensures refused { IsOkUnless result BufferError.OutOfMemory }
+    pub fn copy_from(alloc: A, items: &[T]) -> Result<Self>
+        ensures { Makes (HoldsMade items.now T.align_exponent) result }
     {
         BufferMut::copy_from_aligned(alloc, items, Alignment::of::<T>())
     }
 
-    /// A copy of a slice, as a block, with an alignment, over-aligned to 256 bytes. Refused with `OutOfMemory`.
-    pub fn copy_from_aligned(
-        alloc: A,
-        items: &[T],
-        alignment: Alignment,
-    ) -> Result<Self, BufferError>
+    /// A copy of a slice, as a block, with an alignment, over-aligned to 256 bytes. Refused with
+    /// `OutOfMemory`.
+    pub fn copy_from_aligned(alloc: A, items: &[T], alignment: Alignment) -> Result<Self>
         requires { T.align_exponent ≤ alignment }
-        ensures ok { IfOk result (Holds items.now alignment (over_aligned alignment)) }
-        ensures refused { IsOkUnless result BufferError.OutOfMemory }
+        ensures { Makes (HoldsMade items.now alignment) result }
     {
         BufferMut::copy_from_preferred_aligned(alloc, items, alignment, DEFAULT)
     }
 
-    /// A copy of a slice, as a block, with an alignment, over-aligned to the preferred one. Refused with `OutOfMemory`.
+    /// A copy of a slice, as a block, with an alignment, over-aligned to the preferred one. Refused
+    /// with `OutOfMemory`.
     pub fn copy_from_preferred_aligned(
         alloc: A,
         items: &[T],
         alignment: Alignment,
         preferred: Option<Alignment>,
-    ) -> Result<Self, BufferError>
+    ) -> Result<Self>
         requires { T.align_exponent ≤ alignment }
-        ensures ok { IfOk result (Holds items.now alignment (max alignment (unwrap_or preferred 0))) }
-        ensures refused { IsOkUnless result BufferError.OutOfMemory }
+        ensures { Makes (Holds items.now alignment (preferred_over alignment preferred)) result }
     {
         let mut buffer = BufferMut::empty_preferred_aligned(alloc, alignment, preferred);
         buffer.extend_from_slice(items)?;
+        Ok(buffer)
+    }
+
+    /// The items that an iterator gives, over-aligned to 256 bytes. Refused with `OutOfMemory`.
+    pub fn from_iter<I: IntoIterator<Item = T>>(alloc: A, iter: I) -> Result<Self>
+        requires { IsFiniteIterable I.into_iter_gives I.IntoIter.can_next
+            I.IntoIter.remaining iter }
+        ensures made { Makes (λ b. OfItems I.into_iter_gives I.IntoIter.next_gives iter
+            (λ items. HoldsMade items T.align_exponent b)) result }
+        ensures len { IfOk result (λ b. OfRun I.into_iter_gives I.IntoIter.next_gives iter
+            (λ n. length b.list ≡ n)) }
+    {
+        let mut buffer = BufferMut::empty(alloc);
+        buffer.extend(iter)?;
+        Ok(buffer)
+    }
+
+    /// What an iterator of known length gives, over-aligned to 256 bytes. `OutOfMemory` comes
+    /// before the first item.
+    pub fn from_trusted_len_iter<I: TrustedLen<Item = T>>(alloc: A, iter: I) -> Result<Self>
+        requires { I.can_next iter }
+        ensures made { Makes (λ b. (items : List T) × Drains I.next_gives iter items
+            × HoldsMade items T.align_exponent b) result }
+        ensures len { IfOk result (λ b. length b.list ≡ I.left iter) }
+    {
+        let mut buffer = BufferMut::empty(alloc);
+        buffer.extend_trusted(iter)?;
+        Ok(buffer)
+    }
+
+    /// The values that an iterator of known length gives, over-aligned to 256 bytes. Refused with
+    /// `Memory` before the first item is asked for, and with `Item` at the first error.
+    pub fn try_from_trusted_len_iter<E, I: TrustedLen<Item = Result<T, E>>>(
+        alloc: A,
+        iter: I,
+    ) -> Result<Self, ExtendError<E>>
+        requires { I.can_next iter }
+        ensures ok { IfOk result (λ b. GivesValues I.next_gives iter
+            (λ items. HoldsMade items T.align_exponent b)) }
+        ensures err { IfStopped result (λ e. GivesError I.next_gives iter e (λ _. ⊤)) ⊤ }
+    {
+        let mut buffer = BufferMut::empty(alloc);
+        buffer.try_extend_trusted(iter)?;
         Ok(buffer)
     }
 }

@@ -1,8 +1,12 @@
+use Rattle.std.proofs.Common.{subst, sym}
+use Rattle.vb_mem.specs.SharedBuffer.{CanSlice}
 use Rattle.vb_mem.proofs.Slices.{can_slice-narrow}
 use Rattle.vb_mem.proofs.buffer.Buffer.narrow.Goals as goal
 
-pub narrow_with_alignment-requires : goal.narrow_with_alignment-requires
-narrow_with_alignment-requires g c =
+pub narrow-requires-clause-can_slice : goal.narrow-requires-clause-can_slice
+narrow-requires-clause-can_slice g c =
     let range = c.args.range in
+    let element = g.T.Element in
     let reported = c.alignment-alignment.ensures in
-    can_slice-narrow g.T.Element.SIZE g.T.Element.align_exponent c.args.self.now range.start range.end c.alignment-alignment.result reported.value reported.at_least reported.fits reported.aligned c.requires
+    let there = can_slice-narrow element.SIZE element.align_exponent c.args.self.now range.start range.end c.alignment-alignment.result reported.value reported.at_least reported.fits reported.aligned c.requires in
+    subst (λ b. CanSlice element.SIZE element.align_exponent b range.start range.end c.alignment-alignment.result) (sym c.self.view_is) there

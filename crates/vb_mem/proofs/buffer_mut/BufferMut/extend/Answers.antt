@@ -1,14 +1,84 @@
-use Rattle.std.proofs.Common.{◌≡◌, ◌≤◌, ◌+◌, ◌∷◌, [], ◌++◌, length, length-append, ap, arith}
-use Rattle.vb_mem.proofs.Runs.{Yields-push}
+use Rattle.std.proofs.Common.{rules, ◌≡◌, ◌≤◌, ◌+◌, [], ◌∷◌, ◌++◌, Result, Ok, Err, IsErr, length, length-append, append-nil, refl, subst, ap, arith}
+use Rattle.std.specs.Prelude.{MatchResult}
+use Rattle.vb_mem.proofs.Growth.{Lengthens-append}
+use Rattle.vb_mem.proofs.Runs.{Yields-push, Yields-append}
 use Rattle.vb_mem.proofs.buffer_mut.BufferMut.extend.Goals as goal
+
+-- an error is no value
+at_err : {B E : Type 0} (r : Result B E) (P Q : Type 0) → IsErr r → Q → MatchResult r (λ _. P) (λ _. Q)
+at_err (Ok _) P Q err q = absurd (search (rules, err))
+at_err (Err _) P Q err q = q
+
+pub loop-item-init : goal.loop-item-init
+loop-item-init g c =
+    let asked = c.requires c.into_iter-rest.result c.into_iter-rest.ensures.into_iter_gives in
+    record {
+      can = asked.0;
+      finite = asked.1;
+      given = ([], refl, search rules);
+    }
+
+-- the items that the room took, and then the end
+pub returns-in_default-clause-lengthens : goal.returns-in_default-clause-lengthens
+returns-in_default-clause-lengthens g c =
+    let steps = g.I.IntoIter.Iterator.next_gives in
+    let start = c.into_iter-rest.result in
+    let kept = c.loop-item.invariant.given in
+    let filled = c.fill_room-over.ensures.fills in
+    let gave = filled.2.0 in
+    let left = c.fill_room-over.result.1 in
+    let run = Yields-append steps kept.0 filled.0 start c.loop-item.rest gave.0 kept.1 gave.1 in
+    (start, kept.0 ++ filled.0, c.into_iter-rest.ensures.into_iter_gives, Lengthens-append kept.0 filled.0 c.args.self.now c.loop-item.self c.fill_room-over.new.self kept.2 filled.1, (left, (gave.0, run, subst (λ r. steps gave.0 r left) c.in_default.is gave.2)))
+
+-- the items that the room took, before memory was refused for the next one
+pub returns-in_err-reserve_by_hint-clause-lengthens : goal.returns-in_err-reserve_by_hint-clause-lengthens
+returns-in_err-reserve_by_hint-clause-lengthens g c =
+    let steps = g.I.IntoIter.Iterator.next_gives in
+    let start = c.into_iter-rest.result in
+    let kept = c.loop-item.invariant.given in
+    let filled = c.fill_room-over.ensures.fills in
+    let gave = filled.2.0 in
+    let run = Yields-append steps kept.0 filled.0 start c.loop-item.rest gave.0 kept.1 gave.1 in
+    (start, kept.0 ++ filled.0, c.into_iter-rest.ensures.into_iter_gives, rw c.in_err-reserve_by_hint.ensures.err (Lengthens-append kept.0 filled.0 c.args.self.now c.loop-item.self c.fill_room-over.new.self kept.2 filled.1), at_err c.from_residual.result _ _ c.from_residual.ensures.0 (gave.0, run))
 
 -- had there been room for all items, the list would not have been full
 pub returns-in_err-reserve_by_hint-clause-in_place : goal.returns-in_err-reserve_by_hint-clause-in_place
 returns-in_err-reserve_by_hint-clause-in_place g c room =
-    let start = c.into_iter-iter.result in
-    let items = c.loop-item.yielded ++ c.in-Some.item ∷ [] in
-    let begins : c.into_iter-item-iterator.result ≡ start = c.into_iter-item-iterator.ensures.into_iter_gives in
-    let run = Yields-push g.I.IntoIter.Iterator.next_gives c.loop-item.yielded c.into_iter-item-iterator.result c.loop-item.item-iterator c.next.new.self c.in-Some.item c.loop-item.yielded_by c.in-Some.ensures.steps in
-    let fits : length c.args.self.now.list + length items ≤ c.args.self.now.room = room start c.into_iter-iter.ensures.into_iter_gives items c.next.new.self (rw (← begins) run) in
-    let kept = c.loop-item.invariant in
-    absurd (omega (arith, fits, kept.room, ap length kept.list, length-append c.args.self.now.list c.loop-item.yielded, length-append c.loop-item.yielded (c.in-Some.item ∷ []), c.if-len-capacity.true, c.len-len.ensures, c.capacity.ensures, ap (λ b. length b.list) c.self-in-loop-item.view_is, ap (λ b. b.room) c.self-in-loop-item.view_is))
+    let steps = g.I.IntoIter.Iterator.next_gives in
+    let start = c.into_iter-rest.result in
+    let kept = c.loop-item.invariant.given in
+    let filled = c.fill_room-over.ensures.fills in
+    let gave = filled.2.0 in
+    let left = c.fill_room-over.result.1 in
+    let item = c.in-Some.item in
+    let before = Yields-append steps kept.0 filled.0 start c.loop-item.rest gave.0 kept.1 gave.1 in
+    let run = Yields-push steps (kept.0 ++ filled.0) start gave.0 left item before (subst (λ r. steps gave.0 r left) c.in-Some.is gave.2) in
+    let old = c.args.self.now in
+    let fits : length old.list + length ((kept.0 ++ filled.0) ++ item ∷ []) ≤ old.room = room start c.into_iter-rest.ensures.into_iter_gives ((kept.0 ++ filled.0) ++ item ∷ []) left run in
+    let full : length c.fill_room-over.new.self.list ≡ c.fill_room-over.new.self.room = rw c.in-Some.is at c.fill_room-over.ensures.full in
+    let grown = Lengthens-append kept.0 filled.0 old c.loop-item.self c.fill_room-over.new.self kept.2 filled.1 in
+    absurd (omega (arith, fits, full, c.fill_room-over.ensures.room, kept.2.room, ap length grown.list, length-append old.list (kept.0 ++ filled.0), length-append (kept.0 ++ filled.0) (item ∷ [])))
+
+pub loop-item-smaller : goal.loop-item-smaller
+loop-item-smaller g c = (rw c.in-Some.is at c.fill_room-over.ensures.fills.2.1).2
+
+pub loop-item-preserved : goal.loop-item-preserved
+loop-item-preserved g c =
+    let steps = g.I.IntoIter.Iterator.next_gives in
+    let start = c.into_iter-rest.result in
+    let kept = c.loop-item.invariant.given in
+    let filled = c.fill_room-over.ensures.fills in
+    let gave = filled.2.0 in
+    let left = c.fill_room-over.result.1 in
+    let item = c.in-Some.item in
+    let nearer = rw c.in-Some.is at filled.2.1 in
+    let before = Yields-append steps kept.0 filled.0 start c.loop-item.rest gave.0 kept.1 gave.1 in
+    let run = Yields-push steps (kept.0 ++ filled.0) start gave.0 left item before (subst (λ r. steps gave.0 r left) c.in-Some.is gave.2) in
+    let grown = Lengthens-append kept.0 filled.0 c.args.self.now c.loop-item.self c.fill_room-over.new.self kept.2 filled.1 in
+    let roomy = Lengthens-append (kept.0 ++ filled.0) [] c.args.self.now c.fill_room-over.new.self c.reserve_by_hint.new.self grown c.in_ok-reserve_by_hint.ensures.ok in
+    let same = append-nil (kept.0 ++ filled.0) in
+    record {
+      can = nearer.0;
+      finite = nearer.1;
+      given = ((kept.0 ++ filled.0) ++ item ∷ [], run, Lengthens-append (kept.0 ++ filled.0) (item ∷ []) c.args.self.now c.reserve_by_hint.new.self c.push_unchecked.new.self (rw same at roomy) c.push_unchecked.ensures);
+    }
