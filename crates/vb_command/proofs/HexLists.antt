@@ -1,68 +1,103 @@
 -- Pairs of hexadecimal digits, one after another.
-use Rattle.std.proofs.Common.{◌≡◌, ℕ, ◌-◌, ◌≤◌, ◌<◌, true, false, eqb, List, [], ◌∷◌, ◌++◌, length, get_or, take, drop, refl, sym, ap, ◌∙◌, Option, Some, None, arith, append_assoc}
+use Rattle.std.proofs.Common.{◌≡◌, ℕ, ◌+◌, ◌*◌, ◌/◌, ◌%◌, ◌≤◌, ◌<◌, ◌≢◌, Bool, true, false, ◌&&◌, eqb, List, [], ◌∷◌, ◌++◌, length, get_or, take, drop, slice_set, refl, sym, ap, ◌∙◌, Option, Some, None, arith, append_assoc}
 use Rattle.std.specs.Prelude.{option_map, is_some}
+use Rattle.std.specs.List.{list_all}
 use mathlib.Core.List.{append-nil}
-use Rattle.std.proofs.lemmas.List.{take_rest}
+use Rattle.std.proofs.lemmas.Bool.{eqb-true, ne_eqb}
+use Rattle.std.proofs.lemmas.List.{drop_all, drop_more, take_all, take_more_set}
+use Rattle.std.proofs.lemmas.List.Sums.{AllPass-from_list_all}
 use Rattle.vb_command.specs.Optional.{◌>>=◌}
-use Rattle.vb_command.specs.Hex.{hex_byte, hex_pairs}
+use Rattle.vb_command.specs.Hex.{hex_value, hex_byte, hex_pairs, is_digit}
 
--- all bytes, where some are read and the rest may still fail
+-- all bytes, where some are written and the rest may still fail
 abbrev pub behind : List ℕ → Option (List ℕ) → Option (List ℕ)
-behind read rest = option_map (λ more. read ++ more) rest
+behind written rest = option_map (λ more. written ++ more) rest
 
--- both parts gave something, if what is made of them did
-some_first : (first : Option ℕ) (rest : Option (List ℕ)) (read : List ℕ) → is_some (behind read (first >>= (λ x. rest >>= (λ more. Some (x ∷ more))))) ≡ true → is_some first ≡ true
-some_first None rest read all = all
-some_first (Some x) rest read all = refl
+-- the next byte can stand in front of the rest or behind those that are written
+behind-next : (written : List ℕ) (byte : ℕ) (rest : Option (List ℕ)) → behind written (rest >>= (λ more. Some (byte ∷ more))) ≡ behind (written ++ byte ∷ []) rest
+behind-next written byte None = refl
+behind-next written byte (Some more) = ap Some (sym (append_assoc written (byte ∷ []) more))
 
--- the next byte can stand in front of the rest or behind those that are read
-behind-next : (read : List ℕ) (byte : ℕ) (rest : Option (List ℕ)) → behind read (rest >>= (λ more. Some (byte ∷ more))) ≡ behind (read ++ byte ∷ []) rest
-behind-next read byte None = refl
-behind-next read byte (Some more) = ap Some (sym (append_assoc read (byte ∷ []) more))
+-- a pair and the rest give something, if both digits and the rest do
+pair_there : (high low : Option ℕ) (rest : Option (List ℕ)) (even all : Bool) → is_some rest ≡ (even && all)
+    → is_some ((high >>= (λ x. low >>= (λ y. Some (16 * x + y)))) >>= (λ byte. rest >>= (λ more. Some (byte ∷ more)))) ≡ (even && (is_some high && (is_some low && all)))
+pair_there None low rest true all same = refl
+pair_there None low rest false all same = refl
+pair_there (Some x) None rest true all same = refl
+pair_there (Some x) None rest false all same = refl
+pair_there (Some x) (Some y) None even all same = same
+pair_there (Some x) (Some y) (Some more) even all same = same
 
--- the bytes by the first one
-hex_pairs-first : (digits : List ℕ) (byte : ℕ) → 2 ≤ length digits → hex_byte (get_or digits 0 0) (get_or digits 1 0) ≡ Some byte
-    → hex_pairs digits ≡ (hex_pairs (drop 2 digits) >>= (λ more. Some (byte ∷ more)))
-hex_pairs-first [] byte two first = absurd (omega arith)
-hex_pairs-first (a ∷ []) byte two first = absurd (omega arith)
-hex_pairs-first (a ∷ b ∷ more) byte two first = ap (λ o. o >>= (λ x. hex_pairs more >>= (λ rest. Some (x ∷ rest)))) first
+first : (a b : Bool) → (a && b) ≡ true → a ≡ true
+first true b both = refl
+first false b both = both
 
--- a byte in front bears on no failure
-is_some-cons : (byte : ℕ) (rest : Option (List ℕ)) → is_some (rest >>= (λ more. Some (byte ∷ more))) ≡ is_some rest
-is_some-cons byte None = refl
-is_some-cons byte (Some more) = refl
+second : (a b : Bool) → (a && b) ≡ true → b ≡ true
+second true b both = both
+second false b both = absurd (let no : false ≡ true = both in cc)
 
--- one more pair is known to write a byte
-pub pair_passed : (digits rest : List ℕ) (byte : ℕ) → 2 ≤ length rest → hex_byte (get_or rest 0 0) (get_or rest 1 0) ≡ Some byte
-    → is_some (hex_pairs digits) ≡ is_some (hex_pairs rest) → is_some (hex_pairs digits) ≡ is_some (hex_pairs (take (length rest - 2) (drop 2 rest)))
-pair_passed digits rest byte two first before = rw take_rest (before ∙ (ap is_some (hex_pairs-first rest byte two first) ∙ is_some-cons byte (hex_pairs (drop 2 rest))))
+-- pairs are digits, and their number is even
+pub is_some-hex_pairs : (digits : List ℕ) → is_some (hex_pairs digits) ≡ (eqb (length digits % 2) 0 && list_all is_digit digits)
+is_some-hex_pairs [] = refl
+is_some-hex_pairs (a ∷ []) = refl
+is_some-hex_pairs (a ∷ b ∷ more) =
+    let two : length (a ∷ b ∷ more) % 2 ≡ length more % 2 = omega arith in
+    pair_there (hex_value a) (hex_value b) (hex_pairs more) (eqb (length more % 2) 0) (list_all is_digit more) (is_some-hex_pairs more)
+    ∙ ap (λ n. eqb n 0 && list_all is_digit (a ∷ b ∷ more)) (sym two)
 
--- a pair that writes no byte
-pub pair_failed : (rest : List ℕ) → 2 ≤ length rest → hex_byte (get_or rest 0 0) (get_or rest 1 0) ≡ None → hex_pairs rest ≡ None
-pair_failed [] two first = absurd (omega arith)
-pair_failed (a ∷ []) two first = absurd (omega arith)
-pair_failed (a ∷ b ∷ more) two first = ap (λ o. o >>= (λ x. hex_pairs more >>= (λ rest. Some (x ∷ rest)))) first
+-- the rest of the digits, from a pair on
+drop_pair : (digits : List ℕ) (i : ℕ) → 2 * i + 1 < length digits → drop (2 * i) digits ≡ get_or digits (2 * i) 0 ∷ get_or digits (2 * i + 1) 0 ∷ drop (2 * (i + 1)) digits
+drop_pair digits i within =
+    let two : 2 * i + 1 + 1 ≡ 2 * (i + 1) = omega arith in
+    rw (drop_more digits (2 * i) 0 (omega arith), drop_more digits (2 * i + 1) 0 within, two) refl
 
--- fewer than two digits are pairs only where there are none
-pub pairs_last : (rest : List ℕ) → length rest < 2 → is_some (hex_pairs rest) ≡ eqb (length rest) 0
-pairs_last [] few = refl
-pairs_last (a ∷ []) few = refl
-pairs_last (a ∷ b ∷ more) few = absurd (omega arith)
+-- a pair that writes a byte
+hex_pairs-pair : (a b high low : ℕ) (more : List ℕ) → hex_value a ≡ Some high → hex_value b ≡ Some low → hex_pairs (a ∷ b ∷ more) ≡ (hex_pairs more >>= (λ rest. Some ((16 * high + low) ∷ rest)))
+hex_pairs-pair a b high low more is_high is_low =
+    ap (λ x. (x >>= (λ h. hex_value b >>= (λ l. Some (16 * h + l)))) >>= (λ byte. hex_pairs more >>= (λ rest. Some (byte ∷ rest)))) is_high
+    ∙ ap (λ y. (y >>= (λ l. Some (16 * high + l))) >>= (λ byte. hex_pairs more >>= (λ rest. Some (byte ∷ rest)))) is_low
 
--- where some bytes are read and the rest is pairs, its first pair writes a byte
-pub pair_there : (read digits rest : List ℕ) → 2 ≤ length rest → is_some (hex_pairs digits) ≡ true → hex_pairs digits ≡ behind read (hex_pairs rest)
-    → is_some (hex_byte (get_or rest 0 0) (get_or rest 1 0)) ≡ true
-pair_there read digits [] two all before = absurd (omega arith)
-pair_there read digits (a ∷ []) two all before = absurd (omega arith)
-pair_there read digits (a ∷ b ∷ more) two all before = some_first (hex_byte a b) (hex_pairs more) read (ap is_some (sym before) ∙ all)
+-- the byte of one more pair is written
+pub pair_written : (digits bytes : List ℕ) (i high low : ℕ) → i < length bytes → length digits ≡ 2 * length bytes
+    → hex_value (get_or digits (2 * i) 0) ≡ Some high → hex_value (get_or digits (2 * i + 1) 0) ≡ Some low
+    → hex_pairs digits ≡ behind (take i bytes) (hex_pairs (drop (2 * i) digits))
+    → hex_pairs digits ≡ behind (take (i + 1) (slice_set bytes i (16 * high + low))) (hex_pairs (drop (2 * (i + 1)) digits))
+pair_written digits bytes i high low within size is_high is_low before =
+    let rest = drop (2 * (i + 1)) digits in
+    let pair = hex_pairs-pair (get_or digits (2 * i) 0) (get_or digits (2 * i + 1) 0) high low rest is_high is_low in
+    before
+    ∙ (ap (λ l. behind (take i bytes) (hex_pairs l)) (drop_pair digits i (omega arith))
+    ∙ (ap (behind (take i bytes)) pair
+    ∙ (behind-next (take i bytes) (16 * high + low) (hex_pairs rest)
+    ∙ ap (λ l. behind l (hex_pairs rest)) (sym (take_more_set bytes i (16 * high + low) within)))))
 
--- fewer than two digits that are pairs are none
-pub pairs_end : (read digits rest : List ℕ) → length rest < 2 → is_some (hex_pairs digits) ≡ true → hex_pairs digits ≡ behind read (hex_pairs rest) → hex_pairs digits ≡ Some read
-pairs_end read digits [] few all before = before ∙ ap Some (append-nil read)
-pairs_end read digits (a ∷ []) few all before = absurd (let no : false ≡ true = ap is_some (sym before) ∙ all in cc)
-pairs_end read digits (a ∷ b ∷ more) few all before = absurd (omega arith)
+-- all bytes are written
+pub pairs_written : (digits bytes : List ℕ) (i : ℕ) → length bytes ≤ i → length digits ≡ 2 * length bytes
+    → hex_pairs digits ≡ behind (take i bytes) (hex_pairs (drop (2 * i) digits)) → hex_pairs digits ≡ Some bytes
+pairs_written digits bytes i end size before =
+    before
+    ∙ (ap (λ l. behind (take i bytes) (hex_pairs l)) (drop_all (2 * i) digits (omega arith))
+    ∙ ap Some (append-nil (take i bytes) ∙ take_all i bytes end))
 
--- one more pair is read, and its byte is pushed
-pub pair_read : (read pushed digits rest : List ℕ) (byte : ℕ) → 2 ≤ length rest → hex_byte (get_or rest 0 0) (get_or rest 1 0) ≡ Some byte
-    → hex_pairs digits ≡ behind read (hex_pairs rest) → pushed ≡ read ++ byte ∷ [] → hex_pairs digits ≡ behind pushed (hex_pairs (take (length rest - 2) (drop 2 rest)))
-pair_read read pushed digits rest byte two first before push = rw (push, take_rest) (before ∙ (ap (behind read) (hex_pairs-first rest byte two first) ∙ behind-next read byte (hex_pairs (drop 2 rest))))
+-- pairs are digits
+pub pairs_digits : (digits : List ℕ) → is_some (hex_pairs digits) ≡ true → list_all is_digit digits ≡ true
+pairs_digits digits pairs = second _ _ (sym (is_some-hex_pairs digits) ∙ pairs)
+
+-- the number of digits in pairs is even
+pub pairs_even : (digits : List ℕ) → is_some (hex_pairs digits) ≡ true → length digits % 2 ≡ 0
+pairs_even digits pairs = eqb-true (length digits % 2) 0 (first _ _ (sym (is_some-hex_pairs digits) ∙ pairs))
+
+-- an even number of digits are pairs
+pub even_pairs : (digits : List ℕ) → length digits % 2 ≡ 0 → is_some (hex_pairs digits) ≡ list_all is_digit digits
+even_pairs digits even = is_some-hex_pairs digits ∙ ap (λ n. eqb n 0 && list_all is_digit digits) even
+
+-- an odd number of bytes are no pairs
+pub odd_pairs : (digits : List ℕ) → length digits % 2 ≢ 0 → is_some (hex_pairs digits) ≡ false
+odd_pairs digits odd = is_some-hex_pairs digits ∙ ap (λ b. b && list_all is_digit digits) (ne_eqb (length digits % 2) 0 odd)
+
+-- what pairs are made of
+pub ruleset pairs = (pairs_digits, pairs_even, even_pairs, odd_pairs)
+
+-- each of the digits is one
+pub digit_at : (digits : List ℕ) (i : ℕ) → list_all is_digit digits ≡ true → i < length digits → is_digit (get_or digits i 0) ≡ true
+digit_at digits i all within = AllPass-from_list_all is_digit digits all i 0 within

@@ -1,5 +1,5 @@
 -- Bytes that are written in hexadecimal, two digits a byte.
-use Rattle.std.specs.Prelude.{ℕ, ◌+◌, ◌*◌, List, [], ◌∷◌, codes, Option, Some, None, nat_lt, if◌then◌else◌}
+use Rattle.std.specs.Prelude.{ℕ, Bool, is_some, ◌+◌, ◌*◌, List, [], ◌∷◌, codes, Option, Some, None, nat_lt, if◌then◌else◌}
 use Rattle.std.specs.Char.{digit_value}
 use Rattle.std.specs.Str.{bytes_eq}
 use Rattle.vb_command.specs.Optional.{◌>>=◌}
@@ -7,6 +7,10 @@ use Rattle.vb_command.specs.Optional.{◌>>=◌}
 -- the value of a hexadecimal digit of either case
 abbrev pub hex_value : ℕ → Option ℕ
 hex_value c = if nat_lt (digit_value c) 16 then Some (digit_value c) else None
+
+-- whether a byte is a hexadecimal digit of either case
+abbrev pub is_digit : ℕ → Bool
+is_digit c = is_some (hex_value c)
 
 -- the byte of two digits, the high one first
 abbrev pub hex_byte : ℕ → ℕ → Option ℕ

@@ -3,12 +3,18 @@ use Rattle.std.specs.Prelude.{◌≡◌, ℕ, ◌+◌, ◌-◌, ◌*◌, ◌^◌
 use Rattle.std.specs.Option.{option_and_then, option_map_or}
 use Rattle.vb_kernel.specs.Bits.{bits, at, count, negated, Selects}
 use Rattle.vb_kernel.specs.Edits.{filled}
+use Rattle.vb_command.specs.declared.command.Command.{Command}
+use Rattle.vb_command.specs.declared.command.Command.TheVariants as commands
 
 -- what a slot holds
 pub data Slot : Type 0 where
   Empty : Slot
   Open : List Bool → Slot
   Frozen : List Bool → Slot
+
+-- sixteen empty slots
+unfoldable pub empty_slots : List Slot
+empty_slots = replicate 16 Empty
 
 -- what a command asks of the machine, with the fields of its line in their order
 pub data Order : Type 0 where
@@ -33,6 +39,30 @@ pub data Order : Type 0 where
   Select : ℕ → ℕ → Order
   Selectunset : ℕ → ℕ → Order
   Bits : ℕ → Order
+
+-- the order of a command
+abbrev pub order : {A : Type 0} → Command A → Order
+order (commands.Import t o n bytes) = Import t o n bytes.items
+order (commands.Full t v n) = Full t v n
+order (commands.Set k i v) = Set k i v
+order (commands.Append k v) = Append k v
+order (commands.Appendn k v n) = Appendn k v n
+order (commands.Fill k a b v) = Fill k a b v
+order (commands.Truncate k n) = Truncate k n
+order (commands.Clear k) = Clear k
+order (commands.Flip k) = Flip k
+order (commands.Freeze k) = Freeze k
+order (commands.Thaw k) = Thaw k
+order (commands.Clone k t) = Clone k t
+order (commands.Slice k a b t) = Slice k a b t
+order (commands.Drop k) = Drop k
+order (commands.Len k) = Len k
+order (commands.Count k) = Count k
+order (commands.Get k i) = Get k i
+order (commands.Countrange k a b) = Countrange k a b
+order (commands.Select k n) = Select k n
+order (commands.Selectunset k n) = Selectunset k n
+order (commands.Bits k) = Bits k
 
 -- why an order is refused
 pub data Reason : Type 0 where

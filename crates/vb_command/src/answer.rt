@@ -4,7 +4,7 @@ ghost use Rattle.std.specs.Fmt.{WritesOnOk};
 ghost use Rattle.vb_command.specs.Parts.{parts_text};
 
 use crate::digits::{Digits, digit};
-use std::alloc::Allocator;
+use std::alloc::{Allocator, Global};
 use std::fmt;
 
 /// Why a command is refused. It is printed as `refused` and its name.
@@ -66,7 +66,7 @@ impl fmt::Display for Refusal {
 
 /// What a command is answered. It is printed as one line, here without its line feed.
 #[derive(Debug, Drop)]
-pub enum Answer<A: Allocator> {
+pub enum Answer<A: Allocator = Global> {
     /// The command is done, printed as `ok`.
     Done,
     /// A number, printed in decimal.
@@ -128,7 +128,8 @@ impl<A: Allocator> fmt::Display for Answer<A> {
 
 /// Prints a part, and the number that follows it, if there is one.
 fn print<W: fmt::Write>(parts: (Part<'_>, Option<usize>), f: &mut fmt::Formatter<W>) -> fmt::Result
-    ensures { WritesOnOk W.write_str_gives f.old result (parts_text parts.entry.0 parts.entry.1) f.new }
+    ensures { WritesOnOk W.write_str_gives
+        f.old result (parts_text parts.entry.0 parts.entry.1) f.new }
 {
     let (part, number) = parts;
     match part {

@@ -2,7 +2,7 @@
 ghost use Rattle.std.specs.Prelude.{◌≡◌, IsErrOf, IsTrue, Some, option_map};
 ghost use Rattle.vb_command.specs.Arguments.{arguments_of, edit_of, question_of};
 ghost use Rattle.vb_command.specs.Reading.{Gives, Tells, asks_memory};
-ghost use Rattle.vb_command.specs.Views.{order};
+ghost use Rattle.vb_command.specs.Machine.{order};
 
 use crate::command::Command;
 use crate::hex::{bytes_of_pairs, hex_pairs};

@@ -1,6 +1,6 @@
 //! What a line asks for.
 
-use std::alloc::Allocator;
+use std::alloc::{Allocator, Global};
 
 /// How an operator treats the slot of its left set.
 #[derive(Clone, Copy, Debug, PartialEq, Eq)]
@@ -17,7 +17,7 @@ pub enum Mode {
 /// Slots, places and lengths in bits are numbers of 64 bits, whatever they are: a slot above 15 is
 /// part of a command too, which is then refused.
 #[derive(Debug, Drop)]
-pub enum Command<A: Allocator> {
+pub enum Command<A: Allocator = Global> {
     /// `import t o n HEX`: fills slot `t`, which has to be empty, with an open set of `n` bits,
     /// read from the bytes, beginning at bit `o` of the first one, the least significant bit of
     /// each byte first. `o` has to be below 8, and all bits have to lie within the bytes.

@@ -1,42 +1,45 @@
 //! Bytes that are written in hexadecimal.
-ghost use Rattle.std.specs.Prelude.{◌≡◌, ◌<◌, Some, None, IfOk, IfSome, IsTrue, MatchResult, is_some};
-ghost use Rattle.vb_command.specs.Hex.{hex_value, hex_byte, hex_pairs, hex};
+ghost use Rattle.std.specs.Prelude.{◌≡◌, ◌*◌, ◌<◌, Some, None, IfOk, IsTrue, MatchResult, is_some, length};
+ghost use Rattle.std.specs.List.{list_all};
+ghost use Rattle.vb_command.specs.Hex.{hex_value, hex_pairs, hex, is_digit};
 
 use crate::unread::Unread;
 use std::alloc::{AllocError, Allocator};
 
-/// The value of a digit of either case.
-fn digit_value(digit: u8) -> Option<u8>
-    ensures value { result ≡ hex_value digit }
-    ensures small { IfSome result (λ value. value < 16) }
+/// Whether this is a digit, of either case.
+fn is_digit(byte: u8) -> bool
+    ensures { result ≡ is_digit byte }
 {
-    match digit {
-        b'0'..=b'9' => Some(digit - b'0'),
-        b'a'..=b'f' => Some(digit - b'a' + 10),
-        b'A'..=b'F' => Some(digit - b'A' + 10),
-        _ => None,
-    }
+    matches!(byte, b'0'..=b'9' | b'a'..=b'f' | b'A'..=b'F')
 }
 
-/// The byte of two digits, the high one first.
-fn byte_of(high: u8, low: u8) -> Option<u8>
-    ensures { result ≡ hex_byte high low }
+/// Whether all of these are digits. None is a reason to stop, so that many are looked at at once.
+fn are_digits(bytes: &[u8]) -> bool
+    ensures { result ≡ list_all is_digit bytes.now }
 {
-    Some(16 * digit_value(high)? + digit_value(low)?)
+    let mut all = true;
+    for byte in bytes {
+        all &= is_digit(*byte);
+    }
+    all
+}
+
+/// The value of a digit, with no branch. The codes of `0` to `9` end in it and lie below 64; those
+/// of `A` to `F` and of `a` to `f` end in 1 to 6, and lie above 64 and below 128.
+fn value_of(digit: u8) -> u8
+    requires { IsTrue (is_digit digit) }
+    ensures value { hex_value digit ≡ Some result }
+    ensures small { result < 16 }
+{
+    digit % 16 + 9 * (digit / 64)
 }
 
 /// Whether these are pairs of digits.
-fn are_pairs(digits: &[u8]) -> bool
-    ensures { result ≡ is_some (hex_pairs digits.now) }
+#[tactic(auto, using(crate::proofs::HexLists::pairs))]
+fn are_pairs(bytes: &[u8]) -> bool
+    ensures { result ≡ is_some (hex_pairs bytes.now) }
 {
-    let mut rest = digits;
-    while let [high, low, more @ ..] = rest {
-        match byte_of(*high, *low) {
-            Some(_) => rest = more,
-            None => return false,
-        }
-    }
-    rest.is_empty()
+    bytes.len() % 2 == 0 && are_digits(bytes)
 }
 
 /// The pairs of digits that write the bytes of a word. This takes no memory.
@@ -54,15 +57,23 @@ pub fn hex_pairs(word: &str) -> Result<&[u8], Unread>
 }
 
 /// The bytes of pairs of digits, in memory by one request.
+#[tactic(auto, using(crate::proofs::HexLists::pairs))]
 pub fn bytes_of_pairs<A: Allocator>(alloc: A, digits: &[u8]) -> Result<Vec<u8, A>, AllocError>
     requires { IsTrue (is_some (hex_pairs digits.now)) }
     ensures { IfOk result (λ bytes. hex_pairs digits.now ≡ Some bytes.items) }
 {
-    let mut bytes = Vec::with_capacity(alloc, digits.len() / 2)?;
-    let mut rest = digits;
-    while let [high, low, more @ ..] = rest {
-        bytes.push(byte_of(*high, *low).unwrap())?;
-        rest = more;
-    }
+    let mut bytes = vec![in alloc; 0u8; digits.len() / 2]?;
+    put_bytes(&mut bytes, digits);
     Ok(bytes)
+}
+
+/// Writes the byte of each pair of digits.
+fn put_bytes(bytes: &mut [u8], digits: &[u8])
+    requires len { length digits.now ≡ 2 * length bytes.old }
+    requires digits { IsTrue (list_all is_digit digits.now) }
+    ensures { hex_pairs digits.now ≡ Some bytes.new }
+{
+    for i in 0..bytes.len() {
+        bytes[i] = 16 * value_of(digits[2 * i]) + value_of(digits[2 * i + 1]);
+    }
 }

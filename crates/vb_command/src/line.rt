@@ -2,7 +2,7 @@
 ghost use Rattle.std.specs.Prelude.{◌≡◌, true, false, MatchOption, option_map, IsErrOf, IsTrue};
 ghost use Rattle.vb_command.specs.Words.{words};
 ghost use Rattle.vb_command.specs.Reading.{Gives, all_ascii, request_of, asks_memory, reading};
-ghost use Rattle.vb_command.specs.Views.{order};
+ghost use Rattle.vb_command.specs.Machine.{order};
 
 use crate::arguments::arguments;
 use crate::command::Command;
@@ -20,7 +20,8 @@ fn ascii_text(line: &[u8]) -> Option<&str>
     if !line.is_ascii() {
         return None;
     }
-    std::str::from_utf8(line).ok()
+    // ASCII is UTF-8, as is proved here, and so the line isn't looked at again.
+    Some(unsafe { std::str::from_utf8_unchecked(line) })
 }
 
 /// What the words of a text ask for.

@@ -1,4 +1,5 @@
 pub mod AnySet
+pub mod Answered
 pub mod OpenBits
 pub mod Slot
 pub use Rattle.vb_command.specs.Machine

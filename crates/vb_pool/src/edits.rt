@@ -1,7 +1,7 @@
 //! Edits of the open set in a slot.
 ghost use Rattle.vb_command.specs.Machine.{Step, Outcome};
 ghost use Rattle.vb_command.specs.Machine as machine;
-ghost use Rattle.vb_command.specs.Views.{reply};
+ghost use Rattle.vb_pool.specs.Answered.{answered};
 
 use crate::pool::Pool;
 use crate::refused::refusal_of;
@@ -12,95 +12,74 @@ use vb_command::{Answer, Refusal};
 #[tactic(auto, using(crate::proofs::Slots::slots))]
 impl<A: Allocator + Clone> Pool<A> {
     /// Makes bit `i` `v`.
-    pub(crate) fn set(&mut self, k: usize, i: usize, v: bool) -> Answer<A>
-        ensures { Step self.old (machine.Set k i v) (reply result) self.new }
+    pub(crate) fn set(&mut self, k: usize, i: usize, v: bool) -> Result<Answer<A>, Refusal>
+        ensures { Step self.old (machine.Set k i v) (answered result) self.new }
     {
-        match self.open_mut(k) {
-            Some(set) if i < set.len() => {
-                set.set_to(i, v);
-                Answer::Done
-            }
-            Some(_) => Answer::Refused(Refusal::OutOfRange),
-            None => Answer::Refused(Refusal::BadSlot),
+        let set = self.open_mut(k).ok_or(Refusal::BadSlot)?;
+        if i >= set.len() {
+            return Err(Refusal::OutOfRange);
         }
+        set.set_to(i, v);
+        Ok(Answer::Done)
     }
 
     /// Adds a bit `v`.
-    pub(crate) fn append(&mut self, k: usize, v: bool) -> Answer<A>
-        ensures { Outcome self.old (machine.Append k v) (reply result) self.new }
+    pub(crate) fn append(&mut self, k: usize, v: bool) -> Result<Answer<A>, Refusal>
+        ensures { Outcome self.old (machine.Append k v) (answered result) self.new }
     {
-        match self.open_mut(k) {
-            Some(set) => match set.append(v) {
-                Ok(()) => Answer::Done,
-                Err(error) => Answer::Refused(refusal_of(error)),
-            },
-            None => Answer::Refused(Refusal::BadSlot),
-        }
+        let set = self.open_mut(k).ok_or(Refusal::BadSlot)?;
+        set.append(v).map_err(refusal_of)?;
+        Ok(Answer::Done)
     }
 
     /// Adds `n` bits `v`.
-    pub(crate) fn append_n(&mut self, k: usize, v: bool, n: usize) -> Answer<A>
-        ensures { Outcome self.old (machine.Appendn k v n) (reply result) self.new }
+    pub(crate) fn append_n(&mut self, k: usize, v: bool, n: usize) -> Result<Answer<A>, Refusal>
+        ensures { Outcome self.old (machine.Appendn k v n) (answered result) self.new }
     {
-        match self.open_mut(k) {
-            Some(set) => match set.append_n(v, n) {
-                Ok(()) => Answer::Done,
-                Err(error) => Answer::Refused(refusal_of(error)),
-            },
-            None => Answer::Refused(Refusal::BadSlot),
-        }
+        let set = self.open_mut(k).ok_or(Refusal::BadSlot)?;
+        set.append_n(v, n).map_err(refusal_of)?;
+        Ok(Answer::Done)
     }
 
     /// Makes the bits from `a` up to `b`, `b` excluded, `v`.
-    pub(crate) fn fill(&mut self, k: usize, a: usize, b: usize, v: bool) -> Answer<A>
-        ensures { Step self.old (machine.Fill k a b v) (reply result) self.new }
+    pub(crate) fn fill(
+        &mut self,
+        k: usize,
+        a: usize,
+        b: usize,
+        v: bool,
+    ) -> Result<Answer<A>, Refusal>
+        ensures { Step self.old (machine.Fill k a b v) (answered result) self.new }
     {
-        match self.open_mut(k) {
-            Some(set) if a <= b && b <= set.len() => {
-                set.fill_range(a, b, v);
-                Answer::Done
-            }
-            Some(_) => Answer::Refused(Refusal::OutOfRange),
-            None => Answer::Refused(Refusal::BadSlot),
+        let set = self.open_mut(k).ok_or(Refusal::BadSlot)?;
+        if a > b || b > set.len() {
+            return Err(Refusal::OutOfRange);
         }
+        set.fill_range(a, b, v);
+        Ok(Answer::Done)
     }
 
     /// Keeps the first `n` bits, or all where there are at most `n`.
-    pub(crate) fn truncate(&mut self, k: usize, n: usize) -> Answer<A>
-        ensures { Step self.old (machine.Truncate k n) (reply result) self.new }
+    pub(crate) fn truncate(&mut self, k: usize, n: usize) -> Result<Answer<A>, Refusal>
+        ensures { Step self.old (machine.Truncate k n) (answered result) self.new }
     {
-        match self.open_mut(k) {
-            Some(set) => {
-                set.truncate(n);
-                Answer::Done
-            }
-            None => Answer::Refused(Refusal::BadSlot),
-        }
+        self.open_mut(k).ok_or(Refusal::BadSlot)?.truncate(n);
+        Ok(Answer::Done)
     }
 
     /// Takes all bits from the set.
-    pub(crate) fn clear(&mut self, k: usize) -> Answer<A>
-        ensures { Step self.old (machine.Clear k) (reply result) self.new }
+    pub(crate) fn clear(&mut self, k: usize) -> Result<Answer<A>, Refusal>
+        ensures { Step self.old (machine.Clear k) (answered result) self.new }
     {
-        match self.open_mut(k) {
-            Some(set) => {
-                set.clear();
-                Answer::Done
-            }
-            None => Answer::Refused(Refusal::BadSlot),
-        }
+        self.open_mut(k).ok_or(Refusal::BadSlot)?.clear();
+        Ok(Answer::Done)
     }
 
     /// Negates every bit.
-    pub(crate) fn flip(&mut self, k: usize) -> Answer<A>
-        ensures { Step self.old (machine.Flip k) (reply result) self.new }
+    pub(crate) fn flip(&mut self, k: usize) -> Result<Answer<A>, Refusal>
+        ensures { Step self.old (machine.Flip k) (answered result) self.new }
     {
-        match self.take_open(k) {
-            Some(set) => {
-                self.put(k, Slot::Open(set.flipped()));
-                Answer::Done
-            }
-            None => Answer::Refused(Refusal::BadSlot),
-        }
+        let set = self.take_open(k)?;
+        Ok(self.put(k, Slot::Open(set.flipped())))
     }
 }

@@ -1,10 +1,14 @@
 //! Sets of bytes that a command brings.
-ghost use Rattle.vb_command.specs.Machine.{Outcome};
+ghost use Rattle.std.specs.Prelude.{◌≡◌, true, IfErr, OnOk};
+ghost use Rattle.vb_command.specs.Machine.{Outcome, Step, Refused, fits, vacant_at};
 ghost use Rattle.vb_command.specs.Machine as machine;
-ghost use Rattle.vb_command.specs.Views.{reply};
+ghost use Rattle.vb_command.specs.Views.{reason};
+ghost use Rattle.vb_pool.specs.Answered.{answered};
 
 use crate::open_bits::OpenBits;
 use crate::pool::Pool;
+use crate::refused::refusal_of;
+use crate::slot::Slot;
 use std::alloc::Allocator;
 use vb_command::{Answer, Refusal};
 use vb_kernel::window_fits;
@@ -18,15 +22,45 @@ impl<A: Allocator + Clone> Pool<A> {
         offset: usize,
         len: usize,
         bytes: &[u8],
-    ) -> Answer<A>
-        ensures { Outcome self.old (machine.Import k offset len bytes.now) (reply result) self.new }
+    ) -> Result<Answer<A>, Refusal>
+        ensures { Outcome self.old (machine.Import k offset len bytes.now)
+            (answered result) self.new }
+    {
+        self.can_import(k, offset, len, bytes)?;
+        let set = OpenBits::copy_window(alloc, bytes, offset, len).map_err(refusal_of)?;
+        Ok(self.put(k, Slot::Open(set)))
+    }
+
+    /// Opens the window in these very bytes in slot `k`, which has to be empty.
+    pub(crate) fn import_owned(
+        &mut self,
+        alloc: &A,
+        k: usize,
+        offset: usize,
+        len: usize,
+        bytes: Vec<u8, A>,
+    ) -> Result<Answer<A>, Refusal>
+        ensures { Outcome self.old (machine.Import k offset len bytes.items)
+            (answered result) self.new }
+    {
+        self.can_import(k, offset, len, &bytes)?;
+        let set = OpenBits::window(alloc, bytes, offset, len).map_err(refusal_of)?;
+        Ok(self.put(k, Slot::Open(set)))
+    }
+
+    /// Whether the window of these bytes can be opened in slot `k`, but for memory.
+    fn can_import(&self, k: usize, offset: usize, len: usize, bytes: &[u8]) -> Result<(), Refusal>
+        ensures vacant { OnOk result (vacant_at self.now k ≡ true) }
+        ensures fits { OnOk result (fits offset len bytes.now ≡ true) }
+        ensures err { IfErr result (λ why.
+            Step self.now (machine.Import k offset len bytes.now) (Refused (reason why)) self.now) }
     {
         if !self.is_vacant(k) {
-            return Answer::Refused(Refusal::BadSlot);
+            return Err(Refusal::BadSlot);
         }
         if offset >= 8 || !window_fits(bytes, offset, len) {
-            return Answer::Refused(Refusal::BadWindow);
+            return Err(Refusal::BadWindow);
         }
-        self.put_open(k, OpenBits::copy_window(alloc, bytes, offset, len))
+        Ok(())
     }
 }

@@ -8,7 +8,7 @@ ghost use Rattle.vb_pool.specs.OpenBits.{LimitsLength};
 use std::alloc::Allocator;
 use std::marker::Model;
 use vb_core::BufferError;
-use vb_mem::BufferMut;
+use vb_mem::{Buffer, BufferMut};
 use vb_set::{BitBuffer, BitBufferMut};
 
 /// A set that commands edit. Contracts see the list of its bits.
@@ -54,6 +54,24 @@ impl<A: Allocator + Clone> OpenBits<A> {
         ensures refused { IsOkUnless result OutOfMemory }
     {
         let buffer = BufferMut::copy_from(alloc.clone()?, bytes)?;
+        Ok(OpenBits::new(BitBufferMut::from_buffer(buffer, offset, len)))
+    }
+
+    /// The window of `len` bits from bit `offset` on in these very bytes, whose storage becomes
+    /// that of the set. Refused by `OutOfMemory` alone; then the bytes are gone.
+    pub fn window(
+        alloc: &A,
+        bytes: Vec<u8, A>,
+        offset: usize,
+        len: usize,
+    ) -> Result<Self, BufferError>
+        requires first_byte { offset < 8 }
+        requires inside { offset + len ≤ 8 * length bytes.items }
+        requires fits { offset + len ≤ usize.MAX }
+        ensures bits { IfOk result (λ s. s ≡ bits bytes.items offset len) }
+        ensures refused { IsOkUnless result OutOfMemory }
+    {
+        let buffer = Buffer::from_vec(alloc.clone()?, bytes)?.into_mut()?;
         Ok(OpenBits::new(BitBufferMut::from_buffer(buffer, offset, len)))
     }
 

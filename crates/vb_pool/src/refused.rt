@@ -1,17 +1,20 @@
 //! Refusals of sets as those of commands.
 ghost use Rattle.std.specs.Prelude.{◌≡◌};
+ghost use Rattle.vb_pool.specs.Answered.{IsOfSet};
 
 use vb_command::Refusal;
 use vb_core::BufferError;
 
-/// The refusal of a command where a set refused with this. Sets refuse by `TooManyBits` and
-/// `OutOfMemory` alone.
+/// The refusal of a command where a set refused with this. Sets that are made or changed refuse by
+/// these two alone.
 pub(crate) fn refusal_of(error: BufferError) -> Refusal
+    requires { IsOfSet error }
     ensures bits { error ≡ BufferError.TooManyBits → result ≡ Refusal.TooManyBits }
     ensures memory { error ≡ BufferError.OutOfMemory → result ≡ Refusal.OutOfMemory }
 {
     match error {
         BufferError::TooManyBits => Refusal::TooManyBits,
-        _ => Refusal::OutOfMemory,
+        BufferError::OutOfMemory => Refusal::OutOfMemory,
+        _ => unreachable!(),
     }
 }

@@ -1,25 +1,46 @@
 //! Commands, one or many.
 ghost use Rattle.std.specs.Prelude.{◌≡◌, map, IfOk, OnErr, IsOkUnless};
-ghost use Rattle.vb_command.specs.Machine.{Outcome, Run};
-ghost use Rattle.vb_command.specs.Views.{order, reply};
+ghost use Rattle.vb_command.specs.Machine.{Outcome, Run, order};
+ghost use Rattle.vb_command.specs.Views.{reply};
+ghost use Rattle.vb_pool.specs.Answered.{answered};
 ghost use Rattle.vb_core.specs.declared.error.BufferError.TheVariants.{OutOfMemory};
 
 use crate::pool::Pool;
 use std::alloc::Allocator;
-use vb_command::{Answer, Command};
+use vb_command::{Answer, Command, Refusal};
 use vb_core::BufferError;
 
 impl<A: Allocator + Clone> Pool<A> {
     /// Carries out one command and answers it. A command that is refused changes nothing, except
-    /// that `freeze` and `thaw` give their set away: where memory is refused, their slot is empty and
-    /// all others are as before.
+    /// that `freeze` and `thaw` give their set away: where memory is refused, their slot is empty
+    /// and all others are as before.
     ///
-    /// Memory is asked from copies of `alloc`: `import`, `full` and `bits` ask once for the whole, and
-    /// so does `thaw` where another slot has the storage too. The copy of an open set asks the
+    /// Memory is asked from copies of `alloc`: `import`, `full` and `bits` ask once for the whole,
+    /// and so does `thaw` where another slot has the storage too. The copy of an open set asks the
     /// allocator of that set. `freeze`, `slice`, `clone` of a frozen set and `thaw` of a storage's
     /// only owner copy no bits.
     pub fn serve(&mut self, alloc: &A, command: &Command<A>) -> Answer<A>
         ensures { Outcome self.old (order command.now) (reply result) self.new }
+    {
+        answer_of(self.carry_out(alloc, command))
+    }
+
+    /// The same as [`serve`](Self::serve), of a command that is given away: the bytes of an
+    /// `import` become those of its set, which asks for an owner of them alone.
+    pub fn serve_owned(&mut self, alloc: &A, command: Command<A>) -> Answer<A>
+        ensures { Outcome self.old (order command) (reply result) self.new }
+    {
+        match command {
+            Command::Import(k, offset, len, bytes) => {
+                answer_of(self.import_owned(alloc, k, offset, len, bytes))
+            }
+            other => self.serve(alloc, &other),
+        }
+    }
+
+    /// Carries out one command: what it is answered, or why it is refused.
+    fn carry_out(&mut self, alloc: &A, command: &Command<A>) -> Result<Answer<A>, Refusal>
+        ensures { Outcome self.old (order command.now) (answered result) self.new }
     {
         match command {
             Command::Import(k, offset, len, bytes) => {
@@ -49,11 +70,22 @@ impl<A: Allocator + Clone> Pool<A> {
     }
 }
 
+/// What a command is answered that was carried out or refused.
+fn answer_of<A: Allocator>(outcome: Result<Answer<A>, Refusal>) -> Answer<A>
+    ensures { reply result ≡ answered outcome }
+{
+    match outcome {
+        Ok(answer) => answer,
+        Err(why) => Answer::Refused(why),
+    }
+}
+
 /// Carries out the commands in their order and gives one answer a command.
 ///
-/// The room for all answers is asked from a copy of `alloc` first: where that is refused, the answer
-/// is [`BufferError::OutOfMemory`] and nothing was done. A command that is refused later, for want of
-/// memory too, has its refusal among the answers, and the commands after it are carried out.
+/// The room for all answers is asked from a copy of `alloc` first: where that is refused, the
+/// answer is [`BufferError::OutOfMemory`] and nothing was done. A command that is refused later,
+/// for want of memory too, has its refusal among the answers, and the commands after it are carried
+/// out.
 pub fn run<A: Allocator + Clone>(
     alloc: A,
     pool: &mut Pool<A>,

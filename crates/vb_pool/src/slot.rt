@@ -1,5 +1,5 @@
 //! What a slot holds.
-ghost use Rattle.std.specs.Prelude.{◌≡◌, MatchOption};
+ghost use Rattle.std.specs.Prelude.{◌≡◌, MatchOption, IfOk, IsOkUnless};
 ghost use Rattle.std.specs.Borrow.{LendsIf, sem};
 ghost use Rattle.std.specs.Option.{option_copied_mut, option_map};
 ghost use Rattle.vb_command.specs.Machine.{open_list, frozen_list};
@@ -9,6 +9,7 @@ ghost use Rattle.vb_pool.specs.contracts.slot.Slot.{the_row};
 use crate::open_bits::OpenBits;
 use std::alloc::Allocator;
 use std::mem;
+use vb_core::BufferError;
 use vb_set::BitBuffer;
 
 /// A slot of the pool.
@@ -26,9 +27,24 @@ impl<A: Allocator + Clone> Slot<A> {
     ghost use Rattle.vb_pool.specs.Slot.{content};
     ghost use Rattle.vb_pool.specs.declared.slot.Slot.TheVariants.{Empty, Open};
 
+    /// A copy, whose bits are copied if the set is open, and shared if it is frozen. Refused by
+    /// `OutOfMemory` alone.
+    pub fn clone(&self) -> Result<Self, BufferError>
+        ensures same { IfOk result (λ slot. content slot ≡ content self.now) }
+        ensures refused { IsOkUnless result BufferError.OutOfMemory }
+    {
+        Ok(match self {
+            Slot::Empty => Slot::Empty,
+            Slot::Open(set) => Slot::Open(set.clone()?),
+            Slot::Frozen(set) => Slot::Frozen(set.clone()?),
+        })
+    }
+
     /// The open set for edits, if there is one.
     pub fn open_mut(&mut self) -> Option<&mut OpenBits<A>>
-        ensures* writes_back { sem 𝓛 (LendsIf (the_row A.row A.Allocator A.Clone) (open_row A.row A.Allocator A.Clone) self.entry result Open self.old) }
+        ensures* writes_back { sem 𝓛 (LendsIf
+            (the_row A.row A.Allocator A.Clone) (open_row A.row A.Allocator A.Clone)
+            self.entry result Open self.old) }
         ensures value { option_copied_mut result ≡ open_list (content self.old) }
     {
         match self {

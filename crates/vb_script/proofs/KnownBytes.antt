@@ -1,7 +1,7 @@
 -- The bytes that a stream tells.
 use Rattle.std.proofs.Common.{◌≡◌, ℕ, List, [], ◌++◌, refl, sym, ap, ◌∙◌, Option, Some, None, append_assoc, subst}
 use Rattle.std.specs.Prelude.{IfSome}
-use Rattle.std.specs.Io.KnownBytes.{prepend_known, append_known, Keeps, Appends, IsAtEnd}
+use Rattle.std.specs.Io.KnownBytes.{prepend_known, append_known, Keeps, Appends, Consumes, IsAtEnd}
 use mathlib.Core.List.{append-nil}
 
 -- bytes that stay, stay
@@ -78,6 +78,12 @@ nil_at_end remaining rest e h = let P : Option (List ℕ) → Type 0 = IsAtEnd i
 pub IfSome-known : (known : Option (List ℕ)) (P : List ℕ → Type 0) → ((bytes : List ℕ) → known ≡ Some bytes → P bytes) → IfSome known P
 IfSome-known None P h = tt
 IfSome-known (Some bytes) P h = h bytes refl
+
+-- bytes that were read stand behind those before them
+pub Keeps-read : (front bytes : List ℕ) (old new : Option (List ℕ)) → Consumes old new bytes → Keeps (prepend_known front old) (prepend_known (front ++ bytes) new)
+Keeps-read front bytes None new h = tt
+Keeps-read front bytes (Some xs) None h = absurd h
+Keeps-read front bytes (Some xs) (Some ys) h = append_assoc front bytes ys ∙ ap (λ l. front ++ l) (sym h)
 
 -- for `#[tactic(auto, using(..))]`: bytes that wait and bytes that are written
 pub ruleset known_bytes = (Appends-wait, Appends-flushed, Appends-past)

@@ -1,5 +1,6 @@
 pub mod InputLines
 pub mod KnownBytes
+pub mod Parts
 pub mod Progress
 pub mod Scripts
 pub mod Searches

@@ -1,12 +1,12 @@
 -- How far a session has come, and what that says where it ends.
 use Rattle.std.proofs.Common.{◌≡◌, ◌⊎◌, ℕ, ◌+◌, ◌-◌, ◌^◌, ◌<◌, true, false, List, [], ◌∷◌, ◌++◌, length, take, drop, refl, sym, ap, ◌∙◌, Option, Some, None, Result, Ok, Err, arith, eqb, subst, append_assoc, length-append}
-use Rattle.std.specs.Prelude.{replicate, position, is_some, slice_get, IfErr, IfSome, IsSomeAnd, IsTrue, MatchOption, OnOk, ⊤}
+use Rattle.std.specs.Prelude.{position, is_some, slice_get, IfErr, IfSome, IsSomeAnd, IsTrue, MatchOption, OnOk, ⊤}
 use Rattle.std.proofs.Math.Seq.{take-append_seam}
 use Rattle.std.specs.Str.Lines.{lines, strip_carriage_return}
 use Rattle.std.specs.Io.KnownBytes.{prepend_known, append_known, Keeps, Appends, IsAtEnd}
 use Rattle.std.proofs.lemmas.Grind.{flat_map-append}
 use mathlib.Core.List.{append-nil}
-use Rattle.vb_command.specs.Machine.{Slot, Empty, Order, Reply, Run}
+use Rattle.vb_command.specs.Machine.{Slot, empty_slots, Order, Reply, Run}
 use Rattle.vb_command.specs.Printed.{line_of}
 use Rattle.vb_command.specs.Reading.{asks_memory, before, reading, script}
 use Rattle.vb_pool.proofs.Runs.{Run-append}
@@ -119,11 +119,11 @@ Passed-next_line input done (b ∷ bytes) remaining None P p here end some = (b 
 -- commands were run, and of their answers those of out wait to be written
 pub record Ran (commands : List Order) (first written : Option (List ℕ)) (out : List ℕ) (slots : List Slot) : Type 0 where
   pub replies : List Reply
-  pub ran : Run (replicate 16 Empty) commands replies slots
+  pub ran : Run empty_slots commands replies slots
   pub told : Appends first (append_known written out) (printed replies)
 
 -- no command was run
-pub Ran-nil : (first : Option (List ℕ)) → Ran [] first first [] (replicate 16 Empty)
+pub Ran-nil : (first : Option (List ℕ)) → Ran [] first first [] empty_slots
 Ran-nil first = record { replies = []; ran = refl; told = Appends-wait-nil first }
 
 -- answers were written
@@ -146,7 +146,7 @@ Ran-append commands first written out slots (Some None) r written' out' slots' a
   refl,
   subst (λ (cs : List Order). Ran cs first written' out' slots') (sym (append-nil commands)) (record {
     replies = a.replies;
-    ran = subst (λ (s : List Slot). Run (replicate 16 Empty) commands a.replies s) (sym served.1) a.ran;
+    ran = subst (λ (s : List Slot). Run empty_slots commands a.replies s) (sym served.1) a.ran;
     told = subst (λ (x : List ℕ). Appends first (append_known written' out') x) (ap (λ q. printed a.replies ++ line_of_any q) served.0 ∙ append-nil (printed a.replies))
         (Appends-trans first (append_known written out) (append_known written' out') (printed a.replies) (line_of_any r) a.told told);
   }),
@@ -157,7 +157,7 @@ Ran-append commands first written out slots (Some (Some c)) (Some r) written' ou
   refl,
   record {
     replies = a.replies ++ r ∷ [];
-    ran = Run-append (replicate 16 Empty) commands a.replies slots c r slots' a.ran outcome;
+    ran = Run-append empty_slots commands a.replies slots c r slots' a.ran outcome;
     told = subst (λ (x : List ℕ). Appends first (append_known written' out') x) (sym (printed-append a.replies r))
         (Appends-trans first (append_known written out) (append_known written' out') (printed a.replies) (line_of r) a.told told);
   },
@@ -180,7 +180,7 @@ RanAny-next first written out slots None written' out' slots' (commands, a) serv
   commands,
   record {
     replies = a.replies;
-    ran = subst (λ (s : List Slot). Run (replicate 16 Empty) commands a.replies s) (sym served.0) a.ran;
+    ran = subst (λ (s : List Slot). Run empty_slots commands a.replies s) (sym served.0) a.ran;
     told = subst (λ (x : List ℕ). Appends first (append_known written' out') x) (append-nil (printed a.replies)) (Appends-trans first (append_known written out) (append_known written' out') (printed a.replies) [] a.told served.1);
   },
 )
@@ -220,7 +220,7 @@ RanAny-ends first written out slots written' (Err (Unreadable l)) a wrote fault 
 
 -- no command was run, and nothing written
 pub AnswersRun-none : (written : Option (List ℕ)) → AnswersRun written written
-AnswersRun-none written = Ran-AnswersRun [] written written [] written (replicate 16 Empty) (Ran-nil written) (Appends-nil written)
+AnswersRun-none written = Ran-AnswersRun [] written written [] written empty_slots (Ran-nil written) (Appends-nil written)
 
 -- these lines were answered, and of the answers those of out wait to be written
 pub record Answered (ls : List (List ℕ)) (first written : Option (List ℕ)) (out : List ℕ) (slots : List Slot) : Type 0 where
@@ -229,7 +229,7 @@ pub record Answered (ls : List (List ℕ)) (first written : Option (List ℕ)) (
   pub ran : Ran commands first written out slots
 
 -- no line was answered
-pub Answered-nil : (first : Option (List ℕ)) → Answered [] first first [] (replicate 16 Empty)
+pub Answered-nil : (first : Option (List ℕ)) → Answered [] first first [] empty_slots
 Answered-nil first = record { commands = []; read = refl; ran = Ran-nil first }
 
 -- answers were written
@@ -263,7 +263,7 @@ Answered-same ls first written out slots written' out' slots' a served = record 
   read = a.read;
   ran = record {
     replies = a.ran.replies;
-    ran = subst (λ (s : List Slot). Run (replicate 16 Empty) a.commands a.ran.replies s) (sym served.0) a.ran.ran;
+    ran = subst (λ (s : List Slot). Run empty_slots a.commands a.ran.replies s) (sym served.0) a.ran.ran;
     told = subst (λ (x : List ℕ). Appends first (append_known written' out') x) (append-nil (printed a.ran.replies)) (Appends-trans first (append_known written out) (append_known written' out') (printed a.ran.replies) [] a.ran.told served.1);
   };
 }
@@ -276,7 +276,7 @@ pub record Progress (input : List ℕ) (first : Option (List ℕ)) (n : ℕ) (fe
   pub answered : Answered done first written out slots
 
 -- the first line is next
-pub Progress-first : (input : List ℕ) (remaining first : Option (List ℕ)) → remaining ≡ Some input → Progress input first 1 [] remaining first [] (replicate 16 Empty)
+pub Progress-first : (input : List ℕ) (remaining first : Option (List ℕ)) → remaining ≡ Some input → Progress input first 1 [] remaining first [] empty_slots
 Progress-first input remaining first e = record { done = []; number = refl; passed = Passed-nil input remaining e; answered = Answered-nil first }
 
 module _ {input : List ℕ} {first : Option (List ℕ)} where
@@ -407,7 +407,7 @@ AnswersSome-none input written = record {
   front = refl;
   number = 0;
   ended = omega arith;
-  answered = Answered-AnswersLines [] written written [] written (replicate 16 Empty) (Answered-nil written) (Appends-nil written);
+  answered = Answered-AnswersLines [] written written [] written empty_slots (Answered-nil written) (Appends-nil written);
   next = λ more. absurd (omega (arith, more));
 }
 

@@ -1,6 +1,7 @@
 pub mod DriveError
 pub mod Feed
 pub mod FromRead
+pub mod Outbox
 pub mod Session
 pub mod ToWrite
 pub use Rattle.vb_command.specs.Arguments

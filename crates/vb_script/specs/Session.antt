@@ -1,9 +1,9 @@
 -- What a session answers to the lines of its input.
-use Rattle.std.specs.Prelude.{◌≡◌, ℕ, ◌+◌, ◌-◌, ◌^◌, ◌<◌, ◌≤◌, ◌⊎◌, ◌==◌, List, [], ◌∷◌, ◌++◌, length, take, slice_get, count_by, Option, Some, None, replicate, Result, Ok, Err, IsTrue, IsSomeAnd}
+use Rattle.std.specs.Prelude.{◌≡◌, ℕ, ◌+◌, ◌-◌, ◌^◌, ◌<◌, ◌≤◌, ◌⊎◌, ◌==◌, List, [], ◌∷◌, ◌++◌, length, take, slice_get, count_by, Option, Some, None, Result, Ok, Err, IsTrue, IsSomeAnd}
 use Rattle.std.specs.List.{flat_map}
 use Rattle.std.specs.Str.Lines.{lines}
 use Rattle.std.specs.Io.KnownBytes.{Appends, Keeps}
-use Rattle.vb_command.specs.Machine.{Slot, Empty, Order, Reply, Outcome, Run}
+use Rattle.vb_command.specs.Machine.{Slot, empty_slots, Order, Reply, Outcome, Run}
 use Rattle.vb_command.specs.Printed.{line_of}
 use Rattle.vb_command.specs.Reading.{asks_memory, reading, script}
 use Rattle.vb_script.specs.declared.error.DriveError.{DriveError}
@@ -34,7 +34,7 @@ pub record AnswersRun (old new : Option (List ℕ)) : Type 0 where
   pub commands : List Order
   pub replies : List Reply
   pub last : List Slot
-  pub ran : Run (replicate 16 Empty) commands replies last
+  pub ran : Run empty_slots commands replies last
   pub written : Appends old new (printed replies)
 
 -- the lines were answered: their commands were run from sixteen empty slots on, and the answers written
@@ -43,7 +43,7 @@ pub record AnswersLines (ls : List (List ℕ)) (old new : Option (List ℕ)) : T
   pub read : script 1 ls ≡ Some commands
   pub replies : List Reply
   pub last : List Slot
-  pub ran : Run (replicate 16 Empty) commands replies last
+  pub ran : Run empty_slots commands replies last
   pub written : Appends old new (printed replies)
 
 -- the line of this number, which stands in what was read, can't be read, and those before it were answered

@@ -1,8 +1,8 @@
 //! The whole of an input, line by line.
-ghost use Rattle.std.specs.Prelude.{◌≡◌, ◌+◌, ◌-◌, ◌^◌, ◌⊎◌, ◌<◌, [], None, Some, drop, length, replicate, IfErr, IfSome, IsSomeAnd, IsTrue, MatchOption, OnOk};
+ghost use Rattle.std.specs.Prelude.{◌≡◌, ◌+◌, ◌-◌, ◌^◌, ◌⊎◌, ◌<◌, [], None, Some, drop, length, IfErr, IfSome, IsSomeAnd, IsTrue, MatchOption, OnOk};
 ghost use Rattle.std.specs.Io.KnownBytes.{append_known, Appends};
 ghost use Rattle.std.specs.Option.{ForSome};
-ghost use Rattle.vb_command.specs.Machine.{Empty};
+ghost use Rattle.vb_command.specs.Machine.{empty_slots};
 ghost use Rattle.vb_command.specs.Reading.{asks_memory, reading};
 ghost use Rattle.vb_script.specs.DriveError.{CountsFaults, IfMemory, IfOfLine, IfUnreadable, IsNoRead, UnlessWrite};
 ghost use Rattle.vb_script.specs.Feed.{next_line};
@@ -21,8 +21,8 @@ use std::alloc::Allocator;
 /// one a line. The slots are empty at first and gone at the end.
 ///
 /// The answers to all whole lines that were read are written before more bytes are asked for.
-/// Memory is taken for the sets and what a command answers, for the longest line and a chunk of
-/// 65536 bytes of the input, and once for 65536 bytes of answers: none is taken to print them. What
+/// Memory is taken for the sets and what a command answers, for 65536 bytes of the input or at most
+/// twice the longest line, and once for 65536 bytes of answers: none is taken to print them. What
 /// clause `ends` says of the bytes read and written it says of streams that tell them; where the
 /// sink alone tells them, or none does, `ran` holds.
 ///
@@ -61,7 +61,7 @@ fn serve_all<A: Allocator + Clone, R: Source, W: Sink>(
     input: &mut R,
     output: &mut W,
 ) -> Result<(), DriveError>
-    requires slots { session.old.pool ≡ replicate 16 Empty }
+    requires slots { session.old.pool ≡ empty_slots }
     requires feed { feed.old ≡ [] }
     requires out { out.old ≡ [] }
     ensures ends { IfSome (R.remaining input.old) (λ bytes.

@@ -1,39 +1,44 @@
 //! Bytes that were read and aren't used yet.
-ghost use Rattle.std.specs.Prelude.{◌≡◌, ℕ, ◌<◌, ◌≤◌, ◌==◌, List, [], length, drop, position, OnErr, IfOk, IfErr};
-ghost use Rattle.std.specs.Io.KnownBytes.{prepend_known, Keeps};
+ghost use Rattle.std.specs.Prelude.{◌≡◌, ℕ, ◌+◌, ◌-◌, ◌^◌, ◌<◌, ◌≤◌, ◌==◌, List, [], length, take, drop, position, slice_range, OnErr, OnOk, IfOk, IfErr};
+ghost use Rattle.std.specs.Io.KnownBytes.{prepend_known, IsAtEnd, Keeps};
 ghost use Rattle.std.specs.List.{position_or_len};
 ghost use Rattle.vb_script.specs.DriveError.{CountsFaults, IsOutside};
 ghost use Rattle.vb_script.specs.Feed.{Fills};
 
 use crate::error::DriveError;
+use crate::fault::Fault;
 use crate::source::Source;
 use memchr::memchr;
-use std::alloc::Allocator;
+use std::alloc::{AllocError, Allocator};
 use std::marker::Model;
 
-/// How many bytes a read asks for.
+/// How many bytes there is room for at first.
 const CHUNK: usize = 65536;
 
 /// The bytes that were read and aren't used yet. Contracts see the list of them.
 #[derive(Drop)]
 pub struct Feed<A: Allocator> {
-    bytes: Vec<u8, A>,
-    /// How many bytes at the front were let go.
+    /// The room for bytes, each of which has been written, so that reads go there.
+    room: Vec<u8, A>,
+    /// How many bytes at its front were let go.
     start: usize,
-    /// How many bytes from there on are known to be no line feed, so that none is looked at twice.
+    /// How many bytes at its front were read.
+    end: usize,
+    /// How many bytes from `start` on are known to be no line feed, so that none is looked at
+    /// twice.
     searched: usize,
 }
 
 impl<A: Allocator> Model for Feed<A> {
-    ghost use Rattle.std.specs.Prelude.{ℕ, List, drop, ◌≤◌, ◌==◌, length};
+    ghost use Rattle.std.specs.Prelude.{ℕ, List, take, drop, ◌≤◌, ◌==◌, length};
     ghost use Rattle.std.specs.List.{position_or_len};
 
     ghost Value = { List ℕ };
 
-    ghost view = { λ f. drop f.start f.bytes.items };
+    ghost view = { λ f. drop f.start (take f.end f.room.items) };
 
-    ghost invariant = { λ f. (f.start ≤ length f.bytes.items)
-        × (f.searched ≤ position_or_len (λ b. b == 10) (drop f.start f.bytes.items)) };
+    ghost invariant = { λ f. (f.start ≤ f.end) × (f.end ≤ length f.room.items)
+        × (f.searched ≤ position_or_len (λ b. b == 10) (drop f.start (take f.end f.room.items))) };
 }
 
 impl<A: Allocator> Feed<A> {
@@ -42,25 +47,28 @@ impl<A: Allocator> Feed<A> {
         ensures { result ≡ [] }
     {
         Feed {
-            bytes: Vec::new(alloc),
+            room: Vec::new(alloc),
             start: 0,
+            end: 0,
             searched: 0,
         }
     }
 
     /// All the bytes.
+    #[tactic(auto, using(crate::proofs::Parts::parts))]
     pub fn as_slice(&self) -> &[u8]
         ensures { result.now ≡ self.now }
     {
-        &self.bytes[self.start..]
+        &self.room[self.start..self.end]
     }
 
     /// The place of the first line feed.
+    #[tactic(auto, using(crate::proofs::Parts::parts))]
     pub fn line_feed(&mut self) -> Option<usize>
         ensures place { result ≡ position (λ b. b == 10) self.old }
         ensures same { self.new ≡ self.old }
     {
-        let bytes = &self.bytes[self.start..];
+        let bytes = &self.room[self.start..self.end];
         match line_feed_from(bytes, self.searched) {
             Some(at) => Some(at),
             None => {
@@ -71,6 +79,7 @@ impl<A: Allocator> Feed<A> {
     }
 
     /// Lets the first `n` bytes go.
+    #[tactic(auto, using(crate::proofs::Parts::parts))]
     pub fn consume(&mut self, n: usize)
         requires { n ≤ length self.old }
         ensures { self.new ≡ drop n self.old }
@@ -81,9 +90,9 @@ impl<A: Allocator> Feed<A> {
 
     /// Reads once and answers whether more bytes came; none come at the end of the input.
     ///
-    /// The room for a chunk is made first, so that no byte is lost where memory is refused. Bytes
-    /// that were let go give up their room, so that the memory is that of the bytes and a chunk.
-    #[tactic(auto, using(crate::proofs::Searches::searches))]
+    /// Bytes that were let go give up their room first. Where none is left it is doubled before the
+    /// read, so that no byte is lost where memory is refused.
+    #[tactic(auto, using(crate::proofs::Parts::filled))]
     pub fn fill<R: Source>(&mut self, input: &mut R) -> Result<bool, DriveError>
         ensures kept { Keeps
             (prepend_known self.old (R.remaining input.old))
@@ -93,12 +102,12 @@ impl<A: Allocator> Feed<A> {
         ensures outside { IfErr result IsOutside }
         ensures counts { CountsFaults result (R.faults input.old) 0 (R.faults input.new) 0 }
     {
-        drop_front(&mut self.bytes, self.start);
+        move_to_front(&mut self.room, self.start, self.end);
+        self.end -= self.start;
         self.start = 0;
-        self.bytes.reserve(CHUNK).map_err(|_| DriveError::Memory)?;
-        let mut chunk = [0u8; CHUNK];
-        let count = input.read(&mut chunk).map_err(|_| DriveError::Read)?;
-        self.bytes.extend_from_slice(&chunk[..count]).unwrap();
+        leave_room(&mut self.room, self.end).map_err(|_| DriveError::Memory)?;
+        let count = read_behind(&mut self.room, self.end, input)?;
+        self.end += count;
         Ok(count > 0)
     }
 }
@@ -124,13 +133,49 @@ fn line_feed(bytes: &[u8]) -> Option<usize>
     memchr(b'\n', bytes)
 }
 
-/// Moves the bytes from `n` on to the front.
-fn drop_front<A: Allocator>(bytes: &mut Vec<u8, A>, n: usize)
-    requires { n ≤ length bytes.old.items }
-    ensures { bytes.new.items ≡ drop n bytes.old.items }
+/// Moves the bytes from `start` up to `end` to the front.
+#[tactic(auto, using(crate::proofs::Parts::parts))]
+fn move_to_front<A: Allocator>(room: &mut Vec<u8, A>, start: usize, end: usize)
+    requires order { start ≤ end }
+    requires within { end ≤ length room.old.items }
+    ensures moved { take (end - start) room.new.items ≡ drop start (take end room.old.items) }
+    ensures len { length room.new.items ≡ length room.old.items }
 {
-    if n > 0 {
-        bytes.copy_within(n.., 0);
-        bytes.truncate(bytes.len() - n);
+    if start > 0 {
+        room.copy_within(start..end, 0);
+    }
+}
+
+/// Doubles the room, or makes the first one, where the first `end` bytes take all of it.
+fn leave_room<A: Allocator>(room: &mut Vec<u8, A>, end: usize) -> Result<(), AllocError>
+    requires { end ≤ length room.old.items }
+    ensures left { OnOk result (end < length room.new.items) }
+    ensures kept { take end room.new.items ≡ take end room.old.items }
+    ensures len { length room.old.items ≤ length room.new.items }
+{
+    let len = room.len();
+    if end < len {
+        return Ok(());
+    }
+    room.resize(len.saturating_add(len.max(CHUNK)), 0)
+}
+
+/// Reads once behind the first `end` bytes, and answers how many bytes came.
+fn read_behind<R: Source>(room: &mut [u8], end: usize, input: &mut R) -> Result<usize, DriveError>
+    requires { end < length room.old }
+    ensures front { take end room.new ≡ take end room.old }
+    ensures len { length room.new ≡ length room.old }
+    ensures within { IfOk result (λ count. end + count ≤ length room.new) }
+    ensures kept { IfOk result (λ count. Keeps
+        (prepend_known (take end room.old) (R.remaining input.old))
+        (prepend_known (take (end + count) room.new) (R.remaining input.new))) }
+    ensures end { IfOk result (λ count. count ≡ 0 → IsAtEnd (R.remaining input.new)) }
+    ensures err { OnErr result (Keeps (R.remaining input.old) (R.remaining input.new)) }
+    ensures outside { IfErr result IsOutside }
+    ensures counts { CountsFaults result (R.faults input.old) 0 (R.faults input.new) 0 }
+{
+    match input.read(&mut room[end..]) {
+        Ok(count) => Ok(count),
+        Err(Fault) => Err(DriveError::Read),
     }
 }

@@ -1,16 +1,18 @@
 //! Answers that wait to be written.
-ghost use Rattle.std.specs.Prelude.{◌≡◌, [], decimal, IfOk, IfErr, OnOk};
-ghost use Rattle.std.specs.Io.KnownBytes.{append_known, Appends};
-ghost use Rattle.vb_command.specs.Printed.{digits_of, line_of};
+ghost use Rattle.std.specs.Prelude.{◌≡◌, ◌+◌, ◌≤◌, [], ◌∷◌, ◌++◌, length, vec_capacity, decimal, IfOk, IfErr, OnOk};
+ghost use Rattle.std.specs.Io.KnownBytes.{Appends};
+ghost use Rattle.std.specs.List.{flat_map};
+ghost use Rattle.vb_command.specs.Printed.{digit_of, digits_of, line_of};
 ghost use Rattle.vb_command.specs.Views.{reply};
 ghost use Rattle.vb_script.specs.DriveError.{CountsFaults, IsWrite};
+ghost use Rattle.vb_script.specs.Outbox.{Adds};
 
 use crate::error::DriveError;
 use crate::sink::Sink;
 use itoa::Buffer;
 use std::alloc::{AllocError, Allocator};
 use std::marker::Model;
-use vb_command::{Answer, Part, digit};
+use vb_command::{Answer, Part};
 
 /// How many bytes wait at most.
 const ROOM: usize = 65536;
@@ -45,12 +47,9 @@ impl<A: Allocator> Outbox<A> {
 
     /// Adds the line of an answer.
     pub fn push<W: Sink>(&mut self, answer: &Answer<A>, output: &mut W) -> Result<(), DriveError>
-        ensures told { OnOk result (Appends
-            (append_known (W.contents output.old) self.old)
-            (append_known (W.contents output.new) self.new)
-            (line_of (reply answer.now))) }
-        ensures write { IfErr result IsWrite }
-        ensures counts { CountsFaults result 0 (W.faults output.old) 0 (W.faults output.new) }
+        ensures { Adds (line_of (reply answer.now)) result
+            (W.contents output.old) self.old (W.contents output.new) self.new
+            (W.faults output.old) (W.faults output.new) }
     {
         let (part, position) = answer.parts();
         match part {
@@ -66,12 +65,9 @@ impl<A: Allocator> Outbox<A> {
 
     /// Adds a number in decimal.
     fn put_number<W: Sink>(&mut self, n: usize, output: &mut W) -> Result<(), DriveError>
-        ensures told { OnOk result (Appends
-            (append_known (W.contents output.old) self.old)
-            (append_known (W.contents output.new) self.new)
-            (decimal n)) }
-        ensures write { IfErr result IsWrite }
-        ensures counts { CountsFaults result 0 (W.faults output.old) 0 (W.faults output.new) }
+        ensures { Adds (decimal n) result
+            (W.contents output.old) self.old (W.contents output.new) self.new
+            (W.faults output.old) (W.faults output.new) }
     {
         let mut digits = Buffer::new();
         self.put(digits.format(n).as_bytes(), output)
@@ -79,31 +75,44 @@ impl<A: Allocator> Outbox<A> {
 
     /// Adds truth values as binary digits.
     fn put_bits<W: Sink>(&mut self, bits: &[bool], output: &mut W) -> Result<(), DriveError>
-        ensures told { OnOk result (Appends
-            (append_known (W.contents output.old) self.old)
-            (append_known (W.contents output.new) self.new)
-            (digits_of bits.now)) }
-        ensures write { IfErr result IsWrite }
-        ensures counts { CountsFaults result 0 (W.faults output.old) 0 (W.faults output.new) }
+        ensures { Adds (digits_of bits.now) result
+            (W.contents output.old) self.old (W.contents output.new) self.new
+            (W.faults output.old) (W.faults output.new) }
     {
         if bits.is_empty() {
             return self.put(b"-", output);
         }
-        for bit in bits {
-            self.put(digit(*bit).as_bytes(), output)?;
+        let mut start = 0;
+        while start < bits.len() {
+            let end = start + ROOM.min(bits.len() - start);
+            self.put_block(&bits[start..end], output)?;
+            start = end;
         }
+        Ok(())
+    }
+
+    /// Adds truth values as binary digits, no more than there is room for. What waits is written
+    /// first where there is no room for both.
+    #[tactic(auto, using(crate::proofs::KnownBytes::known_bytes))]
+    fn put_block<W: Sink>(&mut self, bits: &[bool], output: &mut W) -> Result<(), DriveError>
+        requires { length bits.now ≤ 65536 }
+        ensures { Adds (flat_map digit_of bits.now) result
+            (W.contents output.old) self.old (W.contents output.new) self.new
+            (W.faults output.old) (W.faults output.new) }
+    {
+        if bits.len() > ROOM - self.bytes.len() {
+            self.flush(output)?;
+        }
+        push_digits(&mut self.bytes, bits);
         Ok(())
     }
 
     /// Adds bytes. What waits is written first where there is no room for both.
     #[tactic(auto, using(crate::proofs::KnownBytes::known_bytes))]
     fn put<W: Sink>(&mut self, bytes: &[u8], output: &mut W) -> Result<(), DriveError>
-        ensures told { OnOk result (Appends
-            (append_known (W.contents output.old) self.old)
-            (append_known (W.contents output.new) self.new)
-            bytes.now) }
-        ensures write { IfErr result IsWrite }
-        ensures counts { CountsFaults result 0 (W.faults output.old) 0 (W.faults output.new) }
+        ensures { Adds bytes.now result
+            (W.contents output.old) self.old (W.contents output.new) self.new
+            (W.faults output.old) (W.faults output.new) }
     {
         if bytes.len() > ROOM - self.bytes.len() {
             self.flush(output)?;
@@ -130,4 +139,23 @@ impl<A: Allocator> Outbox<A> {
         self.bytes.clear();
         Ok(())
     }
+}
+
+/// Adds truth values as binary digits to bytes that have room for them.
+fn push_digits<A: Allocator>(bytes: &mut Vec<u8, A>, bits: &[bool])
+    requires { length bytes.old.items + length bits.now ≤ vec_capacity bytes.old }
+    ensures added { bytes.new.items ≡ bytes.old.items ++ flat_map digit_of bits.now }
+    ensures len { length bytes.new.items ≡ length bytes.old.items + length bits.now }
+    ensures room { vec_capacity bytes.old ≤ vec_capacity bytes.new }
+{
+    for bit in bits {
+        bytes.push(digit_byte(*bit)).unwrap();
+    }
+}
+
+/// The code of a truth value's binary digit.
+fn digit_byte(bit: bool) -> u8
+    ensures { digit_of bit ≡ result ∷ [] }
+{
+    if bit { b'1' } else { b'0' }
 }

@@ -1,6 +1,6 @@
 //! What the lines of an input are run on.
-ghost use Rattle.std.specs.Prelude.{◌≡◌, ◌<◌, ◌-◌, ◌^◌, ◌⊎◌, None, replicate, option_map, IfOk, IfErr, IsTrue};
-ghost use Rattle.vb_command.specs.Machine.{Empty};
+ghost use Rattle.std.specs.Prelude.{◌≡◌, ◌<◌, ◌-◌, ◌^◌, ◌⊎◌, None, option_map, IfOk, IfErr, IsTrue};
+ghost use Rattle.vb_command.specs.Machine.{empty_slots};
 ghost use Rattle.vb_command.specs.Reading.{asks_memory, reading};
 ghost use Rattle.vb_command.specs.Views.{reply};
 ghost use Rattle.vb_script.specs.DriveError.{IfMemory, IfUnreadable, IsOfLine};
@@ -21,7 +21,7 @@ pub struct Session<A: Allocator + Clone> {
 impl<A: Allocator + Clone> Session<A> {
     /// All slots are empty. This takes no memory.
     pub fn new(alloc: A) -> Self
-        ensures { result.pool ≡ replicate 16 Empty }
+        ensures { result.pool ≡ empty_slots }
     {
         Session {
             alloc,
@@ -44,7 +44,7 @@ impl<A: Allocator + Clone> Session<A> {
             return Err(DriveError::Unreadable { line: number });
         }
         match command_of(&self.alloc, line) {
-            Ok(Some(command)) => Ok(Some(self.pool.serve(&self.alloc, &command))),
+            Ok(Some(command)) => Ok(Some(self.pool.serve_owned(&self.alloc, command))),
             Ok(None) => Ok(None),
             Err(Unread::Unreadable) => Err(DriveError::Unreadable { line: number }),
             Err(Unread::Memory) => Err(DriveError::Memory),

@@ -4,6 +4,7 @@ ghost use Rattle.std.specs.Io.KnownBytes.{Appends};
 
 use crate::fault::Fault;
 use ghost_count::GhostCount;
+use std::fmt;
 use std::io::Write;
 
 /// A writer of bytes that counts its faults in contracts.
@@ -47,6 +48,13 @@ impl<T: Write> ToWrite<T> {
         ensures { result ≡ sink_writer self }
     {
         self.inner
+    }
+}
+
+/// The type's name alone. The text may change.
+impl<T: Write> fmt::Debug for ToWrite<T> {
+    fn fmt<W: fmt::Write>(&self, f: &mut fmt::Formatter<W>) -> fmt::Result {
+        f.write_str("ToWrite")
     }
 }
 

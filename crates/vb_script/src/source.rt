@@ -5,6 +5,7 @@ ghost use Rattle.std.specs.Io.KnownBytes.{ReadConsumes};
 
 use crate::fault::Fault;
 use ghost_count::GhostCount;
+use std::fmt;
 use std::io::Read;
 
 /// A reader of bytes that counts its faults in contracts.
@@ -50,6 +51,13 @@ impl<T: Read> FromRead<T> {
         ensures { result ≡ source_reader self }
     {
         self.inner
+    }
+}
+
+/// The type's name alone. The text may change.
+impl<T: Read> fmt::Debug for FromRead<T> {
+    fn fmt<W: fmt::Write>(&self, f: &mut fmt::Formatter<W>) -> fmt::Result {
+        f.write_str("FromRead")
     }
 }
 

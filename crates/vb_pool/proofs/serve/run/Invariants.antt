@@ -1,6 +1,6 @@
 use Rattle.std.proofs.Common.{◌≡◌, ◌≤◌, length, map, take, vec_len, vec_capacity}
-use Rattle.vb_command.specs.Machine.{Run}
-use Rattle.vb_command.specs.Views.{order, reply}
+use Rattle.vb_command.specs.Machine.{Run, order}
+use Rattle.vb_command.specs.Views.{reply}
 use Rattle.vb_pool.proofs.serve.run.Given as goal
 
 -- the answers so far are a run of the commands so far, and there is room for the others
