@@ -1,0 +1,7 @@
+//! Tests of views and walks: worked rows, and each beside plain bit loops.
+#![tactic(auto)]
+
+#[cfg(test)]
+mod sample;
+#[cfg(test)]
+mod walks;
