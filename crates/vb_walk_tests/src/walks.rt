@@ -38,14 +38,18 @@ fn places_are_plain(rt: &impl Abort, bytes: &[u8], offset: usize, len: usize) {
     let fits = window_fits(bytes, offset, len);
     assert!(rt; fits);
     let mut places = BitIndexIterator::new(bytes, offset, len);
+    let mut place = places.next();
     let mut last = None;
     for i in 0..len {
-        if get_bit(bytes, offset + i) {
-            last = Some(i);
-            assert_eq!(rt; places.next(), last, "at {offset}, {len}");
+        let bit = get_bit(bytes, offset + i);
+        let here = place.unwrap_or(len);
+        assert_eq!(rt; bit, i == here, "{i} at {offset}, {len}");
+        if i == here {
+            last = place;
+            place = places.next();
         }
     }
-    assert_eq!(rt; (places.next(), places.next()), (None, None));
+    assert_eq!(rt; (place, places.next()), (None, None));
     assert_eq!(rt; last_set_index(bytes, offset, len), last, "at {offset}, {len}");
 }
 
