@@ -1,7 +1,7 @@
 -- What contracts see of a `BitBufferView`.
 use Rattle.std.specs.Prelude.{ℕ, Bool, List}
 use Rattle.vb_bits.specs.Bits.{bits}
-use Rattle.vb_walk.specs.declared.view.BitBufferView.{BitBufferView}
+use Rattle.vb_view.specs.declared.view.BitBufferView.{BitBufferView}
 
 -- its bits
 abbrev pub bits_of : BitBufferView → List Bool

@@ -4,17 +4,13 @@ ghost use Rattle.std.specs.Prelude.{length, drop, slice_get, slice_range, Some};
 ghost use Rattle.vb_bits.specs.Bits.{bits, count, negated, places, Selects, AnswersEach};
 ghost use Rattle.vb_bits.specs.Runs.{runs, last_place};
 ghost use Rattle.vb_walk.specs.Cut.{IsCut};
-ghost use Rattle.vb_walk.specs.Windows.{IsWindow};
+ghost use Rattle.vb_view.specs.Windows.{IsWindow};
 
-use crate::bit::BitIterator;
-use crate::chunks::BitChunks;
-use crate::index::BitIndexIterator;
 use crate::meta::BitBufferMeta;
-use crate::slices::BitSliceIterator;
-use crate::unaligned::UnalignedBitChunk;
 use std::ops::Range;
 use vb_bits::{get_bit, last_set_index};
 use vb_kernel::{bit_select, bit_select_unset, count_ones};
+use vb_walk::{BitChunks, BitIndexIterator, BitIterator, BitSliceIterator, UnalignedBitChunk};
 
 /// A list of bits that lies in borrowed bytes, and that may be copied freely.
 ///
@@ -31,7 +27,7 @@ pub struct BitBufferView<'a> {
 
 #[tactic(auto, using(vb_bits::proofs::WindowLemmas::windows))]
 impl<'a> BitBufferView<'a> {
-    ghost use Rattle.vb_walk.specs.View.{bits_of, offset_of, bytes_of};
+    ghost use Rattle.vb_view.specs.View.{bits_of, offset_of, bytes_of};
 
     /// The first `len` bits of the bytes, in which they have to lie.
     pub fn new(bytes: &'a [u8], len: usize) -> Self
@@ -215,7 +211,7 @@ impl<'a> BitBufferView<'a> {
 
 impl<'a> IntoIterator for BitBufferView<'a> {
     ghost use Rattle.std.specs.Prelude.{◌≡◌};
-    ghost use Rattle.vb_walk.specs.View.{bits_of};
+    ghost use Rattle.vb_view.specs.View.{bits_of};
 
     type Item = bool;
 

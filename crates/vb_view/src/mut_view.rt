@@ -6,12 +6,12 @@ ghost use Rattle.std.specs.Borrow.{GName};
 ghost use Rattle.vb_bits.specs.Bits.{bits as window, count, negated};
 ghost use Rattle.vb_bits.specs.Edits.{filled};
 ghost use Rattle.vb_bits.specs.Writes.{Writes};
-ghost use Rattle.vb_walk.specs.Windows.{IsWindow};
-ghost use Rattle.vb_walk.specs.View.{bits_of, offset_of, bytes_of};
+ghost use Rattle.vb_view.specs.Windows.{IsWindow};
+ghost use Rattle.vb_view.specs.View.{bits_of, offset_of, bytes_of};
 
-use crate::bit::BitIterator;
 use crate::view::BitBufferView;
 use vb_bits::{fill_bits, set_bit_to};
+use vb_walk::BitIterator;
 
 /// What a [`BitBufferMutView`] writes to: a `&mut` to bytes, or to a set of bits over bytes.
 pub trait BitStore {
@@ -79,8 +79,8 @@ pub struct BitBufferMutView<S: BitStore> {
 }
 
 impl<S: BitStore> BitBufferMutView<S> {
-    ghost use Rattle.vb_walk.specs.MutView.{mut_bits_of, store_of, mut_bytes_of, place_of};
-    ghost use Rattle.vb_walk.specs.MutView.{mut_len_of, KeepsWindow};
+    ghost use Rattle.vb_view.specs.MutView.{mut_bits_of, store_of, mut_bytes_of, place_of};
+    ghost use Rattle.vb_view.specs.MutView.{mut_len_of, KeepsWindow};
 
     /// The `len` bits from bit `offset` on of what `store` lends. It has to allow this window.
     pub fn over(store: S, offset: usize, len: usize) -> Self
@@ -249,7 +249,7 @@ impl<'a> BitStore for &'a mut [u8] {
 
 #[tactic(auto, using(vb_bits::proofs::WindowLemmas::windows))]
 impl<'a> BitBufferMutView<&'a mut [u8]> {
-    ghost use Rattle.vb_walk.specs.MutView.{mut_bits_of, store_of, place_of, mut_len_of};
+    ghost use Rattle.vb_view.specs.MutView.{mut_bits_of, store_of, place_of, mut_len_of};
 
     /// The first `len` bits of the bytes, in which they have to lie.
     pub fn new(bytes: &'a mut [u8], len: usize) -> Self

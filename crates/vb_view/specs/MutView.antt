@@ -1,7 +1,7 @@
 -- What contracts see of a `BitBufferMutView`.
 use Rattle.std.specs.Prelude.{◌≡◌, ℕ, Bool, List}
-use Rattle.vb_walk.specs.declared.mut_view.BitStore.{Ghosts}
-use Rattle.vb_walk.specs.declared.mut_view.BitBufferMutView.{BitBufferMutView}
+use Rattle.vb_view.specs.declared.mut_view.BitStore.{Ghosts}
+use Rattle.vb_view.specs.declared.mut_view.BitBufferMutView.{BitBufferMutView}
 
 module _ {S : Type 0} {g : Ghosts S} where
   -- its bits

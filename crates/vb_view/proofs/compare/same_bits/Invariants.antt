@@ -1,7 +1,7 @@
 use Rattle.std.proofs.Common.{◌≡◌, ◌++◌}
-use Rattle.vb_walk.specs.View.{bits_of}
+use Rattle.vb_view.specs.View.{bits_of}
 use Rattle.vb_walk.specs.Words.{padded}
-use Rattle.vb_walk.proofs.compare.same_bits.Given as goal
+use Rattle.vb_view.proofs.compare.same_bits.Given as goal
 
 abbrev pub invariant-loop-word : goal.invariant-loop-word
 invariant-loop-word l = record {

@@ -1,8 +1,8 @@
 use Rattle.std.proofs.Common.{◌≡◌, ℕ, refl, List, ◌++◌, length, ap, sym, ◌∙◌}
 use Rattle.std.proofs.lemmas.List.{append-nil}
-use Rattle.vb_walk.specs.View.{bits_of}
-use Rattle.vb_walk.proofs.CompareLemmas.{same_padded, same_rest, gives_first}
-use Rattle.vb_walk.proofs.compare.same_bits.Goals as goal
+use Rattle.vb_view.specs.View.{bits_of}
+use Rattle.vb_view.proofs.CompareLemmas.{same_padded, same_rest, gives_first}
+use Rattle.vb_view.proofs.compare.same_bits.Goals as goal
 
 pub returns-then-ne : goal.returns-then-ne
 returns-then-ne c =
