@@ -4,4 +4,6 @@
 #[cfg(test)]
 mod sample;
 #[cfg(test)]
+mod views;
+#[cfg(test)]
 mod walks;

@@ -1,5 +1,6 @@
 //! Questions on the bits.
 ghost use Rattle.std.specs.Prelude.{◌≡◌, ◌+◌, ◌<◌, ◌≤◌, ℕ, length, slice_get, slice_range};
+ghost use Rattle.vb_walk.specs.Runs.{last_place};
 ghost use Rattle.vb_kernel.specs.Bits.{count, negated, Selects, AnswersEach};
 
 use super::BitBuffer;
@@ -58,5 +59,13 @@ impl<A: Allocator + Clone> BitBuffer<A> {
         ensures each { AnswersEach (negated self.now.bits) n result }
     {
         bit_select_unset(self.buffer.as_slice(), self.offset, self.len, n)
+    }
+
+    /// The place of the last true bit; `None` where no bit is true. It reads from the end, a word
+    /// at a time, up to the word that has it.
+    pub fn last_set_index(&self) -> Option<usize>
+        ensures { result ≡ last_place self.now.bits }
+    {
+        self.as_view().last_set_index()
     }
 }

@@ -1,13 +1,14 @@
 //! The bits lent for questions.
-ghost use Rattle.std.specs.Prelude.{◌≡◌};
+ghost use Rattle.std.specs.Prelude.{◌≡◌, ◌<◌, ◌^◌, length};
 ghost use Rattle.vb_kernel.specs.Bits.{places};
 ghost use Rattle.vb_walk.specs.Runs.{runs};
 ghost use Rattle.vb_walk.specs.Cut.{IsCut};
-ghost use Rattle.vb_walk.specs.View.{bits_of, offset_of, bytes_of};
+ghost use Rattle.vb_view.specs.View.{bits_of, offset_of, bytes_of};
 
 use super::BitBuffer;
 use std::alloc::Allocator;
-use vb_walk::{BitBufferView, BitChunks, BitIndexIterator, BitSliceIterator, UnalignedBitChunk};
+use vb_view::BitBufferView;
+use vb_walk::{BitChunks, BitIndexIterator, BitIterator, BitSliceIterator, UnalignedBitChunk};
 
 #[tactic(auto, using(crate::proofs::SetLemmas::sets))]
 impl<A: Allocator + Clone> BitBuffer<A> {
@@ -18,6 +19,14 @@ impl<A: Allocator + Clone> BitBuffer<A> {
         ensures bytes { bytes_of result ≡ self.now.bytes }
     {
         BitBufferView::new_with_offset(self.buffer.as_slice(), self.len, self.offset)
+    }
+
+    /// The bits as truth values, from either end.
+    pub fn iter(&self) -> BitIterator<'_>
+        ensures value { result ≡ self.now.bits }
+        ensures fits { length self.now.bits < 2 ^ 64 }
+    {
+        self.as_view().iter()
     }
 
     /// The places of the true bits, in ascending order.
@@ -46,5 +55,19 @@ impl<A: Allocator + Clone> BitBuffer<A> {
         ensures { IsCut self.now.offset self.now.bits result }
     {
         self.as_view().unaligned_chunks()
+    }
+}
+
+impl<'a, A: Allocator + Clone> IntoIterator for &'a BitBuffer<A> {
+    ghost use Rattle.std.specs.Prelude.{◌≡◌, ◌<◌, ◌^◌, length};
+
+    type Item = bool;
+
+    type IntoIter = BitIterator<'a>;
+
+    ghost into_iter_gives = { λ s it. (it ≡ s.now.bits) × (length it < 2 ^ 64) };
+
+    fn into_iter(self) -> BitIterator<'a> {
+        self.iter()
     }
 }
