@@ -5,7 +5,7 @@ use Rattle.vb_kernel.specs.Bits.{bits}
 use Rattle.vb_bits.proofs.BitsLemmas.{length-bits}
 use Rattle.vb_bits.proofs.WindowLemmas.{bits-take_bytes, windows}
 use Rattle.vb_bits.proofs.WritesLemmas.{writes}
-use Rattle.vb_walk.specs.Windows.{IsWindow}
+use Rattle.vb_view.specs.Windows.{IsWindow}
 
 -- a window that begins with the first byte, of the first m bytes
 pub IsWindow-take : (m : ℕ) (b : List ℕ) (o n : ℕ) (l : List Bool) → bits b o n ≡ l → o ≡ 0 → n ≤ 8 * m → m ≤ length b → n < 2 ^ 64 → IsWindow (take m b) 0 l

@@ -6,9 +6,9 @@ pub use Rattle.vb_kernel.specs.Edits
 pub use Rattle.vb_kernel.specs.Writes
 pub use Rattle.vb_mem.specs.OpenBuffer
 pub use Rattle.vb_mem.specs.SharedBuffer
+pub use Rattle.vb_view.specs.MutView
+pub use Rattle.vb_view.specs.View
+pub use Rattle.vb_view.specs.Windows
 pub use Rattle.vb_walk.specs.Cut
-pub use Rattle.vb_walk.specs.MutView
 pub use Rattle.vb_walk.specs.Runs
-pub use Rattle.vb_walk.specs.View
-pub use Rattle.vb_walk.specs.Windows
 pub use Rattle.vb_walk.specs.Words

@@ -1,7 +1,7 @@
 //! A set of bits whose storage several owners may share.
 ghost use Rattle.std.specs.Prelude.{◌≡◌, ◌<◌, ◌==◌, ◌↔◌, length, take, IsSome, IfSome};
 ghost use Rattle.std.specs.Int.{div_ceil};
-ghost use Rattle.vb_walk.specs.Windows.{IsWindow};
+ghost use Rattle.vb_view.specs.Windows.{IsWindow};
 
 use crate::shown::write_bits;
 use std::alloc::{Allocator, Global};

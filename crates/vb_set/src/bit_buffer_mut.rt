@@ -3,7 +3,7 @@ ghost use Rattle.std.specs.Prelude.{◌≡◌, ◌+◌, ◌*◌, ◌≤◌, ◌=
 ghost use Rattle.std.specs.Borrow.{sem};
 ghost use Rattle.vb_set.specs.Lends.{LendsBytes};
 ghost use Rattle.vb_set.specs.OpenSet.{bit_room};
-ghost use Rattle.vb_walk.specs.Windows.{IsWindow};
+ghost use Rattle.vb_view.specs.Windows.{IsWindow};
 
 use crate::shown::write_bits;
 use std::alloc::{Allocator, Global};

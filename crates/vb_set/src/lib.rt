@@ -17,8 +17,8 @@ pub use bit_buffer_mut::BitBufferMut;
 pub use to_bit_buffer::ToBitBuffer;
 pub use vb_core::BufferError;
 pub use vb_mem::{ByteBuffer, ByteBufferMut};
+pub use vb_view::{BitBufferMeta, BitBufferMutView, BitBufferView, BitStore};
 pub use vb_walk::{
-    BitBufferMeta, BitBufferMutView, BitBufferView, BitChunkIterator, BitChunks, BitIndexIterator,
-    BitIterator, BitSliceIterator, BitStore, PaddedChunkIterator, UnalignedBitChunk,
-    UnalignedBitChunkIterator,
+    BitChunkIterator, BitChunks, BitIndexIterator, BitIterator, BitSliceIterator,
+    PaddedChunkIterator, UnalignedBitChunk, UnalignedBitChunkIterator,
 };

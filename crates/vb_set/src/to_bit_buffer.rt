@@ -1,14 +1,14 @@
 //! Views copied into sets.
 ghost use Rattle.std.specs.Prelude.{◌≡◌, ◌+◌, ◌<◌, Bool, List, length, IfOk, IsOkUnless};
 ghost use Rattle.std.specs.Int.{div_ceil};
-ghost use Rattle.vb_walk.specs.MutView.{mut_bits_of};
-ghost use Rattle.vb_walk.specs.View.{bits_of};
+ghost use Rattle.vb_view.specs.MutView.{mut_bits_of};
+ghost use Rattle.vb_view.specs.View.{bits_of};
 
 use crate::bit_buffer::BitBuffer;
 use std::alloc::Allocator;
 use vb_core::BufferError;
 use vb_mem::ByteBuffer;
-use vb_walk::{BitBufferMutView, BitBufferView, BitStore};
+use vb_view::{BitBufferMutView, BitBufferView, BitStore};
 
 /// Bits that can be copied into a set of their own.
 pub trait ToBitBuffer {
@@ -26,7 +26,7 @@ pub trait ToBitBuffer {
 
 #[tactic(auto, using(crate::proofs::SetLemmas::sets))]
 impl ToBitBuffer for BitBufferView<'_> {
-    ghost use Rattle.vb_walk.specs.View.{bits_of};
+    ghost use Rattle.vb_view.specs.View.{bits_of};
 
     ghost bits = { bits_of };
 
@@ -38,7 +38,7 @@ impl ToBitBuffer for BitBufferView<'_> {
 }
 
 impl<S: BitStore> ToBitBuffer for BitBufferMutView<S> {
-    ghost use Rattle.vb_walk.specs.MutView.{mut_bits_of};
+    ghost use Rattle.vb_view.specs.MutView.{mut_bits_of};
 
     ghost bits = { mut_bits_of };
 

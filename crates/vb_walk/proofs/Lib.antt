@@ -1,4 +1,3 @@
-mod CompareLemmas
 mod CutLemmas
 pub mod WordsLemmas
 pub mod OthersLemmas

@@ -1,9 +1,6 @@
 pub mod Cut
-pub mod MutView
 pub mod Ones
-pub mod View
 pub mod Walks
-pub mod Windows
 pub mod Words
 pub use Rattle.vb_bits.specs.Bits
 pub use Rattle.vb_bits.specs.Edits

@@ -5,7 +5,7 @@ use std::fmt::Debug;
 use std::process::Abort;
 use vb_core::TrustedLen;
 use vb_kernel::window_fits;
-use vb_walk::{BitBufferMeta, BitBufferMutView, BitBufferView};
+use vb_view::{BitBufferMeta, BitBufferMutView, BitBufferView};
 
 fn equal<T: Copy + PartialEq + Debug>(rt: &impl Abort, given: T, wanted: T) {
     assert_eq!(rt; given, wanted);

@@ -3,13 +3,12 @@ ghost use Rattle.std.specs.Prelude.{◌≡◌, ◌<◌, ◌^◌, length};
 ghost use Rattle.vb_kernel.specs.Bits.{places};
 ghost use Rattle.vb_walk.specs.Runs.{runs};
 ghost use Rattle.vb_walk.specs.Cut.{IsCut};
-ghost use Rattle.vb_walk.specs.View.{bits_of, offset_of, bytes_of};
+ghost use Rattle.vb_view.specs.View.{bits_of, offset_of, bytes_of};
 
 use super::BitBuffer;
 use std::alloc::Allocator;
-use vb_walk::{
-    BitBufferView, BitChunks, BitIndexIterator, BitIterator, BitSliceIterator, UnalignedBitChunk,
-};
+use vb_view::BitBufferView;
+use vb_walk::{BitChunks, BitIndexIterator, BitIterator, BitSliceIterator, UnalignedBitChunk};
 
 #[tactic(auto, using(crate::proofs::SetLemmas::sets))]
 impl<A: Allocator + Clone> BitBuffer<A> {

@@ -1,11 +1,11 @@
 //! The bits lent, for questions and for writing.
 ghost use Rattle.std.specs.Prelude.{◌≡◌, ◌/◌, ◌%◌, length, drop};
-ghost use Rattle.vb_walk.specs.MutView.{mut_bits_of, store_of, place_of, mut_len_of};
-ghost use Rattle.vb_walk.specs.View.{bits_of, offset_of, bytes_of};
+ghost use Rattle.vb_view.specs.MutView.{mut_bits_of, store_of, place_of, mut_len_of};
+ghost use Rattle.vb_view.specs.View.{bits_of, offset_of, bytes_of};
 
 use super::BitBufferMut;
 use std::alloc::Allocator;
-use vb_walk::{BitBufferMutView, BitBufferView, BitStore};
+use vb_view::{BitBufferMutView, BitBufferView, BitStore};
 
 #[tactic(auto, using(crate::proofs::SetLemmas::sets))]
 impl<A: Allocator + Clone> BitBufferMut<A> {

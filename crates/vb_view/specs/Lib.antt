@@ -1,0 +1,9 @@
+pub mod MutView
+pub mod View
+pub mod Windows
+pub use Rattle.vb_kernel.specs.Bits
+pub use Rattle.vb_kernel.specs.Edits
+pub use Rattle.vb_kernel.specs.Writes
+pub use Rattle.vb_walk.specs.Cut
+pub use Rattle.vb_walk.specs.Runs
+pub use Rattle.vb_walk.specs.Words

@@ -1,0 +1,32 @@
+-- What contracts see of a `BitBufferMutView`.
+use Rattle.std.specs.Prelude.{◌≡◌, ℕ, Bool, List}
+use Rattle.vb_view.specs.declared.mut_view.BitStore.{Ghosts}
+use Rattle.vb_view.specs.declared.mut_view.BitBufferMutView.{BitBufferMutView}
+
+module _ {S : Type 0} {g : Ghosts S} where
+  -- its bits
+  abbrev pub mut_bits_of : BitBufferMutView S g → List Bool
+  mut_bits_of v = g.bits v.store v.offset v.len
+
+  -- what it writes to
+  abbrev pub store_of : BitBufferMutView S g → S
+  store_of v = v.store
+
+  -- the bytes of what it writes to
+  abbrev pub mut_bytes_of : BitBufferMutView S g → List ℕ
+  mut_bytes_of v = g.bytes v.store
+
+  -- the place of its first bit in these bytes
+  abbrev pub place_of : BitBufferMutView S g → ℕ
+  place_of v = v.offset
+
+  -- how many bits there are
+  abbrev pub mut_len_of : BitBufferMutView S g → ℕ
+  mut_len_of v = v.len
+
+  -- nothing but bits changed
+  pub record KeepsWindow (old new : BitBufferMutView S g) : Type 0 where
+    pub same_reference : g.lender new.store ≡ g.lender old.store
+    pub kept : g.kept new.store ≡ g.kept old.store
+    pub place : new.offset ≡ old.offset
+    pub len : new.len ≡ old.len

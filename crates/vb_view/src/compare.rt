@@ -1,0 +1,43 @@
+//! Equality of views: that of the lists of their bits.
+ghost use Rattle.std.specs.Prelude.{◌≡◌, ◌↔◌, IsTrue};
+ghost use Rattle.std.specs.Bool.{beq};
+ghost use Rattle.std.specs.Cmp.{bool_eq_equiv, on_per, on_equiv, partial_equiv_from_equiv};
+ghost use Rattle.std.specs.Cmp.Lexicographic.{pointwise, lists_per, lists_equiv};
+ghost use Rattle.vb_view.specs.View.{bits_of};
+
+use crate::view::BitBufferView;
+
+impl PartialEq for BitBufferView<'_> {
+    ghost eq = { λ x y. pointwise beq (bits_of x) (bits_of y) };
+
+    ghost laws = { on_per bits_of (lists_per (partial_equiv_from_equiv bool_eq_equiv)) };
+
+    /// Whether the lists of bits are equal, by words; where the bits lie in their bytes doesn't
+    /// count.
+    fn eq(&self, other: &Self) -> bool
+        ensures value { result ≡ pointwise beq (bits_of self.now) (bits_of other.now) }
+        ensures exact { IsTrue result ↔ (bits_of self.now ≡ bits_of other.now) }
+    {
+        same_bits(self, other)
+    }
+}
+
+impl Eq for BitBufferView<'_> {
+    ghost laws = { on_equiv bits_of (lists_equiv bool_eq_equiv) };
+}
+
+/// Whether the lists of bits are equal, word by word.
+fn same_bits(left: &BitBufferView<'_>, right: &BitBufferView<'_>) -> bool
+    ensures { IsTrue result ↔ (bits_of left.now ≡ bits_of right.now) }
+{
+    if left.len() != right.len() {
+        return false;
+    }
+    let mut others = right.chunks().iter_padded();
+    for word in left.chunks().iter_padded() {
+        if others.next() != Some(word) {
+            return false;
+        }
+    }
+    true
+}

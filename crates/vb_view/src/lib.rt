@@ -1,0 +1,15 @@
+//! Views of bits over borrowed bytes.
+//!
+//! A window is the `len` bits from bit `offset` on, least significant first. It has to lie in the
+//! bytes, and its end has to be a `usize`; `vb_kernel::window_fits` is the test. Lengths, offsets
+//! and places are counted in bits. No call takes memory.
+#![tactic(auto)]
+
+mod compare;
+mod meta;
+mod mut_view;
+mod view;
+
+pub use meta::BitBufferMeta;
+pub use mut_view::{BitBufferMutView, BitStore};
+pub use view::BitBufferView;

@@ -1,0 +1,281 @@
+//! Bits over borrowed bytes, for writing.
+ghost use Rattle.std.specs.Prelude.{◌≡◌, ◌+◌, ◌-◌, ◌*◌, ◌/◌, ◌%◌, ◌^◌, ◌<◌, ◌≤◌, ◌==◌, ℕ};
+ghost use Rattle.std.specs.Prelude.{List, [], ◌∷◌, Bool, true, false, Some};
+ghost use Rattle.std.specs.Prelude.{length, drop, replicate, slice_get, slice_set};
+ghost use Rattle.std.specs.Borrow.{GName};
+ghost use Rattle.vb_bits.specs.Bits.{bits as window, count, negated};
+ghost use Rattle.vb_bits.specs.Edits.{filled};
+ghost use Rattle.vb_bits.specs.Writes.{Writes};
+ghost use Rattle.vb_view.specs.Windows.{IsWindow};
+ghost use Rattle.vb_view.specs.View.{bits_of, offset_of, bytes_of};
+
+use crate::view::BitBufferView;
+use vb_bits::{fill_bits, set_bit_to};
+use vb_walk::BitIterator;
+
+/// What a [`BitBufferMutView`] writes to: a `&mut` to bytes, or to a set of bits over bytes.
+pub trait BitStore {
+    // its bytes
+    ghost bytes: { Self → List ℕ };
+
+    // the bits of a window of them
+    ghost bits: { Self → ℕ → ℕ → List Bool };
+
+    // it allows views of this window
+    ghost fits: { Self → ℕ → ℕ → Type 0 };
+
+    ghost fits_prop: { (s : Self) (o n : ℕ) (a b : fits s o n) → a ≡ b };
+
+    // the loan that it is
+    ghost lender: { Self → GName };
+
+    // what no write changes
+    ghost Kept: { Type 0 };
+
+    ghost kept: { Self → Kept };
+
+    /// The bytes, for a window that it allows.
+    fn as_slice(&self, offset: usize, len: usize) -> &[u8]
+        requires { fits self.now offset len }
+        ensures bytes { result.now ≡ bytes self.now }
+        ensures window { IsWindow result.now offset (bits self.now offset len) };
+
+    /// Makes the bit at place `i` of a window `v`, and leaves every other bit of the bytes.
+    fn set_to(&mut self, offset: usize, len: usize, i: usize, v: bool)
+        requires fits { fits self.old offset len }
+        requires within { i < len }
+        ensures bits { bits self.new offset len ≡ slice_set (bits self.old offset len) i v }
+        ensures bytes { Writes (bytes self.old) (bytes self.new) (offset + i) (v ∷ []) }
+        ensures fits { fits self.new offset len }
+        ensures same_reference { lender self.new ≡ lender self.old }
+        ensures kept { kept self.new ≡ kept self.old };
+
+    /// Makes the bits of a window from `start` up to `end`, `end` excluded, `v`, and leaves every
+    /// other bit of the bytes.
+    fn fill_range(&mut self, offset: usize, len: usize, start: usize, end: usize, v: bool)
+        requires fits { fits self.old offset len }
+        requires order { start ≤ end }
+        requires within { end ≤ len }
+        ensures bits { bits self.new offset len ≡ filled (bits self.old offset len) start end v }
+        ensures bytes { Writes (bytes self.old) (bytes self.new) (offset + start)
+            (replicate (end - start) v) }
+        ensures fits { fits self.new offset len }
+        ensures same_reference { lender self.new ≡ lender self.old }
+        ensures kept { kept self.new ≡ kept self.old };
+
+    ghost counted: { (s : Self) (o n : ℕ) → fits s o n → length (bits s o n) ≡ n };
+}
+
+/// A list of bits that lies in borrowed bytes, and that may be edited in place.
+///
+/// What is written is what the bytes, or the set that they belong to, then hold. A contract sees
+/// its bits, what it writes to, and the place of its first bit in the bytes of that.
+#[derive(Drop)]
+pub struct BitBufferMutView<S: BitStore> {
+    store: S,
+    offset: usize,
+    len: usize,
+    ghost fits: { S.fits store offset len } by { S.fits_prop store offset len },
+}
+
+impl<S: BitStore> BitBufferMutView<S> {
+    ghost use Rattle.vb_view.specs.MutView.{mut_bits_of, store_of, mut_bytes_of, place_of};
+    ghost use Rattle.vb_view.specs.MutView.{mut_len_of, KeepsWindow};
+
+    /// The `len` bits from bit `offset` on of what `store` lends. It has to allow this window.
+    pub fn over(store: S, offset: usize, len: usize) -> Self
+        requires { S.fits store offset len }
+        ensures bits { mut_bits_of result ≡ S.bits store offset len }
+        ensures store { store_of result ≡ store }
+        ensures place { place_of result ≡ offset }
+        ensures len { mut_len_of result ≡ len }
+        ensures bit_len { length (mut_bits_of result) ≡ len }
+    {
+        BitBufferMutView { store, offset, len }
+    }
+
+    /// The bits for questions.
+    pub fn as_view(&self) -> BitBufferView<'_>
+        ensures bits { bits_of result ≡ mut_bits_of self.now }
+        ensures offset { offset_of result ≡ place_of self.now % 8 }
+        ensures bytes { bytes_of result ≡ drop (place_of self.now / 8) (mut_bytes_of self.now) }
+    {
+        let bytes = self.store.as_slice(self.offset, self.len);
+        BitBufferView::new_with_offset(bytes, self.len, self.offset)
+    }
+
+    /// How many bits there are.
+    pub fn len(&self) -> usize
+        ensures bits { result ≡ length (mut_bits_of self.now) }
+        ensures len { result ≡ mut_len_of self.now }
+    {
+        self.len
+    }
+
+    /// Whether there are no bits.
+    pub fn is_empty(&self) -> bool
+        ensures { result ≡ (length (mut_bits_of self.now) == 0) }
+    {
+        self.len == 0
+    }
+
+    /// The place of the first bit in the bytes of [`as_slice`](Self::as_slice), in bits.
+    pub fn offset(&self) -> usize
+        ensures value { result ≡ place_of self.now % 8 }
+        ensures below { result < 8 }
+    {
+        self.offset % 8
+    }
+
+    /// The bytes from that of the first bit on.
+    pub fn as_slice(&self) -> &[u8]
+        ensures bytes { result.now ≡ drop (place_of self.now / 8) (mut_bytes_of self.now) }
+        ensures window { IsWindow result.now (place_of self.now % 8) (mut_bits_of self.now) }
+    {
+        self.as_view().inner()
+    }
+
+    /// The bit at place `i`, which has to be below the length.
+    pub fn value(&self, i: usize) -> bool
+        requires { i < length (mut_bits_of self.now) }
+        ensures { slice_get (mut_bits_of self.now) i ≡ Some result }
+    {
+        self.as_view().value(i)
+    }
+
+    /// How many bits are true. It reads every byte of the bits once, 64 at a time.
+    pub fn true_count(&self) -> usize
+        ensures { result ≡ count (mut_bits_of self.now) }
+    {
+        self.as_view().true_count()
+    }
+
+    /// How many bits are false, at the cost of [`true_count`](Self::true_count).
+    pub fn false_count(&self) -> usize
+        ensures { result ≡ count (negated (mut_bits_of self.now)) }
+    {
+        self.as_view().false_count()
+    }
+
+    /// The bits as truth values, from either end.
+    pub fn iter(&self) -> BitIterator<'_>
+        ensures { result ≡ mut_bits_of self.now }
+    {
+        self.as_view().iter()
+    }
+
+    /// Makes the bit at place `i` `v`. No other bit of the bytes changes.
+    pub fn set_to(&mut self, i: usize, v: bool)
+        requires { i < length (mut_bits_of self.old) }
+        ensures bits { mut_bits_of self.new ≡ slice_set (mut_bits_of self.old) i v }
+        ensures bytes { Writes (mut_bytes_of self.old) (mut_bytes_of self.new)
+            (place_of self.old + i) (v ∷ []) }
+        ensures keeps { KeepsWindow self.old self.new }
+    {
+        self.store.set_to(self.offset, self.len, i, v);
+    }
+
+    /// Makes the bit at place `i` true. No other bit of the bytes changes.
+    pub fn set(&mut self, i: usize)
+        requires { i < length (mut_bits_of self.old) }
+        ensures bits { mut_bits_of self.new ≡ slice_set (mut_bits_of self.old) i true }
+        ensures bytes { Writes (mut_bytes_of self.old) (mut_bytes_of self.new)
+            (place_of self.old + i) (true ∷ []) }
+        ensures keeps { KeepsWindow self.old self.new }
+    {
+        self.set_to(i, true);
+    }
+
+    /// Makes the bit at place `i` false. No other bit of the bytes changes.
+    pub fn unset(&mut self, i: usize)
+        requires { i < length (mut_bits_of self.old) }
+        ensures bits { mut_bits_of self.new ≡ slice_set (mut_bits_of self.old) i false }
+        ensures bytes { Writes (mut_bytes_of self.old) (mut_bytes_of self.new)
+            (place_of self.old + i) (false ∷ []) }
+        ensures keeps { KeepsWindow self.old self.new }
+    {
+        self.set_to(i, false);
+    }
+
+    /// Makes the bits from `start` up to `end`, `end` excluded, `v`, whole bytes at once. No other
+    /// bit of the bytes changes.
+    pub fn fill_range(&mut self, start: usize, end: usize, v: bool)
+        requires order { start ≤ end }
+        requires within { end ≤ length (mut_bits_of self.old) }
+        ensures bits { mut_bits_of self.new ≡ filled (mut_bits_of self.old) start end v }
+        ensures bytes { Writes (mut_bytes_of self.old) (mut_bytes_of self.new)
+            (place_of self.old + start) (replicate (end - start) v) }
+        ensures keeps { KeepsWindow self.old self.new }
+    {
+        self.store.fill_range(self.offset, self.len, start, end, v);
+    }
+}
+
+#[tactic(auto, using(vb_bits::proofs::WindowLemmas::windows, vb_bits::proofs::WritesLemmas::writes))]
+impl<'a> BitStore for &'a mut [u8] {
+    ghost use Rattle.std.specs.Prelude.{ℕ, length, ◌≤◌, ◌<◌, ◌^◌, ◌+◌, ◌*◌};
+    ghost use Rattle.std.proofs.Props.{props};
+    ghost use Rattle.vb_bits.specs.Bits.{bits as window};
+    ghost use Rattle.vb_bits.proofs.BitsLemmas.{length-bits};
+
+    ghost bytes = { λ s. s.now };
+
+    ghost bits = { λ s o n. window s.now o n };
+
+    ghost fits = { λ s o n. (o + n ≤ 8 * length s.now) × (o + n < 2 ^ 64) };
+
+    ghost fits_prop = { λ s o n. Prim.hlevel props };
+
+    ghost lender = { λ s. s.ghost_name };
+
+    ghost Kept = { ℕ };
+
+    ghost kept = { λ s. length s.now };
+
+    ghost counted = { λ s o n _. length-bits s.now o n };
+
+    fn as_slice(&self, offset: usize, len: usize) -> &[u8] {
+        self
+    }
+
+    fn set_to(&mut self, offset: usize, len: usize, i: usize, v: bool) {
+        set_bit_to(self, offset + i, v);
+    }
+
+    fn fill_range(&mut self, offset: usize, len: usize, start: usize, end: usize, v: bool) {
+        fill_bits(self, offset + start, offset + end, v);
+    }
+}
+
+#[tactic(auto, using(vb_bits::proofs::WindowLemmas::windows))]
+impl<'a> BitBufferMutView<&'a mut [u8]> {
+    ghost use Rattle.vb_view.specs.MutView.{mut_bits_of, store_of, place_of, mut_len_of};
+
+    /// The first `len` bits of the bytes, in which they have to lie.
+    pub fn new(bytes: &'a mut [u8], len: usize) -> Self
+        requires { len ≤ 8 * length bytes.old }
+        ensures bits { mut_bits_of result ≡ window bytes.old 0 len }
+        ensures place { place_of result ≡ 0 }
+        ensures len { mut_len_of result ≡ len }
+        ensures bit_len { length (mut_bits_of result) ≡ len }
+        ensures bytes { (store_of result).now ≡ bytes.old }
+        ensures same_reference { (store_of result).ghost_name ≡ bytes.entry.ghost_name }
+    {
+        BitBufferMutView::new_with_offset(bytes, len, 0)
+    }
+
+    /// The `len` bits from bit `offset` on. They have to lie in the bytes, and `offset + len` has
+    /// to be a `usize`.
+    pub fn new_with_offset(bytes: &'a mut [u8], len: usize, offset: usize) -> Self
+        requires inside { offset + len ≤ 8 * length bytes.old }
+        requires fits { offset + len < 2 ^ 64 }
+        ensures bits { mut_bits_of result ≡ window bytes.old offset len }
+        ensures place { place_of result ≡ offset }
+        ensures len { mut_len_of result ≡ len }
+        ensures bit_len { length (mut_bits_of result) ≡ len }
+        ensures bytes { (store_of result).now ≡ bytes.old }
+        ensures same_reference { (store_of result).ghost_name ≡ bytes.entry.ghost_name }
+    {
+        BitBufferMutView::over(bytes, offset, len)
+    }
+}

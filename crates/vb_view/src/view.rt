@@ -1,0 +1,225 @@
+//! Bits over borrowed bytes.
+ghost use Rattle.std.specs.Prelude.{◌≡◌, ◌+◌, ◌-◌, ◌*◌, ◌/◌, ◌%◌, ◌^◌, ◌<◌, ◌≤◌, ◌==◌};
+ghost use Rattle.std.specs.Prelude.{length, drop, slice_get, slice_range, Some};
+ghost use Rattle.vb_bits.specs.Bits.{bits, count, negated, places, Selects, AnswersEach};
+ghost use Rattle.vb_bits.specs.Runs.{runs, last_place};
+ghost use Rattle.vb_walk.specs.Cut.{IsCut};
+ghost use Rattle.vb_view.specs.Windows.{IsWindow};
+
+use crate::meta::BitBufferMeta;
+use std::ops::Range;
+use vb_bits::{get_bit, last_set_index};
+use vb_kernel::{bit_select, bit_select_unset, count_ones};
+use vb_walk::{BitChunks, BitIndexIterator, BitIterator, BitSliceIterator, UnalignedBitChunk};
+
+/// A list of bits that lies in borrowed bytes, and that may be copied freely.
+///
+/// A contract sees its bits, the offset of the first one, which is below 8, and its bytes.
+#[derive(Clone, Copy)]
+pub struct BitBufferView<'a> {
+    bytes: &'a [u8],
+    offset: usize,
+    len: usize,
+    ghost first_byte: { offset < 8 },
+    ghost inside: { offset + len ≤ 8 * length bytes.now },
+    ghost fits: { offset + len < 2 ^ 64 },
+}
+
+#[tactic(auto, using(vb_bits::proofs::WindowLemmas::windows))]
+impl<'a> BitBufferView<'a> {
+    ghost use Rattle.vb_view.specs.View.{bits_of, offset_of, bytes_of};
+
+    /// The first `len` bits of the bytes, in which they have to lie.
+    pub fn new(bytes: &'a [u8], len: usize) -> Self
+        requires { len ≤ 8 * length bytes.now }
+        ensures bits { bits_of result ≡ bits bytes.now 0 len }
+        ensures len { length (bits_of result) ≡ len }
+        ensures offset { offset_of result ≡ 0 }
+        ensures bytes { bytes_of result ≡ bytes.now }
+    {
+        BitBufferView::new_with_offset(bytes, len, 0)
+    }
+
+    /// The `len` bits from bit `offset` on. They have to lie in the bytes, and `offset + len` has
+    /// to be a `usize`. The view's bytes begin with that of the first bit.
+    pub fn new_with_offset(bytes: &'a [u8], len: usize, offset: usize) -> Self
+        requires inside { offset + len ≤ 8 * length bytes.now }
+        requires fits { offset + len < 2 ^ 64 }
+        ensures bits { bits_of result ≡ bits bytes.now offset len }
+        ensures len { length (bits_of result) ≡ len }
+        ensures offset { offset_of result ≡ offset % 8 }
+        ensures bytes { bytes_of result ≡ drop (offset / 8) bytes.now }
+    {
+        BitBufferView {
+            bytes: &bytes[offset / 8..],
+            offset: offset % 8,
+            len,
+        }
+    }
+
+    /// The bits that `meta` describes, which have to lie in the bytes.
+    pub fn from_meta(bytes: &'a [u8], meta: BitBufferMeta) -> Self
+        requires { meta.offset + meta.len ≤ 8 * length bytes.now }
+        ensures bits { bits_of result ≡ bits bytes.now meta.offset meta.len }
+        ensures len { length (bits_of result) ≡ meta.len }
+        ensures offset { offset_of result ≡ meta.offset }
+        ensures bytes { bytes_of result ≡ bytes.now }
+    {
+        BitBufferView {
+            bytes,
+            offset: meta.offset(),
+            len: meta.len(),
+        }
+    }
+
+    /// Offset and length.
+    pub fn meta(&self) -> BitBufferMeta
+        ensures offset { result.offset ≡ offset_of self.now }
+        ensures len { result.len ≡ length (bits_of self.now) }
+    {
+        BitBufferMeta::new(self.offset, self.len)
+    }
+
+    /// How many bits there are.
+    pub fn len(&self) -> usize
+        ensures { result ≡ length (bits_of self.now) }
+    {
+        self.len
+    }
+
+    /// Whether there are no bits.
+    pub fn is_empty(&self) -> bool
+        ensures { result ≡ (length (bits_of self.now) == 0) }
+    {
+        self.len == 0
+    }
+
+    /// The place of the first bit in the bytes, in bits.
+    pub fn offset(&self) -> usize
+        ensures value { result ≡ offset_of self.now }
+        ensures below { result < 8 }
+    {
+        self.offset
+    }
+
+    /// The bytes, of which the bits are a window.
+    pub fn inner(&self) -> &'a [u8]
+        ensures bytes { result.now ≡ bytes_of self.now }
+        ensures window { IsWindow result.now (offset_of self.now) (bits_of self.now) }
+    {
+        self.bytes
+    }
+
+    /// The bit at place `i`, which has to be below the length.
+    pub fn value(&self, i: usize) -> bool
+        requires { i < length (bits_of self.now) }
+        ensures { slice_get (bits_of self.now) i ≡ Some result }
+    {
+        get_bit(self.bytes, self.offset + i)
+    }
+
+    /// The bits of a range, which has to be in order and to end within the length. The bytes begin
+    /// with that of its first bit.
+    pub fn slice(&self, range: Range<usize>) -> Self
+        requires order { range.start ≤ range.end }
+        requires within { range.end ≤ length (bits_of self.now) }
+        ensures bits { bits_of result ≡ slice_range (bits_of self.now) range.start range.end }
+        ensures len { length (bits_of result) ≡ range.end - range.start }
+        ensures offset { offset_of result ≡ (offset_of self.now + range.start) % 8 }
+        ensures bytes { bytes_of result
+            ≡ drop ((offset_of self.now + range.start) / 8) (bytes_of self.now) }
+    {
+        let len = range.end - range.start;
+        BitBufferView::new_with_offset(self.bytes, len, self.offset + range.start)
+    }
+
+    /// The bits as words of 64 bits from the first bit on.
+    pub fn chunks(&self) -> BitChunks<'a>
+        ensures { result ≡ bits_of self.now }
+    {
+        BitChunks::new(self.bytes, self.offset, self.len)
+    }
+
+    /// The bytes of the bits, by eights from the first one, as words.
+    pub fn unaligned_chunks(&self) -> UnalignedBitChunk<'a>
+        ensures { IsCut (offset_of self.now) (bits_of self.now) result }
+    {
+        UnalignedBitChunk::new(self.bytes, self.offset, self.len)
+    }
+
+    /// The bits as truth values, from either end.
+    pub fn iter(&self) -> BitIterator<'a>
+        ensures { result ≡ bits_of self.now }
+    {
+        BitIterator::new(self.bytes, self.offset, self.len)
+    }
+
+    /// The places of the true bits, in ascending order.
+    pub fn set_indices(&self) -> BitIndexIterator<'a>
+        ensures { result ≡ places (bits_of self.now) }
+    {
+        BitIndexIterator::new(self.bytes, self.offset, self.len)
+    }
+
+    /// The runs of true bits, from front to end: where each begins, and the place behind it.
+    pub fn set_slices(&self) -> BitSliceIterator<'a>
+        ensures { result ≡ runs (bits_of self.now) }
+    {
+        BitSliceIterator::new(self.bytes, self.offset, self.len)
+    }
+
+    /// How many bits are true. It reads every byte of the bits once, 64 at a time.
+    pub fn true_count(&self) -> usize
+        ensures { result ≡ count (bits_of self.now) }
+    {
+        count_ones(self.bytes, self.offset, self.len)
+    }
+
+    /// How many bits are false, at the cost of [`true_count`](Self::true_count).
+    pub fn false_count(&self) -> usize
+        ensures { result ≡ count (negated (bits_of self.now)) }
+    {
+        self.len() - self.true_count()
+    }
+
+    /// The place of the `n`-th true bit, counted from 0; `None` where at most `n` bits are true. It
+    /// counts from the front, 64 bytes at a time, up to the bytes that have it.
+    pub fn select(&self, n: usize) -> Option<usize>
+        ensures place { Selects (bits_of self.now) n result }
+        ensures each { AnswersEach (bits_of self.now) n result }
+    {
+        bit_select(self.bytes, self.offset, self.len, n)
+    }
+
+    /// The place of the `n`-th false bit, counted from 0; `None` where at most `n` bits are false,
+    /// at the cost of [`select`](Self::select).
+    pub fn select_unset(&self, n: usize) -> Option<usize>
+        ensures place { Selects (negated (bits_of self.now)) n result }
+        ensures each { AnswersEach (negated (bits_of self.now)) n result }
+    {
+        bit_select_unset(self.bytes, self.offset, self.len, n)
+    }
+
+    /// The place of the last true bit; `None` where no bit is true. It reads from the end, a word
+    /// at a time, up to the word that has it.
+    pub fn last_set_index(&self) -> Option<usize>
+        ensures { result ≡ last_place (bits_of self.now) }
+    {
+        last_set_index(self.bytes, self.offset, self.len)
+    }
+}
+
+impl<'a> IntoIterator for BitBufferView<'a> {
+    ghost use Rattle.std.specs.Prelude.{◌≡◌};
+    ghost use Rattle.vb_view.specs.View.{bits_of};
+
+    type Item = bool;
+
+    type IntoIter = BitIterator<'a>;
+
+    ghost into_iter_gives = { λ v it. it ≡ bits_of v };
+
+    fn into_iter(self) -> BitIterator<'a> {
+        self.iter()
+    }
+}
