@@ -1,5 +1,4 @@
-//! A buffer that shares its storage, and its parts: these are made in constant time, and nothing is
-//! copied.
+//! A buffer that shares its storage, and its parts, which are made in constant time.
 ghost use Rattle.std.specs.Prelude.{◌≡◌, ◌==◌, ◌↔◌, ◌≤◌, [], length, IsTrue};
 ghost use Rattle.vb_mem.specs.Answers.{Makes};
 ghost use Rattle.vb_mem.specs.SharedBuffer.{IsAlignedTo, ShowsPart, CanSlice, CanNarrow};
@@ -132,8 +131,7 @@ impl<T: Element, A: Allocator> Buffer<T, A> {
     }
 
     /// Keeps the items of a range, for which [`Buffer::can_slice`] holds at the buffer's alignment,
-    /// which stays: so it does where the range starts a multiple of that many bytes on. It takes no
-    /// memory.
+    /// which stays: so it does where the range starts a multiple of it on. It takes no memory.
     pub fn narrow(&mut self, range: Range<usize>)
         requires { CanNarrow T.SIZE T.align_exponent self.old range.start range.end }
         ensures { ShowsPart T.SIZE self.old range.start range.end self.old.exponent self.new }

@@ -117,8 +117,7 @@ impl<T: Element, A: Allocator> BufferMut<T, A> {
         self.items.truncate(len);
     }
 
-    // Moves the items of a window to the front, drops the others and reports the window's
-    // alignment.
+    // Keeps the items of a window, moved to the front, and reports the window's alignment.
     pub(crate) fn narrow(&mut self, window: Window)
         requires within { window.start + window.len ≤ length self.old.list }
         requires at_least { T.align_exponent ≤ window.alignment }

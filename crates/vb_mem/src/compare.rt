@@ -70,7 +70,8 @@ impl<T: Element + Ord, A: Allocator> Ord for Buffer<T, A> {
 impl<T: Element + Hash, A: Allocator> Hash for Buffer<T, A> {
     ghost hash_input = { λ b. fed.slice T.hash_input b.list };
 
-    ghost respects_eq = { (on_Alike (λ b. b.list) (items_Alike (record { fed = T.respects_eq }))).fed };
+    ghost respects_eq = { (on_Alike (λ b. b.list)
+        (items_Alike (record { fed = T.respects_eq }))).fed };
 
     fn hash<H: Hasher>(&self, state: &mut H) {
         self.as_slice().hash(state);

@@ -25,8 +25,7 @@ pub(crate) struct Window {
 pub(crate) enum Content<T: Element, A: Allocator> {
     /// No items and no storage, and the alignment that is reported.
     Nothing(Alignment),
-    /// The items of a window of a storage, or all of them with the alignment that the storage
-    /// reports.
+    /// The items of a window of a storage, or all of them with the alignment of the storage.
     Stored(Rc<BufferMut<T, A>, A>, Option<Window>),
 }
 
@@ -90,8 +89,7 @@ impl<T: Element, A: Allocator> Content<T, A> {
         }
     }
 
-    // Keeps of the storage the items that are shown, where no other buffer shares it. Answers
-    // whether it did.
+    // Keeps what is shown of the storage, where no other buffer shares it. Answers whether it did.
     pub(crate) fn narrow_lone(&mut self) -> bool
         requires { IsSound T.SIZE T.align_exponent self.old }
         ensures narrowed { OnTrue result (IsWhole
@@ -116,7 +114,8 @@ impl<T: Element, A: Allocator> Content<T, A> {
     // where none comes.
     pub(crate) fn whole_mut(&mut self) -> Result<&mut BufferMut<T, A>>
         requires { IsWhole (λ _. ⊤) self.old }
-        ensures* writes_back { sem 𝓛 (LendsStorage T.row A.row T.Element A.Allocator self.entry result) }
+        ensures* writes_back { sem 𝓛 (LendsStorage T.row A.row T.Element A.Allocator
+            self.entry result) }
         ensures value { IfOk result (λ growing. IsWhole (λ stored. growing.now ≡ stored) self.old) }
         ensures refused { IsOkUnless result BufferError.OutOfMemory }
     {

@@ -13,8 +13,7 @@ use vb_bytes::{get_items, item_count};
 use vb_core::{Alignment, Element};
 
 impl<T: Element, A: Allocator + Clone> Buffer<T, A> {
-    /// The bytes of the items, of alignment 1, copied. Refused by `TooManyBytes` past `usize`, else
-    /// by `OutOfMemory`.
+    /// The bytes of the items, of alignment 1, copied. Refused as [`Buffer::into_bytes`] is.
     pub fn as_bytes(&self) -> Result<Buffer<u8, A>>
         ensures { MakesBytes (length self.now.list * T.SIZE)
             (ShowsMade (byteform T.form self.now.list) 0) result }
@@ -22,8 +21,7 @@ impl<T: Element, A: Allocator + Clone> Buffer<T, A> {
         BufferMut::bytes_of(&self.alloc, self.as_slice(), Alignment::none())?.freeze()
     }
 
-    /// The bytes of the items, of the same alignment, copied. Refused with `TooManyBytes` where
-    /// their number passes `usize`, and else with `OutOfMemory`; the buffer is gone then.
+    /// The bytes of the items, of the same alignment, copied. Refused as [`Buffer::into_bytes`] is.
     pub fn into_byte_buffer(self) -> Result<Buffer<u8, A>>
         ensures { MakesBytes (length self.list * T.SIZE)
             (ShowsMade (byteform T.form self.list) self.exponent) result }
@@ -31,7 +29,8 @@ impl<T: Element, A: Allocator + Clone> Buffer<T, A> {
         BufferMut::bytes_of(&self.alloc, self.as_slice(), self.alignment())?.freeze()
     }
 
-    /// The bytes of the items as `Bytes`, copied. Refused as [`Buffer::into_byte_buffer`] is.
+    /// The bytes of the items as `Bytes`, copied. Refused with `TooManyBytes` where their number
+    /// passes `usize`, and else with `OutOfMemory`; the buffer is gone then.
     pub fn into_bytes(self) -> Result<Bytes<A>>
         ensures { MakesBytes (length self.list * T.SIZE)
             (λ bytes. bytes ≡ byteform T.form self.list) result }
@@ -79,8 +78,7 @@ impl<T: Element, A: Allocator + Clone> Buffer<T, A> {
         Buffer::items_of(&alloc, bytes.as_slice(), alignment)
     }
 
-    // The items whose bytes these are, copied. The number of bytes is looked at before memory is
-    // asked for.
+    // The items whose bytes these are, copied. The number of bytes is looked at before memory.
     fn items_of(alloc: &A, bytes: &[u8], alignment: Alignment) -> Result<Self>
         requires { T.align_exponent ≤ alignment }
         ensures { ReadsBytes (length bytes.now) T.SIZE

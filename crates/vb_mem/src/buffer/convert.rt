@@ -116,7 +116,8 @@ impl<T: Element, A: Allocator + Clone> Buffer<T, A> {
     /// that is left there, from the front of its storage on. Refused with `OutOfMemory`: the items
     /// and the reported alignment stay then, and the declared one is the storage's or a copy's.
     pub fn items_mut(&mut self) -> Result<&mut BufferMut<T, A>>
-        ensures* writes_back { sem 𝓛 (LendsAll T.row A.row T.Element A.Allocator self.entry result) }
+        ensures* writes_back { sem 𝓛 (LendsAll T.row A.row T.Element A.Allocator
+            self.entry result) }
         ensures value { Makes (λ growing. KeepsItems self.old (shown growing.now)) result }
     {
         if self.content.narrow_lone() {

@@ -44,8 +44,7 @@ impl<T: Element, A: Allocator + Clone> Buffer<T, A> {
         BufferMut::copy_from(alloc, items)?.freeze()
     }
 
-    /// A copy of a slice, as a block, with an alignment, over-aligned to 256 bytes. Refused with
-    /// `OutOfMemory`.
+    /// A copy of a slice with an alignment, over-aligned to 256 bytes. Refused with `OutOfMemory`.
     pub fn copy_from_aligned(alloc: A, items: &[T], alignment: Alignment) -> Result<Self>
         requires { T.align_exponent ≤ alignment }
         ensures { Makes (ShowsMade items.now alignment) result }
@@ -53,8 +52,7 @@ impl<T: Element, A: Allocator + Clone> Buffer<T, A> {
         BufferMut::copy_from_aligned(alloc, items, alignment)?.freeze()
     }
 
-    /// A copy of a slice, as a block, with an alignment, over-aligned to the preferred one. Refused
-    /// with `OutOfMemory`.
+    /// A copy of a slice, over-aligned to the preferred alignment. Refused with `OutOfMemory`.
     pub fn copy_from_preferred_aligned(
         alloc: A,
         items: &[T],
@@ -82,8 +80,7 @@ impl<T: Element, A: Allocator + Clone> Buffer<T, A> {
         BufferMut::zeroed_aligned(alloc, len, alignment)?.freeze()
     }
 
-    /// `len` zeros with an alignment, over-aligned to the preferred one. Refused with
-    /// `OutOfMemory`.
+    /// `len` zeros, over-aligned to the preferred alignment. Refused with `OutOfMemory`.
     pub fn zeroed_preferred_aligned(
         alloc: A,
         len: usize,
@@ -142,8 +139,7 @@ impl<T: Element, A: Allocator + Clone> Buffer<T, A> {
         Ok(buffer)
     }
 
-    /// A growing buffer, to be shared; its storage is handed on. Refused with `OutOfMemory`; the
-    /// buffer is gone then.
+    /// A growing buffer, to be shared, as [`BufferMut::freeze`] does.
     pub fn from_mut(growing: BufferMut<T, A>) -> Result<Self>
         ensures { Makes (Shows growing.list growing.exponent 0 growing.declared_exponent) result }
     {

@@ -1,5 +1,4 @@
-//! What a growing buffer is turned into: an empty one, a copy, one of another alignment, a shared
-//! one.
+//! What a growing buffer is turned into.
 ghost use Rattle.std.specs.Prelude.{◌≡◌, ◌<◌, ◌≤◌, ◌⊎◌, ◌*◌, max, [], length};
 ghost use Rattle.std.specs.Prelude.{IfOk, OnOk, OnErr, IsOkAnd, IsOkUnless};
 ghost use Rattle.vb_bytes.specs.ByteForm.{byteform};
@@ -27,8 +26,7 @@ impl<T: Element, A: Allocator + Clone> BufferMut<T, A> {
         Ok(std::mem::replace(self, empty))
     }
 
-    /// A copy of the same alignment, as a block, over-aligned to 256 bytes. Refused with
-    /// `OutOfMemory`.
+    /// A copy of the same alignment, over-aligned to 256 bytes. Refused with `OutOfMemory`.
     pub fn clone(&self) -> Result<Self>
         ensures { Makes (HoldsMade self.now.list self.now.exponent) result }
     {

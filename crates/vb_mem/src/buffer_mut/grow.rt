@@ -73,7 +73,7 @@ impl<T: Element, A: Allocator> BufferMut<T, A> {
 
     /// Adds the items that an iterator gives. Within the capacity it takes no memory and succeeds.
     ///
-    /// Else it may be refused with `OutOfMemory`: the items that came until the capacity was reached
+    /// Else it may be refused with `OutOfMemory`: the items that came until the capacity was full
     /// stay then. The iterator's hint guides how much room is asked for, and decides no answer.
     pub fn extend<I: IntoIterator<Item = T>>(&mut self, iter: I) -> Result<()>
         requires { IsFiniteIterable I.into_iter_gives I.IntoIter.can_next
@@ -100,8 +100,7 @@ impl<T: Element, A: Allocator> BufferMut<T, A> {
         }
     }
 
-    // Adds what an iterator gives as long as there is room. Answers the item that found none, and
-    // the iterator.
+    // Adds what an iterator gives while there is room. Answers the item that found none.
     fn fill_room<I: Iterator<Item = T>>(&mut self, mut iter: I) -> (Option<T>, I)
         requires can { I.can_next iter }
         requires finite { IsFinite (I.remaining iter) }

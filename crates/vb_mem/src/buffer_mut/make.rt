@@ -15,16 +15,14 @@ use vb_core::{Alignment, Element, ExtendError, TrustedLen};
 const DEFAULT: Option<Alignment> = Some(Alignment::DEFAULT_ALIGNMENT);
 
 impl<T: Element, A: Allocator> BufferMut<T, A> {
-    /// An empty buffer with room for `capacity` items, over-aligned to 256 bytes. Refused with
-    /// `OutOfMemory`.
+    /// Room for `capacity` items, over-aligned to 256 bytes. Refused with `OutOfMemory`.
     pub fn with_capacity(alloc: A, capacity: usize) -> Result<Self>
         ensures { Makes (λ b. HoldsMade [] T.align_exponent b × (capacity ≤ b.room)) result }
     {
         BufferMut::with_capacity_aligned(alloc, capacity, Alignment::of::<T>())
     }
 
-    /// No items, room for `capacity`, and an alignment, over-aligned to 256 bytes. Refused with
-    /// `OutOfMemory`.
+    /// Room for `capacity` items, with an alignment. Refused as [`BufferMut::with_capacity`] is.
     pub fn with_capacity_aligned(alloc: A, capacity: usize, alignment: Alignment) -> Result<Self>
         requires { T.align_exponent ≤ alignment }
         ensures { Makes (λ b. HoldsMade [] alignment b × (capacity ≤ b.room)) result }
@@ -32,8 +30,7 @@ impl<T: Element, A: Allocator> BufferMut<T, A> {
         BufferMut::with_capacity_preferred_aligned(alloc, capacity, alignment, DEFAULT)
     }
 
-    /// No items, room for `capacity`, and an alignment, over-aligned to a preferred one. Refused
-    /// with `OutOfMemory`.
+    /// Room for `capacity` items, over-aligned to the preferred alignment. Refused likewise.
     pub fn with_capacity_preferred_aligned(
         alloc: A,
         capacity: usize,
@@ -64,8 +61,7 @@ impl<T: Element, A: Allocator> BufferMut<T, A> {
         BufferMut::zeroed_preferred_aligned(alloc, len, alignment, DEFAULT)
     }
 
-    /// `len` zeros with an alignment, over-aligned to the preferred one. Refused with
-    /// `OutOfMemory`.
+    /// `len` zeros, over-aligned to the preferred alignment. Refused with `OutOfMemory`.
     pub fn zeroed_preferred_aligned(
         alloc: A,
         len: usize,
@@ -128,8 +124,7 @@ impl<T: Element, A: Allocator> BufferMut<T, A> {
         BufferMut::copy_from_aligned(alloc, items, Alignment::of::<T>())
     }
 
-    /// A copy of a slice, as a block, with an alignment, over-aligned to 256 bytes. Refused with
-    /// `OutOfMemory`.
+    /// A copy of a slice with an alignment, over-aligned to 256 bytes. Refused with `OutOfMemory`.
     pub fn copy_from_aligned(alloc: A, items: &[T], alignment: Alignment) -> Result<Self>
         requires { T.align_exponent ≤ alignment }
         ensures { Makes (HoldsMade items.now alignment) result }
@@ -137,8 +132,7 @@ impl<T: Element, A: Allocator> BufferMut<T, A> {
         BufferMut::copy_from_preferred_aligned(alloc, items, alignment, DEFAULT)
     }
 
-    /// A copy of a slice, as a block, with an alignment, over-aligned to the preferred one. Refused
-    /// with `OutOfMemory`.
+    /// A copy of a slice, over-aligned to the preferred alignment. Refused with `OutOfMemory`.
     pub fn copy_from_preferred_aligned(
         alloc: A,
         items: &[T],
