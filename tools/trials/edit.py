@@ -5,7 +5,7 @@ from pathlib import Path
 
 from .source import Function, functions
 
-EXPECTED = ("goal", "no proof", "proved")
+EXPECTED = ("goal", "no proof", "proved", "no other answer")
 
 
 class BadEdit(Exception):
@@ -25,12 +25,14 @@ class Change:
 
 @dataclass
 class Edit:
-    """A wrong body of one function, or a harmless one. `expect` says what the check must answer."""
+    """A wrong body of one function, or a harmless one. `expect` says what the check must answer, and
+    `path` is the function's name in what a check says."""
 
     name: str
     changes: list[Change]
     expect: str = "goal"
     function: Function | None = field(default=None, compare=False)
+    path: str = field(default="", compare=False)
 
 
 def parsed(name: str, text: str) -> Edit:

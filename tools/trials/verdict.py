@@ -74,9 +74,9 @@ def verdict_on(function: Function, verdicts: dict[str, Verdict]) -> Verdict | No
 
 def fits(function: Function, part: str) -> bool:
     """Whether an impl of this name in a path is that of the function: `Plain`, `PlainGlance` or
-    `BufferErrorFromAllocError`."""
+    `PlaceFromOptionUsize`."""
     block = function.block
-    names = (block.owner + block.trait, block.owner + block.trait + block.argument)
+    names = (block.owner + block.trait, block.owner + block.trait + re.sub(r"\W", "", block.argument))
     return part.lower() in [it.lower() for it in names]
 
 
