@@ -39,6 +39,19 @@ def outcome_of(it):
     return outcome(it, verdict_on(it.function, judged(SAID)), SAID)
 
 
+class Clauses(unittest.TestCase):
+    def test_one_goal_stands_for_all_clauses_of_a_function_that_lends(self):
+        text = "fn lend()\n    ensures* back { a }\n    ensures value { b }\n{\n}\n"
+        function = functions("src/lib.rt", text)[0]
+        said = "fn demo::lend: no proof: `search` did not prove `returns`\n"
+        self.assertEqual(clauses_of(judged(said)["demo::lend"], function), ["back", "value"])
+
+    def test_a_method_may_have_its_clause_at_the_trait(self):
+        function = functions("src/lib.rt", "impl Glance for Plain {\n    fn size(&self) -> u8 {\n    }\n}\n")[0]
+        said = "fn demo::PlainGlance::size: no proof: `search` did not prove `returns`\n"
+        self.assertEqual(clauses_of(judged(said)["demo::PlainGlance::size"], function), ["ensures"])
+
+
 class Names(unittest.TestCase):
     def test_an_impl_is_found_by_all_words_of_its_argument(self):
         text = "impl From<Option<usize>> for Place {\n    fn from(it: Option<usize>) -> Place {\n    }\n}\n"

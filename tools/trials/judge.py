@@ -68,6 +68,8 @@ def judge(root: Path, work: dict[str, list[Edit]], lanes: int, size: int, tell: 
         ]
         if not groups:
             break
+        # The longest first, so that no lane is left alone with one.
+        groups.sort(key=lambda it: -len(it[1]))
         tell(f"round {turn}: {sum(len(it) for _, it in groups)} edits in {len(groups)} checks")
         with ThreadPoolExecutor(lanes) as pool:
             answers = list(pool.map(lambda it: tried(root, *it), groups))

@@ -81,14 +81,16 @@ def fits(function: Function, part: str) -> bool:
 
 
 def clauses_of(verdict: Verdict, function: Function) -> list[str]:
-    """The clauses of the function at which it was refused."""
+    """The clauses of the function at which it was refused. A function that lends by a starred clause
+    has one goal for all its clauses."""
     found = []
     for goal in verdict.goals:
         named = re.search(r"returns.*-clause-(\w+)$|ensures-(\w+)$", goal)
         if named:
             found.append(named[1] or named[2])
         elif re.match(r"returns|ensures", goal):
-            found.append(function.clauses[0] if len(function.clauses) == 1 else "ensures")
+            # The clauses of a method may stand at its trait.
+            found += function.clauses or ["ensures"]
         elif len(function.clauses) == 1 and (goal.startswith("loop-") or goal.endswith("_spec")):
             found.append(function.clauses[0])
     return list(dict.fromkeys(found))
