@@ -2,7 +2,7 @@
 import unittest
 
 from trials.batch import batches, callees
-from trials.coverage import public_clauses, unreached
+from trials.coverage import public_clauses, summary
 from trials.edit import parsed, placed
 from trials.judge import Outcome
 
@@ -29,7 +29,17 @@ class Batches(unittest.TestCase):
 
     def test_clauses_that_no_edit_reaches_are_listed(self):
         outcomes = [Outcome(edit("1"), True, "", ["small"])]
-        self.assertEqual(unreached(outcomes, TEXTS), ["low.value"])
+        text, count, left = summary(outcomes, TEXTS)
+        self.assertEqual(text, "2 public clauses; no edit is refused at 1: low.value")
+        self.assertEqual((count, left), (2, 1))
+
+    def test_clauses_with_no_other_answer_are_listed_apart(self):
+        it = edit("1")
+        it.expect = "no other answer"
+        text, _, left = summary([Outcome(it, True, "", [])], TEXTS)
+        self.assertEqual(text, "2 public clauses; no edit is refused at 0: -; 2 have no other answer: low.small low.value")
+        self.assertEqual(left, 0)
+        self.assertEqual(summary([Outcome(it, False, "", [])], TEXTS)[2], 2)
 
     def test_what_the_root_exports_is_public(self):
         texts = {

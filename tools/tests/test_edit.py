@@ -25,6 +25,11 @@ class Edits(unittest.TestCase):
         edit = parsed("e", "file: src/lib.rt\nold: fn two() -> u8 {\nnew: fn two() -> u8 { return 7;\n")
         self.assertEqual(placed(edit, TEXTS).title, "two")
 
+    def test_an_edit_of_many_changes_is_of_the_function_as_it_stands(self):
+        one = parsed("e", "file: src/lib.rt\nin: two\nold: 1 + 1\nnew: 1 + 1 + 1 + 1\nold: + 1 + 1 + 1\nnew: + 5\n")
+        other = parsed("e", "file: src/lib.rt\nin: two\nold: 1 + 1\nnew: 3\n")
+        self.assertEqual(placed(one, TEXTS), placed(other, TEXTS))
+
     def test_a_contract_is_not_edited(self):
         with self.assertRaisesRegex(BadEdit, "stands in no function's body"):
             placed(parsed("e", "file: src/lib.rt\nold: result ≡ 1\nnew: result ≡ 2\n"), TEXTS)

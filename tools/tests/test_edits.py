@@ -9,6 +9,7 @@ from pathlib import Path
 TOOLS = Path(__file__).resolve().parent.parent
 SOURCE = "pub fn one() -> u8\n    ensures { result ≡ 1 }\n{\n    1\n}\n\npub fn two() -> u8\n    ensures { result ≡ 1 }\n{\n    1\n}\n"
 RT = """#!/usr/bin/env bash
+echo "$@" >> "$ASKED"
 awk '/fn one/ { name = "one" } /fn two/ { name = "two" }
   /^    2$/ { bad = 1; print "fn demo::" name ": no proof: `search` did not prove `returns`" }
   /^    1$/ { print "fn demo::" name ": proved" }
@@ -17,6 +18,8 @@ awk '/fn one/ { name = "one" } /fn two/ { name = "two" }
 
 
 class Command(unittest.TestCase):
+    """Edits of a crate of two functions; what `rt` is asked is kept in `asked`."""
+
     def setUp(self):
         self.root = Path(tempfile.mkdtemp(prefix="edits-test-"))
         self.addCleanup(shutil.rmtree, self.root)
@@ -34,11 +37,15 @@ class Command(unittest.TestCase):
         (self.root / f"crates/demo/edits/{name}.edit").write_text(text)
 
     def run_it(self):
-        path = {**os.environ, "PATH": f"{self.root}/bin:{os.environ['PATH']}"}
+        path = {**os.environ, "PATH": f"{self.root}/bin:{os.environ['PATH']}", "ASKED": f"{self.root}/asked"}
         return subprocess.run([self.root / "tools/edits"], env=path, capture_output=True, text=True)
+
+    def asked(self) -> list[str]:
+        return (self.root / "asked").read_text().splitlines()
 
     def test_refused_edits_and_the_clauses_that_none_reaches(self):
         self.edit("one_is_two", "one", "2")
+        self.edit("harmless", "two", "1", "expect: proved\n")
         ran = self.run_it()
         self.assertIn("edits/one_is_two.edit: refused at ensures of one", ran.stdout)
         self.assertIn("2 public clauses; no edit is refused at 1: two.ensures", ran.stdout)
@@ -57,6 +64,25 @@ class Command(unittest.TestCase):
         self.edit("harmful", "two", "2", "expect: proved\n")
         ran = self.run_it()
         self.assertIn("harmful.edit: REFUSED, and is harmless", ran.stdout)
+        self.assertEqual(ran.returncode, 1)
+
+    def test_a_crate_without_a_harmless_edit_fails(self):
+        self.edit("one_is_two", "one", "2")
+        ran = self.run_it()
+        self.assertIn("demo: no harmless edit shows that what is right is proved", ran.stdout)
+        self.assertEqual(ran.returncode, 1)
+
+    def test_a_check_is_narrowed_to_the_edited_functions(self):
+        self.edit("one_is_two", "one", "2")
+        self.edit("harmless", "two", "1", "expect: proved\n")
+        self.run_it()
+        self.assertEqual(self.asked(), ["check --jobs 1", "check --jobs 1 --only demo::two --only demo::one"])
+
+    def test_an_edit_of_a_function_that_no_check_names_fails(self):
+        (self.root / "crates/demo/src/lib.rt").write_text(SOURCE + "fn three() {\n    3\n}\n")
+        (self.root / "crates/demo/edits/three.edit").write_text("file: src/lib.rt\nold: 3\nnew: 4\n")
+        ran = self.run_it()
+        self.assertIn("three.edit: BAD EDIT: a check says nothing of three", ran.stdout)
         self.assertEqual(ran.returncode, 1)
 
     def test_the_crate_itself_stays(self):

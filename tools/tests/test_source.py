@@ -46,6 +46,12 @@ impl From<AllocError> for BufferError {
     }
 }
 
+impl From<Option<usize>> for Place {
+    fn from(place: Option<usize>) -> Place {
+        Place {}
+    }
+}
+
 impl<A: Allocator> Set<A> {
     pub(crate) fn hidden(&self)
         ensures* lends { sem }
@@ -70,6 +76,7 @@ class Functions(unittest.TestCase):
                 "Unit::count",
                 "Unit for ArrayU864::count",
                 "From<AllocError> for BufferError::from",
+                "From<Option<usize>> for Place::from",
                 "Set::hidden",
             ],
         )

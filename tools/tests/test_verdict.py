@@ -3,6 +3,7 @@ import unittest
 
 from trials.edit import parsed, placed
 from trials.judge import outcome
+from trials.source import functions
 from trials.verdict import clauses_of, judged, verdict_on
 
 SAID = '''checked demo::one, 1 of 5
@@ -18,6 +19,7 @@ fn demo::three: proved
 note: src/deep.rt:9:5: it is not proved that a sum fits (`overflow_add-n`)
 fn demo::deep::Set::len: not proved
 fn demo::deep::SetIterator::len: proved
+fn demo::PlaceFromOptionUsize::from: proved
 fn demo::four: no proof: this form is not covered
 logic=not-proved
 '''
@@ -37,6 +39,26 @@ def outcome_of(it):
     return outcome(it, verdict_on(it.function, judged(SAID)), SAID)
 
 
+class Clauses(unittest.TestCase):
+    def test_one_goal_stands_for_all_clauses_of_a_function_that_lends(self):
+        text = "fn lend()\n    ensures* back { a }\n    ensures value { b }\n{\n}\n"
+        function = functions("src/lib.rt", text)[0]
+        said = "fn demo::lend: no proof: `search` did not prove `returns`\n"
+        self.assertEqual(clauses_of(judged(said)["demo::lend"], function), ["back", "value"])
+
+    def test_a_method_may_have_its_clause_at_the_trait(self):
+        function = functions("src/lib.rt", "impl Glance for Plain {\n    fn size(&self) -> u8 {\n    }\n}\n")[0]
+        said = "fn demo::PlainGlance::size: no proof: `search` did not prove `returns`\n"
+        self.assertEqual(clauses_of(judged(said)["demo::PlainGlance::size"], function), ["ensures"])
+
+
+class Names(unittest.TestCase):
+    def test_an_impl_is_found_by_all_words_of_its_argument(self):
+        text = "impl From<Option<usize>> for Place {\n    fn from(it: Option<usize>) -> Place {\n    }\n}\n"
+        function = functions("src/lib.rt", text)[0]
+        self.assertEqual(verdict_on(function, judged(SAID)).path, "demo::PlaceFromOptionUsize::from")
+
+
 class Verdicts(unittest.TestCase):
     def test_a_goal_of_the_function_itself_refuses_it(self):
         found = outcome_of(edit("src/lib.rt", "    1"))
@@ -54,6 +76,12 @@ class Verdicts(unittest.TestCase):
     def test_a_function_that_is_proved_is_not_refused(self):
         self.assertFalse(outcome_of(edit("src/lib.rt", "    3")).is_right)
         self.assertTrue(outcome_of(edit("src/lib.rt", "    3", "proved")).is_right)
+
+    def test_a_body_that_never_answers(self):
+        said = "fn demo::one: no proof: `search` did not prove `unreachable-requires`\n"
+        it = edit("src/lib.rt", "    1", "no other answer")
+        self.assertTrue(outcome(it, judged(said)["demo::one"], said).is_right)
+        self.assertFalse(outcome_of(it).is_right)
 
     def test_a_body_with_no_proof_has_no_goal(self):
         self.assertFalse(outcome_of(edit("src/lib.rt", "    4")).is_right)

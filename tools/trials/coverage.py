@@ -46,18 +46,31 @@ def public_clauses(texts: dict[str, str]) -> set[tuple[str, str]]:
     return found
 
 
-def reached(outcomes: list[Outcome], public: set[tuple[str, str]]) -> set[tuple[str, str]]:
-    """The public clauses at which one of the edits is refused."""
+def reached(outcomes: list[Outcome]) -> set[tuple[str, str]]:
+    """The clauses at which one of the edits is refused."""
     found = set()
     for it in outcomes:
         function = it.edit.function
         of_trait = f"{function.block.trait}::{function.name}" if function.block else ""
         for clause in it.clauses:
             found |= {(name, clause) for name in (function.title, of_trait)}
-    return found & public
+    return found
 
 
-def unreached(outcomes: list[Outcome], texts: dict[str, str]) -> list[str]:
-    """The public clauses at which no edit is refused, as `function.clause`."""
+def forced(outcomes: list[Outcome]) -> set[tuple[str, str]]:
+    """The clauses of functions of which an edit shows that no other answer can be written."""
+    functions = [it.edit.function for it in outcomes if it.edit.expect == "no other answer" and it.is_right]
+    return {(it.title, clause) for it in functions for clause in it.clauses}
+
+
+def summary(outcomes: list[Outcome], texts: dict[str, str]) -> tuple[str, int, int]:
+    """What to say of the public clauses of a crate, as `function.clause`, how many there are, and
+    at how many of them no edit is refused though another answer can be written."""
     public = public_clauses(texts)
-    return sorted(f"{name}.{clause}" for name, clause in public - reached(outcomes, public))
+    left = public - reached(outcomes)
+    alone = left & forced(outcomes)
+    listed = lambda some: " ".join(sorted(f"{name}.{clause}" for name, clause in some)) or "-"
+    text = f"{len(public)} public clauses; no edit is refused at {len(left - alone)}: {listed(left - alone)}"
+    if alone:
+        text += f"; {len(alone)} have no other answer: {listed(alone)}"
+    return text, len(public), len(left - alone)

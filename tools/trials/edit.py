@@ -5,7 +5,7 @@ from pathlib import Path
 
 from .source import Function, functions
 
-EXPECTED = ("goal", "no proof", "proved")
+EXPECTED = ("goal", "no proof", "proved", "no other answer")
 
 
 class BadEdit(Exception):
@@ -25,12 +25,14 @@ class Change:
 
 @dataclass
 class Edit:
-    """A wrong body of one function, or a harmless one. `expect` says what the check must answer."""
+    """A wrong body of one function, or a harmless one. `expect` says what the check must answer, and
+    `path` is the function's name in what a check says."""
 
     name: str
     changes: list[Change]
     expect: str = "goal"
     function: Function | None = field(default=None, compare=False)
+    path: str = field(default="", compare=False)
 
 
 def parsed(name: str, text: str) -> Edit:
@@ -92,17 +94,19 @@ def changed(old: str, new: str) -> tuple[int, int]:
 
 def placed(edit: Edit, texts: dict[str, str]) -> Function:
     """The one function whose body the edit changes."""
-    found, texts = set(), dict(texts)
+    found, made = set(), dict(texts)
     for it in edit.changes:
-        begin, end = (place(it, texts) + bound for bound in changed(it.old, it.new))
-        holders = [f for f in functions(it.file, texts[it.file]) if f.body < begin and end <= f.end]
+        begin, end = (place(it, made) + bound for bound in changed(it.old, it.new))
+        holders = [f for f in functions(it.file, made[it.file]) if f.body < begin and end <= f.end]
         if not holders:
             raise BadEdit(f"'{it.old.strip()[:60]}' stands in no function's body")
-        found.add(holders[0].title)
-        texts = applied([it], texts)
+        found.add((it.file, holders[0].title))
+        made = applied([it], made)
     if len(found) != 1:
         raise BadEdit(f"it changes {len(found)} functions, and not one")
-    return holders[0]
+    # As it stands before the changes, since it is compared with the functions of other edits.
+    [(file, title)] = found
+    return next(f for f in functions(file, texts[file]) if f.title == title)
 
 
 def read_all(crate: Path) -> tuple[list[Edit], list[tuple[str, str]]]:

@@ -10,6 +10,8 @@ from .trial import texts_of, tried
 from .verdict import Verdict, clauses_of
 
 ROUNDS = 3
+# The goal of a body that never answers.
+NEVER = "unreachable-requires"
 
 
 @dataclass
@@ -30,6 +32,8 @@ def outcome(edit: Edit, verdict: Verdict | None, said: str) -> Outcome | None:
         return Outcome(edit, verdict.is_proved, "proved" if verdict.is_proved else "REFUSED, and is harmless", [])
     if verdict.is_proved:
         return Outcome(edit, False, "NOT REFUSED", [])
+    if edit.expect == "no other answer":
+        return Outcome(edit, NEVER in verdict.goals, f"refused at {', '.join(verdict.goals)}", [])
     if verdict.goals:
         clauses = clauses_of(verdict, edit.function)
         text = f"refused at {', '.join(clauses or verdict.goals)}"
@@ -64,6 +68,8 @@ def judge(root: Path, work: dict[str, list[Edit]], lanes: int, size: int, tell: 
         ]
         if not groups:
             break
+        # The longest first, so that no lane is left alone with one.
+        groups.sort(key=lambda it: -len(it[1]))
         tell(f"round {turn}: {sum(len(it) for _, it in groups)} edits in {len(groups)} checks")
         with ThreadPoolExecutor(lanes) as pool:
             answers = list(pool.map(lambda it: tried(root, *it), groups))

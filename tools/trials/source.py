@@ -88,6 +88,18 @@ def last_word(path: str) -> str:
     return words[-1] if words else path.strip()
 
 
+def first_argument(header: str, trait: str) -> str:
+    """The first argument of a trait in the header of an `impl`, as `Option<usize>`."""
+    opening = re.search(rf"\b{trait}<\s*&?", header)
+    if not opening:
+        return ""
+    depth, at = 0, opening.end()
+    while at < len(header) and not (depth == 0 and header[at] in ",>"):
+        depth += (header[at] == "<") - (header[at] == ">")
+        at += 1
+    return header[opening.end() : at].strip()
+
+
 def blocks(text: str) -> list[Block]:
     """The `impl` and `trait` blocks of a masked text."""
     found = []
@@ -95,14 +107,14 @@ def blocks(text: str) -> list[Block]:
         opening = text.index("{", it.end())
         header = text[it.end() : opening]
         trait, _, owner = without_generics(header).rpartition(" for ")
-        argument = re.search(rf"\b{last_word(trait)}<\s*&?(\w+)", header) if trait else None
+        argument = first_argument(header, last_word(trait)) if trait else ""
         if it["kind"] == "trait":
             trait, owner = "", without_generics(header).split(":")[0]
         found.append(
             Block(
                 last_word(owner),
                 last_word(trait) if trait else "",
-                argument[1] if argument else "",
+                argument,
                 it["kind"] == "trait" and (it["public"] or "").strip() == "pub",
                 it.start(),
                 closing(text, opening),

@@ -37,10 +37,11 @@ def texts_of(crate: Path) -> dict[str, str]:
     return {str(it.relative_to(crate)): it.read_text() for it in sorted(crate.glob("src/**/*.rt"))}
 
 
-def check(crate: Path) -> str:
-    """What `rt check` says of a crate."""
+def check(crate: Path, paths: list[str] | None = None) -> str:
+    """What `rt check` says of a crate, or of these functions of it and those that they call."""
+    narrowed = [word for path in paths or [] for word in ("--only", path)]
     ran = subprocess.run(
-        ["rt", "check", "--jobs", "1"],
+        ["rt", "check", "--jobs", "1", *narrowed],
         cwd=crate,
         stdin=subprocess.DEVNULL,
         stdout=subprocess.PIPE,
@@ -49,6 +50,19 @@ def check(crate: Path) -> str:
         errors="replace",
     )
     return ran.stdout
+
+
+def named(edits: list[Edit], said: str) -> tuple[list[Edit], list[tuple[str, str]]]:
+    """The edits, each with its function's name in what a check says of the crate as it stands, and
+    those of which it says nothing."""
+    verdicts, good, bad = judged(said), [], []
+    for it in edits:
+        if found := verdict_on(it.function, verdicts):
+            it.path = found.path
+            good.append(it)
+        else:
+            bad.append((it.name, f"a check says nothing of {it.function.title}"))
+    return good, bad
 
 
 def tried(root: Path, crate: str, edits: list[Edit]) -> tuple[list[Verdict | None], str]:
@@ -61,6 +75,6 @@ def tried(root: Path, crate: str, edits: list[Edit]) -> tuple[list[Verdict | Non
             if text != texts[file]:
                 (folder / file).unlink()
                 (folder / file).write_text(text)
-        said = check(folder)
+        said = check(folder, [it.path for it in edits])
     verdicts = judged(said)
-    return [verdict_on(it.function, verdicts) for it in edits], said
+    return [verdicts.get(it.path) for it in edits], said

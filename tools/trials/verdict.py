@@ -74,21 +74,23 @@ def verdict_on(function: Function, verdicts: dict[str, Verdict]) -> Verdict | No
 
 def fits(function: Function, part: str) -> bool:
     """Whether an impl of this name in a path is that of the function: `Plain`, `PlainGlance` or
-    `BufferErrorFromAllocError`."""
+    `PlaceFromOptionUsize`."""
     block = function.block
-    names = (block.owner + block.trait, block.owner + block.trait + block.argument)
+    names = (block.owner + block.trait, block.owner + block.trait + re.sub(r"\W", "", block.argument))
     return part.lower() in [it.lower() for it in names]
 
 
 def clauses_of(verdict: Verdict, function: Function) -> list[str]:
-    """The clauses of the function at which it was refused."""
+    """The clauses of the function at which it was refused. A function that lends by a starred clause
+    has one goal for all its clauses."""
     found = []
     for goal in verdict.goals:
         named = re.search(r"returns.*-clause-(\w+)$|ensures-(\w+)$", goal)
         if named:
             found.append(named[1] or named[2])
         elif re.match(r"returns|ensures", goal):
-            found.append(function.clauses[0] if len(function.clauses) == 1 else "ensures")
+            # The clauses of a method may stand at its trait.
+            found += function.clauses or ["ensures"]
         elif len(function.clauses) == 1 and (goal.startswith("loop-") or goal.endswith("_spec")):
             found.append(function.clauses[0])
     return list(dict.fromkeys(found))
