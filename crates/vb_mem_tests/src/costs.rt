@@ -2,8 +2,7 @@
 //! where they copy or grow.
 use crate::compared::equal_lists;
 use crate::makers::{cloned, sliced, twin};
-use std::alloc::{Allocator, Global};
-use std::process::Abort;
+use std::alloc::Allocator;
 use std::test::Fail;
 use vb_core::{Alignment, BufferError};
 use vb_mem::{Buffer, BufferMut};
@@ -67,24 +66,14 @@ const GROWING: &[(Growing, usize, usize)] = &[
     (Growing::Within, 0, 0),
 ];
 
-/// Of what was asked for since the last count: the bytes lie within these bounds.
-fn asks(rt: &impl Abort, heap: &Refusing<Global>, least: usize, most: usize) {
-    let bytes = heap.asked_bytes();
-    assert!(rt;
-        least <= bytes && bytes <= most,
-        "{bytes} for {least} to {most}"
-    );
-    heap.refuse(0);
-}
-
 #[test]
 fn growing_buffers_ask_for_what_they_need(rt: HostRuntime) -> Result<(), Fail> {
     for (call, least, most) in GROWING {
         let heap = Refusing::new(rt.alloc(), 0);
         let buffer = BufferMut::full(&heap, 7, 1000)?;
-        asks(&rt, &heap, 4000, 4000);
+        assert!(rt; heap.asks_within(4000, 4000));
         let made = call.make(buffer)?;
-        asks(&rt, &heap, *least, *most);
+        assert!(rt; heap.asks_within(*least, *most));
         equal_lists(&rt, made.as_slice(), &SEVENS[..made.len().min(1001)]);
     }
     Ok(())
@@ -158,9 +147,9 @@ fn shared_buffers_ask_for_what_they_need(rt: HostRuntime) -> Result<(), Fail> {
     for (call, least, most) in SHARED {
         let heap = Refusing::new(rt.alloc(), 0);
         let buffer = Buffer::full(&heap, 7, 1000)?;
-        asks(&rt, &heap, 4000, 4256);
+        assert!(rt; heap.asks_within(4000, 4256));
         let made = call.make(buffer)?;
-        asks(&rt, &heap, *least, *most);
+        assert!(rt; heap.asks_within(*least, *most));
         equal_lists(&rt, made.as_slice(), &SEVENS[..made.len().min(1001)]);
     }
     Ok(())
@@ -174,11 +163,11 @@ fn room_is_what_was_asked_for(rt: HostRuntime) -> Result<(), Fail> {
     for capacity in [100, 1000, 100_000] {
         let most = 8 * capacity;
         drop(BufferMut::<u32, _>::with_capacity(&heap, capacity)?);
-        asks(&rt, &heap, 4 * capacity, most);
+        assert!(rt; heap.asks_within(4 * capacity, most));
         drop(BufferMut::<u32, _>::with_capacity_aligned(&heap, capacity, wide)?);
-        asks(&rt, &heap, 4 * capacity, most);
+        assert!(rt; heap.asks_within(4 * capacity, most));
         drop(BufferMut::<u32, _>::zeroed(&heap, capacity)?);
-        asks(&rt, &heap, 4 * capacity, most);
+        assert!(rt; heap.asks_within(4 * capacity, most));
     }
     Ok(())
 }

@@ -3,8 +3,7 @@
 use crate::compared::equal;
 use crate::made::ones;
 use crate::makers::{cloned, copied, sliced, twin};
-use std::alloc::{Allocator, Global};
-use std::process::Abort;
+use std::alloc::Allocator;
 use std::test::Fail;
 use vb_set::{BitBuffer, BitBufferMut, BufferError, ByteBuffer};
 use vb_testing::Refusing;
@@ -62,24 +61,14 @@ const OPEN: &[(Open, usize, usize)] = &[
     (Open::Not, 0, 0),
 ];
 
-/// Of what was asked for since the last count: the bytes lie within these bounds.
-fn asks(rt: &impl Abort, heap: &Refusing<Global>, least: usize, most: usize) {
-    let bytes = heap.asked_bytes();
-    assert!(rt;
-        least <= bytes && bytes <= most,
-        "{bytes} for {least} to {most}"
-    );
-    heap.refuse(0);
-}
-
 #[test]
 fn sets_to_edit_ask_for_what_they_need(rt: HostRuntime) -> Result<(), Fail> {
     for (call, least, most) in OPEN {
         let heap = Refusing::new(rt.alloc(), 0);
         let set = ones(&heap, 8000)?;
-        asks(&rt, &heap, 1000, 2000);
+        assert!(rt; heap.asks_within(1000, 2000));
         let made = call.make(set)?;
-        asks(&rt, &heap, *least, *most);
+        assert!(rt; heap.asks_within(*least, *most));
         equal(&rt, (made.len(), made.true_count()), (8000, 8000));
     }
     Ok(())
@@ -135,9 +124,9 @@ fn shared_sets_ask_for_what_they_need(rt: HostRuntime) -> Result<(), Fail> {
     for (call, least, most) in SHARED {
         let heap = Refusing::new(rt.alloc(), 0);
         let set = BitBuffer::new_set(&heap, 8000)?;
-        asks(&rt, &heap, 1000, 2256);
+        assert!(rt; heap.asks_within(1000, 2256));
         let made = call.make(set, &heap)?;
-        asks(&rt, &heap, *least, *most);
+        assert!(rt; heap.asks_within(*least, *most));
         equal(&rt, (made.false_count(), made.len() >= 6987), (0, true));
     }
     Ok(())
@@ -150,7 +139,7 @@ fn room_is_what_was_asked_for(rt: HostRuntime) -> Result<(), Fail> {
     let set = BitBufferMut::with_capacity(&heap, 8000)?;
     equal(&rt, (heap.asked(), set.len()), (1, 0));
     equal(&rt, set.capacity() >= 8000, true);
-    asks(&rt, &heap, 1000, 2000);
+    assert!(rt; heap.asks_within(1000, 2000));
     Ok(())
 }
 

@@ -61,6 +61,14 @@ impl<B: Allocator> Refusing<B> {
         self.requests.bytes.get()
     }
 
+    /// Whether so many bytes were asked for since `new` or the last `refuse`: at least, and at most.
+    /// Forgets the requests so far, and refuses none from now on.
+    pub fn asks_within(&self, least: usize, most: usize) -> bool {
+        let bytes = self.asked_bytes();
+        self.refuse(0);
+        least <= bytes && bytes <= most
+    }
+
     /// Whether the request that was to be refused came, since `new` or the last `refuse`.
     pub fn has_refused(&self) -> bool {
         let refused = self.requests.refused.get();
