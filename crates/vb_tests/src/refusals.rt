@@ -1,7 +1,7 @@
 //! Each request for memory refused in turn, and none.
 use crate::compared::{equal, equal_texts};
 use crate::plain::{EMPTY, add_reply};
-use std::alloc::{Allocator, Global};
+use std::alloc::{AllocError, Allocator, Global};
 use std::process::Abort;
 use std::test::Fail;
 use vb_script::{
@@ -93,6 +93,12 @@ bits 16
 freeze 16
 ";
 
+/// Adds the line of an answer.
+fn add_line<A: Allocator>(text: &mut String, answer: &Answer<A>) -> Result<(), Fail> {
+    writeln!(text, "{answer}")?;
+    Ok(())
+}
+
 /// What the plain machine answers where the command of one line is refused memory.
 fn plain_text(rt: &impl Abort, global: Global, without: Option<usize>) -> Result<String, Fail> {
     let mut plain = EMPTY;
@@ -135,6 +141,29 @@ fn ends_as_refused(
     }
 }
 
+/// A pool, of which a proof knows no more. So it doesn't look at each slot, and takes less time.
+trait Machine<A: Allocator> {
+    fn made() -> Self;
+
+    fn serve(&mut self, alloc: &A, command: &Command<A>) -> Answer<A>;
+
+    fn run(&mut self, alloc: A, commands: &[Command<A>]) -> Result<Vec<Answer<A>, A>, BufferError>;
+}
+
+impl<A: Allocator + Clone> Machine<A> for Pool<A> {
+    fn made() -> Pool<A> {
+        Pool::new()
+    }
+
+    fn serve(&mut self, alloc: &A, command: &Command<A>) -> Answer<A> {
+        Pool::serve(self, alloc, command)
+    }
+
+    fn run(&mut self, alloc: A, commands: &[Command<A>]) -> Result<Vec<Answer<A>, A>, BufferError> {
+        run(alloc, self, commands)
+    }
+}
+
 /// The commands of the session.
 fn commands<A: Allocator + Clone>(
     rt: &impl Abort,
@@ -160,40 +189,61 @@ fn answers_are_plain<A: Allocator>(
 ) -> Result<(), Fail> {
     let mut text = String::new(global);
     for answer in answers {
-        writeln!(text, "{answer}")?;
+        add_line(&mut text, answer)?;
     }
     let lines = plain_lines(rt, global, text.as_str())?;
     ends_as_refused(rt, Ok(()), lines, was_refused);
     Ok(())
 }
 
-/// Runs the commands on an empty pool. A run that is refused as a whole leaves it empty, and so the
-/// same run after it answers all.
-fn run_is_plain<A: Allocator + Clone>(
+/// Runs the commands on an empty machine. A run that is refused as a whole leaves it empty, and so
+/// the same run after it answers all.
+fn run_is_plain<A: Allocator + Clone, M: Machine<A> + Drop>(
     rt: &impl Abort,
     global: Global,
     heap: &Refusing<Global>,
     (first, second): (A, A),
     commands: &[Command<A>],
 ) -> Result<(), Fail> {
-    let mut pool = Pool::new();
-    match run(first, &mut pool, commands) {
+    let mut machine = M::made();
+    match machine.run(first, commands) {
         Ok(answers) => answers_are_plain(rt, global, &answers, heap.has_refused()),
         Err(error) => {
             let refused = (BufferError::OutOfMemory, true);
             equal(rt, (error, heap.has_refused()), refused);
-            answers_are_plain(rt, global, &run(second, &mut pool, commands)?, false)
+            answers_are_plain(rt, global, &machine.run(second, commands)?, false)
         }
     }
+}
+
+/// A run whose memory is lent by a heap that refuses a request. The commands have theirs of an
+/// ample one.
+fn lent<'a>(
+    rt: &impl Abort,
+    global: Global,
+    ample: &'a Refusing<Global>,
+    heap: &'a Refusing<Global>,
+) -> Result<(), Fail> {
+    let commands = commands(rt, global, &ample)?;
+    run_is_plain::<_, Pool<_>>(rt, global, heap, (heap, heap), &commands)
+}
+
+/// The same run, where a copy of the allocator is a request too.
+fn copied<'a>(
+    rt: &impl Abort,
+    global: Global,
+    ample: &'a Refusing<Global>,
+    heap: &'a Refusing<Global>,
+) -> Result<(), Fail> {
+    let commands = commands(rt, global, &Handle { inner: ample })?;
+    let allocs = (Handle { inner: heap }, Handle { inner: heap });
+    run_is_plain::<_, Pool<_>>(rt, global, heap, allocs, &commands)
 }
 
 #[test]
 fn run_is_plain_whatever_is_refused(rt: HostRuntime) -> Result<(), Fail> {
     let ample = Refusing::new(rt.alloc(), 0);
-    let requests = each_refused(rt.alloc(), |heap| {
-        let commands = commands(&rt, rt.alloc(), &&ample)?;
-        run_is_plain(&rt, rt.alloc(), heap, (heap, heap), &commands)
-    })?;
+    let requests = each_refused(rt.alloc(), |heap| lent(&rt, rt.alloc(), &ample, heap))?;
     // The room for the answers, and one request each of `import`, `full`, `appendn`, `freeze`,
     // `thaw`, `clone`, and of `bits` twice; and one of `bits` and of `freeze` for each of four
     // sets.
@@ -201,15 +251,10 @@ fn run_is_plain_whatever_is_refused(rt: HostRuntime) -> Result<(), Fail> {
     Ok(())
 }
 
-/// The same, where a copy of the allocator is a request too.
 #[test]
 fn run_is_plain_whatever_copy_is_refused(rt: HostRuntime) -> Result<(), Fail> {
     let ample = Refusing::new(rt.alloc(), 0);
-    let requests = each_refused(rt.alloc(), |heap| {
-        let commands = commands(&rt, rt.alloc(), &Handle { inner: &ample })?;
-        let allocs = (Handle { inner: heap }, Handle { inner: heap });
-        run_is_plain(&rt, rt.alloc(), heap, allocs, &commands)
-    })?;
+    let requests = each_refused(rt.alloc(), |heap| copied(&rt, rt.alloc(), &ample, heap))?;
     assert!(rt;
         requests > Some(20),
         "so many copies of the allocator are made"
@@ -217,35 +262,49 @@ fn run_is_plain_whatever_copy_is_refused(rt: HostRuntime) -> Result<(), Fail> {
     Ok(())
 }
 
+/// Each command alone is answered as by the plain machine, and so are all in one run.
+fn served<A: Allocator + Clone, M: Machine<A> + Drop>(
+    rt: &impl Abort,
+    global: Global,
+    alloc: A,
+    commands: &[Command<A>],
+) -> Result<(), Fail> {
+    let mut machine = M::made();
+    let mut text = String::new(global);
+    for command in commands {
+        add_line(&mut text, &machine.serve(&alloc, command))?;
+    }
+    equal_texts(rt, text.as_str(), plain_text(rt, global, None)?.as_str());
+    Ok(())
+}
+
 /// A body that always gives up for want of memory would be proved: where there is memory, it may
-/// not. Each command alone is answered as by the plain machine, and so are all in one run and the
-/// session.
+/// not.
 #[test]
 fn commands_give_up(rt: HostRuntime) -> Result<(), Fail> {
     let alloc = rt.alloc();
     let commands = commands(&rt, alloc, &alloc)?;
-    let mut pool = Pool::new();
-    let mut text = String::new(alloc);
-    for command in &commands {
-        writeln!(text, "{}", pool.serve(&alloc, command))?;
-    }
-    equal_texts(&rt, text.as_str(), plain_text(&rt, alloc, None)?.as_str());
+    served::<_, Pool<_>>(&rt, alloc, alloc, &commands)?;
     let heap = Refusing::new(alloc, 0);
-    run_is_plain(&rt, alloc, &heap, (alloc, alloc), &commands)?;
+    run_is_plain::<_, Pool<_>>(&rt, alloc, &heap, (alloc, alloc), &commands)?;
     drive_is_plain(&rt, alloc, &heap, alloc)
 }
 
-/// A session over the lines of all commands writes what the plain machine answers.
+/// How the session ends, and what it writes.
+fn driven<A: Allocator + Clone>(global: Global, alloc: A) -> (Result<(), DriveError>, Vec<u8>) {
+    let mut source = FromRead::new(SESSION.as_bytes());
+    let mut sink = ToWrite::new(Vec::new(global));
+    let ended = drive(alloc, &mut source, &mut sink);
+    (ended, sink.into_inner())
+}
+
 fn drive_is_plain<A: Allocator + Clone>(
     rt: &impl Abort,
     global: Global,
     heap: &Refusing<Global>,
     alloc: A,
 ) -> Result<(), Fail> {
-    let mut source = FromRead::new(SESSION.as_bytes());
-    let mut sink = ToWrite::new(Vec::new(global));
-    let ended = drive(alloc, &mut source, &mut sink);
-    let written = sink.into_inner();
+    let (ended, written) = driven(global, alloc);
     let lines = plain_lines(rt, global, std::str::from_utf8(&written)?)?;
     ends_as_refused(rt, ended, lines, heap.has_refused());
     Ok(())
@@ -258,7 +317,7 @@ fn drive_is_plain_whatever_is_refused(rt: HostRuntime) -> Result<(), Fail> {
     })?;
     assert!(rt;
         requests > Some(8),
-        "each import asks for its bytes, and for the owner of them"
+        "each import asks for its bytes, and for an owner of them"
     );
     Ok(())
 }
