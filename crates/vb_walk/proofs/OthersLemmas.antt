@@ -46,8 +46,8 @@ four_zeros a b d e none =
     (omega arith, omega arith, omega arith, omega arith)
 
 -- a word with another digit, behind words that have none
-pub IsOther-word : (b : List ℕ) (v : Bool) (w at a end : ℕ) → at ≤ a → a + 8 ≤ end → (end - (a + 8)) % 8 ≡ 0 → AreAll b v (8 * at) (8 * a) → to_le_bytes w64 w ≡ slice_range b a (a + 8) → others v w ≢ 0 → IsOther b at end v (record { behind = a + 8; word = w })
-IsOther-word b v w at a end from within whole passed read other =
+pub IsOther-word : (b : List ℕ) (v : Bool) (w at a end : ℕ) → at ≤ a → a + 8 ≤ end → (end - (a + 8)) % 8 ≡ 0 → AreAll b v (8 * at) (8 * a) → to_le_bytes w64 w ≡ slice_range b a (a + 8) → w < 2 ^ 64 → others v w ≢ 0 → IsOther b at end v (record { behind = a + 8; word = w })
+IsOther-word b v w at a end from within whole passed read fits other =
     let here : a + 8 - 8 ≡ a = omega arith in
     record {
       from = omega arith;
@@ -55,5 +55,6 @@ IsOther-word b v w at a end from within whole passed read other =
       whole = whole;
       passed = λ i lo hi. passed i lo (omega arith);
       read = λ i l. has_bit_read b w a i read l ∙ ap (λ k. bit_of b (8 * k + i)) (sym here);
+      fits = fits;
       other = other;
     }

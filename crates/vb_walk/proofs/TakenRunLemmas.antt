@@ -31,6 +31,7 @@ IsCursor-fewer b c w v fewer = record {
   near = v.near;
   clear = omega (arith, v.clear);
   order = v.order;
+  inside = v.inside;
   whole = v.whole;
   short = v.short;
   here = v.here;

@@ -1,5 +1,5 @@
 -- Walks over a window by words.
-use Rattle.std.proofs.Common.{◌≡◌, inl, inr, ℕ, ◌+◌, ◌-◌, ◌^◌, ◌<◌, ◌≤◌, false, cond, eqb, List, [], ◌∷◌, sym, ap, ◌∙◌, arith}
+use Rattle.std.proofs.Common.{◌≡◌, inl, inr, ℕ, ◌+◌, ◌-◌, ◌*◌, ◌^◌, ◌<◌, ◌≤◌, Bool, false, cond, eqb, List, [], ◌∷◌, refl, sym, ap, ◌∙◌, subst, arith}
 use Rattle.std.proofs.lemmas.Bool.{lt-ltb, le-ltb, cases_lt}
 use Rattle.std.specs.Int.{bit_at, trailing_zeros, w64}
 use Rattle.std.specs.Int.Bits.{bit_and}
@@ -9,7 +9,8 @@ use Rattle.vb_bits.specs.Bits.{bit_of, bits, places}
 use Rattle.vb_bits.specs.Digits.{has_bit}
 use Rattle.vb_bits.proofs.WindowLemmas.{digits-clear}
 use Rattle.vb_walk.specs.declared.cursor.Cursor.{Cursor}
-use Rattle.vb_walk.specs.Walks.{ahead, stop, pending, places_in, places_left, IsCursor, IsSkipped}
+use Rattle.vb_walk.specs.declared.other.OtherWord.{OtherWord}
+use Rattle.vb_walk.specs.Walks.{ahead, stop, at_word, pending, places_in, places_left, AreAll, IsOther, IsAtRest, IsCursor, IsRefilled, IsSkipped}
 use Rattle.vb_walk.proofs.OnesLemmas.{lowest_off}
 use Rattle.vb_walk.proofs.PlacesLemmas.{places_in_skip, places_in_empty, places_in_first, places-bits, same_places_in}
 
@@ -23,6 +24,66 @@ pending_ahead b c i l = ap (λ x. cond x (has_bit c.word (i - c.base)) (bit_of b
 -- nothing is to come of a word that is 0
 pub pending_zero : (b : List ℕ) (c : Cursor) (i : ℕ) → c.word ≡ 0 → i < c.next → pending b c i ≡ false
 pending_zero b c i z l = pending_below b c i l ∙ ap (λ w. has_bit w (i - c.base)) z ∙ digits-clear (i - c.base)
+
+-- ---- another word in hand
+-- a word of those that are ahead
+pub refilled_by_word : (b : List ℕ) (c : Cursor) (v : Bool) (o : OtherWord) (d : Cursor) → IsCursor b c → IsOther b c.byte c.end v o → d ≡ at_word c o → IsRefilled b c v d
+refilled_by_word b c v o d valid other e =
+    let here = valid.here (omega (arith, other.from, other.within)) in
+    let size : 8 * o.behind - c.offset - (8 * o.behind - c.offset - 64) ≡ 64 = omega (arith, other.from) in
+    rw e (record {
+      valid = record {
+        room = omega (arith, valid.room, other.from, other.within);
+        fits = omega (arith, valid.fits, other.from, other.within);
+        walked = omega arith;
+        near = omega arith;
+        clear = subst (λ k. o.word < 2 ^ k) (sym size) other.fits;
+        order = other.within;
+        inside = valid.inside;
+        whole = other.whole;
+        short = valid.short;
+        here = λ some. omega (arith, other.from);
+      };
+      offset = refl;
+      ends = omega (arith, other.from, other.within);
+      later = omega (arith, other.from);
+      passed = λ i lo hi. other.passed (c.offset + i) (omega arith) (omega (arith, other.from));
+      read = λ i lo hi.
+          let place : 8 * (o.behind - 8) + (i - (8 * o.behind - c.offset - 64)) ≡ c.offset + i = omega (arith, other.from) in
+          other.read (i - (8 * o.behind - c.offset - 64)) (omega (arith, other.from)) ∙ ap (bit_of b) place;
+      other = inl (other.other, omega (arith, other.from));
+    })
+
+-- what is behind the whole words, which have no digit but v
+pub refilled_by_rest : (b : List ℕ) (c : Cursor) (v : Bool) (d : Cursor) → IsCursor b c → 0 < ahead c → AreAll b v (8 * c.byte) (8 * c.end) → IsAtRest b c d → IsRefilled b c v d
+refilled_by_rest b c v d valid more all rest =
+    let here = valid.here more in
+    record {
+      valid = rest.valid;
+      offset = rest.offset;
+      ends = rest.ends;
+      later = omega (arith, rest.base, rest.offset, valid.order);
+      passed = λ i lo hi. all (c.offset + i) (omega arith) (omega (arith, rest.base, rest.offset));
+      read = rest.read;
+      other = inr (rest.last, rest.short);
+    }
+
+-- where the word in hand is 0, nothing else is passed over
+pub skipped : (b : List ℕ) (c d : Cursor) → IsCursor b c → c.word ≡ 0 → IsRefilled b c false d → IsSkipped b c d
+skipped b c d v z r = record {
+  valid = r.valid;
+  ends = r.ends;
+  later = omega (arith, v.walked, r.later);
+  passed = λ i lo hi. elim (cases_lt i c.next) [
+    | inl below ↦ pending_zero b c i z below
+    | inr above ↦ pending_ahead b c i above ∙ r.passed i above hi
+  ];
+  same = λ i lo hi. elim (cases_lt i d.next) [
+    | inl below ↦ pending_below b d i below ∙ r.read i lo below ∙ sym (pending_ahead b c i (omega (arith, r.later)))
+    | inr above ↦ pending_ahead b d i above ∙ ap (λ o. bit_of b (o + i)) r.offset ∙ sym (pending_ahead b c i (omega (arith, r.later)))
+  ];
+  last = λ none. elim r.other [ inl o ↦ absurd (o.0 none) | inr o ↦ o.0 ];
+}
 
 -- ---- places
 -- the places of the front of a window

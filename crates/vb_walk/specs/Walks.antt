@@ -25,6 +25,7 @@ pub record IsOther (bytes : List ℕ) (at end : ℕ) (v : Bool) (o : OtherWord) 
   pub whole : (end - o.behind) % 8 ≡ 0
   pub passed : AreAll bytes v (8 * at) (8 * (o.behind - 8))
   pub read : (i : ℕ) → i < 64 → has_bit o.word i ≡ bit_of bytes (8 * (o.behind - 8) + i)
+  pub fits : o.word < 2 ^ 64
   pub other : others v o.word ≢ 0
 
 -- it, or None where there is none
@@ -49,6 +50,7 @@ pub record IsCursor (bytes : List ℕ) (c : Cursor) : Type 0 where
   pub near : c.next ≤ c.base + 64
   pub clear : c.word < 2 ^ (c.next - c.base)
   pub order : c.byte ≤ c.end
+  pub inside : c.end ≤ length bytes
   pub whole : (c.end - c.byte) % 8 ≡ 0
   pub short : c.left < 64
   pub here : 0 < ahead c → 8 * c.byte ≡ c.offset + c.next
@@ -56,6 +58,20 @@ pub record IsCursor (bytes : List ℕ) (c : Cursor) : Type 0 where
 -- what is still to come at place i: below `next` a digit of the word in hand, and then the bit
 abbrev pub pending : List ℕ → Cursor → ℕ → Bool
 pending bytes c i = cond (nat_lt i c.next) (has_bit c.word (i - c.base)) (bit_of bytes (c.offset + i))
+
+-- c with a word in hand of those that are ahead
+abbrev pub at_word : Cursor → OtherWord → Cursor
+at_word c o = record c { base = 8 * o.behind - c.offset - 64; next = 8 * o.behind - c.offset; byte = o.behind; word = o.word }
+
+-- d is c with what is behind the whole words in hand
+pub record IsAtRest (bytes : List ℕ) (c d : Cursor) : Type 0 where
+  pub valid : IsCursor bytes d
+  pub offset : d.offset ≡ c.offset
+  pub ends : stop d ≡ stop c
+  pub base : d.offset + d.base ≡ 8 * c.end
+  pub read : (i : ℕ) → d.base ≤ i → i < d.next → has_bit d.word (i - d.base) ≡ bit_of bytes (c.offset + i)
+  pub last : ahead d ≡ 0
+  pub short : d.next < d.base + 64
 
 -- d is c with another word in hand: the next one with a digit that isn't v, or else what is behind the whole words
 pub record IsRefilled (bytes : List ℕ) (c : Cursor) (v : Bool) (d : Cursor) : Type 0 where

@@ -1,9 +1,19 @@
 //! Where a walk over a window by words stands.
 ghost use Rattle.std.specs.Prelude.{◌≡◌, ℕ, ◌+◌, ◌-◌, ◌*◌, ◌%◌, ◌^◌, ◌<◌, ◌≤◌, ◌↔◌, length, IsTrue, false};
-ghost use Rattle.vb_bits.specs.Bits.{bit_of};
-ghost use Rattle.vb_walk.specs.Walks.{ahead, stop, pending, IsCursor, IsRefilled, IsSkipped};
+ghost use Rattle.vb_bits.specs.Bits.{bit_of, bits};
+ghost use Rattle.vb_bits.specs.Digits.{digits};
+ghost use Rattle.vb_walk.specs.Walks.{
+  ahead,
+  stop,
+  at_word,
+  pending,
+  IsAtRest,
+  IsCursor,
+  IsRefilled,
+  IsSkipped,
+};
 
-use crate::other::first_other;
+use crate::other::{OtherWord, first_other};
 use vb_bits::read_bits;
 
 /// A word of the window of bits from bit `offset` on, and what is behind it.
@@ -47,7 +57,7 @@ impl Cursor {
             byte,
             end: byte + (len - count) / 64 * 8,
             left: (len - count) % 64,
-            word: read_bits(bytes, offset, count),
+            word: read_rest(bytes, offset, count),
         }
     }
 
@@ -60,6 +70,41 @@ impl Cursor {
         self.byte < self.end || self.left > 0
     }
 
+    /// A word of the whole words ahead in hand.
+    #[inline(always)]
+    fn at_word(self, other: OtherWord) -> Cursor
+        requires ahead { self.offset + 64 ≤ 8 * other.behind }
+        requires fits { 8 * other.behind < 2 ^ 64 }
+        ensures { result ≡ at_word self other }
+    {
+        let next = 8 * other.behind - self.offset;
+        Cursor {
+            base: next - 64,
+            next,
+            byte: other.behind,
+            word: other.word,
+            ..self
+        }
+    }
+
+    /// The bits behind the whole words in hand.
+    #[inline(always)]
+    fn at_rest(self, bytes: &[u8]) -> Cursor
+        requires valid { IsCursor bytes.now self }
+        requires more { 0 < ahead self }
+        ensures { IsAtRest bytes.now self result }
+    {
+        let base = 8 * self.end - self.offset;
+        Cursor {
+            base,
+            next: base + self.left,
+            byte: self.end,
+            left: 0,
+            word: read_rest(bytes, 8 * self.end, self.left),
+            ..self
+        }
+    }
+
     /// The next word with a digit that isn't `value`, or else what is behind the whole words.
     #[inline(always)]
     pub(crate) fn refill(self, bytes: &[u8], value: bool) -> Cursor
@@ -68,27 +113,8 @@ impl Cursor {
         ensures { IsRefilled bytes.now self value result }
     {
         match first_other(bytes, self.byte, self.end, value) {
-            Some(other) => {
-                let next = 8 * other.behind - self.offset;
-                Cursor {
-                    base: next - 64,
-                    next,
-                    byte: other.behind,
-                    word: other.word,
-                    ..self
-                }
-            },
-            None => {
-                let base = 8 * self.end - self.offset;
-                Cursor {
-                    base,
-                    next: base + self.left,
-                    byte: self.end,
-                    left: 0,
-                    word: read_bits(bytes, 8 * self.end, self.left),
-                    ..self
-                }
-            },
+            Some(other) => self.at_word(other),
+            None => self.at_rest(bytes),
         }
     }
 
@@ -98,9 +124,24 @@ impl Cursor {
         requires { IsCursor bytes.now self }
         ensures { IsSkipped bytes.now self result }
     {
-        if self.word != 0 || !self.has_more() {
+        if self.word != 0 {
             return self;
         }
-        self.refill(bytes, false)
+        match first_other(bytes, self.byte, self.end, false) {
+            Some(other) => self.at_word(other),
+            None if self.has_more() => self.at_rest(bytes),
+            None => self,
+        }
     }
+}
+
+/// [`read_bits`], called, so that a walk keeps no registers for it.
+#[inline(never)]
+fn read_rest(bytes: &[u8], at: usize, count: usize) -> u64
+    requires in_word { count ≤ 64 }
+    requires inside { at + count ≤ 8 * length bytes.now }
+    ensures digits { digits result 0 count ≡ bits bytes.now at count }
+    ensures clear { result < 2 ^ count }
+{
+    read_bits(bytes, at, count)
 }

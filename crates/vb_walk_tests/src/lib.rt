@@ -5,3 +5,5 @@
 mod sample;
 #[cfg(test)]
 mod views;
+#[cfg(test)]
+mod walks;

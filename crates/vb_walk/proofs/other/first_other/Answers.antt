@@ -5,7 +5,7 @@ use Rattle.vb_walk.proofs.other.first_other.Goals as goal
 pub returns-then-others-ne0 : goal.returns-then-others-ne0
 returns-then-others-ne0 c =
     IsOther-word c.args.bytes.now c.args.value c.word_at-word.result c.args.at c.args.at c.args.end (omega arith) (omega (arith, c.requires.whole)) (omega (arith, c.requires.whole))
-    (AreAll_none _ _ _ _ (omega arith)) c.word_at-word.ensures (λ z. c.if-others-ne0.true (c.others.ensures ∙ z))
+    (AreAll_none _ _ _ _ (omega arith)) c.word_at-word.ensures c.word_at-word.type_inv (λ z. c.if-others-ne0.true (c.others.ensures ∙ z))
 
 pub loop-to-init : goal.loop-to-init
 loop-to-init c = record {
@@ -21,7 +21,7 @@ pub returns-then-others-ne0-2 : goal.returns-then-others-ne0-2
 returns-then-others-ne0-2 c =
     let inv = c.loop-to.invariant in
     IsOther-word c.args.bytes.now c.args.value c.word_at-word-in-loop-to.result c.args.at c.loop-to.to c.args.end (omega arith) (omega (arith, inv.whole)) (omega (arith, inv.whole))
-    inv.passed c.word_at-word-in-loop-to.ensures (λ z. c.if-others-ne0-2.true (c.others-in-loop-to.ensures ∙ z))
+    inv.passed c.word_at-word-in-loop-to.ensures c.word_at-word-in-loop-to.type_inv (λ z. c.if-others-ne0-2.true (c.others-in-loop-to.ensures ∙ z))
 
 pub loop-to-preserved : goal.loop-to-preserved
 loop-to-preserved c =
