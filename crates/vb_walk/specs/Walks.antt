@@ -1,4 +1,5 @@
--- Walks over a window by words: a word in hand, whole words behind it, and fewer than 64 bits behind these.
+-- Walks over a window by words: a word in hand, whole words behind it, and fewer than 64 bits
+-- behind these.
 use Rattle.std.specs.Prelude.{◌≡◌, ◌≢◌, ◌⊎◌, ℕ, ◌+◌, ◌-◌, ◌*◌, ◌%◌, ◌^◌, ◌<◌, ◌≤◌, Bool, true, false, cond, nat_lt, List, length, filter, map, Option, Some, None}
 use Rattle.std.specs.Int.{bit_not, w64}
 use Rattle.std.specs.List.{range_with_len}
@@ -42,7 +43,8 @@ ahead c = 8 * (c.end - c.byte) + c.left
 abbrev pub stop : Cursor → ℕ
 stop c = c.next + ahead c
 
--- the numbers of a walk fit together: the word in hand has the places from `base` below `next`, and what is ahead begins at byte `byte`
+-- the numbers of a walk fit together: the word in hand has the places from `base` below `next`, and
+-- what is ahead begins at byte `byte`
 pub record IsCursor (bytes : List ℕ) (c : Cursor) : Type 0 where
   pub room : c.offset + stop c ≤ 8 * length bytes
   pub fits : c.offset + stop c < 2 ^ 64
@@ -57,11 +59,17 @@ pub record IsCursor (bytes : List ℕ) (c : Cursor) : Type 0 where
 
 -- what is still to come at place i: below `next` a digit of the word in hand, and then the bit
 abbrev pub pending : List ℕ → Cursor → ℕ → Bool
-pending bytes c i = cond (nat_lt i c.next) (has_bit c.word (i - c.base)) (bit_of bytes (c.offset + i))
+pending bytes c i =
+    cond (nat_lt i c.next) (has_bit c.word (i - c.base)) (bit_of bytes (c.offset + i))
 
 -- c with a word in hand of those that are ahead
 abbrev pub at_word : Cursor → OtherWord → Cursor
-at_word c o = record c { base = 8 * o.behind - c.offset - 64; next = 8 * o.behind - c.offset; byte = o.behind; word = o.word }
+at_word c o = record c {
+  base = 8 * o.behind - c.offset - 64;
+  next = 8 * o.behind - c.offset;
+  byte = o.behind;
+  word = o.word;
+}
 
 -- d is c with what is behind the whole words in hand
 pub record IsAtRest (bytes : List ℕ) (c d : Cursor) : Type 0 where
@@ -69,21 +77,26 @@ pub record IsAtRest (bytes : List ℕ) (c d : Cursor) : Type 0 where
   pub offset : d.offset ≡ c.offset
   pub ends : stop d ≡ stop c
   pub base : d.offset + d.base ≡ 8 * c.end
-  pub read : (i : ℕ) → d.base ≤ i → i < d.next → has_bit d.word (i - d.base) ≡ bit_of bytes (c.offset + i)
+  pub read : (i : ℕ) → d.base ≤ i → i < d.next
+      → has_bit d.word (i - d.base) ≡ bit_of bytes (c.offset + i)
   pub last : ahead d ≡ 0
   pub short : d.next < d.base + 64
 
--- d is c with another word in hand: the next one with a digit that isn't v, or else what is behind the whole words
+-- d is c with another word in hand: the next one with a digit that isn't v, or else what is behind
+-- the whole words
 pub record IsRefilled (bytes : List ℕ) (c : Cursor) (v : Bool) (d : Cursor) : Type 0 where
   pub valid : IsCursor bytes d
   pub offset : d.offset ≡ c.offset
   pub ends : stop d ≡ stop c
   pub later : c.next ≤ d.base
   pub passed : (i : ℕ) → c.next ≤ i → i < d.base → bit_of bytes (c.offset + i) ≡ v
-  pub read : (i : ℕ) → d.base ≤ i → i < d.next → has_bit d.word (i - d.base) ≡ bit_of bytes (c.offset + i)
-  pub other : ((others v d.word ≢ 0) × (d.next ≡ d.base + 64)) ⊎ ((ahead d ≡ 0) × (d.next < d.base + 64))
+  pub read : (i : ℕ) → d.base ≤ i → i < d.next
+      → has_bit d.word (i - d.base) ≡ bit_of bytes (c.offset + i)
+  pub other : ((others v d.word ≢ 0) × (d.next ≡ d.base + 64))
+      ⊎ ((ahead d ≡ 0) × (d.next < d.base + 64))
 
--- d is c with a word in hand that isn't 0, if one is to come: the same is to come, and nothing before
+-- d is c with a word in hand that isn't 0, if one is to come: the same is to come, and nothing
+-- before
 pub record IsSkipped (bytes : List ℕ) (c d : Cursor) : Type 0 where
   pub valid : IsCursor bytes d
   pub ends : stop d ≡ stop c

@@ -46,7 +46,8 @@ impl Cursor {
         ensures valid { IsCursor bytes.now result }
         ensures base { result.base ≡ 0 }
         ensures stop { stop result ≡ len }
-        ensures bits { (i : ℕ) → i < len → pending bytes.now result i ≡ bit_of bytes.now (offset + i) }
+        ensures bits { (i : ℕ) → i < len
+            → pending bytes.now result i ≡ bit_of bytes.now (offset + i) }
     {
         let count = len.min(64 - offset % 8);
         let byte = (offset + count) / 8;

@@ -15,7 +15,8 @@ pub(crate) struct OtherWord {
 /// Of the whole words from byte `at` up to byte `end`, the first one with a digit that isn't
 /// `value`.
 ///
-/// The first word is looked at alone, since it mostly is the one; then four at once are passed over.
+/// The first word is looked at alone, since it mostly is the one; then four at once are passed
+/// over.
 #[inline(always)]
 pub(crate) fn first_other(bytes: &[u8], at: usize, end: usize, value: bool) -> Option<OtherWord>
     requires order { at ≤ end }

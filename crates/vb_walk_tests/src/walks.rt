@@ -50,7 +50,11 @@ fn places_are_plain(rt: &impl Abort, bytes: &[u8], offset: usize, len: usize) {
         }
     }
     assert_eq!(rt; (place, places.next()), (None, None));
-    assert_eq!(rt; last_set_index(bytes, offset, len), last, "at {offset}, {len}");
+    assert_eq!(rt;
+        last_set_index(bytes, offset, len),
+        last,
+        "at {offset}, {len}"
+    );
 }
 
 fn runs_are_plain(rt: &impl Abort, bytes: &[u8], offset: usize, len: usize) {
@@ -114,9 +118,16 @@ fn bits_from_both_ends(rt: HostRuntime) -> Result<(), AllocError> {
             } else {
                 (bits.next_back(), len - 1 - i / 2)
             };
-            assert_eq!(rt; given, Some(get_bit(&bytes, offset + place)), "at {offset}, {len}");
+            assert_eq!(rt;
+                given,
+                Some(get_bit(&bytes, offset + place)),
+                "at {offset}, {len}"
+            );
         }
-        assert_eq!(rt; (bits.next(), bits.next_back(), bits.len()), (None, None, 0));
+        assert_eq!(rt;
+            (bits.next(), bits.next_back(), bits.len()),
+            (None, None, 0)
+        );
     }
     Ok(())
 }
@@ -130,8 +141,8 @@ fn worked_rows(rt: HostRuntime) -> Result<(), AllocError> {
     assert_eq!(rt; runs.next(), Some((1, 3)));
     assert_eq!(rt; runs.clone()?.next(), Some((4, 7)));
     assert_eq!(rt; (runs.next(), runs.next()), (Some((4, 7)), None));
-    let full = BitSliceIterator::new(&[0xFF; 17], 0, 130).collect::<Vec<(usize, usize)>>(rt.alloc())?;
-    assert_eq!(rt; full.as_slice(), [(0, 130)].as_slice());
+    let mut full = BitSliceIterator::new(&[0xFF; 17], 0, 130);
+    assert_eq!(rt; (full.next(), full.next()), (Some((0, 130)), None));
     assert_eq!(rt; BitSliceIterator::new(&[], 0, 0).next(), None);
     Ok(())
 }
