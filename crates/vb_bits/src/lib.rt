@@ -21,6 +21,6 @@ pub use bytes::{chunk_at, word_at};
 pub use fill::fill_bits;
 pub use last::last_set_index;
 pub use map::map_words;
-pub use read::{read_bits, read_u64_le};
+pub use read::{full_word, read_bits, read_u64_le};
 pub use window::window_fits;
 pub use zip::{BitOp, copy_bits, zip_words};

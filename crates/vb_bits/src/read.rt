@@ -62,8 +62,22 @@ fn word_from(bytes: &[u8], first: usize) -> u64
     }
 }
 
-/// The 64 bits from bit `shift` of byte `first` on as one number: the digits of eight bytes, and
-/// those of the eight that begin a byte later, which have the missing ones.
+/// The 64 bits from bit `shift` of byte `first` on as one number.
+#[inline(always)]
+pub fn full_word(bytes: &[u8], first: usize, shift: usize) -> u64
+    requires in_byte { shift < 8 }
+    requires inside { 8 * first + shift + 64 ≤ 8 * length bytes.now }
+    ensures { digits result 0 64 ≡ bits bytes.now (8 * first + shift) 64 }
+{
+    if shift == 0 {
+        word_at(bytes, first)
+    } else {
+        shifted_word(bytes, first, shift)
+    }
+}
+
+/// [`full_word`] where it begins within a byte: the digits of eight bytes, and those of the eight
+/// that begin a byte later, which have the missing ones.
 #[inline(always)]
 pub(crate) fn shifted_word(bytes: &[u8], first: usize, shift: usize) -> u64
     requires part { 0 < shift }

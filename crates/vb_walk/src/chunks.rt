@@ -7,7 +7,7 @@ ghost use Rattle.vb_core.specs.ExactCounts.{list_counts};
 ghost use Rattle.vb_walk.specs.Words.{word, full_words, padded};
 
 use std::marker::Model;
-use vb_bits::read_bits;
+use vb_bits::{full_word, read_bits};
 use vb_core::TrustedLen;
 
 /// The bits of a window as words of 64 bits: word `k` has bit `64 * k` as its lowest digit.
@@ -141,7 +141,7 @@ impl Iterator for BitChunkIterator<'_> {
         if self.left == 0 {
             return None;
         }
-        let word = read_bits(self.bytes, 8 * self.byte + self.shift, 64);
+        let word = full_word(self.bytes, self.byte, self.shift);
         self.byte += 8;
         self.left -= 1;
         Some(word)
