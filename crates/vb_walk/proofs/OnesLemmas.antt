@@ -7,7 +7,7 @@ use Rattle.std.proofs.lemmas.Nat.Bits.{bit_at_and, bit_at_or, bit_at_ones, bit_a
 use Rattle.std.specs.Int.{bit_at, trailing_zeros, trailing_ones, w64}
 use Rattle.std.specs.Int.Bits.{bit_and, bit_or}
 use lib.Count.{count_trailing_zeros}
-use Rattle.vb_bits.proofs.ReadLemmas.{bit_at_cut}
+use Rattle.vb_bits.proofs.ShiftLemmas.{bit_at_cut}
 use Rattle.vb_walk.specs.Ones.{CutsOnes}
 
 -- a number whose lowest digits are those of r
