@@ -67,7 +67,7 @@ impl<A: Allocator + Clone> OpenBits<A> {
     ) -> Result<Self, BufferError>
         requires first_byte { offset < 8 }
         requires inside { offset + len ≤ 8 * length bytes.items }
-        requires fits { offset + len ≤ usize.MAX }
+        requires fits { offset + len < 2 ^ 64 }
         ensures bits { IfOk result (λ s. s ≡ bits bytes.items offset len) }
         ensures refused { IsOkUnless result OutOfMemory }
     {

@@ -51,7 +51,7 @@ impl<'a, A: Allocator + Clone> BitStore for &'a mut BitBufferMut<A> {
 
     ghost Kept = { ℕ × ℕ × ℕ × ℕ };
 
-    ghost kept = { λ s. (s.now.offset, length s.now.bytes, s.now.alignment, s.now.room) };
+    ghost kept = { λ s. (s.now.offset, length s.now.bytes, s.now.exponent, s.now.room) };
 
     ghost counted = { λ s o n h. sym h.1 };
 
