@@ -2,7 +2,7 @@
 use Rattle.std.specs.Prelude.{ℕ, Bool, List, [], ◌∷◌, codes, Option, Some, None, if◌then◌else◌}
 use Rattle.std.specs.Str.{bytes_eq}
 use Rattle.vb_command.specs.Hex.{hex}
-use Rattle.vb_command.specs.Machine.{Order, Import, Full, Set, Append, Appendn, Fill, Truncate, Clear, Flip, Freeze, Thaw, Clone, Slice, Drop, Len, Count, Get, Countrange, Select, Selectunset, Bits}
+use Rattle.vb_command.specs.Machine.{Order, Import, Full, Set, Append, Appendn, Fill, Truncate, Clear, Flip, Freeze, Thaw, Clone, Slice, Drop, Len, Count, Get, Countrange, Select, Selectunset, Last, Bits, Places, Runs}
 use Rattle.vb_command.specs.Optional.{◌>>=◌}
 use Rattle.vb_command.specs.Words.{number, truth, only_word, only_two, only_three, only_four}
 
@@ -49,7 +49,10 @@ question_of name ws =
     if bytes_eq name (codes "countrange") then three Countrange number number number ws else
     if bytes_eq name (codes "select") then two Select number number ws else
     if bytes_eq name (codes "selectunset") then two Selectunset number number ws else
+    if bytes_eq name (codes "last") then one Last number ws else
     if bytes_eq name (codes "bits") then one Bits number ws else
+    if bytes_eq name (codes "places") then one Places number ws else
+    if bytes_eq name (codes "runs") then one Runs number ws else
     None
 
 -- the order of an edit, or of a question

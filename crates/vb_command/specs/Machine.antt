@@ -1,8 +1,9 @@
 -- The machine: slots that hold lists of truth values, and what each order answers and does to them.
 use Rattle.std.specs.Prelude.{◌≡◌, ℕ, ◌+◌, ◌-◌, ◌*◌, ◌^◌, ◌<◌, Bool, true, false, ◌&&◌, List, [], ◌∷◌, ◌++◌, length, take, replicate, slice_get, slice_set, slice_range, Option, Some, None, MatchOption, MatchBool, IsTrue, ◌⊎◌, nat_lt, nat_le}
 use Rattle.std.specs.Option.{option_and_then, option_map_or}
-use Rattle.vb_kernel.specs.Bits.{bits, at, count, negated, Selects}
+use Rattle.vb_kernel.specs.Bits.{bits, at, count, negated, places, Selects}
 use Rattle.vb_kernel.specs.Edits.{filled}
+use Rattle.vb_kernel.specs.Runs.{runs, last_place}
 use Rattle.vb_command.specs.declared.command.Command.{Command}
 use Rattle.vb_command.specs.declared.command.Command.TheVariants as commands
 
@@ -38,7 +39,10 @@ pub data Order : Type 0 where
   Countrange : ℕ → ℕ → ℕ → Order
   Select : ℕ → ℕ → Order
   Selectunset : ℕ → ℕ → Order
+  Last : ℕ → Order
   Bits : ℕ → Order
+  Places : ℕ → Order
+  Runs : ℕ → Order
 
 -- the order of a command
 abbrev pub order : {A : Type 0} → Command A → Order
@@ -62,7 +66,10 @@ order (commands.Get k i) = Get k i
 order (commands.Countrange k a b) = Countrange k a b
 order (commands.Select k n) = Select k n
 order (commands.Selectunset k n) = Selectunset k n
+order (commands.Last k) = Last k
 order (commands.Bits k) = Bits k
+order (commands.Places k) = Places k
+order (commands.Runs k) = Runs k
 
 -- why an order is refused
 pub data Reason : Type 0 where
@@ -81,6 +88,8 @@ pub data Reply : Type 0 where
   Truth : Bool → Reply
   Place : Option ℕ → Reply
   Listed : List Bool → Reply
+  ListedPlaces : List ℕ → Reply
+  ListedRuns : List (ℕ × ℕ) → Reply
   Refused : Reason → Reply
 
 -- the list that a slot holds, open or frozen
@@ -212,7 +221,10 @@ Step s (Get k i) r t = Asks k (Gets i) s r t
 Step s (Countrange k a b) r t = Asks k (CountsRange a b) s r t
 Step s (Select k n) r t = Asks k (Finds n) s r t
 Step s (Selectunset k n) r t = Asks k (λ l. Finds n (negated l)) s r t
+Step s (Last k) r t = Asks k (λ l a. a ≡ Place (last_place l)) s r t
 Step s (Bits k) r t = Asks k (λ l a. a ≡ Listed l) s r t
+Step s (Places k) r t = Asks k (λ l a. a ≡ ListedPlaces (places l)) s r t
+Step s (Runs k) r t = Asks k (λ l a. a ≡ ListedRuns (runs l)) s r t
 
 -- something follows where a check passes
 abbrev pub Passes : Bool → Effect → Effect
@@ -241,6 +253,8 @@ GivesUp s (Thaw k) r t = Has (frozen_at s k) (λ l. Loses k) s r t
 GivesUp s (Clone k j) r t = Has (kept_at s k) (λ x. Passes (vacant_at s j) (Refuses OutOfMemory)) s r t
 GivesUp s (Slice k a b j) r t = Has (frozen_at s k) (λ l. Passes (vacant_at s j) (Passes (is_range a b l) (Refuses OutOfMemory))) s r t
 GivesUp s (Bits k) r t = Has (list_at s k) (λ l. Refuses OutOfMemory) s r t
+GivesUp s (Places k) r t = Has (list_at s k) (λ l. Refuses OutOfMemory) s r t
+GivesUp s (Runs k) r t = Has (list_at s k) (λ l. Refuses OutOfMemory) s r t
 GivesUp s c r t = ⊥
 
 -- what may come of an order, want of memory included

@@ -1,7 +1,7 @@
 -- What answers look like.
 use Rattle.std.specs.Prelude.{ℕ, Bool, true, false, List, [], ◌∷◌, ◌++◌, codes, decimal, Some, None}
 use Rattle.std.specs.List.{flat_map}
-use Rattle.vb_command.specs.Machine.{Reply, Done, Number, Truth, Place, Listed, Refused, Reason, BadSlot, BadWindow, OutOfRange, LengthMismatch, TakeOutOfRange, TooManyBits, OutOfMemory}
+use Rattle.vb_command.specs.Machine.{Reply, Done, Number, Truth, Place, Listed, ListedPlaces, ListedRuns, Refused, Reason, BadSlot, BadWindow, OutOfRange, LengthMismatch, TakeOutOfRange, TooManyBits, OutOfMemory}
 
 -- the name of a refusal, and where it has one its position
 abbrev pub name_of : Reason → List ℕ
@@ -27,6 +27,23 @@ abbrev pub digits_of : List Bool → List ℕ
 digits_of [] = codes "-"
 digits_of (b ∷ bs) = flat_map digit_of (b ∷ bs)
 
+-- the texts of items with commas between two, or `-` where there are none
+abbrev pub with_commas : {X : Type 0} → (X → List ℕ) → List X → List ℕ
+with_commas text [] = codes "-"
+with_commas text (x ∷ xs) = text x ++ flat_map (λ y. codes "," ++ text y) xs
+
+-- places in decimal, with commas between two
+abbrev pub places_text : List ℕ → List ℕ
+places_text places = with_commas decimal places
+
+-- a run: where it begins, and the place behind it
+abbrev pub run_text : ℕ × ℕ → List ℕ
+run_text run = decimal run.0 ++ codes "-" ++ decimal run.1
+
+-- runs, with commas between two
+abbrev pub runs_text : List (ℕ × ℕ) → List ℕ
+runs_text runs = with_commas run_text runs
+
 -- the text of an answer
 abbrev pub text_of : Reply → List ℕ
 text_of Done = codes "ok"
@@ -35,6 +52,8 @@ text_of (Truth b) = digit_of b
 text_of (Place None) = codes "none"
 text_of (Place (Some p)) = decimal p
 text_of (Listed bs) = digits_of bs
+text_of (ListedPlaces ps) = places_text ps
+text_of (ListedRuns rs) = runs_text rs
 text_of (Refused why) = refusal_text why
 
 -- the line of an answer

@@ -4,6 +4,7 @@ ghost use Rattle.std.specs.Fmt.{WritesOnOk};
 ghost use Rattle.vb_command.specs.Parts.{parts_text};
 
 use crate::digits::{Digits, digit};
+use crate::numbers::{Places, Runs};
 use std::alloc::{Allocator, Global};
 use std::fmt;
 
@@ -78,6 +79,12 @@ pub enum Answer<A: Allocator = Global> {
     /// The bits of a set from place 0 on, printed as `1` and `0` with nothing between them, or as
     /// `-` where there are none.
     Bits(Vec<bool, A>),
+    /// The places of a set's true bits, printed in decimal with commas between two, or `-` where
+    /// there are none.
+    Places(Vec<usize, A>),
+    /// The runs of a set's true bits: where each begins, and the place behind it. They are printed
+    /// as `1-3,4-7`, or as `-` where there are none.
+    Runs(Vec<(usize, usize), A>),
     /// The command is refused.
     Refused(Refusal),
 }
@@ -91,6 +98,10 @@ pub enum Part<'a> {
     Number(usize),
     /// Truth values as `1` and `0`, with nothing between them, or `-` where there are none.
     Bits(&'a [bool]),
+    /// Places in decimal with commas between two, or `-` where there are none.
+    Places(&'a [usize]),
+    /// Runs as `1-3`, with commas between two, or `-` where there are none.
+    Runs(&'a [(usize, usize)]),
 }
 
 impl<A: Allocator> Answer<A> {
@@ -110,6 +121,8 @@ impl<A: Allocator> Answer<A> {
             Answer::Place(None) => (Part::Words("none"), None),
             Answer::Place(Some(place)) => (Part::Number(*place), None),
             Answer::Bits(bits) => (Part::Bits(bits), None),
+            Answer::Places(places) => (Part::Places(places), None),
+            Answer::Runs(runs) => (Part::Runs(runs), None),
             Answer::Refused(why) => why.parts(),
         }
     }
@@ -136,6 +149,8 @@ fn print<W: fmt::Write>(parts: (Part<'_>, Option<usize>), f: &mut fmt::Formatter
         Part::Words(words) => f.write_str(words)?,
         Part::Number(n) => write!(f, "{n}")?,
         Part::Bits(bits) => write!(f, "{}", Digits(bits))?,
+        Part::Places(places) => write!(f, "{}", Places(places))?,
+        Part::Runs(runs) => write!(f, "{}", Runs(runs))?,
     }
     match number {
         Some(number) => write!(f, "{number}"),

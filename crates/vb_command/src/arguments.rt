@@ -106,7 +106,10 @@ fn question<A: Allocator>(name: &str, words: &mut Words<'_>) -> Result<Command<A
             let (k, n) = words.two()?;
             Ok(Command::Selectunset(number(k)?, number(n)?))
         }
+        "last" => Ok(Command::Last(number(words.one()?)?)),
         "bits" => Ok(Command::Bits(number(words.one()?)?)),
+        "places" => Ok(Command::Places(number(words.one()?)?)),
+        "runs" => Ok(Command::Runs(number(words.one()?)?)),
         _ => Err(Unread::Unreadable),
     }
 }

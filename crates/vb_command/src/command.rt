@@ -67,6 +67,12 @@ pub enum Command<A: Allocator = Global> {
     /// `selectunset k n`: the place of the false bit with `n` false bits before it, if the set in
     /// slot `k` has so many.
     Selectunset(usize, usize),
+    /// `last k`: the place of the last true bit of the set in slot `k`, if there is one.
+    Last(usize),
     /// `bits k`: the bits of the set in slot `k`.
     Bits(usize),
+    /// `places k`: the places of the true bits of the set in slot `k`, in ascending order.
+    Places(usize),
+    /// `runs k`: the runs of true bits of the set in slot `k`, from front to end.
+    Runs(usize),
 }

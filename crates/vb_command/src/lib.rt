@@ -12,6 +12,7 @@ mod digits;
 mod hex;
 mod line;
 mod number;
+mod numbers;
 #[cfg(test)]
 mod tests;
 mod truth;

@@ -7,6 +7,8 @@ use std::test::Fail;
 fn answers_are_printed(rt: HostRuntime) -> Result<(), Fail> {
     let alloc = rt.alloc();
     let bits = vec![in alloc; true, true, false]?;
+    let places = vec![in alloc; 1usize, 2, 18446744073709551614]?;
+    let runs = vec![in alloc; (1usize, 3usize), (4, 7)]?;
     for (answer, text) in [
         (Answer::Done, "ok"),
         (Answer::Number(18446744073709551615), "18446744073709551615"),
@@ -16,6 +18,10 @@ fn answers_are_printed(rt: HostRuntime) -> Result<(), Fail> {
         (Answer::Place(None), "none"),
         (Answer::Bits(bits), "110"),
         (Answer::Bits(Vec::new(alloc)), "-"),
+        (Answer::Places(places), "1,2,18446744073709551614"),
+        (Answer::Places(Vec::new(alloc)), "-"),
+        (Answer::Runs(runs), "1-3,4-7"),
+        (Answer::Runs(Vec::new(alloc)), "-"),
         (Answer::Refused(Refusal::BadSlot), "refused BadSlot"),
         (Answer::Refused(Refusal::BadWindow), "refused BadWindow"),
         (Answer::Refused(Refusal::OutOfRange), "refused OutOfRange"),
@@ -59,6 +65,9 @@ fn commands_are_read(rt: HostRuntime) -> Result<(), Fail> {
         ("selectunset 0 2", "Ok(Some(Selectunset(0, 2)))"),
         ("countrange 0 3 9", "Ok(Some(Countrange(0, 3, 9)))"),
         ("bits 4", "Ok(Some(Bits(4)))"),
+        ("last 5", "Ok(Some(Last(5)))"),
+        ("places 6", "Ok(Some(Places(6)))"),
+        ("runs 16", "Ok(Some(Runs(16)))"),
         ("   get   15  7 ", "Ok(Some(Get(15, 7)))"),
     ] {
         assert_eq!(rt; asked(rt.alloc(), line.as_bytes())?.as_str(), want);

@@ -1,4 +1,3 @@
-pub mod AnySet
 pub mod Answered
 pub mod OpenBits
 pub mod Slot
@@ -6,3 +5,4 @@ pub use Rattle.vb_command.specs.Machine
 pub use Rattle.vb_command.specs.Views
 pub use Rattle.vb_kernel.specs.Bits
 pub use Rattle.vb_kernel.specs.Edits
+pub use Rattle.vb_kernel.specs.Runs

@@ -5,10 +5,10 @@
 //! its slots hold, and of nothing behind it.
 #![tactic(auto)]
 
-mod any_set;
 mod edits;
 mod import;
 mod kinds;
+mod lists;
 mod makes;
 mod open_bits;
 mod pool;

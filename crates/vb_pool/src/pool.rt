@@ -4,13 +4,12 @@ ghost use Rattle.std.specs.Borrow.{LendsIf, sem};
 ghost use Rattle.std.specs.Option.{option_copied, option_copied_mut};
 ghost use Rattle.vb_command.specs.Machine.{Empty as Vacant, Open as OpenList, Done, empty_slots, list_at, open_at, frozen_at, kept_at, vacant_at};
 ghost use Rattle.vb_command.specs.Views.{reply};
-ghost use Rattle.vb_pool.specs.AnySet.{bits_of};
 ghost use Rattle.vb_pool.specs.Answered.{GivesHeld};
 ghost use Rattle.vb_pool.specs.Slot.{content};
 ghost use Rattle.vb_pool.specs.contracts.pool.Pool.{the_row};
 ghost use Rattle.vb_pool.specs.contracts.open_bits.OpenBits.{the_row as open_row};
+ghost use Rattle.vb_walk.specs.View.{bits_of};
 
-use crate::any_set::AnySet;
 use crate::open_bits::OpenBits;
 use crate::sixteen::Sixteen;
 use crate::slot::Slot;
@@ -19,6 +18,7 @@ use std::fmt;
 use std::marker::Model;
 use vb_command::{Answer, Refusal};
 use vb_set::BitBuffer;
+use vb_walk::BitBufferView;
 
 /// Sixteen slots for sets of bits, numbered from 0. Contracts see the list of what they hold.
 ///
@@ -50,14 +50,14 @@ impl<A: Allocator + Clone> Pool<A> {
         }
     }
 
-    /// The set in slot `k`, to read. Refused by `BadSlot`, where the slot isn't there or holds
+    /// The bits of the set in slot `k`, of either kind. Refused by `BadSlot`, where the slot isn't there or holds
     /// none.
-    pub(crate) fn set_at(&self, k: usize) -> Result<AnySet<'_, A>, Refusal>
+    pub(crate) fn set_at(&self, k: usize) -> Result<BitBufferView<'_>, Refusal>
         ensures { GivesHeld bits_of (list_at self.now k) result }
     {
         match self.slots.get(k) {
-            Some(Slot::Open(set)) => Ok(AnySet::Open(set.as_set())),
-            Some(Slot::Frozen(set)) => Ok(AnySet::Frozen(set)),
+            Some(Slot::Open(set)) => Ok(set.as_set().as_view()),
+            Some(Slot::Frozen(set)) => Ok(set.as_view()),
             _ => Err(Refusal::BadSlot),
         }
     }

@@ -1,8 +1,9 @@
-//! What commands ask of a set. No slot changes, and `bits` alone takes memory.
+//! What commands ask of a set. No slot changes, and the lists alone take memory.
 ghost use Rattle.vb_command.specs.Machine.{Step, Outcome};
 ghost use Rattle.vb_command.specs.Machine as machine;
 ghost use Rattle.vb_pool.specs.Answered.{answered};
 
+use crate::lists::{list_bits, list_places, list_runs};
 use crate::pool::Pool;
 use crate::refused::refusal_of;
 use std::alloc::Allocator;
@@ -42,7 +43,7 @@ impl<A: Allocator + Clone> Pool<A> {
         if a > b || b > set.len() {
             return Err(Refusal::OutOfRange);
         }
-        Ok(Answer::Number(set.count_range(a, b)))
+        Ok(Answer::Number(set.slice(a..b).true_count()))
     }
 
     /// The place of the `n`-th true bit of the set, counted from 0.
@@ -59,10 +60,31 @@ impl<A: Allocator + Clone> Pool<A> {
         Ok(Answer::Place(self.set_at(k)?.select_unset(n)))
     }
 
+    /// The place of the last true bit of the set.
+    pub(crate) fn last(&self, k: usize) -> Result<Answer<A>, Refusal>
+        ensures { Step self.now (machine.Last k) (answered result) self.now }
+    {
+        Ok(Answer::Place(self.set_at(k)?.last_set_index()))
+    }
+
     /// The bits of the set, in memory of the allocator.
     pub(crate) fn bits(&self, alloc: &A, k: usize) -> Result<Answer<A>, Refusal>
         ensures { Outcome self.now (machine.Bits k) (answered result) self.now }
     {
-        Ok(Answer::Bits(self.set_at(k)?.to_vec(alloc).map_err(refusal_of)?))
+        Ok(Answer::Bits(list_bits(alloc, self.set_at(k)?).map_err(refusal_of)?))
+    }
+
+    /// The places of the set's true bits, in memory of the allocator.
+    pub(crate) fn places(&self, alloc: &A, k: usize) -> Result<Answer<A>, Refusal>
+        ensures { Outcome self.now (machine.Places k) (answered result) self.now }
+    {
+        Ok(Answer::Places(list_places(alloc, self.set_at(k)?).map_err(refusal_of)?))
+    }
+
+    /// The runs of the set's true bits, in memory of the allocator.
+    pub(crate) fn runs(&self, alloc: &A, k: usize) -> Result<Answer<A>, Refusal>
+        ensures { Outcome self.now (machine.Runs k) (answered result) self.now }
+    {
+        Ok(Answer::Runs(list_runs(alloc, self.set_at(k)?).map_err(refusal_of)?))
     }
 }

@@ -15,10 +15,10 @@ impl<A: Allocator + Clone> Pool<A> {
     /// that `freeze` and `thaw` give their set away: where memory is refused, their slot is empty
     /// and all others are as before.
     ///
-    /// Memory is asked from copies of `alloc`: `import`, `full` and `bits` ask once for the whole,
-    /// and so does `thaw` where another slot has the storage too. The copy of an open set asks the
-    /// allocator of that set. `freeze`, `slice`, `clone` of a frozen set and `thaw` of a storage's
-    /// only owner copy no bits.
+    /// Memory is asked from copies of `alloc`: `import`, `full`, `bits` and `places` ask once for
+    /// the whole, and so does `thaw` where another slot has the storage too; `runs` asks as its
+    /// list grows. The copy of an open set asks the allocator of that set. `freeze`, `slice`,
+    /// `clone` of a frozen set and `thaw` of a storage's only owner copy no bits.
     pub fn serve(&mut self, alloc: &A, command: &Command<A>) -> Answer<A>
         ensures { Outcome self.old (order command.now) (reply result) self.new }
     {
@@ -65,7 +65,10 @@ impl<A: Allocator + Clone> Pool<A> {
             Command::Countrange(k, a, b) => self.count_range(*k, *a, *b),
             Command::Select(k, n) => self.select(*k, *n),
             Command::Selectunset(k, n) => self.select_unset(*k, *n),
+            Command::Last(k) => self.last(*k),
             Command::Bits(k) => self.bits(alloc, *k),
+            Command::Places(k) => self.places(alloc, *k),
+            Command::Runs(k) => self.runs(alloc, *k),
         }
     }
 }

@@ -15,4 +15,5 @@ pub use Rattle.vb_command.specs.Views
 pub use Rattle.vb_command.specs.Words
 pub use Rattle.vb_pool.specs.Bits
 pub use Rattle.vb_pool.specs.Edits
+pub use Rattle.vb_pool.specs.Runs
 pub use Rattle.vb_pool.specs.Slot

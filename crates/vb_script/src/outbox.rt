@@ -2,7 +2,7 @@
 ghost use Rattle.std.specs.Prelude.{◌≡◌, ◌+◌, ◌≤◌, [], ◌∷◌, ◌++◌, length, vec_capacity, decimal, IfOk, IfErr, OnOk};
 ghost use Rattle.std.specs.Io.KnownBytes.{Appends};
 ghost use Rattle.std.specs.List.{flat_map};
-ghost use Rattle.vb_command.specs.Printed.{digit_of, digits_of, line_of};
+ghost use Rattle.vb_command.specs.Printed.{digit_of, digits_of, line_of, places_text, run_text, runs_text};
 ghost use Rattle.vb_command.specs.Views.{reply};
 ghost use Rattle.vb_script.specs.DriveError.{CountsFaults, IsWrite};
 ghost use Rattle.vb_script.specs.Outbox.{Adds};
@@ -56,6 +56,8 @@ impl<A: Allocator> Outbox<A> {
             Part::Words(words) => self.put(words.as_bytes(), output)?,
             Part::Number(n) => self.put_number(n, output)?,
             Part::Bits(bits) => self.put_bits(bits, output)?,
+            Part::Places(places) => self.put_places(places, output)?,
+            Part::Runs(runs) => self.put_runs(runs, output)?,
         }
         if let Some(position) = position {
             self.put_number(position, output)?;
@@ -71,6 +73,56 @@ impl<A: Allocator> Outbox<A> {
     {
         let mut digits = Buffer::new();
         self.put(digits.format(n).as_bytes(), output)
+    }
+
+    /// Adds places with commas between two.
+    fn put_places<W: Sink>(&mut self, places: &[usize], output: &mut W) -> Result<(), DriveError>
+        ensures { Adds (places_text places.now) result
+            (W.contents output.old) self.old (W.contents output.new) self.new
+            (W.faults output.old) (W.faults output.new) }
+    {
+        let [first, rest @ ..] = places else {
+            return self.put(b"-", output);
+        };
+        self.put_number(*first, output)?;
+        for place in rest {
+            self.put(b",", output)?;
+            self.put_number(*place, output)?;
+        }
+        Ok(())
+    }
+
+    /// Adds runs with commas between two.
+    fn put_runs<W: Sink>(
+        &mut self,
+        runs: &[(usize, usize)],
+        output: &mut W,
+    ) -> Result<(), DriveError>
+        ensures { Adds (runs_text runs.now) result
+            (W.contents output.old) self.old (W.contents output.new) self.new
+            (W.faults output.old) (W.faults output.new) }
+    {
+        let [first, rest @ ..] = runs else {
+            return self.put(b"-", output);
+        };
+        self.put_run(*first, output)?;
+        for run in rest {
+            self.put(b",", output)?;
+            self.put_run(*run, output)?;
+        }
+        Ok(())
+    }
+
+    /// Adds a run: where it begins, and the place behind it.
+    fn put_run<W: Sink>(&mut self, run: (usize, usize), output: &mut W) -> Result<(), DriveError>
+        ensures { Adds (run_text run) result
+            (W.contents output.old) self.old (W.contents output.new) self.new
+            (W.faults output.old) (W.faults output.new) }
+    {
+        let (start, end) = run;
+        self.put_number(start, output)?;
+        self.put(b"-", output)?;
+        self.put_number(end, output)
     }
 
     /// Adds truth values as binary digits.

@@ -1,0 +1,8 @@
+use Rattle.std.proofs.Common.{◌≡◌, ◌++◌}
+use Rattle.vb_kernel.specs.Bits.{places}
+use Rattle.vb_walk.specs.View.{bits_of}
+use Rattle.vb_pool.proofs.lists.list_places.Given as goal
+
+-- the places so far, and those that are still to come
+abbrev pub invariant-loop-place : goal.invariant-loop-place
+invariant-loop-place g l = l.places.items ++ l.place-iterator ≡ places (bits_of l.fn.view)

@@ -1,0 +1,8 @@
+use Rattle.std.proofs.Common.{◌≡◌, ◌++◌}
+use Rattle.vb_kernel.specs.Runs.{runs}
+use Rattle.vb_walk.specs.View.{bits_of}
+use Rattle.vb_pool.proofs.lists.list_runs.Given as goal
+
+-- the runs so far, and those that are still to come
+abbrev pub invariant-loop-run : goal.invariant-loop-run
+invariant-loop-run g l = l.runs.items ++ l.run-iterator ≡ runs (bits_of l.fn.view)

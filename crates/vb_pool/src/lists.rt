@@ -1,0 +1,56 @@
+//! What a view of bits holds, as lists in memory of an allocator.
+ghost use Rattle.std.specs.Prelude.{◌≡◌, IfOk, IsOkUnless};
+ghost use Rattle.vb_core.specs.declared.error.BufferError.TheVariants.{OutOfMemory};
+ghost use Rattle.vb_kernel.specs.Bits.{places};
+ghost use Rattle.vb_kernel.specs.Runs.{runs};
+ghost use Rattle.vb_walk.specs.View.{bits_of};
+
+use std::alloc::Allocator;
+use vb_core::BufferError;
+use vb_walk::BitBufferView;
+
+/// The bits from place 0 on, by one request. Refused by `OutOfMemory` alone.
+pub(crate) fn list_bits<A: Allocator + Clone>(
+    alloc: &A,
+    view: BitBufferView<'_>,
+) -> Result<Vec<bool, A>, BufferError>
+    ensures bits { IfOk result (λ list. list.items ≡ bits_of view.entry) }
+    ensures refused { IsOkUnless result OutOfMemory }
+{
+    let mut bits = Vec::with_capacity(alloc.clone()?, view.len())?;
+    for bit in view.iter() {
+        bits.push(bit)?;
+    }
+    Ok(bits)
+}
+
+/// The places of the true bits, in ascending order, by one request. Refused by `OutOfMemory` alone.
+pub(crate) fn list_places<A: Allocator + Clone>(
+    alloc: &A,
+    view: BitBufferView<'_>,
+) -> Result<Vec<usize, A>, BufferError>
+    ensures places { IfOk result (λ list. list.items ≡ places (bits_of view.entry)) }
+    ensures refused { IsOkUnless result OutOfMemory }
+{
+    let mut places = Vec::with_capacity(alloc.clone()?, view.true_count())?;
+    for place in view.set_indices() {
+        places.push(place)?;
+    }
+    Ok(places)
+}
+
+/// The runs of true bits, from front to end, in memory that grows with them. Refused by
+/// `OutOfMemory` alone.
+pub(crate) fn list_runs<A: Allocator + Clone>(
+    alloc: &A,
+    view: BitBufferView<'_>,
+) -> Result<Vec<(usize, usize), A>, BufferError>
+    ensures runs { IfOk result (λ list. list.items ≡ runs (bits_of view.entry)) }
+    ensures refused { IsOkUnless result OutOfMemory }
+{
+    let mut runs = Vec::new(alloc.clone()?);
+    for run in view.set_slices() {
+        runs.push(run)?;
+    }
+    Ok(runs)
+}
