@@ -3,11 +3,11 @@ ghost use Rattle.std.specs.Prelude.{◌≡◌, IfOk, IsOkUnless};
 ghost use Rattle.vb_core.specs.declared.error.BufferError.TheVariants.{OutOfMemory};
 ghost use Rattle.vb_kernel.specs.Bits.{places};
 ghost use Rattle.vb_kernel.specs.Runs.{runs};
-ghost use Rattle.vb_walk.specs.View.{bits_of};
+ghost use Rattle.vb_view.specs.View.{bits_of};
 
 use std::alloc::Allocator;
 use vb_core::BufferError;
-use vb_walk::BitBufferView;
+use vb_view::BitBufferView;
 
 /// The bits from place 0 on, by one request. Refused by `OutOfMemory` alone.
 pub(crate) fn list_bits<A: Allocator + Clone>(

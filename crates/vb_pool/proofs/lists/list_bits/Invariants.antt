@@ -1,5 +1,5 @@
 use Rattle.std.proofs.Common.{◌≡◌, ◌++◌}
-use Rattle.vb_walk.specs.View.{bits_of}
+use Rattle.vb_view.specs.View.{bits_of}
 use Rattle.vb_pool.proofs.lists.list_bits.Given as goal
 
 -- the bits so far, and those that are still to come
