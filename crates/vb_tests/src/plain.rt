@@ -91,6 +91,8 @@ pub enum Reply {
     Number(usize),
     Place(Option<usize>),
     Bits(List),
+    Places(List),
+    Runs(List),
 }
 
 /// Adds the line of an answer.
@@ -106,9 +108,42 @@ pub fn add_reply(text: &mut String, reply: Result<Reply, Refusal>) -> Result<(),
                 text.push(if *bit { '1' } else { '0' })?;
             }
         }
+        Ok(Reply::Places(list) | Reply::Runs(list)) if list.count() == 0 => text.push_str("-")?,
+        Ok(Reply::Places(list)) => add_places(text, &list)?,
+        Ok(Reply::Runs(list)) => add_runs(text, &list)?,
         Err(why) => write!(text, "{why}")?,
     }
     text.push('\n')?;
+    Ok(())
+}
+
+/// Adds the places of the true bits with commas between two.
+fn add_places(text: &mut String, list: &List) -> Result<(), Fail> {
+    let mut comma = "";
+    for n in 0..list.count() {
+        if let Some(place) = list.place(true, n) {
+            write!(text, "{comma}{place}")?;
+        }
+        comma = ",";
+    }
+    Ok(())
+}
+
+/// Adds the runs of true bits: each ends before the first true bit that isn't beside the last one.
+fn add_runs(text: &mut String, list: &List) -> Result<(), Fail> {
+    let mut end = None;
+    for n in 0..list.count() {
+        let place = list.place(true, n);
+        match (end, place) {
+            (Some(end), Some(place)) if end != place => write!(text, "-{end},{place}")?,
+            (None, Some(place)) => write!(text, "{place}")?,
+            _ => {}
+        }
+        end = place.map(|place| place.saturating_add(1));
+    }
+    if let Some(end) = end {
+        write!(text, "-{end}")?;
+    }
     Ok(())
 }
 
@@ -238,16 +273,28 @@ impl Plain {
             }
             Command::Select(k, n) => Ok(Reply::Place(self.slot(*k)?.1.place(true, *n))),
             Command::Selectunset(k, n) => Ok(Reply::Place(self.slot(*k)?.1.place(false, *n))),
-            Command::Bits(k) => {
+            Command::Last(k) => {
                 let list = self.slot(*k)?.1;
-                if refused {
-                    return Err(Refusal::OutOfMemory);
-                }
-                Ok(Reply::Bits(list))
+                Ok(Reply::Place(match list.count() {
+                    0 => None,
+                    count => list.place(true, count - 1),
+                }))
             }
+            Command::Bits(k) => Ok(Reply::Bits(self.listed(*k, refused)?)),
+            Command::Places(k) => Ok(Reply::Places(self.listed(*k, refused)?)),
+            Command::Runs(k) => Ok(Reply::Runs(self.listed(*k, refused)?)),
             // All other commands are served before.
             _ => Err(Refusal::LengthMismatch),
         }
+    }
+
+    /// The list of a slot, unless the memory for an answer of it is refused.
+    fn listed(&self, k: usize, refused: bool) -> Result<List, Refusal> {
+        let list = self.slot(k)?.1;
+        if refused {
+            return Err(Refusal::OutOfMemory);
+        }
+        Ok(list)
     }
 
     fn vacant(&self, t: usize) -> Result<(), Refusal> {

@@ -57,6 +57,12 @@ get 1 60
 get 1 61
 len 3
 count 1
+last 1
+last 4
+places 0
+places 4
+runs 1
+runs 4
 bits 0
 freeze 0
 bits 1
@@ -245,9 +251,9 @@ fn run_is_plain_whatever_is_refused(rt: HostRuntime) -> Result<(), Fail> {
     let ample = Refusing::new(rt.alloc(), 0);
     let requests = each_refused(rt.alloc(), |heap| lent(&rt, rt.alloc(), &ample, heap))?;
     // The room for the answers, and one request each of `import`, `full`, `appendn`, `freeze`,
-    // `thaw`, `clone`, and of `bits` twice; and one of `bits` and of `freeze` for each of four
-    // sets.
-    equal(&rt, requests, Some(17));
+    // `thaw`, `clone`, `places` and `runs` (whose few runs fit in what is asked first), and of
+    // `bits` twice; and one of `bits` and of `freeze` for each of four sets.
+    equal(&rt, requests, Some(19));
     Ok(())
 }
 

@@ -107,6 +107,15 @@ const ANSWERED: &[(&str, &str)] = &[
         "full 0 1 1\nappendn 0 1 18446744073709551615\nbits 0\nclear 0\nbits 0\n",
         "ok\nrefused TooManyBits\n1\nok\n-\n",
     ),
+    (
+        "import 0 0 7 76\nruns 0\nplaces 0\nlast 0\nfreeze 0\nruns 0\nplaces 0\nlast 0\n",
+        "ok\n1-3,4-7\n1,2,4,5,6\n6\nok\n1-3,4-7\n1,2,4,5,6\n6\n",
+    ),
+    ("full 0 1 130\nruns 0\nlast 0\n", "ok\n0-130\n129\n"),
+    (
+        "full 0 1 0\nruns 0\nplaces 0\nlast 0\nlast 1\nplaces 16\nruns 1\n",
+        "ok\n-\n-\nnone\nrefused BadSlot\nrefused BadSlot\nrefused BadSlot\n",
+    ),
     // Other owners keep their bits.
     (
         "full 0 1 4\nfreeze 0\nclone 0 1\nslice 0 1 4 2\nthaw 1\nset 1 0 0\nappend 1 0\nflip 1\n\
