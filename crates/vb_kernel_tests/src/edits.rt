@@ -76,8 +76,16 @@ fn combined_is_plain(rt: &impl Abort, left: &[u8; 32], how: Combined, (d, s, len
     for i in 0..256 {
         let old = get_bit(left, i);
         let inside = d <= i && i < d + len;
-        let wanted = if inside { how.bit(old, get_bit(&right, s + i - d)) } else { old };
-        assert_eq!(rt; get_bit(&after, i), wanted, "{how:?} at {d}, {s}, {len}, {i}");
+        let wanted = if inside {
+            how.bit(old, get_bit(&right, s + i - d))
+        } else {
+            old
+        };
+        assert_eq!(rt;
+            get_bit(&after, i),
+            wanted,
+            "{how:?} at {d}, {s}, {len}, {i}"
+        );
     }
 }
 
