@@ -46,6 +46,15 @@ class Clauses(unittest.TestCase):
         said = "fn demo::lend: no proof: `search` did not prove `returns`\n"
         self.assertEqual(clauses_of(judged(said)["demo::lend"], function), ["back", "value"])
 
+    def test_an_impl_of_a_reference_is_found(self):
+        text = "impl<'a> Store for &'a mut [u8] {\n    fn put(&mut self) {\n    }\n}\n"
+        text += "impl<'a> View<&'a mut [u8]> {\n    fn new() {\n    }\n}\n"
+        text += "impl<T> From<Failed<T>> for Unread {\n    fn from(it: Failed<T>) -> Unread {\n    }\n}\n"
+        paths = ["demo::RefMutSliceU8Store::put", "demo::View+mut+slice+u8::new", "demo::UnreadFromFailed::from"]
+        said = judged("".join(f"fn {it}: proved\n" for it in paths))
+        for function, path in zip(functions("src/lib.rt", text), paths):
+            self.assertEqual(verdict_on(function, said).path, path)
+
     def test_a_method_may_have_its_clause_at_the_trait(self):
         function = functions("src/lib.rt", "impl Glance for Plain {\n    fn size(&self) -> u8 {\n    }\n}\n")[0]
         said = "fn demo::PlainGlance::size: no proof: `search` did not prove `returns`\n"

@@ -2,7 +2,7 @@
 import re
 from dataclasses import dataclass, field
 
-from .source import Function
+from .source import Function, without_generics
 
 GOAL = re.compile(r"(?:note: )?(?:\./)?(src/\S+?\.rt):(\d+):\d+: it is not proved .*?\(`([^`]+)`\)")
 PROOF = re.compile(r"(?:\./)?proofs/(\S+)/(?:Answers|Invariants|Proof)\.antt:\d+:\d+: error: `([^`]+)`: (.*)")
@@ -73,11 +73,15 @@ def verdict_on(function: Function, verdicts: dict[str, Verdict]) -> Verdict | No
 
 
 def fits(function: Function, part: str) -> bool:
-    """Whether an impl of this name in a path is that of the function: `Plain`, `PlainGlance` or
-    `PlaceFromOptionUsize`."""
+    """Whether an impl of this name in a path is that of the function: `Plain`, `PlainGlance`,
+    `PlaceFromOptionUsize`, `UnreadFromAllocFailed`, or, of references and of some types alone,
+    `RefMutSliceU8BitStore` and `BitBufferMutView+mut+slice+u8`."""
     block = function.block
-    names = (block.owner + block.trait, block.owner + block.trait + re.sub(r"\W", "", block.argument))
-    return part.lower() in [it.lower() for it in names]
+    of = block.owner + block.trait
+    arguments = ("", block.argument, without_generics(block.argument))
+    names = {(of + re.sub(r"\W", "", it)).lower() for it in arguments}
+    bare = re.sub(r"^(Ref)?(Mut)?(Slice)?", "", part).split("+")[0]
+    return part.lower() in names or bare.lower() in names
 
 
 def clauses_of(verdict: Verdict, function: Function) -> list[str]:
