@@ -10,3 +10,4 @@ pub mod WritesLemmas
 pub mod OperatorsLemmas
 pub mod RunsLemmas
 pub mod LastLemmas
+pub mod EqualLemmas

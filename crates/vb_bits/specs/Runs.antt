@@ -1,5 +1,6 @@
 -- Runs of true values, and the last true value.
-use Rattle.std.specs.Prelude.{ℕ, ◌+◌, Bool, false, not, ◌&&◌, List, ◌∷◌, length, filter, Option, None}
+use Rattle.std.specs.Prelude.{ℕ, ◌+◌, Bool, false, not, ◌&&◌, List, ◌∷◌, length, filter, Option}
+use Rattle.std.specs.Prelude.{None}
 use Rattle.std.specs.List.{range_with_len, zip, last_or}
 use Rattle.vb_bits.specs.Bits.{at, places}
 

@@ -2,7 +2,8 @@
 use Rattle.std.specs.Prelude.{◌≡◌, ℕ, ◌+◌, ◌<◌, ◌≤◌, ◌⊎◌, Bool, List, ◌++◌, length, drop}
 use Rattle.vb_bits.specs.Bits.{bit_of, bits}
 
--- the new bytes are as many as the old, their window from bit o on is the list m, and every other bit is as before
+-- the new bytes are as many as the old, their window from bit o on is the list m, and every other
+-- bit is as before
 pub record Writes (old new : List ℕ) (o : ℕ) (m : List Bool) : Type 0 where
   pub same_len : length new ≡ length old
   pub window : bits new o (length m) ≡ m

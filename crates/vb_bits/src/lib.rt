@@ -7,6 +7,7 @@
 
 mod bit;
 mod bytes;
+mod equal;
 mod fill;
 mod last;
 mod map;
@@ -18,6 +19,7 @@ mod zip;
 
 pub use bit::{get_bit, get_bit_unchecked, set_bit_to, set_bit_unchecked, unset_bit_unchecked};
 pub use bytes::{chunk_at, word_at};
+pub use equal::equal_bits;
 pub use fill::fill_bits;
 pub use last::last_set_index;
 pub use map::map_words;

@@ -1,4 +1,5 @@
--- Looks at a source of bytes. A look is one read of a chunk of 64 bytes, of a word of eight, or of a byte.
+-- Looks at a source of bytes. A look is one read of a chunk of 64 bytes, of a word of eight, or of
+-- a byte.
 use Rattle.std.specs.Prelude.{ℕ, List, ◌+◌, ◌-◌, ◌/◌, ◌%◌, min}
 
 -- bytes, and how many looks they have had
@@ -6,7 +7,8 @@ pub record CountedBytes : Type 0 where
   pub bytes : List ℕ
   pub looks : ℕ
 
--- the looks that n bits from bit o on take: h bits up to the next whole byte, m whole bytes by chunks, words and bytes, and t bits after them
+-- the looks that n bits from bit o on take: h bits up to the next whole byte, m whole bytes by
+-- chunks, words and bytes, and t bits after them
 abbrev pub looks : ℕ → ℕ → ℕ
 looks o n =
     let h = min n ((8 - o % 8) % 8) in

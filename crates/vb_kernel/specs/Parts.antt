@@ -7,7 +7,8 @@ use Rattle.vb_kernel.specs.Looks.{looks}
 abbrev pub rest_looks : ℕ → ℕ
 rest_looks n = n / 64 + n % 64 / 8 + min (n % 8) 1
 
--- the parts of the window of n bits from bit o on: the head is of one byte, what follows begins at a whole byte
+-- the parts of the window of n bits from bit o on: the head is of one byte, what follows begins at
+-- a whole byte
 pub record IsCutOf (o n : ℕ) (p : Parts) : Type 0 where
   pub whole : p.head + 512 * p.chunks + p.rest ≡ n
   pub short : p.rest < 512

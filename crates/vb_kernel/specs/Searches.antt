@@ -1,5 +1,6 @@
 -- A search that goes from list to list with what is left of a rank.
-use Rattle.std.specs.Prelude.{◌≡◌, ℕ, ◌+◌, ◌*◌, ◌^◌, ◌<◌, ◌≤◌, Bool, true, false, List, Some, length}
+use Rattle.std.specs.Prelude.{◌≡◌, ℕ, ◌+◌, ◌*◌, ◌^◌, ◌<◌, ◌≤◌, Bool, true, false, List, Some}
+use Rattle.std.specs.Prelude.{length}
 use Rattle.std.below.core.specs.declared.ops.ControlFlow.{ControlFlow}
 use Rattle.std.below.core.specs.declared.ops.ControlFlow.TheVariants.{Continue, Break}
 use Rattle.vb_kernel.specs.declared.search.Search.{Search}
@@ -10,7 +11,8 @@ abbrev pub matching : Bool → List Bool → List Bool
 matching true l = l
 matching false l = negated l
 
--- the place of the n-th true value of the list, or the rank that is left for what comes after the list
+-- the place of the n-th true value of the list, or the rank that is left for what comes after the
+-- list
 abbrev pub Searched : List Bool → ℕ → ControlFlow ℕ ℕ → Type 0
 Searched l n (Break p) = Selects l n (Some p)
 Searched l n (Continue left) = n ≡ left + count l
@@ -22,4 +24,7 @@ pub record IsWithin (bytes : List ℕ) (s : Search) (n : ℕ) : Type 0 where
 
 -- what the search of the n bits from where it stands answers
 abbrev pub SearchAnswers : List ℕ → Search → ℕ → ControlFlow ℕ ℕ → Type 0
-SearchAnswers bytes s n r = Searched (matching s.value (bits bytes s.offset (s.from + n))) (s.n + count (matching s.value (bits bytes s.offset s.from))) r
+SearchAnswers bytes s n r = Searched
+    (matching s.value (bits bytes s.offset (s.from + n)))
+    (s.n + count (matching s.value (bits bytes s.offset s.from)))
+    r

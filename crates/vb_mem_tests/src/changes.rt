@@ -1,4 +1,5 @@
-//! Changes of a buffer: what stands after a refused one, and that none gives up while there is memory.
+//! Changes of a buffer: what stands after a refused one, and that none gives up while there is
+//! memory.
 use crate::compared::{each, equal, equal_lists};
 use std::alloc::Allocator;
 use std::process::Abort;
@@ -185,8 +186,8 @@ fn grow<A: Allocator + Clone>(
     Ok(())
 }
 
-/// A body that gives up once the buffer has grown to some length fails here, and so does one that asks for room at each
-/// call, or for more and more of it.
+/// A body that gives up once the buffer has grown to some length fails here, and so does one that
+/// asks for room at each call, or for more and more of it.
 #[test]
 fn growth_goes_on_while_there_is_memory(rt: HostRuntime) -> Result<(), Fail> {
     for (change, items) in GROWING {

@@ -1,4 +1,5 @@
-//! Comparisons of what is given with what is wanted. Each is proved once here, and so tests are proved in less time.
+//! Comparisons of what is given with what is wanted. Each is proved once here, and so tests are
+//! proved in less time.
 use std::alloc::Allocator;
 use std::fmt::Debug;
 use std::process::Abort;

@@ -1,5 +1,5 @@
-//! What calls ask of the allocator: nothing where they share or work in place, and at most twice the bytes that they need
-//! where they copy or grow.
+//! What calls ask of the allocator: nothing where they share or work in place, and at most twice
+//! the bytes that they need where they copy or grow.
 use crate::compared::equal_lists;
 use crate::makers::{cloned, sliced, twin};
 use std::alloc::Allocator;
@@ -11,7 +11,8 @@ use vb_testing::Refusing;
 /// The items of the buffers, or of a part.
 const SEVENS: [u32; 1001] = [7; 1001];
 
-/// A call on a growing buffer of a thousand sevens, which fill a storage that is aligned to 256 bytes.
+/// A call on a growing buffer of a thousand sevens, which fill a storage that is aligned to 256
+/// bytes.
 enum Growing {
     Freeze,
     Take,
@@ -51,7 +52,8 @@ impl Growing {
     }
 }
 
-/// The calls, and how many bytes each asks for: at least, and at most. An owner takes less than 256 bytes.
+/// The calls, and how many bytes each asks for: at least, and at most. An owner takes less than 256
+/// bytes.
 const GROWING: &[(Growing, usize, usize)] = &[
     // A body that copies the items fails here.
     (Growing::Freeze, 1, 256),

@@ -1,4 +1,5 @@
-//! What `items_mut` and `into_mut` leave of the declared alignment, and what a refused hint decides.
+//! What `items_mut` and `into_mut` leave of the declared alignment, and what a refused hint
+//! decides.
 use crate::compared::{equal, equal_lists};
 use std::alloc::Allocator;
 use std::process::Abort;

@@ -1,5 +1,5 @@
-//! Tests of list buffers: examples with known answers, each request for memory refused in turn, and what calls ask of the
-//! allocator.
+//! Tests of list buffers: examples with known answers, each request for memory refused in turn, and
+//! what calls ask of the allocator.
 #![tactic(auto)]
 
 #[cfg(test)]

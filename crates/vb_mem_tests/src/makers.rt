@@ -56,6 +56,7 @@ impl Growing {
     }
 }
 
+/// The buffer's clone.
 pub fn cloned<A: Allocator + Clone>(
     buffer: BufferMut<u32, A>,
 ) -> Result<BufferMut<u32, A>, BufferError> {
@@ -120,6 +121,7 @@ impl Shared {
     }
 }
 
+/// A second owner of the buffer's storage.
 pub fn twin<A: Allocator + Clone>(buffer: Buffer<u32, A>) -> Result<Buffer<u32, A>, BufferError> {
     buffer.clone()
 }
@@ -138,6 +140,7 @@ fn unaligned_part<A: Allocator + Clone>(
     whole.slice_unaligned(1..2)
 }
 
+/// The items from `start` up to `end`, which share the storage.
 pub fn sliced<A: Allocator + Clone>(
     whole: Buffer<u32, A>,
     start: usize,
@@ -204,7 +207,8 @@ fn bytes_of<A: Allocator + Clone>(items: Buffer<u32, A>) -> Result<Buffer<u8, A>
     items.as_bytes()
 }
 
-/// The calls, each with the items of what it makes, and the alignments: the reported and the declared one.
+/// The calls, each with the items of what it makes, and the alignments: the reported and the
+/// declared one.
 const ROWS: &[(Shared, &[u32], (usize, usize))] = &[
     (Shared::Frozen(Growing::WithCapacity), &[], (4, 256)),
     (

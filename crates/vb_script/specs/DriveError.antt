@@ -43,10 +43,12 @@ IfOfLine (Err Read) P = Unit {0}
 IfOfLine (Err Write) P = Unit {0}
 IfOfLine (Err Memory) P = P
 
--- the failed reads and writes, before and after: the one that the error names is one more, and no other
+-- the failed reads and writes, before and after: the one that the error names is one more, and no
+-- other
 abbrev pub CountsFaults : {X : Type 0} → Result X DriveError → ℕ → ℕ → ℕ → ℕ → Type 0
 CountsFaults (Ok x) reads writes reads' writes' = (reads' ≡ reads) × (writes' ≡ writes)
-CountsFaults (Err (Unreadable line)) reads writes reads' writes' = (reads' ≡ reads) × (writes' ≡ writes)
+CountsFaults (Err (Unreadable line)) reads writes reads' writes' =
+    (reads' ≡ reads) × (writes' ≡ writes)
 CountsFaults (Err Read) reads writes reads' writes' = (reads' ≡ reads + 1) × (writes' ≡ writes)
 CountsFaults (Err Write) reads writes reads' writes' = (reads' ≡ reads) × (writes' ≡ writes + 1)
 CountsFaults (Err Memory) reads writes reads' writes' = (reads' ≡ reads) × (writes' ≡ writes)

@@ -1,5 +1,7 @@
 -- What a session answers to the lines of its input.
-use Rattle.std.specs.Prelude.{◌≡◌, ℕ, ◌+◌, ◌-◌, ◌^◌, ◌<◌, ◌≤◌, ◌⊎◌, ◌==◌, List, [], ◌∷◌, ◌++◌, length, take, slice_get, count_by, Option, Some, None, Result, Ok, Err, IsTrue, IsSomeAnd}
+use Rattle.std.specs.Prelude.{◌≡◌, ℕ, ◌+◌, ◌-◌, ◌^◌, ◌<◌, ◌≤◌, ◌⊎◌, ◌==◌, List, [], ◌∷◌, ◌++◌}
+use Rattle.std.specs.Prelude.{length, take, slice_get, count_by, Option, Some, None, Result, Ok}
+use Rattle.std.specs.Prelude.{Err, IsTrue, IsSomeAnd}
 use Rattle.std.specs.List.{flat_map}
 use Rattle.std.specs.Str.Lines.{lines}
 use Rattle.std.specs.Io.KnownBytes.{Appends, Keeps}
@@ -21,9 +23,11 @@ line_of_any None = []
 line_of_any (Some r) = line_of r
 
 -- what a line, if there is one, does to the slots and to the text of the answers
-abbrev pub ServesNext : Option (List ℕ) → List Slot → Option (List ℕ) → List Slot → Option (List ℕ) → Type 0
+abbrev pub ServesNext : Option (List ℕ) → List Slot → Option (List ℕ) → List Slot
+    → Option (List ℕ) → Type 0
 ServesNext None s old t new = (t ≡ s) × Appends old new []
-ServesNext (Some line) s old t new = (r : Option Reply) × Serves (reading line) s r t × Appends old new (line_of_any r)
+ServesNext (Some line) s old t new =
+    (r : Option Reply) × Serves (reading line) s r t × Appends old new (line_of_any r)
 
 -- the answers, one a line
 abbrev pub printed : List Reply → List ℕ
@@ -37,7 +41,8 @@ pub record AnswersRun (old new : Option (List ℕ)) : Type 0 where
   pub ran : Run empty_slots commands replies last
   pub written : Appends old new (printed replies)
 
--- the lines were answered: their commands were run from sixteen empty slots on, and the answers written
+-- the lines were answered: their commands were run from sixteen empty slots on, and the answers
+-- written
 pub record AnswersLines (ls : List (List ℕ)) (old new : Option (List ℕ)) : Type 0 where
   pub commands : List Order
   pub read : script 1 ls ≡ Some commands
@@ -46,7 +51,8 @@ pub record AnswersLines (ls : List (List ℕ)) (old new : Option (List ℕ)) : T
   pub ran : Run empty_slots commands replies last
   pub written : Appends old new (printed replies)
 
--- the line of this number, which stands in what was read, can't be read, and those before it were answered
+-- the line of this number, which stands in what was read, can't be read, and those before it were
+-- answered
 pub record StopsAt (input rest : List ℕ) (line : ℕ) (old new : Option (List ℕ)) : Type 0 where
   pub bytes : List ℕ
   pub front : input ≡ bytes ++ rest
@@ -69,20 +75,24 @@ ended_lines bytes = take (count_ended bytes) (lines bytes)
 
 -- all but the rest of the input was read, and the lines that end in what was read were answered
 abbrev pub AnswersEnded : List ℕ → List ℕ → Option (List ℕ) → Option (List ℕ) → Type 0
-AnswersEnded input rest old new = (bytes : List ℕ) × (input ≡ bytes ++ rest) × AnswersLines (ended_lines bytes) old new
+AnswersEnded input rest old new =
+    (bytes : List ℕ) × (input ≡ bytes ++ rest) × AnswersLines (ended_lines bytes) old new
 
--- all but the rest of the input was read, and of the lines that end in what was read some first ones were answered;
--- if the next one ends there too, it is a command that takes memory to be read
+-- all but the rest of the input was read, and of the lines that end in what was read some first
+-- ones were answered; if the next one ends there too, it is a command that takes memory to be read
 pub record AnswersSome (input rest : List ℕ) (old new : Option (List ℕ)) : Type 0 where
   pub bytes : List ℕ
   pub front : input ≡ bytes ++ rest
   pub number : ℕ
   pub ended : number ≤ count_ended bytes
   pub answered : AnswersLines (take number (lines input)) old new
-  pub next : number < count_ended bytes → IsSomeAnd (slice_get (lines input) number) (λ line. IsTrue (asks_memory (reading line)))
+  pub next : number < count_ended bytes
+      → IsSomeAnd (slice_get (lines input) number) (λ line. IsTrue (asks_memory (reading line)))
 
--- what a session read of its input and what it wrote, by how it ended; the rest of the input is still to come
-abbrev pub SessionEnds : {X : Type 0} → Result X DriveError → List ℕ → List ℕ → Option (List ℕ) → Option (List ℕ) → Type 0
+-- what a session read of its input and what it wrote, by how it ended; the rest of the input is
+-- still to come
+abbrev pub SessionEnds : {X : Type 0} → Result X DriveError → List ℕ → List ℕ
+    → Option (List ℕ) → Option (List ℕ) → Type 0
 SessionEnds (Ok x) input rest old new = AnswersLines (lines input) old new × (rest ≡ [])
 SessionEnds (Err (Unreadable line)) input rest old new = StopsAt input rest line old new
 SessionEnds (Err Read) input rest old new = AnswersEnded input rest old new

@@ -1,10 +1,12 @@
 //! The whole of an input, line by line.
-ghost use Rattle.std.specs.Prelude.{◌≡◌, ◌+◌, ◌-◌, ◌^◌, ◌⊎◌, ◌<◌, [], None, Some, drop, length, IfErr, IfSome, IsSomeAnd, IsTrue, MatchOption, OnOk};
+ghost use Rattle.std.specs.Prelude.{◌≡◌, ◌+◌, ◌-◌, ◌^◌, ◌⊎◌, ◌<◌, [], None, Some, drop, length};
+ghost use Rattle.std.specs.Prelude.{IfErr, IfSome, IsSomeAnd, IsTrue, MatchOption, OnOk};
 ghost use Rattle.std.specs.Io.KnownBytes.{append_known, Appends};
 ghost use Rattle.std.specs.Option.{ForSome};
 ghost use Rattle.vb_command.specs.Machine.{empty_slots};
 ghost use Rattle.vb_command.specs.Reading.{asks_memory, reading};
-ghost use Rattle.vb_script.specs.DriveError.{CountsFaults, IfMemory, IfOfLine, IfUnreadable, IsNoRead, UnlessWrite};
+ghost use Rattle.vb_script.specs.DriveError.{CountsFaults, IfMemory, IfOfLine, IfUnreadable};
+ghost use Rattle.vb_script.specs.DriveError.{IsNoRead, UnlessWrite};
 ghost use Rattle.vb_script.specs.Feed.{next_line};
 ghost use Rattle.vb_script.specs.Session.{AnswersRun, ServesNext, SessionEnds};
 

@@ -1,5 +1,6 @@
 //! Bytes that were read and aren't used yet.
-ghost use Rattle.std.specs.Prelude.{◌≡◌, ℕ, ◌+◌, ◌-◌, ◌^◌, ◌<◌, ◌≤◌, ◌==◌, List, [], length, take, drop, position, slice_range, OnErr, OnOk, IfOk, IfErr};
+ghost use Rattle.std.specs.Prelude.{◌≡◌, ℕ, ◌+◌, ◌-◌, ◌^◌, ◌<◌, ◌≤◌, ◌==◌, List, [], length, take};
+ghost use Rattle.std.specs.Prelude.{drop, position, slice_range, OnErr, OnOk, IfOk, IfErr};
 ghost use Rattle.std.specs.Io.KnownBytes.{prepend_known, IsAtEnd, Keeps};
 ghost use Rattle.std.specs.List.{position_or_len};
 ghost use Rattle.vb_script.specs.DriveError.{CountsFaults, IsOutside};

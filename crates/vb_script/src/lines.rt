@@ -1,5 +1,6 @@
 //! Lines of the input, as they come.
-ghost use Rattle.std.specs.Prelude.{◌≡◌, ◌<◌, ◌==◌, ℕ, None, length, option_map, position, IfErr, IfOk, OnOk};
+ghost use Rattle.std.specs.Prelude.{◌≡◌, ◌<◌, ◌==◌, ℕ, None, length, option_map, position, IfErr};
+ghost use Rattle.std.specs.Prelude.{IfOk, OnOk};
 ghost use Rattle.std.specs.Io.KnownBytes.{append_known, prepend_known, Appends, IsAtEnd, Keeps};
 ghost use Rattle.std.specs.Option.{ForSome};
 ghost use Rattle.std.specs.Str.Lines.{strip_carriage_return};

@@ -1,8 +1,10 @@
 //! Answers that wait to be written.
-ghost use Rattle.std.specs.Prelude.{◌≡◌, ◌+◌, ◌≤◌, [], ◌∷◌, ◌++◌, length, vec_capacity, decimal, IfOk, IfErr, OnOk};
+ghost use Rattle.std.specs.Prelude.{◌≡◌, ◌+◌, ◌≤◌, [], ◌∷◌, ◌++◌, length, vec_capacity, decimal};
+ghost use Rattle.std.specs.Prelude.{IfOk, IfErr, OnOk};
 ghost use Rattle.std.specs.Io.KnownBytes.{Appends};
 ghost use Rattle.std.specs.List.{flat_map};
-ghost use Rattle.vb_command.specs.Printed.{digit_of, digits_of, line_of, places_text, run_text, runs_text};
+ghost use Rattle.vb_command.specs.Printed.{digit_of, digits_of, line_of, places_text, run_text};
+ghost use Rattle.vb_command.specs.Printed.{runs_text};
 ghost use Rattle.vb_command.specs.Views.{reply};
 ghost use Rattle.vb_script.specs.DriveError.{CountsFaults, IsWrite};
 ghost use Rattle.vb_script.specs.Outbox.{Adds};

@@ -6,6 +6,7 @@ ghost use Rattle.std.specs.Cmp.Lexicographic.{pointwise, lists_per, lists_equiv}
 ghost use Rattle.vb_view.specs.View.{bits_of};
 
 use crate::view::BitBufferView;
+use vb_bits::equal_bits;
 
 impl PartialEq for BitBufferView<'_> {
     ghost eq = { λ x y. pointwise beq (bits_of x) (bits_of y) };
@@ -26,18 +27,16 @@ impl Eq for BitBufferView<'_> {
     ghost laws = { on_equiv bits_of (lists_equiv bool_eq_equiv) };
 }
 
-/// Whether the lists of bits are equal, word by word.
+/// Whether the lists of bits are equal.
 fn same_bits(left: &BitBufferView<'_>, right: &BitBufferView<'_>) -> bool
     ensures { IsTrue result ↔ (bits_of left.now ≡ bits_of right.now) }
 {
-    if left.len() != right.len() {
-        return false;
-    }
-    let mut others = right.chunks().iter_padded();
-    for word in left.chunks().iter_padded() {
-        if others.next() != Some(word) {
-            return false;
-        }
-    }
-    true
+    left.len() == right.len()
+        && equal_bits(
+            left.inner(),
+            left.offset(),
+            right.inner(),
+            right.offset(),
+            left.len(),
+        )
 }

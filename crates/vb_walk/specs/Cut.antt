@@ -1,10 +1,12 @@
 -- Bits as words of whole bytes.
-use Rattle.std.specs.Prelude.{◌≡◌, ◌≢◌, ℕ, ◌+◌, ◌*◌, Bool, false, List, [], ◌∷◌, ◌++◌, length, replicate, Option, None}
+use Rattle.std.specs.Prelude.{◌≡◌, ◌≢◌, ℕ, ◌+◌, ◌*◌, Bool, false, List, [], ◌∷◌, ◌++◌, length}
+use Rattle.std.specs.Prelude.{replicate, Option, None}
 use Rattle.std.specs.Int.{div_ceil}
 use Rattle.vb_bits.specs.Bits.{bits}
 use Rattle.vb_walk.specs.Words.{number, words, item_of}
 
--- the values behind s false ones, as words of which the last is filled with false; none of no values
+-- the values behind s false ones, as words of which the last is filled with false; none of no
+-- values
 abbrev pub cut : ℕ → List Bool → List ℕ
 cut s [] = []
 cut s (b ∷ l) = words (replicate s false ++ b ∷ l) (div_ceil (s + length (b ∷ l)) 64)
@@ -13,7 +15,8 @@ cut s (b ∷ l) = words (replicate s false ++ b ∷ l) (div_ceil (s + length (b 
 abbrev pub word_of : List ℕ → ℕ
 word_of bytes = number (bits bytes 0 64)
 
--- what contracts see of an `UnalignedBitChunk`: the digits before its bits in the first word and behind them in the last one, and its words in three parts
+-- what contracts see of an `UnalignedBitChunk`: the digits before its bits in the first word and
+-- behind them in the last one, and its words in three parts
 pub record UnalignedWords : Type 0 where
   pub lead_padding : ℕ
   pub trailing_padding : ℕ
@@ -25,7 +28,8 @@ pub record UnalignedWords : Type 0 where
 abbrev pub all_words : UnalignedWords → List ℕ
 all_words u = item_of u.prefix ++ u.chunks ++ item_of u.suffix
 
--- the n bits from bit s of their first byte on are cut into these words: the first is the prefix, the last of two or more is the suffix
+-- the n bits from bit s of their first byte on are cut into these words: the first is the prefix,
+-- the last of two or more is the suffix
 pub record IsCut (s : ℕ) (l : List Bool) (u : UnalignedWords) : Type 0 where
   pub words : all_words u ≡ cut s l
   pub prefix : u.prefix ≡ None → (u.chunks ≡ []) × (u.suffix ≡ None)

@@ -1,6 +1,7 @@
 -- Walks over a window by words: a word in hand, whole words behind it, and fewer than 64 bits
 -- behind these.
-use Rattle.std.specs.Prelude.{◌≡◌, ◌≢◌, ◌⊎◌, ℕ, ◌+◌, ◌-◌, ◌*◌, ◌%◌, ◌^◌, ◌<◌, ◌≤◌, Bool, true, false, cond, nat_lt, List, length, filter, map, Option, Some, None}
+use Rattle.std.specs.Prelude.{◌≡◌, ◌≢◌, ◌⊎◌, ℕ, ◌+◌, ◌-◌, ◌*◌, ◌%◌, ◌^◌, ◌<◌, ◌≤◌, Bool, true}
+use Rattle.std.specs.Prelude.{false, cond, nat_lt, List, length, filter, map, Option, Some, None}
 use Rattle.std.specs.Int.{bit_not, w64}
 use Rattle.std.specs.List.{range_with_len}
 use Rattle.vb_bits.specs.Bits.{bit_of}

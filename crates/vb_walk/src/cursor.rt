@@ -1,5 +1,6 @@
 //! Where a walk over a window by words stands.
-ghost use Rattle.std.specs.Prelude.{◌≡◌, ℕ, ◌+◌, ◌-◌, ◌*◌, ◌%◌, ◌^◌, ◌<◌, ◌≤◌, ◌↔◌, length, IsTrue, false};
+ghost use Rattle.std.specs.Prelude.{◌≡◌, ℕ, ◌+◌, ◌-◌, ◌*◌, ◌%◌, ◌^◌, ◌<◌, ◌≤◌, ◌↔◌, length, IsTrue};
+ghost use Rattle.std.specs.Prelude.{false};
 ghost use Rattle.vb_bits.specs.Bits.{bit_of, bits};
 ghost use Rattle.vb_bits.specs.Digits.{digits};
 ghost use Rattle.vb_walk.specs.Walks.{
