@@ -5,13 +5,17 @@ ghost use Rattle.vb_bits.specs.Bits.{bits};
 use crate::bytes::word_at;
 use crate::read::{read_bits, shifted_word};
 
-/// How many words are compared before it is seen whether they differ: a vector loop has no way out.
-const BLOCK: usize = 32;
+/// At most how many words are compared before it is seen whether they differ: a vector loop has no
+/// way out.
+const BLOCK: usize = 256;
+
+/// How many are compared at first.
+const FIRST: usize = 8;
 
 /// Whether the `len` bits of `left` from bit `l` on are those of `right` from bit `r` on.
 ///
-/// Whole bytes that lie alike in both are compared as bytes, others by words of 64 bits. What is
-/// 256 bytes behind the first difference isn't read.
+/// Whole bytes that lie alike in both are compared as bytes, others by words of 64 bits, blocks of
+/// which grow from 8 words to 256. No block behind the first difference is read.
 pub fn equal_bits(left: &[u8], l: usize, right: &[u8], r: usize, len: usize) -> bool
     requires left_inside { l + len ≤ 8 * length left.now }
     requires left_fits { l + len < 2 ^ 64 }
@@ -74,7 +78,7 @@ fn equal_shifted_words(left: &[u8], a: usize, right: &[u8], r: usize, n: usize) 
 {
     let mut done = 0;
     while done < n {
-        let count = BLOCK.min(n - done);
+        let count = (n - done).min(FIRST + done).min(BLOCK);
         if differing_digits(left, a + 8 * done, right, r + 64 * done, count) != 0 {
             return false;
         }
