@@ -1,0 +1,41 @@
+-- Tables of the counts before each block of 512 bits, and their probes.
+use Rattle.std.specs.Prelude.{◌≡◌, ℕ, ◌+◌, ◌-◌, ◌*◌, ◌<◌, ◌≤◌, Bool, true, false}
+use Rattle.std.specs.Prelude.{List, length, map, take, slice_index}
+use Rattle.std.specs.Int.{div_ceil}
+use Rattle.std.specs.Int.Digits.{digits_of}
+use Rattle.std.specs.List.{range_with_len}
+use Rattle.vb_kernel.specs.Bits.{count}
+
+-- entries, and how many probes they have had
+pub record CountedEntries : Type 0 where
+  pub entries : List ℕ
+  pub probes : ℕ
+
+-- how many blocks of 512 bits n bits begin
+abbrev pub blocks : ℕ → ℕ
+blocks n = div_ceil n 512
+
+-- for each block, how many true values are before it
+unfoldable pub block_counts : List Bool → List ℕ
+block_counts l = map (λ j. count (take (512 * j) l)) (range_with_len 0 (blocks (length l)))
+
+-- how many binary digits a number has; 0 has none
+abbrev pub binary_digits : ℕ → ℕ
+binary_digits n = length (digits_of 2 n)
+
+-- how many values that are v are before block j, by the table
+abbrev pub passed : Bool → List ℕ → ℕ → ℕ
+passed true t j = slice_index t j
+passed false t j = 512 * j - slice_index t j
+
+-- before block j are m values that are v, at most n, and before the next one more than n
+pub record BeginsBefore (v : Bool) (t : List ℕ) (n j m : ℕ) : Type 0 where
+  pub within : j < length t
+  pub before : m ≡ passed v t j
+  pub low : m ≤ n
+  pub high : j + 1 < length t → n < passed v t (j + 1)
+
+-- one more, or one fewer
+abbrev pub moved : Bool → ℕ → ℕ
+moved true n = n + 1
+moved false n = n - 1

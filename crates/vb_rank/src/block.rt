@@ -1,0 +1,50 @@
+//! The block of a rank.
+ghost use Rattle.std.specs.Prelude.{◌≡◌, ℕ, ◌+◌, ◌*◌, ◌^◌, ◌<◌, ◌≤◌, length, slice_index};
+ghost use Rattle.vb_rank.specs.Tables.{passed, BeginsBefore};
+
+use crate::probe::Probe;
+
+/// The block in which the `n`-th bit that is `value` lies, where there is one, and how many such
+/// bits are before the block.
+///
+/// Each probe halves the blocks that are left, by moves in place of branches: how many turns there
+/// are depends on the size of the table alone. Entry 0 is not read, since it is 0.
+pub(crate) fn find_block<T: Probe>(table: &mut T, n: usize, value: bool) -> (usize, usize)
+    requires some { 0 < length (T.entries table.old) }
+    requires small { (j : ℕ) → j < length (T.entries table.old)
+        → slice_index (T.entries table.old) j ≤ 512 * j }
+    requires fits { (j : ℕ) → j < length (T.entries table.old) → 512 * j < 2 ^ 64 }
+    requires rising { (i j : ℕ) → i ≤ j → j < length (T.entries table.old)
+        → passed value (T.entries table.old) i ≤ passed value (T.entries table.old) j }
+    ensures block { BeginsBefore value (T.entries table.old) n result.0 result.1 }
+    ensures same { T.entries table.new ≡ T.entries table.old }
+    ensures probes { (k : ℕ) → length (T.entries table.old) ≤ 2 ^ k
+        → T.probes table.new ≤ T.probes table.old + k }
+{
+    let mut low = 0;
+    let mut before = 0;
+    let mut left = table.size();
+    while left > 1 {
+        let half = left / 2;
+        let here = bits_before(table, low + half, value);
+        if here <= n {
+            low += half;
+            before = here;
+        }
+        left -= half;
+    }
+    (low, before)
+}
+
+/// How many bits that are `value` are before block `j`, by one probe.
+fn bits_before<T: Probe>(table: &mut T, j: usize, value: bool) -> usize
+    requires within { j < length (T.entries table.old) }
+    requires small { slice_index (T.entries table.old) j ≤ 512 * j }
+    requires fits { 512 * j < 2 ^ 64 }
+    ensures value { result ≡ passed value (T.entries table.old) j }
+    ensures same { T.entries table.new ≡ T.entries table.old }
+    ensures probe { T.probes table.new ≡ T.probes table.old + 1 }
+{
+    let ones = table.entry(j);
+    if value { ones } else { 512 * j - ones }
+}
