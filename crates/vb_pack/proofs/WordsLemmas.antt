@@ -1,0 +1,152 @@
+-- Digits of words.
+use Rattle.std.proofs.Common.{◌≡◌, ◌≢◌, inl, inr, ℕ, ◌+◌, ◌-◌, ◌*◌, ◌/◌, ◌%◌, ◌^◌, ◌<◌, ◌≤◌, ◌⊎◌, Bool, true, false, List, [], ◌∷◌, ◌++◌, length, get_or, set, replicate, eqb, refl, sym, ap, subst, ◌∙◌, arith, zero-add, length-set, get_or-set_same, get_or-set_other}
+use Rattle.std.proofs.lemmas.Bool.{cases_lt, cases_eq}
+use Rattle.std.proofs.lemmas.List.{same_lists, append_assoc, length-append, length-replicate, get_or-replicate, get_or_append_left, get_or-append_right}
+use Rattle.std.proofs.lemmas.List.FromFn.{length-map-range_with_len, get_or-map-range_with_len}
+use Rattle.std.proofs.lemmas.Nat.Bits.{bit_at_above}
+use Rattle.vb_bits.specs.Digits.{has_bit, digits}
+use Rattle.vb_bits.proofs.RangeLemmas.{map-range_with_len-add, same_map-range_with_len}
+use Rattle.vb_bits.proofs.DigitsLemmas.{length-digits, at-digits, digits-add}
+use Rattle.vb_pack.specs.Words.{word_bit, word_bits, WritesWords, filled_up}
+
+-- as many digits as asked for
+pub length-word_bits : (w : List ℕ) (o n : ℕ) → length (word_bits w o n) ≡ n
+unfolding word_bits
+length-word_bits w o n = length-map-range_with_len (word_bit w) o n
+
+-- one of the digits
+pub at-word_bits : (w : List ℕ) (o n i : ℕ) (d : Bool) → i < n → get_or (word_bits w o n) i d ≡ word_bit w (o + i)
+unfolding word_bits
+at-word_bits w o n i d h = get_or-map-range_with_len (word_bit w) o n i (o + i) d h refl
+
+-- no digits
+pub word_bits_none : (w : List ℕ) (o : ℕ) → word_bits w o 0 ≡ []
+unfolding word_bits
+word_bits_none w o = refl
+
+-- digits cut in two
+pub word_bits-add : (w : List ℕ) (o m n : ℕ) → word_bits w o (m + n) ≡ word_bits w o m ++ word_bits w (o + m) n
+unfolding word_bits
+word_bits-add w o m n = map-range_with_len-add (word_bit w) o m n
+
+-- two lists of words with the same digits
+pub same_word_bits : (v w : List ℕ) (o p n : ℕ) → ((i : ℕ) → i < n → word_bit v (o + i) ≡ word_bit w (p + i)) → word_bits v o n ≡ word_bits w p n
+unfolding word_bits
+same_word_bits v w o p n h = same_map-range_with_len (word_bit v) (word_bit w) o p n h
+
+-- digits that are those of a number
+pub word_bits-digits : (v : List ℕ) (w o a n : ℕ) → ((i : ℕ) → i < n → word_bit v (o + i) ≡ has_bit w (a + i)) → word_bits v o n ≡ digits w a n
+unfolding word_bits digits
+word_bits-digits v w o a n h = same_map-range_with_len (word_bit v) (has_bit w) o a n h
+
+-- ---- digits that are 0
+-- a digit past a number's last one
+pub has_bit_above : (w n i : ℕ) → w < 2 ^ n → n ≤ i → has_bit w i ≡ false
+has_bit_above w n i small h = ap (λ x. eqb x 1) (bit_at_above w n i small h)
+
+-- a number's digits, and those past its last one
+pub digits_above : (w n k : ℕ) → w < 2 ^ n → n ≤ k → digits w 0 k ≡ digits w 0 n ++ replicate (k - n) false
+digits_above w n k small h =
+    let whole : k ≡ n + (k - n) = omega arith in
+    ap (digits w 0) whole ∙ digits-add w 0 n (k - n) ∙ ap (λ l. digits w 0 n ++ l)
+    (same_lists _ _ (length-digits w (0 + n) (k - n) ∙ sym (length-replicate (k - n) false))
+    (λ i d l.
+    let inside : i < k - n = omega (arith, length-digits w (0 + n) (k - n)) in
+    at-digits w (0 + n) (k - n) i d inside ∙ has_bit_above w n (0 + n + i) small (omega arith) ∙ sym (get_or-replicate (k - n) i false d inside)))
+
+-- ---- writes
+-- a write, said digit by digit
+pub WritesWords_by_digits : (b c : List ℕ) (o : ℕ) (m : List Bool) → length c ≡ length b → ((i : ℕ) (d : Bool) → i < length m → word_bit c (o + i) ≡ get_or m i d) → ((i : ℕ) → (i < o) ⊎ (o + length m ≤ i) → word_bit c i ≡ word_bit b i) → WritesWords b c o m
+WritesWords_by_digits b c o m long inside outside = record {
+  same_len = long;
+  window = same_lists _ _ (length-word_bits c o (length m))
+      (λ i d h. let here : i < length m = omega (arith, length-word_bits c o (length m)) in at-word_bits c o (length m) i d here ∙ inside i d here);
+  others = outside;
+}
+
+-- a digit that was written
+pub WritesWords-at : (b c : List ℕ) (o i : ℕ) (m : List Bool) (d : Bool) → WritesWords b c o m → i < length m → word_bit c (o + i) ≡ get_or m i d
+WritesWords-at b c o i m d written h = sym (at-word_bits c o (length m) i d h) ∙ ap (λ l. get_or l i d) written.window
+
+-- a write of nothing
+pub WritesWords_none : (b : List ℕ) (o : ℕ) (m : List Bool) → length m ≡ 0 → WritesWords b b o m
+WritesWords_none b o m none = WritesWords_by_digits b b o m refl (λ i d h. absurd (omega arith)) (λ i h. refl)
+
+-- two writes, one behind the other
+pub WritesWords-add : (b c d : List ℕ) (o p : ℕ) (l m : List Bool) → p ≡ o + length l → WritesWords b c o l → WritesWords c d p m → WritesWords b d o (l ++ m)
+WritesWords-add b c d o p l m from first second =
+    let whole : length (l ++ m) ≡ length l + length m = length-append l m in
+    record {
+      same_len = second.same_len ∙ first.same_len;
+      window =
+          ap (word_bits d o) whole ∙ word_bits-add d o (length l) (length m)
+          ∙ ap (λ x. x ++ word_bits d (o + length l) (length m))
+          (same_word_bits d c o o (length l) (λ i h. second.others (o + i) (inl (omega arith))) ∙ first.window)
+          ∙ ap (λ x. l ++ x) (ap (λ x. word_bits d x (length m)) (sym from) ∙ second.window);
+      others = λ i h.
+          second.others i (elim h [ inl low ↦ inl (omega arith) | inr high ↦ inr (omega arith) ])
+          ∙ first.others i (elim h [ inl low ↦ inl low | inr high ↦ inr (omega arith) ]);
+    }
+
+-- one word
+pub WritesWords_set : (b : List ℕ) (k w : ℕ) → k < length b → WritesWords b (set b k w) (64 * k) (digits w 0 64)
+WritesWords_set b k w h =
+    let long : length (digits w 0 64) ≡ 64 = length-digits w 0 64 in
+    WritesWords_by_digits b (set b k w) (64 * k) (digits w 0 64) (length-set b k w)
+    (λ i d l.
+    let inside : i < 64 = omega arith in
+    let word : (64 * k + i) / 64 ≡ k = omega arith in
+    let place : (64 * k + i) % 64 ≡ i = omega arith in
+    ap (λ j. has_bit (get_or (set b k w) j 0) ((64 * k + i) % 64)) word ∙ ap (has_bit (get_or (set b k w) k 0)) place
+    ∙ ap (λ x. has_bit x i) (get_or-set_same b k w 0 h) ∙ sym (at-digits w 0 64 i d inside ∙ ap (has_bit w) (zero-add i)))
+    (λ i l.
+    let other : i / 64 ≢ k = elim l [ inl low ↦ omega arith | inr high ↦ omega arith ] in
+    ap (λ x. has_bit x (i % 64)) (get_or-set_other b k (i / 64) w 0 other))
+
+-- the front of what was written
+pub WritesWords-front : (b c : List ℕ) (o n : ℕ) (l m : List Bool) → WritesWords b c o (l ++ m) → n ≡ length l → word_bits c o n ≡ l
+WritesWords-front b c o n l m written e =
+    same_lists _ _ (length-word_bits c o n ∙ e)
+    (λ i d h.
+    let inside : i < n = omega (arith, length-word_bits c o n) in
+    let within : i < length l = omega arith in
+    let whole : i < length (l ++ m) = omega (arith, length-append l m) in
+    at-word_bits c o n i d inside ∙ WritesWords-at b c o i (l ++ m) d written whole ∙ get_or_append_left l m d i within)
+
+-- a window, and what is written behind it
+pub WritesWords-more : (b c d : List ℕ) (o p m n k : ℕ) (l : List Bool) → p ≡ o + m → length l ≡ n → k ≡ m + n → WritesWords b c o (word_bits c o m) → WritesWords c d p l → (word_bits d o k ≡ word_bits c o m ++ l) × WritesWords b d o (word_bits d o k)
+WritesWords-more b c d o p m n k l from long whole first second =
+    let both : WritesWords b d o (word_bits c o m ++ l) = WritesWords-add b c d o p (word_bits c o m) l (omega (arith, length-word_bits c o m)) first second in
+    let size : length (word_bits c o m ++ l) ≡ k = omega (arith, length-append (word_bits c o m) l, length-word_bits c o m) in
+    let window : word_bits d o k ≡ word_bits c o m ++ l = ap (word_bits d o) (sym size) ∙ both.window in
+    (window, subst (WritesWords b d o) (sym window) both)
+
+-- a write whose end is false, where the digits were
+pub WritesWords-less : (b c : List ℕ) (o k : ℕ) (l : List Bool) → WritesWords b c o (l ++ replicate k false) → ((i : ℕ) → o + length l ≤ i → word_bit b i ≡ false) → WritesWords b c o l
+WritesWords-less b c o k l written clear =
+    let whole : length (l ++ replicate k false) ≡ length l + k = length-append l (replicate k false) ∙ ap (λ n. length l + n) (length-replicate k false) in
+    WritesWords_by_digits b c o l written.same_len
+    (λ i d h. WritesWords-at b c o i (l ++ replicate k false) d written (omega arith) ∙ get_or_append_left l (replicate k false) d i h)
+    (λ i h. elim h [
+      | inl before ↦ written.others i (inl before)
+      | inr behind ↦ elim (cases_lt i (o + length l + k)) [
+        | inl inside ↦
+            let place : o + (i - o) ≡ i = omega arith in
+            let past : i - o - length l < k = omega arith in
+            ap (word_bit c) (sym place) ∙ WritesWords-at b c o (i - o) (l ++ replicate k false) false written (omega arith)
+            ∙ get_or-append_right l (replicate k false) (length l) (i - o) false refl (omega arith) ∙ get_or-replicate k (i - o - length l) false false past ∙ sym (clear i behind)
+        | inr after ↦ written.others i (inr (omega arith))
+      ]
+    ])
+
+-- a window, and the digits of a number behind it, of which those from r on are 0
+pub WritesWords-ended : (b c d : List ℕ) (o p m r n k w : ℕ) → p ≡ o + m → n ≡ m + r → r ≤ k → w < 2 ^ r → WritesWords b c o (word_bits c o m) → WritesWords c d p (digits w 0 k) → (word_bits d o n ≡ word_bits c o m ++ digits w 0 r) × WritesWords b d o (word_bits d o n ++ replicate (k - r) false)
+WritesWords-ended b c d o p m r n k w from whole few small first second =
+    let front : List Bool = word_bits c o m in let part : List Bool = digits w 0 r in let zeros : List Bool = replicate (k - r) false in
+    let last : WritesWords c d p (part ++ zeros) = subst (WritesWords c d p) (digits_above w r k small few) second in
+    let both : WritesWords b d o ((front ++ part) ++ zeros) =
+    subst (WritesWords b d o) (sym (append_assoc front part zeros))
+    (WritesWords-add b c d o p front (part ++ zeros) (omega (arith, length-word_bits c o m)) first last) in
+    let window : word_bits d o n ≡ front ++ part =
+    WritesWords-front b d o n (front ++ part) zeros both (omega (arith, length-append front part, length-word_bits c o m, length-digits w 0 r)) in
+    (window, subst (λ l. WritesWords b d o (l ++ zeros)) (sym window) both)

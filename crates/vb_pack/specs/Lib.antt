@@ -1,0 +1,5 @@
+pub mod Answers
+pub mod Words
+pub use Rattle.vb_bits.specs.Bits
+pub use Rattle.vb_bits.specs.Digits
+pub use Rattle.vb_bits.specs.Writes

@@ -1,0 +1,58 @@
+//! Truth values as bits of bytes.
+ghost use Rattle.std.specs.Prelude.{◌≡◌, ◌+◌, ◌*◌, ◌≤◌, ◌==◌, not, length, map};
+ghost use Rattle.vb_pack.specs.Answers.{Answers, CanAsk, span};
+ghost use Rattle.vb_pack.specs.Bits.{bits};
+ghost use Rattle.vb_pack.specs.Digits.{digits};
+ghost use Rattle.vb_pack.specs.Words.{filled_up};
+ghost use Rattle.vb_pack.specs.Writes.{Writes};
+
+use crate::collect::{collect_full, collect_part};
+use crate::pack::Lanes;
+
+/// Asks `f` at the places from 0 up to `len`, and packs its answers into the first bytes, eight
+/// into each; the bits of the last one past `len` are false, and later bytes stay.
+///
+/// Full words of 64 go by vectors of bytes, the rest bit by bit.
+pub fn collect_bool_bytes<F: FnMut(usize) -> bool>(bytes: &mut [u8], len: usize, f: &mut F)
+    requires room { len ≤ 8 * length bytes.old }
+    requires callable { CanAsk (F.pre) (F.step) f.old (span 0 len) }
+    ensures answered { Answers (F.step) f.old (span 0 len) (bits bytes.new 0 len) f.new }
+    ensures written { Writes bytes.old bytes.new 0 (filled_up 8 (bits bytes.new 0 len)) }
+{
+    let full = len / 64;
+    for k in 0..full {
+        let word = collect_full::<Lanes, F>(64 * k, f);
+        write_front(bytes, 8 * k, 8, word);
+    }
+    let rest = len % 64;
+    let last = collect_part(64 * full, rest, f);
+    write_front(bytes, 8 * full, rest.div_ceil(8), last);
+}
+
+/// Packs truth values into the first bytes, eight into each; the bits of the last one behind them
+/// are false, and later bytes stay.
+pub fn pack_bools(bytes: &mut [u8], bools: &[bool])
+    requires { length bools.now ≤ 8 * length bytes.old }
+    ensures { Writes bytes.old bytes.new 0 (filled_up 8 (bools.now)) }
+{
+    collect_bool_bytes(bytes, bools.len(), &mut |i| bools[i]);
+}
+
+/// [`pack_bools`] of bytes, each of which is true where it isn't 0.
+pub fn pack_truthy(bytes: &mut [u8], truthy: &[u8])
+    requires { length truthy.now ≤ 8 * length bytes.old }
+    ensures { Writes bytes.old bytes.new 0
+        (filled_up 8 (map (λ x. not (x == 0)) truthy.now)) }
+{
+    collect_bool_bytes(bytes, truthy.len(), &mut |i| truthy[i] != 0);
+}
+
+/// Writes the first `n` bytes of `word`, least significant first, to the bytes from `at` on.
+#[inline(always)]
+fn write_front(bytes: &mut [u8], at: usize, n: usize, word: u64)
+    requires in_word { n ≤ 8 }
+    requires inside { at + n ≤ length bytes.old }
+    ensures { Writes bytes.old bytes.new (8 * at) (digits word 0 (8 * n)) }
+{
+    bytes[at..at + n].copy_from_slice(&word.to_le_bytes()[..n]);
+}

@@ -1,0 +1,61 @@
+//! The answers of a closure as one word.
+ghost use Rattle.std.specs.Prelude.{◌+◌, ◌^◌, ◌<◌, ◌≤◌};
+ghost use Rattle.vb_pack.specs.Answers.{Answers, CanAsk, span};
+ghost use Rattle.vb_pack.specs.Digits.{digits};
+
+use crate::pack::{Multiply, Pack};
+
+/// Asks `f` at the places from 0 up to `len`, at most 64, and packs its answers, the first one into
+/// the lowest digit; the digits from `len` on are 0. One digit after the other.
+pub fn collect_bool_word_scalar<F: FnMut(usize) -> bool>(len: usize, f: &mut F) -> u64
+    requires in_word { len ≤ 64 }
+    requires callable { CanAsk (F.pre) (F.step) f.old (span 0 len) }
+    ensures answered { Answers (F.step) f.old (span 0 len) (digits result 0 len) f.new }
+    ensures clear { result < 2 ^ len }
+{
+    collect_part(0, len, f)
+}
+
+/// [`collect_bool_word_scalar`], a full word by multiplies.
+pub fn collect_bool_word<F: FnMut(usize) -> bool>(len: usize, f: &mut F) -> u64
+    requires in_word { len ≤ 64 }
+    requires callable { CanAsk (F.pre) (F.step) f.old (span 0 len) }
+    ensures answered { Answers (F.step) f.old (span 0 len) (digits result 0 len) f.new }
+    ensures clear { result < 2 ^ len }
+{
+    if len == 64 {
+        collect_full::<Multiply, F>(0, f)
+    } else {
+        collect_part(0, len, f)
+    }
+}
+
+/// The answers of `f` at the `len` places from `base` on, at most 64, one digit after the other.
+#[inline(always)]
+pub(crate) fn collect_part<F: FnMut(usize) -> bool>(base: usize, len: usize, f: &mut F) -> u64
+    requires in_word { len ≤ 64 }
+    requires fits { base + len < 2 ^ 64 }
+    requires callable { CanAsk (F.pre) (F.step) f.old (span base len) }
+    ensures answered { Answers (F.step) f.old (span base len) (digits result 0 len) f.new }
+    ensures clear { result < 2 ^ len }
+{
+    let mut packed = 0u64;
+    for i in 0..len {
+        packed |= u64::from(f(base + i)) << i;
+    }
+    packed
+}
+
+/// The answers of `f` at the 64 places from `base` on, packed by `P`.
+#[inline(always)]
+pub(crate) fn collect_full<P: Pack, F: FnMut(usize) -> bool>(base: usize, f: &mut F) -> u64
+    requires fits { base + 64 < 2 ^ 64 }
+    requires callable { CanAsk (F.pre) (F.step) f.old (span base 64) }
+    ensures { Answers (F.step) f.old (span base 64) (digits result 0 64) f.new }
+{
+    let mut bools = [false; 64];
+    for i in 0..64 {
+        bools[i] = f(base + i);
+    }
+    P::pack(&bools)
+}
