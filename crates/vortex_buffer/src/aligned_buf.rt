@@ -1,0 +1,134 @@
+//! Bytes that are read from the front.
+ghost use Rattle.std.specs.Prelude.{◌≡◌, ◌%◌, ◌^◌, ◌≤◌, ◌↔◌, ℕ, List, length, take, drop};
+ghost use Rattle.std.specs.Prelude.{IsTrue, OnOk, OnErr};
+ghost use Rattle.vb_core.specs.Alignments.{IsPower};
+ghost use Rattle.vb_mem.specs.Answers.{Makes};
+ghost use Rattle.vb_mem.specs.SharedBuffer.{ShowsMade, ShowsPart};
+ghost use Rattle.vortex_buffer.specs.Fixed.{ShowsFixed};
+
+use crate::const_buffer::{ConstBuffer, ConstByteBuffer};
+use std::alloc::Allocator;
+use vb_core::Alignment;
+use vb_mem::{Buffer, ByteBuffer, Result};
+
+/// Bytes that are read from the front, and copied from it with an alignment.
+pub trait AlignedBuf {
+    // The bytes that are left to read.
+    ghost unread: { Self → List ℕ };
+
+    // Whether as many bytes, of which there are enough, can be passed over.
+    ghost is_step: { Self → ℕ → Type 0 };
+
+    /// The number of bytes that are left.
+    fn remaining(&self) -> usize
+        ensures { result ≡ length (unread self.now) };
+
+    /// The bytes that are left.
+    fn chunk(&self) -> &[u8]
+        ensures { result.now ≡ unread self.now };
+
+    /// Whether [`AlignedBuf::advance`] can pass over `n` bytes: as many are left, and of a
+    /// [`ByteBuffer`] its alignment divides their number.
+    fn can_advance(&self, n: usize) -> bool
+        ensures { IsTrue result ↔ ((n ≤ length (unread self.now)) × is_step self.now n) };
+
+    /// Passes over `n` bytes, for which [`AlignedBuf::can_advance`] holds. It takes no memory.
+    fn advance(&mut self, n: usize)
+        requires in_bounds { n ≤ length (unread self.old) }
+        requires is_step { is_step self.old n }
+        ensures rest { unread self.new ≡ drop n (unread self.old) }
+        ensures keeps { (m : ℕ) → is_step self.old m → is_step self.new m };
+
+    /// A copy of the next `len` bytes, for which [`AlignedBuf::can_advance`] holds, with an
+    /// alignment, over-aligned to 256 bytes; they are passed over. Refused with `OutOfMemory`, and
+    /// then no byte is passed over.
+    fn copy_to_aligned<A: Allocator + Clone>(
+        &mut self,
+        alloc: A,
+        len: usize,
+        alignment: Alignment,
+    ) -> Result<ByteBuffer<A>>
+        requires in_bounds { len ≤ length (unread self.old) }
+        requires is_step { is_step self.old len }
+        ensures copy { Makes (ShowsMade (take len (unread self.old)) alignment) result }
+        ensures rest { OnOk result (unread self.new ≡ drop len (unread self.old)) }
+        ensures keeps { (m : ℕ) → is_step self.old m → is_step self.new m }
+        ensures err { OnErr result (self.new ≡ self.old) }
+    {
+        let copy = Buffer::copy_from_aligned(alloc, &self.chunk()[..len], alignment)?;
+        self.advance(len);
+        Ok(copy)
+    }
+}
+
+impl AlignedBuf for &[u8] {
+    ghost unread = { λ bytes. bytes.now };
+
+    ghost is_step = { λ _ _. Unit {0} };
+
+    fn remaining(&self) -> usize {
+        self.len()
+    }
+
+    fn chunk(&self) -> &[u8] {
+        *self
+    }
+
+    fn can_advance(&self, n: usize) -> bool {
+        n <= self.len()
+    }
+
+    fn advance(&mut self, n: usize) {
+        let all: &[u8] = *self;
+        *self = &all[n..];
+    }
+}
+
+impl<A: Allocator> AlignedBuf for Buffer<u8, A> {
+    ghost unread = { λ bytes. bytes.list };
+
+    ghost is_step = { λ bytes n. n % 2 ^ bytes.exponent ≡ 0 };
+
+    fn remaining(&self) -> usize {
+        self.len()
+    }
+
+    fn chunk(&self) -> &[u8] {
+        self.as_slice()
+    }
+
+    fn can_advance(&self, n: usize) -> bool {
+        n <= self.len() && self.alignment().is_offset_aligned(n)
+    }
+
+    fn advance(&mut self, n: usize)
+        requires in_bounds { n ≤ length self.old.list }
+        requires is_step { n % 2 ^ self.old.exponent ≡ 0 }
+        ensures rest { self.new.list ≡ drop n self.old.list }
+        ensures keeps { (m : ℕ) → m % 2 ^ self.old.exponent ≡ 0 → m % 2 ^ self.new.exponent ≡ 0 }
+        ensures part { ShowsPart 1 self.old n (length self.old.list) self.old.exponent self.new }
+    {
+        self.narrow(n..self.len());
+    }
+}
+
+/// A copy of the next `len` bytes, for which [`AlignedBuf::can_advance`] holds, aligned to `N`
+/// bytes, which are a power of two; they are passed over. Refused as
+/// [`AlignedBuf::copy_to_aligned`] is.
+pub fn copy_to_const_aligned<const N: usize, B: AlignedBuf, A: Allocator + Clone>(
+    buf: &mut B,
+    alloc: A,
+    len: usize,
+) -> Result<ConstByteBuffer<N, A>>
+    requires power { IsPower N }
+    requires in_bounds { len ≤ length (B.unread buf.old) }
+    requires is_step { B.is_step buf.old len }
+    ensures copy { Makes (ShowsFixed (take len (B.unread buf.old)) N) result }
+    ensures rest { OnOk result (B.unread buf.new ≡ drop len (B.unread buf.old)) }
+    ensures keeps { (m : ℕ) → B.is_step buf.old m → B.is_step buf.new m }
+    ensures err { OnErr result (buf.new ≡ buf.old) }
+{
+    let alignment = ConstBuffer::<u8, N, A>::alignment();
+    let buffer = buf.copy_to_aligned(alloc, len, alignment)?;
+    Ok(ConstBuffer::of(buffer))
+}

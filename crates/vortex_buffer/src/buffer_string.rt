@@ -1,0 +1,134 @@
+//! A buffer of text.
+ghost use Rattle.std.specs.Prelude.{◌≡◌, [], IsUtf8, IfOk, IfErr, IsErrAnd, string_bytes};
+ghost use Rattle.vb_mem.specs.Answers.{Makes};
+ghost use Rattle.vb_mem.specs.SharedBuffer.{Shows, ShowsMade};
+ghost use Rattle.vortex_buffer.specs.Text.{NamesValidFront};
+
+use simdutf8::compat::from_utf8;
+use std::alloc::{Allocator, Global};
+use std::marker::Model;
+use vb_core::BufferError;
+use vb_mem::{Buffer, ByteBuffer, Result};
+
+/// A buffer of bytes that are UTF-8.
+///
+/// Contracts see it as its buffer, [`BufferString::inner`]. Equality, order and hash are those of
+/// the bytes.
+#[derive(Drop)]
+pub struct BufferString<A: Allocator = Global> {
+    bytes: ByteBuffer<A>,
+}
+
+impl<A: Allocator> Model for BufferString<A> {
+    ghost use Rattle.std.specs.Prelude.{ℕ, IsUtf8};
+    ghost use Rattle.vb_mem.specs.SharedBuffer.{SharedBuffer};
+
+    ghost Value = { SharedBuffer ℕ };
+
+    ghost view = { λ text. text.bytes };
+
+    ghost invariant = { λ text. IsUtf8 text.bytes.list };
+}
+
+impl<A: Allocator> BufferString<A> {
+    /// The text of bytes that are UTF-8; nothing is tested.
+    pub fn new_unchecked(bytes: ByteBuffer<A>) -> Self
+        requires { IsUtf8 bytes.list }
+        ensures { result ≡ bytes }
+    {
+        BufferString { bytes }
+    }
+
+    /// No text, of alignment 1. It takes no memory.
+    pub fn empty(alloc: A) -> Self
+        ensures list { result.list ≡ [] }
+        ensures alignment { result.exponent ≡ 0 }
+    {
+        BufferString {
+            bytes: Buffer::empty(alloc),
+        }
+    }
+
+    /// The text of bytes. It takes no memory. Refused with `NotUtf8` exactly where they aren't
+    /// UTF-8; the buffer is gone then.
+    pub fn try_from_buffer(bytes: ByteBuffer<A>) -> Result<Self>
+        ensures utf8 { IsUtf8 bytes.list → result ≡ Ok bytes }
+        ensures not_utf8 { ¬ (IsUtf8 bytes.list) → IsErrAnd result (NamesValidFront bytes.list) }
+    {
+        tested(bytes.as_slice())?;
+        Ok(BufferString { bytes })
+    }
+
+    /// The text.
+    pub fn as_str(&self) -> &str
+        ensures value { result.now ≡ self.now.list }
+        ensures utf8 { IsUtf8 result.now }
+    {
+        unsafe { std::str::from_utf8_unchecked(self.bytes.as_slice()) }
+    }
+
+    /// The bytes.
+    pub fn inner(&self) -> &ByteBuffer<A>
+        ensures value { result.now ≡ self.now }
+        ensures utf8 { IsUtf8 result.now.list }
+    {
+        &self.bytes
+    }
+
+    /// The bytes, given away.
+    pub fn into_inner(self) -> ByteBuffer<A>
+        ensures value { result ≡ self }
+        ensures utf8 { IsUtf8 result.list }
+    {
+        self.bytes
+    }
+}
+
+impl<A: Allocator + Clone> BufferString<A> {
+    /// A copy of a text, of alignment 1, over-aligned to 256 bytes. Refused with `OutOfMemory`.
+    pub fn from_str(alloc: A, text: &str) -> Result<Self>
+        ensures { Makes (ShowsMade text.now 0) result }
+    {
+        let bytes = Buffer::copy_from(alloc, text.as_bytes())?;
+        Ok(BufferString { bytes })
+    }
+
+    /// A text, of alignment 1, with which its storage is declared. Refused with `OutOfMemory`; the
+    /// text is gone then.
+    pub fn from_string(alloc: A, text: String<A>) -> Result<Self>
+        ensures { Makes (Shows (string_bytes text) 0 0 0) result }
+    {
+        let bytes = Buffer::from_vec(alloc, text.into_bytes())?;
+        Ok(BufferString { bytes })
+    }
+
+    /// A copy of the text that bytes are, of alignment 1, over-aligned to 256 bytes. Refused with
+    /// `NotUtf8` exactly where they aren't UTF-8, before memory is asked, and else with
+    /// `OutOfMemory`.
+    pub fn try_from_slice(alloc: A, bytes: &[u8]) -> Result<Self>
+        ensures utf8 { IsUtf8 bytes.now → Makes (ShowsMade bytes.now 0) result }
+        ensures not_utf8 { ¬ (IsUtf8 bytes.now) → IsErrAnd result (NamesValidFront bytes.now) }
+    {
+        BufferString::from_str(alloc, tested(bytes)?)
+    }
+
+    /// One more owner of the same text, in constant time. Refused with `OutOfMemory` where a copy
+    /// of the allocator finds no memory.
+    pub fn clone(&self) -> Result<Self>
+        ensures { Makes (λ text. text ≡ self.now) result }
+    {
+        Ok(BufferString {
+            bytes: self.bytes.clone()?,
+        })
+    }
+}
+
+// The bytes as text, where they are UTF-8.
+fn tested(bytes: &[u8]) -> Result<&str>
+    ensures ok { IfOk result (λ text. (text.now ≡ bytes.now) × IsUtf8 bytes.now) }
+    ensures err { IfErr result (λ e. ¬ (IsUtf8 bytes.now) × NamesValidFront bytes.now e) }
+{
+    from_utf8(bytes).map_err(|error| BufferError::NotUtf8 {
+        valid_up_to: error.valid_up_to(),
+    })
+}

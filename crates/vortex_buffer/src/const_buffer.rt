@@ -1,0 +1,141 @@
+//! A buffer whose alignment is part of its type.
+ghost use Rattle.std.specs.Prelude.{◌≡◌, ◌≢◌, ◌%◌, ◌^◌, ◌≤◌, IsTrue, IfOk, IsOkAnd, IsErrOf, IsOkUnless};
+ghost use Rattle.std.specs.Int.{is_power_of_two};
+ghost use Rattle.vb_core.specs.Alignments.{IsPower};
+ghost use Rattle.vb_mem.specs.Answers.{Makes};
+ghost use Rattle.vb_mem.specs.SharedBuffer.{IsAlignedTo, Shows, ShowsMade};
+ghost use Rattle.vortex_buffer.specs.Fixed.{HasAlignment, OfBytes, ShowsFixed};
+
+use std::alloc::{Allocator, Global};
+use std::marker::Model;
+use vb_core::{Alignment, BufferError, Element};
+use vb_mem::{Buffer, Result};
+
+/// A buffer that is aligned to `N` bytes, and reports `N` or a multiple of it.
+///
+/// Contracts see it as its buffer, [`ConstBuffer::inner`]. Equality, order and hash are those of
+/// the list.
+#[derive(Drop)]
+pub struct ConstBuffer<T: Element, const N: usize, A: Allocator = Global> {
+    buffer: Buffer<T, A>,
+}
+
+/// A buffer of bytes that is aligned to `N` bytes.
+pub type ConstByteBuffer<const N: usize, A = Global> = ConstBuffer<u8, N, A>;
+
+impl<T: Element, const N: usize, A: Allocator> Model for ConstBuffer<T, N, A> {
+    ghost use Rattle.vb_mem.specs.SharedBuffer.{SharedBuffer};
+    ghost use Rattle.vortex_buffer.specs.Fixed.{HasAlignment};
+
+    ghost Value = { SharedBuffer T };
+
+    ghost view = { λ fixed. fixed.buffer };
+
+    ghost invariant = { λ fixed. HasAlignment N fixed.buffer };
+}
+
+impl<T: Element, const N: usize, A: Allocator> ConstBuffer<T, N, A> {
+    /// The alignment of `N` bytes, which is a power of two.
+    pub fn alignment() -> Alignment
+        requires { IsPower N }
+        ensures { 2 ^ result ≡ N }
+    {
+        Alignment::new(N)
+    }
+
+    /// The buffer, where the alignment that it reports is a multiple of `N`. It takes no memory.
+    /// Refused with `NotPowerOfTwo` exactly where `N` is no power of two (so is 0), and with
+    /// `NotAligned` exactly where it is one and doesn't divide the reported alignment; the buffer
+    /// is gone then.
+    pub fn try_from_buffer(buffer: Buffer<T, A>) -> Result<Self>
+        ensures aligned { IsTrue (is_power_of_two N) → 2 ^ buffer.exponent % N ≡ 0 →
+            result ≡ Ok buffer }
+        ensures not_aligned { IsTrue (is_power_of_two N) → 2 ^ buffer.exponent % N ≢ 0 →
+            IsErrOf result BufferError.NotAligned }
+        ensures no_power { ¬ IsTrue (is_power_of_two N) →
+            IsErrOf result (BufferError.NotPowerOfTwo N) }
+    {
+        if !N.is_power_of_two() {
+            return Err(BufferError::NotPowerOfTwo { value: N });
+        }
+        if !buffer.alignment().is_aligned_to(Alignment::new(N)) {
+            return Err(BufferError::NotAligned);
+        }
+        Ok(ConstBuffer::of(buffer))
+    }
+
+    // The buffer, which reports `N` bytes or more.
+    pub(crate) fn of(buffer: Buffer<T, A>) -> Self
+        requires { OfBytes N (λ exponent. exponent ≤ buffer.exponent) }
+        ensures { result ≡ buffer }
+    {
+        // Its contract tells the proof that the buffer has the alignment that it reports.
+        let _ = buffer.alignment();
+        ConstBuffer { buffer }
+    }
+
+    /// The items.
+    pub fn as_slice(&self) -> &[T]
+        ensures { result.now ≡ self.now.list }
+    {
+        self.buffer.as_slice()
+    }
+
+    /// The buffer.
+    pub fn inner(&self) -> &Buffer<T, A>
+        ensures value { result.now ≡ self.now }
+        ensures aligned { HasAlignment N result.now }
+    {
+        &self.buffer
+    }
+
+    /// The buffer, given away.
+    pub fn into_inner(self) -> Buffer<T, A>
+        ensures value { result ≡ self }
+        ensures aligned { HasAlignment N result }
+    {
+        self.buffer
+    }
+}
+
+impl<T: Element, const N: usize, A: Allocator + Clone> ConstBuffer<T, N, A> {
+    /// A copy of a slice, aligned to `N` bytes, which are a power of two and at least the alignment
+    /// of an item. It reports `N`, and is over-aligned to 256 bytes. Refused with `OutOfMemory`.
+    pub fn copy_from(alloc: A, items: &[T]) -> Result<Self>
+        requires power { IsPower N }
+        requires at_least { T.ALIGN ≤ N }
+        ensures { Makes (ShowsFixed items.now N) result }
+    {
+        let buffer = Buffer::copy_from_aligned(alloc, items, Self::alignment())?;
+        Ok(ConstBuffer::of(buffer))
+    }
+
+    /// A buffer, aligned to `N` bytes, which are a power of two and at least the alignment of an
+    /// item: it reports `N`. Where [`Buffer::is_aligned`] holds of it, it keeps its storage, takes
+    /// no memory and isn't refused; else the items are copied, over-aligned to 256 bytes. Refused
+    /// with `OutOfMemory`; the buffer is gone then.
+    pub fn align_from(buffer: Buffer<T, A>) -> Result<Self>
+        requires power { IsPower N }
+        requires at_least { T.ALIGN ≤ N }
+        ensures ok { IfOk result (λ fixed. (fixed.list ≡ buffer.list)
+            × OfBytes N (λ exponent. fixed.exponent ≡ exponent)) }
+        ensures in_place { OfBytes N (λ exponent. IsAlignedTo buffer exponent →
+            IsOkAnd result (Shows buffer.list exponent buffer.place buffer.declared_exponent)) }
+        ensures copied { OfBytes N (λ exponent. ¬ (IsAlignedTo buffer exponent) →
+            IfOk result (ShowsMade buffer.list exponent)) }
+        ensures refused { IsOkUnless result BufferError.OutOfMemory }
+    {
+        let buffer = buffer.aligned(Self::alignment())?;
+        Ok(ConstBuffer::of(buffer))
+    }
+
+    /// One more owner of the same items, in constant time. Refused with `OutOfMemory` where a copy
+    /// of the allocator finds no memory.
+    pub fn clone(&self) -> Result<Self>
+        ensures { Makes (λ fixed. fixed ≡ self.now) result }
+    {
+        Ok(ConstBuffer {
+            buffer: self.buffer.clone()?,
+        })
+    }
+}

@@ -1,0 +1,32 @@
+//! Buffers and sets of bits: one crate to depend on.
+//!
+//! It re-exports the crates below it, with the definitions that their clauses cite, and adds buffers
+//! whose alignment is part of their type ([`ConstBuffer`]), buffers of text ([`BufferString`]) and
+//! reading from the front of bytes ([`AlignedBuf`]). CALLING.md says how to depend on it.
+#![tactic(auto)]
+
+mod aligned_buf;
+mod buffer_string;
+mod compare;
+mod const_buffer;
+
+pub use aligned_buf::{AlignedBuf, copy_to_const_aligned};
+pub use buffer_string::BufferString;
+pub use const_buffer::{ConstBuffer, ConstByteBuffer};
+pub use vb_core::{
+    Alignment, BitIndex, BufferError, Element, ExtendError, TrustedLen, TrustedLenAdapter,
+    trusted_len,
+};
+pub use vb_kernel::{
+    BitOp, Glance, Plain, Tally, bit_select, bit_select_by, bit_select_unset, bit_select_unset_by,
+    copy_bits, count_ones, count_ones_by, fill_bits, get_bit, get_bit_unchecked, last_set_index,
+    map_words, most_looks, read_bits, read_u64_le, set_bit_to, set_bit_unchecked,
+    unset_bit_unchecked, window_fits, zip_words,
+};
+pub use vb_mem::{Buffer, BufferIterator, BufferMut, ByteBuffer, ByteBufferMut, Iter, Result};
+pub use vb_set::{BitBuffer, BitBufferMut, ToBitBuffer};
+pub use vb_view::{BitBufferMeta, BitBufferMutView, BitBufferView, BitStore};
+pub use vb_walk::{
+    BitChunkIterator, BitChunks, BitIndexIterator, BitIterator, BitSliceIterator,
+    PaddedChunkIterator, UnalignedBitChunk, UnalignedBitChunkIterator,
+};
