@@ -1,67 +1,39 @@
-//! The kernels as C functions, for programs in other languages.
+//! The kernels over slices as C functions, for programs in other languages.
 //!
-//! A slice crosses as a pointer and the number of its bytes, which nothing may write during the
-//! call. Each function has the clauses of the kernel that it calls; nothing checks that a C caller
-//! meets what it requires.
+//! A slice crosses as a pointer and the number of its bytes. During a call nothing else may write
+//! what a function reads, and nothing else may touch what it writes: that, and pointers that are
+//! valid, is what a C caller owes. A window is the `len` bits from bit `offset` on, least
+//! significant bit first.
+//!
+//! Each function has the clauses of the kernel that it calls, and requires that windows lie in
+//! their bytes, which nothing checks of a C caller. Beside it stands a checked form, `vb_try_..`,
+//! that requires nothing: it answers whether the numbers are good, and where they aren't, it leaves
+//! everything as it was.
 #![tactic(auto)]
 
-ghost use Rattle.std.specs.Prelude.{◌≡◌, ◌+◌, ◌*◌, ◌^◌, ◌<◌, ◌≤◌, length};
-ghost use Rattle.vb_kernel.specs.Bits.{bits, count, negated, Selects, AnswersEach};
-ghost use Rattle.vb_c.specs.Place.{answered_place};
+mod bit;
+mod combine;
+mod count;
+mod equal;
+mod place;
+mod select;
+mod walk;
+mod write;
 
-/// The place of a bit, as an `Option<usize>` crosses to C: `index` says something only where
-/// `found` is true.
-#[repr(C)]
-#[derive(Clone, Copy)]
-pub struct Place {
-    pub found: bool,
-    pub index: usize,
-}
-
-impl From<Option<usize>> for Place {
-    ghost from_gives = { λ place result. answered_place result ≡ place };
-
-    fn from(place: Option<usize>) -> Self {
-        match place {
-            Some(index) => Place { found: true, index },
-            None => Place {
-                found: false,
-                index: 0,
-            },
-        }
-    }
-}
-
-/// How many of the `len` bits from bit `offset` on are true.
-#[unsafe(no_mangle)]
-pub extern "C" fn vb_count_ones(bytes: &[u8], offset: usize, len: usize) -> usize
-    requires inside { offset + len ≤ 8 * length bytes.now }
-    requires fits { offset + len < 2 ^ 64 }
-    ensures { result ≡ count (bits bytes.now offset len) }
-{
-    vb_kernel::count_ones(bytes, offset, len)
-}
-
-/// The place, relative to the window of `len` bits from bit `offset` on, of its `n`-th true bit,
-/// counted from 0; none where the window has at most `n`.
-#[unsafe(no_mangle)]
-pub extern "C" fn vb_bit_select(bytes: &[u8], offset: usize, len: usize, n: usize) -> Place
-    requires inside { offset + len ≤ 8 * length bytes.now }
-    requires fits { offset + len < 2 ^ 64 }
-    ensures place { Selects (bits bytes.now offset len) n (answered_place result) }
-    ensures each { AnswersEach (bits bytes.now offset len) n (answered_place result) }
-{
-    vb_kernel::bit_select(bytes, offset, len, n).into()
-}
-
-/// The place, relative to the window of `len` bits from bit `offset` on, of its `n`-th false bit,
-/// counted from 0; none where the window has at most `n`.
-#[unsafe(no_mangle)]
-pub extern "C" fn vb_bit_select_unset(bytes: &[u8], offset: usize, len: usize, n: usize) -> Place
-    requires inside { offset + len ≤ 8 * length bytes.now }
-    requires fits { offset + len < 2 ^ 64 }
-    ensures place { Selects (negated (bits bytes.now offset len)) n (answered_place result) }
-    ensures each { AnswersEach (negated (bits bytes.now offset len)) n (answered_place result) }
-{
-    vb_kernel::bit_select_unset(bytes, offset, len, n).into()
-}
+pub use bit::{vb_get_bit, vb_try_get_bit};
+pub use combine::{
+    vb_and_bits, vb_and_not_bits, vb_or_bits, vb_try_and_bits, vb_try_and_not_bits, vb_try_or_bits,
+    vb_try_xor_bits, vb_xor_bits,
+};
+pub use count::{vb_count_ones, vb_try_count_ones};
+pub use equal::{vb_equal_bits, vb_try_equal_bits};
+pub use place::Place;
+pub use select::{
+    vb_bit_select, vb_bit_select_unset, vb_last_set_index, vb_try_bit_select,
+    vb_try_bit_select_unset, vb_try_last_set_index,
+};
+pub use walk::{Run, vb_set_indices, vb_set_slices, vb_try_set_indices, vb_try_set_slices};
+pub use write::{
+    vb_copy_bits, vb_fill_bits, vb_negate_bits, vb_try_copy_bits, vb_try_fill_bits,
+    vb_try_negate_bits,
+};

@@ -1,0 +1,33 @@
+//! How many bits are true.
+ghost use Rattle.std.specs.Prelude.{◌≡◌, ◌+◌, ◌*◌, ◌^◌, ◌<◌, ◌≤◌, length};
+ghost use Rattle.vb_c.specs.Fits.{Checks, InBytes};
+ghost use Rattle.vb_kernel.specs.Bits.{bits, count};
+
+/// How many of the `len` bits from bit `offset` on are true. The window is read once, 64 bytes at a
+/// time.
+#[unsafe(no_mangle)]
+pub extern "C" fn vb_count_ones(bytes: &[u8], offset: usize, len: usize) -> usize
+    requires inside { offset + len ≤ 8 * length bytes.now }
+    requires fits { offset + len < 2 ^ 64 }
+    ensures { result ≡ count (bits bytes.now offset len) }
+{
+    vb_kernel::count_ones(bytes, offset, len)
+}
+
+/// Whether the window lies in the bytes; `ones` is then [`vb_count_ones`], and else as it was.
+#[unsafe(no_mangle)]
+pub extern "C" fn vb_try_count_ones(
+    bytes: &[u8],
+    offset: usize,
+    len: usize,
+    ones: &mut usize,
+) -> bool
+    ensures { Checks (InBytes bytes.now offset len)
+        (ones.new ≡ count (bits bytes.now offset len)) (ones.new ≡ ones.old) result }
+{
+    if !vb_kernel::window_fits(bytes, offset, len) {
+        return false;
+    }
+    *ones = vb_count_ones(bytes, offset, len);
+    true
+}

@@ -1,0 +1,38 @@
+//! Windows compared.
+ghost use Rattle.std.specs.Prelude.{◌≡◌, ◌+◌, ◌*◌, ◌^◌, ◌<◌, ◌≤◌, ◌↔◌, length, IsTrue};
+ghost use Rattle.vb_c.specs.Fits.{Checks, InBytes};
+ghost use Rattle.vb_kernel.specs.Bits.{bits};
+
+/// Whether the `len` bits of `left` from bit `l` on are those of `right` from bit `r` on. No block
+/// of 2,048 bytes behind the first difference is read.
+#[unsafe(no_mangle)]
+pub extern "C" fn vb_equal_bits(left: &[u8], l: usize, right: &[u8], r: usize, len: usize) -> bool
+    requires left_inside { l + len ≤ 8 * length left.now }
+    requires left_fits { l + len < 2 ^ 64 }
+    requires right_inside { r + len ≤ 8 * length right.now }
+    requires right_fits { r + len < 2 ^ 64 }
+    ensures { IsTrue result ↔ (bits left.now l len ≡ bits right.now r len) }
+{
+    vb_kernel::equal_bits(left, l, right, r, len)
+}
+
+/// Whether both windows lie in their bytes; `equal` is then [`vb_equal_bits`], and else as it was.
+#[unsafe(no_mangle)]
+pub extern "C" fn vb_try_equal_bits(
+    left: &[u8],
+    l: usize,
+    right: &[u8],
+    r: usize,
+    len: usize,
+    equal: &mut bool,
+) -> bool
+    ensures { Checks (InBytes left.now l len × InBytes right.now r len)
+        (IsTrue equal.new ↔ (bits left.now l len ≡ bits right.now r len))
+        (equal.new ≡ equal.old) result }
+{
+    if !vb_kernel::window_fits(left, l, len) || !vb_kernel::window_fits(right, r, len) {
+        return false;
+    }
+    *equal = vb_equal_bits(left, l, right, r, len);
+    true
+}

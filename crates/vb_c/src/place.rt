@@ -1,0 +1,26 @@
+//! Places as they cross to C.
+ghost use Rattle.std.specs.Prelude.{◌≡◌};
+ghost use Rattle.vb_c.specs.Place.{answered_place};
+
+/// The place of a bit, as an `Option<usize>` crosses to C: `index` says something only where
+/// `found` is true.
+#[repr(C)]
+#[derive(Clone, Copy)]
+pub struct Place {
+    pub found: bool,
+    pub index: usize,
+}
+
+impl From<Option<usize>> for Place {
+    ghost from_gives = { λ place result. answered_place result ≡ place };
+
+    fn from(place: Option<usize>) -> Self {
+        match place {
+            Some(index) => Place { found: true, index },
+            None => Place {
+                found: false,
+                index: 0,
+            },
+        }
+    }
+}

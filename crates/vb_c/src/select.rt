@@ -1,0 +1,104 @@
+//! The places of bits.
+ghost use Rattle.std.specs.Prelude.{◌≡◌, ◌+◌, ◌*◌, ◌^◌, ◌<◌, ◌≤◌, length};
+ghost use Rattle.vb_c.specs.Fits.{Checks, InBytes};
+ghost use Rattle.vb_c.specs.Place.{answered_place};
+ghost use Rattle.vb_kernel.specs.Bits.{bits, negated, Selects, AnswersEach};
+ghost use Rattle.vb_kernel.specs.Runs.{last_place};
+
+use crate::place::Place;
+
+/// The place, relative to the window of `len` bits from bit `offset` on, of its `n`-th true bit,
+/// counted from 0; none where the window has at most `n`. It counts from the front, 64 bytes at a
+/// time, up to the bytes that have it.
+#[unsafe(no_mangle)]
+pub extern "C" fn vb_bit_select(bytes: &[u8], offset: usize, len: usize, n: usize) -> Place
+    requires inside { offset + len ≤ 8 * length bytes.now }
+    requires fits { offset + len < 2 ^ 64 }
+    ensures place { Selects (bits bytes.now offset len) n (answered_place result) }
+    ensures each { AnswersEach (bits bytes.now offset len) n (answered_place result) }
+{
+    vb_kernel::bit_select(bytes, offset, len, n).into()
+}
+
+/// The place, relative to the window of `len` bits from bit `offset` on, of its `n`-th false bit,
+/// counted from 0; none where the window has at most `n`. It costs what [`vb_bit_select`] does.
+#[unsafe(no_mangle)]
+pub extern "C" fn vb_bit_select_unset(bytes: &[u8], offset: usize, len: usize, n: usize) -> Place
+    requires inside { offset + len ≤ 8 * length bytes.now }
+    requires fits { offset + len < 2 ^ 64 }
+    ensures place { Selects (negated (bits bytes.now offset len)) n (answered_place result) }
+    ensures each { AnswersEach (negated (bits bytes.now offset len)) n (answered_place result) }
+{
+    vb_kernel::bit_select_unset(bytes, offset, len, n).into()
+}
+
+/// The place, relative to the window of `len` bits from bit `offset` on, of its last true bit; none
+/// where all are false. It reads from the end, eight bytes at a time.
+#[unsafe(no_mangle)]
+pub extern "C" fn vb_last_set_index(bytes: &[u8], offset: usize, len: usize) -> Place
+    requires inside { offset + len ≤ 8 * length bytes.now }
+    requires fits { offset + len < 2 ^ 64 }
+    ensures { answered_place result ≡ last_place (bits bytes.now offset len) }
+{
+    vb_kernel::last_set_index(bytes, offset, len).into()
+}
+
+/// Whether the window lies in the bytes; `place` is then [`vb_bit_select`], and else as it was.
+#[unsafe(no_mangle)]
+pub extern "C" fn vb_try_bit_select(
+    bytes: &[u8],
+    offset: usize,
+    len: usize,
+    n: usize,
+    place: &mut Place,
+) -> bool
+    ensures { Checks (InBytes bytes.now offset len)
+        (Selects (bits bytes.now offset len) n (answered_place place.new))
+        (place.new ≡ place.old) result }
+{
+    if !vb_kernel::window_fits(bytes, offset, len) {
+        return false;
+    }
+    *place = vb_bit_select(bytes, offset, len, n);
+    true
+}
+
+/// Whether the window lies in the bytes; `place` is then [`vb_bit_select_unset`], and else as it
+/// was.
+#[unsafe(no_mangle)]
+pub extern "C" fn vb_try_bit_select_unset(
+    bytes: &[u8],
+    offset: usize,
+    len: usize,
+    n: usize,
+    place: &mut Place,
+) -> bool
+    ensures { Checks (InBytes bytes.now offset len)
+        (Selects (negated (bits bytes.now offset len)) n (answered_place place.new))
+        (place.new ≡ place.old) result }
+{
+    if !vb_kernel::window_fits(bytes, offset, len) {
+        return false;
+    }
+    *place = vb_bit_select_unset(bytes, offset, len, n);
+    true
+}
+
+/// Whether the window lies in the bytes; `place` is then [`vb_last_set_index`], and else as it was.
+#[unsafe(no_mangle)]
+pub extern "C" fn vb_try_last_set_index(
+    bytes: &[u8],
+    offset: usize,
+    len: usize,
+    place: &mut Place,
+) -> bool
+    ensures { Checks (InBytes bytes.now offset len)
+        (answered_place place.new ≡ last_place (bits bytes.now offset len))
+        (place.new ≡ place.old) result }
+{
+    if !vb_kernel::window_fits(bytes, offset, len) {
+        return false;
+    }
+    *place = vb_last_set_index(bytes, offset, len);
+    true
+}

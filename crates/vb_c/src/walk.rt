@@ -1,0 +1,104 @@
+//! Places and runs of true bits, written into the caller's memory.
+ghost use Rattle.std.specs.Prelude.{◌≡◌, ◌+◌, ◌*◌, ◌^◌, ◌<◌, ◌≤◌, length, map};
+ghost use Rattle.vb_c.specs.Filled.{Fills, run_of};
+ghost use Rattle.vb_c.specs.Fits.{Checks, InBytes};
+ghost use Rattle.vb_kernel.specs.Bits.{bits, places};
+ghost use Rattle.vb_kernel.specs.Runs.{runs};
+
+use vb_walk::{BitIndexIterator, BitSliceIterator};
+
+/// A run of true bits: where it begins, and the place behind it.
+#[repr(C)]
+#[derive(Clone, Copy)]
+pub struct Run {
+    pub start: usize,
+    pub end: usize,
+}
+
+/// Writes the places of the true bits among the `len` bits from bit `offset` on, in ascending
+/// order, to the front of `out`, as many as have room there, and answers how many these are.
+#[unsafe(no_mangle)]
+pub extern "C" fn vb_set_indices(
+    bytes: &[u8],
+    offset: usize,
+    len: usize,
+    out: &mut [usize],
+) -> usize
+    requires inside { offset + len ≤ 8 * length bytes.now }
+    requires fits { offset + len < 2 ^ 64 }
+    ensures { Fills (places (bits bytes.now offset len)) out.old out.new result }
+{
+    let mut written = 0;
+    for place in BitIndexIterator::new(bytes, offset, len) {
+        if written == out.len() {
+            break;
+        }
+        out[written] = place;
+        written += 1;
+    }
+    written
+}
+
+/// Writes the runs of true bits among the `len` bits from bit `offset` on, from front to end, to
+/// the front of `out`, as many as have room there, and answers how many these are.
+#[unsafe(no_mangle)]
+pub extern "C" fn vb_set_slices(bytes: &[u8], offset: usize, len: usize, out: &mut [Run]) -> usize
+    requires inside { offset + len ≤ 8 * length bytes.now }
+    requires fits { offset + len < 2 ^ 64 }
+    ensures { Fills (map run_of (runs (bits bytes.now offset len))) out.old out.new result }
+{
+    let mut written = 0;
+    for run in BitSliceIterator::new(bytes, offset, len) {
+        if written == out.len() {
+            break;
+        }
+        out[written] = Run {
+            start: run.0,
+            end: run.1,
+        };
+        written += 1;
+    }
+    written
+}
+
+/// Whether the window lies in the bytes; `count` and `out` are then those of [`vb_set_indices`],
+/// and else as they were.
+#[unsafe(no_mangle)]
+pub extern "C" fn vb_try_set_indices(
+    bytes: &[u8],
+    offset: usize,
+    len: usize,
+    out: &mut [usize],
+    count: &mut usize,
+) -> bool
+    ensures { Checks (InBytes bytes.now offset len)
+        (Fills (places (bits bytes.now offset len)) out.old out.new count.new)
+        ((out.new ≡ out.old) × (count.new ≡ count.old)) result }
+{
+    if !vb_kernel::window_fits(bytes, offset, len) {
+        return false;
+    }
+    *count = vb_set_indices(bytes, offset, len, out);
+    true
+}
+
+/// Whether the window lies in the bytes; `count` and `out` are then those of [`vb_set_slices`],
+/// and else as they were.
+#[unsafe(no_mangle)]
+pub extern "C" fn vb_try_set_slices(
+    bytes: &[u8],
+    offset: usize,
+    len: usize,
+    out: &mut [Run],
+    count: &mut usize,
+) -> bool
+    ensures { Checks (InBytes bytes.now offset len)
+        (Fills (map run_of (runs (bits bytes.now offset len))) out.old out.new count.new)
+        ((out.new ≡ out.old) × (count.new ≡ count.old)) result }
+{
+    if !vb_kernel::window_fits(bytes, offset, len) {
+        return false;
+    }
+    *count = vb_set_slices(bytes, offset, len, out);
+    true
+}

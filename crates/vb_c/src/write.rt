@@ -1,0 +1,88 @@
+//! Bits filled, negated and copied.
+ghost use Rattle.std.specs.Prelude.{◌≡◌, ◌+◌, ◌-◌, ◌*◌, ◌^◌, ◌<◌, ◌≤◌, length, replicate};
+ghost use Rattle.vb_c.specs.Fits.{Checks, InBytes};
+ghost use Rattle.vb_kernel.specs.Bits.{bits, negated};
+ghost use Rattle.vb_kernel.specs.Writes.{Writes};
+
+/// Makes the bits from `start` up to `end`, `end` excluded, `v`, and leaves every other bit;
+/// nothing where `start >= end`.
+#[unsafe(no_mangle)]
+pub extern "C" fn vb_fill_bits(bytes: &mut [u8], start: usize, end: usize, v: bool)
+    requires { end ≤ 8 * length bytes.old }
+    ensures { Writes bytes.old bytes.new start (replicate (end - start) v) }
+{
+    vb_kernel::fill_bits(bytes, start, end, v);
+}
+
+/// Whether `end` is at most the number of bits; then [`vb_fill_bits`] is done, and else the bytes
+/// are as they were.
+#[unsafe(no_mangle)]
+pub extern "C" fn vb_try_fill_bits(bytes: &mut [u8], start: usize, end: usize, v: bool) -> bool
+    ensures { Checks (end ≤ 8 * length bytes.old)
+        (Writes bytes.old bytes.new start (replicate (end - start) v))
+        (bytes.new ≡ bytes.old) result }
+{
+    if !vb_kernel::window_fits(bytes, 0, end) {
+        return false;
+    }
+    vb_fill_bits(bytes, start, end, v);
+    true
+}
+
+/// Negates each of the `len` bits from bit `offset` on, and leaves every other bit.
+#[unsafe(no_mangle)]
+pub extern "C" fn vb_negate_bits(bytes: &mut [u8], offset: usize, len: usize)
+    requires inside { offset + len ≤ 8 * length bytes.old }
+    requires fits { offset + len < 2 ^ 64 }
+    ensures { Writes bytes.old bytes.new offset (negated (bits bytes.old offset len)) }
+{
+    vb_kernel::map_words(bytes, offset, len);
+}
+
+/// Whether the window lies in the bytes; then [`vb_negate_bits`] is done, and else the bytes are as
+/// they were.
+#[unsafe(no_mangle)]
+pub extern "C" fn vb_try_negate_bits(bytes: &mut [u8], offset: usize, len: usize) -> bool
+    ensures { Checks (InBytes bytes.old offset len)
+        (Writes bytes.old bytes.new offset (negated (bits bytes.old offset len)))
+        (bytes.new ≡ bytes.old) result }
+{
+    if !vb_kernel::window_fits(bytes, offset, len) {
+        return false;
+    }
+    vb_negate_bits(bytes, offset, len);
+    true
+}
+
+/// Copies the `len` bits of `src` from bit `s` on to the bits of `dst` from bit `d` on, and leaves
+/// every other bit of `dst`. The two may not overlap.
+#[unsafe(no_mangle)]
+pub extern "C" fn vb_copy_bits(dst: &mut [u8], d: usize, src: &[u8], s: usize, len: usize)
+    requires into { d + len ≤ 8 * length dst.old }
+    requires into_fits { d + len < 2 ^ 64 }
+    requires from { s + len ≤ 8 * length src.now }
+    requires from_fits { s + len < 2 ^ 64 }
+    ensures { Writes dst.old dst.new d (bits src.now s len) }
+{
+    vb_kernel::copy_bits(dst, d, src, s, len);
+}
+
+/// Whether both windows lie in their bytes; then [`vb_copy_bits`] is done, and else `dst` is as it
+/// was.
+#[unsafe(no_mangle)]
+pub extern "C" fn vb_try_copy_bits(
+    dst: &mut [u8],
+    d: usize,
+    src: &[u8],
+    s: usize,
+    len: usize,
+) -> bool
+    ensures { Checks (InBytes dst.old d len × InBytes src.now s len)
+        (Writes dst.old dst.new d (bits src.now s len)) (dst.new ≡ dst.old) result }
+{
+    if !vb_kernel::window_fits(dst, d, len) || !vb_kernel::window_fits(src, s, len) {
+        return false;
+    }
+    vb_copy_bits(dst, d, src, s, len);
+    true
+}
