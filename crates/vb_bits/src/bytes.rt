@@ -25,7 +25,7 @@ pub fn word_at(bytes: &[u8], at: usize) -> u64
 }
 
 /// Writes `word` into the eight bytes from `at` on, least significant first.
-pub(crate) fn write_word(bytes: &mut [u8], at: usize, word: u64)
+pub fn write_word(bytes: &mut [u8], at: usize, word: u64)
     requires { at + 8 ≤ length bytes.old }
     ensures { Writes bytes.old bytes.new (8 * at) (digits word 0 64) }
 {

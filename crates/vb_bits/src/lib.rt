@@ -18,7 +18,7 @@ mod write;
 mod zip;
 
 pub use bit::{get_bit, get_bit_unchecked, set_bit_to, set_bit_unchecked, unset_bit_unchecked};
-pub use bytes::{chunk_at, word_at};
+pub use bytes::{chunk_at, word_at, write_word};
 pub use equal::equal_bits;
 pub use fill::fill_bits;
 pub use last::last_set_index;

@@ -1,0 +1,5 @@
+mod LaneLemmas
+mod KeepsLemmas
+mod BlocksLemmas
+mod TakesLemmas
+mod MarksLemmas

@@ -1,0 +1,6 @@
+pub mod Blocks
+pub mod Takes
+pub use Rattle.vb_bits.specs.Bits
+pub use Rattle.vb_bits.specs.Writes
+pub use Rattle.vb_core.specs.Indices
+pub use Rattle.vb_view.specs.View

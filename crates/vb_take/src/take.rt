@@ -1,0 +1,165 @@
+//! Bits taken at indices.
+ghost use Rattle.std.specs.Prelude.{◌≡◌, ℕ, ◌+◌, ◌*◌, ◌^◌, ◌<◌, ◌≤◌, Some, false, length, map};
+ghost use Rattle.std.specs.Prelude.{IfOk, IfErr, if◌then◌else◌};
+ghost use Rattle.std.specs.Option.{ForSome, option_map};
+ghost use Rattle.vb_bits.specs.Bits.{at, bits as window};
+ghost use Rattle.vb_bits.specs.Digits.{has_bit};
+ghost use Rattle.vb_bits.specs.Writes.{Writes};
+ghost use Rattle.vb_view.specs.View.{bits_of};
+ghost use Rattle.vb_take.specs.Blocks.{TakenTo, KeepsBehind};
+ghost use Rattle.vb_take.specs.Takes.{is_valid, value_at, IsTaken, IsFirstPast};
+
+use crate::block::{narrow_block, take_block};
+use vb_bits::{full_word, set_bit_to, write_word};
+use vb_core::BitIndex;
+use vb_view::BitBufferView;
+
+/// Fewer bits than these have places of 32 bits, also as seen from the byte of the first one.
+const MOST: usize = u32::MAX as usize - 8;
+
+/// Writes the bits that the indices name to the first bits of `out`, one for each index; or answers
+/// the first position whose index names no place of `bits`.
+///
+/// Where there is a `validity`, which is as long as the indices, a position counts only where it is
+/// true: at the others false is written, and their indices aren't looked at. The bits of `out`
+/// behind the first ones stay in either case; where a position is refused, the first ones are open.
+///
+/// It goes by 64 indices: their places are narrowed to 32 bits and compared with the length at
+/// once, and the bits there become one word. Those of 2^32 bits and more go one by one.
+pub fn take_into<I: BitIndex>(
+    out: &mut [u8],
+    bits: BitBufferView<'_>,
+    indices: &[I],
+    validity: Option<BitBufferView<'_>>,
+) -> Result<(), usize>
+    requires room { length indices.now ≤ 8 * length out.old }
+    requires validity { ForSome validity (λ v. length (bits_of v) ≡ length indices.now) }
+    ensures taken { IfOk result (λ _. IsTaken (bits_of bits.entry) (map I.number indices.now)
+        (option_map bits_of validity.entry) (window out.new 0 (length indices.now))) }
+    ensures past { IfErr result (λ p. IsFirstPast (bits_of bits.entry) (map I.number indices.now)
+        (option_map bits_of validity.entry) p) }
+    ensures others { Writes out.old out.new 0 (window out.new 0 (length indices.now)) }
+{
+    let words = if 0 < bits.len() && bits.len() < MOST {
+        indices.len() / 64
+    } else {
+        0
+    };
+    take_words(out, bits, indices, validity, words)?;
+    take_rest(out, bits, indices, validity, 64 * words)
+}
+
+/// [`take_into`] of the first `words` times 64 positions.
+fn take_words<I: BitIndex>(
+    out: &mut [u8],
+    bits: BitBufferView<'_>,
+    indices: &[I],
+    validity: Option<BitBufferView<'_>>,
+    words: usize,
+) -> Result<(), usize>
+    requires room { length indices.now ≤ 8 * length out.old }
+    requires validity { ForSome validity (λ v. length (bits_of v) ≡ length indices.now) }
+    requires words { 64 * words ≤ length indices.now }
+    requires some { 0 < words → 0 < length (bits_of bits) }
+    requires few { 0 < words → length (bits_of bits) + 8 < 2 ^ 32 }
+    ensures taken { IfOk result (λ _. TakenTo (64 * words) (bits_of bits.entry)
+        (map I.number indices.now) (option_map bits_of validity.entry) out.new) }
+    ensures past { IfErr result (λ p. IsFirstPast (bits_of bits.entry) (map I.number indices.now)
+        (option_map bits_of validity.entry) p) }
+    ensures keeps { KeepsBehind (length indices.now) out.old out.new }
+{
+    for t in 0..words {
+        let block = narrow_block(indices, 64 * t);
+        match take_block(bits, &block, valid_word(validity, 64 * t)) {
+            Ok(word) => write_word(out, 8 * t, word),
+            Err(k) => return Err(64 * t + k),
+        }
+    }
+    Ok(())
+}
+
+/// [`take_into`] of the positions from `from` on, one by one, where those before them are taken.
+fn take_rest<I: BitIndex>(
+    out: &mut [u8],
+    bits: BitBufferView<'_>,
+    indices: &[I],
+    validity: Option<BitBufferView<'_>>,
+    from: usize,
+) -> Result<(), usize>
+    requires room { length indices.now ≤ 8 * length out.old }
+    requires validity { ForSome validity (λ v. length (bits_of v) ≡ length indices.now) }
+    requires begun { from ≤ length indices.now }
+    requires before { TakenTo from (bits_of bits) (map I.number indices.now)
+        (option_map bits_of validity) out.old }
+    ensures taken { IfOk result (λ _. IsTaken (bits_of bits.entry) (map I.number indices.now)
+        (option_map bits_of validity.entry) (window out.new 0 (length indices.now))) }
+    ensures past { IfErr result (λ p. IsFirstPast (bits_of bits.entry) (map I.number indices.now)
+        (option_map bits_of validity.entry) p) }
+    ensures keeps { KeepsBehind (length indices.now) out.old out.new }
+{
+    for k in from..indices.len() {
+        match taken_value(bits, indices[k], is_valid(validity, k)) {
+            Some(value) => set_bit_to(out, k, value),
+            None => return Err(k),
+        }
+    }
+    Ok(())
+}
+
+/// What is taken at a position: false where it isn't valid, else the bit that the index names.
+fn taken_value<I: BitIndex>(bits: BitBufferView<'_>, index: I, valid: bool) -> Option<bool>
+    ensures { result ≡ (if valid then value_at (bits_of bits.entry) (I.number index) else Some false) }
+{
+    if valid {
+        value_at(bits, index)
+    } else {
+        Some(false)
+    }
+}
+
+/// The bit that the index names, if it names one.
+fn value_at<I: BitIndex>(bits: BitBufferView<'_>, index: I) -> Option<bool>
+    ensures { result ≡ value_at (bits_of bits.entry) (I.number index) }
+{
+    let place = index.place()?;
+    if place < bits.len() {
+        Some(bits.value(place))
+    } else {
+        None
+    }
+}
+
+/// Whether position `i` counts.
+fn is_valid(validity: Option<BitBufferView<'_>>, i: usize) -> bool
+    requires { ForSome validity (λ v. i < length (bits_of v)) }
+    ensures { result ≡ is_valid (option_map bits_of validity.entry) i }
+{
+    match validity {
+        Some(bits) => bits.value(i),
+        None => true,
+    }
+}
+
+/// Which of the 64 positions from `at` on count, as digits of a word.
+#[inline(always)]
+fn valid_word(validity: Option<BitBufferView<'_>>, at: usize) -> u64
+    requires { ForSome validity (λ v. at + 64 ≤ length (bits_of v)) }
+    ensures { (k : ℕ) → k < 64 → has_bit result k
+        ≡ is_valid (option_map bits_of validity.entry) (at + k) }
+{
+    match validity {
+        Some(bits) => view_word(bits, at),
+        None => u64::MAX,
+    }
+}
+
+/// The 64 bits from place `start` on, as digits of a word.
+#[inline(always)]
+#[tactic(auto, using(vb_bits::proofs::WindowLemmas::windows))]
+fn view_word(bits: BitBufferView<'_>, start: usize) -> u64
+    requires { start + 64 ≤ length (bits_of bits) }
+    ensures { (k : ℕ) → k < 64 → has_bit result k ≡ at (bits_of bits.entry) (start + k) }
+{
+    let place = bits.offset() + start;
+    full_word(bits.inner(), place / 8, place % 8)
+}
