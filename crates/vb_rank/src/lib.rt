@@ -9,6 +9,7 @@
 #![tactic(auto)]
 
 mod block;
+mod count;
 mod probe;
 mod rank;
 mod ranked;

@@ -3,12 +3,12 @@ ghost use Rattle.std.specs.Prelude.{◌≡◌, ◌+◌, ◌*◌, ◌^◌, ◌<�
 ghost use Rattle.vb_kernel.specs.Bits.{bits, count};
 ghost use Rattle.vb_rank.specs.Tables.{block_counts};
 
+use crate::count::count_in_block;
 use crate::probe::Probe;
-use vb_kernel::{Glance, count_ones_by};
+use vb_kernel::Glance;
 
 /// How many of the first `i` bits of the window are true: by at most 16 looks at its bits, and at
 /// most one probe of their table.
-#[tactic(auto, using(crate::proofs::TablesLemmas::looks_of_block))]
 pub fn rank_by<G: Glance, T: Probe>(
     src: &mut G,
     offset: usize,
@@ -32,5 +32,5 @@ pub fn rank_by<G: Glance, T: Probe>(
     // The block of the last of the bits, which has an entry also where `i` is the whole length.
     let block = (i - 1) / 512;
     let at = 512 * block;
-    table.entry(block) + count_ones_by(src, offset + at, i - at)
+    table.entry(block) + count_in_block(src, offset + at, i - at)
 }

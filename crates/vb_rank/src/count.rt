@@ -1,0 +1,54 @@
+//! Counts within a block.
+ghost use Rattle.std.specs.Prelude.{◌≡◌, ◌+◌, ◌-◌, ◌*◌, ◌^◌, ◌<◌, ◌≤◌, length, min};
+ghost use Rattle.vb_kernel.specs.Bits.{bits, count};
+ghost use Rattle.vb_kernel.specs.Digits.{digits};
+
+use vb_bits::full_word;
+use vb_kernel::{Glance, count_ones_by};
+
+/// How many of the `len` bits from bit `at` on are true, which are no more than a block.
+///
+/// They are counted with one chunk in hand, by no branch that depends on their number. Where the
+/// bytes end within that chunk, or the bits reach behind it, [`count_ones_by`] counts them.
+pub(crate) fn count_in_block<G: Glance>(src: &mut G, at: usize, len: usize) -> usize
+    requires inside { at + len ≤ 8 * length (G.bytes src.old) }
+    requires fits { at + len < 2 ^ 64 }
+    requires block { len ≤ 512 }
+    ensures value { result ≡ count (bits (G.bytes src.old) at len) }
+    ensures same { G.bytes src.new ≡ G.bytes src.old }
+    ensures looks { G.looks src.new ≤ G.looks src.old + 16 }
+{
+    let (first, skip) = (at / 8, at % 8);
+    if src.size() < first + 64 || 512 < skip + len {
+        return count_ones_by(src, at, len);
+    }
+    let chunk = src.chunk(first);
+    front_ones(&chunk, skip + len) - word_ones(&chunk, 0, skip)
+}
+
+/// How many of the first `n` bits of the chunk are true: of each word, those that are among them.
+fn front_ones(chunk: &[u8; 64], n: usize) -> usize
+    requires { n ≤ 512 }
+    ensures { result ≡ count (bits chunk.now 0 n) }
+{
+    let mut ones = 0;
+    for word in 0..8 {
+        ones += word_ones(chunk, word, n.saturating_sub(64 * word).min(64));
+    }
+    ones
+}
+
+/// How many of the first `n` bits of a word of the chunk are true.
+fn word_ones(chunk: &[u8; 64], word: usize, n: usize) -> usize
+    requires inside { word < 8 }
+    requires in_word { n ≤ 64 }
+    ensures { result ≡ count (bits chunk.now (64 * word) n) }
+{
+    let digits = full_word(chunk, 8 * word, 0);
+    let front = if n == 64 {
+        digits
+    } else {
+        digits & ((1 << n) - 1)
+    };
+    front.count_ones() as usize
+}
