@@ -9,7 +9,7 @@ use std::alloc::Allocator;
 use std::marker::Model;
 use vb_core::BufferError;
 use vb_mem::{Buffer, BufferMut};
-use vb_set::{BitBuffer, BitBufferMut};
+use vb_set::{BitBuffer, BitBufferMut, TryIntoMut};
 
 /// A set that commands edit. Contracts see the list of its bits.
 ///

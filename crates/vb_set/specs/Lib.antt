@@ -1,6 +1,6 @@
 pub mod Lends
 pub mod OpenSet
-pub mod SharedSet
+pub use Rattle.vb_bit_buffer.specs.SharedSet
 pub use Rattle.vb_kernel.specs.Bits
 pub use Rattle.vb_kernel.specs.Edits
 pub use Rattle.vb_kernel.specs.Writes

@@ -5,10 +5,10 @@ ghost use Rattle.vb_set.specs.Lends.{LendsBytes};
 ghost use Rattle.vb_set.specs.OpenSet.{bit_room};
 ghost use Rattle.vb_view.specs.Windows.{IsWindow};
 
-use crate::shown::write_bits;
 use std::alloc::{Allocator, Global};
 use std::fmt;
 use std::marker::Model;
+use vb_bit_bytes::write_bits;
 use vb_mem::ByteBufferMut;
 
 mod convert;
@@ -50,7 +50,7 @@ impl<A: Allocator + Clone> Model for BitBufferMut<A> {
     } };
 }
 
-#[tactic(auto, using(crate::proofs::SetLemmas::sets))]
+#[tactic(auto, using(vb_bit_bytes::proofs::BytesLemmas::edits))]
 impl<A: Allocator + Clone> BitBufferMut<A> {
     /// How many bits there are.
     pub fn len(&self) -> usize

@@ -4,8 +4,8 @@ ghost use Rattle.std.specs.Int.{div_ceil};
 ghost use Rattle.vb_view.specs.MutView.{mut_bits_of};
 ghost use Rattle.vb_view.specs.View.{bits_of};
 
-use crate::bit_buffer::BitBuffer;
 use std::alloc::Allocator;
+use vb_bit_buffer::BitBuffer;
 use vb_core::BufferError;
 use vb_mem::ByteBuffer;
 use vb_view::{BitBufferMutView, BitBufferView, BitStore};
@@ -24,7 +24,7 @@ pub trait ToBitBuffer {
         ensures refused { IsOkUnless result BufferError.OutOfMemory };
 }
 
-#[tactic(auto, using(crate::proofs::SetLemmas::sets))]
+#[tactic(auto, using(vb_bit_bytes::proofs::BytesLemmas::edits))]
 impl ToBitBuffer for BitBufferView<'_> {
     ghost use Rattle.vb_view.specs.View.{bits_of};
 

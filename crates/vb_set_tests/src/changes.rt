@@ -53,12 +53,13 @@ fn edit_ones<A: Allocator + Clone>(
     let answer = edit.make(&mut set);
     if answer.is_err() {
         equal(rt, (set.len(), set.capacity()), (len, room));
-        equal(rt, set.true_count(), len);
+        equal(rt, set.as_view().true_count(), len);
     } else {
-        let counts = (set.true_count(), set.false_count());
+        let view = set.as_view();
+        let counts = (view.true_count(), view.false_count());
         equal(rt, counts, (len.saturating_add(trues), falses));
         let first_false = if falses > 0 { Some(len) } else { None };
-        equal(rt, set.select_unset(0), first_false);
+        equal(rt, view.select_unset(0), first_false);
     }
     answer
 }
@@ -88,11 +89,11 @@ fn take<A: Allocator + Clone>(
     match set.take() {
         Ok(taken) => {
             equal(rt, set.is_empty(), true);
-            equal(rt, (taken.len(), taken.true_count()), (9, 9));
+            equal(rt, (taken.len(), taken.as_view().true_count()), (9, 9));
             Ok(())
         }
         Err(error) => {
-            equal(rt, (set.true_count(), set.capacity()), (9, room));
+            equal(rt, (set.as_view().true_count(), set.capacity()), (9, room));
             Err(error)
         }
     }
@@ -122,7 +123,8 @@ fn grow<A: Allocator + Clone>(
     for _ in 0..5000 {
         edit.make(&mut set)?;
     }
-    let counts = (set.true_count(), set.false_count());
+    let view = set.as_view();
+    let counts = (view.true_count(), view.false_count());
     equal(
         rt,
         counts,

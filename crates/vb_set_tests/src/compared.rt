@@ -29,7 +29,11 @@ pub(crate) fn shows<A: Allocator + Clone>(
 /// The set has these bits, by each of them and by its count.
 pub(crate) fn same<A: Allocator + Clone>(rt: &impl Abort, set: &BitBufferMut<A>, list: &[bool]) {
     let ones = list.iter().filter(|bit| **bit).count();
-    equal(rt, (set.len(), set.true_count()), (list.len(), ones));
+    equal(
+        rt,
+        (set.len(), set.as_view().true_count()),
+        (list.len(), ones),
+    );
     for (i, bit) in list.iter().enumerate() {
         if i < set.len() {
             equal(rt, set.value(i), *bit);

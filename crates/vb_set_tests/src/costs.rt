@@ -5,7 +5,7 @@ use crate::made::ones;
 use crate::makers::{cloned, copied, sliced, twin};
 use std::alloc::Allocator;
 use std::test::Fail;
-use vb_set::{BitBuffer, BitBufferMut, BufferError, ByteBuffer};
+use vb_set::{BitBuffer, BitBufferMut, BufferError, ByteBuffer, TryIntoMut};
 use vb_testing::Refusing;
 
 /// A call on a set to edit of eight thousand true bits.
@@ -69,7 +69,7 @@ fn sets_to_edit_ask_for_what_they_need(rt: HostRuntime) -> Result<(), Fail> {
         assert!(rt; heap.asks_within(1000, 2000));
         let made = call.make(set)?;
         assert!(rt; heap.asks_within(*least, *most));
-        equal(&rt, (made.len(), made.true_count()), (8000, 8000));
+        equal(&rt, (made.len(), made.as_view().true_count()), (8000, 8000));
     }
     Ok(())
 }
@@ -160,7 +160,7 @@ fn a_lone_owner_edits_without_memory(rt: HostRuntime) -> Result<(), Fail> {
     drop(set.clone()?);
     heap.refuse(1);
     match set.try_into_mut() {
-        Ok(set) => equal(&rt, (set.true_count(), heap.asked()), (9, 0)),
+        Ok(set) => equal(&rt, (set.as_view().true_count(), heap.asked()), (9, 0)),
         Err(_) => assert!(rt; false, "there is no other owner"),
     }
     Ok(())

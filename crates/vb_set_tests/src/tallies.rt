@@ -40,8 +40,9 @@ fn answers_are_tallied(
     (start, end): (usize, usize),
 ) -> Result<(), BufferError> {
     assert!(rt; start <= end && end <= set.len());
-    let (ones, part) = (set.true_count(), set.count_range(start, end));
-    let open = (ones, part, set.select(start), set.select_unset(start));
+    let view = set.as_view();
+    let (ones, part) = (view.true_count(), view.slice(start..end).true_count());
+    let open = (ones, part, view.select(start), view.select_unset(start));
     let window = (set.offset(), set.len());
     equal(
         rt,

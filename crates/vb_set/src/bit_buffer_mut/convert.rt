@@ -3,11 +3,11 @@ ghost use Rattle.std.specs.Prelude.{◌≡◌, ◌/◌, ◌%◌, drop, IfOk, IsO
 ghost use Rattle.vb_set.specs.OpenSet.{IsEmptySet};
 
 use super::BitBufferMut;
-use crate::bit_buffer::BitBuffer;
 use std::alloc::Allocator;
+use vb_bit_buffer::BitBuffer;
 use vb_core::BufferError;
 
-#[tactic(auto, using(crate::proofs::SetLemmas::sets))]
+#[tactic(auto, using(vb_bit_bytes::proofs::BytesLemmas::edits))]
 impl<A: Allocator + Clone> BitBufferMut<A> {
     /// A copy, with all the bytes, which takes memory for these. Refused by `OutOfMemory` alone.
     pub fn clone(&self) -> Result<Self, BufferError>

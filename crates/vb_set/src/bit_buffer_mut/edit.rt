@@ -7,11 +7,11 @@ ghost use Rattle.vb_kernel.specs.Writes.{Writes};
 ghost use Rattle.vb_set.specs.OpenSet.{IsEmptySet, KeepsLayout};
 
 use super::BitBufferMut;
-use crate::bytes::{fill, negate, write_bit};
 use std::alloc::Allocator;
 use std::ops::Not;
+use vb_bit_bytes::{fill, negate, write_bit};
 
-#[tactic(auto, using(crate::proofs::SetLemmas::sets))]
+#[tactic(auto, using(vb_bit_bytes::proofs::BytesLemmas::edits))]
 impl<A: Allocator + Clone> BitBufferMut<A> {
     /// Makes the bit at place `i` `v`. No other bit of the bytes changes.
     pub fn set_to(&mut self, i: usize, v: bool)
@@ -88,7 +88,7 @@ impl<A: Allocator + Clone> BitBufferMut<A> {
 
 /// Negates every bit in place, by words of eight bytes. It takes no memory, and no bit of the bytes
 /// outside of the set changes.
-#[tactic(auto, using(crate::proofs::SetLemmas::sets))]
+#[tactic(auto, using(vb_bit_bytes::proofs::BytesLemmas::edits))]
 impl<A: Allocator + Clone> Not for BitBufferMut<A> {
     ghost use Rattle.std.specs.Prelude.{◌≡◌};
     ghost use Rattle.vb_kernel.specs.Bits.{negated};

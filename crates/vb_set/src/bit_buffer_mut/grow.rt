@@ -3,11 +3,11 @@ ghost use Rattle.std.specs.Prelude.{◌≡◌, ◌+◌, ◌≤◌, ◌∷◌, []
 ghost use Rattle.vb_set.specs.OpenSet.{AddsBits, Grows, NeedsBits};
 
 use super::BitBufferMut;
-use crate::bytes::{push_bit, push_bits, reserve_to};
 use std::alloc::Allocator;
+use vb_bit_bytes::{push_bit, push_bits, reserve_to};
 use vb_core::BufferError;
 
-#[tactic(auto, using(crate::proofs::SetLemmas::sets))]
+#[tactic(auto, using(vb_bit_bytes::proofs::BytesLemmas::edits))]
 impl<A: Allocator + Clone> BitBufferMut<A> {
     /// Makes room for `n` bits more.
     ///

@@ -6,13 +6,13 @@ ghost use Rattle.vb_kernel.specs.Bits.{bits};
 ghost use Rattle.vb_set.specs.OpenSet.{IsEmptySet, bit_room};
 
 use super::BitBufferMut;
-use crate::bit_buffer::BitBuffer;
-use crate::bytes::byte_of;
 use std::alloc::Allocator;
+use vb_bit_buffer::BitBuffer;
+use vb_bit_bytes::full;
 use vb_core::BufferError;
 use vb_mem::{BufferMut, ByteBufferMut};
 
-#[tactic(auto, using(crate::proofs::SetLemmas::sets))]
+#[tactic(auto, using(vb_bit_bytes::proofs::BytesLemmas::edits))]
 impl<A: Allocator + Clone> BitBufferMut<A> {
     /// The `len` bits of a byte buffer from bit `offset` on. They have to lie in its bytes, and
     /// `offset + len` has to be a `usize`: `vb_kernel::window_fits` is the test.
@@ -76,8 +76,7 @@ impl<A: Allocator + Clone> BitBufferMut<A> {
         ensures alignment { IfOk result (λ s. s.exponent ≡ 0) }
         ensures refused { IsOkUnless result BufferError.OutOfMemory }
     {
-        let buffer = BufferMut::full(alloc, byte_of(v), n.div_ceil(8))?;
-        Ok(BitBufferMut::from_buffer(buffer, 0, n))
+        Ok(BitBufferMut::from_buffer(full(alloc, v, n)?, 0, n))
     }
 
     /// No bits and no memory.

@@ -7,7 +7,7 @@ use super::BitBufferMut;
 use std::alloc::Allocator;
 use vb_view::{BitBufferMutView, BitBufferView, BitStore};
 
-#[tactic(auto, using(crate::proofs::SetLemmas::sets))]
+#[tactic(auto, using(vb_bit_bytes::proofs::BytesLemmas::edits))]
 impl<A: Allocator + Clone> BitBufferMut<A> {
     /// The bits for questions, in constant time. The view's bytes begin with that of the first bit.
     pub fn as_view(&self) -> BitBufferView<'_>

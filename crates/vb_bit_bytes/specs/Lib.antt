@@ -1,0 +1,4 @@
+pub use Rattle.vb_bits.specs.Bits
+pub use Rattle.vb_bits.specs.Writes
+pub use Rattle.vb_mem.specs.OpenBuffer
+pub use Rattle.vb_mem.specs.SharedBuffer

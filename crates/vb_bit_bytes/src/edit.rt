@@ -1,0 +1,39 @@
+//! Edits in place.
+ghost use Rattle.std.specs.Prelude.{◌≡◌, ◌+◌, ◌-◌, ◌*◌, ◌/◌, ◌^◌, ◌<◌, ◌≤◌, [], ◌∷◌};
+ghost use Rattle.std.specs.Prelude.{length, replicate};
+ghost use Rattle.vb_bits.specs.Bits.{bits, negated};
+ghost use Rattle.vb_bits.specs.Writes.{Writes};
+
+use std::alloc::Allocator;
+use vb_bits::{fill_bits, map_words, set_bit_to};
+use vb_mem::ByteBufferMut;
+
+/// Makes bit `i`, which has to lie in the bytes, `v`.
+pub fn write_bit<A: Allocator + Clone>(bytes: &mut ByteBufferMut<A>, i: usize, v: bool)
+    requires { i / 8 < length bytes.old.list }
+    ensures bits { Writes bytes.old.list bytes.new.list i (v ∷ []) }
+    ensures keeps { bytes.new ≡ record bytes.old { list = bytes.new.list } }
+{
+    set_bit_to(bytes.as_mut_slice(), i, v);
+}
+
+/// Makes the bits from `start` up to `end`, which has to lie in the bytes, `v`, whole bytes at
+/// once. Where `end` is at most `start` there are none.
+pub fn fill<A: Allocator + Clone>(bytes: &mut ByteBufferMut<A>, start: usize, end: usize, v: bool)
+    requires { end ≤ 8 * length bytes.old.list }
+    ensures bits { Writes bytes.old.list bytes.new.list start (replicate (end - start) v) }
+    ensures keeps { bytes.new ≡ record bytes.old { list = bytes.new.list } }
+{
+    fill_bits(bytes.as_mut_slice(), start, end, v);
+}
+
+/// Negates each of the `len` bits from bit `offset` on, by words of eight bytes.
+pub fn negate<A: Allocator + Clone>(bytes: &mut ByteBufferMut<A>, offset: usize, len: usize)
+    requires inside { offset + len ≤ 8 * length bytes.old.list }
+    requires fits { offset + len < 2 ^ 64 }
+    ensures bits { Writes bytes.old.list bytes.new.list offset
+        (negated (bits bytes.old.list offset len)) }
+    ensures keeps { bytes.new ≡ record bytes.old { list = bytes.new.list } }
+{
+    map_words(bytes.as_mut_slice(), offset, len);
+}

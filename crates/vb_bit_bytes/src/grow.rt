@@ -1,0 +1,99 @@
+//! Room, and bits added at the end.
+ghost use Rattle.std.specs.Prelude.{◌≡◌, ◌+◌, ◌*◌, ◌^◌, ◌<◌, ◌≤◌, [], ◌∷◌};
+ghost use Rattle.std.specs.Prelude.{length, max, replicate, IsOk, IsOkUnless, OnOk, OnErr};
+ghost use Rattle.std.specs.Int.{div_ceil};
+ghost use Rattle.vb_bits.specs.Writes.{Writes, lengthened};
+
+use crate::edit::{fill, write_bit};
+use crate::make::byte_of;
+use std::alloc::Allocator;
+use vb_core::BufferError;
+use vb_mem::ByteBufferMut;
+
+/// Adds bit `end`, `v`, behind the bits below it, which lie in the bytes: in one of these, or in a
+/// byte of its own.
+///
+/// Refused by `OutOfMemory` alone; then the bytes and their room are unchanged. Within the room it
+/// takes no memory and succeeds.
+#[tactic(auto, using(crate::proofs::BytesLemmas::edits))]
+pub fn push_bit<A: Allocator + Clone>(
+    bytes: &mut ByteBufferMut<A>,
+    end: usize,
+    v: bool,
+) -> Result<(), BufferError>
+    requires { end ≤ 8 * length bytes.old.list }
+    ensures len { OnOk result (length bytes.new.list
+        ≡ max (length bytes.old.list) (div_ceil (end + 1) 8)) }
+    ensures bits { OnOk result (Writes (lengthened bytes.old.list bytes.new.list) bytes.new.list
+        end (v ∷ [])) }
+    ensures alignment { bytes.new.exponent ≡ bytes.old.exponent }
+    ensures room { bytes.old.room ≤ bytes.new.room }
+    ensures in_room { end + 1 ≤ 8 * max (length bytes.old.list) bytes.old.room → IsOk result }
+    ensures err { OnErr result (bytes.new ≡ bytes.old) }
+    ensures refused { IsOkUnless result BufferError.OutOfMemory }
+{
+    if end / 8 < bytes.len() {
+        write_bit(bytes, end, v);
+        return Ok(());
+    }
+    bytes.push(u8::from(v))?;
+    Ok(())
+}
+
+/// Adds `n` bits `v` from bit `start` on, behind the bits below it, which lie in the bytes: whole
+/// bytes at once. `start + n` has to be a `usize`.
+///
+/// Refused by `OutOfMemory` alone; then the bytes and their room are unchanged. Within the room it
+/// takes no memory and succeeds.
+#[tactic(auto, using(crate::proofs::BytesLemmas::edits))]
+pub fn push_bits<A: Allocator + Clone>(
+    bytes: &mut ByteBufferMut<A>,
+    start: usize,
+    n: usize,
+    v: bool,
+) -> Result<(), BufferError>
+    requires inside { start ≤ 8 * length bytes.old.list }
+    requires fits { start + n < 2 ^ 64 }
+    ensures len { OnOk result (length bytes.new.list
+        ≡ max (length bytes.old.list) (div_ceil (start + n) 8)) }
+    ensures bits { OnOk result (Writes (lengthened bytes.old.list bytes.new.list) bytes.new.list
+        start (replicate n v)) }
+    ensures alignment { bytes.new.exponent ≡ bytes.old.exponent }
+    ensures room { bytes.old.room ≤ bytes.new.room }
+    ensures in_room { start + n ≤ 8 * max (length bytes.old.list) bytes.old.room → IsOk result }
+    ensures err { OnErr result (bytes.new ≡ bytes.old) }
+    ensures refused { IsOkUnless result BufferError.OutOfMemory }
+{
+    let end = start + n;
+    let len = bytes.len();
+    let count = end.div_ceil(8);
+    if count <= len {
+        fill(bytes, start, end, v);
+        return Ok(());
+    }
+    bytes.push_n(byte_of(v), count - len)?;
+    fill(bytes, start, len * 8, v);
+    Ok(())
+}
+
+/// Makes room for `end` bits in all.
+///
+/// Refused by `OutOfMemory` alone; then the room is unchanged. Within it it takes no memory and
+/// succeeds.
+pub fn reserve_to<A: Allocator + Clone>(
+    bytes: &mut ByteBufferMut<A>,
+    end: usize,
+) -> Result<(), BufferError>
+    ensures keeps { bytes.new ≡ record bytes.old { room = bytes.new.room } }
+    ensures grows { bytes.old.room ≤ bytes.new.room }
+    ensures room { OnOk result (end ≤ 8 * bytes.new.room) }
+    ensures in_room { end ≤ 8 * max (length bytes.old.list) bytes.old.room → IsOk result }
+    ensures err { OnErr result (bytes.new ≡ bytes.old) }
+    ensures refused { IsOkUnless result BufferError.OutOfMemory }
+{
+    let count = end.div_ceil(8);
+    if bytes.capacity() < count {
+        bytes.reserve(count - bytes.len())?;
+    }
+    Ok(())
+}

@@ -1,0 +1,16 @@
+//! Bits kept in byte buffers: the steps of which sets of bits are made, edited and grown.
+//!
+//! A bit is named by its place in the bytes, least significant bit first. Places and lengths are
+//! counted in bits. An edit changes the bits that it names and no others, also in the bytes that
+//! these share with others, and takes no memory.
+#![tactic(auto)]
+
+mod edit;
+mod grow;
+mod make;
+mod shown;
+
+pub use edit::{fill, negate, write_bit};
+pub use grow::{push_bit, push_bits, reserve_to};
+pub use make::{full, unaligned};
+pub use shown::write_bits;

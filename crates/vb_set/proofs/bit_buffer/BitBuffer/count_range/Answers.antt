@@ -1,9 +1,0 @@
-use Rattle.std.proofs.Common.{◌≡◌, rules, slice_range}
-use Rattle.vb_kernel.specs.Bits.{count}
-use Rattle.vb_bits.proofs.WindowLemmas.{count_parts, windows}
-use Rattle.vb_set.proofs.bit_buffer.BitBuffer.count_range.Goals as goal
-
-pub returns-clause-adds : goal.returns-clause-adds
-returns-clause-adds g c = λ b low high.
-    let value : c.count_ones.result ≡ count (slice_range c.args.self.now.bits c.args.start c.args.end) = search (rules, windows) in
-    count_parts _ _ _ _ _ value low high
