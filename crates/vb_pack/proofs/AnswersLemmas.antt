@@ -124,3 +124,19 @@ map-span t l n e same =
     (λ k d h.
     let inside : k < n = omega (arith, length-map-range_with_len t 0 n) in
     get_or-map-range_with_len t 0 n k k d inside (zero-add k) ∙ same k inside ∙ get_or_default l k false d (omega arith))
+
+-- ---- two closures that are alike on a span
+module _ {F : Type 0} (s t : F → ℕ → Bool → F → Type 0) where
+  pub Answers-alike : (a n : ℕ) → ((k : ℕ) (p : F) (b : Bool) (q : F) → k < a + n → s p k b q → t p k b q) → (p : F) (bs : List Bool) (q : F) → Answers s p (span a n) bs q → Answers t p (span a n) bs q
+  unfolding span
+  Answers-alike a zero alike p [] q asked = asked
+  Answers-alike a zero alike p (b ∷ bs) q asked = absurd asked
+  Answers-alike a (suc n) alike p [] q asked = absurd asked
+  Answers-alike a (suc n) alike p (b ∷ bs) q asked =
+      (asked.0, alike a p b asked.0 (omega arith) asked.1, Answers-alike (a + 1) n (λ k p b q l. alike k p b q (omega arith)) asked.0 bs q asked.2)
+
+  pub CanAsk-alike : (pre other : F → ℕ → Type 0) (a n : ℕ) → ((k : ℕ) (p : F) → k < a + n → pre p k → other p k) → ((k : ℕ) (p : F) (b : Bool) (q : F) → k < a + n → t p k b q → s p k b q) → (p : F) → CanAsk pre s p (span a n) → CanAsk other t p (span a n)
+  unfolding span
+  CanAsk-alike pre other a zero may alike p can = tt
+  CanAsk-alike pre other a (suc n) may alike p can =
+      (may a p (omega arith) can.0, λ b q said. CanAsk-alike pre other (a + 1) n (λ k p l. may k p (omega arith)) (λ k p b q l. alike k p b q (omega arith)) q (can.1 b q (alike a p b q (omega arith) said)))

@@ -1,5 +1,5 @@
 -- The number whose digits are a list of truth values, by a multiply and by lanes.
-use Rattle.std.proofs.Common.{◌≡◌, ℕ, zero, suc, ◌+◌, ◌*◌, ◌/◌, ◌%◌, ◌^◌, ◌<◌, Bool, true, false, cond, ◌&&◌, List, [], ◌∷◌, ◌++◌, length, get_or, take, drop, map, eqb, refl, sym, ap, ◌∙◌, subst, arith, pow-suc, zero-add}
+use Rattle.std.proofs.Common.{◌≡◌, ℕ, zero, suc, ◌+◌, ◌*◌, ◌/◌, ◌%◌, ◌^◌, ◌<◌, Bool, true, false, cond, ◌&&◌, List, [], ◌∷◌, ◌++◌, length, get_or, take, map, eqb, refl, sym, ap, ◌∙◌, subst, arith, pow-suc, zero-add}
 use lib.Lanes.{mask_l, chunk}
 use mir.Val.{bool_byte}
 use Rattle.std.specs.Int.Bits.{bit_or}

@@ -1,13 +1,13 @@
 -- Digits of words.
-use Rattle.std.proofs.Common.{◌≡◌, ◌≢◌, inl, inr, ℕ, ◌+◌, ◌-◌, ◌*◌, ◌/◌, ◌%◌, ◌^◌, ◌<◌, ◌≤◌, ◌⊎◌, Bool, true, false, List, [], ◌∷◌, ◌++◌, length, get_or, set, replicate, eqb, refl, sym, ap, subst, ◌∙◌, arith, zero-add, length-set, get_or-set_same, get_or-set_other}
-use Rattle.std.proofs.lemmas.Bool.{cases_lt, cases_eq}
+use Rattle.std.proofs.Common.{◌≡◌, ◌≢◌, inl, inr, ℕ, ◌+◌, ◌-◌, ◌*◌, ◌/◌, ◌%◌, ◌^◌, ◌<◌, ◌≤◌, ◌⊎◌, Bool, false, List, [], ◌++◌, length, get_or, set, replicate, eqb, refl, sym, ap, subst, ◌∙◌, arith, zero-add, length-set, get_or-set_same, get_or-set_other}
+use Rattle.std.proofs.lemmas.Bool.{cases_lt}
 use Rattle.std.proofs.lemmas.List.{same_lists, append_assoc, length-append, length-replicate, get_or-replicate, get_or_append_left, get_or-append_right}
 use Rattle.std.proofs.lemmas.List.FromFn.{length-map-range_with_len, get_or-map-range_with_len}
 use Rattle.std.proofs.lemmas.Nat.Bits.{bit_at_above}
 use Rattle.vb_bits.specs.Digits.{has_bit, digits}
 use Rattle.vb_bits.proofs.RangeLemmas.{map-range_with_len-add, same_map-range_with_len}
 use Rattle.vb_bits.proofs.DigitsLemmas.{length-digits, at-digits, digits-add}
-use Rattle.vb_pack.specs.Words.{word_bit, word_bits, WritesWords, filled_up}
+use Rattle.vb_pack.specs.Words.{word_bit, word_bits, WritesWords}
 
 -- as many digits as asked for
 pub length-word_bits : (w : List ℕ) (o n : ℕ) → length (word_bits w o n) ≡ n

@@ -49,7 +49,7 @@ pub fn pack_truthy(bytes: &mut [u8], truthy: &[u8])
 
 /// Writes the first `n` bytes of `word`, least significant first, to the bytes from `at` on.
 #[inline(always)]
-fn write_front(bytes: &mut [u8], at: usize, n: usize, word: u64)
+pub(crate) fn write_front(bytes: &mut [u8], at: usize, n: usize, word: u64)
     requires in_word { n ≤ 8 }
     requires inside { at + n ≤ length bytes.old }
     ensures { Writes bytes.old bytes.new (8 * at) (digits word 0 (8 * n)) }

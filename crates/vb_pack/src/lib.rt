@@ -7,11 +7,13 @@
 
 mod bytes;
 mod collect;
+mod map;
 mod pack;
 mod words;
 
 pub use bytes::{collect_bool_bytes, pack_bools, pack_truthy};
 pub use collect::{collect_bool_word, collect_bool_word_scalar};
+pub use map::map_bool_bytes;
 pub use pack::{pack_bool_word_lanes, pack_bool_word_swar};
 pub use words::{
     collect_bool_words, collect_bool_words_multiversioned, pack_bools_into_words,

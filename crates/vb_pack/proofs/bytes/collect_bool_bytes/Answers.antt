@@ -1,4 +1,4 @@
-use Rattle.std.proofs.Common.{arith, ◌≡◌, ℕ, ◌+◌, ◌-◌, ◌*◌, ◌/◌, ◌%◌, ◌++◌, false, length, replicate, subst, sym, ap, ◌∙◌, zero-add}
+use Rattle.std.proofs.Common.{arith, ◌≡◌, ℕ, ◌+◌, ◌-◌, ◌*◌, ◌/◌, ◌%◌, ◌++◌, false, length, replicate, subst, sym, zero-add}
 use Rattle.vb_bits.proofs.BitsLemmas.{length-bits, bits_none}
 use Rattle.vb_bits.proofs.DigitsLemmas.{length-digits}
 use Rattle.vb_bits.proofs.WritesLemmas.{Writes_none}

@@ -1,5 +1,4 @@
-use Rattle.std.proofs.Common.{rules, arith, ◌≡◌, ◌<◌, false, length, get_or, subst, refl, sym, ap, ◌∙◌}
-use Rattle.vb_pack.specs.Bits.{bits}
+use Rattle.std.proofs.Common.{rules, arith, ◌≡◌, ◌<◌, false, length, get_or, subst, refl, ap, ◌∙◌}
 use Rattle.vb_pack.specs.Words.{filled_up}
 use Rattle.vb_pack.specs.Writes.{Writes}
 use Rattle.vb_pack.proofs.AnswersLemmas.{Answers-from, CanAsk-from, map-span}

@@ -1,6 +1,5 @@
 use Rattle.std.proofs.Common.{◌≡◌, ℕ, ◌+◌, ◌-◌, ◌*◌, length, take, drop, ap, arith, ◌∙◌}
 use Rattle.std.proofs.lemmas.List.{length-take, length-drop}
-use Rattle.std.specs.Int.{w64, to_le_bytes}
 use Rattle.vb_bits.specs.Bits.{bits}
 use Rattle.vb_bits.proofs.BytesLemmas.{bits-to_le_bytes}
 use Rattle.vb_bits.proofs.WindowLemmas.{bits-take_bytes}

@@ -1,4 +1,4 @@
-use Rattle.std.proofs.Common.{arith, ◌≡◌, eqb, length, map, ap, ◌∙◌, length-set}
+use Rattle.std.proofs.Common.{arith, ◌≡◌, eqb, map, ap, ◌∙◌, length-set}
 use Rattle.std.proofs.lemmas.Grind.{common_steps}
 use Rattle.std.proofs.lemmas.Simd.{bitmask_splat}
 use lib.Lanes.{mask_l}

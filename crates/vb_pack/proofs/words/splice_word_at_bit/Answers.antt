@@ -3,7 +3,7 @@ use Rattle.std.proofs.Math.Nat.{div-eq_of_lt}
 use Rattle.std.specs.Int.Bits.{bit_or}
 use Rattle.vb_bits.specs.Digits.{has_bit}
 use Rattle.vb_bits.proofs.WindowLemmas.{digits-clear}
-use Rattle.vb_pack.proofs.SpliceLemmas.{IsSpliced, WritesWords_splice}
+use Rattle.vb_pack.proofs.SpliceLemmas.{WritesWords_splice}
 use Rattle.vb_pack.proofs.words.splice_word_at_bit.Goals as goal
 use Rattle.vb_pack.proofs.words.splice_word_at_bit.Goals.{else-shift-ne0-via-then-shift-ne0+else-word-shift-ne0, else-shift-ne0-via-else-shift-ne0}
 

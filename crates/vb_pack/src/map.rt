@@ -1,0 +1,101 @@
+//! What a closure makes of the bits of a window.
+ghost use Rattle.std.specs.Prelude.{◌≡◌, ◌+◌, ◌*◌, ◌^◌, ◌<◌, ◌≤◌, length};
+ghost use Rattle.vb_pack.specs.Answers.{Answers, CanAsk, span};
+ghost use Rattle.vb_pack.specs.Bits.{at, bit_of, bits};
+ghost use Rattle.vb_pack.specs.Digits.{digits, has_bit};
+ghost use Rattle.vb_pack.specs.Words.{filled_up};
+ghost use Rattle.vb_pack.specs.Writes.{Writes};
+
+use crate::bytes::write_front;
+use crate::pack::pack_bool_word_lanes;
+use vb_bits::read_bits;
+
+/// Asks `f` at each place of the window of `len` bits of `src` from bit `offset` on, with the bit
+/// there, and packs its answers into the first bytes of `dst`, eight into each; the bits of the last
+/// one past `len` are false, and later bytes stay.
+///
+/// Full words of 64 go by vectors of bytes, the rest bit by bit.
+pub fn map_bool_bytes<F: FnMut(usize, bool) -> bool>(
+    dst: &mut [u8],
+    src: &[u8],
+    offset: usize,
+    len: usize,
+    f: &mut F,
+)
+    requires room { len ≤ 8 * length dst.old }
+    requires inside { offset + len ≤ 8 * length src.now }
+    requires fits { offset + len < 2 ^ 64 }
+    requires callable { CanAsk (λ p i. F.pre p i (at (bits src.now offset len) i))
+        (λ p i b q. F.step p i (at (bits src.now offset len) i) b q) f.old (span 0 len) }
+    ensures answered { Answers (λ p i b q. F.step p i (at (bits src.now offset len) i) b q)
+        f.old (span 0 len) (bits dst.new 0 len) f.new }
+    ensures written { Writes dst.old dst.new 0 (filled_up 8 (bits dst.new 0 len)) }
+{
+    let full = len / 64;
+    for k in 0..full {
+        let word = map_full(src, offset, 64 * k, f);
+        write_front(dst, 8 * k, 8, word);
+    }
+    let rest = len % 64;
+    let last = map_part(src, offset, 64 * full, rest, f);
+    write_front(dst, 8 * full, rest.div_ceil(8), last);
+}
+
+/// The answers of `f` at the 64 places from `base` on, counted from bit `offset`, with the bit
+/// there.
+#[inline(always)]
+fn map_full<F: FnMut(usize, bool) -> bool>(
+    src: &[u8],
+    offset: usize,
+    base: usize,
+    f: &mut F,
+) -> u64
+    requires inside { offset + base + 64 ≤ 8 * length src.now }
+    requires fits { offset + base + 64 < 2 ^ 64 }
+    requires callable { CanAsk (λ p i. F.pre p i (bit_of src.now (offset + i)))
+        (λ p i b q. F.step p i (bit_of src.now (offset + i)) b q) f.old (span base 64) }
+    ensures { Answers (λ p i b q. F.step p i (bit_of src.now (offset + i)) b q)
+        f.old (span base 64) (digits result 0 64) f.new }
+{
+    let word = read_bits(src, offset + base, 64);
+    let mut bools = [false; 64];
+    for i in 0..64 {
+        bools[i] = f(base + i, digit(word, i));
+    }
+    pack_bool_word_lanes(&bools)
+}
+
+/// The answers of `f` at the `len` places from `base` on, at most 64, as [`map_full`].
+#[inline(always)]
+fn map_part<F: FnMut(usize, bool) -> bool>(
+    src: &[u8],
+    offset: usize,
+    base: usize,
+    len: usize,
+    f: &mut F,
+) -> u64
+    requires in_word { len ≤ 64 }
+    requires inside { offset + base + len ≤ 8 * length src.now }
+    requires fits { offset + base + len < 2 ^ 64 }
+    requires callable { CanAsk (λ p i. F.pre p i (bit_of src.now (offset + i)))
+        (λ p i b q. F.step p i (bit_of src.now (offset + i)) b q) f.old (span base len) }
+    ensures answered { Answers (λ p i b q. F.step p i (bit_of src.now (offset + i)) b q)
+        f.old (span base len) (digits result 0 len) f.new }
+    ensures clear { result < 2 ^ len }
+{
+    let word = read_bits(src, offset + base, len);
+    let mut packed = 0u64;
+    for i in 0..len {
+        packed |= u64::from(f(base + i, digit(word, i))) << i;
+    }
+    packed
+}
+
+/// Digit `i` of a word.
+#[inline(always)]
+fn digit(word: u64, i: usize) -> bool
+    requires { i < 64 }
+    ensures { result ≡ has_bit word i }
+{
+    (word >> i) & 1 == 1
+}
