@@ -1,10 +1,12 @@
 -- Exponents of alignments that are part of a type.
-use Rattle.std.proofs.Common.{◌≡◌, ℕ, ◌-◌, ◌%◌, ◌^◌, ◌≤◌, List, [], ◌∷◌, inl, inr, refl, sym, ap, subst, ◌∙◌, arith}
+use Rattle.std.proofs.Common.{◌≡◌, ℕ, ◌-◌, ◌%◌, ◌^◌, ◌≤◌, List, [], ◌∷◌, IsTrue, inl, inr, refl, sym, ap, subst, ◌∙◌, arith}
 use Rattle.std.specs.Prelude.{◌⊎◌}
 use Rattle.std.proofs.Math.Nat.{zero-mod}
 use Rattle.std.proofs.Math.Pow.{pow-lt}
 use Rattle.std.proofs.lemmas.Bool.{cases_eq}
-use Rattle.vb_core.proofs.Powers.{pow-injective}
+use Rattle.std.specs.Int.{is_power_of_two}
+use Rattle.vb_core.proofs.Powers.{pow-injective, is_power_of_two-pow}
+use Rattle.vb_core.specs.Alignments.{IsPower, halvings}
 use Rattle.vb_mem.proofs.Places.{mod-mod-lesser}
 use Rattle.vb_mem.specs.SharedBuffer.{SharedBuffer, IsPlaceAligned, IsAlignedTo}
 use Rattle.vortex_buffer.specs.Fixed.{OfBytes}
@@ -41,3 +43,8 @@ of_place (x ∷ xs) place declared k =
 -- a buffer is aligned to an alignment or isn't
 pub aligned_or_not : {T : Type 0} (b : SharedBuffer T) (k : ℕ) → IsAlignedTo b k ⊎ ¬ (IsAlignedTo b k)
 aligned_or_not b k = of_place b.list b.place b.declared_exponent k
+
+-- a power of two has one digit
+pub is_power : (n : ℕ) → IsPower n → IsTrue (is_power_of_two n)
+is_power n (inl one) = one
+is_power n (inr halved) = subst (λ m. IsTrue (is_power_of_two m)) halved (is_power_of_two-pow (halvings 64 n))

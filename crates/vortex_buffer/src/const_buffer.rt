@@ -1,6 +1,6 @@
 //! A buffer whose alignment is part of its type.
-ghost use Rattle.std.specs.Prelude.{◌≡◌, ◌≢◌, ◌%◌, ◌^◌, ◌≤◌, IsTrue, IfOk, IsOkAnd, IsErrOf, IsOkUnless};
-ghost use Rattle.std.specs.Int.{is_power_of_two};
+ghost use Rattle.std.specs.Prelude.{◌≡◌, ◌≢◌, ◌%◌, ◌^◌, ◌≤◌};
+ghost use Rattle.std.specs.Prelude.{IfOk, IsOkAnd, IsErrOf, IsOkUnless};
 ghost use Rattle.vb_core.specs.Alignments.{IsPower};
 ghost use Rattle.vb_mem.specs.Answers.{Makes};
 ghost use Rattle.vb_mem.specs.SharedBuffer.{IsAlignedTo, Shows, ShowsMade};
@@ -47,13 +47,12 @@ impl<T: Element, const N: usize, A: Allocator> ConstBuffer<T, N, A> {
     /// Refused with `NotPowerOfTwo` exactly where `N` is no power of two (so is 0), and with
     /// `NotAligned` exactly where it is one and doesn't divide the reported alignment; the buffer
     /// is gone then.
+    #[tactic(auto, using(crate::proofs::Exponents::is_power))]
     pub fn try_from_buffer(buffer: Buffer<T, A>) -> Result<Self>
-        ensures aligned { IsTrue (is_power_of_two N) → 2 ^ buffer.exponent % N ≡ 0 →
-            result ≡ Ok buffer }
-        ensures not_aligned { IsTrue (is_power_of_two N) → 2 ^ buffer.exponent % N ≢ 0 →
+        ensures aligned { IsPower N → 2 ^ buffer.exponent % N ≡ 0 → result ≡ Ok buffer }
+        ensures not_aligned { IsPower N → 2 ^ buffer.exponent % N ≢ 0 →
             IsErrOf result BufferError.NotAligned }
-        ensures no_power { ¬ IsTrue (is_power_of_two N) →
-            IsErrOf result (BufferError.NotPowerOfTwo N) }
+        ensures no_power { ¬ (IsPower N) → IsErrOf result (BufferError.NotPowerOfTwo N) }
     {
         if !N.is_power_of_two() {
             return Err(BufferError::NotPowerOfTwo { value: N });

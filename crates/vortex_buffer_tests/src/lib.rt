@@ -1,0 +1,11 @@
+//! Tests of the crate that users depend on, which names no other crate of the library: worked rows,
+//! and calls whose requests for memory are refused.
+#![tactic(auto)]
+
+#[cfg(test)]
+mod compared;
+#[cfg(test)]
+mod made;
+pub mod reached;
+#[cfg(test)]
+mod rows;
