@@ -1,0 +1,283 @@
+/*
+ * Each function of vb_bits.h beside a loop over single bits, over random windows, and each checked
+ * form with numbers at and past every limit. It is C and C++ alike.
+ */
+#include "vb_bits.h"
+
+#include <stdio.h>
+#include <stdlib.h>
+#include <string.h>
+
+enum { BYTES = 96, BITS = 8 * BYTES, ROUNDS = 20000 };
+
+static uint64_t state = 88172645463325252u;
+static int failures = 0;
+
+static size_t random_below(size_t n)
+{
+    state ^= state << 13;
+    state ^= state >> 7;
+    state ^= state << 17;
+    return (size_t)(state % n);
+}
+
+static void check(bool holds, const char *what)
+{
+    if (!holds) {
+        failures++;
+        fprintf(stderr, "failed: %s\n", what);
+    }
+}
+
+static bool bit(const uint8_t *bytes, size_t i)
+{
+    return (bytes[i / 8] >> (i % 8) & 1) != 0;
+}
+
+static void put(uint8_t *bytes, size_t i, bool v)
+{
+    const uint8_t mask = (uint8_t)(1u << (i % 8));
+    bytes[i / 8] = (uint8_t)(v ? bytes[i / 8] | mask : bytes[i / 8] & ~mask);
+}
+
+static void randomize(uint8_t *bytes)
+{
+    const size_t kind = random_below(4);
+    for (size_t i = 0; i < BYTES; i++) {
+        const uint8_t some = (uint8_t)random_below(256);
+        bytes[i] = kind == 0 ? 0 : kind == 1 ? 255 : kind == 2 ? some : (uint8_t)(some & random_below(256));
+    }
+}
+
+/* The place of the n-th bit that is v, or len. */
+static size_t nth(const uint8_t *bytes, size_t offset, size_t len, size_t n, bool v)
+{
+    for (size_t i = 0; i < len; i++) {
+        if (bit(bytes, offset + i) == v && n-- == 0) {
+            return i;
+        }
+    }
+    return len;
+}
+
+static bool is_place(vb_place place, size_t wanted, size_t len)
+{
+    return wanted == len ? !place.found : place.found && place.index == wanted;
+}
+
+static void questions(const uint8_t *bytes, size_t offset, size_t len)
+{
+    size_t ones = 0, last = len, ones_checked = 0;
+    for (size_t i = 0; i < len; i++) {
+        if (bit(bytes, offset + i)) {
+            ones++;
+            last = i;
+        }
+    }
+    check(vb_count_ones(bytes, BYTES, offset, len) == ones, "vb_count_ones");
+    check(vb_try_count_ones(bytes, BYTES, offset, len, &ones_checked) && ones_checked == ones,
+        "vb_try_count_ones");
+    vb_place place = {false, 0};
+    check(is_place(vb_last_set_index(bytes, BYTES, offset, len), last, len), "vb_last_set_index");
+    check(vb_try_last_set_index(bytes, BYTES, offset, len, &place) && is_place(place, last, len),
+        "vb_try_last_set_index");
+    const size_t n = random_below(len + 2);
+    const size_t set = nth(bytes, offset, len, n, true), unset = nth(bytes, offset, len, n, false);
+    check(is_place(vb_bit_select(bytes, BYTES, offset, len, n), set, len), "vb_bit_select");
+    check(vb_try_bit_select(bytes, BYTES, offset, len, n, &place) && is_place(place, set, len),
+        "vb_try_bit_select");
+    check(is_place(vb_bit_select_unset(bytes, BYTES, offset, len, n), unset, len),
+        "vb_bit_select_unset");
+    check(vb_try_bit_select_unset(bytes, BYTES, offset, len, n, &place) && is_place(place, unset, len),
+        "vb_try_bit_select_unset");
+    if (offset < BITS) {
+        bool one = false;
+        check(vb_get_bit(bytes, BYTES, offset) == bit(bytes, offset), "vb_get_bit");
+        check(vb_try_get_bit(bytes, BYTES, offset, &one) && one == bit(bytes, offset), "vb_try_get_bit");
+    }
+}
+
+static void walks(const uint8_t *bytes, size_t offset, size_t len)
+{
+    size_t places[BITS + 1], checked[BITS + 1];
+    vb_run runs[BITS + 1], runs_checked[BITS + 1];
+    const size_t room = random_below(3) == 0 ? random_below(len + 1) : len + 1;
+    size_t count = 0, seen = 0, begun = 0;
+    memset(places, 0xEE, sizeof places);
+    size_t written = vb_set_indices(bytes, BYTES, offset, len, places, room);
+    check(vb_try_set_indices(bytes, BYTES, offset, len, checked, room, &count) && count == written,
+        "vb_try_set_indices");
+    for (size_t i = 0; i < len; i++) {
+        if (bit(bytes, offset + i)) {
+            if (seen < room) {
+                check(places[seen] == i && checked[seen] == i, "a place");
+            }
+            seen++;
+        }
+    }
+    check(written == (seen < room ? seen : room), "vb_set_indices");
+    for (size_t i = written; i < BITS + 1; i++) {
+        check(places[i] == (size_t)0xEEEEEEEEEEEEEEEEu, "memory behind the places");
+    }
+    written = vb_set_slices(bytes, BYTES, offset, len, runs, room);
+    check(vb_try_set_slices(bytes, BYTES, offset, len, runs_checked, room, &count) && count == written,
+        "vb_try_set_slices");
+    seen = 0;
+    for (size_t i = 0; i <= len; i++) {
+        const bool here = i < len && bit(bytes, offset + i);
+        const bool before = i > 0 && bit(bytes, offset + i - 1);
+        if (here && !before) {
+            begun = i;
+        }
+        if (before && !here) {
+            if (seen < room) {
+                check(runs[seen].start == begun && runs[seen].end == i, "a run");
+                check(runs_checked[seen].start == begun && runs_checked[seen].end == i, "a run, checked");
+            }
+            seen++;
+        }
+    }
+    check(written == (seen < room ? seen : room), "vb_set_slices");
+}
+
+typedef void (*combine)(uint8_t *, size_t, size_t, const uint8_t *, size_t, size_t, size_t);
+typedef bool (*try_combine)(uint8_t *, size_t, size_t, const uint8_t *, size_t, size_t, size_t);
+
+/* What each operator makes of two bits: digit 2 * left + right. */
+static const struct {
+    const char *name;
+    combine plain;
+    try_combine checked;
+    unsigned table;
+} combines[] = {
+    {"copy", vb_copy_bits, vb_try_copy_bits, 0xA},
+    {"and", vb_and_bits, vb_try_and_bits, 0x8},
+    {"or", vb_or_bits, vb_try_or_bits, 0xE},
+    {"xor", vb_xor_bits, vb_try_xor_bits, 0x6},
+    {"and not", vb_and_not_bits, vb_try_and_not_bits, 0x4},
+};
+enum { COMBINES = sizeof combines / sizeof combines[0] };
+
+static void writes(const uint8_t *bytes, const uint8_t *other, size_t offset, size_t len)
+{
+    uint8_t wanted[BYTES], got[BYTES];
+    const size_t s = random_below(BITS - len + 1);
+    for (size_t k = 0; k < COMBINES; k++) {
+        memcpy(wanted, bytes, BYTES);
+        for (size_t i = 0; i < len; i++) {
+            const unsigned both = 2u * bit(bytes, offset + i) + bit(other, s + i);
+            put(wanted, offset + i, (combines[k].table >> both & 1) != 0);
+        }
+        memcpy(got, bytes, BYTES);
+        combines[k].plain(got, BYTES, offset, other, BYTES, s, len);
+        check(memcmp(got, wanted, BYTES) == 0, combines[k].name);
+        memcpy(got, bytes, BYTES);
+        check(combines[k].checked(got, BYTES, offset, other, BYTES, s, len)
+                && memcmp(got, wanted, BYTES) == 0, combines[k].name);
+    }
+    memcpy(got, bytes, BYTES);
+    vb_copy_bits(got, BYTES, offset, other, BYTES, s, len);
+    bool equal = true, equal_checked = false;
+    for (size_t i = 0; i < len; i++) {
+        equal = equal && bit(bytes, offset + i) == bit(other, s + i);
+    }
+    check(vb_equal_bits(got, BYTES, offset, other, BYTES, s, len), "vb_equal_bits of a copy");
+    check(vb_equal_bits(bytes, BYTES, offset, other, BYTES, s, len) == equal, "vb_equal_bits");
+    check(vb_try_equal_bits(bytes, BYTES, offset, other, BYTES, s, len, &equal_checked)
+            && equal_checked == equal, "vb_try_equal_bits");
+    for (int v = 0; v < 2; v++) {
+        memcpy(wanted, bytes, BYTES);
+        for (size_t i = 0; i < len; i++) {
+            put(wanted, offset + i, v != 0);
+        }
+        memcpy(got, bytes, BYTES);
+        vb_fill_bits(got, BYTES, offset, offset + len, v != 0);
+        check(memcmp(got, wanted, BYTES) == 0, "vb_fill_bits");
+        memcpy(got, bytes, BYTES);
+        check(vb_try_fill_bits(got, BYTES, offset, offset + len, v != 0)
+                && memcmp(got, wanted, BYTES) == 0, "vb_try_fill_bits");
+    }
+    memcpy(wanted, bytes, BYTES);
+    for (size_t i = 0; i < len; i++) {
+        put(wanted, offset + i, !bit(bytes, offset + i));
+    }
+    memcpy(got, bytes, BYTES);
+    vb_negate_bits(got, BYTES, offset, len);
+    check(memcmp(got, wanted, BYTES) == 0, "vb_negate_bits");
+    memcpy(got, bytes, BYTES);
+    check(vb_try_negate_bits(got, BYTES, offset, len) && memcmp(got, wanted, BYTES) == 0,
+        "vb_try_negate_bits");
+}
+
+/* Windows of BYTES bytes that don't fit: past the end by a bit or by much, and past SIZE_MAX. */
+static const size_t bad[][2] = {
+    {0, BITS + 1}, {1, BITS}, {BITS, 1}, {BITS + 1, 0}, {SIZE_MAX, 1}, {1, SIZE_MAX},
+    {SIZE_MAX, SIZE_MAX}, {SIZE_MAX - 7, 8}, {SIZE_MAX, 0}, {0, SIZE_MAX},
+};
+enum { BAD = sizeof bad / sizeof bad[0] };
+
+static void refusals(const uint8_t *bytes)
+{
+    uint8_t got[BYTES];
+    for (size_t k = 0; k < BAD; k++) {
+        const size_t offset = bad[k][0], len = bad[k][1];
+        size_t number = 77, places[1] = {5};
+        bool flag = true;
+        vb_place place = {true, 9};
+        vb_run runs[1] = {{3, 4}};
+        memcpy(got, bytes, BYTES);
+        check(!vb_try_count_ones(bytes, BYTES, offset, len, &number), "a bad count");
+        check(!vb_try_bit_select(bytes, BYTES, offset, len, 0, &place), "a bad select");
+        check(!vb_try_bit_select_unset(bytes, BYTES, offset, len, 0, &place), "a bad select");
+        check(!vb_try_last_set_index(bytes, BYTES, offset, len, &place), "a bad last place");
+        check(!vb_try_set_indices(bytes, BYTES, offset, len, places, 1, &number), "bad places");
+        check(!vb_try_set_slices(bytes, BYTES, offset, len, runs, 1, &number), "bad runs");
+        check(!vb_try_equal_bits(bytes, BYTES, offset, bytes, BYTES, 0, len, &flag), "a bad left window");
+        check(!vb_try_equal_bits(bytes, BYTES, 0, bytes, BYTES, offset, len, &flag), "a bad right window");
+        check(!vb_try_negate_bits(got, BYTES, offset, len), "a bad window to negate");
+        for (size_t c = 0; c < COMBINES; c++) {
+            check(!combines[c].checked(got, BYTES, offset, bytes, BYTES, 0, len), combines[c].name);
+            check(!combines[c].checked(got, BYTES, 0, bytes, BYTES, offset, len), combines[c].name);
+        }
+        check(number == 77 && flag && place.found && place.index == 9 && places[0] == 5
+                && runs[0].start == 3 && runs[0].end == 4 && memcmp(got, bytes, BYTES) == 0,
+            "a refused call left all as it was");
+    }
+    bool flag = true;
+    memcpy(got, bytes, BYTES);
+    check(!vb_try_get_bit(bytes, BYTES, BITS, &flag) && flag, "a bit behind the last one");
+    check(!vb_try_get_bit(bytes, BYTES, SIZE_MAX, &flag) && flag, "the last of all bits");
+    check(!vb_try_fill_bits(got, BYTES, 0, BITS + 1, true), "a bad end");
+    check(!vb_try_fill_bits(got, BYTES, 0, SIZE_MAX, true), "a bad end");
+    check(memcmp(got, bytes, BYTES) == 0, "a refused fill left all as it was");
+}
+
+/* No bytes: every window of no bits from bit 0 on fits. */
+static void nothing(void)
+{
+    uint8_t none[1] = {0x55};
+    size_t number = 77, places[1];
+    bool flag = false;
+    check(vb_try_count_ones(none, 0, 0, 0, &number) && number == 0, "a count of nothing");
+    check(vb_try_set_indices(none, 0, 0, 0, places, 0, &number) && number == 0, "no places");
+    check(vb_try_equal_bits(none, 0, 0, none, 0, 0, 0, &flag) && flag, "nothing equals nothing");
+    check(!vb_try_count_ones(none, 0, 0, 1, &number), "a bit of nothing");
+    check(vb_try_fill_bits(none, 0, 0, 0, true) && none[0] == 0x55, "a fill of nothing");
+}
+
+int main(void)
+{
+    uint8_t bytes[BYTES], other[BYTES];
+    for (int round = 0; round < ROUNDS; round++) {
+        randomize(bytes);
+        randomize(other);
+        const size_t offset = random_below(BITS + 1);
+        const size_t len = random_below(BITS - offset + 1);
+        questions(bytes, offset, len);
+        walks(bytes, offset, len);
+        writes(bytes, other, offset, len);
+    }
+    refusals(bytes);
+    nothing();
+    return failures == 0 ? 0 : 1;
+}
