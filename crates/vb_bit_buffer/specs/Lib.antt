@@ -1,5 +1,8 @@
+pub mod Gives
 pub mod SharedSet
 pub use Rattle.vb_kernel.specs.Bits
+pub use Rattle.vb_kernel.specs.Operators
+pub use Rattle.vb_kernel.specs.Shown
 pub use Rattle.vb_mem.specs.SharedBuffer
 pub use Rattle.vb_view.specs.View
 pub use Rattle.vb_view.specs.Windows

@@ -9,9 +9,12 @@ use std::marker::Model;
 use vb_bit_bytes::write_bits;
 use vb_mem::ByteBuffer;
 
+mod compare;
 mod convert;
 mod edit;
 mod make;
+mod operator;
+mod print;
 mod question;
 mod slice;
 mod view;

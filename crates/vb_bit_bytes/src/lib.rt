@@ -10,7 +10,7 @@ mod grow;
 mod make;
 mod shown;
 
-pub use edit::{fill, negate, write_bit};
+pub use edit::{combine, copy, fill, negate, write_bit};
 pub use grow::{push_bit, push_bits, reserve_to};
 pub use make::{full, unaligned};
 pub use shown::write_bits;
