@@ -11,6 +11,7 @@ use vb_mem::ByteBuffer;
 
 mod convert;
 mod edit;
+mod indices;
 mod make;
 mod question;
 mod slice;
