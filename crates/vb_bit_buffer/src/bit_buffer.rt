@@ -12,6 +12,7 @@ use vb_mem::ByteBuffer;
 mod compare;
 mod convert;
 mod edit;
+mod indices;
 mod make;
 mod operator;
 mod print;

@@ -9,8 +9,10 @@ mod edit;
 mod grow;
 mod make;
 mod shown;
+mod window;
 
 pub use edit::{combine, copy, fill, negate, write_bit};
 pub use grow::{push_bit, push_bits, reserve_to};
 pub use make::{full, unaligned};
 pub use shown::write_bits;
+pub use window::push_window;

@@ -5,8 +5,8 @@ use Rattle.std.specs.Int.{bit_at, w64, to_le_bytes, from_le_bytes}
 use Rattle.std.specs.Int.Bits.{bit_or}
 use Rattle.std.proofs.lemmas.Bool.{cases_lt}
 use Rattle.std.proofs.lemmas.List.{get_or_past, get_or-replicate, length-replicate}
-use Rattle.std.proofs.lemmas.Nat.{pow_pos, shr_split, shr-shr, le_bytes_8}
-use Rattle.std.proofs.lemmas.Nat.Bits.{bit_at-zero, bit_at-lt, bit_at_or, bit_at_above, bit_at_cat_low, bit_at_cat_high}
+use Rattle.std.proofs.lemmas.Nat.{shr-shr, le_bytes_8}
+use Rattle.std.proofs.lemmas.Nat.Bits.{bit_at-lt, bit_at_or, bit_at_above}
 use borrow.Rule.Slice.PartMut.{put_mid}
 use Rattle.vb_bits.specs.Bits.{bit_of, bits}
 use Rattle.vb_bits.specs.Digits.{has_bit, digits}

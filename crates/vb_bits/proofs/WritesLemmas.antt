@@ -326,7 +326,7 @@ Writes-lengthened b c o m w =
     subst (λ (x : List ℕ). Writes x c o m) (sym (ap (λ x. b ++ x) none ∙ append-nil b)) w
 
 -- the bits behind the first o are m, and m ends in the bytes that are new
-Writes_behind : (b c : List ℕ) (o : ℕ) (m : List Bool) → length b ≤ length c → o ≤ 8 * length b → 8 * length b ≤ o + length m → ((i : ℕ) → i < o → bit_of c i ≡ bit_of b i) → ((i : ℕ) (d : Bool) → i < length m → bit_of c (o + i) ≡ get_or m i d) → Writes (lengthened b c) c o m
+pub Writes_behind : (b c : List ℕ) (o : ℕ) (m : List Bool) → length b ≤ length c → o ≤ 8 * length b → 8 * length b ≤ o + length m → ((i : ℕ) → i < o → bit_of c i ≡ bit_of b i) → ((i : ℕ) (d : Bool) → i < length m → bit_of c (o + i) ≡ get_or m i d) → Writes (lengthened b c) c o m
 Writes_behind b c o m more low high kept inside =
     Writes_by_bits (lengthened b c) c o m (omega (arith, length-append b (drop (length b) c), length-drop (length b) c)) inside
     (λ i h. elim h [
@@ -376,7 +376,7 @@ Writes_push_run b with_more c o n k y e v more h whole low high fits w =
     ∙ sym (get_or-replicate n i v d (omega arith)))
 
 -- a window that is lengthened by what was written behind it
-bits_behind : (b c : List ℕ) (o n : ℕ) (m : List Bool) → Writes (lengthened b c) c (o + n) m → o + n ≤ 8 * length b → bits c o (n + length m) ≡ bits b o n ++ m
+pub bits_behind : (b c : List ℕ) (o n : ℕ) (m : List Bool) → Writes (lengthened b c) c (o + n) m → o + n ≤ 8 * length b → bits c o (n + length m) ≡ bits b o n ++ m
 bits_behind b c o n m w h =
     bits-add c o n (length m)
     ∙ ap (λ x. x ++ bits c (o + n) (length m)) (same_bits c (lengthened b c) o o n (λ i l. w.others (o + i) (inl (omega arith))) ∙ bits-append b (drop (length b) c) o n h)

@@ -6,6 +6,7 @@ pub use Rattle.vb_kernel.specs.Edits
 pub use Rattle.vb_kernel.specs.Writes
 pub use Rattle.vb_mem.specs.OpenBuffer
 pub use Rattle.vb_mem.specs.SharedBuffer
+pub use Rattle.vb_take.specs.Takes
 pub use Rattle.vb_view.specs.MutView
 pub use Rattle.vb_view.specs.View
 pub use Rattle.vb_view.specs.Windows

@@ -11,9 +11,11 @@ use std::marker::Model;
 use vb_bit_bytes::write_bits;
 use vb_mem::ByteBufferMut;
 
+mod append_buffer;
 mod convert;
 mod edit;
 mod grow;
+mod indices;
 mod make;
 mod question;
 mod view;

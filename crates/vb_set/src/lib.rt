@@ -7,14 +7,16 @@
 #![tactic(auto)]
 
 mod bit_buffer_mut;
+mod take;
 mod to_bit_buffer;
 mod try_into_mut;
 
 pub use bit_buffer_mut::BitBufferMut;
+pub use take::take_bits;
 pub use to_bit_buffer::ToBitBuffer;
 pub use try_into_mut::TryIntoMut;
 pub use vb_bit_buffer::BitBuffer;
-pub use vb_core::BufferError;
+pub use vb_core::{BitIndex, BufferError};
 pub use vb_mem::{ByteBuffer, ByteBufferMut};
 pub use vb_view::{BitBufferMeta, BitBufferMutView, BitBufferView, BitStore};
 pub use vb_walk::{

@@ -1,9 +1,11 @@
 -- Bits taken at indices, and bits made true at places.
-use Rattle.std.specs.Prelude.{◌≡◌, ℕ, ℤ, negsuc, ◌<◌, ◌≤◌, ◌||◌, ◌==◌, Bool, true, false, List, length, map, slice_get, slice_index, slice_index_or, Option, Some, None, IsSome, if◌then◌else◌}
+use Rattle.std.specs.Prelude.{◌≡◌, ℕ, ℤ, negsuc, ◌<◌, ◌≤◌, ◌⊎◌, ◌||◌, ◌==◌, Bool, true, false, List, length, map, slice_get, slice_index, slice_index_or, Option, Some, None, IsSome, if◌then◌else◌}
 use Rattle.std.specs.List.{range_with_len, list_any}
 use Rattle.std.specs.Option.{option_and_then}
 use Rattle.vb_bits.specs.Bits.{at}
 use Rattle.vb_core.specs.Indices.{place_of}
+use Rattle.vb_core.specs.declared.error.BufferError.{BufferError}
+use Rattle.vb_core.specs.declared.error.BufferError.TheVariants.{OutOfMemory, IndexOutOfRange, TakeOutOfRange}
 
 -- position i counts: where there is a validity, its value there is true
 abbrev pub is_valid : Option (List Bool) → ℕ → Bool
@@ -40,3 +42,17 @@ pub record FirstNotBelow (n : ℕ) (places : List ℕ) (index : ℕ) : Type 0 wh
   pub found : slice_get places position ≡ Some index
   pub past : n ≤ index
   pub before : (i : ℕ) → i < position → slice_index places i < n
+
+-- each number is below n
+abbrev pub AllBelow : ℕ → List ℕ → Type 0
+AllBelow n places = (i : ℕ) → i < length places → slice_index places i < n
+
+-- why a set isn't made of places: want of memory, or the first number that isn't below n
+abbrev pub IndexRefused : ℕ → List ℕ → BufferError → Type 0
+IndexRefused n places e =
+    (e ≡ OutOfMemory) ⊎ ((index : ℕ) × (e ≡ IndexOutOfRange index n) × FirstNotBelow n places index)
+
+-- why bits aren't taken: want of memory, or the first position that takes nothing
+abbrev pub TakeRefused : List Bool → List ℤ → Option (List Bool) → BufferError → Type 0
+TakeRefused l indices validity e =
+    (e ≡ OutOfMemory) ⊎ ((position : ℕ) × (e ≡ TakeOutOfRange position) × IsFirstPast l indices validity position)

@@ -1,4 +1,4 @@
-use Rattle.std.proofs.Common.{◌+◌, ◌*◌, refl, arith}
+use Rattle.std.proofs.Common.{refl, arith}
 use Rattle.vb_bits.proofs.OperatorsLemmas.{Writes-merged}
 use Rattle.vb_bits.proofs.merge.merge_bits.Goals as goal
 

@@ -1,8 +1,8 @@
-use Rattle.std.proofs.Common.{◌≡◌, inl, inr, ℕ, ◌+◌, ◌-◌, ◌/◌, ◌%◌, ◌^◌, ◌<◌, ◌≤◌, refl, sym, ap, subst, ◌∙◌, arith, ⊎_elim, zero-add}
+use Rattle.std.proofs.Common.{◌≡◌, inl, inr, ℕ, ◌+◌, ◌-◌, ◌/◌, ◌%◌, ◌^◌, refl, sym, ap, subst, ◌∙◌, arith, ⊎_elim, zero-add}
 use Rattle.std.proofs.lemmas.Bool.{cases_lt}
 use Rattle.vb_bits.specs.Digits.{digits}
 use Rattle.vb_bits.specs.Writes.{Writes}
-use Rattle.vb_bits.proofs.DigitsLemmas.{length-digits, digits-add, digits_none, same_digits}
+use Rattle.vb_bits.proofs.DigitsLemmas.{length-digits, digits-add}
 use Rattle.vb_bits.proofs.ShiftLemmas.{digits_shr}
 use Rattle.vb_bits.proofs.WritesLemmas.{Writes_none, Writes-add}
 use Rattle.vb_bits.proofs.write.write_few.Goals as goal

@@ -1,0 +1,76 @@
+//! Bits of other bytes added at the end.
+ghost use Rattle.std.specs.Prelude.{◌≡◌, ◌+◌, ◌*◌, ◌^◌, ◌<◌, ◌≤◌};
+ghost use Rattle.std.specs.Prelude.{length, max, IsOk, IsOkUnless, OnOk, OnErr};
+ghost use Rattle.std.specs.Int.{div_ceil};
+ghost use Rattle.vb_bits.specs.Bits.{bits};
+ghost use Rattle.vb_bits.specs.Writes.{Writes, lengthened};
+
+use std::alloc::Allocator;
+use vb_bits::copy_bits;
+use vb_core::BufferError;
+use vb_mem::ByteBufferMut;
+
+/// Adds the `n` bits of `source` from bit `offset` on behind the bits below bit `start`, which lie
+/// in the bytes, by words; where both begin at one place of their byte, as a copy of bytes.
+/// `start + n` and `offset + n` have to be `usize`.
+///
+/// Refused by `OutOfMemory` alone; then the bytes and their room are unchanged. Within the room it
+/// takes no memory and succeeds.
+#[tactic(auto, using(crate::proofs::BytesLemmas::edits))]
+pub fn push_window<A: Allocator + Clone>(
+    bytes: &mut ByteBufferMut<A>,
+    start: usize,
+    source: &[u8],
+    offset: usize,
+    n: usize,
+) -> Result<(), BufferError>
+    requires inside { start ≤ 8 * length bytes.old.list }
+    requires fits { start + n < 2 ^ 64 }
+    requires source_inside { offset + n ≤ 8 * length source.now }
+    requires source_fits { offset + n < 2 ^ 64 }
+    ensures len { OnOk result (length bytes.new.list
+        ≡ max (length bytes.old.list) (div_ceil (start + n) 8)) }
+    ensures bits { OnOk result (Writes (lengthened bytes.old.list bytes.new.list) bytes.new.list
+        start (bits source.now offset n)) }
+    ensures alignment { bytes.new.exponent ≡ bytes.old.exponent }
+    ensures room { bytes.old.room ≤ bytes.new.room }
+    ensures in_room { start + n ≤ 8 * max (length bytes.old.list) bytes.old.room → IsOk result }
+    ensures err { OnErr result (bytes.new ≡ bytes.old) }
+    ensures refused { IsOkUnless result BufferError.OutOfMemory }
+{
+    let len = bytes.len();
+    let count = (start + n).div_ceil(8);
+    if count <= len {
+        copy_window(bytes, start, source, offset, n);
+        return Ok(());
+    }
+    let added = count - len;
+    if start % 8 != offset % 8 {
+        bytes.push_n(0, added)?;
+        copy_window(bytes, start, source, offset, n);
+        return Ok(());
+    }
+    let there = 8 * len - start;
+    let from = (offset + there) / 8;
+    bytes.extend_from_slice(&source[from..from + added])?;
+    copy_window(bytes, start, source, offset, there);
+    Ok(())
+}
+
+/// Copies the `n` bits of `source` from bit `offset` on to the bits from bit `start` on.
+fn copy_window<A: Allocator + Clone>(
+    bytes: &mut ByteBufferMut<A>,
+    start: usize,
+    source: &[u8],
+    offset: usize,
+    n: usize,
+)
+    requires into { start + n ≤ 8 * length bytes.old.list }
+    requires into_fits { start + n < 2 ^ 64 }
+    requires from { offset + n ≤ 8 * length source.now }
+    requires from_fits { offset + n < 2 ^ 64 }
+    ensures bits { Writes bytes.old.list bytes.new.list start (bits source.now offset n) }
+    ensures keeps { bytes.new ≡ record bytes.old { list = bytes.new.list } }
+{
+    copy_bits(bytes.as_mut_slice(), start, source, offset, n);
+}
