@@ -5,12 +5,16 @@
 //! these share with others, and takes no memory.
 #![tactic(auto)]
 
+mod collect;
 mod edit;
 mod grow;
 mod make;
 mod shown;
 mod window;
 
+pub use collect::{
+    collect_bool, collect_bool_shared, from_bools, from_iter, from_truthy, map_bool_shared,
+};
 pub use edit::{combine, copy, fill, negate, write_bit};
 pub use grow::{push_bit, push_bits, reserve_to};
 pub use make::{full, unaligned};

@@ -33,7 +33,8 @@ pub fn collect_bool_bytes<F: FnMut(usize) -> bool>(bytes: &mut [u8], len: usize,
 /// are false, and later bytes stay.
 pub fn pack_bools(bytes: &mut [u8], bools: &[bool])
     requires { length bools.now ≤ 8 * length bytes.old }
-    ensures { Writes bytes.old bytes.new 0 (filled_up 8 (bools.now)) }
+    ensures packed { bits bytes.new 0 (length bools.now) ≡ bools.now }
+    ensures written { Writes bytes.old bytes.new 0 (filled_up 8 (bools.now)) }
 {
     collect_bool_bytes(bytes, bools.len(), &mut |i| bools[i]);
 }
@@ -41,7 +42,8 @@ pub fn pack_bools(bytes: &mut [u8], bools: &[bool])
 /// [`pack_bools`] of bytes, each of which is true where it isn't 0.
 pub fn pack_truthy(bytes: &mut [u8], truthy: &[u8])
     requires { length truthy.now ≤ 8 * length bytes.old }
-    ensures { Writes bytes.old bytes.new 0
+    ensures packed { bits bytes.new 0 (length truthy.now) ≡ map (λ x. not (x == 0)) truthy.now }
+    ensures written { Writes bytes.old bytes.new 0
         (filled_up 8 (map (λ x. not (x == 0)) truthy.now)) }
 {
     collect_bool_bytes(bytes, truthy.len(), &mut |i| truthy[i] != 0);

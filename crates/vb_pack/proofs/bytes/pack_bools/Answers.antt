@@ -19,4 +19,8 @@ returns c =
     let kept : q.0.now ≡ p.0.now = search rules in
     (value ∙ ap (λ xs. get_or xs k false) same, kept ∙ same))
     _ _ _ refl c.collect_bool_bytes.ensures.answered in
-    subst (λ m. Writes c.args.bytes.now c.collect_bool_bytes.new.bytes 0 (filled_up 8 m)) (told.0 ∙ map-span _ l (length l) refl (λ k h. refl)) c.collect_bool_bytes.ensures.written
+    let all = told.0 ∙ map-span _ l (length l) refl (λ k h. refl) in
+    record {
+      packed = all;
+      written = subst (λ m. Writes c.args.bytes.now c.collect_bool_bytes.new.bytes 0 (filled_up 8 m)) all c.collect_bool_bytes.ensures.written;
+    }

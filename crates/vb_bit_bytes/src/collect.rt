@@ -1,0 +1,149 @@
+//! Bytes made of what a closure answers, of lists of truth values, and of what an iterator gives.
+ghost use Rattle.std.specs.Prelude.{◌≡◌, ◌+◌, ◌*◌, ◌^◌, ◌<◌, ◌≤◌, ◌==◌, not, length, map};
+ghost use Rattle.std.specs.Prelude.{◌⊎◌, ⊤, IfOk, MatchResult, IsOkUnless, OnErr};
+ghost use Rattle.std.specs.Int.{div_ceil};
+ghost use Rattle.std.specs.Iterator.{IsFiniteIterable};
+ghost use Rattle.vb_bit_bytes.specs.Given.{GivesPast};
+ghost use Rattle.vb_mem.specs.Collected.{OfItems};
+ghost use Rattle.vb_pack.specs.Answers.{Answers, CanAsk, span};
+ghost use Rattle.vb_pack.specs.Bits.{at, bits};
+
+use crate::grow::push_bit;
+use crate::make::full;
+use std::alloc::Allocator;
+use vb_core::BufferError;
+use vb_mem::{BufferMut, ByteBuffer, ByteBufferMut};
+use vb_pack::{collect_bool_bytes, map_bool_bytes, pack_bools, pack_truthy};
+
+/// Bytes whose first `len` bits are what `f` answers at the places from 0 up to `len`, as few as
+/// hold them.
+///
+/// Refused by `OutOfMemory` alone, before the first question.
+pub fn collect_bool<A: Allocator + Clone, F: FnMut(usize) -> bool>(
+    alloc: A,
+    len: usize,
+    f: &mut F,
+) -> Result<ByteBufferMut<A>, BufferError>
+    requires { CanAsk (F.pre) (F.step) f.old (span 0 len) }
+    ensures answered { IfOk result (λ b.
+        Answers (F.step) f.old (span 0 len) (bits b.list 0 len) f.new) }
+    ensures len { IfOk result (λ b. length b.list ≡ div_ceil len 8) }
+    ensures alignment { IfOk result (λ b. b.exponent ≡ 0) }
+    ensures not_asked { OnErr result (f.new ≡ f.old) }
+    ensures refused { IsOkUnless result BufferError.OutOfMemory }
+{
+    let mut bytes = full(alloc, false, len)?;
+    collect_bool_bytes(bytes.as_mut_slice(), len, f);
+    Ok(bytes)
+}
+
+/// [`collect_bool`] of bytes that can be shared, whose owner takes its memory before the first
+/// question too.
+pub fn collect_bool_shared<A: Allocator + Clone, F: FnMut(usize) -> bool>(
+    alloc: A,
+    len: usize,
+    f: &mut F,
+) -> Result<ByteBuffer<A>, BufferError>
+    requires { CanAsk (F.pre) (F.step) f.old (span 0 len) }
+    ensures answered { IfOk result (λ b.
+        Answers (F.step) f.old (span 0 len) (bits b.list 0 len) f.new) }
+    ensures len { IfOk result (λ b. length b.list ≡ div_ceil len 8) }
+    ensures alignment { IfOk result (λ b. b.exponent ≡ 0) }
+    ensures not_asked { OnErr result (f.new ≡ f.old) }
+    ensures refused { IsOkUnless result BufferError.OutOfMemory }
+{
+    let mut bytes = full(alloc, false, len)?.freeze()?;
+    collect_bool_bytes(bytes.items_mut()?.as_mut_slice(), len, f);
+    Ok(bytes)
+}
+
+/// Bytes that can be shared, whose first `len` bits are what `f` answers at the places of the
+/// window of `len` bits of `src` from bit `offset` on, asked with the bit there; as few as hold
+/// them.
+///
+/// Refused by `OutOfMemory` alone, before the first question.
+pub fn map_bool_shared<A: Allocator + Clone, F: FnMut(usize, bool) -> bool>(
+    alloc: A,
+    src: &[u8],
+    offset: usize,
+    len: usize,
+    f: &mut F,
+) -> Result<ByteBuffer<A>, BufferError>
+    requires inside { offset + len ≤ 8 * length src.now }
+    requires fits { offset + len < 2 ^ 64 }
+    requires callable { CanAsk (λ p i. F.pre p i (at (bits src.now offset len) i))
+        (λ p i b q. F.step p i (at (bits src.now offset len) i) b q) f.old (span 0 len) }
+    ensures answered { IfOk result (λ b.
+        Answers (λ p i b q. F.step p i (at (bits src.now offset len) i) b q)
+        f.old (span 0 len) (bits b.list 0 len) f.new) }
+    ensures len { IfOk result (λ b. length b.list ≡ div_ceil len 8) }
+    ensures alignment { IfOk result (λ b. b.exponent ≡ 0) }
+    ensures not_asked { OnErr result (f.new ≡ f.old) }
+    ensures refused { IsOkUnless result BufferError.OutOfMemory }
+{
+    let mut bytes = full(alloc, false, len)?.freeze()?;
+    map_bool_bytes(bytes.items_mut()?.as_mut_slice(), src, offset, len, f);
+    Ok(bytes)
+}
+
+/// Bytes whose first bits are truth values, as few as hold them. Refused by `OutOfMemory` alone.
+pub fn from_bools<A: Allocator + Clone>(
+    alloc: A,
+    bools: &[bool],
+) -> Result<ByteBufferMut<A>, BufferError>
+    ensures bits { IfOk result (λ b. bits b.list 0 (length bools.now) ≡ bools.now) }
+    ensures len { IfOk result (λ b. length b.list ≡ div_ceil (length bools.now) 8) }
+    ensures alignment { IfOk result (λ b. b.exponent ≡ 0) }
+    ensures refused { IsOkUnless result BufferError.OutOfMemory }
+{
+    let mut bytes = full(alloc, false, bools.len())?;
+    pack_bools(bytes.as_mut_slice(), bools);
+    Ok(bytes)
+}
+
+/// [`from_bools`] of bytes, each of which is true where it isn't 0.
+pub fn from_truthy<A: Allocator + Clone>(
+    alloc: A,
+    truthy: &[u8],
+) -> Result<ByteBufferMut<A>, BufferError>
+    ensures bits { IfOk result (λ b. bits b.list 0 (length truthy.now)
+        ≡ map (λ x. not (x == 0)) truthy.now) }
+    ensures len { IfOk result (λ b. length b.list ≡ div_ceil (length truthy.now) 8) }
+    ensures alignment { IfOk result (λ b. b.exponent ≡ 0) }
+    ensures refused { IsOkUnless result BufferError.OutOfMemory }
+{
+    let mut bytes = full(alloc, false, truthy.len())?;
+    pack_truthy(bytes.as_mut_slice(), truthy);
+    Ok(bytes)
+}
+
+/// What an iterator gives as bits from the first one on, in as few bytes as hold them, and how many
+/// they are. One bit after the other.
+///
+/// Refused by `TooManyBits` where it gives more than `usize::MAX` items, at the first one past
+/// these, else by `OutOfMemory`. No hint of the iterator is asked for.
+#[tactic(auto, using(crate::proofs::BytesLemmas::edits))]
+pub fn from_iter<A: Allocator + Clone, I: IntoIterator<Item = bool>>(
+    alloc: A,
+    iter: I,
+) -> Result<(ByteBufferMut<A>, usize), BufferError>
+    requires { IsFiniteIterable I.into_iter_gives I.IntoIter.can_next I.IntoIter.remaining iter }
+    ensures made { IfOk result (λ b. OfItems I.into_iter_gives I.IntoIter.next_gives iter
+        (λ items. bits b.0.list 0 b.1 ≡ items)) }
+    ensures len { IfOk result (λ b. length b.0.list ≡ div_ceil b.1 8) }
+    ensures alignment { IfOk result (λ b. b.0.exponent ≡ 0) }
+    ensures err { MatchResult result (λ _. ⊤) (λ e. (e ≡ BufferError.OutOfMemory)
+        ⊎ ((e ≡ BufferError.TooManyBits)
+            × GivesPast I.into_iter_gives I.IntoIter.next_gives iter)) }
+{
+    let mut bytes = BufferMut::empty(alloc);
+    let mut len = 0;
+    for bit in iter {
+        if len == usize::MAX {
+            return Err(BufferError::TooManyBits);
+        }
+        push_bit(&mut bytes, len, bit)?;
+        len += 1;
+    }
+    Ok((bytes, len))
+}
