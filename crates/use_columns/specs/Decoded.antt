@@ -1,0 +1,8 @@
+-- What runs stand for.
+use Rattle.std.specs.Prelude.{ℕ, List, replicate}
+use Rattle.std.specs.List.{flat_map}
+use Rattle.use_columns.specs.declared.runs.Run.{Run}
+
+-- each value as often as its run is long, one run after the other
+abbrev pub decoded : List Run → List ℕ
+decoded runs = flat_map (λ run. replicate run.len run.value) runs

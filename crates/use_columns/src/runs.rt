@@ -1,0 +1,27 @@
+//! A column that is stored as its runs.
+ghost use Rattle.std.specs.Prelude.{◌≡◌};
+ghost use Rattle.vortex_buffer.specs.Answers.{Makes};
+ghost use Rattle.use_columns.specs.Decoded.{decoded};
+
+use std::alloc::Allocator;
+use vortex_buffer::{Buffer, BufferMut, Result};
+
+/// A value, and how often it stands in a row.
+#[derive(Clone, Copy, Debug, PartialEq, Eq)]
+pub struct Run {
+    /// The value.
+    pub value: u32,
+    /// How often.
+    pub len: usize,
+}
+
+/// The column of these runs, one after the other. Refused with `OutOfMemory`.
+pub fn decode_runs<A: Allocator + Clone>(alloc: A, runs: &[Run]) -> Result<Buffer<u32, A>>
+    ensures { Makes (λ column. column.list ≡ decoded runs.now) result }
+{
+    let mut column = BufferMut::empty(alloc);
+    for run in runs {
+        column.push_n(run.value, run.len)?;
+    }
+    column.freeze()
+}
