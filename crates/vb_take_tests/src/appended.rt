@@ -1,0 +1,76 @@
+//! Sets added to sets: worked rows, growth, and what stands after a refusal.
+use crate::compared::{answers, equal};
+use crate::made::bits;
+use std::alloc::Allocator;
+use std::process::Abort;
+use std::test::Fail;
+use vb_set::{BitBuffer, BitBufferMut, BufferError};
+use vb_testing::{Handle, Refusing, answers_refusal, each_refused};
+
+#[test]
+fn false_bits_behind_true_ones(rt: HostRuntime) -> Result<(), Fail> {
+    let mut set = !BitBufferMut::new_unset(rt.alloc(), 4)?;
+    set.append_buffer(&BitBuffer::new_unset(rt.alloc(), 3)?)?;
+    answers(&rt, set.freeze(), Ok("1111000"));
+    Ok(())
+}
+
+/// Bits past the end that were left true don't show.
+#[test]
+fn stale_bits_are_written_over(rt: HostRuntime) -> Result<(), Fail> {
+    for (kept, wanted) in [(8, "1111111101001"), (2, "1101001")] {
+        let mut set = BitBufferMut::new_set(rt.alloc(), 16)?;
+        set.truncate(kept);
+        set.append_buffer(&bits(rt.alloc(), "01001")?)?;
+        answers(&rt, set.freeze(), Ok(wanted));
+    }
+    Ok(())
+}
+
+/// Adds a set of a hundred true bits to one whose room is full of false ones. A refusal leaves the
+/// set and its room.
+fn add_to_full<A: Allocator + Clone>(rt: &impl Abort, alloc: A) -> Result<(), BufferError> {
+    let mut set = BitBufferMut::new_unset(alloc.clone()?, 8)?;
+    set.append_n(false, set.capacity() - set.len())?;
+    let (len, room) = (set.len(), set.capacity());
+    let added = BitBuffer::new_set(alloc, 100)?;
+    let answer = set.append_buffer(&added);
+    let longer = if answer.is_ok() { 100 } else { 0 };
+    equal(
+        rt,
+        (set.len(), set.as_view().true_count()),
+        (len.saturating_add(longer), longer),
+    );
+    equal(rt, answer.is_ok() || set.capacity() == room, true);
+    answer
+}
+
+#[test]
+fn a_refused_append_leaves_the_set(rt: HostRuntime) -> Result<(), Fail> {
+    let requests = each_refused(rt.alloc(), |heap| {
+        let answer = add_to_full(&rt, Handle { inner: heap });
+        answers_refusal(heap, answer, BufferError::OutOfMemory)
+    })?;
+    assert!(rt; requests >= Some(4));
+    Ok(())
+}
+
+/// A body that gives up once the set has grown to some length fails here, and so does one that asks
+/// for room at each call, or for more and more of it.
+#[test]
+fn appends_go_on_while_there_is_memory(rt: HostRuntime) -> Result<(), Fail> {
+    for len in [7, 8] {
+        let heap = Refusing::new(rt.alloc(), 0);
+        let added = BitBuffer::new_set(&heap, len)?;
+        heap.refuse(0);
+        let mut set = BitBufferMut::empty(&heap);
+        for _ in 0..5000 {
+            set.append_buffer(&added)?;
+        }
+        let count = len.saturating_mul(5000);
+        equal(&rt, (set.len(), set.as_view().true_count()), (count, count));
+        assert!(rt; heap.asked() <= 20);
+        assert!(rt; heap.asked_bytes() <= 4 * 5000);
+    }
+    Ok(())
+}

@@ -1,0 +1,39 @@
+//! Sets to start from, and calls on them. No clause says what they hold, since the proof of a test
+//! would search among these facts at each of its calls.
+use std::alloc::Allocator;
+use vb_set::{BitBuffer, BitBufferMut, BitBufferView, BitIndex, BufferError, take_bits};
+
+/// A set of these bits, `1` for a true one, behind three bits that are left out.
+pub(crate) fn bits<A: Allocator + Clone>(
+    alloc: A,
+    digits: &str,
+) -> Result<BitBuffer<A>, BufferError> {
+    let mut set = BitBufferMut::new_set(alloc, 3)?;
+    for digit in digits.bytes() {
+        set.append(digit == b'1')?;
+    }
+    behind_three(set.freeze()?)
+}
+
+fn behind_three<A: Allocator + Clone>(set: BitBuffer<A>) -> Result<BitBuffer<A>, BufferError> {
+    if set.len() < 3 {
+        return Err(BufferError::NotAligned);
+    }
+    set.slice(3..set.len())
+}
+
+/// [`take_bits`], where the validity is as long as the indices.
+pub(crate) fn taken<A: Allocator + Clone, I: BitIndex>(
+    alloc: A,
+    bits: BitBufferView<'_>,
+    indices: &[I],
+    validity: Option<BitBufferView<'_>>,
+) -> Result<BitBuffer<A>, BufferError> {
+    match validity {
+        Some(validity) if validity.len() == indices.len() => {
+            take_bits(alloc, bits, indices, Some(validity))
+        }
+        Some(_) => Err(BufferError::NotAligned),
+        None => take_bits(alloc, bits, indices, None),
+    }
+}
