@@ -66,7 +66,7 @@ impl<A: Allocator + Clone> Ranked<A> {
         self.set.as_view()
     }
 
-    /// The set.
+    /// The set, without its table.
     pub fn into_inner(self) -> BitBufferMut<A>
         ensures { result ≡ self }
     {
@@ -74,7 +74,7 @@ impl<A: Allocator + Clone> Ranked<A> {
     }
 
     /// How many of the first `i` bits are true, in constant time: [`rank_by`] of the set and its
-    /// table.
+    /// table. `i` has to be at most the length.
     pub fn rank(&self, i: usize) -> usize
         requires { i ≤ length self.now.bits }
         ensures { result ≡ count (take i self.now.bits) }
@@ -106,7 +106,8 @@ impl<A: Allocator + Clone> Ranked<A> {
         select_unset_by(src, bits.offset(), bits.len(), &mut self.entries(), n)
     }
 
-    /// Makes the bit at place `i` `v`. No other bit of the bytes changes. It takes no memory.
+    /// Makes the bit at place `i`, which has to be below the length, `v`. No other bit of the bytes
+    /// changes. It takes no memory.
     ///
     /// Where the bit changes, the entries of all later blocks move by one: one pass over them.
     pub fn set_to(&mut self, i: usize, v: bool)
