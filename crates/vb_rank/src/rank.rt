@@ -9,6 +9,9 @@ use vb_kernel::Glance;
 
 /// How many of the first `i` bits of the window are true: by at most 16 looks at its bits, and at
 /// most one probe of their table.
+///
+/// The window has to lie in the bytes, its end has to be a `usize`, and `i` has to be at most its
+/// length. The table has to be that of its bits, as [`table_of`](crate::table_of) makes it.
 pub fn rank_by<G: Glance, T: Probe>(
     src: &mut G,
     offset: usize,

@@ -13,8 +13,9 @@ use crate::select::{select_by, select_unset_by};
 use crate::table::{move_entries, table_of};
 use std::alloc::{Allocator, Global};
 use std::marker::Model;
+use vb_core::BufferError;
 use vb_kernel::Plain;
-use vb_set::{BitBufferMut, BitBufferView, BufferError};
+use vb_set::{BitBufferMut, BitBufferView};
 
 /// A set of bits that one owner edits, with the table of the true bits before each block of 512.
 /// Every edit keeps the table exact, so each question is answered as by a table made anew.
@@ -66,7 +67,7 @@ impl<A: Allocator + Clone> Ranked<A> {
         self.set.as_view()
     }
 
-    /// The set.
+    /// The set, without its table.
     pub fn into_inner(self) -> BitBufferMut<A>
         ensures { result ≡ self }
     {
@@ -74,7 +75,7 @@ impl<A: Allocator + Clone> Ranked<A> {
     }
 
     /// How many of the first `i` bits are true, in constant time: [`rank_by`] of the set and its
-    /// table.
+    /// table. `i` has to be at most the length.
     pub fn rank(&self, i: usize) -> usize
         requires { i ≤ length self.now.bits }
         ensures { result ≡ count (take i self.now.bits) }
@@ -106,7 +107,8 @@ impl<A: Allocator + Clone> Ranked<A> {
         select_unset_by(src, bits.offset(), bits.len(), &mut self.entries(), n)
     }
 
-    /// Makes the bit at place `i` `v`. No other bit of the bytes changes. It takes no memory.
+    /// Makes the bit at place `i`, which has to be below the length, `v`. No other bit of the bytes
+    /// changes. It takes no memory.
     ///
     /// Where the bit changes, the entries of all later blocks move by one: one pass over them.
     pub fn set_to(&mut self, i: usize, v: bool)

@@ -9,8 +9,11 @@ use crate::probe::Probe;
 use vb_kernel::{Glance, bit_select_by, bit_select_unset_by};
 
 /// The place, relative to the window, of its `n`-th true bit, counted from 0; `None` where the
-/// window has at most `n`. It takes at most 16 looks, and no more probes of the table than one more
-/// than the number of its entries has binary digits.
+/// window has at most `n`. It takes at most 16 looks, and at most as many probes of the table as
+/// the number of its entries and one has binary digits.
+///
+/// The window has to lie in the bytes, and its end has to be a `usize`. The table has to be that of
+/// its bits, as [`table_of`](crate::table_of) makes it.
 pub fn select_by<G: Glance, T: Probe>(
     src: &mut G,
     offset: usize,
@@ -32,7 +35,8 @@ pub fn select_by<G: Glance, T: Probe>(
 }
 
 /// The place, relative to the window, of its `n`-th false bit, counted from 0; `None` where the
-/// window has at most `n`. It takes as few looks and probes as [`select_by`].
+/// window has at most `n`. It takes as few looks and probes as [`select_by`], and asks the same of
+/// window and table.
 pub fn select_unset_by<G: Glance, T: Probe>(
     src: &mut G,
     offset: usize,

@@ -5,7 +5,8 @@ ghost use Rattle.vb_rank.specs.Tables.{block_counts, moved};
 ghost use Rattle.vb_set.specs.View.{bits_of};
 
 use std::alloc::Allocator;
-use vb_set::{BitBufferView, BufferError};
+use vb_core::BufferError;
+use vb_set::BitBufferView;
 
 /// For each block of 512 bits, how many true bits are before it.
 ///

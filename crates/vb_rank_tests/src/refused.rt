@@ -61,7 +61,7 @@ fn a_refused_append_leaves_the_directory(rt: HostRuntime) -> Result<(), Fail> {
         let answer = append(&rt, heap, 1025);
         answers_refusal(heap, answer, BufferError::OutOfMemory)
     })?;
-    // The bytes double six times, and the table has room for four entries.
+    // Six for the bytes, whose room doubles, and one for the table.
     equal(&rt, requests, Some(7));
     Ok(())
 }

@@ -13,14 +13,14 @@ loop-left-preserved g c =
     let same = c.bits_before-here.ensures.same ∙ c.loop-left.invariant.same in
     let halves = halves-step _ _ _ _ left (left - half) c.loop-left.invariant.halves (omega arith) (omega arith) c.bits_before-here.ensures.probe in
     elim c.if-here-n.branch [
-      then-here-n w ↦ record {
+      | then-here-n w ↦ record {
         some = omega arith;
         within = omega (arith, w.low-is);
         before = w.before-is ∙ here ∙ ap (passed c.args.value t) (sym w.low-is);
         below = omega (arith, w.before-is, w.if-here-n.true);
         above = λ more.
-          let e : c.if-here-n.low + (left - half) ≡ low + left = omega (arith, w.low-is) in
-          subst (λ x. n < passed c.args.value t x) (sym e) (c.loop-left.invariant.above (omega (arith, more, e)));
+            let e : c.if-here-n.low + (left - half) ≡ low + left = omega (arith, w.low-is) in
+            subst (λ x. n < passed c.args.value t x) (sym e) (c.loop-left.invariant.above (omega (arith, more, e)));
         same = same;
         halves = halves;
       }
@@ -30,8 +30,8 @@ loop-left-preserved g c =
         before = w.before-is ∙ c.loop-left.invariant.before ∙ ap (passed c.args.value t) (sym w.low-is);
         below = omega (arith, w.before-is);
         above = λ more.
-          let up = c.requires.rising (low + half) (c.if-here-n.low + (left - half)) (omega (arith, w.low-is)) more in
-          omega (arith, up, here, w.if-here-n.false);
+            let up = c.requires.rising (low + half) (c.if-here-n.low + (left - half)) (omega (arith, w.low-is)) more in
+            omega (arith, up, here, w.if-here-n.false);
         same = same;
         halves = halves;
       }

@@ -2,7 +2,6 @@ use Rattle.std.proofs.Common.{ℕ, List, length, ap, arith}
 use Rattle.vb_kernel.proofs.SearchesLemmas.{count-matching-bits-le, Searched_inside}
 use Rattle.vb_rank.proofs.TablesLemmas.{length-block_counts-bits, inside, entry-le, passed-mono, Selects-block_some, Selects-block_none, block-begins, probes-le}
 use Rattle.vb_rank.proofs.select.select_value_by.Goals as goal
-use Rattle.vb_rank.proofs.select.select_value_by.Goals.{After-find_block-block}
 
 pub returns-then-len-eq0-clause-place : goal.returns-then-len-eq0-clause-place
 returns-then-len-eq0-clause-place g c = omega (arith, count-matching-bits-le c.args.value (g.G.Glance.bytes c.args.src.now) c.args.offset c.args.len)
