@@ -55,6 +55,14 @@ class Clauses(unittest.TestCase):
         for function, path in zip(functions("src/lib.rt", text), paths):
             self.assertEqual(verdict_on(function, said).path, path)
 
+    def test_an_operator_of_a_type_and_of_references_to_it_is_found(self):
+        heads = ["BitAnd<Set<A>> for Set<A>", "BitAnd<&Set<A>> for Set<A>", "BitAnd<Set<A>> for &Set<A>", "BitAnd<&Set<A>> for &Set<A>"]
+        text = "".join(f"impl<A: Allocator> {it} {{\n    fn bitand(self) {{\n    }}\n}}\n" for it in heads)
+        paths = [f"demo::{it}::bitand" for it in ("SetBitAnd", "SetBitAndRefSet", "RefSetBitAndSet", "RefSetBitAnd")]
+        said = judged("".join(f"fn {it}: proved\n" for it in paths))
+        for function, path in zip(functions("src/lib.rt", text), paths):
+            self.assertEqual(verdict_on(function, said).path, path)
+
     def test_a_method_may_have_its_clause_at_the_trait(self):
         function = functions("src/lib.rt", "impl Glance for Plain {\n    fn size(&self) -> u8 {\n    }\n}\n")[0]
         said = "fn demo::PlainGlance::size: no proof: `search` did not prove `returns`\n"

@@ -10,17 +10,20 @@ FUNCTION = re.compile(
     r"(?m)^[ \t]*(?P<public>pub(?:\([^)]*\))?\s+)?(?:(?:const|unsafe|final|extern)\s+)*fn\s+(?P<name>\w+)"
 )
 CLAUSE = re.compile(r"\b(?P<kind>requires|ensures|ghost)\*?\s*(?P<name>\w+)?\s*:?\s*$")
+REFERENCE = re.compile(r"&\s*(?:'\w+\s+)?(mut\b)?")
 CLOSING = {"(": ")", "[": "]", "{": "}"}
 
 
 @dataclass(frozen=True)
 class Block:
     """An `impl` or a `trait`: the type or trait that it is of, and of an `impl` the trait with the
-    first of its arguments, as `From` and `AllocError`."""
+    first of its arguments, as `From` and `AllocError`, and the name that a check gives it where there
+    are more of the trait for the type and for references to it, as `RefSetBitAndSet`."""
 
     owner: str
     trait: str
     argument: str
+    name: str
     is_public_trait: bool
     start: int
     end: int
@@ -89,8 +92,8 @@ def last_word(path: str) -> str:
 
 
 def first_argument(header: str, trait: str) -> str:
-    """The first argument of a trait in the header of an `impl`, as `Option<usize>`."""
-    opening = re.search(rf"\b{trait}<\s*&?", header)
+    """The first argument of a trait in the header of an `impl`, as `&Option<usize>`."""
+    opening = re.search(rf"\b{trait}<\s*", header)
     if not opening:
         return ""
     depth, at = 0, opening.end()
@@ -98,6 +101,18 @@ def first_argument(header: str, trait: str) -> str:
         depth += (header[at] == "<") - (header[at] == ">")
         at += 1
     return header[opening.end() : at].strip()
+
+
+def as_named(type_: str) -> str:
+    """What stands for a type in the name of an `impl`, as `RefSet` for `&Set<A>`."""
+    it = REFERENCE.match(type_)
+    front = "" if not it else "RefMut" if it[1] else "Ref"
+    return front + last_word(without_generics(type_))
+
+
+def name_of(owner: str, trait: str, argument: str) -> str:
+    """The name that a check gives an `impl`: a first argument that is the type itself is left out."""
+    return as_named(owner) + trait + as_named(argument) * (bool(argument) and argument != owner)
 
 
 def blocks(text: str) -> list[Block]:
@@ -108,13 +123,15 @@ def blocks(text: str) -> list[Block]:
         header = text[it.end() : opening]
         trait, _, owner = without_generics(header).rpartition(" for ")
         argument = first_argument(header, last_word(trait)) if trait else ""
+        whole = header.rpartition(" for ")[2].strip()
         if it["kind"] == "trait":
             trait, owner = "", without_generics(header).split(":")[0]
         found.append(
             Block(
                 last_word(owner),
                 last_word(trait) if trait else "",
-                argument,
+                argument.lstrip("&").lstrip(),
+                name_of(whole, last_word(trait), argument) if trait else "",
                 it["kind"] == "trait" and (it["public"] or "").strip() == "pub",
                 it.start(),
                 closing(text, opening),

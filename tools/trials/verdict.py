@@ -59,8 +59,9 @@ def module_of(file: str) -> list[str]:
 
 def verdict_on(function: Function, verdicts: dict[str, Verdict]) -> Verdict | None:
     """The verdict on this function: by its module and name, or, where it is a method, by its type
-    and name, since a path has the module of the type and not that of the impl."""
-    found = []
+    and name, since a path has the module of the type and not that of the impl. Where the type and
+    references to it have a trait, the one with the very name of the impl is meant."""
+    found, exact = [], []
     for verdict in verdicts.values():
         parts = verdict.path.split("::")[1:]
         if parts[-1] != function.name:
@@ -69,6 +70,8 @@ def verdict_on(function: Function, verdicts: dict[str, Verdict]) -> Verdict | No
             found.append(verdict)
         if function.block and len(parts) > 1 and fits(function, parts[-2]):
             found.append(verdict)
+            exact += [verdict] * (parts[-2] == function.block.name)
+    found = exact if len(found) > 1 else found
     return found[0] if len(found) == 1 else None
 
 
@@ -81,7 +84,7 @@ def fits(function: Function, part: str) -> bool:
     arguments = ("", block.argument, without_generics(block.argument))
     names = {(of + re.sub(r"\W", "", it)).lower() for it in arguments}
     bare = re.sub(r"^(Ref)?(Mut)?(Slice)?", "", part).split("+")[0]
-    return part.lower() in names or bare.lower() in names
+    return part == block.name or part.lower() in names or bare.lower() in names
 
 
 def clauses_of(verdict: Verdict, function: Function) -> list[str]:

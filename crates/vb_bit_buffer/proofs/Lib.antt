@@ -1,1 +1,2 @@
 pub mod SetLemmas
+mod ShownLemmas

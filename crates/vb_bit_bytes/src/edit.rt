@@ -2,10 +2,11 @@
 ghost use Rattle.std.specs.Prelude.{◌≡◌, ◌+◌, ◌-◌, ◌*◌, ◌/◌, ◌^◌, ◌<◌, ◌≤◌, [], ◌∷◌};
 ghost use Rattle.std.specs.Prelude.{length, replicate};
 ghost use Rattle.vb_bits.specs.Bits.{bits, negated};
+ghost use Rattle.vb_bits.specs.Operators.{combined};
 ghost use Rattle.vb_bits.specs.Writes.{Writes};
 
 use std::alloc::Allocator;
-use vb_bits::{fill_bits, map_words, set_bit_to};
+use vb_bits::{BitOp, copy_bits, fill_bits, map_words, set_bit_to, zip_words};
 use vb_mem::ByteBufferMut;
 
 /// Makes bit `i`, which has to lie in the bytes, `v`.
@@ -36,4 +37,44 @@ pub fn negate<A: Allocator + Clone>(bytes: &mut ByteBufferMut<A>, offset: usize,
     ensures keeps { bytes.new ≡ record bytes.old { list = bytes.new.list } }
 {
     map_words(bytes.as_mut_slice(), offset, len);
+}
+
+/// Makes each of the `len` bits from bit `offset` on what `op` makes of it, as the left one, and of
+/// that of `right` from bit `start` on, by words whatever the two places are.
+pub fn combine<A: Allocator + Clone>(
+    bytes: &mut ByteBufferMut<A>,
+    offset: usize,
+    right: &[u8],
+    start: usize,
+    len: usize,
+    op: BitOp,
+)
+    requires inside { offset + len ≤ 8 * length bytes.old.list }
+    requires fits { offset + len < 2 ^ 64 }
+    requires inside_right { start + len ≤ 8 * length right.now }
+    requires right_fits { start + len < 2 ^ 64 }
+    ensures bits { Writes bytes.old.list bytes.new.list offset
+        (combined op (bits bytes.old.list offset len) (bits right.now start len)) }
+    ensures keeps { bytes.new ≡ record bytes.old { list = bytes.new.list } }
+{
+    zip_words(bytes.as_mut_slice(), offset, right, start, len, op);
+}
+
+/// Copies the `len` bits of `from` from bit `start` on to the bits from bit `offset` on, by words
+/// whatever the two places are.
+pub fn copy<A: Allocator + Clone>(
+    bytes: &mut ByteBufferMut<A>,
+    offset: usize,
+    from: &[u8],
+    start: usize,
+    len: usize,
+)
+    requires inside { offset + len ≤ 8 * length bytes.old.list }
+    requires fits { offset + len < 2 ^ 64 }
+    requires inside_source { start + len ≤ 8 * length from.now }
+    requires source_fits { start + len < 2 ^ 64 }
+    ensures bits { Writes bytes.old.list bytes.new.list offset (bits from.now start len) }
+    ensures keeps { bytes.new ≡ record bytes.old { list = bytes.new.list } }
+{
+    copy_bits(bytes.as_mut_slice(), offset, from, start, len);
 }

@@ -14,7 +14,7 @@ mod shown;
 pub use collect::{
     collect_bool, collect_bool_shared, from_bools, from_iter, from_truthy, map_bool_shared,
 };
-pub use edit::{fill, negate, write_bit};
+pub use edit::{combine, copy, fill, negate, write_bit};
 pub use grow::{push_bit, push_bits, reserve_to};
 pub use make::{full, unaligned};
 pub use shown::write_bits;

@@ -3,4 +3,5 @@ pub mod Digits
 pub mod Edits
 pub mod Operators
 pub mod Runs
+pub mod Shown
 pub mod Writes

@@ -1,0 +1,258 @@
+//! Sets combined bit by bit, and negated.
+//!
+//! An owned left value keeps its offset, and where no other owner has its storage its bytes are
+//! written over in place; else they are copied, those of the window alone. Lengths are compared
+//! before memory is asked for.
+ghost use Rattle.std.specs.Prelude.{◌≡◌, ◌≢◌, length, IsOk, IsErrOf};
+ghost use Rattle.vb_bit_buffer.specs.Gives.{GivesCombined, GivesNegated};
+
+use super::BitBuffer;
+use std::alloc::Allocator;
+use std::ops::{BitAnd, BitOr, BitXor, Not};
+use vb_bit_bytes::{combine, negate};
+use vb_bits::BitOp;
+use vb_core::BufferError;
+
+#[tactic(auto, using(crate::proofs::SetLemmas::sets))]
+impl<A: Allocator + Clone> BitBuffer<A> {
+    /// The bits that are true here and not in `right`, in bytes of their own. Refused by
+    /// `LengthMismatch` exactly where the lengths differ, else by `OutOfMemory` alone.
+    pub fn bitand_not(&self, right: &Self) -> Result<Self, BufferError>
+        ensures { GivesCombined BitOp.AndNot self.now right.now result }
+    {
+        self.combined(right, BitOp::AndNot)
+    }
+
+    /// The bits that are true here and not in `right`, in the same storage where no other owner
+    /// has it. Refused as [`bitand_not`](Self::bitand_not) is; the set is gone then.
+    pub fn into_bitand_not(self, right: &Self) -> Result<Self, BufferError>
+        ensures { GivesCombined BitOp.AndNot self right.now result }
+    {
+        self.into_combined(right, BitOp::AndNot)
+    }
+
+    // The bits combined with those of another set, in bytes of their own.
+    fn combined(&self, right: &Self, op: BitOp) -> Result<Self, BufferError>
+        ensures { GivesCombined op self.now right.now result }
+    {
+        self.compare_len(right)?;
+        self.clone()?.combine(right, op)
+    }
+
+    // The same, in the storage of the bits where no other owner has it.
+    fn into_combined(self, right: &Self, op: BitOp) -> Result<Self, BufferError>
+        ensures { GivesCombined op self right.now result }
+    {
+        self.compare_len(right)?;
+        self.combine(right, op)
+    }
+
+    fn compare_len(&self, right: &Self) -> Result<(), BufferError>
+        ensures same_len { length self.now.bits ≡ length right.now.bits → IsOk result }
+        ensures other_len { length self.now.bits ≢ length right.now.bits → IsErrOf result
+            (BufferError.LengthMismatch (length self.now.bits) (length right.now.bits)) }
+    {
+        if self.len == right.len {
+            return Ok(());
+        }
+        Err(BufferError::LengthMismatch {
+            left: self.len,
+            right: right.len,
+        })
+    }
+
+    // The bits combined with those of a set of as many.
+    fn combine(self, right: &Self, op: BitOp) -> Result<Self, BufferError>
+        requires { length self.bits ≡ length right.now.bits }
+        ensures { GivesCombined op self right.now result }
+    {
+        let (offset, len) = (self.offset, self.len);
+        let mut bytes = self.into_bytes()?;
+        combine(
+            &mut bytes,
+            offset,
+            right.buffer.as_slice(),
+            right.offset,
+            len,
+            op,
+        );
+        Ok(BitBuffer::window_of(bytes.freeze()?, len, offset))
+    }
+
+    // The bits negated, in their storage where no other owner has it.
+    fn negated(self) -> Result<Self, BufferError>
+        ensures { GivesNegated self result }
+    {
+        let (offset, len) = (self.offset, self.len);
+        let mut bytes = self.into_bytes()?;
+        negate(&mut bytes, offset, len);
+        Ok(BitBuffer::window_of(bytes.freeze()?, len, offset))
+    }
+}
+
+/// The bits that are true in both, in the left one's storage where no other owner has it. Refused
+/// by `LengthMismatch` exactly where the lengths differ, else by `OutOfMemory` alone; both are gone
+/// then.
+impl<A: Allocator + Clone> BitAnd<BitBuffer<A>> for BitBuffer<A> {
+    ghost use Rattle.vb_bit_buffer.specs.Gives.{GivesCombined};
+    ghost use Rattle.vb_bits.specs.declared.zip.BitOp.TheVariants.{And};
+
+    type Output = Result<BitBuffer<A>, BufferError>;
+
+    ghost bitand_gives = { GivesCombined And };
+
+    fn bitand(self, rhs: BitBuffer<A>) -> Result<BitBuffer<A>, BufferError> {
+        self.into_combined(&rhs, BitOp::And)
+    }
+}
+
+/// The bits that are true in both, in the left one's storage where no other owner has it. Refused
+/// by `LengthMismatch` exactly where the lengths differ, else by `OutOfMemory` alone; the left one
+/// is gone then.
+impl<A: Allocator + Clone> BitAnd<&BitBuffer<A>> for BitBuffer<A> {
+    ghost use Rattle.vb_bit_buffer.specs.Gives.{GivesCombined};
+    ghost use Rattle.vb_bits.specs.declared.zip.BitOp.TheVariants.{And};
+
+    type Output = Result<BitBuffer<A>, BufferError>;
+
+    ghost bitand_gives = { λ l r s. GivesCombined And l r.now s };
+
+    fn bitand(self, rhs: &BitBuffer<A>) -> Result<BitBuffer<A>, BufferError> {
+        self.into_combined(rhs, BitOp::And)
+    }
+}
+
+/// The bits that are true in both, in bytes of their own. Refused by `LengthMismatch` exactly where
+/// the lengths differ, else by `OutOfMemory` alone; the right one is gone then.
+impl<A: Allocator + Clone> BitAnd<BitBuffer<A>> for &BitBuffer<A> {
+    ghost use Rattle.vb_bit_buffer.specs.Gives.{GivesCombined};
+    ghost use Rattle.vb_bits.specs.declared.zip.BitOp.TheVariants.{And};
+
+    type Output = Result<BitBuffer<A>, BufferError>;
+
+    ghost bitand_gives = { λ l r s. GivesCombined And l.now r s };
+
+    fn bitand(self, rhs: BitBuffer<A>) -> Result<BitBuffer<A>, BufferError> {
+        self.combined(&rhs, BitOp::And)
+    }
+}
+
+/// The bits that are true in both, in bytes of their own. Refused by `LengthMismatch` exactly where
+/// the lengths differ, else by `OutOfMemory` alone.
+impl<A: Allocator + Clone> BitAnd<&BitBuffer<A>> for &BitBuffer<A> {
+    ghost use Rattle.vb_bit_buffer.specs.Gives.{GivesCombined};
+    ghost use Rattle.vb_bits.specs.declared.zip.BitOp.TheVariants.{And};
+
+    type Output = Result<BitBuffer<A>, BufferError>;
+
+    ghost bitand_gives = { λ l r s. GivesCombined And l.now r.now s };
+
+    fn bitand(self, rhs: &BitBuffer<A>) -> Result<BitBuffer<A>, BufferError> {
+        self.combined(rhs, BitOp::And)
+    }
+}
+
+/// The bits that are true in one of them or in both, in the left one's storage where no other owner
+/// has it. Refused by `LengthMismatch` exactly where the lengths differ, else by `OutOfMemory`
+/// alone; both are gone then.
+impl<A: Allocator + Clone> BitOr<BitBuffer<A>> for BitBuffer<A> {
+    ghost use Rattle.vb_bit_buffer.specs.Gives.{GivesCombined};
+    ghost use Rattle.vb_bits.specs.declared.zip.BitOp.TheVariants.{Or};
+
+    type Output = Result<BitBuffer<A>, BufferError>;
+
+    ghost bitor_gives = { GivesCombined Or };
+
+    fn bitor(self, rhs: BitBuffer<A>) -> Result<BitBuffer<A>, BufferError> {
+        self.into_combined(&rhs, BitOp::Or)
+    }
+}
+
+/// The bits that are true in one of them or in both, in the left one's storage where no other owner
+/// has it. Refused by `LengthMismatch` exactly where the lengths differ, else by `OutOfMemory`
+/// alone; the left one is gone then.
+impl<A: Allocator + Clone> BitOr<&BitBuffer<A>> for BitBuffer<A> {
+    ghost use Rattle.vb_bit_buffer.specs.Gives.{GivesCombined};
+    ghost use Rattle.vb_bits.specs.declared.zip.BitOp.TheVariants.{Or};
+
+    type Output = Result<BitBuffer<A>, BufferError>;
+
+    ghost bitor_gives = { λ l r s. GivesCombined Or l r.now s };
+
+    fn bitor(self, rhs: &BitBuffer<A>) -> Result<BitBuffer<A>, BufferError> {
+        self.into_combined(rhs, BitOp::Or)
+    }
+}
+
+/// The bits that are true in one of them or in both, in bytes of their own. Refused by
+/// `LengthMismatch` exactly where the lengths differ, else by `OutOfMemory` alone.
+impl<A: Allocator + Clone> BitOr<&BitBuffer<A>> for &BitBuffer<A> {
+    ghost use Rattle.vb_bit_buffer.specs.Gives.{GivesCombined};
+    ghost use Rattle.vb_bits.specs.declared.zip.BitOp.TheVariants.{Or};
+
+    type Output = Result<BitBuffer<A>, BufferError>;
+
+    ghost bitor_gives = { λ l r s. GivesCombined Or l.now r.now s };
+
+    fn bitor(self, rhs: &BitBuffer<A>) -> Result<BitBuffer<A>, BufferError> {
+        self.combined(rhs, BitOp::Or)
+    }
+}
+
+/// The bits that are true in one of them and not in both, in the left one's storage where no other
+/// owner has it. Refused by `LengthMismatch` exactly where the lengths differ, else by
+/// `OutOfMemory` alone; the left one is gone then.
+impl<A: Allocator + Clone> BitXor<&BitBuffer<A>> for BitBuffer<A> {
+    ghost use Rattle.vb_bit_buffer.specs.Gives.{GivesCombined};
+    ghost use Rattle.vb_bits.specs.declared.zip.BitOp.TheVariants.{Xor};
+
+    type Output = Result<BitBuffer<A>, BufferError>;
+
+    ghost bitxor_gives = { λ l r s. GivesCombined Xor l r.now s };
+
+    fn bitxor(self, rhs: &BitBuffer<A>) -> Result<BitBuffer<A>, BufferError> {
+        self.into_combined(rhs, BitOp::Xor)
+    }
+}
+
+/// The bits that are true in one of them and not in both, in bytes of their own. Refused by
+/// `LengthMismatch` exactly where the lengths differ, else by `OutOfMemory` alone.
+impl<A: Allocator + Clone> BitXor<&BitBuffer<A>> for &BitBuffer<A> {
+    ghost use Rattle.vb_bit_buffer.specs.Gives.{GivesCombined};
+    ghost use Rattle.vb_bits.specs.declared.zip.BitOp.TheVariants.{Xor};
+
+    type Output = Result<BitBuffer<A>, BufferError>;
+
+    ghost bitxor_gives = { λ l r s. GivesCombined Xor l.now r.now s };
+
+    fn bitxor(self, rhs: &BitBuffer<A>) -> Result<BitBuffer<A>, BufferError> {
+        self.combined(rhs, BitOp::Xor)
+    }
+}
+
+/// Each bit negated, in the same storage where no other owner has it. Refused by `OutOfMemory`
+/// alone; the set is gone then.
+impl<A: Allocator + Clone> Not for BitBuffer<A> {
+    ghost use Rattle.vb_bit_buffer.specs.Gives.{GivesNegated};
+
+    type Output = Result<BitBuffer<A>, BufferError>;
+
+    ghost not_gives = { GivesNegated };
+
+    fn not(self) -> Result<BitBuffer<A>, BufferError> {
+        self.negated()
+    }
+}
+
+/// Each bit negated, in bytes of their own. Refused by `OutOfMemory` alone.
+impl<A: Allocator + Clone> Not for &BitBuffer<A> {
+    ghost use Rattle.vb_bit_buffer.specs.Gives.{GivesNegated};
+
+    type Output = Result<BitBuffer<A>, BufferError>;
+
+    ghost not_gives = { λ s t. GivesNegated s.now t };
+
+    fn not(self) -> Result<BitBuffer<A>, BufferError> {
+        self.clone()?.negated()
+    }
+}
