@@ -11,6 +11,7 @@ use std::marker::Model;
 use vb_bit_bytes::write_bits;
 use vb_mem::ByteBufferMut;
 
+mod collect;
 mod convert;
 mod edit;
 mod grow;
