@@ -9,9 +9,11 @@ use std::marker::Model;
 use vb_bit_bytes::write_bits;
 use vb_mem::ByteBuffer;
 
+mod collect;
 mod compare;
 mod convert;
 mod edit;
+mod for_each;
 mod indices;
 mod make;
 mod operator;

@@ -57,18 +57,19 @@ pub fn collect_bool_shared<A: Allocator + Clone, F: FnMut(usize) -> bool>(
     Ok(bytes)
 }
 
-/// Bytes that can be shared, whose first `len` bits are what `f` answers at the places of the
-/// window of `len` bits of `src` from bit `offset` on, asked with the bit there; as few as hold
-/// them.
+/// What `f` answers at the places of the window of `len` bits of `src` from bit `offset` on, asked
+/// with the bit there, as the first bits of `bytes`, which can be shared then. What stood in the
+/// first bytes is written over.
 ///
 /// Refused by `OutOfMemory` alone, before the first question.
 pub fn map_bool_shared<A: Allocator + Clone, F: FnMut(usize, bool) -> bool>(
-    alloc: A,
+    bytes: ByteBufferMut<A>,
     src: &[u8],
     offset: usize,
     len: usize,
     f: &mut F,
 ) -> Result<ByteBuffer<A>, BufferError>
+    requires room { len ≤ 8 * length bytes.list }
     requires inside { offset + len ≤ 8 * length src.now }
     requires fits { offset + len < 2 ^ 64 }
     requires callable { CanAsk (λ p i. F.pre p i (at (bits src.now offset len) i))
@@ -76,14 +77,14 @@ pub fn map_bool_shared<A: Allocator + Clone, F: FnMut(usize, bool) -> bool>(
     ensures answered { IfOk result (λ b.
         Answers (λ p i b q. F.step p i (at (bits src.now offset len) i) b q)
         f.old (span 0 len) (bits b.list 0 len) f.new) }
-    ensures len { IfOk result (λ b. length b.list ≡ div_ceil len 8) }
-    ensures alignment { IfOk result (λ b. b.exponent ≡ 0) }
+    ensures len { IfOk result (λ b. length b.list ≡ length bytes.list) }
+    ensures alignment { IfOk result (λ b. b.exponent ≡ bytes.exponent) }
     ensures not_asked { OnErr result (f.new ≡ f.old) }
     ensures refused { IsOkUnless result BufferError.OutOfMemory }
 {
-    let mut bytes = full(alloc, false, len)?.freeze()?;
-    map_bool_bytes(bytes.items_mut()?.as_mut_slice(), src, offset, len, f);
-    Ok(bytes)
+    let mut answers = bytes.freeze()?;
+    map_bool_bytes(answers.items_mut()?.as_mut_slice(), src, offset, len, f);
+    Ok(answers)
 }
 
 /// Bytes whose first bits are truth values, as few as hold them. Refused by `OutOfMemory` alone.

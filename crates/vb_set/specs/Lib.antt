@@ -1,11 +1,14 @@
 pub mod Lends
 pub mod OpenSet
 pub use Rattle.vb_bit_buffer.specs.SharedSet
+pub use Rattle.vb_bit_bytes.specs.Given
 pub use Rattle.vb_kernel.specs.Bits
 pub use Rattle.vb_kernel.specs.Edits
 pub use Rattle.vb_kernel.specs.Writes
+pub use Rattle.vb_mem.specs.Collected
 pub use Rattle.vb_mem.specs.OpenBuffer
 pub use Rattle.vb_mem.specs.SharedBuffer
+pub use Rattle.vb_pack.specs.Answers
 pub use Rattle.vb_take.specs.Takes
 pub use Rattle.vb_view.specs.MutView
 pub use Rattle.vb_view.specs.View

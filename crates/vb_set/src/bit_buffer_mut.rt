@@ -12,6 +12,7 @@ use vb_bit_bytes::write_bits;
 use vb_mem::ByteBufferMut;
 
 mod append_buffer;
+mod collect;
 mod convert;
 mod edit;
 mod grow;

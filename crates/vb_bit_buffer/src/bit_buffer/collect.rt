@@ -1,0 +1,94 @@
+//! Sets made of what a closure answers, of lists of truth values, and of what an iterator gives.
+ghost use Rattle.std.specs.Prelude.{◌≡◌, ◌⊎◌, ⊤, length, IfOk, MatchResult, IsOkUnless, OnErr};
+ghost use Rattle.std.specs.Int.{div_ceil};
+ghost use Rattle.std.specs.Iterator.{IsFiniteIterable};
+ghost use Rattle.vb_bit_bytes.specs.Given.{GivesPast};
+ghost use Rattle.vb_mem.specs.Collected.{OfItems};
+ghost use Rattle.vb_pack.specs.Answers.{Answers, CanAsk, span};
+
+use super::BitBuffer;
+use std::alloc::Allocator;
+use vb_core::BufferError;
+
+#[tactic(auto, using(crate::proofs::SetLemmas::sets))]
+impl<A: Allocator + Clone> BitBuffer<A> {
+    /// What `f` answers at the places from 0 up to `len`, asked in order and once each. Full words
+    /// go by vectors of bytes, the rest bit by bit.
+    ///
+    /// Refused by `OutOfMemory` alone, before the first question.
+    pub fn collect_bool<F: FnMut(usize) -> bool>(
+        alloc: A,
+        len: usize,
+        f: &mut F,
+    ) -> Result<Self, BufferError>
+        requires { CanAsk (F.pre) (F.step) f.old (span 0 len) }
+        ensures answered { IfOk result (λ s.
+            Answers (F.step) f.old (span 0 len) s.bits f.new) }
+        ensures len { IfOk result (λ s. length s.bits ≡ len) }
+        ensures offset { IfOk result (λ s. s.offset ≡ 0) }
+        ensures bytes { IfOk result (λ s. length s.bytes ≡ div_ceil len 8) }
+        ensures not_asked { OnErr result (f.new ≡ f.old) }
+        ensures refused { IsOkUnless result BufferError.OutOfMemory }
+    {
+        let bytes = vb_bit_bytes::collect_bool_shared(alloc, len, f)?;
+        Ok(BitBuffer::window_of(bytes, len, 0))
+    }
+
+    /// [`collect_bool`](Self::collect_bool), which goes by vectors as it is.
+    pub fn collect_bool_multiversioned<F: FnMut(usize) -> bool>(
+        alloc: A,
+        len: usize,
+        f: &mut F,
+    ) -> Result<Self, BufferError>
+        requires { CanAsk (F.pre) (F.step) f.old (span 0 len) }
+        ensures answered { IfOk result (λ s.
+            Answers (F.step) f.old (span 0 len) s.bits f.new) }
+        ensures len { IfOk result (λ s. length s.bits ≡ len) }
+        ensures offset { IfOk result (λ s. s.offset ≡ 0) }
+        ensures bytes { IfOk result (λ s. length s.bytes ≡ div_ceil len 8) }
+        ensures not_asked { OnErr result (f.new ≡ f.old) }
+        ensures refused { IsOkUnless result BufferError.OutOfMemory }
+    {
+        BitBuffer::collect_bool(alloc, len, f)
+    }
+
+    /// The truth values of a slice. Refused by `OutOfMemory` alone.
+    pub fn from_bools(alloc: A, bools: &[bool]) -> Result<Self, BufferError>
+        ensures bits { IfOk result (λ s. s.bits ≡ bools.now) }
+        ensures offset { IfOk result (λ s. s.offset ≡ 0) }
+        ensures bytes { IfOk result (λ s. length s.bytes ≡ div_ceil (length bools.now) 8) }
+        ensures refused { IsOkUnless result BufferError.OutOfMemory }
+    {
+        let bytes = vb_bit_bytes::from_bools(alloc, bools)?.freeze()?;
+        Ok(BitBuffer::window_of(bytes, bools.len(), 0))
+    }
+
+    /// The truth values of a vector. Refused by `OutOfMemory` alone.
+    pub fn from_bool_vec(alloc: A, bools: Vec<bool, A>) -> Result<Self, BufferError>
+        ensures bits { IfOk result (λ s. s.bits ≡ bools.items) }
+        ensures offset { IfOk result (λ s. s.offset ≡ 0) }
+        ensures bytes { IfOk result (λ s. length s.bytes ≡ div_ceil (length bools.items) 8) }
+        ensures refused { IsOkUnless result BufferError.OutOfMemory }
+    {
+        BitBuffer::from_bools(alloc, bools.as_slice())
+    }
+
+    /// What an iterator gives. No hint of it is asked for.
+    ///
+    /// Refused by `TooManyBits` at the first item past `usize::MAX` of them, else by `OutOfMemory`
+    /// where memory is.
+    pub fn from_iter<I: IntoIterator<Item = bool>>(alloc: A, iter: I) -> Result<Self, BufferError>
+        requires { IsFiniteIterable I.into_iter_gives I.IntoIter.can_next
+            I.IntoIter.remaining iter }
+        ensures made { IfOk result (λ s. OfItems I.into_iter_gives I.IntoIter.next_gives iter
+            (λ items. s.bits ≡ items)) }
+        ensures offset { IfOk result (λ s. s.offset ≡ 0) }
+        ensures bytes { IfOk result (λ s. length s.bytes ≡ div_ceil (length s.bits) 8) }
+        ensures err { MatchResult result (λ _. ⊤) (λ e. (e ≡ BufferError.OutOfMemory)
+            ⊎ ((e ≡ BufferError.TooManyBits)
+                × GivesPast I.into_iter_gives I.IntoIter.next_gives iter)) }
+    {
+        let (bytes, len) = vb_bit_bytes::from_iter(alloc, iter)?;
+        Ok(BitBuffer::window_of(bytes.freeze()?, len, 0))
+    }
+}
