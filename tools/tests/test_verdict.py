@@ -76,6 +76,13 @@ class Names(unittest.TestCase):
         self.assertEqual(verdict_on(function, judged(SAID)).path, "demo::PlaceFromOptionUsize::from")
 
 
+    def test_an_impl_of_a_type_at_some_arguments_is_found(self):
+        text = "impl<A: Clone> Read for Buffer<u8, A> {\n    fn size(&self) -> usize {\n    }\n}\n"
+        function = functions("src/lib.rt", text)[0]
+        said = judged("fn demo::BufferU8Read::size: proved\nfn demo::RefSliceU8Read::size: proved\n")
+        self.assertEqual(verdict_on(function, said).path, "demo::BufferU8Read::size")
+
+
 class Verdicts(unittest.TestCase):
     def test_a_goal_of_the_function_itself_refuses_it(self):
         found = outcome_of(edit("src/lib.rt", "    1"))

@@ -59,9 +59,14 @@ def module_of(file: str) -> list[str]:
 
 def verdict_on(function: Function, verdicts: dict[str, Verdict]) -> Verdict | None:
     """The verdict on this function: by its module and name, or, where it is a method, by its type
+<<<<<<< HEAD
     and name, since a path has the module of the type and not that of the impl. Where the type and
     references to it have a trait, the one with the very name of the impl is meant."""
     found, exact = [], []
+=======
+    and name, since a path has the module of the type and not that of the impl."""
+    found, near = [], []
+>>>>>>> 5a4faa18442c783a5f547d3e96a7824335369363
     for verdict in verdicts.values():
         parts = verdict.path.split("::")[1:]
         if parts[-1] != function.name:
@@ -70,8 +75,14 @@ def verdict_on(function: Function, verdicts: dict[str, Verdict]) -> Verdict | No
             found.append(verdict)
         if function.block and len(parts) > 1 and fits(function, parts[-2]):
             found.append(verdict)
+<<<<<<< HEAD
             exact += [verdict] * (parts[-2] == function.block.name)
     found = exact if len(found) > 1 else found
+=======
+        if function.block and len(parts) > 1 and is_of_arguments(function, parts[-2]):
+            near.append(verdict)
+    found = found or near
+>>>>>>> 5a4faa18442c783a5f547d3e96a7824335369363
     return found[0] if len(found) == 1 else None
 
 
@@ -85,6 +96,13 @@ def fits(function: Function, part: str) -> bool:
     names = {(of + re.sub(r"\W", "", it)).lower() for it in arguments}
     bare = re.sub(r"^(Ref)?(Mut)?(Slice)?", "", part).split("+")[0]
     return part == block.name or part.lower() in names or bare.lower() in names
+
+
+def is_of_arguments(function: Function, part: str) -> bool:
+    """Whether an impl of this name may be that of the function, of a type at some arguments, as
+    `BufferU8AlignedBuf` of `Buffer<u8, A>`."""
+    block = function.block
+    return bool(block.trait) and re.fullmatch(f"{block.owner}[A-Z0-9]\\w*{block.trait}", part) is not None
 
 
 def clauses_of(verdict: Verdict, function: Function) -> list[str]:

@@ -1,5 +1,6 @@
 -- What is asked of columns, as lists.
-use Rattle.std.specs.Prelude.{◌≡◌, ℕ, ◌<◌, ◌⊎◌, Bool, true, false, List, [], ◌∷◌, length, take, slice_index}
+use Rattle.std.specs.Prelude.{◌≡◌, ℕ, ◌<◌, ◌⊎◌, Bool, true, false}
+use Rattle.std.specs.Prelude.{List, [], ◌∷◌, length, take, slice_index}
 use Rattle.std.specs.List.{All}
 use Rattle.vortex_buffer.specs.declared.BufferError.{BufferError}
 use Rattle.vortex_buffer.specs.declared.BufferError.TheVariants.{IndexOutOfRange, OutOfMemory}

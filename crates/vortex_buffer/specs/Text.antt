@@ -1,9 +1,9 @@
 -- Bytes that are text.
 use Rattle.std.specs.Prelude.{◌≡◌, ℕ, List}
-use Rattle.std.specs.Str.{IsValidUpTo}
+use Rattle.std.specs.Str.{IsUtf8, IsValidUpTo}
 use Rattle.vb_core.specs.declared.error.BufferError.{BufferError}
 use Rattle.vb_core.specs.declared.error.BufferError.TheVariants.{NotUtf8}
 
--- the error is `NotUtf8`, with the length of the longest front of the bytes that is UTF-8
-abbrev pub NamesValidFront : List ℕ → BufferError → Type 0
-NamesValidFront bytes error = (n : ℕ) × IsValidUpTo bytes n × (error ≡ NotUtf8 n)
+-- the bytes aren't UTF-8, and the error is `NotUtf8` with the length of their longest front that is
+abbrev pub IsNoText : List ℕ → BufferError → Type 0
+IsNoText bytes error = ¬ (IsUtf8 bytes) × (n : ℕ) × IsValidUpTo bytes n × (error ≡ NotUtf8 n)

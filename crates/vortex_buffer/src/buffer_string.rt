@@ -1,8 +1,8 @@
 //! A buffer of text.
-ghost use Rattle.std.specs.Prelude.{◌≡◌, [], IsUtf8, IfOk, IfErr, IsErrAnd, string_bytes};
+ghost use Rattle.std.specs.Prelude.{◌≡◌, [], IsUtf8, IfOk, IfErr, string_bytes, ◌⊎◌};
 ghost use Rattle.vb_mem.specs.Answers.{Makes};
 ghost use Rattle.vb_mem.specs.SharedBuffer.{Shows, ShowsMade};
-ghost use Rattle.vortex_buffer.specs.Text.{NamesValidFront};
+ghost use Rattle.vortex_buffer.specs.Text.{IsNoText};
 
 use simdutf8::compat::from_utf8;
 use std::alloc::{Allocator, Global};
@@ -52,8 +52,8 @@ impl<A: Allocator> BufferString<A> {
     /// The text of bytes. It takes no memory. Refused with `NotUtf8` exactly where they aren't
     /// UTF-8; the buffer is gone then.
     pub fn try_from_buffer(bytes: ByteBuffer<A>) -> Result<Self>
-        ensures utf8 { IsUtf8 bytes.list → result ≡ Ok bytes }
-        ensures not_utf8 { ¬ (IsUtf8 bytes.list) → IsErrAnd result (NamesValidFront bytes.list) }
+        ensures ok { IfOk result (λ text. (text ≡ bytes) × IsUtf8 bytes.list) }
+        ensures err { IfErr result (IsNoText bytes.list) }
     {
         tested(bytes.as_slice())?;
         Ok(BufferString { bytes })
@@ -106,8 +106,9 @@ impl<A: Allocator + Clone> BufferString<A> {
     /// `NotUtf8` exactly where they aren't UTF-8, before memory is asked, and else with
     /// `OutOfMemory`.
     pub fn try_from_slice(alloc: A, bytes: &[u8]) -> Result<Self>
-        ensures utf8 { IsUtf8 bytes.now → Makes (ShowsMade bytes.now 0) result }
-        ensures not_utf8 { ¬ (IsUtf8 bytes.now) → IsErrAnd result (NamesValidFront bytes.now) }
+        ensures ok { IfOk result (λ text. ShowsMade bytes.now 0 text × IsUtf8 bytes.now) }
+        ensures err { IfErr result (λ e. IsNoText bytes.now e
+            ⊎ (IsUtf8 bytes.now × (e ≡ BufferError.OutOfMemory))) }
     {
         BufferString::from_str(alloc, tested(bytes)?)
     }
@@ -126,7 +127,7 @@ impl<A: Allocator + Clone> BufferString<A> {
 // The bytes as text, where they are UTF-8.
 fn tested(bytes: &[u8]) -> Result<&str>
     ensures ok { IfOk result (λ text. (text.now ≡ bytes.now) × IsUtf8 bytes.now) }
-    ensures err { IfErr result (λ e. ¬ (IsUtf8 bytes.now) × NamesValidFront bytes.now e) }
+    ensures err { IfErr result (IsNoText bytes.now) }
 {
     from_utf8(bytes).map_err(|error| BufferError::NotUtf8 {
         valid_up_to: error.valid_up_to(),

@@ -49,6 +49,7 @@ impl<T: Element, const N: usize, A: Allocator> ConstBuffer<T, N, A> {
     /// is gone then.
     #[tactic(auto, using(crate::proofs::Exponents::is_power))]
     pub fn try_from_buffer(buffer: Buffer<T, A>) -> Result<Self>
+        ensures ok { IfOk result (λ fixed. fixed ≡ buffer) }
         ensures aligned { IsPower N → 2 ^ buffer.exponent % N ≡ 0 → result ≡ Ok buffer }
         ensures not_aligned { IsPower N → 2 ^ buffer.exponent % N ≢ 0 →
             IsErrOf result BufferError.NotAligned }
