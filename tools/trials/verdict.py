@@ -59,14 +59,10 @@ def module_of(file: str) -> list[str]:
 
 def verdict_on(function: Function, verdicts: dict[str, Verdict]) -> Verdict | None:
     """The verdict on this function: by its module and name, or, where it is a method, by its type
-<<<<<<< HEAD
     and name, since a path has the module of the type and not that of the impl. Where the type and
-    references to it have a trait, the one with the very name of the impl is meant."""
-    found, exact = [], []
-=======
-    and name, since a path has the module of the type and not that of the impl."""
-    found, near = [], []
->>>>>>> 5a4faa18442c783a5f547d3e96a7824335369363
+    references to it have a trait, the one with the very name of the impl is meant; where none
+    fits, an impl at some arguments of the type."""
+    found, exact, near = [], [], []
     for verdict in verdicts.values():
         parts = verdict.path.split("::")[1:]
         if parts[-1] != function.name:
@@ -75,14 +71,10 @@ def verdict_on(function: Function, verdicts: dict[str, Verdict]) -> Verdict | No
             found.append(verdict)
         if function.block and len(parts) > 1 and fits(function, parts[-2]):
             found.append(verdict)
-<<<<<<< HEAD
             exact += [verdict] * (parts[-2] == function.block.name)
-    found = exact if len(found) > 1 else found
-=======
         if function.block and len(parts) > 1 and is_of_arguments(function, parts[-2]):
             near.append(verdict)
-    found = found or near
->>>>>>> 5a4faa18442c783a5f547d3e96a7824335369363
+    found = (exact if len(found) > 1 else found) or near
     return found[0] if len(found) == 1 else None
 
 

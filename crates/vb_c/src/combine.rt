@@ -7,9 +7,9 @@ ghost use Rattle.vb_kernel.specs.Writes.{Writes};
 
 use vb_kernel::{BitOp, window_fits, zip_words};
 
-/// Makes each of the `len` bits of `dst` from bit `d` on true where that of `src` from bit `s` on is
-/// true too, and leaves every
-/// other bit of `dst`. The two may not overlap.
+/// Makes each of the `len` bits of `dst` from bit `d` on true exactly where it is true and that of
+/// `src` from bit `s` on is,
+/// and leaves every other bit of `dst`. The two may not overlap.
 #[unsafe(no_mangle)]
 pub extern "C" fn vb_and_bits(dst: &mut [u8], d: usize, src: &[u8], s: usize, len: usize)
     requires into { d + len ≤ 8 * length dst.old }
@@ -22,9 +22,9 @@ pub extern "C" fn vb_and_bits(dst: &mut [u8], d: usize, src: &[u8], s: usize, le
     zip_words(dst, d, src, s, len, BitOp::And);
 }
 
-/// Makes each of the `len` bits of `dst` from bit `d` on true where that of `src` from bit `s` on is
-/// true, and leaves every
-/// other bit of `dst`. The two may not overlap.
+/// Makes each of the `len` bits of `dst` from bit `d` on true exactly where it is true or that of
+/// `src` from bit `s` on is,
+/// and leaves every other bit of `dst`. The two may not overlap.
 #[unsafe(no_mangle)]
 pub extern "C" fn vb_or_bits(dst: &mut [u8], d: usize, src: &[u8], s: usize, len: usize)
     requires into { d + len ≤ 8 * length dst.old }
@@ -37,9 +37,9 @@ pub extern "C" fn vb_or_bits(dst: &mut [u8], d: usize, src: &[u8], s: usize, len
     zip_words(dst, d, src, s, len, BitOp::Or);
 }
 
-/// Makes each of the `len` bits of `dst` from bit `d` on what it isn't where that of `src` from bit `s`
-/// on is true, and leaves every
-/// other bit of `dst`. The two may not overlap.
+/// Makes each of the `len` bits of `dst` from bit `d` on true exactly where one of it and that of
+/// `src` from bit `s` on is,
+/// and leaves every other bit of `dst`. The two may not overlap.
 #[unsafe(no_mangle)]
 pub extern "C" fn vb_xor_bits(dst: &mut [u8], d: usize, src: &[u8], s: usize, len: usize)
     requires into { d + len ≤ 8 * length dst.old }
@@ -52,9 +52,9 @@ pub extern "C" fn vb_xor_bits(dst: &mut [u8], d: usize, src: &[u8], s: usize, le
     zip_words(dst, d, src, s, len, BitOp::Xor);
 }
 
-/// Makes each of the `len` bits of `dst` from bit `d` on false where that of `src` from bit `s` on is
-/// true, and leaves every
-/// other bit of `dst`. The two may not overlap.
+/// Makes each of the `len` bits of `dst` from bit `d` on true exactly where it is true and that of
+/// `src` from bit `s` on isn't,
+/// and leaves every other bit of `dst`. The two may not overlap.
 #[unsafe(no_mangle)]
 pub extern "C" fn vb_and_not_bits(dst: &mut [u8], d: usize, src: &[u8], s: usize, len: usize)
     requires into { d + len ≤ 8 * length dst.old }
