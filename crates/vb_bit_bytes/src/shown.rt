@@ -7,8 +7,8 @@ use vb_bits::get_bit;
 /// How many bits are shown.
 const SHOWN: usize = 64;
 
-/// Writes a type's name with the first 64 bits of a window as digits, and `..` where there are more,
-/// as `BitBuffer(01101..)`.
+/// Writes a type's name with the first 64 bits of a window as digits, and `..` where there are
+/// more, as `BitBuffer(01101..)`.
 pub fn write_bits<W: fmt::Write>(
     f: &mut fmt::Formatter<W>,
     name: &str,

@@ -1,5 +1,6 @@
 -- The text that shows a list of truth values.
-use Rattle.std.specs.Prelude.{ℕ, Bool, List, [], ◌∷◌, ◌++◌, codes, decimal, length, take, if◌then◌else◌}
+use Rattle.std.specs.Prelude.{ℕ, Bool, List, [], ◌∷◌, ◌++◌, codes, decimal, length, take}
+use Rattle.std.specs.Prelude.{if◌then◌else◌}
 use Rattle.std.specs.List.{flat_map}
 
 -- a truth value as a word
@@ -13,4 +14,6 @@ truth_words (b ∷ bs) = truth_word b ++ flat_map (λ c. codes ", " ++ truth_wor
 
 -- how many truth values there are, and the first 16 of them
 unfoldable pub shown : List Bool → List ℕ
-shown l = codes "BitBuffer { len: " ++ decimal (length l) ++ codes ", buffer: [" ++ truth_words (take 16 l) ++ codes "] }"
+shown l =
+    codes "BitBuffer { len: " ++ decimal (length l)
+    ++ codes ", buffer: [" ++ truth_words (take 16 l) ++ codes "] }"

@@ -8,8 +8,7 @@ ghost use Rattle.vb_kernel.specs.Writes.{Writes};
 use vb_kernel::{BitOp, window_fits, zip_words};
 
 /// Makes each of the `len` bits of `dst` from bit `d` on true exactly where it is true and that of
-/// `src` from bit `s` on is,
-/// and leaves every other bit of `dst`. The two may not overlap.
+/// `src` from bit `s` on is, and leaves every other bit of `dst`. The two may not overlap.
 #[unsafe(no_mangle)]
 pub extern "C" fn vb_and_bits(dst: &mut [u8], d: usize, src: &[u8], s: usize, len: usize)
     requires into { d + len ≤ 8 * length dst.old }
@@ -23,8 +22,7 @@ pub extern "C" fn vb_and_bits(dst: &mut [u8], d: usize, src: &[u8], s: usize, le
 }
 
 /// Makes each of the `len` bits of `dst` from bit `d` on true exactly where it is true or that of
-/// `src` from bit `s` on is,
-/// and leaves every other bit of `dst`. The two may not overlap.
+/// `src` from bit `s` on is, and leaves every other bit of `dst`. The two may not overlap.
 #[unsafe(no_mangle)]
 pub extern "C" fn vb_or_bits(dst: &mut [u8], d: usize, src: &[u8], s: usize, len: usize)
     requires into { d + len ≤ 8 * length dst.old }
@@ -38,8 +36,7 @@ pub extern "C" fn vb_or_bits(dst: &mut [u8], d: usize, src: &[u8], s: usize, len
 }
 
 /// Makes each of the `len` bits of `dst` from bit `d` on true exactly where one of it and that of
-/// `src` from bit `s` on is,
-/// and leaves every other bit of `dst`. The two may not overlap.
+/// `src` from bit `s` on is, and leaves every other bit of `dst`. The two may not overlap.
 #[unsafe(no_mangle)]
 pub extern "C" fn vb_xor_bits(dst: &mut [u8], d: usize, src: &[u8], s: usize, len: usize)
     requires into { d + len ≤ 8 * length dst.old }
@@ -53,8 +50,7 @@ pub extern "C" fn vb_xor_bits(dst: &mut [u8], d: usize, src: &[u8], s: usize, le
 }
 
 /// Makes each of the `len` bits of `dst` from bit `d` on true exactly where it is true and that of
-/// `src` from bit `s` on isn't,
-/// and leaves every other bit of `dst`. The two may not overlap.
+/// `src` from bit `s` on isn't, and leaves every other bit of `dst`. The two may not overlap.
 #[unsafe(no_mangle)]
 pub extern "C" fn vb_and_not_bits(dst: &mut [u8], d: usize, src: &[u8], s: usize, len: usize)
     requires into { d + len ≤ 8 * length dst.old }
@@ -67,8 +63,8 @@ pub extern "C" fn vb_and_not_bits(dst: &mut [u8], d: usize, src: &[u8], s: usize
     zip_words(dst, d, src, s, len, BitOp::AndNot);
 }
 
-/// Whether both windows lie in their bytes; then [`vb_and_bits`] is done, and else `dst` is as
-/// it was.
+/// Whether both windows lie in their bytes; then [`vb_and_bits`] is done, and else `dst` is as it
+/// was.
 #[unsafe(no_mangle)]
 pub extern "C" fn vb_try_and_bits(
     dst: &mut [u8],
@@ -89,8 +85,8 @@ pub extern "C" fn vb_try_and_bits(
     true
 }
 
-/// Whether both windows lie in their bytes; then [`vb_or_bits`] is done, and else `dst` is as
-/// it was.
+/// Whether both windows lie in their bytes; then [`vb_or_bits`] is done, and else `dst` is as it
+/// was.
 #[unsafe(no_mangle)]
 pub extern "C" fn vb_try_or_bits(dst: &mut [u8], d: usize, src: &[u8], s: usize, len: usize) -> bool
     ensures { Checks (InBytes dst.old d len × InBytes src.now s len)
@@ -105,8 +101,8 @@ pub extern "C" fn vb_try_or_bits(dst: &mut [u8], d: usize, src: &[u8], s: usize,
     true
 }
 
-/// Whether both windows lie in their bytes; then [`vb_xor_bits`] is done, and else `dst` is as
-/// it was.
+/// Whether both windows lie in their bytes; then [`vb_xor_bits`] is done, and else `dst` is as it
+/// was.
 #[unsafe(no_mangle)]
 pub extern "C" fn vb_try_xor_bits(
     dst: &mut [u8],

@@ -1,5 +1,6 @@
 -- Digits of words of 64, least significant first, as lists of truth values.
-use Rattle.std.specs.Prelude.{◌≡◌, ℕ, ◌+◌, ◌-◌, ◌/◌, ◌%◌, ◌<◌, ◌≤◌, ◌⊎◌, Bool, false, List, ◌++◌, length, map, replicate, slice_index}
+use Rattle.std.specs.Prelude.{◌≡◌, ℕ, ◌+◌, ◌-◌, ◌/◌, ◌%◌, ◌<◌, ◌≤◌, ◌⊎◌, Bool, false, List, ◌++◌}
+use Rattle.std.specs.Prelude.{length, map, replicate, slice_index}
 use Rattle.std.specs.List.{range_with_len}
 use Rattle.vb_bits.specs.Digits.{has_bit}
 
