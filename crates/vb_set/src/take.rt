@@ -14,11 +14,11 @@ use vb_view::BitBufferView;
 
 /// A set of the bits that the indices name, one for each index.
 ///
-/// Where there is a `validity`, which has to be as long as the indices, a position counts only where
-/// it is true: the others give false, and their indices aren't looked at.
+/// Where there is a `validity`, which has to be as long as the indices, a position counts only
+/// where it is true: the others give false, and their indices aren't looked at.
 ///
-/// Refused by `TakeOutOfRange` with the first position that counts and whose index names no place of
-/// `bits`, else by `OutOfMemory` alone. It takes the memory of the new set.
+/// Refused by `TakeOutOfRange` with the first position that counts and whose index names no place
+/// of `bits`, else by `OutOfMemory` alone. It takes the memory of the new set.
 #[tactic(auto, using(vb_bit_bytes::proofs::BytesLemmas::edits))]
 pub fn take_bits<A: Allocator + Clone, I: BitIndex>(
     alloc: A,

@@ -1,6 +1,6 @@
 //! Blocks of 64 indices: their places as 32 bits, and the bits there as a word.
-ghost use Rattle.std.specs.Prelude.{◌≡◌, ◌==◌, ℕ, negsuc, ◌+◌, ◌*◌, ◌^◌, ◌<◌, ◌≤◌, not, min, bit_and};
-ghost use Rattle.std.specs.Prelude.{nat_lt, length, map, slice_index, slice_index_or};
+ghost use Rattle.std.specs.Prelude.{◌≡◌, ◌==◌, ℕ, negsuc, ◌+◌, ◌*◌, ◌^◌, ◌<◌, ◌≤◌, not, min};
+ghost use Rattle.std.specs.Prelude.{bit_and, nat_lt, length, map, slice_index, slice_index_or};
 ghost use Rattle.vb_bits.specs.Bits.{bit_of};
 ghost use Rattle.vb_bits.specs.Digits.{has_bit};
 ghost use Rattle.vb_take.specs.Blocks.{narrowed, TakesBlock};

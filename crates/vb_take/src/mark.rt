@@ -9,8 +9,8 @@ use vb_bits::set_bit_unchecked;
 /// Makes the bits at these places true, which may be named more than once; or answers the first
 /// number that is not below `len`.
 ///
-/// The bits from bit `len` on stay in either case. Where a number is refused, those before bit `len`
-/// are open.
+/// The bits from bit `len` on stay in either case. Where a number is refused, those before bit
+/// `len` are open.
 pub fn set_bits_at(bytes: &mut [u8], len: usize, places: &[usize]) -> Result<(), usize>
     requires { len ≤ 8 * length bytes.old }
     ensures bits { OnOk result (bits bytes.new 0 len

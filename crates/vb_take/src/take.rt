@@ -108,7 +108,8 @@ fn take_rest<I: BitIndex>(
 
 /// What is taken at a position: false where it isn't valid, else the bit that the index names.
 fn taken_value<I: BitIndex>(bits: BitBufferView<'_>, index: I, valid: bool) -> Option<bool>
-    ensures { result ≡ (if valid then value_at (bits_of bits.entry) (I.number index) else Some false) }
+    ensures { result
+        ≡ (if valid then value_at (bits_of bits.entry) (I.number index) else Some false) }
 {
     if valid {
         value_at(bits, index)
