@@ -1,5 +1,7 @@
 -- Blocks of 64 indices.
-use Rattle.std.specs.Prelude.{◌≡◌, ℕ, ℤ, ◌-◌, ◌^◌, ◌<◌, ◌≤◌, ◌||◌, ◌==◌, Bool, false, List, length, take, min, slice_get, slice_index, Option, Some, Result, Ok, Err, IsTrue, if◌then◌else◌}
+use Rattle.std.specs.Prelude.{◌≡◌, ℕ, ℤ, ◌-◌, ◌^◌, ◌<◌, ◌≤◌, ◌||◌, ◌==◌, Bool, false, List, length}
+use Rattle.std.specs.Prelude.{take, min, slice_get, slice_index, Option, Some, Result, Ok, Err}
+use Rattle.std.specs.Prelude.{IsTrue, if◌then◌else◌}
 use Rattle.std.specs.List.{list_any}
 use Rattle.std.specs.Option.{unwrap_or}
 use Rattle.vb_bits.specs.Bits.{bit_of}
@@ -7,19 +9,25 @@ use Rattle.vb_bits.specs.Digits.{has_bit}
 use Rattle.vb_core.specs.Indices.{place_of}
 use Rattle.vb_take.specs.Takes.{taken_at}
 
--- the place that a number names as one of 32 bits; the greatest of these where it names none, or none below that
+-- the place that a number names as one of 32 bits; the greatest of these where it names none, or
+-- none below that
 abbrev pub narrowed : ℤ → ℕ
 narrowed index = min (unwrap_or (place_of index) (2 ^ 32 - 1)) (2 ^ 32 - 1)
 
--- the word has the bits at the block's places, and false where `valid` has no digit; or position p is the first that `valid` has and whose place is past the list
+-- the word has the bits at the block's places, and false where `valid` has no digit; or position p
+-- is the first that `valid` has and whose place is past the list
 abbrev pub TakesBlock : List Bool → List ℕ → ℕ → Result ℕ ℕ → Type 0
-TakesBlock l block valid (Ok word) = (k : ℕ) → k < 64 → (if has_bit valid k then slice_get l (slice_index block k) else Some false) ≡ Some (has_bit word k)
+TakesBlock l block valid (Ok word) = (k : ℕ) → k < 64
+    → (if has_bit valid k then slice_get l (slice_index block k) else Some false)
+    ≡ Some (has_bit word k)
 TakesBlock l block valid (Err p) =
-    (p < 64) × IsTrue (has_bit valid p) × (length l ≤ slice_index block p) × ((k : ℕ) → k < p → IsTrue (has_bit valid k) → slice_index block k < length l)
+    (p < 64) × IsTrue (has_bit valid p) × (length l ≤ slice_index block p)
+    × ((k : ℕ) → k < p → IsTrue (has_bit valid k) → slice_index block k < length l)
 
 -- the first n positions have what they take
 abbrev pub TakenTo : ℕ → List Bool → List ℤ → Option (List Bool) → List ℕ → Type 0
-TakenTo n l indices validity bytes = (i : ℕ) → i < n → taken_at l indices validity i ≡ Some (bit_of bytes i)
+TakenTo n l indices validity bytes = (i : ℕ) → i < n
+    → taken_at l indices validity i ≡ Some (bit_of bytes i)
 
 -- as many bytes, and the bits from bit n on are as before
 pub record KeepsBehind (n : ℕ) (old new : List ℕ) : Type 0 where
@@ -28,4 +36,5 @@ pub record KeepsBehind (n : ℕ) (old new : List ℕ) : Type 0 where
 
 -- of the first n bits those at the first k places are true, and the others are as before
 abbrev pub MarkedTo : ℕ → ℕ → List ℕ → List ℕ → List ℕ → Type 0
-MarkedTo k n places old new = (i : ℕ) → i < n → bit_of new i ≡ (bit_of old i || list_any (λ p. p == i) (take k places))
+MarkedTo k n places old new = (i : ℕ) → i < n
+    → bit_of new i ≡ (bit_of old i || list_any (λ p. p == i) (take k places))
