@@ -11,8 +11,8 @@ use crate::pack::pack_bool_word_lanes;
 use vb_bits::read_bits;
 
 /// Asks `f` at each place of the window of `len` bits of `src` from bit `offset` on, with the bit
-/// there, and packs its answers into the first bytes of `dst`, eight into each; the bits of the last
-/// one past `len` are false, and later bytes stay.
+/// there, and packs its answers into the first bytes of `dst`, eight into each; the bits of the
+/// last one past `len` are false, and later bytes stay.
 ///
 /// Full words of 64 go by vectors of bytes, the rest bit by bit.
 pub fn map_bool_bytes<F: FnMut(usize, bool) -> bool>(
