@@ -7,6 +7,7 @@ ghost use Rattle.vb_core.specs.declared.error.BufferError.TheVariants.{OutOfMemo
 
 use crate::pool::Pool;
 use std::alloc::Allocator;
+use vb_bits::BitOp;
 use vb_command::{Answer, Command, Refusal};
 use vb_core::BufferError;
 
@@ -58,7 +59,13 @@ impl<A: Allocator + Clone> Pool<A> {
             Command::Thaw(k) => self.thaw(alloc, *k),
             Command::Clone(k, t) => self.clone(*k, *t),
             Command::Slice(k, a, b, t) => self.slice(*k, *a, *b, *t),
+            Command::Sliced(k, t) => self.sliced(*k, *t),
             Command::Drop(k) => self.drop(*k),
+            Command::And(mode, l, r, t) => self.combine(BitOp::And, *mode, *l, *r, *t),
+            Command::Or(mode, l, r, t) => self.combine(BitOp::Or, *mode, *l, *r, *t),
+            Command::Xor(mode, l, r, t) => self.combine(BitOp::Xor, *mode, *l, *r, *t),
+            Command::Andnot(mode, l, r, t) => self.combine(BitOp::AndNot, *mode, *l, *r, *t),
+            Command::Not(mode, l, t) => self.not(*mode, *l, *t),
             Command::Len(k) => self.len(*k),
             Command::Count(k) => self.count(*k),
             Command::Get(k, i) => self.get(*k, *i),
@@ -69,6 +76,8 @@ impl<A: Allocator + Clone> Pool<A> {
             Command::Bits(k) => self.bits(alloc, *k),
             Command::Places(k) => self.places(alloc, *k),
             Command::Runs(k) => self.runs(alloc, *k),
+            Command::Show(k) => self.show(alloc, *k),
+            Command::Eq(k, j) => self.equal(*k, *j),
         }
     }
 }
