@@ -13,13 +13,15 @@ use vb_core::BufferError;
 
 impl<A: Allocator + Clone> Pool<A> {
     /// Carries out one command and answers it. A command that is refused changes nothing, except
-    /// that `freeze` and `thaw` give their set away: where memory is refused, their slot is empty
-    /// and all others are as before.
+    /// that `freeze`, `thaw` and the operators with `own` give their set away: where memory is
+    /// refused, its slot is empty and all others are as before.
     ///
     /// Memory is asked from copies of `alloc`: `import`, `full`, `bits` and `places` ask once for
     /// the whole, and so does `thaw` where another slot has the storage too; `runs` asks as its
-    /// list grows. The copy of an open set asks the allocator of that set. `freeze`, `slice`,
-    /// `clone` of a frozen set and `thaw` of a storage's only owner copy no bits.
+    /// list grows, and `show` as its text does. The copy of an open set asks the allocator of that
+    /// set, and so do `sliced` and the operators. `freeze`, `slice`, `clone` of a frozen set and
+    /// `thaw` of a storage's only owner copy no bits, nor do operators with `own` where their left
+    /// set's storage has no other owner.
     pub fn serve(&mut self, alloc: &A, command: &Command<A>) -> Answer<A>
         ensures { Outcome self.old (order command.now) (reply result) self.new }
     {
