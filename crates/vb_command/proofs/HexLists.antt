@@ -1,5 +1,5 @@
 -- Pairs of hexadecimal digits, one after another.
-use Rattle.std.proofs.Common.{◌≡◌, ℕ, ◌+◌, ◌*◌, ◌/◌, ◌%◌, ◌≤◌, ◌<◌, ◌≢◌, Bool, true, false, ◌&&◌, eqb, List, [], ◌∷◌, ◌++◌, length, get_or, take, drop, slice_set, refl, sym, ap, ◌∙◌, Option, Some, None, arith, append_assoc}
+use Rattle.std.proofs.Common.{◌≡◌, ℕ, ◌+◌, ◌*◌, ◌%◌, ◌≤◌, ◌<◌, ◌≢◌, Bool, true, false, ◌&&◌, eqb, List, [], ◌∷◌, ◌++◌, length, get_or, take, drop, slice_set, refl, sym, ap, ◌∙◌, Option, Some, None, arith, append_assoc}
 use Rattle.std.specs.Prelude.{option_map, is_some}
 use Rattle.std.specs.List.{list_all}
 use mathlib.Core.List.{append-nil}
@@ -7,7 +7,7 @@ use Rattle.std.proofs.lemmas.Bool.{eqb-true, ne_eqb}
 use Rattle.std.proofs.lemmas.List.{drop_all, drop_more, take_all, take_more_set}
 use Rattle.std.proofs.lemmas.List.Sums.{AllPass-from_list_all}
 use Rattle.vb_command.specs.Optional.{◌>>=◌}
-use Rattle.vb_command.specs.Hex.{hex_value, hex_byte, hex_pairs, is_digit}
+use Rattle.vb_command.specs.Hex.{hex_value, hex_pairs, is_digit}
 
 -- all bytes, where some are written and the rest may still fail
 abbrev pub behind : List ℕ → Option (List ℕ) → Option (List ℕ)

@@ -1,10 +1,11 @@
 -- What a line of words asks for: one equation a command, its name and then its fields.
-use Rattle.std.specs.Prelude.{ℕ, Bool, List, [], ◌∷◌, codes, Option, Some, None, if◌then◌else◌}
+use Rattle.std.specs.Prelude.{ℕ, List, codes, Option, Some, None, if◌then◌else◌}
 use Rattle.std.specs.Str.{bytes_eq}
 use Rattle.vb_command.specs.Hex.{hex}
-use Rattle.vb_command.specs.Machine.{Order, Import, Full, Set, Append, Appendn, Fill, Truncate, Clear, Flip, Freeze, Thaw, Clone, Slice, Drop, Len, Count, Get, Countrange, Select, Selectunset, Last, Bits, Places, Runs}
+use Rattle.vb_command.specs.Machine.{Order, Import, Full, Set, Append, Appendn, Fill, Truncate, Clear, Flip, Freeze, Thaw, Clone, Slice, Sliced, Drop, Combine, Not, Len, Count, Get, Countrange, Select, Selectunset, Last, Bits, Places, Runs, Show, Eq}
 use Rattle.vb_command.specs.Optional.{◌>>=◌}
-use Rattle.vb_command.specs.Words.{number, truth, only_word, only_two, only_three, only_four}
+use Rattle.vb_bits.specs.declared.zip.BitOp.TheVariants.{And, Or, Xor, AndNot}
+use Rattle.vb_command.specs.Words.{number, truth, mode, only_word, only_two, only_three, only_four}
 
 -- an order of one field
 abbrev pub one : {A : Type 0} → (A → Order) → (List ℕ → Option A) → List (List ℕ) → Option Order
@@ -53,9 +54,21 @@ question_of name ws =
     if bytes_eq name (codes "bits") then one Bits number ws else
     if bytes_eq name (codes "places") then one Places number ws else
     if bytes_eq name (codes "runs") then one Runs number ws else
+    if bytes_eq name (codes "show") then one Show number ws else
+    if bytes_eq name (codes "eq") then two Eq number number ws else
     None
 
--- the order of an edit, or of a question
+-- the order of an operator, or of a question
+unfoldable pub operator_of : List ℕ → List (List ℕ) → Option Order
+operator_of name ws =
+    if bytes_eq name (codes "and") then four (Combine And) mode number number number ws else
+    if bytes_eq name (codes "or") then four (Combine Or) mode number number number ws else
+    if bytes_eq name (codes "xor") then four (Combine Xor) mode number number number ws else
+    if bytes_eq name (codes "andnot") then four (Combine AndNot) mode number number number ws else
+    if bytes_eq name (codes "not") then three Not mode number number ws else
+    question_of name ws
+
+-- the order of an edit, of an operator, or of a question
 unfoldable pub edit_of : List ℕ → List (List ℕ) → Option Order
 edit_of name ws =
     if bytes_eq name (codes "set") then three Set number number truth ws else
@@ -65,16 +78,22 @@ edit_of name ws =
     if bytes_eq name (codes "truncate") then two Truncate number number ws else
     if bytes_eq name (codes "clear") then one Clear number ws else
     if bytes_eq name (codes "flip") then one Flip number ws else
-    question_of name ws
+    operator_of name ws
+
+-- the order that fills a slot from others or by a value, changes its kind or empties it, or another one
+unfoldable pub slot_of : List ℕ → List (List ℕ) → Option Order
+slot_of name ws =
+    if bytes_eq name (codes "full") then three Full number truth number ws else
+    if bytes_eq name (codes "clone") then two Clone number number ws else
+    if bytes_eq name (codes "slice") then four Slice number number number number ws else
+    if bytes_eq name (codes "sliced") then two Sliced number number ws else
+    if bytes_eq name (codes "freeze") then one Freeze number ws else
+    if bytes_eq name (codes "thaw") then one Thaw number ws else
+    if bytes_eq name (codes "drop") then one Drop number ws else
+    edit_of name ws
 
 -- what a name and the words after it ask for
 unfoldable pub arguments_of : List ℕ → List (List ℕ) → Option Order
 arguments_of name ws =
     if bytes_eq name (codes "import") then four Import number number number hex ws else
-    if bytes_eq name (codes "full") then three Full number truth number ws else
-    if bytes_eq name (codes "clone") then two Clone number number ws else
-    if bytes_eq name (codes "slice") then four Slice number number number number ws else
-    if bytes_eq name (codes "freeze") then one Freeze number ws else
-    if bytes_eq name (codes "thaw") then one Thaw number ws else
-    if bytes_eq name (codes "drop") then one Drop number ws else
-    edit_of name ws
+    slot_of name ws

@@ -1,11 +1,17 @@
 -- The machine: slots that hold lists of truth values, and what each order answers and does to them.
-use Rattle.std.specs.Prelude.{◌≡◌, ℕ, ◌+◌, ◌-◌, ◌*◌, ◌^◌, ◌<◌, Bool, true, false, ◌&&◌, List, [], ◌∷◌, ◌++◌, length, take, replicate, slice_get, slice_set, slice_range, Option, Some, None, MatchOption, MatchBool, IsTrue, ◌⊎◌, nat_lt, nat_le}
+use Rattle.std.specs.Prelude.{◌≡◌, ℕ, ◌+◌, ◌-◌, ◌*◌, ◌^◌, ◌<◌, Bool, true, false, ◌&&◌, ◌==◌, List, [], ◌∷◌, ◌++◌, length, take, replicate, slice_get, slice_set, slice_range, Option, Some, None, MatchOption, MatchBool, IsTrue, ◌⊎◌, ◌↔◌, nat_lt, nat_le}
 use Rattle.std.specs.Option.{option_and_then, option_map_or}
-use Rattle.vb_kernel.specs.Bits.{bits, at, count, negated, places, Selects}
-use Rattle.vb_kernel.specs.Edits.{filled}
-use Rattle.vb_kernel.specs.Runs.{runs, last_place}
+use Rattle.vb_bits.specs.Bits.{bits, at, count, negated, places, Selects}
+use Rattle.vb_bits.specs.Edits.{filled}
+use Rattle.vb_bits.specs.Operators.{combined}
+use Rattle.vb_bits.specs.Runs.{runs, last_place}
+use Rattle.vb_bits.specs.Shown.{shown}
+use Rattle.vb_bits.specs.declared.zip.BitOp.{BitOp}
+use Rattle.vb_bits.specs.declared.zip.BitOp.TheVariants.{And, Or, Xor, AndNot}
 use Rattle.vb_command.specs.declared.command.Command.{Command}
 use Rattle.vb_command.specs.declared.command.Command.TheVariants as commands
+use Rattle.vb_command.specs.declared.command.Mode.{Mode}
+use Rattle.vb_command.specs.declared.command.Mode.TheVariants.{Ref, Own}
 
 -- what a slot holds
 pub data Slot : Type 0 where
@@ -17,7 +23,7 @@ pub data Slot : Type 0 where
 unfoldable pub empty_slots : List Slot
 empty_slots = replicate 16 Empty
 
--- what a command asks of the machine, with the fields of its line in their order
+-- what a command asks of the machine, with the fields of its line in their order; `Combine` stands for the four operators on two lists
 pub data Order : Type 0 where
   Import : ℕ → ℕ → ℕ → List ℕ → Order
   Full : ℕ → Bool → ℕ → Order
@@ -32,7 +38,10 @@ pub data Order : Type 0 where
   Thaw : ℕ → Order
   Clone : ℕ → ℕ → Order
   Slice : ℕ → ℕ → ℕ → ℕ → Order
+  Sliced : ℕ → ℕ → Order
   Drop : ℕ → Order
+  Combine : BitOp → Mode → ℕ → ℕ → ℕ → Order
+  Not : Mode → ℕ → ℕ → Order
   Len : ℕ → Order
   Count : ℕ → Order
   Get : ℕ → ℕ → Order
@@ -43,6 +52,8 @@ pub data Order : Type 0 where
   Bits : ℕ → Order
   Places : ℕ → Order
   Runs : ℕ → Order
+  Show : ℕ → Order
+  Eq : ℕ → ℕ → Order
 
 -- the order of a command
 abbrev pub order : {A : Type 0} → Command A → Order
@@ -59,7 +70,13 @@ order (commands.Freeze k) = Freeze k
 order (commands.Thaw k) = Thaw k
 order (commands.Clone k t) = Clone k t
 order (commands.Slice k a b t) = Slice k a b t
+order (commands.Sliced k t) = Sliced k t
 order (commands.Drop k) = Drop k
+order (commands.And mode l r t) = Combine And mode l r t
+order (commands.Or mode l r t) = Combine Or mode l r t
+order (commands.Xor mode l r t) = Combine Xor mode l r t
+order (commands.Andnot mode l r t) = Combine AndNot mode l r t
+order (commands.Not mode l t) = Not mode l t
 order (commands.Len k) = Len k
 order (commands.Count k) = Count k
 order (commands.Get k i) = Get k i
@@ -70,6 +87,8 @@ order (commands.Last k) = Last k
 order (commands.Bits k) = Bits k
 order (commands.Places k) = Places k
 order (commands.Runs k) = Runs k
+order (commands.Show k) = Show k
+order (commands.Eq k j) = Eq k j
 
 -- why an order is refused
 pub data Reason : Type 0 where
@@ -90,6 +109,7 @@ pub data Reply : Type 0 where
   Listed : List Bool → Reply
   ListedPlaces : List ℕ → Reply
   ListedRuns : List (ℕ × ℕ) → Reply
+  Text : List ℕ → Reply
   Refused : Reason → Reply
 
 -- the list that a slot holds, open or frozen
@@ -150,6 +170,11 @@ fits o n bytes = nat_lt o 8 && nat_le (o + n) (8 * length bytes) && nat_lt (o + 
 abbrev pub is_range : ℕ → ℕ → List Bool → Bool
 is_range a b l = nat_le a b && nat_le b (length l)
 
+-- the slots once an operator has its left list from slot l: with `own` that slot gave it away
+abbrev pub released : Mode → ℕ → List Slot → List Slot
+released Ref l s = s
+released Own l s = slice_set s l Empty
+
 -- what may come of an order: a relation of the slots before it, its answer and the slots after it
 abbrev pub Effect : Type 1
 Effect = List Slot → Reply → List Slot → Type 0
@@ -162,6 +187,10 @@ Refuses why s r t = (r ≡ Refused why) × (t ≡ s)
 abbrev pub Puts : ℕ → Slot → Effect
 Puts k new s r t = (r ≡ Done) × (t ≡ slice_set s k new)
 
+-- an operator has its left list from slot l, and something follows
+abbrev pub Releases : Mode → ℕ → Effect → Effect
+Releases mode l Then s r t = Then (released mode l s) r t
+
 -- where a check fails the order is refused for this reason, and else something follows
 abbrev pub Checks : Bool → Reason → Effect → Effect
 Checks passed why Then s r t = MatchBool passed (Then s r t) (Refuses why s r t)
@@ -173,6 +202,10 @@ Needs held Then s r t = MatchOption held (Refuses BadSlot s r t) (λ x. Then x s
 -- the list at k is asked a question, and every slot stays
 abbrev pub Asks : ℕ → (List Bool → Reply → Type 0) → Effect
 Asks k Answers s r t = Needs (list_at s k) (λ l s r t. Answers l r × (t ≡ s)) s r t
+
+-- two lists are compared, and every slot stays
+abbrev pub Compares : List Bool → List Bool → Effect
+Compares l m s r t = (same : Bool) × (r ≡ Truth same) × (IsTrue same ↔ (l ≡ m)) × (t ≡ s)
 
 -- the open list at k is edited
 abbrev pub Edits : ℕ → (List Bool → List Bool) → Effect
@@ -214,6 +247,12 @@ Step s (Thaw k) r t = Needs (frozen_at s k) (λ l. Puts k (Open l)) s r t
 Step s (Clone k j) r t = Needs (kept_at s k) (λ x. Checks (vacant_at s j) BadSlot (Puts j x)) s r t
 Step s (Slice k a b j) r t =
     Needs (frozen_at s k) (λ l. Checks (vacant_at s j) BadSlot (Checks (is_range a b l) OutOfRange (Puts j (Frozen (slice_range l a b))))) s r t
+Step s (Sliced k j) r t = Needs (frozen_at s k) (λ l. Checks (vacant_at s j) BadSlot (Puts j (Frozen l))) s r t
+Step s (Combine op mode k j i) r t =
+    Needs (frozen_at s k) (λ l. Needs (frozen_at (released mode k s) j) (λ m. Checks (vacant_at (released mode k s) i) BadSlot
+    (Checks (length l == length m) LengthMismatch (Releases mode k (Puts i (Frozen (combined op l m))))))) s r t
+Step s (Not mode k j) r t =
+    Needs (frozen_at s k) (λ l. Checks (vacant_at (released mode k s) j) BadSlot (Releases mode k (Puts j (Frozen (negated l))))) s r t
 Step s (Drop k) r t = Needs (kept_at s k) (λ x. Puts k Empty) s r t
 Step s (Len k) r t = Asks k (λ l a. a ≡ Number (length l)) s r t
 Step s (Count k) r t = Asks k (λ l a. a ≡ Number (count l)) s r t
@@ -225,6 +264,8 @@ Step s (Last k) r t = Asks k (λ l a. a ≡ Place (last_place l)) s r t
 Step s (Bits k) r t = Asks k (λ l a. a ≡ Listed l) s r t
 Step s (Places k) r t = Asks k (λ l a. a ≡ ListedPlaces (places l)) s r t
 Step s (Runs k) r t = Asks k (λ l a. a ≡ ListedRuns (runs l)) s r t
+Step s (Show k) r t = Needs (frozen_at s k) (λ l s r t. (r ≡ Text (shown l)) × (t ≡ s)) s r t
+Step s (Eq k j) r t = Needs (list_at s k) (λ l. Needs (list_at s j) (Compares l)) s r t
 
 -- something follows where a check passes
 abbrev pub Passes : Bool → Effect → Effect
@@ -252,9 +293,16 @@ GivesUp s (Freeze k) r t = Has (open_at s k) (λ l. Loses k) s r t
 GivesUp s (Thaw k) r t = Has (frozen_at s k) (λ l. Loses k) s r t
 GivesUp s (Clone k j) r t = Has (kept_at s k) (λ x. Passes (vacant_at s j) (Refuses OutOfMemory)) s r t
 GivesUp s (Slice k a b j) r t = Has (frozen_at s k) (λ l. Passes (vacant_at s j) (Passes (is_range a b l) (Refuses OutOfMemory))) s r t
+GivesUp s (Sliced k j) r t = Has (frozen_at s k) (λ l. Passes (vacant_at s j) (Refuses OutOfMemory)) s r t
+GivesUp s (Combine op mode k j i) r t =
+    Has (frozen_at s k) (λ l. Has (frozen_at (released mode k s) j) (λ m. Passes (vacant_at (released mode k s) i)
+    (Passes (length l == length m) (Releases mode k (Refuses OutOfMemory))))) s r t
+GivesUp s (Not mode k j) r t =
+    Has (frozen_at s k) (λ l. Passes (vacant_at (released mode k s) j) (Releases mode k (Refuses OutOfMemory))) s r t
 GivesUp s (Bits k) r t = Has (list_at s k) (λ l. Refuses OutOfMemory) s r t
 GivesUp s (Places k) r t = Has (list_at s k) (λ l. Refuses OutOfMemory) s r t
 GivesUp s (Runs k) r t = Has (list_at s k) (λ l. Refuses OutOfMemory) s r t
+GivesUp s (Show k) r t = Has (frozen_at s k) (λ l. Refuses OutOfMemory) s r t
 GivesUp s c r t = ⊥
 
 -- what may come of an order, want of memory included

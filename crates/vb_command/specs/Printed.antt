@@ -1,7 +1,7 @@
 -- What answers look like.
 use Rattle.std.specs.Prelude.{ℕ, Bool, true, false, List, [], ◌∷◌, ◌++◌, codes, decimal, Some, None}
 use Rattle.std.specs.List.{flat_map}
-use Rattle.vb_command.specs.Machine.{Reply, Done, Number, Truth, Place, Listed, ListedPlaces, ListedRuns, Refused, Reason, BadSlot, BadWindow, OutOfRange, LengthMismatch, TakeOutOfRange, TooManyBits, OutOfMemory}
+use Rattle.vb_command.specs.Machine.{Reply, Done, Number, Truth, Place, Listed, ListedPlaces, ListedRuns, Text, Refused, Reason, BadSlot, BadWindow, OutOfRange, LengthMismatch, TakeOutOfRange, TooManyBits, OutOfMemory}
 
 -- the name of a refusal, and where it has one its position
 abbrev pub name_of : Reason → List ℕ
@@ -54,6 +54,7 @@ text_of (Place (Some p)) = decimal p
 text_of (Listed bs) = digits_of bs
 text_of (ListedPlaces ps) = places_text ps
 text_of (ListedRuns rs) = runs_text rs
+text_of (Text text) = text
 text_of (Refused why) = refusal_text why
 
 -- the line of an answer

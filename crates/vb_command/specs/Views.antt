@@ -1,5 +1,6 @@
 -- Answers and refusals of the code, as those of the machine.
-use Rattle.vb_command.specs.Machine.{Reply, Done, Number, Truth, Place, Listed, ListedPlaces, ListedRuns, Refused, Reason, BadSlot, BadWindow, OutOfRange, LengthMismatch, TakeOutOfRange, TooManyBits, OutOfMemory}
+use Rattle.std.specs.Prelude.{string_bytes}
+use Rattle.vb_command.specs.Machine.{Reply, Done, Number, Truth, Place, Listed, ListedPlaces, ListedRuns, Text, Refused, Reason, BadSlot, BadWindow, OutOfRange, LengthMismatch, TakeOutOfRange, TooManyBits, OutOfMemory}
 use Rattle.vb_command.specs.declared.answer.Answer.{Answer}
 use Rattle.vb_command.specs.declared.answer.Answer.TheVariants as answers
 use Rattle.vb_command.specs.declared.answer.Refusal.{Refusal}
@@ -24,4 +25,5 @@ reply (answers.Place p) = Place p
 reply (answers.Bits bits) = Listed bits.items
 reply (answers.Places places) = ListedPlaces places.items
 reply (answers.Runs runs) = ListedRuns runs.items
+reply (answers.Text text) = Text (string_bytes text)
 reply (answers.Refused why) = Refused (reason why)

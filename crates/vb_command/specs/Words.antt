@@ -1,8 +1,10 @@
--- The words of a line, and the numbers and truth values that words write.
+-- The words of a line, and the numbers, truth values and modes that words write.
 use Rattle.std.specs.Prelude.{ℕ, ◌^◌, Bool, true, false, ◌&&◌, List, [], ◌∷◌, codes, length, filter, Option, Some, None, nat_lt, ◌==◌, if◌then◌else◌}
 use Rattle.std.specs.List.{slice_split}
 use Rattle.std.specs.Str.{all_ascii_digits, bytes_eq}
 use Rattle.std.specs.Str.Parse.{digits_value}
+use Rattle.vb_command.specs.declared.command.Mode.{Mode}
+use Rattle.vb_command.specs.declared.command.Mode.TheVariants.{Ref, Own}
 
 -- whether a byte is a space, whose code is 32
 abbrev pub is_space : ℕ → Bool
@@ -29,6 +31,13 @@ abbrev pub truth : List ℕ → Option Bool
 truth w =
     if bytes_eq w (codes "0") then Some false else
     if bytes_eq w (codes "1") then Some true else
+    None
+
+-- the mode that a word writes, if it is one
+abbrev pub mode : List ℕ → Option Mode
+mode w =
+    if bytes_eq w (codes "ref") then Some Ref else
+    if bytes_eq w (codes "own") then Some Own else
     None
 
 -- the word of a list of one

@@ -85,6 +85,8 @@ pub enum Answer<A: Allocator = Global> {
     /// The runs of a set's true bits: where each begins, and the place behind it. They are printed
     /// as `1-3,4-7`, or as `-` where there are none.
     Runs(Vec<(usize, usize), A>),
+    /// A set as its `Display` shows it, printed as it is.
+    Text(String<A>),
     /// The command is refused.
     Refused(Refusal),
 }
@@ -93,7 +95,7 @@ pub enum Answer<A: Allocator = Global> {
 #[derive(Clone, Copy, Debug)]
 pub enum Part<'a> {
     /// These words.
-    Words(&'static str),
+    Words(&'a str),
     /// A number in decimal.
     Number(usize),
     /// Truth values as `1` and `0`, with nothing between them, or `-` where there are none.
@@ -123,6 +125,7 @@ impl<A: Allocator> Answer<A> {
             Answer::Bits(bits) => (Part::Bits(bits), None),
             Answer::Places(places) => (Part::Places(places), None),
             Answer::Runs(runs) => (Part::Runs(runs), None),
+            Answer::Text(text) => (Part::Words(text), None),
             Answer::Refused(why) => why.parts(),
         }
     }

@@ -1,11 +1,12 @@
 //! What a line of words asks for.
 ghost use Rattle.std.specs.Prelude.{◌≡◌, IsErrOf, IsTrue, Some, option_map};
-ghost use Rattle.vb_command.specs.Arguments.{arguments_of, edit_of, question_of};
+ghost use Rattle.vb_command.specs.Arguments.{arguments_of, slot_of, edit_of, operator_of, question_of};
 ghost use Rattle.vb_command.specs.Reading.{Gives, Tells, asks_memory};
 ghost use Rattle.vb_command.specs.Machine.{order};
 
 use crate::command::Command;
 use crate::hex::{bytes_of_pairs, hex_pairs};
+use crate::mode::mode;
 use crate::number::number;
 use crate::truth::truth;
 use crate::unread::Unread;
@@ -31,6 +32,17 @@ pub fn arguments<A: Allocator + Clone>(
             let pairs = hex_pairs(digits)?;
             Ok(Command::Import(t, o, n, bytes_of_pairs(alloc.clone()?, pairs)?))
         }
+        _ => slot(name, words),
+    }
+}
+
+/// The command of this name if it fills a slot from others or by a value, changes its kind or
+/// empties it, or if it is an edit, an operator or a question.
+#[tactic(auto, unfolding(crate::specs::Arguments::slot_of))]
+fn slot<A: Allocator>(name: &str, words: &mut Words<'_>) -> Result<Command<A>, Unread>
+    ensures { Tells order result (slot_of name.now words.old) }
+{
+    match name {
         "full" => {
             let (t, v, n) = words.three()?;
             Ok(Command::Full(number(t)?, truth(v)?, number(n)?))
@@ -43,6 +55,10 @@ pub fn arguments<A: Allocator + Clone>(
             let (k, a, b, t) = words.four()?;
             Ok(Command::Slice(number(k)?, number(a)?, number(b)?, number(t)?))
         }
+        "sliced" => {
+            let (k, t) = words.two()?;
+            Ok(Command::Sliced(number(k)?, number(t)?))
+        }
         "freeze" => Ok(Command::Freeze(number(words.one()?)?)),
         "thaw" => Ok(Command::Thaw(number(words.one()?)?)),
         "drop" => Ok(Command::Drop(number(words.one()?)?)),
@@ -50,7 +66,7 @@ pub fn arguments<A: Allocator + Clone>(
     }
 }
 
-/// The command of this name if it is an edit or a question.
+/// The command of this name if it is an edit, an operator or a question.
 #[tactic(auto, unfolding(crate::specs::Arguments::edit_of))]
 fn edit<A: Allocator>(name: &str, words: &mut Words<'_>) -> Result<Command<A>, Unread>
     ensures { Tells order result (edit_of name.now words.old) }
@@ -78,6 +94,36 @@ fn edit<A: Allocator>(name: &str, words: &mut Words<'_>) -> Result<Command<A>, U
         }
         "clear" => Ok(Command::Clear(number(words.one()?)?)),
         "flip" => Ok(Command::Flip(number(words.one()?)?)),
+        _ => operator(name, words),
+    }
+}
+
+/// The command of this name if it is an operator or a question.
+#[tactic(auto, unfolding(crate::specs::Arguments::operator_of))]
+fn operator<A: Allocator>(name: &str, words: &mut Words<'_>) -> Result<Command<A>, Unread>
+    ensures { Tells order result (operator_of name.now words.old) }
+{
+    match name {
+        "and" => {
+            let (m, l, r, t) = words.four()?;
+            Ok(Command::And(mode(m)?, number(l)?, number(r)?, number(t)?))
+        }
+        "or" => {
+            let (m, l, r, t) = words.four()?;
+            Ok(Command::Or(mode(m)?, number(l)?, number(r)?, number(t)?))
+        }
+        "xor" => {
+            let (m, l, r, t) = words.four()?;
+            Ok(Command::Xor(mode(m)?, number(l)?, number(r)?, number(t)?))
+        }
+        "andnot" => {
+            let (m, l, r, t) = words.four()?;
+            Ok(Command::Andnot(mode(m)?, number(l)?, number(r)?, number(t)?))
+        }
+        "not" => {
+            let (m, l, t) = words.three()?;
+            Ok(Command::Not(mode(m)?, number(l)?, number(t)?))
+        }
         _ => question(name, words),
     }
 }
@@ -110,6 +156,11 @@ fn question<A: Allocator>(name: &str, words: &mut Words<'_>) -> Result<Command<A
         "bits" => Ok(Command::Bits(number(words.one()?)?)),
         "places" => Ok(Command::Places(number(words.one()?)?)),
         "runs" => Ok(Command::Runs(number(words.one()?)?)),
+        "show" => Ok(Command::Show(number(words.one()?)?)),
+        "eq" => {
+            let (k, j) = words.two()?;
+            Ok(Command::Eq(number(k)?, number(j)?))
+        }
         _ => Err(Unread::Unreadable),
     }
 }

@@ -50,8 +50,26 @@ pub enum Command<A: Allocator = Global> {
     /// `a` up to `b`, `b` excluded, of the frozen set in slot `k`. The places have to be a range of
     /// that set.
     Slice(usize, usize, usize, usize),
+    /// `sliced k t`: fills slot `t`, which has to be empty, with a frozen set of the same bits as the
+    /// frozen set in slot `k`, whose storage holds these alone.
+    Sliced(usize, usize),
     /// `drop k`: empties slot `k`, which has to hold a set.
     Drop(usize),
+    /// `and MODE l r t`: fills slot `t` with a frozen set of the bits that are true in both of the
+    /// frozen sets in slots `l` and `r`, which have to be of one length. By `own` slot `l` gives its
+    /// set away: `r` has to be another one, and `t` may be `l`. Otherwise `t` has to be empty.
+    And(Mode, usize, usize, usize),
+    /// `or MODE l r t`: as `and`, with the bits that are true in either of the sets.
+    Or(Mode, usize, usize, usize),
+    /// `xor MODE l r t`: as `and`, with the bits that are true in just one of the sets.
+    Xor(Mode, usize, usize, usize),
+    /// `andnot MODE l r t`: as `and`, with the bits that are true in the left set and false in the
+    /// right one.
+    Andnot(Mode, usize, usize, usize),
+    /// `not MODE l t`: fills slot `t` with a frozen set of the negated bits of the frozen set in
+    /// slot `l`. By `own` that slot gives its set away, and `t` may be `l`. Otherwise `t` has to be
+    /// empty.
+    Not(Mode, usize, usize),
     /// `len k`: the length in bits of the set in slot `k`.
     Len(usize),
     /// `count k`: the number of true bits of the set in slot `k`.
@@ -75,4 +93,9 @@ pub enum Command<A: Allocator = Global> {
     Places(usize),
     /// `runs k`: the runs of true bits of the set in slot `k`, from front to end.
     Runs(usize),
+    /// `show k`: the length and the first bits of the frozen set in slot `k`, as its `Display` shows
+    /// them.
+    Show(usize),
+    /// `eq k j`: whether the sets in slots `k` and `j`, of whatever kind, have the same bits.
+    Eq(usize, usize),
 }

@@ -11,6 +11,7 @@ mod command;
 mod digits;
 mod hex;
 mod line;
+mod mode;
 mod number;
 mod numbers;
 #[cfg(test)]

@@ -22,6 +22,10 @@ fn answers_are_printed(rt: HostRuntime) -> Result<(), Fail> {
         (Answer::Places(Vec::new(alloc)), "-"),
         (Answer::Runs(runs), "1-3,4-7"),
         (Answer::Runs(Vec::new(alloc)), "-"),
+        (
+            Answer::Text(String::from_str(alloc, "BitBuffer { len: 1, buffer: [true] }")?),
+            "BitBuffer { len: 1, buffer: [true] }",
+        ),
         (Answer::Refused(Refusal::BadSlot), "refused BadSlot"),
         (Answer::Refused(Refusal::BadWindow), "refused BadWindow"),
         (Answer::Refused(Refusal::OutOfRange), "refused OutOfRange"),
@@ -68,6 +72,8 @@ fn commands_are_read(rt: HostRuntime) -> Result<(), Fail> {
         ("last 5", "Ok(Some(Last(5)))"),
         ("places 6", "Ok(Some(Places(6)))"),
         ("runs 16", "Ok(Some(Runs(16)))"),
+        ("show 1", "Ok(Some(Show(1)))"),
+        ("eq 1 2", "Ok(Some(Eq(1, 2)))"),
         ("   get   15  7 ", "Ok(Some(Get(15, 7)))"),
     ] {
         assert_eq!(rt; asked(rt.alloc(), line.as_bytes())?.as_str(), want);
@@ -91,6 +97,12 @@ fn commands_that_change_slots_are_read(rt: HostRuntime) -> Result<(), Fail> {
         ("clone 9 10", "Ok(Some(Clone(9, 10)))"),
         ("slice 0 3 2 1", "Ok(Some(Slice(0, 3, 2, 1)))"),
         ("drop 11", "Ok(Some(Drop(11)))"),
+        ("sliced 3 4", "Ok(Some(Sliced(3, 4)))"),
+        ("and own 1 2 3", "Ok(Some(And(Own, 1, 2, 3)))"),
+        ("or ref 1 2 3", "Ok(Some(Or(Ref, 1, 2, 3)))"),
+        ("xor own 4 5 4", "Ok(Some(Xor(Own, 4, 5, 4)))"),
+        ("andnot ref 6 6 7", "Ok(Some(Andnot(Ref, 6, 6, 7)))"),
+        ("not own 8 8", "Ok(Some(Not(Own, 8, 8)))"),
     ] {
         assert_eq!(rt; asked(rt.alloc(), line.as_bytes())?.as_str(), want);
     }
@@ -144,6 +156,12 @@ fn other_lines_cannot_be_read(rt: HostRuntime) -> Result<(), Fail> {
         "countrange 0 3",
         "freeze",
         "drop 0 1",
+        "and 0 1 2",
+        "or Own 0 1 2",
+        "xor own 0 1",
+        "not ref 0 1 2",
+        "sliced 0",
+        "eq 0",
     ] {
         assert_eq!(rt;
             asked(rt.alloc(), line.as_bytes())?.as_str(),

@@ -1,7 +1,9 @@
 -- The slots of the pool as those of the machine.
-use Rattle.std.proofs.Common.{◌≡◌, ℕ, List, map, ap, ap₂, slice_set, slice_get, Some, option_map, sym, ◌∙◌}
+use Rattle.std.proofs.Common.{◌≡◌, ◌≢◌, ℕ, zero, suc, Bool, true, false, List, [], ◌∷◌, refl, None, map, ap, ap₂, slice_set, slice_get, Some, option_map, sym, ◌∙◌}
 use Rattle.std.proofs.lemmas.List.{map-set, set-get_or, set-set}
-use Rattle.std.proofs.lemmas.Option.{get_or_from_slice_get, slice_get-map}
+use Rattle.std.proofs.lemmas.Option.{get_or_from_slice_get, none-some, slice_get-map}
+use Rattle.std.specs.Option.{option_and_then, option_map_or}
+use Rattle.vb_command.specs.Machine.{Slot, Empty, frozen_list, frozen_at, is_vacant, vacant_at}
 use mathlib.Core.Path.{fun_ext}
 
 -- an item that is written over itself changes nothing
@@ -19,6 +21,37 @@ pub lent : {S M W E : Type 0} (ends : (W → List M) → List M → E) (see : S 
     → ends (λ w. map see (slice_set l k (make w))) (map see (slice_set l k x)) ≡ ends (λ w. slice_set seen k (see (make w))) seen
 lent ends see make l seen k x view held =
     ap₂ ends (fun_ext (λ w. map-set see l k (make w) ∙ ap (λ m. slice_set m k (see (make w))) view)) (ap (map see) (set_same l k x (sym held)) ∙ view)
+
+-- a slot beside the one that was written
+get_beside : {T : Type 0} (l : List T) (k j : ℕ) (x : T) → k ≢ j → slice_get (slice_set l k x) j ≡ slice_get l j
+get_beside [] k j x other = refl
+get_beside (z ∷ zs) zero zero x other = absurd (other refl)
+get_beside (z ∷ zs) zero (suc j) x other = refl
+get_beside (z ∷ zs) (suc k) zero x other = refl
+get_beside (z ∷ zs) (suc k) (suc j) x other = get_beside zs k j x (λ e. other (ap suc e))
+
+-- a slot that gave its set away holds none
+pub frozen_given : (s : List Slot) (k : ℕ) → frozen_at (slice_set s k Empty) k ≡ None
+frozen_given [] k = refl
+frozen_given (z ∷ zs) zero = refl
+frozen_given (z ∷ zs) (suc k) = frozen_given zs k
+
+-- it is empty
+pub vacant_given : (s : List Slot) (k : ℕ) (l : List Bool) → frozen_at s k ≡ Some l → vacant_at (slice_set s k Empty) k ≡ true
+vacant_given [] k l held = absurd (none-some l held)
+vacant_given (z ∷ zs) zero l held = refl
+vacant_given (z ∷ zs) (suc k) l held = vacant_given zs k l held
+
+-- all others hold what they held
+pub frozen_beside : (s : List Slot) (k j : ℕ) → k ≢ j → frozen_at (slice_set s k Empty) j ≡ frozen_at s j
+frozen_beside s k j other = ap (option_and_then frozen_list) (get_beside s k j Empty other)
+
+-- and are empty if they were
+pub vacant_beside : (s : List Slot) (k j : ℕ) → k ≢ j → vacant_at (slice_set s k Empty) j ≡ vacant_at s j
+vacant_beside s k j other = ap (λ o. option_map_or is_vacant o false) (get_beside s k j Empty other)
+
+-- for `#[tactic(auto, using(..))]`: one slot gave its set away
+pub ruleset given = (frozen_given, vacant_given, frozen_beside, vacant_beside)
 
 -- for `#[tactic(auto, using(..))]`: one slot is written
 pub ruleset slots = (map-set, set_same, set-set)

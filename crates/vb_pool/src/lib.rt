@@ -11,6 +11,7 @@ mod kinds;
 mod lists;
 mod makes;
 mod open_bits;
+mod operators;
 mod pool;
 mod questions;
 mod refused;

@@ -1,5 +1,6 @@
-//! What a view of bits holds, as lists in memory of an allocator.
-ghost use Rattle.std.specs.Prelude.{◌≡◌, IfOk, IsOkUnless};
+//! What a set holds, as lists and as a text in memory of an allocator.
+ghost use Rattle.std.specs.Prelude.{◌≡◌, IfOk, IsOkUnless, string_bytes};
+ghost use Rattle.vb_kernel.specs.Shown.{shown};
 ghost use Rattle.vb_core.specs.declared.error.BufferError.TheVariants.{OutOfMemory};
 ghost use Rattle.vb_kernel.specs.Bits.{places};
 ghost use Rattle.vb_kernel.specs.Runs.{runs};
@@ -7,6 +8,7 @@ ghost use Rattle.vb_view.specs.View.{bits_of};
 
 use std::alloc::Allocator;
 use vb_core::BufferError;
+use vb_set::BitBuffer;
 use vb_view::BitBufferView;
 
 /// The bits from place 0 on, by one request. Refused by `OutOfMemory` alone.
@@ -53,4 +55,15 @@ pub(crate) fn list_runs<A: Allocator + Clone>(
         runs.push(run)?;
     }
     Ok(runs)
+}
+
+/// The text that shows a set. Refused by `OutOfMemory` alone.
+pub(crate) fn text<A: Allocator + Clone>(
+    alloc: &A,
+    set: &BitBuffer<A>,
+) -> Result<String<A>, BufferError>
+    ensures shown { IfOk result (λ text. string_bytes text ≡ shown set.now.bits) }
+    ensures refused { IsOkUnless result OutOfMemory }
+{
+    Ok(format!(in alloc.clone()?; "{set}")?)
 }

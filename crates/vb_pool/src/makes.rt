@@ -58,6 +58,17 @@ impl<A: Allocator + Clone> Pool<A> {
         Ok(self.put(t, Slot::Frozen(part)))
     }
 
+    /// Puts the bits of the frozen set in slot `k` in slot `t` too, which has to be empty, with the
+    /// bytes in which they lie and no others.
+    pub(crate) fn sliced(&mut self, k: usize, t: usize) -> Result<Answer<A>, Refusal>
+        ensures { Outcome self.old (machine.Sliced k t) (answered result) self.new }
+    {
+        let set = self.frozen_at(k)?;
+        self.vacant(t)?;
+        let same = set.sliced().map_err(refusal_of)?;
+        Ok(self.put(t, Slot::Frozen(same)))
+    }
+
     /// Empties the slot, which has to hold a set.
     pub(crate) fn drop(&mut self, k: usize) -> Result<Answer<A>, Refusal>
         ensures { Step self.old (machine.Drop k) (answered result) self.new }

@@ -3,7 +3,7 @@ ghost use Rattle.vb_command.specs.Machine.{Step, Outcome};
 ghost use Rattle.vb_command.specs.Machine as machine;
 ghost use Rattle.vb_pool.specs.Answered.{answered};
 
-use crate::lists::{list_bits, list_places, list_runs};
+use crate::lists::{list_bits, list_places, list_runs, text};
 use crate::pool::Pool;
 use crate::refused::refusal_of;
 use std::alloc::Allocator;
@@ -86,5 +86,19 @@ impl<A: Allocator + Clone> Pool<A> {
         ensures { Outcome self.now (machine.Runs k) (answered result) self.now }
     {
         Ok(Answer::Runs(list_runs(alloc, self.set_at(k)?).map_err(refusal_of)?))
+    }
+
+    /// The frozen set as its `Display` shows it, in memory of the allocator.
+    pub(crate) fn show(&self, alloc: &A, k: usize) -> Result<Answer<A>, Refusal>
+        ensures { Outcome self.now (machine.Show k) (answered result) self.now }
+    {
+        Ok(Answer::Text(text(alloc, self.frozen_at(k)?).map_err(refusal_of)?))
+    }
+
+    /// Whether the sets in slots `k` and `j` have the same bits.
+    pub(crate) fn equal(&self, k: usize, j: usize) -> Result<Answer<A>, Refusal>
+        ensures { Step self.now (machine.Eq k j) (answered result) self.now }
+    {
+        Ok(Answer::Truth(self.set_at(k)? == self.set_at(j)?))
     }
 }

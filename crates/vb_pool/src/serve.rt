@@ -7,18 +7,21 @@ ghost use Rattle.vb_core.specs.declared.error.BufferError.TheVariants.{OutOfMemo
 
 use crate::pool::Pool;
 use std::alloc::Allocator;
+use vb_bits::BitOp;
 use vb_command::{Answer, Command, Refusal};
 use vb_core::BufferError;
 
 impl<A: Allocator + Clone> Pool<A> {
     /// Carries out one command and answers it. A command that is refused changes nothing, except
-    /// that `freeze` and `thaw` give their set away: where memory is refused, their slot is empty
-    /// and all others are as before.
+    /// that `freeze`, `thaw` and the operators with `own` give their set away: where memory is
+    /// refused, its slot is empty and all others are as before.
     ///
     /// Memory is asked from copies of `alloc`: `import`, `full`, `bits` and `places` ask once for
     /// the whole, and so does `thaw` where another slot has the storage too; `runs` asks as its
-    /// list grows. The copy of an open set asks the allocator of that set. `freeze`, `slice`,
-    /// `clone` of a frozen set and `thaw` of a storage's only owner copy no bits.
+    /// list grows, and `show` as its text does. The copy of an open set asks the allocator of that
+    /// set, and so do `sliced` and the operators. `freeze`, `slice`, `clone` of a frozen set and
+    /// `thaw` of a storage's only owner copy no bits, nor do operators with `own` where their left
+    /// set's storage has no other owner.
     pub fn serve(&mut self, alloc: &A, command: &Command<A>) -> Answer<A>
         ensures { Outcome self.old (order command.now) (reply result) self.new }
     {
@@ -58,7 +61,13 @@ impl<A: Allocator + Clone> Pool<A> {
             Command::Thaw(k) => self.thaw(alloc, *k),
             Command::Clone(k, t) => self.clone(*k, *t),
             Command::Slice(k, a, b, t) => self.slice(*k, *a, *b, *t),
+            Command::Sliced(k, t) => self.sliced(*k, *t),
             Command::Drop(k) => self.drop(*k),
+            Command::And(mode, l, r, t) => self.combine(BitOp::And, *mode, *l, *r, *t),
+            Command::Or(mode, l, r, t) => self.combine(BitOp::Or, *mode, *l, *r, *t),
+            Command::Xor(mode, l, r, t) => self.combine(BitOp::Xor, *mode, *l, *r, *t),
+            Command::Andnot(mode, l, r, t) => self.combine(BitOp::AndNot, *mode, *l, *r, *t),
+            Command::Not(mode, l, t) => self.not(*mode, *l, *t),
             Command::Len(k) => self.len(*k),
             Command::Count(k) => self.count(*k),
             Command::Get(k, i) => self.get(*k, *i),
@@ -69,6 +78,8 @@ impl<A: Allocator + Clone> Pool<A> {
             Command::Bits(k) => self.bits(alloc, *k),
             Command::Places(k) => self.places(alloc, *k),
             Command::Runs(k) => self.runs(alloc, *k),
+            Command::Show(k) => self.show(alloc, *k),
+            Command::Eq(k, j) => self.equal(*k, *j),
         }
     }
 }

@@ -116,6 +116,22 @@ const ANSWERED: &[(&str, &str)] = &[
         "full 0 1 0\nruns 0\nplaces 0\nlast 0\nlast 1\nplaces 16\nruns 1\n",
         "ok\n-\n-\nnone\nrefused BadSlot\nrefused BadSlot\nrefused BadSlot\n",
     ),
+    (
+        "import 0 3 5 f8\nfreeze 0\nimport 1 0 5 1f\nfreeze 1\nand own 0 1 0\nbits 0\neq 0 1\nshow 0\n\
+         or own 0 0 3\nfull 2 1 6\nfreeze 2\nor ref 0 2 3\n",
+        "ok\nok\nok\nok\nok\n11111\n1\n\
+         BitBuffer { len: 5, buffer: [true, true, true, true, true] }\n\
+         refused BadSlot\nok\nok\nrefused LengthMismatch\n",
+    ),
+    (
+        "import 0 0 4 03\nfreeze 0\nimport 1 0 4 05\nfreeze 1\nand ref 0 1 2\nor ref 0 1 3\n\
+         xor ref 0 1 4\nandnot ref 0 1 5\nandnot ref 0 1 5\nnot ref 0 6\nbits 2\nbits 3\nbits 4\n\
+         bits 5\nbits 6\nsliced 0 7\neq 7 0\neq 7 1\nand own 7 1 8\nlen 7\neq 8 2\nfull 9 1 1\n\
+         show 9\nnot ref 9 10\neq 9 11\nor own 0 9 0\nbits 0\n",
+        "ok\nok\nok\nok\nok\nok\nok\nok\nrefused BadSlot\nok\n1000\n1110\n0110\n0100\n0011\n\
+         ok\n1\n0\nok\nrefused BadSlot\n1\nok\nrefused BadSlot\nrefused BadSlot\nrefused BadSlot\n\
+         refused BadSlot\n1100\n",
+    ),
     // Other owners keep their bits.
     (
         "full 0 1 4\nfreeze 0\nclone 0 1\nslice 0 1 4 2\nthaw 1\nset 1 0 0\nappend 1 0\nflip 1\n\
