@@ -7,7 +7,7 @@ pub use Rattle.vb_kernel.specs.Operators
 pub use Rattle.vb_kernel.specs.Shown
 pub use Rattle.vb_mem.specs.Collected
 pub use Rattle.vb_mem.specs.SharedBuffer
-pub use Rattle.vb_pack.specs.Answers
+pub use Rattle.vb_pack.specs.Asked
 pub use Rattle.vb_take.specs.Takes
 pub use Rattle.vb_view.specs.View
 pub use Rattle.vb_view.specs.Windows

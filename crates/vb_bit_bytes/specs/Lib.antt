@@ -5,4 +5,4 @@ pub use Rattle.vb_bits.specs.Writes
 pub use Rattle.vb_mem.specs.Collected
 pub use Rattle.vb_mem.specs.OpenBuffer
 pub use Rattle.vb_mem.specs.SharedBuffer
-pub use Rattle.vb_pack.specs.Answers
+pub use Rattle.vb_pack.specs.Asked

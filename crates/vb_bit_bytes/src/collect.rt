@@ -5,7 +5,7 @@ ghost use Rattle.std.specs.Int.{div_ceil};
 ghost use Rattle.std.specs.Iterator.{IsFiniteIterable};
 ghost use Rattle.vb_bit_bytes.specs.Given.{GivesPast};
 ghost use Rattle.vb_mem.specs.Collected.{OfItems};
-ghost use Rattle.vb_pack.specs.Answers.{Answers, CanAsk, span};
+ghost use Rattle.vb_pack.specs.Asked.{Answers, CanAsk, span};
 ghost use Rattle.vb_pack.specs.Bits.{at, bits};
 
 use crate::grow::push_bit;
@@ -135,7 +135,7 @@ pub fn from_iter<A: Allocator + Clone, I: IntoIterator<Item = bool>>(
     ensures alignment { IfOk result (λ b. b.0.exponent ≡ 0) }
     ensures err { MatchResult result (λ _. ⊤) (λ e. (e ≡ BufferError.OutOfMemory)
         ⊎ ((e ≡ BufferError.TooManyBits)
-            × GivesPast I.into_iter_gives I.IntoIter.next_gives iter)) }
+        × GivesPast I.into_iter_gives I.IntoIter.next_gives iter)) }
 {
     let mut bytes = BufferMut::empty(alloc);
     let mut len = 0;

@@ -3,7 +3,7 @@ use Rattle.std.proofs.Common.{◌≡◌, ℕ, zero, suc, ◌+◌, ◌<◌, Bool,
 use Rattle.std.proofs.lemmas.List.{same_lists, get_or_default}
 use Rattle.std.proofs.lemmas.List.FromFn.{length-map-range_with_len, get_or-map-range_with_len}
 use Rattle.vb_bits.proofs.RangeLemmas.{range_with_len-add}
-use Rattle.vb_pack.specs.Answers.{Answers, CanAsk, span}
+use Rattle.vb_pack.specs.Asked.{Answers, CanAsk, span}
 
 -- a span cut in two
 pub span-add : (a m n : ℕ) → span a (m + n) ≡ span a m ++ span (a + m) n

@@ -1,4 +1,4 @@
-pub mod Answers
+pub mod Asked
 pub mod Words
 pub use Rattle.vb_bits.specs.Bits
 pub use Rattle.vb_bits.specs.Digits

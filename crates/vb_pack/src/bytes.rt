@@ -1,6 +1,6 @@
 //! Truth values as bits of bytes.
 ghost use Rattle.std.specs.Prelude.{◌≡◌, ◌+◌, ◌*◌, ◌≤◌, ◌==◌, not, length, map};
-ghost use Rattle.vb_pack.specs.Answers.{Answers, CanAsk, span};
+ghost use Rattle.vb_pack.specs.Asked.{Answers, CanAsk, span};
 ghost use Rattle.vb_pack.specs.Bits.{bits};
 ghost use Rattle.vb_pack.specs.Digits.{digits};
 ghost use Rattle.vb_pack.specs.Words.{filled_up};

@@ -1,6 +1,6 @@
 //! The answers of a closure as one word.
 ghost use Rattle.std.specs.Prelude.{◌+◌, ◌^◌, ◌<◌, ◌≤◌};
-ghost use Rattle.vb_pack.specs.Answers.{Answers, CanAsk, span};
+ghost use Rattle.vb_pack.specs.Asked.{Answers, CanAsk, span};
 ghost use Rattle.vb_pack.specs.Digits.{digits};
 
 use crate::pack::{Multiply, Pack};

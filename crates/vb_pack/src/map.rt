@@ -1,6 +1,6 @@
 //! What a closure makes of the bits of a window.
 ghost use Rattle.std.specs.Prelude.{◌≡◌, ◌+◌, ◌*◌, ◌^◌, ◌<◌, ◌≤◌, length};
-ghost use Rattle.vb_pack.specs.Answers.{Answers, CanAsk, span};
+ghost use Rattle.vb_pack.specs.Asked.{Answers, CanAsk, span};
 ghost use Rattle.vb_pack.specs.Bits.{at, bit_of, bits};
 ghost use Rattle.vb_pack.specs.Digits.{digits, has_bit};
 ghost use Rattle.vb_pack.specs.Words.{filled_up};
@@ -44,12 +44,7 @@ pub fn map_bool_bytes<F: FnMut(usize, bool) -> bool>(
 /// The answers of `f` at the 64 places from `base` on, counted from bit `offset`, with the bit
 /// there.
 #[inline(always)]
-fn map_full<F: FnMut(usize, bool) -> bool>(
-    src: &[u8],
-    offset: usize,
-    base: usize,
-    f: &mut F,
-) -> u64
+fn map_full<F: FnMut(usize, bool) -> bool>(src: &[u8], offset: usize, base: usize, f: &mut F) -> u64
     requires inside { offset + base + 64 ≤ 8 * length src.now }
     requires fits { offset + base + 64 < 2 ^ 64 }
     requires callable { CanAsk (λ p i. F.pre p i (bit_of src.now (offset + i)))

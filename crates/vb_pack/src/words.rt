@@ -1,7 +1,7 @@
 //! The answers of a closure as words of 64 digits.
 ghost use Rattle.std.specs.Prelude.{◌≡◌, ℕ, ◌+◌, ◌-◌, ◌*◌, ◌/◌, ◌%◌, ◌^◌, ◌<◌, ◌≤◌, ◌⊎◌, false};
 ghost use Rattle.std.specs.Prelude.{length};
-ghost use Rattle.vb_pack.specs.Answers.{Answers, CanAsk, span};
+ghost use Rattle.vb_pack.specs.Asked.{Answers, CanAsk, span};
 ghost use Rattle.vb_pack.specs.Digits.{digits};
 ghost use Rattle.vb_pack.specs.Words.{WritesWords, filled_up, word_bit, word_bits};
 

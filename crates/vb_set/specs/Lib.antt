@@ -11,7 +11,7 @@ pub use Rattle.vb_kernel.specs.Writes
 pub use Rattle.vb_mem.specs.Collected
 pub use Rattle.vb_mem.specs.OpenBuffer
 pub use Rattle.vb_mem.specs.SharedBuffer
-pub use Rattle.vb_pack.specs.Answers
+pub use Rattle.vb_pack.specs.Asked
 pub use Rattle.vb_take.specs.Takes
 pub use Rattle.vb_view.specs.MutView
 pub use Rattle.vb_view.specs.View

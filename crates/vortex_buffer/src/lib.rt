@@ -20,12 +20,21 @@ pub use vb_core::{
 };
 pub use vb_kernel::{
     BitOp, Glance, Plain, Tally, bit_select, bit_select_by, bit_select_unset, bit_select_unset_by,
-    copy_bits, count_ones, count_ones_by, fill_bits, get_bit, get_bit_unchecked, last_set_index,
-    map_words, most_looks, read_bits, read_u64_le, set_bit_to, set_bit_unchecked,
+    copy_bits, count_ones, count_ones_by, equal_bits, fill_bits, get_bit, get_bit_unchecked,
+    last_set_index, map_words, most_looks, read_bits, read_u64_le, set_bit_to, set_bit_unchecked,
     unset_bit_unchecked, window_fits, zip_words,
 };
 pub use vb_mem::{Buffer, BufferIterator, BufferMut, ByteBuffer, ByteBufferMut, Iter, Result};
-pub use vb_set::{BitBuffer, BitBufferMut, ToBitBuffer};
+pub use vb_pack::{
+    collect_bool_bytes, collect_bool_word, collect_bool_word_scalar, collect_bool_words,
+    collect_bool_words_multiversioned, map_bool_bytes, pack_bool_word_lanes, pack_bool_word_swar,
+    pack_bools, pack_bools_into_words, pack_truthy, splice_word_at_bit,
+};
+pub use vb_rank::{
+    PlainTable, Probe, Ranked, TallyTable, rank_by, select_by, select_unset_by, table_of,
+};
+pub use vb_set::{BitBuffer, BitBufferMut, ToBitBuffer, TryIntoMut, take_bits};
+pub use vb_take::{set_bits_at, take_into};
 pub use vb_view::{BitBufferMeta, BitBufferMutView, BitBufferView, BitStore};
 pub use vb_walk::{
     BitChunkIterator, BitChunks, BitIndexIterator, BitIterator, BitSliceIterator,

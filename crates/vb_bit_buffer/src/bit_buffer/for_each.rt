@@ -3,7 +3,7 @@ ghost use Rattle.std.specs.Prelude.{Ok, MatchResult};
 ghost use Rattle.std.specs.List.{FoldsTo};
 ghost use Rattle.vb_bit_buffer.specs.Stops.{StopsWith};
 ghost use Rattle.vb_kernel.specs.Bits.{places};
-ghost use Rattle.vb_pack.specs.Answers.{CanAsk};
+ghost use Rattle.vb_pack.specs.Asked.{CanAsk};
 
 use super::BitBuffer;
 use std::alloc::Allocator;

@@ -5,7 +5,7 @@ ghost use Rattle.std.specs.Int.{div_ceil};
 ghost use Rattle.std.specs.Iterator.{IsFiniteIterable};
 ghost use Rattle.vb_bit_bytes.specs.Given.{GivesPast};
 ghost use Rattle.vb_mem.specs.Collected.{OfItems};
-ghost use Rattle.vb_pack.specs.Answers.{Answers, CanAsk, span};
+ghost use Rattle.vb_pack.specs.Asked.{Answers, CanAsk, span};
 
 use super::BitBufferMut;
 use std::alloc::Allocator;
@@ -104,7 +104,7 @@ impl<A: Allocator + Clone> BitBufferMut<A> {
         ensures bytes { IfOk result (λ s. length s.bytes ≡ div_ceil (length s.bits) 8) }
         ensures err { MatchResult result (λ _. ⊤) (λ e. (e ≡ BufferError.OutOfMemory)
             ⊎ ((e ≡ BufferError.TooManyBits)
-                × GivesPast I.into_iter_gives I.IntoIter.next_gives iter)) }
+            × GivesPast I.into_iter_gives I.IntoIter.next_gives iter)) }
     {
         let (bytes, len) = vb_bit_bytes::from_iter(alloc, iter)?;
         Ok(BitBufferMut::from_buffer(bytes, 0, len))

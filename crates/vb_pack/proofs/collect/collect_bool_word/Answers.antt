@@ -1,5 +1,5 @@
 use Rattle.std.proofs.Common.{subst}
-use Rattle.vb_pack.specs.Answers.{CanAsk, span}
+use Rattle.vb_pack.specs.Asked.{CanAsk, span}
 use Rattle.vb_pack.proofs.collect.collect_bool_word.Goals as goal
 
 pub collect_full-requires-clause-callable : goal.collect_full-requires-clause-callable

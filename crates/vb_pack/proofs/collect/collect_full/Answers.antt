@@ -1,7 +1,7 @@
 use Rattle.std.proofs.Common.{arith, of_calls, ◌≡◌, ℕ, ◌+◌, ◌-◌, [], ◌∷◌, ◌++◌, take, set, length-set, subst, refl, sym, ap, ◌∙◌}
 use Rattle.std.proofs.Math.Seq.{take-length}
 use Rattle.std.proofs.lemmas.Grind.{take-set_at}
-use Rattle.vb_pack.specs.Answers.{Answers, span}
+use Rattle.vb_pack.specs.Asked.{Answers, span}
 use Rattle.vb_pack.specs.Digits.{digits}
 use Rattle.vb_pack.proofs.AnswersLemmas.{Answers_none, Answers-push, CanAsk_next, CanAsk_after}
 use Rattle.vb_pack.proofs.collect.collect_full.Goals as goal

@@ -1,5 +1,5 @@
 use Rattle.std.proofs.Common.{◌≡◌, ◌+◌, ◌-◌, take, length}
-use Rattle.vb_pack.specs.Answers.{Answers, CanAsk, span}
+use Rattle.vb_pack.specs.Asked.{Answers, CanAsk, span}
 use Rattle.vb_pack.proofs.collect.collect_full.Given as goal
 
 abbrev pub invariant-loop-i : goal.invariant-loop-i

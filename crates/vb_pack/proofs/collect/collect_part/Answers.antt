@@ -1,7 +1,7 @@
 use Rattle.std.proofs.Common.{arith, of_calls, ◌≡◌, ℕ, ◌+◌, ◌-◌, ◌<◌, subst, lit<}
 use mir.Val.{bool_byte}
 use Rattle.vb_bits.proofs.DigitsLemmas.{digits_none}
-use Rattle.vb_pack.specs.Answers.{Answers, span}
+use Rattle.vb_pack.specs.Asked.{Answers, span}
 use Rattle.vb_pack.specs.Digits.{digits}
 use Rattle.vb_pack.proofs.AnswersLemmas.{Answers_none, Answers-push, CanAsk_next, CanAsk_after}
 use Rattle.vb_pack.proofs.PackedLemmas.{digits_packed, packed_below}

@@ -2,7 +2,7 @@ use Rattle.std.proofs.Common.{arith, ◌≡◌, ℕ, ◌+◌, ◌-◌, ◌*◌, 
 use Rattle.vb_bits.proofs.BitsLemmas.{length-bits, at-bits, bits_none}
 use Rattle.vb_bits.proofs.DigitsLemmas.{length-digits}
 use Rattle.vb_bits.proofs.WritesLemmas.{Writes_none}
-use Rattle.vb_pack.specs.Answers.{Answers, CanAsk, span}
+use Rattle.vb_pack.specs.Asked.{Answers, CanAsk, span}
 use Rattle.vb_pack.specs.Bits.{at, bit_of, bits}
 use Rattle.vb_pack.specs.Digits.{digits}
 use Rattle.vb_pack.specs.Writes.{Writes}

@@ -1,5 +1,5 @@
 use Rattle.std.proofs.Common.{◌+◌, ◌-◌, ◌*◌}
-use Rattle.vb_pack.specs.Answers.{Answers, CanAsk, span}
+use Rattle.vb_pack.specs.Asked.{Answers, CanAsk, span}
 use Rattle.vb_pack.specs.Bits.{bit_of, bits}
 use Rattle.vb_pack.specs.Writes.{Writes}
 use Rattle.vb_pack.proofs.map.map_bool_bytes.Given as goal

@@ -1,7 +1,7 @@
 use Rattle.std.proofs.Common.{arith, of_calls, ◌≡◌, ℕ, ◌+◌, ◌-◌, ◌<◌, subst, sym, ap, ◌∙◌, lit<}
 use mir.Val.{bool_byte}
 use Rattle.vb_bits.proofs.DigitsLemmas.{digits_none}
-use Rattle.vb_pack.specs.Answers.{Answers, span}
+use Rattle.vb_pack.specs.Asked.{Answers, span}
 use Rattle.vb_bits.proofs.ReadLemmas.{has_bit-bits}
 use Rattle.vb_pack.specs.Bits.{bit_of}
 use Rattle.vb_pack.specs.Digits.{digits}

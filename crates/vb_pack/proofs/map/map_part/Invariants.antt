@@ -1,5 +1,5 @@
 use Rattle.std.proofs.Common.{◌+◌, ◌-◌, ◌^◌, ◌<◌}
-use Rattle.vb_pack.specs.Answers.{Answers, CanAsk, span}
+use Rattle.vb_pack.specs.Asked.{Answers, CanAsk, span}
 use Rattle.vb_pack.specs.Bits.{bit_of}
 use Rattle.vb_pack.specs.Digits.{digits}
 use Rattle.vb_pack.proofs.map.map_part.Given as goal

@@ -1,7 +1,7 @@
 use Rattle.std.proofs.Common.{arith, ◌≡◌, ℕ, ◌+◌, ◌-◌, ◌*◌, ◌/◌, ◌%◌, ◌<◌, ◌++◌, false, length, set, replicate, subst, sym, ap, ◌∙◌, zero-add}
 use Rattle.std.proofs.lemmas.List.{append-nil}
 use Rattle.vb_bits.proofs.DigitsLemmas.{length-digits}
-use Rattle.vb_pack.specs.Answers.{Answers, CanAsk, span}
+use Rattle.vb_pack.specs.Asked.{Answers, CanAsk, span}
 use Rattle.vb_pack.specs.Digits.{digits}
 use Rattle.vb_pack.specs.Words.{WritesWords, word_bits}
 use Rattle.vb_pack.proofs.AnswersLemmas.{Answers_none, Answers-add, CanAsk-first, CanAsk-rest}

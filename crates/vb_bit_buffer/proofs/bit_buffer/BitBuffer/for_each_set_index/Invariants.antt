@@ -1,6 +1,6 @@
 use Rattle.std.specs.List.{FoldsTo}
 use Rattle.vb_kernel.specs.Bits.{places}
-use Rattle.vb_pack.specs.Answers.{CanAsk}
+use Rattle.vb_pack.specs.Asked.{CanAsk}
 use Rattle.vb_bit_buffer.proofs.bit_buffer.BitBuffer.for_each_set_index.Given as goal
 
 -- what the calls at the places that are left reach, all calls reach

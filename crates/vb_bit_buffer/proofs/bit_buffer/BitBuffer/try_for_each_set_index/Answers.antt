@@ -1,6 +1,6 @@
 use Rattle.std.proofs.Common.{◌∷◌, [], ◌++◌, Ok, subst, sym, ap, ◌∙◌, append_assoc}
 use Rattle.std.proofs.lemmas.Fn.{FoldsTo-push}
-use Rattle.vb_pack.specs.Answers.{CanAsk}
+use Rattle.vb_pack.specs.Asked.{CanAsk}
 use Rattle.vb_bit_buffer.proofs.bit_buffer.BitBuffer.try_for_each_set_index.Goals as goal
 
 pub loop-i-preserved : goal.loop-i-preserved

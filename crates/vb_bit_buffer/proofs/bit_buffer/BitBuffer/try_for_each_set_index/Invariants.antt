@@ -1,7 +1,7 @@
 use Rattle.std.proofs.Common.{◌≡◌, ◌++◌, Ok}
 use Rattle.std.specs.List.{FoldsTo}
 use Rattle.vb_kernel.specs.Bits.{places}
-use Rattle.vb_pack.specs.Answers.{CanAsk}
+use Rattle.vb_pack.specs.Asked.{CanAsk}
 use Rattle.vb_bit_buffer.proofs.bit_buffer.BitBuffer.try_for_each_set_index.Given as goal
 
 abbrev pub invariant-loop-i : goal.invariant-loop-i
