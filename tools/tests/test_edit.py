@@ -25,6 +25,11 @@ class Edits(unittest.TestCase):
         edit = parsed("e", "file: src/lib.rt\nold: fn two() -> u8 {\nnew: fn two() -> u8 { return 7;\n")
         self.assertEqual(placed(edit, TEXTS).title, "two")
 
+    def test_methods_of_a_type_and_of_a_reference_to_it_are_told_apart(self):
+        text = "impl Not for Set {\n    fn not(self) {\n        1\n    }\n}\nimpl Not for &Set {\n    fn not(self) {\n        2\n    }\n}\n"
+        edit = parsed("e", "file: src/lib.rt\nold:         2\nnew:         3\n")
+        self.assertEqual(placed(edit, {"src/lib.rt": text}).block.name, "RefSetNot")
+
     def test_an_edit_of_many_changes_is_of_the_function_as_it_stands(self):
         one = parsed("e", "file: src/lib.rt\nin: two\nold: 1 + 1\nnew: 1 + 1 + 1 + 1\nold: + 1 + 1 + 1\nnew: + 5\n")
         other = parsed("e", "file: src/lib.rt\nin: two\nold: 1 + 1\nnew: 3\n")

@@ -100,13 +100,13 @@ def placed(edit: Edit, texts: dict[str, str]) -> Function:
         holders = [f for f in functions(it.file, made[it.file]) if f.body < begin and end <= f.end]
         if not holders:
             raise BadEdit(f"'{it.old.strip()[:60]}' stands in no function's body")
-        found.add((it.file, holders[0].title))
+        found.add((it.file, holders[0].key))
         made = applied([it], made)
     if len(found) != 1:
         raise BadEdit(f"it changes {len(found)} functions, and not one")
     # As it stands before the changes, since it is compared with the functions of other edits.
-    [(file, title)] = found
-    return next(f for f in functions(file, texts[file]) if f.title == title)
+    [(file, key)] = found
+    return next(f for f in functions(file, texts[file]) if f.key == key)
 
 
 def read_all(crate: Path) -> tuple[list[Edit], list[tuple[str, str]]]:

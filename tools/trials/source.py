@@ -51,6 +51,12 @@ class Function:
         of = f"{trait} for {self.block.owner}" if trait else self.block.owner
         return f"{of}::{self.name}"
 
+    @property
+    def key(self) -> tuple[str, str]:
+        """What tells it from all others of its file, also from those with its title: a method of a
+        type and the same of a reference to it."""
+        return self.title, self.block.name if self.block else ""
+
 
 def masked(text: str) -> str:
     """The text with blanks in place of comments, strings and characters."""
