@@ -5,7 +5,7 @@ use Rattle.std.proofs.lemmas.Bool.{cases_lt, cases_eq}
 use Rattle.vb_bits.specs.Digits.{has_bit, digits}
 use Rattle.vb_bits.proofs.DigitsLemmas.{length-digits, at-digits, has_bit-or}
 use Rattle.vb_bits.proofs.ShiftLemmas.{has_bit_shr, shl_low, shl_high, bit_at_cut}
-use Rattle.vb_pack.specs.Words.{word_bit, WritesWords}
+use Rattle.vb_pack.specs.WordBits.{word_bit, WritesWords}
 use Rattle.vb_pack.proofs.WordsLemmas.{has_bit_above, WritesWords_by_digits}
 
 -- the digits of a number that is shifted up within a word

@@ -7,7 +7,7 @@ use Rattle.std.proofs.lemmas.Nat.Bits.{bit_at_above}
 use Rattle.vb_bits.specs.Digits.{has_bit, digits}
 use Rattle.vb_bits.proofs.RangeLemmas.{map-range_with_len-add, same_map-range_with_len}
 use Rattle.vb_bits.proofs.DigitsLemmas.{length-digits, at-digits, digits-add}
-use Rattle.vb_pack.specs.Words.{word_bit, word_bits, WritesWords}
+use Rattle.vb_pack.specs.WordBits.{word_bit, word_bits, WritesWords}
 
 -- as many digits as asked for
 pub length-word_bits : (w : List ℕ) (o n : ℕ) → length (word_bits w o n) ≡ n

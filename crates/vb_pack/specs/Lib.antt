@@ -1,5 +1,5 @@
 pub mod Asked
-pub mod Words
+pub mod WordBits
 pub use Rattle.vb_bits.specs.Bits
 pub use Rattle.vb_bits.specs.Digits
 pub use Rattle.vb_bits.specs.Writes

@@ -3,7 +3,7 @@ ghost use Rattle.std.specs.Prelude.{◌≡◌, ◌+◌, ◌*◌, ◌≤◌, ◌=
 ghost use Rattle.vb_pack.specs.Asked.{Answers, CanAsk, span};
 ghost use Rattle.vb_pack.specs.Bits.{bits};
 ghost use Rattle.vb_pack.specs.Digits.{digits};
-ghost use Rattle.vb_pack.specs.Words.{filled_up};
+ghost use Rattle.vb_pack.specs.WordBits.{filled_up};
 ghost use Rattle.vb_pack.specs.Writes.{Writes};
 
 use crate::collect::{collect_full, collect_part};

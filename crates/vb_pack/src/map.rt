@@ -3,7 +3,7 @@ ghost use Rattle.std.specs.Prelude.{◌≡◌, ◌+◌, ◌*◌, ◌^◌, ◌<�
 ghost use Rattle.vb_pack.specs.Asked.{Answers, CanAsk, span};
 ghost use Rattle.vb_pack.specs.Bits.{at, bit_of, bits};
 ghost use Rattle.vb_pack.specs.Digits.{digits, has_bit};
-ghost use Rattle.vb_pack.specs.Words.{filled_up};
+ghost use Rattle.vb_pack.specs.WordBits.{filled_up};
 ghost use Rattle.vb_pack.specs.Writes.{Writes};
 
 use crate::bytes::write_front;

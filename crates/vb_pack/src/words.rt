@@ -3,7 +3,7 @@ ghost use Rattle.std.specs.Prelude.{◌≡◌, ℕ, ◌+◌, ◌-◌, ◌*◌, �
 ghost use Rattle.std.specs.Prelude.{length};
 ghost use Rattle.vb_pack.specs.Asked.{Answers, CanAsk, span};
 ghost use Rattle.vb_pack.specs.Digits.{digits};
-ghost use Rattle.vb_pack.specs.Words.{WritesWords, filled_up, word_bit, word_bits};
+ghost use Rattle.vb_pack.specs.WordBits.{WritesWords, filled_up, word_bit, word_bits};
 
 use crate::collect::{collect_full, collect_part};
 use crate::pack::{Lanes, Multiply, Pack};

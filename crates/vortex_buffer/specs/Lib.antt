@@ -23,7 +23,7 @@ pub use Rattle.vb_mem.specs.Loans
 pub use Rattle.vb_mem.specs.OpenBuffer
 pub use Rattle.vb_mem.specs.SharedBuffer
 pub use Rattle.vb_pack.specs.Asked
-pub use Rattle.vb_pack.specs.Words
+pub use Rattle.vb_pack.specs.WordBits
 pub use Rattle.vb_rank.specs.Tables
 pub use Rattle.vb_set.specs.Lends
 pub use Rattle.vb_set.specs.OpenSet

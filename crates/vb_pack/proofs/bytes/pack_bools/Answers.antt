@@ -1,5 +1,5 @@
 use Rattle.std.proofs.Common.{rules, arith, ◌≡◌, ◌<◌, false, length, get_or, subst, refl, ap, ◌∙◌}
-use Rattle.vb_pack.specs.Words.{filled_up}
+use Rattle.vb_pack.specs.WordBits.{filled_up}
 use Rattle.vb_pack.specs.Writes.{Writes}
 use Rattle.vb_pack.proofs.AnswersLemmas.{Answers-from, CanAsk-from, map-span}
 use Rattle.vb_pack.proofs.bytes.pack_bools.Goals as goal

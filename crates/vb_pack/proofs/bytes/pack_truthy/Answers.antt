@@ -1,6 +1,6 @@
 use Rattle.std.proofs.Common.{rules, arith, ◌≡◌, ◌<◌, ◌==◌, not, false, length, map, get_or, subst, refl, sym, ap, ◌∙◌}
 use Rattle.std.proofs.lemmas.List.{length-map, get_or-map}
-use Rattle.vb_pack.specs.Words.{filled_up}
+use Rattle.vb_pack.specs.WordBits.{filled_up}
 use Rattle.vb_pack.specs.Writes.{Writes}
 use Rattle.vb_pack.proofs.AnswersLemmas.{Answers-from, CanAsk-from, map-span}
 use Rattle.vb_pack.proofs.bytes.pack_truthy.Goals as goal

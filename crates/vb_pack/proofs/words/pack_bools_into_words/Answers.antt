@@ -4,7 +4,7 @@ use Rattle.std.proofs.Math.Pow.{pow_mono}
 use Rattle.vb_bits.proofs.DigitsLemmas.{length-digits}
 use Rattle.vb_pack.specs.Asked.{Answers, CanAsk, span}
 use Rattle.vb_pack.specs.Digits.{digits}
-use Rattle.vb_pack.specs.Words.{WritesWords, word_bits}
+use Rattle.vb_pack.specs.WordBits.{WritesWords, word_bits}
 use Rattle.vb_pack.proofs.AnswersLemmas.{Answers_none, Answers-add, CanAsk-first, CanAsk-rest}
 use Rattle.vb_pack.proofs.WordsLemmas.{length-word_bits, word_bits_none, WritesWords_none, WritesWords-more, WritesWords-ended, WritesWords-less}
 use Rattle.vb_pack.proofs.words.pack_bools_into_words.Goals as goal

@@ -1,6 +1,6 @@
 use Rattle.std.proofs.Common.{◌-◌, ◌*◌}
 use Rattle.vb_pack.specs.Asked.{Answers, CanAsk, span}
-use Rattle.vb_pack.specs.Words.{WritesWords, word_bits}
+use Rattle.vb_pack.specs.WordBits.{WritesWords, word_bits}
 use Rattle.vb_pack.proofs.words.pack_bools_into_words.Given as goal
 
 abbrev pub invariant-loop-k : goal.invariant-loop-k
