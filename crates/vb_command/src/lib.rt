@@ -14,8 +14,6 @@ mod line;
 mod mode;
 mod number;
 mod numbers;
-#[cfg(test)]
-mod tests;
 mod truth;
 mod unread;
 mod words;

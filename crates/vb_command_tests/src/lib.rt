@@ -1,0 +1,7 @@
+//! Tests of commands: what answers look like, and which lines can be read.
+#![tactic(auto)]
+
+#[cfg(test)]
+mod answers;
+#[cfg(test)]
+mod lines;
