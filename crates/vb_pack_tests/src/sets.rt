@@ -1,0 +1,73 @@
+//! Worked rows of sets.
+use crate::compared::{equal, shows};
+use std::test::Fail;
+use vb_set::{BitBuffer, BitBufferMut};
+
+#[test]
+fn truthy(rt: HostRuntime) -> Result<(), Fail> {
+    let set = BitBufferMut::from_truthy(rt.alloc(), &[0, 1, 2, 255])?;
+    assert_eq!(rt; set.len(), 4);
+    assert_eq!(rt; set.as_slice(), [0b1110].as_slice());
+    Ok(())
+}
+
+#[test]
+fn bools(rt: HostRuntime) -> Result<(), Fail> {
+    let set = BitBufferMut::from_bools(rt.alloc(), &[true, false, true])?;
+    assert_eq!(rt; set.as_slice(), [0b101].as_slice());
+    let set = BitBuffer::from_bools(rt.alloc(), &[true, false, true])?;
+    assert_eq!(rt; set.inner().as_slice(), [0b101].as_slice());
+    let mut bools = Vec::new(rt.alloc());
+    bools.push(true)?;
+    bools.push(true)?;
+    let set = BitBufferMut::from_bool_vec(rt.alloc(), bools.clone()?)?;
+    assert_eq!(rt; set.as_slice(), [0b11].as_slice());
+    let set = BitBuffer::from_bool_vec(rt.alloc(), bools)?;
+    assert_eq!(rt; set.inner().as_slice(), [0b11].as_slice());
+    Ok(())
+}
+
+#[test]
+#[tactic(auto, using(vb_pack::proofs::AnswersLemmas::CanAsk_always))]
+fn thirds_sliced(rt: HostRuntime) -> Result<(), Fail> {
+    let set = BitBuffer::collect_bool(rt.alloc(), 20, &mut |i| i % 3 == 0)?;
+    assert_eq!(rt; set.inner().as_slice(), [0x49, 0x92, 0x04].as_slice());
+    shows(&rt, &set.slice(5..17)?, "010010010010");
+    Ok(())
+}
+
+#[test]
+#[tactic(auto, using(vb_pack::proofs::AnswersLemmas::CanAsk_always))]
+fn a_closure_that_changes(rt: HostRuntime) -> Result<(), Fail> {
+    let mut asked = 0u32;
+    let set = BitBufferMut::collect_bool_multiversioned(
+        rt.alloc(),
+        130,
+        &mut |_| {
+            asked = asked.wrapping_add(1);
+            asked % 2 == 1
+        },
+    )?;
+    equal(&rt, asked, 130);
+    equal(&rt, set.len(), 130);
+    equal(
+        &rt,
+        set.as_view().set_indices().eq((0..65).map(|i| 2 * i)),
+        true,
+    );
+    Ok(())
+}
+
+#[test]
+fn no_size_hint_is_relied_on(rt: HostRuntime) -> Result<(), Fail> {
+    let three = (0..usize::MAX).take_while(|number| *number < 3);
+    equal(&rt, three.size_hint(), (0, Some(usize::MAX)));
+    let set = BitBufferMut::from_iter(rt.alloc(), three.map(|number| number == 1))?;
+    shows(&rt, &set.freeze()?, "010");
+    let thousand = (0u32..).take_while(|number| *number < 1000);
+    equal(&rt, thousand.size_hint(), (0, None));
+    let set = BitBuffer::from_iter(rt.alloc(), thousand.map(|number| number % 2 == 0))?;
+    equal(&rt, set.len(), 1000);
+    equal(&rt, set.true_count(), 500);
+    Ok(())
+}
