@@ -6,7 +6,7 @@ use Rattle.vb_pack.specs.Digits.{has_bit}
 use Rattle.vb_pack.specs.WordBits.{word_bit}
 use Rattle.vb_pack_tests.proofs.kernels.words_from_a_digit_on.Goals as goal
 
-words : List ℕ
+abbrev words : List ℕ
 words = 31 ∷ 0 ∷ []
 
 none_behind : (k : ℕ) → slice_index words (suc k) ≡ 0
@@ -25,4 +25,4 @@ clear_from i h = elim (cases_lt i 64) [
 ]
 
 pub pack_bools_into_words-requires-clause-clear : goal.pack_bools_into_words-requires-clause-clear
-pack_bools_into_words-requires-clause-clear c = clear_from
+pack_bools_into_words-requires-clause-clear g c = clear_from
