@@ -209,6 +209,118 @@ static void writes(const uint8_t *bytes, const uint8_t *other, size_t offset, si
         "vb_try_negate_bits");
 }
 
+/* Packs of the bytes: `other` is what stood in the memory before. */
+static void packs(const uint8_t *bytes, const uint8_t *other)
+{
+    uint8_t wanted[BYTES], got[BYTES];
+    bool bools[BYTES];
+    const size_t n = random_below(BYTES + 1);
+    memcpy(wanted, other, BYTES);
+    memset(wanted, 0, (n + 7) / 8);
+    for (size_t i = 0; i < n; i++) {
+        bools[i] = bytes[i] != 0;
+        put(wanted, i, bools[i]);
+    }
+    memcpy(got, other, BYTES);
+    vb_pack_bools(got, BYTES, bools, n);
+    check(memcmp(got, wanted, BYTES) == 0, "vb_pack_bools");
+    memcpy(got, other, BYTES);
+    check(vb_try_pack_bools(got, BYTES, bools, n) && memcmp(got, wanted, BYTES) == 0,
+        "vb_try_pack_bools");
+    memcpy(got, other, BYTES);
+    vb_pack_truthy(got, BYTES, bytes, n);
+    check(memcmp(got, wanted, BYTES) == 0, "vb_pack_truthy");
+    memcpy(got, other, BYTES);
+    check(vb_try_pack_truthy(got, BYTES, bytes, n) && memcmp(got, wanted, BYTES) == 0,
+        "vb_try_pack_truthy");
+    /* One value more than there is room for. */
+    memcpy(got, other, BYTES);
+    check(!vb_try_pack_bools(got, 1, bools, 9) && !vb_try_pack_truthy(got, 1, bytes, 9)
+            && memcmp(got, other, BYTES) == 0, "a pack without room left all as it was");
+    check(vb_try_pack_truthy(got, 1, bytes, 8), "a pack that has room");
+}
+
+enum { INDICES = 200 };
+
+/*
+ * Takes of random indices, of which in half of the rounds some are past the window; `valid` is the
+ * window of validity from bit v on, or null.
+ */
+static void takes(const uint8_t *bytes, size_t offset, size_t len, const uint8_t *valid, size_t v)
+{
+    uint32_t narrow[INDICES];
+    uint64_t wide[INDICES];
+    uint8_t got[BYTES], rest[BYTES];
+    const size_t n = len == 0 ? 0 : random_below(INDICES + 1);
+    const size_t most = len + random_below(2);
+    size_t past = n;
+    for (size_t p = n; p-- > 0;) {
+        narrow[p] = (uint32_t)random_below(most);
+        wide[p] = narrow[p];
+        if (narrow[p] >= len && (valid == NULL || bit(valid, v + p))) {
+            past = p;
+        }
+    }
+    for (size_t kind = 0; kind < 4; kind++) {
+        vb_place place = {true, 77};
+        memset(got, 0xA5, BYTES);
+        memset(rest, 0xA5, BYTES);
+        if (valid == NULL) {
+            switch (kind) {
+            case 0: place = vb_take_u32(got, BYTES, bytes, BYTES, offset, len, narrow, n); break;
+            case 1: place = vb_take_u64(got, BYTES, bytes, BYTES, offset, len, wide, n); break;
+            case 2: check(vb_try_take_u32(got, BYTES, bytes, BYTES, offset, len, narrow, n, &place),
+                        "vb_try_take_u32"); break;
+            default: check(vb_try_take_u64(got, BYTES, bytes, BYTES, offset, len, wide, n, &place),
+                        "vb_try_take_u64");
+            }
+        } else {
+            switch (kind) {
+            case 0: place = vb_take_valid_u32(got, BYTES, bytes, BYTES, offset, len, narrow, n,
+                        valid, BYTES, v); break;
+            case 1: place = vb_take_valid_u64(got, BYTES, bytes, BYTES, offset, len, wide, n,
+                        valid, BYTES, v); break;
+            case 2: check(vb_try_take_valid_u32(got, BYTES, bytes, BYTES, offset, len, narrow, n,
+                        valid, BYTES, v, &place), "vb_try_take_valid_u32"); break;
+            default: check(vb_try_take_valid_u64(got, BYTES, bytes, BYTES, offset, len, wide, n,
+                        valid, BYTES, v, &place), "vb_try_take_valid_u64");
+            }
+        }
+        check(is_place(place, past, n), "the first position past the window");
+        for (size_t p = 0; p < n; p++) {
+            const bool counts = valid == NULL || bit(valid, v + p);
+            if (past == n) {
+                check(bit(got, p) == (counts && bit(bytes, offset + wide[p])), "a bit that is taken");
+            }
+            put(got, p, bit(rest, p));
+        }
+        check(memcmp(got, rest, BYTES) == 0, "bits behind those that are taken");
+    }
+}
+
+/* Takes whose windows don't fit, or whose bits have no room. */
+static void bad_takes(const uint8_t *bytes, size_t offset, size_t len)
+{
+    const uint32_t narrow[9] = {0};
+    const uint64_t wide[9] = {0};
+    uint8_t got[2] = {0x5A, 0x5A};
+    vb_place place = {true, 9};
+    check(!vb_try_take_u32(got, 2, bytes, BYTES, offset, len, narrow, 0, &place), "a bad window");
+    check(!vb_try_take_u64(got, 2, bytes, BYTES, offset, len, wide, 0, &place), "a bad window");
+    check(!vb_try_take_valid_u32(got, 2, bytes, BYTES, offset, len, narrow, 0, bytes, BYTES, 0,
+        &place), "a bad window");
+    check(!vb_try_take_valid_u64(got, 2, bytes, BYTES, offset, len, wide, 0, bytes, BYTES, 0,
+        &place), "a bad window");
+    check(!vb_try_take_u32(got, 1, bytes, BYTES, 0, 9, narrow, 9, &place), "no room");
+    check(!vb_try_take_u64(got, 1, bytes, BYTES, 0, 9, wide, 9, &place), "no room");
+    check(!vb_try_take_valid_u32(got, 2, bytes, BYTES, 0, 9, narrow, 9, bytes, 1, 0, &place),
+        "a bad validity");
+    check(!vb_try_take_valid_u64(got, 2, bytes, BYTES, 0, 9, wide, 9, bytes, BYTES, BITS - 8, &place),
+        "a bad validity");
+    check(got[0] == 0x5A && got[1] == 0x5A && place.found && place.index == 9,
+        "a refused take left all as it was");
+}
+
 /* Windows of BYTES bytes that don't fit: past the end by a bit or by much, and past SIZE_MAX. */
 static const size_t bad[][2] = {
     {0, BITS + 1}, {1, BITS}, {BITS, 1}, {BITS + 1, 0}, {SIZE_MAX, 1}, {1, SIZE_MAX},
@@ -242,6 +354,7 @@ static void refusals(const uint8_t *bytes)
         check(number == 77 && flag && place.found && place.index == 9 && places[0] == 5
                 && runs[0].start == 3 && runs[0].end == 4 && memcmp(got, bytes, BYTES) == 0,
             "a refused call left all as it was");
+        bad_takes(bytes, offset, len);
     }
     bool flag = true;
     memcpy(got, bytes, BYTES);
@@ -276,6 +389,9 @@ int main(void)
         questions(bytes, offset, len);
         walks(bytes, offset, len);
         writes(bytes, other, offset, len);
+        packs(bytes, other);
+        takes(bytes, offset, len, NULL, 0);
+        takes(bytes, offset, len, other, random_below(BITS - INDICES + 1));
     }
     refusals(bytes);
     nothing();

@@ -144,6 +144,49 @@ void vb_and_not_bits(uint8_t *dst, size_t dst_size, size_t d, const uint8_t *src
 bool vb_try_and_not_bits(uint8_t *dst, size_t dst_size, size_t d, const uint8_t *src,
         size_t src_size, size_t s, size_t len);
 
+/*
+ * Packs n truth values into the first bytes of `out`, eight into each; the bits of the last one
+ * behind them are false, and later bytes stay. `out` has room for n bits. 64 values make a word.
+ */
+void vb_pack_bools(uint8_t *out, size_t out_size, const bool *bools, size_t n);
+bool vb_try_pack_bools(uint8_t *out, size_t out_size, const bool *bools, size_t n);
+
+/* The same of bytes, each of which is true where it is not 0. */
+void vb_pack_truthy(uint8_t *out, size_t out_size, const uint8_t *truthy, size_t n);
+bool vb_try_pack_truthy(uint8_t *out, size_t out_size, const uint8_t *truthy, size_t n);
+
+/*
+ * Writes the bits that n indices name among the bits of the window to the first n bits of `out`,
+ * which has room for them, and answers no place; or answers the first position whose index is not
+ * below `len`. The bits of `out` behind the first n stay; where a position is answered, the first
+ * n are open. The checked forms answer that in `past`. 64 indices go at a time.
+ */
+vb_place vb_take_u32(uint8_t *out, size_t out_size, const uint8_t *bytes, size_t size,
+        size_t offset, size_t len, const uint32_t *indices, size_t n);
+bool vb_try_take_u32(uint8_t *out, size_t out_size, const uint8_t *bytes, size_t size,
+        size_t offset, size_t len, const uint32_t *indices, size_t n, vb_place *past);
+vb_place vb_take_u64(uint8_t *out, size_t out_size, const uint8_t *bytes, size_t size,
+        size_t offset, size_t len, const uint64_t *indices, size_t n);
+bool vb_try_take_u64(uint8_t *out, size_t out_size, const uint8_t *bytes, size_t size,
+        size_t offset, size_t len, const uint64_t *indices, size_t n, vb_place *past);
+
+/*
+ * The same where a position counts only if the bit of `validity` from bit v on is true there: at
+ * the others false is written, and their indices are not looked at.
+ */
+vb_place vb_take_valid_u32(uint8_t *out, size_t out_size, const uint8_t *bytes, size_t size,
+        size_t offset, size_t len, const uint32_t *indices, size_t n, const uint8_t *validity,
+        size_t validity_size, size_t v);
+bool vb_try_take_valid_u32(uint8_t *out, size_t out_size, const uint8_t *bytes, size_t size,
+        size_t offset, size_t len, const uint32_t *indices, size_t n, const uint8_t *validity,
+        size_t validity_size, size_t v, vb_place *past);
+vb_place vb_take_valid_u64(uint8_t *out, size_t out_size, const uint8_t *bytes, size_t size,
+        size_t offset, size_t len, const uint64_t *indices, size_t n, const uint8_t *validity,
+        size_t validity_size, size_t v);
+bool vb_try_take_valid_u64(uint8_t *out, size_t out_size, const uint8_t *bytes, size_t size,
+        size_t offset, size_t len, const uint64_t *indices, size_t n, const uint8_t *validity,
+        size_t validity_size, size_t v, vb_place *past);
+
 #ifdef __cplusplus
 }
 #endif

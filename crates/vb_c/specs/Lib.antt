@@ -1,7 +1,10 @@
 pub mod Filled
 pub mod Fits
 pub mod Place
+pub mod Taken
 pub use Rattle.vb_kernel.specs.Bits
 pub use Rattle.vb_kernel.specs.Operators
 pub use Rattle.vb_kernel.specs.Runs
 pub use Rattle.vb_kernel.specs.Writes
+pub use Rattle.vb_pack.specs.WordBits
+pub use Rattle.vb_take.specs.Takes

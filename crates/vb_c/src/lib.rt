@@ -15,8 +15,10 @@ mod bit;
 mod combine;
 mod count;
 mod equal;
+mod pack;
 mod place;
 mod select;
+mod take;
 mod walk;
 mod write;
 
@@ -27,10 +29,15 @@ pub use combine::{
 };
 pub use count::{vb_count_ones, vb_try_count_ones};
 pub use equal::{vb_equal_bits, vb_try_equal_bits};
+pub use pack::{vb_pack_bools, vb_pack_truthy, vb_try_pack_bools, vb_try_pack_truthy};
 pub use place::Place;
 pub use select::{
     vb_bit_select, vb_bit_select_unset, vb_last_set_index, vb_try_bit_select,
     vb_try_bit_select_unset, vb_try_last_set_index,
+};
+pub use take::{
+    vb_take_u32, vb_take_u64, vb_take_valid_u32, vb_take_valid_u64, vb_try_take_u32,
+    vb_try_take_u64, vb_try_take_valid_u32, vb_try_take_valid_u64,
 };
 pub use walk::{Run, vb_set_indices, vb_set_slices, vb_try_set_indices, vb_try_set_slices};
 pub use write::{

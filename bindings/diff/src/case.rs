@@ -1,0 +1,86 @@
+//! Two windows of one length over bytes of their own, and what else the calls ask.
+
+use crate::random::Random;
+
+#[derive(Debug)]
+pub struct Case {
+    pub left: Vec<u8>,
+    pub l: usize,
+    pub right: Vec<u8>,
+    pub r: usize,
+    pub len: usize,
+    /// Which true or false bit is looked for, and how many items an answer has room for.
+    pub n: usize,
+    pub value: bool,
+}
+
+/// Bytes with some `len` bits behind bit `offset`, and up to three bytes more. Of four cases one
+/// has few true bits, one few false ones, and one has long runs.
+fn bytes(random: &mut Random, offset: usize, len: usize) -> Vec<u8> {
+    let size = (offset + len).div_ceil(8) + random.below(4);
+    let kind = random.below(4);
+    let mut run = 0;
+    (0..size)
+        .map(|_| {
+            let few = random.next() & random.next() & random.next() & random.next();
+            if random.below(20) == 0 {
+                run = random.next() & 1;
+            }
+            match kind {
+                0 => few as u8,
+                1 => !few as u8,
+                2 => (0 - run as i64) as u8,
+                _ => random.next() as u8,
+            }
+        })
+        .collect()
+}
+
+impl Case {
+    /// Most are short; of a hundred one has some ten thousand bits.
+    pub fn new(random: &mut Random, number: u64) -> Case {
+        let most = match number % 100 {
+            0 => 70_000,
+            1..20 => 3_000,
+            _ => 300,
+        };
+        let len = random.below(most);
+        let l = random.below(30);
+        let r = random.below(30);
+        let left = bytes(random, l, len);
+        let mut right = bytes(random, r, len);
+        // Of three cases one compares equal windows, and one windows with one different bit.
+        let alike = random.below(3);
+        if alike > 0 {
+            for i in 0..len {
+                put(&mut right, r + i, bit(&left, l + i));
+            }
+        }
+        if alike == 2 && len > 0 {
+            let at = random.below(len);
+            put(&mut right, r + at, !bit(&left, l + at));
+        }
+        Case {
+            left,
+            l,
+            right,
+            r,
+            len,
+            n: random.below(len + 2),
+            value: random.below(2) == 0,
+        }
+    }
+}
+
+pub fn bit(bytes: &[u8], i: usize) -> bool {
+    bytes[i / 8] >> (i % 8) & 1 == 1
+}
+
+pub fn put(bytes: &mut [u8], i: usize, value: bool) {
+    let digit = 1 << (i % 8);
+    if value {
+        bytes[i / 8] |= digit;
+    } else {
+        bytes[i / 8] &= !digit;
+    }
+}

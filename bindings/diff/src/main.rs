@@ -1,0 +1,69 @@
+//! Random calls of `vb_bits`, whose answers are compared with loops over single bits, and with
+//! those of vortex-buffer where it is built with it.
+//!
+//!     diff [CALLS [SEED]]
+//!
+//! CALLS is how many calls are made at each level of the processor, two million unless it is said.
+
+mod ask;
+mod case;
+mod gather;
+mod plain;
+mod random;
+#[cfg(feature = "upstream")]
+mod upstream;
+mod write;
+
+use std::env;
+use std::process::ExitCode;
+
+use case::Case;
+use random::Random;
+use vb_bits::Level;
+
+/// The number that the command line has at this place.
+fn number(place: usize, otherwise: u64) -> Result<u64, String> {
+    match env::args().nth(place) {
+        Some(word) => word.parse().map_err(|_| format!("{word} is no number")),
+        None => Ok(otherwise),
+    }
+}
+
+fn compare(case: &Case, random: &mut Random) -> Result<u64, String> {
+    let calls = ask::compare(case)? + write::compare(case)? + gather::compare(case, random)?;
+    #[cfg(feature = "upstream")]
+    let calls = calls + upstream::compare(case)?;
+    Ok(calls)
+}
+
+fn run() -> Result<(), String> {
+    let wanted = number(1, 2_000_000)?;
+    let seed = number(2, 88_172_645_463_325_252)?;
+    for level in Level::ALL {
+        if !level.make_current() {
+            println!("{level:?}: skipped, the processor doesn't have it");
+            continue;
+        }
+        let mut random = Random::new(seed);
+        let mut calls = 0;
+        let mut cases = 0;
+        while calls < wanted {
+            let case = Case::new(&mut random, cases);
+            calls += compare(&case, &mut random)
+                .map_err(|wrong| format!("{level:?}: {wrong}\n{case:?}"))?;
+            cases += 1;
+        }
+        println!("{level:?}: {calls} calls in {cases} cases agree");
+    }
+    Ok(())
+}
+
+fn main() -> ExitCode {
+    match run() {
+        Ok(()) => ExitCode::SUCCESS,
+        Err(wrong) => {
+            eprintln!("{wrong}");
+            ExitCode::FAILURE
+        }
+    }
+}

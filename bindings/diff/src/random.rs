@@ -1,0 +1,22 @@
+//! Numbers that look random, the same for the same seed (Marsaglia's xorshift of 64 bits).
+
+pub struct Random(u64);
+
+impl Random {
+    /// Of seed 0 as of seed 1, since 0 gives 0 for ever.
+    pub fn new(seed: u64) -> Random {
+        Random(seed.max(1))
+    }
+
+    pub fn next(&mut self) -> u64 {
+        self.0 ^= self.0 << 13;
+        self.0 ^= self.0 >> 7;
+        self.0 ^= self.0 << 17;
+        self.0
+    }
+
+    /// Below `n`, which isn't 0.
+    pub fn below(&mut self, n: usize) -> usize {
+        (self.next() % n as u64) as usize
+    }
+}

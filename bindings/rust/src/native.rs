@@ -1,0 +1,83 @@
+//! The C functions of the archives, a table for each processor level.
+//!
+//! Safety, of each function: a pointer is followed by the number of items that it points to, and
+//! isn't null; they may be read, and written where it is `*mut`; nothing else writes them during
+//! the call. Windows end within their bytes, and at a `usize`. The processor has the level.
+
+use crate::Run;
+
+/// The place of a bit: `index` says something only where `found` is true.
+#[repr(C)]
+#[derive(Clone, Copy)]
+pub struct Place {
+    found: bool,
+    index: usize,
+}
+
+impl From<Place> for Option<usize> {
+    fn from(place: Place) -> Option<usize> {
+        place.found.then_some(place.index)
+    }
+}
+
+macro_rules! kernels {
+    (@level $table:ident $prefix:literal
+        $($name:ident($($arg:ident: $kind:ty),*) $(-> $result:ty)?;)*) => {
+        pub static $table: Kernels = {
+            unsafe extern "C" {
+                $(
+                    #[link_name = concat!($prefix, stringify!($name))]
+                    fn $name($($arg: $kind),*) $(-> $result)?;
+                )*
+            }
+            Kernels { $($name),* }
+        };
+    };
+    ($($name:ident($($arg:ident: $kind:ty),*) $(-> $result:ty)?;)*) => {
+        /// The functions of one level.
+        pub struct Kernels {
+            $(pub $name: unsafe extern "C" fn($($arg: $kind),*) $(-> $result)?,)*
+        }
+
+        kernels!(@level V2 "vb_v2_" $($name($($arg: $kind),*) $(-> $result)?;)*);
+        kernels!(@level V3 "vb_v3_" $($name($($arg: $kind),*) $(-> $result)?;)*);
+    };
+}
+
+kernels! {
+    get_bit(bytes: *const u8, size: usize, i: usize) -> bool;
+    count_ones(bytes: *const u8, size: usize, offset: usize, len: usize) -> usize;
+    bit_select(bytes: *const u8, size: usize, offset: usize, len: usize, n: usize) -> Place;
+    bit_select_unset(bytes: *const u8, size: usize, offset: usize, len: usize, n: usize) -> Place;
+    last_set_index(bytes: *const u8, size: usize, offset: usize, len: usize) -> Place;
+    equal_bits(left: *const u8, left_size: usize, l: usize,
+        right: *const u8, right_size: usize, r: usize, len: usize) -> bool;
+    set_indices(bytes: *const u8, size: usize, offset: usize, len: usize,
+        out: *mut usize, room: usize) -> usize;
+    set_slices(bytes: *const u8, size: usize, offset: usize, len: usize,
+        out: *mut Run, room: usize) -> usize;
+    fill_bits(bytes: *mut u8, size: usize, start: usize, end: usize, value: bool);
+    negate_bits(bytes: *mut u8, size: usize, offset: usize, len: usize);
+    copy_bits(dst: *mut u8, dst_size: usize, d: usize,
+        src: *const u8, src_size: usize, s: usize, len: usize);
+    and_bits(dst: *mut u8, dst_size: usize, d: usize,
+        src: *const u8, src_size: usize, s: usize, len: usize);
+    or_bits(dst: *mut u8, dst_size: usize, d: usize,
+        src: *const u8, src_size: usize, s: usize, len: usize);
+    xor_bits(dst: *mut u8, dst_size: usize, d: usize,
+        src: *const u8, src_size: usize, s: usize, len: usize);
+    and_not_bits(dst: *mut u8, dst_size: usize, d: usize,
+        src: *const u8, src_size: usize, s: usize, len: usize);
+    pack_bools(out: *mut u8, out_size: usize, bools: *const bool, n: usize);
+    pack_truthy(out: *mut u8, out_size: usize, truthy: *const u8, n: usize);
+    take_u32(out: *mut u8, out_size: usize, bytes: *const u8, size: usize, offset: usize,
+        len: usize, indices: *const u32, n: usize) -> Place;
+    take_u64(out: *mut u8, out_size: usize, bytes: *const u8, size: usize, offset: usize,
+        len: usize, indices: *const u64, n: usize) -> Place;
+    take_valid_u32(out: *mut u8, out_size: usize, bytes: *const u8, size: usize, offset: usize,
+        len: usize, indices: *const u32, n: usize, validity: *const u8, validity_size: usize,
+        v: usize) -> Place;
+    take_valid_u64(out: *mut u8, out_size: usize, bytes: *const u8, size: usize, offset: usize,
+        len: usize, indices: *const u64, n: usize, validity: *const u8, validity_size: usize,
+        v: usize) -> Place;
+}

@@ -1,0 +1,252 @@
+//! Bits taken at indices.
+ghost use Rattle.std.specs.Prelude.{◌≡◌, ◌+◌, ◌*◌, ◌^◌, ◌<◌, ◌≤◌, Some, None, length, map, pos};
+ghost use Rattle.std.specs.Option.{ForSome, option_map};
+ghost use Rattle.vb_c.specs.Fits.{Checks, InBytes};
+ghost use Rattle.vb_c.specs.Taken.{Takes};
+ghost use Rattle.vb_kernel.specs.Bits.{bits};
+ghost use Rattle.vb_kernel.specs.Writes.{Writes};
+ghost use Rattle.vb_view.specs.View.{bits_of};
+
+use crate::place::Place;
+use vb_core::BitIndex;
+use vb_view::BitBufferView;
+
+/// Writes the bits that the indices name among the `len` bits from bit `offset` on to the first
+/// bits of `out`, one for each index, and answers no place; or answers the first position whose
+/// index isn't below `len`. The bits of `out` behind the first ones stay; where a position is
+/// answered, the first ones are open.
+#[unsafe(no_mangle)]
+pub extern "C" fn vb_take_u32(
+    out: &mut [u8],
+    bytes: &[u8],
+    offset: usize,
+    len: usize,
+    indices: &[u32],
+) -> Place
+    requires room { length indices.now ≤ 8 * length out.old }
+    requires inside { offset + len ≤ 8 * length bytes.now }
+    requires fits { offset + len < 2 ^ 64 }
+    ensures taken { Takes (bits bytes.now offset len) (map pos indices.now) None
+        (bits out.new 0 (length indices.now)) result }
+    ensures others { Writes out.old out.new 0 (bits out.new 0 (length indices.now)) }
+{
+    take(
+        out,
+        BitBufferView::new_with_offset(bytes, len, offset),
+        indices,
+        None,
+    )
+}
+
+/// Whether the window lies in the bytes, and `out` has room for a bit an index; `past` is then
+/// what [`vb_take_u32`] answers, and else all is as it was.
+#[unsafe(no_mangle)]
+pub extern "C" fn vb_try_take_u32(
+    out: &mut [u8],
+    bytes: &[u8],
+    offset: usize,
+    len: usize,
+    indices: &[u32],
+    past: &mut Place,
+) -> bool
+    ensures { Checks
+        ((length indices.now ≤ 8 * length out.old) × InBytes bytes.now offset len)
+        (Takes (bits bytes.now offset len) (map pos indices.now) None
+        (bits out.new 0 (length indices.now)) past.new
+        × Writes out.old out.new 0 (bits out.new 0 (length indices.now)))
+        ((out.new ≡ out.old) × (past.new ≡ past.old)) result }
+{
+    if !vb_kernel::window_fits(out, 0, indices.len())
+        || !vb_kernel::window_fits(bytes, offset, len)
+    {
+        return false;
+    }
+    *past = vb_take_u32(out, bytes, offset, len, indices);
+    true
+}
+
+/// [`vb_take_u32`] where a position counts only if the bit of `validity` from bit `v` on is true
+/// there: at the others false is written, and their indices aren't looked at.
+#[unsafe(no_mangle)]
+pub extern "C" fn vb_take_valid_u32(
+    out: &mut [u8],
+    bytes: &[u8],
+    offset: usize,
+    len: usize,
+    indices: &[u32],
+    validity: &[u8],
+    v: usize,
+) -> Place
+    requires room { length indices.now ≤ 8 * length out.old }
+    requires inside { offset + len ≤ 8 * length bytes.now }
+    requires fits { offset + len < 2 ^ 64 }
+    requires validity_inside { v + length indices.now ≤ 8 * length validity.now }
+    requires validity_fits { v + length indices.now < 2 ^ 64 }
+    ensures taken { Takes (bits bytes.now offset len) (map pos indices.now)
+        (Some (bits validity.now v (length indices.now)))
+        (bits out.new 0 (length indices.now)) result }
+    ensures others { Writes out.old out.new 0 (bits out.new 0 (length indices.now)) }
+{
+    let window = BitBufferView::new_with_offset(bytes, len, offset);
+    let valid = BitBufferView::new_with_offset(validity, indices.len(), v);
+    take(out, window, indices, Some(valid))
+}
+
+/// Whether both windows lie in their bytes, and `out` has room for a bit an index; `past` is then
+/// what [`vb_take_valid_u32`] answers, and else all is as it was.
+#[unsafe(no_mangle)]
+pub extern "C" fn vb_try_take_valid_u32(
+    out: &mut [u8],
+    bytes: &[u8],
+    offset: usize,
+    len: usize,
+    indices: &[u32],
+    validity: &[u8],
+    v: usize,
+    past: &mut Place,
+) -> bool
+    ensures { Checks
+        ((length indices.now ≤ 8 * length out.old) × InBytes bytes.now offset len
+        × InBytes validity.now v (length indices.now))
+        (Takes (bits bytes.now offset len) (map pos indices.now)
+        (Some (bits validity.now v (length indices.now)))
+        (bits out.new 0 (length indices.now)) past.new
+        × Writes out.old out.new 0 (bits out.new 0 (length indices.now)))
+        ((out.new ≡ out.old) × (past.new ≡ past.old)) result }
+{
+    if !vb_kernel::window_fits(out, 0, indices.len())
+        || !vb_kernel::window_fits(bytes, offset, len)
+        || !vb_kernel::window_fits(validity, v, indices.len())
+    {
+        return false;
+    }
+    *past = vb_take_valid_u32(out, bytes, offset, len, indices, validity, v);
+    true
+}
+
+/// [`vb_take_u32`] by indices of 64 bits.
+#[unsafe(no_mangle)]
+pub extern "C" fn vb_take_u64(
+    out: &mut [u8],
+    bytes: &[u8],
+    offset: usize,
+    len: usize,
+    indices: &[u64],
+) -> Place
+    requires room { length indices.now ≤ 8 * length out.old }
+    requires inside { offset + len ≤ 8 * length bytes.now }
+    requires fits { offset + len < 2 ^ 64 }
+    ensures taken { Takes (bits bytes.now offset len) (map pos indices.now) None
+        (bits out.new 0 (length indices.now)) result }
+    ensures others { Writes out.old out.new 0 (bits out.new 0 (length indices.now)) }
+{
+    take(
+        out,
+        BitBufferView::new_with_offset(bytes, len, offset),
+        indices,
+        None,
+    )
+}
+
+/// Whether the window lies in the bytes, and `out` has room for a bit an index; `past` is then
+/// what [`vb_take_u64`] answers, and else all is as it was.
+#[unsafe(no_mangle)]
+pub extern "C" fn vb_try_take_u64(
+    out: &mut [u8],
+    bytes: &[u8],
+    offset: usize,
+    len: usize,
+    indices: &[u64],
+    past: &mut Place,
+) -> bool
+    ensures { Checks
+        ((length indices.now ≤ 8 * length out.old) × InBytes bytes.now offset len)
+        (Takes (bits bytes.now offset len) (map pos indices.now) None
+        (bits out.new 0 (length indices.now)) past.new
+        × Writes out.old out.new 0 (bits out.new 0 (length indices.now)))
+        ((out.new ≡ out.old) × (past.new ≡ past.old)) result }
+{
+    if !vb_kernel::window_fits(out, 0, indices.len())
+        || !vb_kernel::window_fits(bytes, offset, len)
+    {
+        return false;
+    }
+    *past = vb_take_u64(out, bytes, offset, len, indices);
+    true
+}
+
+/// [`vb_take_valid_u32`] by indices of 64 bits.
+#[unsafe(no_mangle)]
+pub extern "C" fn vb_take_valid_u64(
+    out: &mut [u8],
+    bytes: &[u8],
+    offset: usize,
+    len: usize,
+    indices: &[u64],
+    validity: &[u8],
+    v: usize,
+) -> Place
+    requires room { length indices.now ≤ 8 * length out.old }
+    requires inside { offset + len ≤ 8 * length bytes.now }
+    requires fits { offset + len < 2 ^ 64 }
+    requires validity_inside { v + length indices.now ≤ 8 * length validity.now }
+    requires validity_fits { v + length indices.now < 2 ^ 64 }
+    ensures taken { Takes (bits bytes.now offset len) (map pos indices.now)
+        (Some (bits validity.now v (length indices.now)))
+        (bits out.new 0 (length indices.now)) result }
+    ensures others { Writes out.old out.new 0 (bits out.new 0 (length indices.now)) }
+{
+    let window = BitBufferView::new_with_offset(bytes, len, offset);
+    let valid = BitBufferView::new_with_offset(validity, indices.len(), v);
+    take(out, window, indices, Some(valid))
+}
+
+/// Whether both windows lie in their bytes, and `out` has room for a bit an index; `past` is then
+/// what [`vb_take_valid_u64`] answers, and else all is as it was.
+#[unsafe(no_mangle)]
+pub extern "C" fn vb_try_take_valid_u64(
+    out: &mut [u8],
+    bytes: &[u8],
+    offset: usize,
+    len: usize,
+    indices: &[u64],
+    validity: &[u8],
+    v: usize,
+    past: &mut Place,
+) -> bool
+    ensures { Checks
+        ((length indices.now ≤ 8 * length out.old) × InBytes bytes.now offset len
+        × InBytes validity.now v (length indices.now))
+        (Takes (bits bytes.now offset len) (map pos indices.now)
+        (Some (bits validity.now v (length indices.now)))
+        (bits out.new 0 (length indices.now)) past.new
+        × Writes out.old out.new 0 (bits out.new 0 (length indices.now)))
+        ((out.new ≡ out.old) × (past.new ≡ past.old)) result }
+{
+    if !vb_kernel::window_fits(out, 0, indices.len())
+        || !vb_kernel::window_fits(bytes, offset, len)
+        || !vb_kernel::window_fits(validity, v, indices.len())
+    {
+        return false;
+    }
+    *past = vb_take_valid_u64(out, bytes, offset, len, indices, validity, v);
+    true
+}
+
+/// The bits at the indices, as [`vb_take_u32`] writes them.
+fn take<I: BitIndex>(
+    out: &mut [u8],
+    window: BitBufferView<'_>,
+    indices: &[I],
+    validity: Option<BitBufferView<'_>>,
+) -> Place
+    requires room { length indices.now ≤ 8 * length out.old }
+    requires validity { ForSome validity (λ v. length (bits_of v) ≡ length indices.now) }
+    ensures taken { Takes (bits_of window.entry) (map I.number indices.now)
+        (option_map bits_of validity.entry) (bits out.new 0 (length indices.now)) result }
+    ensures others { Writes out.old out.new 0 (bits out.new 0 (length indices.now)) }
+{
+    vb_take::take_into(out, window, indices, validity)
+        .err()
+        .into()
+}
