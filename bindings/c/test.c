@@ -298,6 +298,66 @@ static void takes(const uint8_t *bytes, size_t offset, size_t len, const uint8_t
     }
 }
 
+enum { BLOCKS = (BITS + 511) / 512 };
+
+static void ranks(const uint8_t *bytes, size_t offset, size_t len)
+{
+    size_t table[BLOCKS + 1], checked[BLOCKS + 1], count = 0, ones = 0, rank = 0;
+    const size_t blocks = (len + 511) / 512, i = random_below(len + 1), n = random_below(len + 2);
+    vb_place place = {false, 0};
+    check(vb_block_counts(bytes, BYTES, offset, len, table, BLOCKS + 1) == blocks, "vb_block_counts");
+    check(vb_try_block_counts(bytes, BYTES, offset, len, checked, BLOCKS + 1, &count)
+            && count == blocks && memcmp(table, checked, blocks * sizeof *table) == 0,
+        "vb_try_block_counts");
+    for (size_t k = 0; k < i; k++) {
+        check(k % 512 != 0 || table[k / 512] == ones, "an entry of the table");
+        ones += bit(bytes, offset + k);
+    }
+    check(vb_rank(bytes, BYTES, offset, len, table, blocks, i) == ones, "vb_rank");
+    check(vb_try_rank(bytes, BYTES, offset, len, table, blocks, i, &rank) && rank == ones,
+        "vb_try_rank");
+    const size_t set = nth(bytes, offset, len, n, true), unset = nth(bytes, offset, len, n, false);
+    check(is_place(vb_ranked_select(bytes, BYTES, offset, len, table, blocks, n), set, len),
+        "vb_ranked_select");
+    check(vb_try_ranked_select(bytes, BYTES, offset, len, table, blocks, n, &place)
+            && is_place(place, set, len), "vb_try_ranked_select");
+    check(is_place(vb_ranked_select_unset(bytes, BYTES, offset, len, table, blocks, n), unset, len),
+        "vb_ranked_select_unset");
+    check(vb_try_ranked_select_unset(bytes, BYTES, offset, len, table, blocks, n, &place)
+            && is_place(place, unset, len), "vb_try_ranked_select_unset");
+}
+
+/* Tables of a wrong size, of wrong numbers, and windows that don't fit. */
+static void bad_ranks(const uint8_t *bytes, size_t offset, size_t len)
+{
+    size_t table[BLOCKS + 1], rank = 77;
+    vb_place place = {true, 9};
+    memset(table, 0xEE, sizeof table);
+    check(!vb_try_block_counts(bytes, BYTES, offset, len, table, BLOCKS, &rank), "a bad window");
+    for (size_t entries = 0; entries <= BLOCKS + 1; entries++) {
+        check(!vb_try_rank(bytes, BYTES, offset, len, table, entries, 0, &rank), "a bad window");
+        check(!vb_try_ranked_select(bytes, BYTES, offset, len, table, entries, 0, &place),
+            "a bad window");
+        check(!vb_try_ranked_select_unset(bytes, BYTES, offset, len, table, entries, 0, &place),
+            "a bad window");
+        if (entries != BLOCKS) {
+            check(!vb_try_rank(bytes, BYTES, 0, BITS, table, entries, 0, &rank), "a bad table");
+            check(!vb_try_ranked_select(bytes, BYTES, 0, BITS, table, entries, 0, &place),
+                "a bad table");
+            check(!vb_try_ranked_select_unset(bytes, BYTES, 0, BITS, table, entries, 0, &place),
+                "a bad table");
+        }
+    }
+    check(!vb_try_rank(bytes, BYTES, 0, BITS, table, BLOCKS, BITS + 1, &rank), "a bad place");
+    check(rank == 77 && place.found && place.index == 9 && table[0] == (size_t)0xEEEEEEEEEEEEEEEEu,
+        "a refused rank left all as it was");
+    check(vb_try_rank(bytes, BYTES, 0, BITS, table, BLOCKS, BITS, &rank), "a wrong table is read");
+    check(vb_try_ranked_select(bytes, BYTES, 0, BITS, table, BLOCKS, SIZE_MAX, &place),
+        "a wrong table is read");
+    check(vb_try_ranked_select_unset(bytes, BYTES, 0, BITS, table, BLOCKS, SIZE_MAX, &place),
+        "a wrong table is read");
+}
+
 /* Takes whose windows don't fit, or whose bits have no room. */
 static void bad_takes(const uint8_t *bytes, size_t offset, size_t len)
 {
@@ -355,6 +415,7 @@ static void refusals(const uint8_t *bytes)
                 && runs[0].start == 3 && runs[0].end == 4 && memcmp(got, bytes, BYTES) == 0,
             "a refused call left all as it was");
         bad_takes(bytes, offset, len);
+        bad_ranks(bytes, offset, len);
     }
     bool flag = true;
     memcpy(got, bytes, BYTES);
@@ -389,6 +450,7 @@ int main(void)
         questions(bytes, offset, len);
         walks(bytes, offset, len);
         writes(bytes, other, offset, len);
+        ranks(bytes, offset, len);
         packs(bytes, other);
         takes(bytes, offset, len, NULL, 0);
         takes(bytes, offset, len, other, random_below(BITS - INDICES + 1));

@@ -187,6 +187,41 @@ bool vb_try_take_valid_u64(uint8_t *out, size_t out_size, const uint8_t *bytes, 
         size_t offset, size_t len, const uint64_t *indices, size_t n, const uint8_t *validity,
         size_t validity_size, size_t v, vb_place *past);
 
+/*
+ * Ranks over a table that the caller keeps: it has, for each block of 512 bits of the window, how
+ * many true bits are before it, which is ceil(len / 512) numbers. Writes these to the front of
+ * `table`, as many as have room, and answers (`written`) how many these are. It counts the bits
+ * once.
+ */
+size_t vb_block_counts(const uint8_t *bytes, size_t size, size_t offset, size_t len, size_t *table,
+        size_t room);
+bool vb_try_block_counts(const uint8_t *bytes, size_t size, size_t offset, size_t len,
+        size_t *table, size_t room, size_t *written);
+
+/*
+ * How many of the first i bits of the window are true, in constant time; i is at most `len`. Here
+ * and below the table has exactly ceil(len / 512) entries, which the checked forms test; that they
+ * are those of vb_block_counts they cannot test: of other ones the answer says nothing, and does
+ * no harm.
+ */
+size_t vb_rank(const uint8_t *bytes, size_t size, size_t offset, size_t len, const size_t *table,
+        size_t entries, size_t i);
+bool vb_try_rank(const uint8_t *bytes, size_t size, size_t offset, size_t len, const size_t *table,
+        size_t entries, size_t i, size_t *rank);
+
+/*
+ * The place of the n-th true bit of the window, and of its n-th false bit, by halves of the table
+ * and within one block.
+ */
+vb_place vb_ranked_select(const uint8_t *bytes, size_t size, size_t offset, size_t len,
+        const size_t *table, size_t entries, size_t n);
+bool vb_try_ranked_select(const uint8_t *bytes, size_t size, size_t offset, size_t len,
+        const size_t *table, size_t entries, size_t n, vb_place *place);
+vb_place vb_ranked_select_unset(const uint8_t *bytes, size_t size, size_t offset, size_t len,
+        const size_t *table, size_t entries, size_t n);
+bool vb_try_ranked_select_unset(const uint8_t *bytes, size_t size, size_t offset, size_t len,
+        const size_t *table, size_t entries, size_t n, vb_place *place);
+
 #ifdef __cplusplus
 }
 #endif

@@ -1,8 +1,8 @@
 //! Questions on one window, and the comparison of two.
 
 use vb_bits::{
-    Run, bit_select, bit_select_unset, count_ones, equal_bits, get_bit, last_set_index,
-    set_indices, set_slices,
+    Ranks, Run, bit_select, bit_select_unset, blocks, count_ones, equal_bits, get_bit,
+    last_set_index, set_indices, set_slices,
 };
 
 use crate::case::Case;
@@ -77,5 +77,27 @@ pub fn compare(case: &Case) -> Result<u64, String> {
         (count, runs),
         filled(&plain::runs(&list), n, Run::default()),
     )?;
-    Ok(calls)
+    Ok(calls + ranks(case, &list, &trues, &falses)?)
+}
+
+/// Ranks over a table, which has one entry more than there are blocks.
+fn ranks(case: &Case, list: &[bool], trues: &[usize], falses: &[usize]) -> Result<u64, String> {
+    let Case {
+        left, l, len, n, ..
+    } = case;
+    let mut table = vec![0; blocks(*len) + 1];
+    let ranks = Ranks::new(left, *l, *len, &mut table).map_err(|it| it.to_string())?;
+    let i = n.min(len);
+    let wanted = list[..*i].iter().filter(|&&bit| bit).count();
+    Ok(same("rank", ranks.rank(*i), wanted)?
+        + same(
+            "select over a table",
+            ranks.select(*n),
+            trues.get(*n).copied(),
+        )?
+        + same(
+            "select_unset over a table",
+            ranks.select_unset(*n),
+            falses.get(*n).copied(),
+        )?)
 }

@@ -19,6 +19,7 @@ mod edit;
 mod level;
 mod native;
 mod pack;
+mod rank;
 mod take;
 mod walk;
 mod window;
@@ -35,6 +36,7 @@ pub use edit::{
 };
 pub use level::Level;
 pub use pack::{pack_bools, pack_truthy, try_pack_bools, try_pack_truthy};
+pub use rank::{Ranks, blocks};
 pub use take::{Index, TakeError, take, take_valid, try_take, try_take_valid};
 pub use walk::{Run, set_indices, set_slices, try_set_indices, try_set_slices};
 pub use window::{OutOfBounds, window_fits};

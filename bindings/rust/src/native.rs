@@ -80,4 +80,12 @@ kernels! {
     take_valid_u64(out: *mut u8, out_size: usize, bytes: *const u8, size: usize, offset: usize,
         len: usize, indices: *const u64, n: usize, validity: *const u8, validity_size: usize,
         v: usize) -> Place;
+    block_counts(bytes: *const u8, size: usize, offset: usize, len: usize,
+        table: *mut usize, room: usize) -> usize;
+    rank(bytes: *const u8, size: usize, offset: usize, len: usize,
+        table: *const usize, entries: usize, i: usize) -> usize;
+    ranked_select(bytes: *const u8, size: usize, offset: usize, len: usize,
+        table: *const usize, entries: usize, n: usize) -> Place;
+    ranked_select_unset(bytes: *const u8, size: usize, offset: usize, len: usize,
+        table: *const usize, entries: usize, n: usize) -> Place;
 }

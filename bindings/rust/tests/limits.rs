@@ -197,6 +197,29 @@ fn takes_want_windows_and_room_and_name_the_first_bad_index() {
 }
 
 #[test]
+fn ranks_want_a_window_and_places_of_it() {
+    let bytes = [0xF0u8; 200];
+    let mut table = [7; 5];
+    let outside = OutOfBounds {
+        offset: 1,
+        len: 1600,
+        size: 200,
+    };
+    assert_eq!(Ranks::new(&bytes, 1, 1600, &mut table).err(), Some(outside));
+    assert_eq!(table, [7; 5]);
+    let ranks = Ranks::new(&bytes, 3, 1597, &mut table).unwrap();
+    assert_eq!(ranks.rank(1597), 800);
+    assert_eq!(ranks.try_rank(1598), None);
+    assert_eq!(ranks.select(0), Some(1));
+    assert_eq!(ranks.select(800), None);
+    assert_eq!(ranks.select_unset(usize::MAX), None);
+    assert_eq!(table[4], 7);
+    assert_eq!(Ranks::new(&[], 0, 0, &mut []).unwrap().rank(0), 0);
+    let past = panic::catch_unwind(|| Ranks::new(&[0; 65], 0, 513, &mut [0]).is_ok());
+    assert!(past.is_err());
+}
+
+#[test]
 fn a_panic_tells_the_numbers() {
     let panicked = panic::catch_unwind(|| count_ones(&[0], 1, 8)).unwrap_err();
     let text = panicked.downcast_ref::<String>().map(String::as_str);

@@ -17,6 +17,7 @@ mod count;
 mod equal;
 mod pack;
 mod place;
+mod rank;
 mod select;
 mod take;
 mod walk;
@@ -31,6 +32,10 @@ pub use count::{vb_count_ones, vb_try_count_ones};
 pub use equal::{vb_equal_bits, vb_try_equal_bits};
 pub use pack::{vb_pack_bools, vb_pack_truthy, vb_try_pack_bools, vb_try_pack_truthy};
 pub use place::Place;
+pub use rank::{
+    vb_block_counts, vb_rank, vb_ranked_select, vb_ranked_select_unset, vb_try_block_counts,
+    vb_try_rank, vb_try_ranked_select, vb_try_ranked_select_unset,
+};
 pub use select::{
     vb_bit_select, vb_bit_select_unset, vb_last_set_index, vb_try_bit_select,
     vb_try_bit_select_unset, vb_try_last_set_index,

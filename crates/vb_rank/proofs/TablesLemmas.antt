@@ -9,7 +9,7 @@ use Rattle.vb_kernel.specs.Looks.{looks}
 use Rattle.vb_kernel.specs.Searches.{matching}
 use Rattle.vb_bits.proofs.BitsLemmas.{length-bits, take-bits, count-bits-le}
 use Rattle.vb_kernel.proofs.SearchesLemmas.{count-matching-bits_split, count-matching-bits_false, Searched_after, Searched_longer}
-use Rattle.vb_rank.specs.Tables.{blocks, block_counts, binary_digits, passed, BeginsBefore}
+use Rattle.vb_rank.specs.Tables.{blocks, block_counts, binary_digits, passed, BeginsBefore, Rises}
 
 -- ---- looks
 -- a block takes at most 16 looks, wherever it begins
@@ -63,6 +63,10 @@ pub passed-mono : (v : Bool) (b t : List ℕ) (o n : ℕ) → t ≡ block_counts
 passed-mono v b t o n e i j order h =
     let more = count-matching-bits_split v b o (512 * i) (512 * j) (o + 512 * i) (512 * j - 512 * i) refl (omega arith) in
     omega (arith, more, passed-table v b t o n e i (omega (arith, order, h)), passed-table v b t o n e j h)
+
+-- the table of a window can be searched by halves
+pub Rises-table : (v : Bool) (b t : List ℕ) (o n : ℕ) → t ≡ block_counts (bits b o n) → Rises v t
+Rises-table v b t o n e = record { small = entry-le b t o n e; rising = passed-mono v b t o n e }
 
 -- ---- the block of a rank
 -- it begins in the window
@@ -133,5 +137,5 @@ pub lt-binary_digits : (n : ℕ) → n < 2 ^ binary_digits n
 lt-binary_digits n = lt-binary_digits_to n n (omega arith)
 
 -- as many halvings as the number of blocks and one has digits bring the table to one entry
-pub probes-le : (b t : List ℕ) (o n p q : ℕ) → t ≡ block_counts (bits b o n) → ((k : ℕ) → length t ≤ 2 ^ k → q ≤ p + k) → q ≤ p + binary_digits (blocks n + 1)
-probes-le b t o n p q e h = h (binary_digits (blocks n + 1)) (omega (arith, length-block_counts-bits b o n, ap length e, lt-binary_digits (blocks n + 1)))
+pub probes-le : (t : List ℕ) (n p q : ℕ) → length t ≡ blocks n → ((k : ℕ) → length t ≤ 2 ^ k → q ≤ p + k) → q ≤ p + binary_digits (blocks n + 1)
+probes-le t n p q e h = h (binary_digits (blocks n + 1)) (omega (arith, e, lt-binary_digits (blocks n + 1)))

@@ -28,6 +28,12 @@ abbrev pub passed : Bool → List ℕ → ℕ → ℕ
 passed true t j = slice_index t j
 passed false t j = 512 * j - slice_index t j
 
+-- no entry is greater than the number of values before its block, and no later block has fewer
+-- values that are v before it
+pub record Rises (v : Bool) (t : List ℕ) : Type 0 where
+  pub small : (j : ℕ) → j < length t → slice_index t j ≤ 512 * j
+  pub rising : (i j : ℕ) → i ≤ j → j < length t → passed v t i ≤ passed v t j
+
 -- before block j are m values that are v, at most n, and before the next one more than n
 pub record BeginsBefore (v : Bool) (t : List ℕ) (n j m : ℕ) : Type 0 where
   pub within : j < length t

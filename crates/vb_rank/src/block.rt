@@ -1,22 +1,22 @@
 //! The block of a rank.
 ghost use Rattle.std.specs.Prelude.{◌≡◌, ℕ, ◌+◌, ◌*◌, ◌^◌, ◌<◌, ◌≤◌, length, slice_index};
-ghost use Rattle.vb_rank.specs.Tables.{passed, BeginsBefore};
+ghost use Rattle.vb_rank.specs.Tables.{passed, BeginsBefore, Rises};
 
 use crate::probe::Probe;
 
 /// The block in which the `n`-th bit that is `value` lies, where there is one, and how many such
-/// bits are before the block.
+/// bits are before the block: if no entry is greater than the number of bits before its block, and
+/// no later block has fewer values before it. A block of the table, and at most `n`, in any case.
 ///
 /// Each probe halves the blocks that are left, by moves in place of branches: how many turns there
 /// are depends on the size of the table alone. Entry 0 is not read, since it is 0.
 pub(crate) fn find_block<T: Probe>(table: &mut T, n: usize, value: bool) -> (usize, usize)
     requires some { 0 < length (T.entries table.old) }
-    requires small { (j : ℕ) → j < length (T.entries table.old)
-        → slice_index (T.entries table.old) j ≤ 512 * j }
     requires fits { (j : ℕ) → j < length (T.entries table.old) → 512 * j < 2 ^ 64 }
-    requires rising { (i j : ℕ) → i ≤ j → j < length (T.entries table.old)
-        → passed value (T.entries table.old) i ≤ passed value (T.entries table.old) j }
-    ensures block { BeginsBefore value (T.entries table.old) n result.0 result.1 }
+    ensures within { result.0 < length (T.entries table.old) }
+    ensures low { result.1 ≤ n }
+    ensures block { Rises value (T.entries table.old)
+        → BeginsBefore value (T.entries table.old) n result.0 result.1 }
     ensures same { T.entries table.new ≡ T.entries table.old }
     ensures probes { (k : ℕ) → length (T.entries table.old) ≤ 2 ^ k
         → T.probes table.new ≤ T.probes table.old + k }
@@ -39,12 +39,16 @@ pub(crate) fn find_block<T: Probe>(table: &mut T, n: usize, value: bool) -> (usi
 /// How many bits that are `value` are before block `j`, by one probe.
 fn bits_before<T: Probe>(table: &mut T, j: usize, value: bool) -> usize
     requires within { j < length (T.entries table.old) }
-    requires small { slice_index (T.entries table.old) j ≤ 512 * j }
     requires fits { 512 * j < 2 ^ 64 }
-    ensures value { result ≡ passed value (T.entries table.old) j }
+    ensures value { slice_index (T.entries table.old) j ≤ 512 * j
+        → result ≡ passed value (T.entries table.old) j }
     ensures same { T.entries table.new ≡ T.entries table.old }
     ensures probe { T.probes table.new ≡ T.probes table.old + 1 }
 {
     let ones = table.entry(j);
-    if value { ones } else { 512 * j - ones }
+    if value {
+        ones
+    } else {
+        (512 * j).wrapping_sub(ones)
+    }
 }

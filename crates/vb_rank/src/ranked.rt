@@ -3,7 +3,7 @@ ghost use Rattle.std.specs.Prelude.{◌≡◌, ◌+◌, ◌/◌, ◌%◌, ◌^�
 ghost use Rattle.std.specs.Prelude.{slice_set, IfOk, IsOk, IsOkUnless, IsErrOf, OnOk, OnErr};
 ghost use Rattle.vb_kernel.specs.Bits.{count, negated, Selects, AnswersEach};
 ghost use Rattle.vb_kernel.specs.Writes.{Writes};
-ghost use Rattle.vb_rank.specs.Tables.{block_counts};
+ghost use Rattle.vb_rank.specs.Tables.{block_counts, blocks};
 ghost use Rattle.vb_set.specs.OpenSet.{AddsBits, Grows, KeepsLayout};
 ghost use Rattle.vb_set.specs.View.{bits_of, offset_of, bytes_of};
 
@@ -158,7 +158,8 @@ impl<A: Allocator + Clone> Ranked<A> {
 
     /// The table, with no probe so far.
     fn entries(&self) -> PlainTable<'_>
-        ensures { result.entries ≡ block_counts self.now.bits }
+        ensures table { result.entries ≡ block_counts self.now.bits }
+        ensures size { length result.entries ≡ blocks (length self.now.bits) }
     {
         PlainTable::new(self.table.as_slice())
     }

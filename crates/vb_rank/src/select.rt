@@ -12,8 +12,9 @@ use vb_kernel::{Glance, bit_select_by, bit_select_unset_by};
 /// window has at most `n`. It takes at most 16 looks, and at most as many probes of the table as
 /// the number of its entries and one has binary digits.
 ///
-/// The window has to lie in the bytes, and its end has to be a `usize`. The table has to be that of
-/// its bits, as [`table_of`](crate::table_of) makes it.
+/// The window has to lie in the bytes, its end has to be a `usize`, and the table has to have an
+/// entry for each of its blocks. Where its entries aren't those that [`table_of`](crate::table_of)
+/// makes, the place says nothing.
 pub fn select_by<G: Glance, T: Probe>(
     src: &mut G,
     offset: usize,
@@ -23,9 +24,11 @@ pub fn select_by<G: Glance, T: Probe>(
 ) -> Option<usize>
     requires inside { offset + len ≤ 8 * length (G.bytes src.old) }
     requires fits { offset + len < 2 ^ 64 }
-    requires table { T.entries table.old ≡ block_counts (bits (G.bytes src.old) offset len) }
-    ensures place { Selects (bits (G.bytes src.old) offset len) n result }
-    ensures each { AnswersEach (bits (G.bytes src.old) offset len) n result }
+    requires size { length (T.entries table.old) ≡ blocks len }
+    ensures place { T.entries table.old ≡ block_counts (bits (G.bytes src.old) offset len)
+        → Selects (bits (G.bytes src.old) offset len) n result }
+    ensures each { T.entries table.old ≡ block_counts (bits (G.bytes src.old) offset len)
+        → AnswersEach (bits (G.bytes src.old) offset len) n result }
     ensures same { G.bytes src.new ≡ G.bytes src.old }
     ensures same_table { T.entries table.new ≡ T.entries table.old }
     ensures looks { G.looks src.new ≤ G.looks src.old + 16 }
@@ -46,9 +49,11 @@ pub fn select_unset_by<G: Glance, T: Probe>(
 ) -> Option<usize>
     requires inside { offset + len ≤ 8 * length (G.bytes src.old) }
     requires fits { offset + len < 2 ^ 64 }
-    requires table { T.entries table.old ≡ block_counts (bits (G.bytes src.old) offset len) }
-    ensures place { Selects (negated (bits (G.bytes src.old) offset len)) n result }
-    ensures each { AnswersEach (negated (bits (G.bytes src.old) offset len)) n result }
+    requires size { length (T.entries table.old) ≡ blocks len }
+    ensures place { T.entries table.old ≡ block_counts (bits (G.bytes src.old) offset len)
+        → Selects (negated (bits (G.bytes src.old) offset len)) n result }
+    ensures each { T.entries table.old ≡ block_counts (bits (G.bytes src.old) offset len)
+        → AnswersEach (negated (bits (G.bytes src.old) offset len)) n result }
     ensures same { G.bytes src.new ≡ G.bytes src.old }
     ensures same_table { T.entries table.new ≡ T.entries table.old }
     ensures looks { G.looks src.new ≤ G.looks src.old + 16 }
@@ -69,8 +74,9 @@ fn select_value_by<G: Glance, T: Probe>(
 ) -> Option<usize>
     requires inside { offset + len ≤ 8 * length (G.bytes src.old) }
     requires fits { offset + len < 2 ^ 64 }
-    requires table { T.entries table.old ≡ block_counts (bits (G.bytes src.old) offset len) }
-    ensures place { Selects (matching value (bits (G.bytes src.old) offset len)) n result }
+    requires size { length (T.entries table.old) ≡ blocks len }
+    ensures place { T.entries table.old ≡ block_counts (bits (G.bytes src.old) offset len)
+        → Selects (matching value (bits (G.bytes src.old) offset len)) n result }
     ensures same { G.bytes src.new ≡ G.bytes src.old }
     ensures same_table { T.entries table.new ≡ T.entries table.old }
     ensures looks { G.looks src.new ≤ G.looks src.old + 16 }

@@ -1,7 +1,7 @@
 //! The table of a list of bits: made, and moved by an edit.
 ghost use Rattle.std.specs.Prelude.{◌≡◌, ℕ, ◌+◌, ◌^◌, ◌<◌, ◌≤◌, true, false};
 ghost use Rattle.std.specs.Prelude.{length, slice_index, IfOk, IsOkUnless};
-ghost use Rattle.vb_rank.specs.Tables.{block_counts, moved};
+ghost use Rattle.vb_rank.specs.Tables.{block_counts, blocks, moved};
 ghost use Rattle.vb_set.specs.View.{bits_of};
 
 use std::alloc::Allocator;
@@ -17,6 +17,7 @@ pub fn table_of<A: Allocator>(
     bits: BitBufferView<'_>,
 ) -> Result<Vec<usize, A>, BufferError>
     ensures table { IfOk result (λ t. t.items ≡ block_counts (bits_of bits.entry)) }
+    ensures size { IfOk result (λ t. length t.items ≡ blocks (length (bits_of bits.entry))) }
     ensures refused { IsOkUnless result BufferError.OutOfMemory }
 {
     let blocks = bits.len().div_ceil(512);

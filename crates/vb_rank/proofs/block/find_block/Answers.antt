@@ -1,5 +1,5 @@
 use Rattle.std.proofs.Common.{◌≡◌, ℕ, List, ◌+◌, ◌-◌, ◌/◌, ◌<◌, arith, ap, sym, subst, ◌∙◌}
-use Rattle.vb_rank.specs.Tables.{passed}
+use Rattle.vb_rank.specs.Tables.{passed, Rises}
 use Rattle.vb_rank.proofs.TablesLemmas.{halves-step}
 use Rattle.vb_rank.proofs.block.find_block.Goals as goal
 use Rattle.vb_rank.proofs.block.find_block.Goals.{then-here-n, else-here-n}
@@ -9,29 +9,30 @@ loop-left-preserved g c =
     let t : List ℕ = g.T.Probe.entries c.args.table.now in
     let low : ℕ = c.loop-left.low in let left : ℕ = c.loop-left.left in let half : ℕ = left / 2 in
     let n : ℕ = c.args.n in
-    let here : c.bits_before-here.result ≡ passed c.args.value t (low + half) = rw c.loop-left.invariant.same at c.bits_before-here.ensures.value in
+    let here : Rises c.args.value t → c.bits_before-here.result ≡ passed c.args.value t (low + half) = λ r.
+        (rw c.loop-left.invariant.same at c.bits_before-here.ensures.value) (r.small (low + half) (omega arith)) in
     let same = c.bits_before-here.ensures.same ∙ c.loop-left.invariant.same in
     let halves = halves-step _ _ _ _ left (left - half) c.loop-left.invariant.halves (omega arith) (omega arith) c.bits_before-here.ensures.probe in
     elim c.if-here-n.branch [
       | then-here-n w ↦ record {
         some = omega arith;
         within = omega (arith, w.low-is);
-        before = w.before-is ∙ here ∙ ap (passed c.args.value t) (sym w.low-is);
+        before = λ r. w.before-is ∙ here r ∙ ap (passed c.args.value t) (sym w.low-is);
         below = omega (arith, w.before-is, w.if-here-n.true);
-        above = λ more.
+        above = λ r more.
             let e : c.if-here-n.low + (left - half) ≡ low + left = omega (arith, w.low-is) in
-            subst (λ x. n < passed c.args.value t x) (sym e) (c.loop-left.invariant.above (omega (arith, more, e)));
+            subst (λ x. n < passed c.args.value t x) (sym e) (c.loop-left.invariant.above r (omega (arith, more, e)));
         same = same;
         halves = halves;
       }
       | else-here-n w ↦ record {
         some = omega arith;
         within = omega (arith, w.low-is);
-        before = w.before-is ∙ c.loop-left.invariant.before ∙ ap (passed c.args.value t) (sym w.low-is);
+        before = λ r. w.before-is ∙ c.loop-left.invariant.before r ∙ ap (passed c.args.value t) (sym w.low-is);
         below = omega (arith, w.before-is);
-        above = λ more.
-            let up = c.requires.rising (low + half) (c.if-here-n.low + (left - half)) (omega (arith, w.low-is)) more in
-            omega (arith, up, here, w.if-here-n.false);
+        above = λ r more.
+            let up = r.rising (low + half) (c.if-here-n.low + (left - half)) (omega (arith, w.low-is)) more in
+            omega (arith, up, here r, w.if-here-n.false);
         same = same;
         halves = halves;
       }

@@ -1,56 +1,52 @@
 use Rattle.std.proofs.Common.{ℕ, List, length, ap, arith}
 use Rattle.vb_kernel.proofs.SearchesLemmas.{count-matching-bits-le, Searched_inside}
-use Rattle.vb_rank.proofs.TablesLemmas.{length-block_counts-bits, inside, entry-le, passed-mono, Selects-block_some, Selects-block_none, block-begins, probes-le}
+use Rattle.vb_rank.proofs.TablesLemmas.{Rises-table, Selects-block_some, Selects-block_none, probes-le}
 use Rattle.vb_rank.proofs.select.select_value_by.Goals as goal
 
 pub returns-then-len-eq0-clause-place : goal.returns-then-len-eq0-clause-place
-returns-then-len-eq0-clause-place g c = omega (arith, count-matching-bits-le c.args.value (g.G.Glance.bytes c.args.src.now) c.args.offset c.args.len)
+returns-then-len-eq0-clause-place g c = λ _. omega (arith, count-matching-bits-le c.args.value (g.G.Glance.bytes c.args.src.now) c.args.offset c.args.len)
 
 pub find_block-block-requires-clause-some : goal.find_block-block-requires-clause-some
-find_block-block-requires-clause-some g c = omega (arith, length-block_counts-bits (g.G.Glance.bytes c.args.src.now) c.args.offset c.args.len, ap length c.requires.table)
-
-pub find_block-block-requires-clause-small : goal.find_block-block-requires-clause-small
-find_block-block-requires-clause-small g c = entry-le (g.G.Glance.bytes c.args.src.now) (g.T.Probe.entries c.args.table.now) c.args.offset c.args.len c.requires.table
+find_block-block-requires-clause-some g c = omega (arith, c.requires.size)
 
 pub find_block-block-requires-clause-fits : goal.find_block-block-requires-clause-fits
-find_block-block-requires-clause-fits g c = λ j h. omega (arith, inside (g.G.Glance.bytes c.args.src.now) (g.T.Probe.entries c.args.table.now) c.args.offset c.args.len c.requires.table j h, c.requires.fits)
-
-pub find_block-block-requires-clause-rising : goal.find_block-block-requires-clause-rising
-find_block-block-requires-clause-rising g c = passed-mono c.args.value (g.G.Glance.bytes c.args.src.now) (g.T.Probe.entries c.args.table.now) c.args.offset c.args.len c.requires.table
+find_block-block-requires-clause-fits g c = λ j h. omega (arith, h, c.requires.size, c.requires.fits)
 
 pub overflow_mul-at : goal.overflow_mul-at
-overflow_mul-at g c = record { fits = omega (arith, block-begins _ (g.G.Glance.bytes c.args.src.now) (g.T.Probe.entries c.args.table.now) c.args.offset c.args.len _ _ _ c.requires.table c.find_block-block.ensures.block) }
+overflow_mul-at g c = record { fits = omega (arith, c.requires.size, c.requires.fits, c.find_block-block.ensures.within) }
 
 pub overflow_add-offset : goal.overflow_add-offset
-overflow_add-offset g c = record { fits = omega (arith, block-begins _ (g.G.Glance.bytes c.args.src.now) (g.T.Probe.entries c.args.table.now) c.args.offset c.args.len _ _ _ c.requires.table c.find_block-block.ensures.block) }
+overflow_add-offset g c = record { fits = omega (arith, c.requires.size, c.requires.fits, c.find_block-block.ensures.within) }
 
 pub overflow_sub-len : goal.overflow_sub-len
-overflow_sub-len g c = omega (arith, block-begins _ (g.G.Glance.bytes c.args.src.now) (g.T.Probe.entries c.args.table.now) c.args.offset c.args.len _ _ _ c.requires.table c.find_block-block.ensures.block)
+overflow_sub-len g c = omega (arith, c.requires.size, c.find_block-block.ensures.within)
 
 pub select_in_block-requires-clause-inside : goal.select_in_block-requires-clause-inside
-select_in_block-requires-clause-inside g c = omega (arith, block-begins _ (g.G.Glance.bytes c.args.src.now) (g.T.Probe.entries c.args.table.now) c.args.offset c.args.len _ _ _ c.requires.table c.find_block-block.ensures.block)
+select_in_block-requires-clause-inside g c = omega (arith, c.requires.size, c.requires.inside, c.min.ensures, c.find_block-block.ensures.within)
 
 pub select_in_block-requires-clause-fits : goal.select_in_block-requires-clause-fits
-select_in_block-requires-clause-fits g c = omega (arith, block-begins _ (g.G.Glance.bytes c.args.src.now) (g.T.Probe.entries c.args.table.now) c.args.offset c.args.len _ _ _ c.requires.table c.find_block-block.ensures.block)
+select_in_block-requires-clause-fits g c = omega (arith, c.requires.size, c.requires.fits, c.min.ensures, c.find_block-block.ensures.within)
 
 pub returns-in_err-place-clause-place : goal.returns-in_err-place-clause-place
-returns-in_err-place-clause-place g c =
+returns-in_err-place-clause-place g c = λ e.
     let b : List ℕ = g.G.Glance.bytes c.args.src.now in let t : List ℕ = g.T.Probe.entries c.args.table.now in
-    rw c.from_residual.ensures (Selects-block_none c.args.value b t c.args.offset c.args.len c.args.n _ _ _ c.requires.table c.find_block-block.ensures.block c.min.ensures c.in_err-place.ensures.place)
+    let begins = c.find_block-block.ensures.block (Rises-table c.args.value b t c.args.offset c.args.len e) in
+    rw c.from_residual.ensures (Selects-block_none c.args.value b t c.args.offset c.args.len c.args.n _ _ _ e begins c.min.ensures c.in_err-place.ensures.place)
 
 pub returns-in_err-place-clause-probes : goal.returns-in_err-place-clause-probes
-returns-in_err-place-clause-probes g c = probes-le (g.G.Glance.bytes c.args.src.now) (g.T.Probe.entries c.args.table.now) c.args.offset c.args.len _ _ c.requires.table c.find_block-block.ensures.probes
+returns-in_err-place-clause-probes g c = probes-le (g.T.Probe.entries c.args.table.now) c.args.len _ _ c.requires.size c.find_block-block.ensures.probes
 
 pub returns-clause-place : goal.returns-clause-place
-returns-clause-place g c =
+returns-clause-place g c = λ e.
     let b : List ℕ = g.G.Glance.bytes c.args.src.now in let t : List ℕ = g.T.Probe.entries c.args.table.now in
-    Selects-block_some c.args.value b t c.args.offset c.args.len c.args.n _ _ _ _ c.requires.table c.find_block-block.ensures.block c.min.ensures c.in_ok-place.ensures.place
+    let begins = c.find_block-block.ensures.block (Rises-table c.args.value b t c.args.offset c.args.len e) in
+    Selects-block_some c.args.value b t c.args.offset c.args.len c.args.n _ _ _ _ e begins c.min.ensures c.in_ok-place.ensures.place
 
 pub overflow_add-result : goal.overflow_add-result
 overflow_add-result g c =
-    let b : List ℕ = g.G.Glance.bytes c.args.src.now in let t : List ℕ = g.T.Probe.entries c.args.table.now in
-    let s = Selects-block_some c.args.value b t c.args.offset c.args.len c.args.n _ _ _ _ c.requires.table c.find_block-block.ensures.block c.min.ensures c.in_ok-place.ensures.place in
-    record { fits = omega (arith, Searched_inside c.args.value b c.args.offset c.args.len c.args.n _ s) }
+    let b : List ℕ = g.G.Glance.bytes c.args.src.now in
+    let inside = Searched_inside c.args.value b _ _ _ _ c.in_ok-place.ensures.place in
+    record { fits = omega (arith, inside, c.min.ensures, c.requires.size, c.requires.fits, c.find_block-block.ensures.within) }
 
 pub returns-clause-probes : goal.returns-clause-probes
-returns-clause-probes g c = probes-le (g.G.Glance.bytes c.args.src.now) (g.T.Probe.entries c.args.table.now) c.args.offset c.args.len _ _ c.requires.table c.find_block-block.ensures.probes
+returns-clause-probes g c = probes-le (g.T.Probe.entries c.args.table.now) c.args.len _ _ c.requires.size c.find_block-block.ensures.probes

@@ -6,7 +6,9 @@ use Rattle.vb_set.specs.View.{bits_of}
 use Rattle.vb_rank.specs.Tables.{blocks, block_counts}
 use Rattle.vb_rank.proofs.TablesLemmas.{length-block_counts, at-block_counts}
 use Rattle.vb_rank.proofs.EditsLemmas.{count-take_block}
+use Rattle.vb_rank.proofs.table.table_of.Given.{Over}
 use Rattle.vb_rank.proofs.table.table_of.Goals as goal
+use Rattle.vb_rank.proofs.table.table_of.Goals.{After-loop-block}
 
 pub loop-block-preserved : goal.loop-block-preserved
 loop-block-preserved g c =
@@ -21,8 +23,15 @@ loop-block-preserved g c =
       room = omega (arith, c.loop-block.invariant.room, c.push_reserved.ensures.capacity);
     }
 
-pub returns-clause-table : goal.returns-clause-table
-returns-clause-table g c =
+-- the loop ends with all entries
+whole : (g : Over) (c : After-loop-block g) → c.loop-block.table.items ≡ block_counts (bits_of c.args.bits)
+whole g c =
     let l : List Bool = bits_of c.args.bits in
     let all : c.loop-block.block ≡ length (block_counts l) = omega (arith, c.loop-block-test.false, c.div_ceil-blocks.ensures, c.len.ensures, length-block_counts l) in
     c.loop-block.invariant.entries ∙ ap (λ n. take n (block_counts l)) all ∙ take-length (block_counts l)
+
+pub returns-clause-table : goal.returns-clause-table
+returns-clause-table g c = whole g c
+
+pub returns-clause-size : goal.returns-clause-size
+returns-clause-size g c = ap length (whole g c) ∙ length-block_counts (bits_of c.args.bits)

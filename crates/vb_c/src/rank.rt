@@ -1,0 +1,202 @@
+//! Ranks, and places of ranks, over a table of counts that the caller keeps.
+ghost use Rattle.std.specs.Prelude.{◌≡◌, ◌+◌, ◌*◌, ◌^◌, ◌<◌, ◌≤◌, ◌↔◌, IsTrue, length, take};
+ghost use Rattle.vb_c.specs.Filled.{Fills};
+ghost use Rattle.vb_c.specs.Fits.{Checks, InBytes};
+ghost use Rattle.vb_c.specs.Place.{answered_place};
+ghost use Rattle.vb_kernel.specs.Bits.{bits, count, negated, Selects};
+ghost use Rattle.vb_rank.specs.Tables.{block_counts, blocks};
+
+use crate::place::Place;
+use vb_kernel::Plain;
+use vb_rank::PlainTable;
+use vb_view::BitBufferView;
+
+/// Writes, for each block of 512 bits of the `len` bits from bit `offset` on, how many true bits
+/// are before it, to the front of `table`, as many as have room there, and answers how many these
+/// are. There are `ceil(len / 512)` blocks.
+#[unsafe(no_mangle)]
+pub extern "C" fn vb_block_counts(
+    bytes: &[u8],
+    offset: usize,
+    len: usize,
+    table: &mut [usize],
+) -> usize
+    requires inside { offset + len ≤ 8 * length bytes.now }
+    requires fits { offset + len < 2 ^ 64 }
+    ensures { Fills (block_counts (bits bytes.now offset len)) table.old table.new result }
+{
+    let bits = BitBufferView::new_with_offset(bytes, len, offset);
+    let written = len.div_ceil(512).min(table.len());
+    let mut before = 0;
+    for block in 0..written {
+        table[block] = before;
+        let start = 512 * block;
+        let end = start + (len - start).min(512);
+        before += bits.slice(start..end).true_count();
+    }
+    written
+}
+
+/// Whether the window lies in the bytes; the table and `written` are then as [`vb_block_counts`]
+/// makes and answers them, and else as they were.
+#[unsafe(no_mangle)]
+pub extern "C" fn vb_try_block_counts(
+    bytes: &[u8],
+    offset: usize,
+    len: usize,
+    table: &mut [usize],
+    written: &mut usize,
+) -> bool
+    ensures { Checks (InBytes bytes.now offset len)
+        (Fills (block_counts (bits bytes.now offset len)) table.old table.new written.new)
+        ((table.new ≡ table.old) × (written.new ≡ written.old)) result }
+{
+    if !vb_kernel::window_fits(bytes, offset, len) {
+        return false;
+    }
+    *written = vb_block_counts(bytes, offset, len, table);
+    true
+}
+
+/// How many of the first `i` bits of the window are true, in constant time, where the table is that
+/// of [`vb_block_counts`]; of any other table with an entry a block the number says nothing.
+#[unsafe(no_mangle)]
+pub extern "C" fn vb_rank(
+    bytes: &[u8],
+    offset: usize,
+    len: usize,
+    table: &[usize],
+    i: usize,
+) -> usize
+    requires inside { offset + len ≤ 8 * length bytes.now }
+    requires fits { offset + len < 2 ^ 64 }
+    requires size { length table.now ≡ blocks len }
+    requires within { i ≤ len }
+    ensures { table.now ≡ block_counts (bits bytes.now offset len)
+        → result ≡ count (take i (bits bytes.now offset len)) }
+{
+    vb_rank::rank_by(
+        &mut Plain::new(bytes),
+        offset,
+        len,
+        &mut PlainTable::new(table),
+        i,
+    )
+}
+
+/// Whether the window lies in the bytes, the table has an entry a block, and `i` is at most `len`;
+/// `rank` is then [`vb_rank`], and else as it was.
+#[unsafe(no_mangle)]
+pub extern "C" fn vb_try_rank(
+    bytes: &[u8],
+    offset: usize,
+    len: usize,
+    table: &[usize],
+    i: usize,
+    rank: &mut usize,
+) -> bool
+    ensures { Checks
+        (InBytes bytes.now offset len × (length table.now ≡ blocks len) × (i ≤ len))
+        (table.now ≡ block_counts (bits bytes.now offset len)
+        → rank.new ≡ count (take i (bits bytes.now offset len)))
+        (rank.new ≡ rank.old) result }
+{
+    if !has_table(bytes, offset, len, table) || len < i {
+        return false;
+    }
+    *rank = vb_rank(bytes, offset, len, table, i);
+    true
+}
+
+/// The place of the `n`-th true bit of the window, counted from 0, if there is one: by halves of the
+/// table, and then within a block. The table has to have an entry a block; where it isn't that of
+/// [`vb_block_counts`], the place says nothing.
+#[unsafe(no_mangle)]
+pub extern "C" fn vb_ranked_select(
+    bytes: &[u8],
+    offset: usize,
+    len: usize,
+    table: &[usize],
+    n: usize,
+) -> Place
+    requires inside { offset + len ≤ 8 * length bytes.now }
+    requires fits { offset + len < 2 ^ 64 }
+    requires size { length table.now ≡ blocks len }
+    ensures { table.now ≡ block_counts (bits bytes.now offset len)
+        → Selects (bits bytes.now offset len) n (answered_place result) }
+{
+    let table = &mut PlainTable::new(table);
+    vb_rank::select_by(&mut Plain::new(bytes), offset, len, table, n).into()
+}
+
+/// Whether the window lies in the bytes, and the table has an entry a block; `place` is then
+/// [`vb_ranked_select`], and else as it was.
+#[unsafe(no_mangle)]
+pub extern "C" fn vb_try_ranked_select(
+    bytes: &[u8],
+    offset: usize,
+    len: usize,
+    table: &[usize],
+    n: usize,
+    place: &mut Place,
+) -> bool
+    ensures { Checks (InBytes bytes.now offset len × (length table.now ≡ blocks len))
+        (table.now ≡ block_counts (bits bytes.now offset len)
+        → Selects (bits bytes.now offset len) n (answered_place place.new))
+        (place.new ≡ place.old) result }
+{
+    if !has_table(bytes, offset, len, table) {
+        return false;
+    }
+    *place = vb_ranked_select(bytes, offset, len, table, n);
+    true
+}
+
+/// [`vb_ranked_select`] of the `n`-th false bit.
+#[unsafe(no_mangle)]
+pub extern "C" fn vb_ranked_select_unset(
+    bytes: &[u8],
+    offset: usize,
+    len: usize,
+    table: &[usize],
+    n: usize,
+) -> Place
+    requires inside { offset + len ≤ 8 * length bytes.now }
+    requires fits { offset + len < 2 ^ 64 }
+    requires size { length table.now ≡ blocks len }
+    ensures { table.now ≡ block_counts (bits bytes.now offset len)
+        → Selects (negated (bits bytes.now offset len)) n (answered_place result) }
+{
+    let table = &mut PlainTable::new(table);
+    vb_rank::select_unset_by(&mut Plain::new(bytes), offset, len, table, n).into()
+}
+
+/// Whether the window lies in the bytes, and the table has an entry a block; `place` is then
+/// [`vb_ranked_select_unset`], and else as it was.
+#[unsafe(no_mangle)]
+pub extern "C" fn vb_try_ranked_select_unset(
+    bytes: &[u8],
+    offset: usize,
+    len: usize,
+    table: &[usize],
+    n: usize,
+    place: &mut Place,
+) -> bool
+    ensures { Checks (InBytes bytes.now offset len × (length table.now ≡ blocks len))
+        (table.now ≡ block_counts (bits bytes.now offset len)
+        → Selects (negated (bits bytes.now offset len)) n (answered_place place.new))
+        (place.new ≡ place.old) result }
+{
+    if !has_table(bytes, offset, len, table) {
+        return false;
+    }
+    *place = vb_ranked_select_unset(bytes, offset, len, table, n);
+    true
+}
+
+/// Whether the window lies in the bytes, and the table has an entry for each of its blocks.
+fn has_table(bytes: &[u8], offset: usize, len: usize, table: &[usize]) -> bool
+    ensures { IsTrue result ↔ (InBytes bytes.now offset len × (length table.now ≡ blocks len)) }
+{
+    vb_kernel::window_fits(bytes, offset, len) && table.len() == len.div_ceil(512)
+}
