@@ -1,5 +1,7 @@
 -- Runs of calls of `next`.
 use Rattle.std.proofs.Common.{◌≤◌, refl, sym, subst, arith, Option, Some, None, List, [], ◌∷◌, ◌++◌, MatchOption}
+use Rattle.vb_core.specs.ExactCounts.{unsigned_range_counts, signed_range_counts}
+use Rattle.vb_mem.specs.Collected.{RangesGiveAll}
 use Rattle.std.specs.Iterator.{Yields, Count, IsFinite, size, MakesProgress, IsNearerEnd}
 
 -- a run and one more call that gives an item
@@ -16,3 +18,10 @@ Yields-append steps (x ∷ xs) ys s t u run more = (run.0, run.1, Yields-append 
 pub IsNearerEnd-after : {S A : Type 0} (can : S → Type 0) (left : S → Count) (s t u : S) (r : Option A) → IsFinite (left t) → size (left t) ≤ size (left s) → MakesProgress can left t r u → MatchOption r (Unit {0}) (λ _. IsNearerEnd can left s u)
 IsNearerEnd-after can left s t u None finite near goes = tt
 IsNearerEnd-after can left s t u (Some x) finite near goes = let on = goes.on finite in (on.0, on.1, omega (arith, on.2))
+
+-- the numbers of a range are counted
+pub ranges_give_all : RangesGiveAll
+ranges_give_all = (
+  (λ run seen. unsigned_range_counts.is_length run.from run seen refl),
+  (λ run seen. signed_range_counts.is_length run.from run seen refl),
+)

@@ -40,6 +40,7 @@ impl<T: Element, A: Allocator + Clone> BufferMut<T, A> {
     /// is gone then.
     pub fn aligned(self, alignment: Alignment) -> Result<Self>
         requires { T.align_exponent ≤ alignment }
+        ensures ok { IfOk result (λ b. (b.list ≡ self.list) × (b.exponent ≡ alignment)) }
         ensures in_place { (self.list ≡ []) ⊎ (alignment ≤ self.declared_exponent) →
             IsOkAnd result (λ b. b ≡ record self {
               exponent = alignment;

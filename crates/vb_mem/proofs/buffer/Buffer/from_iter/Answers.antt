@@ -11,4 +11,4 @@ returns-clause-made g c =
 pub returns-clause-len : goal.returns-clause-len
 returns-clause-len g c =
     let ran = c.in_ok-from_iter.ensures.len in
-    (Makes-map _ _ c.freeze.result (λ b shows. (ran.0, ran.1, (ran.2.0, ran.2.1, ran.2.2, ap length shows.list ∙ ran.2.3))) c.freeze.ensures).ok
+    (Makes-map _ _ c.freeze.result (λ b shows. (ran.0, ran.1, (ran.2.0, ran.2.1, ran.2.2, ap length shows.list ∙ ran.2.3), ran.3)) c.freeze.ensures).ok
