@@ -1,6 +1,6 @@
 -- Items that are read from bytes.
-use Rattle.std.proofs.Common.{◌≡◌, ℕ, ◌+◌, ◌*◌, ◌%◌, ◌<◌, List, [], ◌∷◌, ◌++◌, length, take, drop, get_or}
-use Rattle.std.proofs.Common.{append_assoc, sym, ap, ◌∙◌}
+use Rattle.std.proofs.Common.{◌≡◌, ℕ, ◌+◌, ◌*◌, ◌%◌, ◌<◌, List, [], ◌∷◌, ◌++◌}
+use Rattle.std.proofs.Common.{length, take, drop, get_or, append_assoc, sym, ap, ◌∙◌}
 use Rattle.std.proofs.Math.Seq.{take-append_seam, drop-append_seam}
 use Rattle.std.proofs.lemmas.Grind.{flat_map-append}
 use Rattle.std.proofs.lemmas.Nat.{mod-mul-add}
@@ -15,7 +15,8 @@ use Rattle.vb_bytes.specs.ByteForm.{byteform}
 pub part_are_bytes : (bytes front part rest : List ℕ) → ((i : ℕ) → Fits w8 (get_or bytes i 0))
     → front ++ (part ++ rest) ≡ bytes → AreBytes part
 part_are_bytes bytes front part rest fits is =
-    let all : AreBytes bytes = All-from_get_or (λ byte. byte < 256) bytes 0 (λ i _. (fits i).fits) in
+    let all : AreBytes bytes =
+    All-from_get_or (λ byte. byte < 256) bytes 0 (λ i _. (fits i).fits) in
     let behind : drop (length front) bytes ≡ part ++ rest =
     ap (drop (length front)) (sym is) ∙ drop-append_seam front (part ++ rest) in
     let here : take (length part) (drop (length front) bytes) ≡ part =

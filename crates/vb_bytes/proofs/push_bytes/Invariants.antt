@@ -4,7 +4,8 @@ use Rattle.vb_bytes.proofs.push_bytes.Given as goal
 
 abbrev pub invariant-loop-item : goal.invariant-loop-item
 invariant-loop-item g l = record {
-  added : l.bytes.items ≡ l.initial.bytes.items ++ byteform g.T.Element.form (take l.item-index l.items);
+  added : l.bytes.items
+      ≡ l.initial.bytes.items ++ byteform g.T.Element.form (take l.item-index l.items);
   len : length l.bytes.items ≡ length l.initial.bytes.items + l.item-index * g.T.Element.SIZE;
   room : l.bytes.cap ≡ l.initial.bytes.cap;
 }

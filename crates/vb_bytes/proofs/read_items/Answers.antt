@@ -20,15 +20,23 @@ loop-chunk-preserved g c =
     let cut = step.1.0 in
     let size : length chunk ≡ element.SIZE = step.1.1 ∙ kept.size in
     let whole = ap (λ l. byteform element.form items ++ l) (sym cut) ∙ kept.read in
-    let bytes = part_are_bytes c.args.bytes.now (byteform element.form items) chunk after c.type_inv.bytes whole in
-    let next = ap element.form c.get.ensures.value ∙ g.met.T.Element.lawful.put_after_get chunk size bytes in
+    let bytes =
+    part_are_bytes c.args.bytes.now (byteform element.form items) chunk after
+    c.type_inv.bytes whole in
+    let next =
+    ap element.form c.get.ensures.value ∙ g.met.T.Element.lawful.put_after_get chunk size bytes in
     let longer = c.push_reserved.ensures.items in
-    let many : length c.push_reserved.new.self.items ≡ length items + 1 = ap length longer ∙ length_push items c.get.result in
+    let many : length c.push_reserved.new.self.items ≡ length items + 1 =
+    ap length longer ∙ length_push items c.get.result in
     record {
       size = step.0 ∙ kept.size;
-      read = byteform-more element.form items c.args.bytes.now c.push_reserved.new.self.items c.get.result chunk before after longer next cut kept.read;
+      read =
+          byteform-more element.form items c.args.bytes.now c.push_reserved.new.self.items
+          c.get.result chunk before after longer next cut kept.read;
       len = rw many (omega (arith, kept.len, size, simp length-append at (ap length cut)));
-      in_type = All-same element.is_in_type _ _ longer (All-push element.is_in_type items c.get.result kept.in_type c.get.ensures.in_type);
+      in_type =
+          All-same element.is_in_type _ _ longer
+          (All-push element.is_in_type items c.get.result kept.in_type c.get.ensures.in_type);
       room = c.push_reserved.ensures.capacity ∙ kept.room;
     }
 
@@ -40,7 +48,9 @@ returns-clause-read g c =
     let items = c.loop-chunk.items.items in
     let rest = chunks_exact_rest c.loop-chunk.chunk-iterator in
     let few : length rest < element.SIZE = omega (arith, c.in-None.ensures.steps.1.0, kept.size) in
-    let none = no_bytes_left (length items) element.SIZE (length rest) (length c.args.bytes.now) few kept.len c.requires.whole in
+    let none =
+    no_bytes_left (length items) element.SIZE (length rest) (length c.args.bytes.now) few kept.len
+    c.requires.whole in
     record {
       bytes_are = byteform-whole element.form items c.args.bytes.now rest none kept.read;
       in_type = kept.in_type;
@@ -54,6 +64,10 @@ returns-clause-only g c others valid same =
     let items = c.loop-chunk.items.items in
     let rest = chunks_exact_rest c.loop-chunk.chunk-iterator in
     let few : length rest < element.SIZE = omega (arith, c.in-None.ensures.steps.1.0, kept.size) in
-    let none = no_bytes_left (length items) element.SIZE (length rest) (length c.args.bytes.now) few kept.len c.requires.whole in
+    let none =
+    no_bytes_left (length items) element.SIZE (length rest) (length c.args.bytes.now) few kept.len
+    c.requires.whole in
     let read = byteform-whole element.form items c.args.bytes.now rest none kept.read in
-    byteform-injective element.SIZE element.ALIGN element.align_exponent element.is_in_type element.form element.value_of g.met.T.Element.lawful others items valid kept.in_type (same ∙ sym read)
+    byteform-injective element.SIZE element.ALIGN element.align_exponent element.is_in_type
+    element.form element.value_of g.met.T.Element.lawful others items valid kept.in_type
+    (same ∙ sym read)
