@@ -6,3 +6,4 @@ pub use Rattle.vb_mem.specs.Collected
 pub use Rattle.vb_mem.specs.OpenBuffer
 pub use Rattle.vb_mem.specs.SharedBuffer
 pub use Rattle.vb_pack.specs.Asked
+pub use Rattle.vb_take.specs.Takes

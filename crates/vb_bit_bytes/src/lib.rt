@@ -8,6 +8,7 @@
 mod collect;
 mod edit;
 mod grow;
+mod indices;
 mod make;
 mod shown;
 mod window;
@@ -17,6 +18,7 @@ pub use collect::{
 };
 pub use edit::{combine, copy, fill, negate, write_bit};
 pub use grow::{push_bit, push_bits, reserve_to};
+pub use indices::from_indices;
 pub use make::{full, unaligned};
 pub use shown::write_bits;
 pub use window::push_window;

@@ -5,8 +5,8 @@ ghost use Rattle.std.specs.Int.{div_ceil};
 ghost use Rattle.vb_bits.specs.Bits.{bits};
 ghost use Rattle.vb_bits.specs.Writes.{Writes, lengthened};
 
+use crate::edit::copy;
 use std::alloc::Allocator;
-use vb_bits::copy_bits;
 use vb_core::BufferError;
 use vb_mem::ByteBufferMut;
 
@@ -41,36 +41,18 @@ pub fn push_window<A: Allocator + Clone>(
     let len = bytes.len();
     let count = (start + n).div_ceil(8);
     if count <= len {
-        copy_window(bytes, start, source, offset, n);
+        copy(bytes, start, source, offset, n);
         return Ok(());
     }
     let added = count - len;
     if start % 8 != offset % 8 {
         bytes.push_n(0, added)?;
-        copy_window(bytes, start, source, offset, n);
+        copy(bytes, start, source, offset, n);
         return Ok(());
     }
     let there = 8 * len - start;
     let from = (offset + there) / 8;
     bytes.extend_from_slice(&source[from..from + added])?;
-    copy_window(bytes, start, source, offset, there);
+    copy(bytes, start, source, offset, there);
     Ok(())
-}
-
-/// Copies the `n` bits of `source` from bit `offset` on to the bits from bit `start` on.
-fn copy_window<A: Allocator + Clone>(
-    bytes: &mut ByteBufferMut<A>,
-    start: usize,
-    source: &[u8],
-    offset: usize,
-    n: usize,
-)
-    requires into { start + n ≤ 8 * length bytes.old.list }
-    requires into_fits { start + n < 2 ^ 64 }
-    requires from { offset + n ≤ 8 * length source.now }
-    requires from_fits { offset + n < 2 ^ 64 }
-    ensures bits { Writes bytes.old.list bytes.new.list start (bits source.now offset n) }
-    ensures keeps { bytes.new ≡ record bytes.old { list = bytes.new.list } }
-{
-    copy_bits(bytes.as_mut_slice(), start, source, offset, n);
 }

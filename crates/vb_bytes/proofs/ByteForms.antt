@@ -1,5 +1,6 @@
 -- Items and their bytes determine each other.
-use Rattle.std.proofs.Common.{◌≡◌, ℕ, ◌<◌, List, [], ◌∷◌, length, take, drop, refl, sym, ap, ◌∙◌, arith}
+use Rattle.std.proofs.Common.{◌≡◌, ℕ, ◌<◌, List, [], ◌∷◌, length, take, drop}
+use Rattle.std.proofs.Common.{refl, sym, ap, ◌∙◌, arith}
 use Rattle.std.proofs.lemmas.List.{length-append}
 use Rattle.std.proofs.lemmas.List.Elements.{All-head, All-tail}
 use Rattle.std.proofs.Math.Seq.{take-append_seam, drop-append_seam}
@@ -7,7 +8,8 @@ use Rattle.std.specs.List.{All}
 use Rattle.vb_core.specs.Elements.{IsElement}
 use Rattle.vb_bytes.specs.ByteForm.{byteform}
 
-module _ {T : Type 0} (size align align_exponent : ℕ) (is_in_type : T → Type 0) (form : T → List ℕ) (value_of : List ℕ → T)
+module _ {T : Type 0} (size align align_exponent : ℕ) (is_in_type : T → Type 0)
+    (form : T → List ℕ) (value_of : List ℕ → T)
     (laws : IsElement size align align_exponent is_in_type form value_of) where
   -- an item has bytes, so the bytes of no items are those of none
   byteform-some : (x : T) (xs : List T) → is_in_type x → 0 < length (byteform form (x ∷ xs))
@@ -17,7 +19,8 @@ module _ {T : Type 0} (size align align_exponent : ℕ) (is_in_type : T → Type
       omega (arith, length-append (form x) (byteform form xs))
 
   -- lists of values of the type that have the same bytes are the same
-  pub byteform-injective : (xs ys : List T) → All is_in_type xs → All is_in_type ys → byteform form xs ≡ byteform form ys → xs ≡ ys
+  pub byteform-injective : (xs ys : List T) → All is_in_type xs → All is_in_type ys
+      → byteform form xs ≡ byteform form ys → xs ≡ ys
   byteform-injective [] [] xs_valid ys_valid same = refl
   byteform-injective [] (y ∷ ys) xs_valid ys_valid same =
       let some = byteform-some y ys (All-head is_in_type y ys ys_valid) in
@@ -30,7 +33,8 @@ module _ {T : Type 0} (size align align_exponent : ℕ) (is_in_type : T → Type
   byteform-injective (x ∷ xs) (y ∷ ys) xs_valid ys_valid same =
       let x_valid = All-head is_in_type x xs xs_valid in
       let y_valid = All-head is_in_type y ys ys_valid in
-      let long : length (form x) ≡ length (form y) = laws.form_has_size x x_valid ∙ sym (laws.form_has_size y y_valid) in
+      let long : length (form x) ≡ length (form y) =
+      laws.form_has_size x x_valid ∙ sym (laws.form_has_size y y_valid) in
       let first : form x ≡ form y =
       sym (take-append_seam (form x) (byteform form xs))
       ∙ ap (take (length (form x))) same
@@ -41,6 +45,9 @@ module _ {T : Type 0} (size align align_exponent : ℕ) (is_in_type : T → Type
       ∙ ap (drop (length (form x))) same
       ∙ ap (λ n. drop n (byteform form (y ∷ ys))) long
       ∙ drop-append_seam (form y) (byteform form ys) in
-      let item : x ≡ y = sym (laws.get_after_put x x_valid) ∙ ap value_of first ∙ laws.get_after_put y y_valid in
+      let item : x ≡ y =
+      sym (laws.get_after_put x x_valid) ∙ ap value_of first ∙ laws.get_after_put y y_valid in
       ap (λ z. z ∷ xs) item
-      ∙ ap (λ zs. y ∷ zs) (byteform-injective xs ys (All-tail is_in_type x xs xs_valid) (All-tail is_in_type y ys ys_valid) others)
+      ∙ ap (λ zs. y ∷ zs)
+      (byteform-injective xs ys (All-tail is_in_type x xs xs_valid)
+      (All-tail is_in_type y ys ys_valid) others)

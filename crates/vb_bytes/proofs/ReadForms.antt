@@ -1,33 +1,53 @@
 -- Items that are read from bytes.
-use Rattle.std.proofs.Common.{◌≡◌, ℕ, ◌+◌, ◌<◌, List, [], ◌∷◌, ◌++◌, length, take, drop, get_or, slice_set, sym, ap, ◌∙◌}
+use Rattle.std.proofs.Common.{◌≡◌, ℕ, ◌+◌, ◌*◌, ◌%◌, ◌<◌, List, [], ◌∷◌, ◌++◌}
+use Rattle.std.proofs.Common.{length, take, drop, get_or, append_assoc, sym, ap, ◌∙◌}
+use Rattle.std.proofs.Math.Seq.{take-append_seam, drop-append_seam}
 use Rattle.std.proofs.lemmas.Grind.{flat_map-append}
-use Rattle.std.proofs.lemmas.List.{append-nil, take_more_set}
-use Rattle.std.proofs.lemmas.List.Elements.{All-same, All-push, All-take, All-drop, All-from_get_or}
-use Rattle.std.proofs.Math.Seq.{take-add}
-use Rattle.std.specs.List.{flat_map}
+use Rattle.std.proofs.lemmas.Nat.{mod-mul-add}
+use Rattle.std.proofs.lemmas.List.{append-nil, nil_from_length}
+use Rattle.std.proofs.lemmas.List.Elements.{All-same, All-take, All-drop, All-from_get_or}
 use mir.Syntax.{w8}
 use mir.Val.{Fits}
 use Rattle.vb_core.specs.Elements.{AreBytes}
-use Rattle.vb_bytes.specs.ByteForm.{IsReadFrom}
+use Rattle.vb_bytes.specs.ByteForm.{byteform}
 
 -- a part of a slice of bytes
-pub part_are_bytes : (bytes : List ℕ) → ((i : ℕ) → Fits w8 (get_or bytes i 0)) → (start len : ℕ) → AreBytes (take len (drop start bytes))
-part_are_bytes bytes fits start len =
-    let all : AreBytes bytes = All-from_get_or (λ byte. byte < 256) bytes 0 (λ i _. (fits i).fits) in
-    All-take (λ byte. byte < 256) len (drop start bytes) (All-drop (λ byte. byte < 256) start bytes all)
+pub part_are_bytes : (bytes front part rest : List ℕ) → ((i : ℕ) → Fits w8 (get_or bytes i 0))
+    → front ++ (part ++ rest) ≡ bytes → AreBytes part
+part_are_bytes bytes front part rest fits is =
+    let all : AreBytes bytes =
+    All-from_get_or (λ byte. byte < 256) bytes 0 (λ i _. (fits i).fits) in
+    let behind : drop (length front) bytes ≡ part ++ rest =
+    ap (drop (length front)) (sym is) ∙ drop-append_seam front (part ++ rest) in
+    let here : take (length part) (drop (length front) bytes) ≡ part =
+    ap (take (length part)) behind ∙ take-append_seam part rest in
+    All-same (λ byte. byte < 256) part _ (sym here)
+    (All-take (λ byte. byte < 256) (length part) _
+    (All-drop (λ byte. byte < 256) (length front) bytes all))
 
--- one more item, whose bytes are the next ones
-pub IsReadFrom-more : {T : Type 0} (form : T → List ℕ) (is_in_type : T → Type 0) (bytes : List ℕ) (items : List T) (start size i : ℕ) (item : T)
-    → i < length items → IsReadFrom form is_in_type (take start bytes) (take i items) → form item ≡ take size (drop start bytes) → is_in_type item
-    → IsReadFrom form is_in_type (take (start + size) bytes) (take (i + 1) (slice_set items i item))
-IsReadFrom-more form is_in_type bytes items start size i item below before next valid =
-    let longer = take_more_set items i item below in
-    record {
-      bytes_are =
-          ap (flat_map form) longer
-          ∙ flat_map-append form (take i items) (item ∷ [])
-          ∙ ap (λ front. front ++ (form item ++ [])) before.bytes_are
-          ∙ ap (λ rest. take start bytes ++ rest) (append-nil (form item) ∙ next)
-          ∙ sym (take-add start size bytes);
-      in_type = All-same is_in_type _ _ longer (All-push is_in_type (take i items) item before.in_type valid);
-    }
+-- bytes that whole items leave, fewer than an item has
+pub no_bytes_left : (items size rest bytes : ℕ) → rest < size → items * size + rest ≡ bytes
+    → bytes % size ≡ 0 → rest ≡ 0
+no_bytes_left items size rest bytes few all whole =
+    sym (mod-mul-add items size rest few) ∙ ap (λ n. n % size) all ∙ whole
+
+module _ {T : Type 0} (form : T → List ℕ) (items : List T) (bytes : List ℕ) where
+  -- one more item, whose bytes are the next ones
+  pub byteform-more : (more : List T) (item : T) (part before after : List ℕ)
+      → more ≡ items ++ item ∷ [] → form item ≡ part → before ≡ part ++ after
+      → byteform form items ++ before ≡ bytes → byteform form more ++ after ≡ bytes
+  byteform-more more item part before after longer next cut read =
+      let front = byteform form items in
+      ap (λ l. byteform form l ++ after) longer
+      ∙ ap (λ l. l ++ after) (flat_map-append form items (item ∷ []))
+      ∙ ap (λ l. (front ++ l) ++ after) (append-nil (form item) ∙ next)
+      ∙ append_assoc front part after
+      ∙ ap (λ l. front ++ l) (sym cut)
+      ∙ read
+
+  -- no bytes are left
+  pub byteform-whole : (rest : List ℕ) → length rest ≡ 0 → byteform form items ++ rest ≡ bytes
+      → byteform form items ≡ bytes
+  byteform-whole rest none read =
+      sym (append-nil (byteform form items))
+      ∙ ap (λ l. byteform form items ++ l) (sym (nil_from_length rest none)) ∙ read

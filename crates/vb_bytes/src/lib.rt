@@ -3,9 +3,11 @@
 //! The bytes of an element are those that [`Element::put`] writes and [`Element::get`] reads.
 #![tactic(auto)]
 
-ghost use Rattle.std.specs.Prelude.{◌≡◌, ◌≢◌, ◌*◌, ◌%◌, ◌^◌, ◌<◌, ◌≤◌, length, IfOk, IsOk, IsErrOf};
+ghost use Rattle.std.specs.Prelude.{◌≡◌, ◌≢◌, ◌+◌, ◌*◌, ◌%◌, ◌^◌, ◌<◌, ◌≤◌, [], ◌++◌};
+ghost use Rattle.std.specs.Prelude.{length, vec_capacity, IfOk, IsOk, IsErrOf};
 ghost use Rattle.vb_bytes.specs.ByteForm.{byteform, IsReadFrom, AreOnlyItems};
 
+use std::alloc::Allocator;
 use vb_core::{BufferError, Element};
 
 /// The number of bytes of so many items. Refused with `TooManyBytes` exactly where it passes
@@ -31,29 +33,42 @@ pub fn item_count<T: Element>(len: usize) -> Result<usize, BufferError>
     Ok(len / size)
 }
 
-/// Writes the bytes of items over as many bytes. It compiles to moves of blocks.
-pub fn put_items<T: Element>(items: &[T], bytes: &mut [u8])
-    requires { length bytes.old ≡ length items.now * T.SIZE }
-    ensures { bytes.new ≡ byteform T.form items.now }
+/// Adds the bytes of items behind those that are there, where there is room for them. It compiles
+/// to moves of blocks, and writes each byte once.
+pub fn push_bytes<T: Element, A: Allocator>(items: &[T], bytes: &mut Vec<u8, A>)
+    requires { length bytes.old.items + length items.now * T.SIZE ≤ vec_capacity bytes.old }
+    ensures { bytes.new.items ≡ bytes.old.items ++ byteform T.form items.now }
 {
-    let mut start = 0;
     for item in items {
-        let end = start + T::SIZE;
-        item.put(&mut bytes[start..end]);
-        start = end;
+        push_form(*item, bytes);
     }
 }
 
-/// Reads items from as many bytes over items. They are the only ones that have these bytes.
-pub fn get_items<T: Element>(bytes: &[u8], items: &mut [T])
-    requires { length bytes.now ≡ length items.old * T.SIZE }
-    ensures read { IsReadFrom T.form T.is_in_type bytes.now items.new }
-    ensures only { AreOnlyItems T.form T.is_in_type bytes.now items.new }
+/// Adds the bytes of an item, for which there is room. The zeros that `put` writes over are never
+/// stored, since the compiler finds them written over.
+fn push_form<T: Element, A: Allocator>(item: T, bytes: &mut Vec<u8, A>)
+    requires { length bytes.old.items + T.SIZE ≤ vec_capacity bytes.old }
+    ensures form { bytes.new.items ≡ bytes.old.items ++ T.form item }
+    ensures len { length bytes.new.items ≡ length bytes.old.items + T.SIZE }
+    ensures capacity { vec_capacity bytes.new ≡ vec_capacity bytes.old }
 {
-    let mut start = 0;
-    for item in items.iter_mut() {
-        let end = start + T::SIZE;
-        *item = T::get(&bytes[start..end]);
-        start = end;
+    let start = bytes.len();
+    for _ in 0..T::SIZE {
+        bytes.push_reserved(0);
+    }
+    item.put(&mut bytes[start..]);
+}
+
+/// Reads the items whose bytes these are into a vector that is empty and has room for them, each
+/// once. They are the only items that have these bytes. It compiles to moves of blocks.
+pub fn read_items<T: Element, A: Allocator>(bytes: &[u8], items: &mut Vec<T, A>)
+    requires empty { items.old.items ≡ [] }
+    requires whole { length bytes.now % T.SIZE ≡ 0 }
+    requires room { length bytes.now ≤ vec_capacity items.old * T.SIZE }
+    ensures read { IsReadFrom T.form T.is_in_type bytes.now items.new.items }
+    ensures only { AreOnlyItems T.form T.is_in_type bytes.now items.new.items }
+{
+    for chunk in bytes.chunks_exact(T::SIZE) {
+        items.push_reserved(T::get(chunk));
     }
 }

@@ -14,10 +14,17 @@ mod-mod-lesser n j k h =
 -- a sum and a product that wrap at 64 bits keep the remainder
 pub mod-wrapped : (n size k : ℕ) → k < 64 → n % 2 ^ 64 * size % 2 ^ 64 % 2 ^ k ≡ n * size % 2 ^ k
 mod-wrapped n size k h =
-    ap (λ m. m % 2 ^ k) (mul-mod_first n size (2 ^ 64)) ∙ mod-mod-lesser (n * size) 64 k (omega arith)
+    ap (λ m. m % 2 ^ k) (mul-mod_first n size (2 ^ 64))
+    ∙ mod-mod-lesser (n * size) 64 k (omega arith)
 
--- so many items on from a place, a power of two that divides the place and the size of an item divides the place there
-pub mod-items_on : (place start size reported least : ℕ) → least ≤ reported → place % 2 ^ reported ≡ 0 → size % 2 ^ least ≡ 0 → (place + start * size) % 2 ^ least ≡ 0
+-- so many items on from a place, a power of two that divides the place and the size of an item
+-- divides the place there
+pub mod-items_on : (place start size reported least : ℕ) → least ≤ reported
+    → place % 2 ^ reported ≡ 0 → size % 2 ^ least ≡ 0 → (place + start * size) % 2 ^ least ≡ 0
 mod-items_on place start size reported least le at whole =
-    let here : place % 2 ^ least ≡ 0 = sym (mod-mod-lesser place reported least le) ∙ ap (λ m. m % 2 ^ least) at ∙ mod-eq-zero_of_dvd (2 ^ least) (dvd-zero (2 ^ least)) in
-    mod-eq-zero_of_dvd (2 ^ least) (dvd-add (2 ^ least) (dvd_of_mod-eq-zero (2 ^ least) here) (dvd-mul_left_of_dvd (2 ^ least) (dvd_of_mod-eq-zero (2 ^ least) whole) start))
+    let here : place % 2 ^ least ≡ 0 =
+    sym (mod-mod-lesser place reported least le) ∙ ap (λ m. m % 2 ^ least) at
+    ∙ mod-eq-zero_of_dvd (2 ^ least) (dvd-zero (2 ^ least)) in
+    mod-eq-zero_of_dvd (2 ^ least)
+    (dvd-add (2 ^ least) (dvd_of_mod-eq-zero (2 ^ least) here)
+    (dvd-mul_left_of_dvd (2 ^ least) (dvd_of_mod-eq-zero (2 ^ least) whole) start))

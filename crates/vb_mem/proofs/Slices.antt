@@ -1,12 +1,14 @@
 -- Parts of a buffer that has the alignment that it reports.
-use Rattle.std.proofs.Common.{◌≡◌, ℕ, ◌*◌, ◌%◌, ◌^◌, ◌≤◌, length, subst, sym, ap, ◌∙◌, inl, inr, arith}
+use Rattle.std.proofs.Common.{◌≡◌, ℕ, ◌*◌, ◌%◌, ◌^◌, ◌≤◌, length, subst, sym, ap, ◌∙◌}
+use Rattle.std.proofs.Common.{inl, inr, arith}
 use Rattle.std.proofs.Math.Nat.{dvd-add}
 use Rattle.std.proofs.lemmas.Nat.Gcd.{dvd_of_mod-eq-zero, mod-eq-zero_of_dvd}
 use Rattle.vb_mem.specs.SharedBuffer.{SharedBuffer, IsAlignedTo, CanSlice, CanNarrow}
 
 -- so many bytes on, a multiple of the alignment, the alignment is there again
 pub can_slice-narrow : {T : Type 0} (size least : ℕ) (b : SharedBuffer T) (start end alignment : ℕ)
-    → alignment ≡ b.exponent → least ≤ alignment → alignment ≤ b.declared_exponent → IsAlignedTo b alignment
+    → alignment ≡ b.exponent → least ≤ alignment → alignment ≤ b.declared_exponent
+    → IsAlignedTo b alignment
     → CanNarrow size least b start end → CanSlice size least b start end alignment
 can_slice-narrow size least b start end alignment same at_least fits aligned can =
     elim can [
@@ -18,7 +20,9 @@ can_slice-narrow size least b start end alignment same at_least fits aligned can
         elim aligned [
           | inl empty ↦ inl (omega (arith, on.0, on.1, ap length empty))
           | inr here ↦ inr (
-            mod-eq-zero_of_dvd (2 ^ alignment) (dvd-add (2 ^ alignment) (dvd_of_mod-eq-zero (2 ^ alignment) here.0) (dvd_of_mod-eq-zero (2 ^ alignment) (ap (λ n. start * size % 2 ^ n) same ∙ on.2))),
+            mod-eq-zero_of_dvd (2 ^ alignment)
+                (dvd-add (2 ^ alignment) (dvd_of_mod-eq-zero (2 ^ alignment) here.0)
+                (dvd_of_mod-eq-zero (2 ^ alignment) (ap (λ n. start * size % 2 ^ n) same ∙ on.2))),
             fits,
           )
         ],

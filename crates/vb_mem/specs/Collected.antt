@@ -1,18 +1,30 @@
 -- What runs of iterators do to a list.
-use Rattle.std.specs.Prelude.{ℕ, Option, MatchOption, Result, Ok, Err, List, ◌∷◌, ◌++◌, [], map}
+use Rattle.std.specs.Prelude.{◌≡◌, ℕ, ◌+◌, ◌-◌, pos, ◌+ℤ◌, true, Option, MatchOption, Result}
+use Rattle.std.specs.Prelude.{Ok, Err, List, ◌∷◌, ◌++◌, [], map}
+use Rattle.std.specs.Int.{int_gap}
 use Rattle.std.specs.Iterator.{Count, Drains, Yields, YieldsThen, IsNearerEnd}
-use Rattle.std.specs.Iterator.Runs.{WholeRun}
+use Rattle.std.specs.Iterator.Runs.{WholeRun, EveryRun}
+use Rattle.std.specs.Range.{range_steps}
 use Rattle.vb_core.specs.declared.error.ExtendError.{ExtendError}
 use Rattle.vb_core.specs.declared.error.ExtendError.TheVariants.{Memory, Item}
+
+-- each whole run of a range gives as many numbers as lie between its ends
+abbrev pub RangesGiveAll : Type 0
+RangesGiveAll =
+    EveryRun (range_steps (λ (x y : ℕ). y - x) (λ x y. y ≡ x + 1))
+    (λ run. run.whole ≡ true → run.len ≡ run.from.end - run.from.start)
+    × EveryRun (range_steps int_gap (λ x y. y ≡ x +ℤ pos 1))
+    (λ run. run.whole ≡ true → run.len ≡ int_gap run.from.start run.from.end)
 
 module _ {U S A : Type 0} (becomes : U → S → Type 0) (steps : S → Option A → S → Type 0) where
   -- an iterator that is made of `source` came to its end, and P holds of the items that it gave
   abbrev pub OfItems : U → (List A → Type 0) → Type 0
   OfItems source P = (s : S) × (items : List A) × becomes source s × Drains steps s items × P items
 
-  -- and P holds of their number
+  -- and P holds of their number; how many a range gives is said here too, since nothing else does
   abbrev pub OfRun : U → (ℕ → Type 0) → Type 0
-  OfRun source P = (s : S) × becomes source s × WholeRun steps s (λ run. P run.len)
+  OfRun source P =
+      (s : S) × becomes source s × WholeRun steps s (λ run. P run.len) × RangesGiveAll
 
 module _ {S A : Type 0} (can : S → Type 0) (left : S → Count)
     (steps : S → Option A → S → Type 0) where

@@ -5,9 +5,7 @@ ghost use Rattle.vb_take.specs.Takes.{with_true, AllBelow, IndexRefused};
 
 use super::BitBuffer;
 use std::alloc::Allocator;
-use vb_bit_bytes::full;
 use vb_core::BufferError;
-use vb_take::set_bits_at;
 
 #[tactic(auto, using(crate::proofs::SetLemmas::sets))]
 impl<A: Allocator + Clone> BitBuffer<A> {
@@ -23,10 +21,7 @@ impl<A: Allocator + Clone> BitBuffer<A> {
         ensures bytes { IfOk result (λ s. length s.bytes ≡ div_ceil len 8) }
         ensures refused { IfErr result (IndexRefused len indices.now) }
     {
-        let mut bytes = full(alloc, false, len)?;
-        match set_bits_at(bytes.as_mut_slice(), len, indices) {
-            Ok(()) => Ok(BitBuffer::window_of(bytes.freeze()?, len, 0)),
-            Err(index) => Err(BufferError::IndexOutOfRange { index, len }),
-        }
+        let bytes = vb_bit_bytes::from_indices(alloc, len, indices)?.freeze()?;
+        Ok(BitBuffer::window_of(bytes, len, 0))
     }
 }

@@ -9,7 +9,7 @@ use crate::Result;
 use crate::buffer_mut::BufferMut;
 use bytes::Bytes;
 use std::alloc::Allocator;
-use vb_bytes::{get_items, item_count};
+use vb_bytes::{item_count, read_items};
 use vb_core::{Alignment, Element};
 
 impl<T: Element, A: Allocator + Clone> Buffer<T, A> {
@@ -85,8 +85,8 @@ impl<T: Element, A: Allocator + Clone> Buffer<T, A> {
             (ShowsRead T.form T.is_in_type bytes.now alignment) result }
     {
         let len = item_count::<T>(bytes.len())?;
-        let mut items = BufferMut::zeroed_aligned(alloc.clone()?, len, alignment)?;
-        get_items(bytes, items.as_mut_slice());
+        let mut items = BufferMut::with_capacity_aligned(alloc.clone()?, len, alignment)?;
+        read_items(bytes, &mut items.items);
         items.freeze()
     }
 }

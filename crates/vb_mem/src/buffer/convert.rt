@@ -1,5 +1,6 @@
 //! More owners of a buffer, other alignments, and items to be written.
-ghost use Rattle.std.specs.Prelude.{◌≡◌, ◌≤◌, IfOk, IfErr, IsOkAnd, IsErrOf, IsOkUnless};
+ghost use Rattle.std.specs.Prelude.{◌≡◌, ◌≤◌};
+ghost use Rattle.std.specs.Prelude.{IfOk, IfErr, IsOk, IsOkAnd, IsErrOf, IsOkUnless};
 ghost use Rattle.std.specs.Borrow.{sem};
 ghost use Rattle.vb_mem.specs.Answers.{Makes};
 ghost use Rattle.vb_mem.specs.OpenBuffer.{Holds};
@@ -46,8 +47,8 @@ impl<T: Element, A: Allocator> Buffer<T, A> {
     /// buffer is gone then.
     pub fn ensure_aligned(self, alignment: Alignment) -> Result<Self>
         requires { T.align_exponent ≤ alignment }
-        ensures aligned { IsAlignedTo self alignment →
-            IsOkAnd result (Shows self.list alignment self.place self.declared_exponent) }
+        ensures ok { IfOk result (Shows self.list alignment self.place self.declared_exponent) }
+        ensures aligned { IsAlignedTo self alignment → IsOk result }
         ensures not_aligned { ¬ (IsAlignedTo self alignment) →
             IsErrOf result BufferError.NotAligned }
     {
@@ -95,6 +96,7 @@ impl<T: Element, A: Allocator + Clone> Buffer<T, A> {
     /// refused; else the items are copied. Refused with `OutOfMemory`; the buffer is gone then.
     pub fn aligned(self, alignment: Alignment) -> Result<Self>
         requires { T.align_exponent ≤ alignment }
+        ensures ok { IfOk result (λ b. (b.list ≡ self.list) × (b.exponent ≡ alignment)) }
         ensures in_place { IsAlignedTo self alignment →
             IsOkAnd result (Shows self.list alignment self.place self.declared_exponent) }
         ensures copied { ¬ (IsAlignedTo self alignment) →

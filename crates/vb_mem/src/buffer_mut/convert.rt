@@ -10,7 +10,7 @@ use super::BufferMut;
 use crate::Result;
 use crate::buffer::Buffer;
 use std::alloc::Allocator;
-use vb_bytes::{byte_count, put_items};
+use vb_bytes::{byte_count, push_bytes};
 use vb_core::{Alignment, BufferError, Element};
 
 impl<T: Element, A: Allocator + Clone> BufferMut<T, A> {
@@ -40,6 +40,7 @@ impl<T: Element, A: Allocator + Clone> BufferMut<T, A> {
     /// is gone then.
     pub fn aligned(self, alignment: Alignment) -> Result<Self>
         requires { T.align_exponent ≤ alignment }
+        ensures ok { IfOk result (λ b. (b.list ≡ self.list) × (b.exponent ≡ alignment)) }
         ensures in_place { (self.list ≡ []) ⊎ (alignment ≤ self.declared_exponent) →
             IsOkAnd result (λ b. b ≡ record self {
               exponent = alignment;
@@ -88,8 +89,8 @@ impl<A: Allocator + Clone> BufferMut<u8, A> {
             (HoldsMade (byteform T.form items.now) alignment) result }
     {
         let len = byte_count::<T>(items.len())?;
-        let mut bytes = BufferMut::zeroed_aligned(alloc.clone()?, len, alignment)?;
-        put_items(items, bytes.as_mut_slice());
+        let mut bytes = BufferMut::with_capacity_aligned(alloc.clone()?, len, alignment)?;
+        push_bytes(items, &mut bytes.items);
         Ok(bytes)
     }
 }

@@ -5,9 +5,7 @@ ghost use Rattle.vb_take.specs.Takes.{with_true, AllBelow, IndexRefused};
 
 use super::BitBufferMut;
 use std::alloc::Allocator;
-use vb_bit_bytes::full;
 use vb_core::BufferError;
-use vb_take::set_bits_at;
 
 #[tactic(auto, using(vb_bit_bytes::proofs::BytesLemmas::edits))]
 impl<A: Allocator + Clone> BitBufferMut<A> {
@@ -24,10 +22,7 @@ impl<A: Allocator + Clone> BitBufferMut<A> {
         ensures alignment { IfOk result (λ s. s.exponent ≡ 0) }
         ensures refused { IfErr result (IndexRefused len indices.now) }
     {
-        let mut bytes = full(alloc, false, len)?;
-        match set_bits_at(bytes.as_mut_slice(), len, indices) {
-            Ok(()) => Ok(BitBufferMut::from_buffer(bytes, 0, len)),
-            Err(index) => Err(BufferError::IndexOutOfRange { index, len }),
-        }
+        let bytes = vb_bit_bytes::from_indices(alloc, len, indices)?;
+        Ok(BitBufferMut::from_buffer(bytes, 0, len))
     }
 }

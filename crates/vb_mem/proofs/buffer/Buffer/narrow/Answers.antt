@@ -8,5 +8,9 @@ narrow-requires-clause-can_slice g c =
     let range = c.args.range in
     let element = g.T.Element in
     let reported = c.alignment-alignment.ensures in
-    let there = can_slice-narrow element.SIZE element.align_exponent c.args.self.now range.start range.end c.alignment-alignment.result reported.value reported.at_least reported.fits reported.aligned c.requires in
-    subst (λ b. CanSlice element.SIZE element.align_exponent b range.start range.end c.alignment-alignment.result) (sym c.self.view_is) there
+    let alignment = c.alignment-alignment.result in
+    let there =
+    can_slice-narrow element.SIZE element.align_exponent c.args.self.now range.start range.end
+    alignment reported.value reported.at_least reported.fits reported.aligned c.requires in
+    subst (λ b. CanSlice element.SIZE element.align_exponent b range.start range.end alignment)
+    (sym c.self.view_is) there

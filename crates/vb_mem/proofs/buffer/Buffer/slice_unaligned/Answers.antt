@@ -7,6 +7,7 @@ slice_with_alignment-requires g c =
     let b = c.args.self.now in
     let range = c.args.range in
     let reported = c.alignment.ensures in
+    let size = g.T.Element.SIZE in
     let laws = g.met.T.Element.lawful in
     rw c.of.ensures.exponent (
       c.requires.start_le_end,
@@ -14,6 +15,11 @@ slice_with_alignment-requires g c =
       omega arith,
       elim reported.aligned [
         | inl empty ↦ inl (omega (arith, ap length empty))
-        | inr at ↦ inr (mod-items_on b.place range.start g.T.Element.SIZE c.alignment.result g.T.Element.align_exponent reported.at_least at.0 (ap (λ n. g.T.Element.SIZE % n) (sym laws.align_is_power) ∙ laws.align_divides_size), omega arith)
+        | inr at ↦ inr (
+          mod-items_on b.place range.start size c.alignment.result g.T.Element.align_exponent
+              reported.at_least at.0 (ap (λ n. size % n) (sym laws.align_is_power)
+              ∙ laws.align_divides_size),
+          omega arith,
+        )
       ],
     )

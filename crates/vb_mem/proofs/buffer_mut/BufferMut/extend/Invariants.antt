@@ -9,7 +9,8 @@ invariant-loop-item g l =
     record {
       can : iter.can_next l.rest;
       finite : IsFinite (iter.remaining l.rest);
-      given : (items : List g.row.T.Denot) × Yields iter.next_gives l.initial.rest items l.rest × Lengthens items l.fn.self l.self;
+      given : (items : List g.row.T.Denot) × Yields iter.next_gives l.initial.rest items l.rest
+          × Lengthens items l.fn.self l.self;
     }
 
 abbrev pub decreases-loop-item : goal.decreases-loop-item

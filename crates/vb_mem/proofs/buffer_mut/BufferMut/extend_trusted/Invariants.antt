@@ -6,7 +6,8 @@ invariant-loop-item g l = record {
   can : (goal.iterator-loop-item g).can_next l.item-iterator;
   ends : (goal.iterator-loop-item g).is_finite l.item-iterator;
   list : l.self-inside.items.items ≡ l.fn.self.list ++ l.yielded;
-  room : length l.self-inside.items.items + g.I.TrustedLen.left l.item-iterator ≤ l.self-inside.items.cap;
+  room : length l.self-inside.items.items + g.I.TrustedLen.left l.item-iterator
+      ≤ l.self-inside.items.cap;
   grows : l.fn.self.room ≤ l.self-inside.items.cap;
   alignment : l.self-inside.alignment ≡ l.fn.self.exponent;
   declared : l.self-inside.declared ≡ l.fn.self.declared_exponent;

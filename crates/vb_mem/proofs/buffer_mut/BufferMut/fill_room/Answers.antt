@@ -27,6 +27,8 @@ returns-clause-fills g c =
       },
       (
         (c.loop.iter, c.loop.yielded_by, c.next-over.ensures.steps),
-        IsNearerEnd-after g.I.Iterator.can_next g.I.Iterator.remaining c.args.iter c.loop.iter c.next-over.new.self c.next-over.result c.loop.iterator.1 kept.nearer c.next-over.ensures.goes,
+        IsNearerEnd-after g.I.Iterator.can_next g.I.Iterator.remaining c.args.iter c.loop.iter
+            c.next-over.new.self c.next-over.result c.loop.iterator.1 kept.nearer
+            c.next-over.ensures.goes,
       ),
     )

@@ -8,7 +8,9 @@ returns-in-Err-clause-err g c =
     let kept = c.loop-item.invariant in
     let start = c.into_iter-item-iterator.result in
     let begins : start ≡ c.args.iter = c.into_iter-item-iterator.ensures.into_iter_gives in
-    let run = Yields-push g.I.Iterator.next_gives c.loop-item.yielded start c.loop-item.item-iterator c.next.new.self c.in-Some.item c.loop-item.yielded_by c.in-Some.ensures.steps in (
+    let run =
+    Yields-push g.I.Iterator.next_gives c.loop-item.yielded start c.loop-item.item-iterator
+    c.next.new.self c.in-Some.item c.loop-item.yielded_by c.in-Some.ensures.steps in (
       kept.list.0,
       c.next.new.self,
       rw (← kept.list.1, ← c.in-Err.is, ← begins) run,

@@ -12,7 +12,9 @@ returns-in-Some-clause-shows g c =
     let within = rw (c.in-Stored.is, c.in-Some.is) at c.requires.can_slice in
     let short : range.end ≤ outer.len = omega (arith, simp length-take at within.1) in
     rw (c.in-Stored.is, c.in-Some.is) (record {
-      list = sym (slice_range-window rc.value.list outer.start outer.len range.start range.end within.0 short);
+      list =
+          sym (slice_range-window rc.value.list outer.start outer.len range.start range.end within.0
+          short);
       alignment = refl;
       place = λ _. omega arith;
       declared = λ _. refl;
