@@ -160,7 +160,7 @@ impl<'a> BitBufferView<'a> {
         ensures below { All (λ i. i < length (bits_of self.now)) result }
         ensures count { length result ≡ count (bits_of self.now) }
         ensures few { length result ≤ length (bits_of self.now) }
-        ensures fits { length result < 2 ^ 64 }
+        ensures fits { length (bits_of self.now) < 2 ^ 64 }
     {
         BitIndexIterator::new(self.bytes, self.offset, self.len)
     }
@@ -170,7 +170,7 @@ impl<'a> BitBufferView<'a> {
         ensures value { result ≡ runs (bits_of self.now) }
         ensures within { All (λ run. (run.0 < run.1) × (run.1 ≤ length (bits_of self.now))) result }
         ensures few { length result ≤ length (bits_of self.now) }
-        ensures fits { length result < 2 ^ 64 }
+        ensures fits { length (bits_of self.now) < 2 ^ 64 }
     {
         BitSliceIterator::new(self.bytes, self.offset, self.len)
     }

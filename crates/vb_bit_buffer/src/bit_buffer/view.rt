@@ -35,7 +35,7 @@ impl<A: Allocator + Clone> BitBuffer<A> {
         ensures below { All (λ i. i < length self.now.bits) result }
         ensures count { length result ≡ count self.now.bits }
         ensures few { length result ≤ length self.now.bits }
-        ensures fits { length result < 2 ^ 64 }
+        ensures fits { length self.now.bits < 2 ^ 64 }
     {
         self.as_view().set_indices()
     }
@@ -45,7 +45,7 @@ impl<A: Allocator + Clone> BitBuffer<A> {
         ensures value { result ≡ runs self.now.bits }
         ensures within { All (λ run. (run.0 < run.1) × (run.1 ≤ length self.now.bits)) result }
         ensures few { length result ≤ length self.now.bits }
-        ensures fits { length result < 2 ^ 64 }
+        ensures fits { length self.now.bits < 2 ^ 64 }
     {
         self.as_view().set_slices()
     }
