@@ -1,16 +1,8 @@
--- What is asked of columns, as lists.
-use Rattle.std.specs.Prelude.{◌≡◌, ℕ, ◌<◌, ◌⊎◌, Bool, true, false}
-use Rattle.std.specs.Prelude.{List, [], ◌∷◌, length, take, slice_index}
+-- What is asked of codes, as lists.
+use Rattle.std.specs.Prelude.{◌≡◌, ℕ, ◌<◌, ◌⊎◌, List, length, take, slice_index}
 use Rattle.std.specs.List.{All}
 use Rattle.vortex_buffer.specs.declared.BufferError.{BufferError}
 use Rattle.vortex_buffer.specs.declared.BufferError.TheVariants.{IndexOutOfRange, OutOfMemory}
-
--- the values whose bit is true
-abbrev pub kept : List Bool → List ℕ → List ℕ
-kept [] values = []
-kept (bit ∷ bits) [] = []
-kept (true ∷ bits) (value ∷ values) = value ∷ kept bits values
-kept (false ∷ bits) (value ∷ values) = kept bits values
 
 -- each code is a place of a dictionary of so many values
 abbrev pub AreKnown : ℕ → List ℕ → Type 0

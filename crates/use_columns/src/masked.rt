@@ -1,6 +1,6 @@
 //! The sum of the values of a column that a mask keeps.
 ghost use Rattle.std.specs.Prelude.{◌≡◌, ◌^◌, ◌<◌, sum, length};
-ghost use Rattle.use_columns.specs.Columns.{kept};
+ghost use Rattle.vortex_buffer.specs.Kept.{kept};
 
 use std::alloc::Allocator;
 use vortex_buffer::{BitBuffer, Buffer};

@@ -1,6 +1,7 @@
 pub mod RangeLemmas
 pub mod BitsLemmas
 pub mod PlacesLemmas
+pub mod KeptLemmas
 pub mod DigitsLemmas
 pub mod BytesLemmas
 pub mod ReadLemmas

@@ -1,8 +1,9 @@
 -- The places of true values.
-use Rattle.std.proofs.Common.{◌≡◌, ℕ, zero, suc, ◌+◌, Bool, true, false, cond, List, [], ◌∷◌, ◌++◌, length, map, filter, refl, ap, ◌∙◌, arith, add-zero}
-use Rattle.std.specs.List.{range_with_len}
+use Rattle.std.proofs.Common.{◌≡◌, ℕ, zero, suc, ◌+◌, ◌<◌, ◌≤◌, Bool, true, false, cond, List, [], ◌∷◌, ◌++◌, length, map, filter, refl, ap, ◌∙◌, arith, add-zero}
+use Rattle.std.specs.List.{All, range_with_len}
 use Rattle.std.proofs.lemmas.List.{get_or_append_left, length-append, length-map, get_or-append-add}
-use Rattle.std.proofs.lemmas.List.Elements.{filter-append}
+use Rattle.std.proofs.lemmas.List.Elements.{filter-append, All-append, All-cons, All-nil, All-map, All-weaker}
+use Rattle.std.proofs.lemmas.List.Sums.{count_by-le-length}
 use Rattle.vb_bits.specs.Bits.{at, count, places}
 use Rattle.vb_bits.proofs.BitsLemmas.{count-cons}
 use Rattle.vb_bits.proofs.RangeLemmas.{range_with_len-add, same_filter-range_with_len}
@@ -64,3 +65,19 @@ length-places (b ∷ l) =
     length_one : (b : Bool) → length (places (b ∷ [])) ≡ cond b 1 0
     length_one true = ap length (places_one true)
     length_one false = ap length (places_one false)
+
+-- there are at most as many as values
+pub places_few : (l : List Bool) → length (places l) ≤ length l
+places_few l = omega (arith, length-places l, count_by-le-length (λ b. b) l)
+
+-- each lies in the list
+pub places_below : (l : List Bool) → All (λ i. i < length l) (places l)
+places_below [] = rw places_none (All-nil (λ i. i < 0))
+places_below (b ∷ l) =
+    let P : ℕ → Type 0 = λ i. i < length (b ∷ l) in
+    let later : All (λ i. P (1 + i)) (places l) = All-weaker (λ i. i < length l) (λ i. P (1 + i)) (λ i h. omega arith) (places l) (places_below l) in
+    rw (places_cons b l) (All-append P (cond b (0 ∷ []) []) (map (λ i. 1 + i) (places l)) (first b) (All-map P (λ i. 1 + i) (places l) later))
+  where
+    first : (b : Bool) → All (λ i. i < length (b ∷ l)) (cond b (0 ∷ []) [])
+    first true = All-cons (λ i. i < length (true ∷ l)) 0 [] (omega arith) (All-nil (λ i. i < length (true ∷ l)))
+    first false = All-nil (λ i. i < length (false ∷ l))

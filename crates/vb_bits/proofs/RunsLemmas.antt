@@ -1,8 +1,9 @@
 -- Runs of true values.
 use Rattle.std.proofs.Common.{◌≡◌, ◌⊎◌, inl, inr, ℕ, zero, suc, ◌+◌, ◌-◌, ◌<◌, ◌≤◌, Bool, true, false, not, ◌&&◌, List, [], ◌∷◌, length, map, filter, refl, sym, ap, ◌∙◌, subst, arith}
-use Rattle.std.specs.List.{range_with_len, zip}
+use Rattle.std.specs.List.{All, range_with_len, zip}
 use Rattle.std.proofs.lemmas.Bool.{cases_lt, cases_eq}
 use Rattle.std.proofs.lemmas.List.{get_or_past}
+use Rattle.std.proofs.lemmas.List.Elements.{All-cons, All-nil}
 use Rattle.vb_bits.specs.Bits.{at}
 use Rattle.vb_bits.specs.Runs.{before, runs, moved}
 
@@ -101,6 +102,27 @@ AreRuns-runs l =
     let later : (i : ℕ) → before l (i + 1) ≡ at l i = λ i. let e : i + 1 ≡ suc i = omega arith in ap u e in
     subst (λ n. AreRuns t 0 (length l) (zip (filter (λ i. t i && not (u i)) (range_with_len 0 n)) (filter (λ i. u i && not (t i)) (range_with_len 0 n)))) more
     ((paired t u (length l) later (get_or_past l (length l) false (omega arith)) (length l) 0 (omega arith)).0 refl)
+
+-- each run takes a place of its own
+AreRuns-few : (t : ℕ → Bool) (a e : ℕ) (P : List (ℕ × ℕ)) → a ≤ e → AreRuns t a e P → a + length P ≤ e
+AreRuns-few t a e [] le h = omega arith
+AreRuns-few t a e (p ∷ ps) le h =
+    let rest : p.1 + length ps ≤ e = AreRuns-few t p.1 e ps h.2 h.6 in
+    omega (arith, h.0, h.1, rest)
+
+-- there are at most as many as values
+pub runs_few : (l : List Bool) → length (runs l) ≤ length l
+runs_few l = omega (arith, AreRuns-few (at l) 0 (length l) (runs l) (omega arith) (AreRuns-runs l))
+
+-- a run isn't empty, and ends by the end
+AreRuns-within : (t : ℕ → Bool) (a e : ℕ) (P : List (ℕ × ℕ)) → AreRuns t a e P → All (λ r. (r.0 < r.1) × (r.1 ≤ e)) P
+AreRuns-within t a e [] h = All-nil (λ (r : ℕ × ℕ). (r.0 < r.1) × (r.1 ≤ e))
+AreRuns-within t a e (p ∷ ps) h =
+    All-cons (λ (r : ℕ × ℕ). (r.0 < r.1) × (r.1 ≤ e)) p ps (h.1, h.2) (AreRuns-within t p.1 e ps h.6)
+
+-- each run lies in the list
+pub runs_within : (l : List Bool) → All (λ r. (r.0 < r.1) × (r.1 ≤ length l)) (runs l)
+runs_within l = AreRuns-within (at l) 0 (length l) (runs l) (AreRuns-runs l)
 
 -- ---- there is one list of runs
 clash : (b : Bool) → b ≡ true → b ≡ false → ⊥

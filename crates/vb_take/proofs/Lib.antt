@@ -3,3 +3,4 @@ mod KeepsLemmas
 mod BlocksLemmas
 mod TakesLemmas
 mod MarksLemmas
+pub mod TakenLemmas

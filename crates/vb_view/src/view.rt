@@ -1,6 +1,6 @@
 //! Bits over borrowed bytes.
 ghost use Rattle.std.specs.Prelude.{◌≡◌, ◌+◌, ◌-◌, ◌*◌, ◌/◌, ◌%◌, ◌^◌, ◌<◌, ◌≤◌, ◌==◌};
-ghost use Rattle.std.specs.Prelude.{length, drop, slice_get, slice_range, Some};
+ghost use Rattle.std.specs.Prelude.{length, drop, slice_get, slice_range, Some, All};
 ghost use Rattle.vb_bits.specs.Bits.{bits, count, negated, places, Selects, AnswersEach};
 ghost use Rattle.vb_bits.specs.Runs.{runs, last_place};
 ghost use Rattle.vb_walk.specs.Cut.{IsCut};
@@ -156,14 +156,21 @@ impl<'a> BitBufferView<'a> {
 
     /// The places of the true bits, in ascending order.
     pub fn set_indices(&self) -> BitIndexIterator<'a>
-        ensures { result ≡ places (bits_of self.now) }
+        ensures value { result ≡ places (bits_of self.now) }
+        ensures below { All (λ i. i < length (bits_of self.now)) result }
+        ensures count { length result ≡ count (bits_of self.now) }
+        ensures few { length result ≤ length (bits_of self.now) }
+        ensures fits { length (bits_of self.now) < 2 ^ 64 }
     {
         BitIndexIterator::new(self.bytes, self.offset, self.len)
     }
 
     /// The runs of true bits, from front to end: where each begins, and the place behind it.
     pub fn set_slices(&self) -> BitSliceIterator<'a>
-        ensures { result ≡ runs (bits_of self.now) }
+        ensures value { result ≡ runs (bits_of self.now) }
+        ensures within { All (λ run. (run.0 < run.1) × (run.1 ≤ length (bits_of self.now))) result }
+        ensures few { length result ≤ length (bits_of self.now) }
+        ensures fits { length (bits_of self.now) < 2 ^ 64 }
     {
         BitSliceIterator::new(self.bytes, self.offset, self.len)
     }

@@ -1,7 +1,7 @@
 //! The places of true bits.
-ghost use Rattle.std.specs.Prelude.{◌≡◌, length, ℕ, ◌+◌, ◌-◌, ◌*◌, ◌^◌, ◌<◌, ◌≤◌};
+ghost use Rattle.std.specs.Prelude.{◌≡◌, length, ℕ, ◌+◌, ◌-◌, ◌*◌, ◌^◌, ◌<◌, ◌≤◌, All};
 ghost use Rattle.std.specs.Iterator.{YieldsFirst, item_count};
-ghost use Rattle.vb_bits.specs.Bits.{bits, places};
+ghost use Rattle.vb_bits.specs.Bits.{bits, count, places};
 
 use crate::cursor::Cursor;
 use std::marker::Model;
@@ -34,7 +34,10 @@ impl<'a> BitIndexIterator<'a> {
     pub fn new(bytes: &'a [u8], offset: usize, len: usize) -> Self
         requires inside { offset + len ≤ 8 * length bytes.now }
         requires fits { offset + len < 2 ^ 64 }
-        ensures { result ≡ places (bits bytes.now offset len) }
+        ensures value { result ≡ places (bits bytes.now offset len) }
+        ensures below { All (λ i. i < len) result }
+        ensures count { length result ≡ count (bits bytes.now offset len) }
+        ensures few { length result ≤ len }
     {
         BitIndexIterator {
             bytes,

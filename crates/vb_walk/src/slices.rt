@@ -1,5 +1,5 @@
 //! The runs of true bits.
-ghost use Rattle.std.specs.Prelude.{◌≡◌, length, ℕ, ◌+◌, ◌-◌, ◌*◌, ◌^◌, ◌<◌, ◌≤◌};
+ghost use Rattle.std.specs.Prelude.{◌≡◌, length, ℕ, ◌+◌, ◌-◌, ◌*◌, ◌^◌, ◌<◌, ◌≤◌, All};
 ghost use Rattle.std.specs.Iterator.{YieldsFirst, item_count};
 ghost use Rattle.vb_bits.specs.Bits.{bits};
 ghost use Rattle.vb_bits.specs.Runs.{runs};
@@ -38,7 +38,9 @@ impl<'a> BitSliceIterator<'a> {
     pub fn new(bytes: &'a [u8], offset: usize, len: usize) -> Self
         requires inside { offset + len ≤ 8 * length bytes.now }
         requires fits { offset + len < 2 ^ 64 }
-        ensures { result ≡ runs (bits bytes.now offset len) }
+        ensures value { result ≡ runs (bits bytes.now offset len) }
+        ensures within { All (λ run. (run.0 < run.1) × (run.1 ≤ len)) result }
+        ensures few { length result ≤ len }
     {
         BitSliceIterator {
             bytes,

@@ -1,6 +1,10 @@
 pub mod Exponents
 pub use Rattle.vb_bits.proofs.BitsLemmas
+pub use Rattle.vb_bits.proofs.KeptLemmas
+pub use Rattle.vb_bits.proofs.OperatorsLemmas
 pub use Rattle.vb_bits.proofs.PlacesLemmas
 pub use Rattle.vb_bits.proofs.RunsLemmas
 pub use Rattle.vb_bits.proofs.WindowLemmas
 pub use Rattle.vb_bits.proofs.WritesLemmas
+pub use Rattle.vb_pack.proofs.AnswersLemmas
+pub use Rattle.vb_take.proofs.TakenLemmas

@@ -3,6 +3,7 @@ pub mod Text
 pub use Rattle.vb_bit_buffer.specs.Gives
 pub use Rattle.vb_bit_buffer.specs.Stops
 pub use Rattle.vb_bit_bytes.specs.Given
+pub use Rattle.vb_bits.specs.Kept
 pub use Rattle.vb_bytes.specs.ByteForm
 pub use Rattle.vb_core.specs.Alignments
 pub use Rattle.vb_core.specs.Elements

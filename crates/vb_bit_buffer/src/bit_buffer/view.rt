@@ -1,6 +1,6 @@
 //! The bits lent for questions.
-ghost use Rattle.std.specs.Prelude.{◌≡◌, ◌<◌, ◌^◌, length};
-ghost use Rattle.vb_kernel.specs.Bits.{places};
+ghost use Rattle.std.specs.Prelude.{◌≡◌, ◌<◌, ◌≤◌, ◌^◌, length, All};
+ghost use Rattle.vb_kernel.specs.Bits.{count, places};
 ghost use Rattle.vb_walk.specs.Runs.{runs};
 ghost use Rattle.vb_walk.specs.Cut.{IsCut};
 ghost use Rattle.vb_view.specs.View.{bits_of, offset_of, bytes_of};
@@ -31,14 +31,21 @@ impl<A: Allocator + Clone> BitBuffer<A> {
 
     /// The places of the true bits, in ascending order.
     pub fn set_indices(&self) -> BitIndexIterator<'_>
-        ensures { result ≡ places self.now.bits }
+        ensures value { result ≡ places self.now.bits }
+        ensures below { All (λ i. i < length self.now.bits) result }
+        ensures count { length result ≡ count self.now.bits }
+        ensures few { length result ≤ length self.now.bits }
+        ensures fits { length self.now.bits < 2 ^ 64 }
     {
         self.as_view().set_indices()
     }
 
     /// The runs of true bits, from front to end: where each begins, and the place behind it.
     pub fn set_slices(&self) -> BitSliceIterator<'_>
-        ensures { result ≡ runs self.now.bits }
+        ensures value { result ≡ runs self.now.bits }
+        ensures within { All (λ run. (run.0 < run.1) × (run.1 ≤ length self.now.bits)) result }
+        ensures few { length result ≤ length self.now.bits }
+        ensures fits { length self.now.bits < 2 ^ 64 }
     {
         self.as_view().set_slices()
     }

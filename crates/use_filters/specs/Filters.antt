@@ -1,0 +1,16 @@
+-- What a filter asks of a column.
+use Rattle.std.specs.Prelude.{ℕ, Bool, ◌&&◌, ◌==◌, nat_lt, nat_le, List, [], ◌∷◌}
+use Rattle.use_filters.specs.declared.condition.Condition.{Condition}
+use Rattle.use_filters.specs.declared.condition.Condition.TheVariants.{Below, AtLeast, Equals}
+
+-- a value meets the condition
+abbrev pub is_met : Condition → ℕ → Bool
+is_met (Below number) value = nat_lt value number
+is_met (AtLeast number) value = nat_le number value
+is_met (Equals number) value = value == number
+
+-- the rows that are valid and whose value passes the test
+abbrev pub matched : (ℕ → Bool) → List Bool → List ℕ → List Bool
+matched test [] values = []
+matched test (bit ∷ bits) [] = []
+matched test (bit ∷ bits) (value ∷ values) = (test value && bit) ∷ matched test bits values

@@ -1,0 +1,28 @@
+//! What a filter asks of a value.
+ghost use Rattle.std.specs.Prelude.{◌≡◌};
+
+/// What a filter asks of a value.
+#[derive(Clone, Copy, Debug, PartialEq, Eq)]
+pub enum Condition {
+    /// It is below this number.
+    Below(u32),
+    /// It is this number or above it.
+    AtLeast(u32),
+    /// It is this number.
+    Equals(u32),
+}
+
+impl Condition {
+    ghost use Rattle.use_filters.specs.Filters.{is_met};
+
+    /// Whether a value meets it.
+    pub fn is_met_by(self, value: u32) -> bool
+        ensures { result ≡ is_met self value }
+    {
+        match self {
+            Condition::Below(number) => value < number,
+            Condition::AtLeast(number) => value >= number,
+            Condition::Equals(number) => value == number,
+        }
+    }
+}

@@ -1,0 +1,56 @@
+//! A filter over a column of numbers, some of which may be null.
+ghost use Rattle.std.specs.Prelude.{◌≡◌, length, map, filter};
+ghost use Rattle.use_filters.specs.Filters.{is_met, matched};
+ghost use Rattle.vortex_buffer.specs.Answers.{Makes};
+ghost use Rattle.vortex_buffer.specs.Kept.{kept};
+
+use crate::condition::Condition;
+use crate::gather::gather_values;
+use std::alloc::Allocator;
+use vortex_buffer::{BitBuffer, Buffer, Result};
+
+/// The mask of the rows whose value meets the condition. Refused with `OutOfMemory`.
+pub fn rows_where<A: Allocator + Clone>(
+    alloc: A,
+    values: &Buffer<u32, A>,
+    condition: Condition,
+) -> Result<BitBuffer<A>>
+    ensures { Makes (λ rows. rows.bits ≡ map (is_met condition) values.now.list) result }
+{
+    let items = values.as_slice();
+    BitBuffer::collect_bool(
+        alloc,
+        items.len(),
+        &mut |row| condition.is_met_by(items[row]),
+    )
+}
+
+/// The mask of the rows that are valid and whose value meets the condition. Refused with
+/// `OutOfMemory`.
+pub fn matching_rows<A: Allocator + Clone>(
+    alloc: A,
+    values: &Buffer<u32, A>,
+    valid: &BitBuffer<A>,
+    condition: Condition,
+) -> Result<BitBuffer<A>>
+    requires { length valid.now.bits ≡ length values.now.list }
+    ensures { Makes (λ rows. rows.bits
+        ≡ matched (is_met condition) valid.now.bits values.now.list) result }
+{
+    rows_where(alloc, values, condition)? & valid
+}
+
+/// The values that are valid and meet the condition, in order. Refused with `OutOfMemory`.
+pub fn filtered<A: Allocator + Clone>(
+    alloc: A,
+    values: &Buffer<u32, A>,
+    valid: &BitBuffer<A>,
+    condition: Condition,
+) -> Result<Buffer<u32, A>>
+    requires { length valid.now.bits ≡ length values.now.list }
+    ensures { Makes (λ found. found.list
+        ≡ filter (is_met condition) (kept valid.now.bits values.now.list)) result }
+{
+    let rows = matching_rows(alloc.clone()?, values, valid, condition)?;
+    gather_values(alloc, values, &rows)
+}
