@@ -1,12 +1,12 @@
 """Which edits of a crate its contracts refuse, and at which clauses."""
 from collections.abc import Callable
 from concurrent.futures import ThreadPoolExecutor
-from dataclasses import dataclass
+from dataclasses import dataclass, field
 from pathlib import Path
 
 from .batch import batches, callees
 from .edit import Edit
-from .trial import texts_of, tried
+from .trial import Trial, texts_of, tried
 from .verdict import Verdict, clauses_of
 
 ROUNDS = 3
@@ -22,6 +22,22 @@ class Outcome:
     is_right: bool
     text: str
     clauses: list[str]
+
+    @property
+    def reached(self) -> set[tuple[str, str]]:
+        """The clauses at which it is refused, as the title of a function and a name. Those of a
+        method may stand at its trait."""
+        function = self.edit.function
+        of_trait = f"{function.block.trait}::{function.name}" if function.block else ""
+        return {(name, clause) for clause in self.clauses for name in (function.title, of_trait)}
+
+
+@dataclass
+class Judgement:
+    """The outcomes of a crate's edits, and for how many seconds processors worked on them."""
+
+    outcomes: list[Outcome] = field(default_factory=list)
+    seconds: float = 0
 
 
 def outcome(edit: Edit, verdict: Verdict | None, said: str) -> Outcome | None:
@@ -49,8 +65,15 @@ def unjudged(edit: Edit, verdict: Verdict | None, said: str) -> Outcome:
     return Outcome(edit, False, f"NOT JUDGED: {first.strip()[:200]}", [])
 
 
-def judge(root: Path, work: dict[str, list[Edit]], lanes: int, size: int, tell: Callable[[str], None]) -> dict[str, list[Outcome]]:
-    """The outcome of each edit of each crate.
+def judge(
+    root: Path,
+    work: dict[str, list[Edit]],
+    lanes: int,
+    size: int,
+    flags: list[str],
+    tell: Callable[[str], None],
+) -> dict[str, Judgement]:
+    """The outcome of each edit of each crate, by checks with these flags.
 
     Edits that a check did not judge, since their function waits for another, are batched again, and
     in the last round each is tried alone.
@@ -58,7 +81,7 @@ def judge(root: Path, work: dict[str, list[Edit]], lanes: int, size: int, tell: 
     texts = {crate: texts_of(root / "crates" / crate) for crate in work}
     below = {crate: callees(texts[crate]) for crate in work}
     left = dict(work)
-    done: dict[str, list[Outcome]] = {crate: [] for crate in work}
+    done = {crate: Judgement() for crate in work}
     for turn in range(1, ROUNDS + 1):
         is_last = turn == ROUNDS
         groups = [
@@ -72,21 +95,22 @@ def judge(root: Path, work: dict[str, list[Edit]], lanes: int, size: int, tell: 
         groups.sort(key=lambda it: -len(it[1]))
         tell(f"round {turn}: {sum(len(it) for _, it in groups)} edits in {len(groups)} checks")
         with ThreadPoolExecutor(lanes) as pool:
-            answers = list(pool.map(lambda it: tried(root, *it), groups))
-        left = settled(groups, answers, done, is_last)
+            trials = list(pool.map(lambda it: tried(root, it[0], flags, it[1]), groups))
+        left = settled(groups, trials, done, is_last)
     return done
 
 
-def settled(groups, answers, done: dict[str, list[Outcome]], is_last: bool) -> dict[str, list[Edit]]:
+def settled(groups, trials: list[Trial], done: dict[str, Judgement], is_last: bool) -> dict[str, list[Edit]]:
     """Notes the outcomes of a round, and gives the edits that it did not judge."""
     left: dict[str, list[Edit]] = {}
-    for (crate, group), (verdicts, said) in zip(groups, answers):
-        for edit, verdict in zip(group, verdicts):
-            found = outcome(edit, verdict, said)
+    for (crate, group), trial in zip(groups, trials):
+        done[crate].seconds += trial.said.seconds
+        for edit, verdict in zip(group, trial.verdicts):
+            found = outcome(edit, verdict, trial.said.text)
             if found is None and is_last:
-                found = unjudged(edit, verdict, said)
+                found = unjudged(edit, verdict, trial.said.text)
             if found is None:
                 left.setdefault(crate, []).append(edit)
             else:
-                done[crate].append(found)
+                done[crate].outcomes.append(found)
     return left
