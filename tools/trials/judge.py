@@ -70,10 +70,9 @@ def judge(
     work: dict[str, list[Edit]],
     lanes: int,
     size: int,
-    flags: list[str],
     tell: Callable[[str], None],
 ) -> dict[str, Judgement]:
-    """The outcome of each edit of each crate, by checks with these flags.
+    """The outcome of each edit of each crate.
 
     Edits that a check did not judge, since their function waits for another, are batched again, and
     in the last round each is tried alone.
@@ -95,7 +94,7 @@ def judge(
         groups.sort(key=lambda it: -len(it[1]))
         tell(f"round {turn}: {sum(len(it) for _, it in groups)} edits in {len(groups)} checks")
         with ThreadPoolExecutor(lanes) as pool:
-            trials = list(pool.map(lambda it: tried(root, it[0], flags, it[1]), groups))
+            trials = list(pool.map(lambda it: tried(root, *it), groups))
         left = settled(groups, trials, done, is_last)
     return done
 

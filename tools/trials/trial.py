@@ -54,11 +54,11 @@ def texts_of(crate: Path) -> dict[str, str]:
     return {str(it.relative_to(crate)): it.read_text() for it in sorted(crate.glob("src/**/*.rt"))}
 
 
-def check(crate: Path, flags: list[str], paths: list[str] | None = None) -> Said:
+def check(crate: Path, paths: list[str] | None = None) -> Said:
     """What `rt check` says of a crate, or of these functions of it and those that they call."""
     narrowed = [word for path in paths or [] for word in ("--only", path)]
     running = subprocess.Popen(
-        ["rt", "check", "--jobs", "1", *flags, *narrowed],
+        ["rt", "check", "--jobs", "1", *narrowed],
         cwd=crate,
         stdin=subprocess.DEVNULL,
         stdout=subprocess.PIPE,
@@ -86,7 +86,7 @@ def named(edits: list[Edit], said: str) -> tuple[list[Edit], list[tuple[str, str
     return good, bad
 
 
-def tried(root: Path, crate: str, flags: list[str], edits: list[Edit]) -> Trial:
+def tried(root: Path, crate: str, edits: list[Edit]) -> Trial:
     """What a check says of a crate where all of these edits are made at once."""
     texts = texts_of(root / "crates" / crate)
     changed = applied([change for it in edits for change in it.changes], texts)
@@ -96,6 +96,6 @@ def tried(root: Path, crate: str, flags: list[str], edits: list[Edit]) -> Trial:
             if text != texts[file]:
                 (folder / file).unlink()
                 (folder / file).write_text(text)
-        said = check(folder, flags, [it.path for it in edits])
+        said = check(folder, [it.path for it in edits])
     verdicts = judged(said.text)
     return Trial([verdicts.get(it.path) for it in edits], said)
