@@ -81,6 +81,19 @@ class Command(unittest.TestCase):
         self.assertIn("demo: could go: edits/one_is_two.edit edits/one_is_two_again.edit\n", ran.stdout)
         self.assertEqual(ran.returncode, 0)
 
+    def test_the_edits_since_a_revision_are_tried_alone(self):
+        git = ["git", "-c", "user.name=a", "-c", "user.email=a@b", "-C", str(self.root)]
+        self.edit("one_is_two", "one", "2")
+        self.edit("two_is_two", "two", "2")
+        for words in (["init", "-q"], ["add", "."], ["commit", "-q", "-m", "first"]):
+            subprocess.run([*git, *words], check=True)
+        self.edit("one_is_two", "one", "2 ")
+        self.edit("two_is_two_again", "two", "2")
+        ran = self.run_it("--since", "HEAD")
+        self.assertIn("one_is_two.edit: ", ran.stdout)
+        self.assertIn("two_is_two_again.edit: ", ran.stdout)
+        self.assertNotIn("two_is_two.edit: ", ran.stdout)
+
     def test_a_check_is_narrowed_to_the_edited_functions(self):
         self.edit("one_is_two", "one", "2")
         self.edit("harmless", "two", "1", "expect: proved\n")

@@ -9,7 +9,6 @@ from .edit import Edit
 from .trial import Trial, texts_of, tried
 from .verdict import Verdict, clauses_of
 
-ROUNDS = 3
 # The goal of a body that never answers.
 NEVER = "unreachable-requires"
 
@@ -74,42 +73,47 @@ def judge(
 ) -> dict[str, Judgement]:
     """The outcome of each edit of each crate.
 
-    Edits that a check did not judge, since their function waits for another, are batched again, and
-    in the last round each is tried alone.
+    Edits that a check did not judge, since their function waits for another or one of them doesn't
+    compile, are tried again in smaller batches, and in the last round each alone.
     """
     texts = {crate: texts_of(root / "crates" / crate) for crate in work}
     below = {crate: callees(texts[crate]) for crate in work}
     left = dict(work)
     done = {crate: Judgement() for crate in work}
-    for turn in range(1, ROUNDS + 1):
-        is_last = turn == ROUNDS
+    sizes = (size, max(size // 5, 1), 1)
+    for turn in range(1, len(sizes) + 1):
         groups = [
             (crate, group)
             for crate, edits in left.items()
-            for group in batches(edits, 1 if is_last else size, below[crate], texts[crate])
+            for group in batches(edits, sizes[turn - 1], below[crate], texts[crate])
         ]
         if not groups:
             break
         # The longest first, so that no lane is left alone with one.
         groups.sort(key=lambda it: -len(it[1]))
         tell(f"round {turn}: {sum(len(it) for _, it in groups)} edits in {len(groups)} checks")
+        left = {}
         with ThreadPoolExecutor(lanes) as pool:
-            trials = list(pool.map(lambda it: tried(root, *it), groups))
-        left = settled(groups, trials, done, is_last)
+            for (crate, group), trial in zip(groups, pool.map(lambda it: tried(root, *it), groups)):
+                found, again = settled(group, trial, turn == len(sizes))
+                done[crate].seconds += trial.said.seconds
+                done[crate].outcomes += found
+                left.setdefault(crate, []).extend(again)
+                for it in found:
+                    tell(f"{crate}/{it.edit.name}: {it.text} of {it.edit.function.title}")
     return done
 
 
-def settled(groups, trials: list[Trial], done: dict[str, Judgement], is_last: bool) -> dict[str, list[Edit]]:
-    """Notes the outcomes of a round, and gives the edits that it did not judge."""
-    left: dict[str, list[Edit]] = {}
-    for (crate, group), trial in zip(groups, trials):
-        done[crate].seconds += trial.said.seconds
-        for edit, verdict in zip(group, trial.verdicts):
-            found = outcome(edit, verdict, trial.said.text)
-            if found is None and is_last:
-                found = unjudged(edit, verdict, trial.said.text)
-            if found is None:
-                left.setdefault(crate, []).append(edit)
-            else:
-                done[crate].outcomes.append(found)
-    return left
+def settled(edits: list[Edit], trial: Trial, is_last: bool) -> tuple[list[Outcome], list[Edit]]:
+    """The outcomes of the edits of a check, and the edits that it did not judge, of which there are
+    none in the last round."""
+    found, again = [], []
+    for edit, verdict in zip(edits, trial.verdicts):
+        said_of = outcome(edit, verdict, trial.said.text)
+        if said_of is None and is_last:
+            said_of = unjudged(edit, verdict, trial.said.text)
+        if said_of is None:
+            again.append(edit)
+        else:
+            found.append(said_of)
+    return found, again
