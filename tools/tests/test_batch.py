@@ -2,7 +2,7 @@
 import unittest
 
 from trials.batch import batches, callees
-from trials.coverage import public_clauses, summary
+from trials.coverage import public_clauses, summary, superfluous
 from trials.edit import parsed, placed
 from trials.judge import Outcome
 
@@ -40,6 +40,20 @@ class Batches(unittest.TestCase):
         self.assertEqual(text, "2 public clauses; no edit is refused at 0: -; 2 have no other answer: low.small low.value")
         self.assertEqual(left, 0)
         self.assertEqual(summary([Outcome(it, False, "", [])], TEXTS)[2], 2)
+
+    def test_an_edit_whose_clauses_others_reach_could_go(self):
+        few, both, all_three = edit("1"), edit("1"), edit("+ 2")
+        few.name, both.name, all_three.name = "few", "both", "three"
+        outcomes = [Outcome(few, True, "", ["small"]), Outcome(both, True, "", ["small", "value"]), Outcome(all_three, True, "", ["a"])]
+        self.assertEqual([it.edit.name for it in superfluous(outcomes)], ["few"])
+        few.keep = "a likely mistake"
+        self.assertEqual(superfluous(outcomes), [])
+
+    def test_what_the_gate_tries_and_what_is_to_be_looked_at_stays(self):
+        gate, wrong, beside = edit("1"), edit("1"), edit("1")
+        gate.name, wrong.name, beside.name = "must-fail/a.edit", "edits/b.edit", "edits/c.edit"
+        outcomes = [Outcome(gate, True, "", ["small"]), Outcome(wrong, False, "", []), Outcome(beside, True, "", ["small"])]
+        self.assertEqual([it.edit.name for it in superfluous(outcomes)], ["edits/c.edit"])
 
     def test_what_the_root_exports_is_public(self):
         texts = {

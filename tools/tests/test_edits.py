@@ -36,9 +36,9 @@ class Command(unittest.TestCase):
         text = f"file: src/lib.rt\nin: {function}\nold: 1\nnew: {new}\n{more}"
         (self.root / f"crates/demo/edits/{name}.edit").write_text(text)
 
-    def run_it(self):
+    def run_it(self, *flags: str):
         path = {**os.environ, "PATH": f"{self.root}/bin:{os.environ['PATH']}", "ASKED": f"{self.root}/asked"}
-        return subprocess.run([self.root / "tools/edits"], env=path, capture_output=True, text=True)
+        return subprocess.run([self.root / "tools/edits", *flags], env=path, capture_output=True, text=True)
 
     def asked(self) -> list[str]:
         return (self.root / "asked").read_text().splitlines()
@@ -71,6 +71,28 @@ class Command(unittest.TestCase):
         ran = self.run_it()
         self.assertIn("demo: no harmless edit shows that what is right is proved", ran.stdout)
         self.assertEqual(ran.returncode, 1)
+
+    def test_the_edits_that_add_no_clause_are_named(self):
+        self.edit("one_is_two", "one", "2")
+        self.edit("one_is_two_again", "one", "2")
+        self.edit("one_stays", "one", "2", "keep: a likely mistake\n")
+        self.edit("harmless", "two", "1", "expect: proved\n")
+        ran = self.run_it("--cover")
+        self.assertIn("demo: could go: edits/one_is_two.edit edits/one_is_two_again.edit\n", ran.stdout)
+        self.assertEqual(ran.returncode, 0)
+
+    def test_the_edits_since_a_revision_are_tried_alone(self):
+        git = ["git", "-c", "user.name=a", "-c", "user.email=a@b", "-C", str(self.root)]
+        self.edit("one_is_two", "one", "2")
+        self.edit("two_is_two", "two", "2")
+        for words in (["init", "-q"], ["add", "."], ["commit", "-q", "-m", "first"]):
+            subprocess.run([*git, *words], check=True)
+        self.edit("one_is_two", "one", "2 ")
+        self.edit("two_is_two_again", "two", "2")
+        ran = self.run_it("--since", "HEAD")
+        self.assertIn("one_is_two.edit: ", ran.stdout)
+        self.assertIn("two_is_two_again.edit: ", ran.stdout)
+        self.assertNotIn("two_is_two.edit: ", ran.stdout)
 
     def test_a_check_is_narrowed_to_the_edited_functions(self):
         self.edit("one_is_two", "one", "2")

@@ -1,4 +1,4 @@
-"""The public clauses of a crate at which no edit is refused."""
+"""The public clauses of a crate at which no edit is refused, and the edits that add no clause."""
 import re
 
 from .judge import Outcome
@@ -48,13 +48,28 @@ def public_clauses(texts: dict[str, str]) -> set[tuple[str, str]]:
 
 def reached(outcomes: list[Outcome]) -> set[tuple[str, str]]:
     """The clauses at which one of the edits is refused."""
-    found = set()
-    for it in outcomes:
-        function = it.edit.function
-        of_trait = f"{function.block.trait}::{function.name}" if function.block else ""
-        for clause in it.clauses:
-            found |= {(name, clause) for name in (function.title, of_trait)}
-    return found
+    return set().union(*(it.reached for it in outcomes))
+
+
+def is_kept(outcome: Outcome) -> bool:
+    """Whether an edit stays whatever others reach: one that the gate tries, a harmless one, one that
+    says why it stays, and one to look at."""
+    edit = outcome.edit
+    return edit.name.startswith("must-fail/") or edit.expect != "goal" or bool(edit.keep) or not outcome.is_right
+
+
+def superfluous(outcomes: list[Outcome]) -> list[Outcome]:
+    """The edits that are refused at no clause at which none of the others is. Those that reach most
+    are kept first."""
+    found = reached([it for it in outcomes if is_kept(it)])
+    left = sorted((it for it in outcomes if not is_kept(it)), key=lambda it: it.edit.name)
+    while left:
+        best = max(left, key=lambda it: len(it.reached - found))
+        if best.reached <= found:
+            break
+        found |= best.reached
+        left.remove(best)
+    return left
 
 
 def forced(outcomes: list[Outcome]) -> set[tuple[str, str]]:

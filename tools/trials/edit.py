@@ -25,18 +25,20 @@ class Change:
 
 @dataclass
 class Edit:
-    """A wrong body of one function, or a harmless one. `expect` says what the check must answer, and
-    `path` is the function's name in what a check says."""
+    """A wrong body of one function, or a harmless one. `expect` says what the check must answer,
+    `keep` for which likely mistake it stands, if others reach its clauses, and `path` is the
+    function's name in what a check says."""
 
     name: str
     changes: list[Change]
     expect: str = "goal"
+    keep: str = ""
     function: Function | None = field(default=None, compare=False)
     path: str = field(default="", compare=False)
 
 
 def parsed(name: str, text: str) -> Edit:
-    """Reads an edit: lines `file:`, `old:` and `new:`, and perhaps `in:` and `expect:`."""
+    """Reads an edit: lines `file:`, `old:` and `new:`, and perhaps `in:`, `expect:` and `keep:`."""
     edit, file, inside, old = Edit(name, []), "", "", None
     for line in text.split("\n"):
         word, _, rest = line.partition(":")
@@ -47,6 +49,8 @@ def parsed(name: str, text: str) -> Edit:
             inside = rest.strip()
         elif word == "expect":
             edit.expect = rest.strip()
+        elif word == "keep":
+            edit.keep = rest.strip()
         elif word == "old":
             old = rest
         elif word == "new":

@@ -1,15 +1,14 @@
 """Which edits of a crate its contracts refuse, and at which clauses."""
 from collections.abc import Callable
 from concurrent.futures import ThreadPoolExecutor
-from dataclasses import dataclass
+from dataclasses import dataclass, field
 from pathlib import Path
 
 from .batch import batches, callees
 from .edit import Edit
-from .trial import texts_of, tried
+from .trial import Trial, texts_of, tried
 from .verdict import Verdict, clauses_of
 
-ROUNDS = 3
 # The goal of a body that never answers.
 NEVER = "unreachable-requires"
 
@@ -22,6 +21,22 @@ class Outcome:
     is_right: bool
     text: str
     clauses: list[str]
+
+    @property
+    def reached(self) -> set[tuple[str, str]]:
+        """The clauses at which it is refused, as the title of a function and a name. Those of a
+        method may stand at its trait."""
+        function = self.edit.function
+        of_trait = f"{function.block.trait}::{function.name}" if function.block else ""
+        return {(name, clause) for clause in self.clauses for name in (function.title, of_trait)}
+
+
+@dataclass
+class Judgement:
+    """The outcomes of a crate's edits, and for how many seconds processors worked on them."""
+
+    outcomes: list[Outcome] = field(default_factory=list)
+    seconds: float = 0
 
 
 def outcome(edit: Edit, verdict: Verdict | None, said: str) -> Outcome | None:
@@ -49,44 +64,56 @@ def unjudged(edit: Edit, verdict: Verdict | None, said: str) -> Outcome:
     return Outcome(edit, False, f"NOT JUDGED: {first.strip()[:200]}", [])
 
 
-def judge(root: Path, work: dict[str, list[Edit]], lanes: int, size: int, tell: Callable[[str], None]) -> dict[str, list[Outcome]]:
+def judge(
+    root: Path,
+    work: dict[str, list[Edit]],
+    lanes: int,
+    size: int,
+    tell: Callable[[str], None],
+) -> dict[str, Judgement]:
     """The outcome of each edit of each crate.
 
-    Edits that a check did not judge, since their function waits for another, are batched again, and
-    in the last round each is tried alone.
+    Edits that a check did not judge, since their function waits for another or one of them doesn't
+    compile, are tried again in smaller batches, and in the last round each alone.
     """
     texts = {crate: texts_of(root / "crates" / crate) for crate in work}
     below = {crate: callees(texts[crate]) for crate in work}
     left = dict(work)
-    done: dict[str, list[Outcome]] = {crate: [] for crate in work}
-    for turn in range(1, ROUNDS + 1):
-        is_last = turn == ROUNDS
+    done = {crate: Judgement() for crate in work}
+    sizes = (size, max(size // 5, 1), 1)
+    for turn in range(1, len(sizes) + 1):
         groups = [
             (crate, group)
             for crate, edits in left.items()
-            for group in batches(edits, 1 if is_last else size, below[crate], texts[crate])
+            for group in batches(edits, sizes[turn - 1], below[crate], texts[crate])
         ]
         if not groups:
             break
         # The longest first, so that no lane is left alone with one.
         groups.sort(key=lambda it: -len(it[1]))
         tell(f"round {turn}: {sum(len(it) for _, it in groups)} edits in {len(groups)} checks")
+        left = {}
         with ThreadPoolExecutor(lanes) as pool:
-            answers = list(pool.map(lambda it: tried(root, *it), groups))
-        left = settled(groups, answers, done, is_last)
+            for (crate, group), trial in zip(groups, pool.map(lambda it: tried(root, *it), groups)):
+                found, again = settled(group, trial, turn == len(sizes))
+                done[crate].seconds += trial.said.seconds
+                done[crate].outcomes += found
+                left.setdefault(crate, []).extend(again)
+                for it in found:
+                    tell(f"{crate}/{it.edit.name}: {it.text} of {it.edit.function.title}")
     return done
 
 
-def settled(groups, answers, done: dict[str, list[Outcome]], is_last: bool) -> dict[str, list[Edit]]:
-    """Notes the outcomes of a round, and gives the edits that it did not judge."""
-    left: dict[str, list[Edit]] = {}
-    for (crate, group), (verdicts, said) in zip(groups, answers):
-        for edit, verdict in zip(group, verdicts):
-            found = outcome(edit, verdict, said)
-            if found is None and is_last:
-                found = unjudged(edit, verdict, said)
-            if found is None:
-                left.setdefault(crate, []).append(edit)
-            else:
-                done[crate].append(found)
-    return left
+def settled(edits: list[Edit], trial: Trial, is_last: bool) -> tuple[list[Outcome], list[Edit]]:
+    """The outcomes of the edits of a check, and the edits that it did not judge, of which there are
+    none in the last round."""
+    found, again = [], []
+    for edit, verdict in zip(edits, trial.verdicts):
+        said_of = outcome(edit, verdict, trial.said.text)
+        if said_of is None and is_last:
+            said_of = unjudged(edit, verdict, trial.said.text)
+        if said_of is None:
+            again.append(edit)
+        else:
+            found.append(said_of)
+    return found, again

@@ -3,12 +3,29 @@ import os
 import shutil
 import subprocess
 import tempfile
+from dataclasses import dataclass
 from pathlib import Path
 
 from .edit import Edit, applied
 from .verdict import Verdict, judged, verdict_on
 
 SOURCES = ("src", "specs", "proofs")
+
+
+@dataclass
+class Said:
+    """What a check said, and for how many seconds processors worked on it."""
+
+    text: str
+    seconds: float
+
+
+@dataclass
+class Trial:
+    """The verdict on the function of each edit of a check, and what the check said."""
+
+    verdicts: list[Verdict | None]
+    said: Said
 
 
 def linked(source: Path, target: Path) -> None:
@@ -37,10 +54,10 @@ def texts_of(crate: Path) -> dict[str, str]:
     return {str(it.relative_to(crate)): it.read_text() for it in sorted(crate.glob("src/**/*.rt"))}
 
 
-def check(crate: Path, paths: list[str] | None = None) -> str:
+def check(crate: Path, paths: list[str] | None = None) -> Said:
     """What `rt check` says of a crate, or of these functions of it and those that they call."""
     narrowed = [word for path in paths or [] for word in ("--only", path)]
-    ran = subprocess.run(
+    running = subprocess.Popen(
         ["rt", "check", "--jobs", "1", *narrowed],
         cwd=crate,
         stdin=subprocess.DEVNULL,
@@ -49,7 +66,11 @@ def check(crate: Path, paths: list[str] | None = None) -> str:
         text=True,
         errors="replace",
     )
-    return ran.stdout
+    with running.stdout:
+        text = running.stdout.read()
+    _, status, used = os.wait4(running.pid, 0)
+    running.returncode = os.waitstatus_to_exitcode(status)
+    return Said(text, used.ru_utime + used.ru_stime)
 
 
 def named(edits: list[Edit], said: str) -> tuple[list[Edit], list[tuple[str, str]]]:
@@ -65,8 +86,8 @@ def named(edits: list[Edit], said: str) -> tuple[list[Edit], list[tuple[str, str
     return good, bad
 
 
-def tried(root: Path, crate: str, edits: list[Edit]) -> tuple[list[Verdict | None], str]:
-    """The verdict on the function of each edit, where all are made at once, and all that was said."""
+def tried(root: Path, crate: str, edits: list[Edit]) -> Trial:
+    """What a check says of a crate where all of these edits are made at once."""
     texts = texts_of(root / "crates" / crate)
     changed = applied([change for it in edits for change in it.changes], texts)
     with tempfile.TemporaryDirectory(prefix="edits-") as room:
@@ -76,5 +97,5 @@ def tried(root: Path, crate: str, edits: list[Edit]) -> tuple[list[Verdict | Non
                 (folder / file).unlink()
                 (folder / file).write_text(text)
         said = check(folder, [it.path for it in edits])
-    verdicts = judged(said)
-    return [verdicts.get(it.path) for it in edits], said
+    verdicts = judged(said.text)
+    return Trial([verdicts.get(it.path) for it in edits], said)
