@@ -2,8 +2,9 @@
 import unittest
 
 from trials.edit import parsed, placed
-from trials.judge import outcome
+from trials.judge import outcome, settled
 from trials.source import functions
+from trials.trial import Said, Trial
 from trials.verdict import clauses_of, judged, verdict_on
 
 SAID = '''checked demo::one, 1 of 5
@@ -110,3 +111,11 @@ class Verdicts(unittest.TestCase):
     def test_a_body_with_no_proof_has_no_goal(self):
         self.assertFalse(outcome_of(edit("src/lib.rt", "    4")).is_right)
         self.assertTrue(outcome_of(edit("src/lib.rt", "    4", "no proof")).is_right)
+
+    def test_an_edit_that_does_not_compile_is_not_tried_again(self):
+        said = "src/lib.rt:7:5: error[types]: no\nrt: the check failed\n"
+        edits = [edit("src/lib.rt", "    1"), edit("src/lib.rt", "    2")]
+        found, again = settled(edits, Trial([None, None], Said(said, 1)), TEXTS, False)
+        self.assertEqual([it.edit for it in found], edits[1:])
+        self.assertEqual(found[0].text, "NOT JUDGED: src/lib.rt:7:5: error[types]: no")
+        self.assertEqual(again, edits[:1])

@@ -1,4 +1,5 @@
 """Which edits of a crate its contracts refuse, and at which clauses."""
+import re
 from collections.abc import Callable
 from concurrent.futures import ThreadPoolExecutor
 from dataclasses import dataclass, field
@@ -6,9 +7,12 @@ from pathlib import Path
 
 from .batch import batches, callees
 from .edit import Edit
+from .source import Function
 from .trial import Trial, texts_of, tried
 from .verdict import Verdict, clauses_of
 
+# What doesn't compile.
+ERROR = re.compile(r"(?:\./)?(src/\S+?\.rt):(\d+):\d+: error")
 # The goal of a body that never answers.
 NEVER = "unreachable-requires"
 
@@ -73,8 +77,9 @@ def judge(
 ) -> dict[str, Judgement]:
     """The outcome of each edit of each crate.
 
-    Edits that a check did not judge, since their function waits for another or one of them doesn't
-    compile, are tried again in smaller batches, and in the last round each alone.
+    An edit that doesn't compile is not tried again. Others that a check did not judge, since it
+    stopped there or their function waits for another, are tried again in smaller batches, and in the
+    last round each alone.
     """
     texts = {crate: texts_of(root / "crates" / crate) for crate in work}
     below = {crate: callees(texts[crate]) for crate in work}
@@ -95,21 +100,29 @@ def judge(
         left = {}
         with ThreadPoolExecutor(lanes) as pool:
             for (crate, group), trial in zip(groups, pool.map(lambda it: tried(root, *it), groups)):
-                found, again = settled(group, trial, turn == len(sizes))
+                found, again = settled(group, trial, texts[crate], turn == len(sizes))
                 done[crate].seconds += trial.said.seconds
                 done[crate].outcomes += found
                 left.setdefault(crate, []).extend(again)
                 for it in found:
                     tell(f"{crate}/{it.edit.name}: {it.text} of {it.edit.function.title}")
+                tell(f"{crate}: {len(found)} of {len(group)} edits in {trial.said.seconds:.0f} s of one processor")
     return done
 
 
-def settled(edits: list[Edit], trial: Trial, is_last: bool) -> tuple[list[Outcome], list[Edit]]:
-    """The outcomes of the edits of a check, and the edits that it did not judge, of which there are
-    none in the last round."""
+def settled(
+    edits: list[Edit],
+    trial: Trial,
+    texts: dict[str, str],
+    is_last: bool,
+) -> tuple[list[Outcome], list[Edit]]:
+    """The outcomes of the edits of a check, and the edits to be tried again, of which there are none
+    in the last round."""
     found, again = [], []
     for edit, verdict in zip(edits, trial.verdicts):
         said_of = outcome(edit, verdict, trial.said.text)
+        if said_of is None and (error := error_in(edit.function, trial.said.text, texts)):
+            said_of = Outcome(edit, False, f"NOT JUDGED: {error}", [])
         if said_of is None and is_last:
             said_of = unjudged(edit, verdict, trial.said.text)
         if said_of is None:
@@ -117,3 +130,15 @@ def settled(edits: list[Edit], trial: Trial, is_last: bool) -> tuple[list[Outcom
         else:
             found.append(said_of)
     return found, again
+
+
+def error_in(function: Function, said: str, texts: dict[str, str]) -> str:
+    """What a check said of code within a function that it doesn't compile, if it did. The lines are
+    those of the text with no edit, since each edit keeps the number of lines."""
+    text = texts[function.file]
+    first, last = (text.count("\n", 0, at) + 1 for at in (function.start, function.end))
+    for line in said.split("\n"):
+        it = ERROR.match(line)
+        if it and it[1] == function.file and first <= int(it[2]) <= last:
+            return line[:200]
+    return ""
