@@ -5,6 +5,8 @@
 mod dictionary;
 mod masked;
 mod runs;
+#[cfg(test)]
+mod tests;
 
 pub use dictionary::decode_dictionary;
 pub use masked::masked_sum;

@@ -32,6 +32,9 @@ pub fn gather_bits<A: Allocator + Clone>(
     requires { length rows.now.bits ≡ length bits.now.bits }
     ensures { Makes (λ gathered. gathered.bits ≡ kept rows.now.bits bits.now.bits) result }
 {
-    let places: Vec<usize, A> = rows.set_indices().collect(alloc.clone()?)?;
+    let mut places = Vec::with_capacity(alloc.clone()?, rows.true_count())?;
+    for row in rows.set_indices() {
+        places.push(row)?;
+    }
     take_bits(alloc, bits.as_view(), places.as_slice(), None)
 }

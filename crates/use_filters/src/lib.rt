@@ -5,6 +5,8 @@
 mod condition;
 mod filter;
 mod gather;
+#[cfg(test)]
+mod tests;
 
 pub use condition::Condition;
 pub use filter::{filtered, matching_rows, rows_where};

@@ -4,6 +4,8 @@
 
 mod error;
 mod reading;
+#[cfg(test)]
+mod tests;
 
 pub use error::ReadError;
 pub use reading::read_name;

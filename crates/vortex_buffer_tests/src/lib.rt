@@ -4,6 +4,7 @@
 
 #[cfg(test)]
 mod compared;
+pub mod counted;
 #[cfg(test)]
 mod made;
 pub mod reached;

@@ -5,7 +5,7 @@ pub use vortex_buffer::{
     BitChunkIterator, BitChunks, BitIndex, BitIndexIterator, BitIterator, BitOp, BitSliceIterator,
     BitStore, Buffer, BufferError, BufferIterator, BufferMut, BufferString, ByteBuffer,
     ByteBufferMut, ConstBuffer, ConstByteBuffer, Element, ExtendError, Glance, Iter,
-    PaddedChunkIterator, Plain, PlainTable, Probe, Ranked, Tally, TallyTable, ToBitBuffer,
+    PaddedChunkIterator, Plain, PlainTable, Probe, Ranked, Result, Tally, TallyTable, ToBitBuffer,
     TrustedLen, TrustedLenAdapter, TryIntoMut, UnalignedBitChunk, UnalignedBitChunkIterator,
     bit_select, bit_select_by, bit_select_unset, bit_select_unset_by, collect_bool_bytes,
     collect_bool_word, collect_bool_word_scalar, collect_bool_words,
