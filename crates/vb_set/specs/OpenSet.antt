@@ -1,5 +1,6 @@
 -- What contracts see of a `BitBufferMut`.
-use Rattle.std.specs.Prelude.{◌≡◌, ℕ, ◌+◌, ◌-◌, ◌*◌, ◌^◌, ◌<◌, ◌≤◌, Bool, List, [], ◌++◌, length, min, max, Result, IsOk, IsOkUnless, IsErrOf, OnErr}
+use Rattle.std.specs.Prelude.{◌≡◌, ℕ, ◌+◌, ◌-◌, ◌*◌, ◌^◌, ◌<◌, ◌≤◌, Bool, List, [], ◌++◌}
+use Rattle.std.specs.Prelude.{length, min, max, Result, IsOk, IsOkUnless, IsErrOf, OnErr}
 use Rattle.std.specs.Int.{div_ceil}
 use Rattle.std.specs.List.{refill}
 use Rattle.vb_core.specs.declared.error.BufferError.{BufferError}
@@ -7,7 +8,8 @@ use Rattle.vb_core.specs.declared.error.BufferError.TheVariants.{OutOfMemory, To
 use Rattle.vb_kernel.specs.Bits.{bits}
 use Rattle.vb_kernel.specs.Writes.{Writes, lengthened}
 
--- a set that one owner edits: its bits, the place of the first one in the bytes, the bytes with the exponent of their alignment, and for how many bits there is room
+-- a set that one owner edits: its bits, the place of the first one in the bytes, the bytes with the
+-- exponent of their alignment, and for how many bits there is room
 pub record OpenSet : Type 0 where
   pub bits : List Bool
   pub offset : ℕ
@@ -46,15 +48,20 @@ pub record Grows (old new : OpenSet) : Type 0 where
   pub alignment : new.exponent ≡ old.exponent
   pub room : old.room ≤ new.room
 
--- the n bits of a list are added behind the others, in bytes that are lengthened where they need more
+-- the n bits of a list are added behind the others, in bytes that are lengthened where they need
+-- more
 pub record AddsBits (n : ℕ) (added : List Bool) (old new : OpenSet) : Type 0 where
   pub bits : new.bits ≡ old.bits ++ added
   pub len : length new.bits ≡ length old.bits + n
   pub bytes : Writes (lengthened old.bytes new.bytes) new.bytes (old.offset + length old.bits) added
-  pub byte_len : length new.bytes ≡ max (length old.bytes) (div_ceil (old.offset + length old.bits + n) 8)
+  pub byte_len : length new.bytes
+      ≡ max (length old.bytes) (div_ceil (old.offset + length old.bits + n) 8)
 
--- how a call answers that needs n bits more: within the room it succeeds; it is refused by `TooManyBits` where the bits' numbers would pass 64 bits, else by `OutOfMemory` alone; refused, it leaves the set and its room as they were
-pub record NeedsBits {T : Type 0} (n : ℕ) (result : Result T BufferError) (old new : OpenSet) : Type 0 where
+-- how a call answers that needs n bits more: within the room it succeeds; it is refused by
+-- `TooManyBits` where the bits' numbers would pass 64 bits, else by `OutOfMemory` alone; refused,
+-- it leaves the set and its room as they were
+pub record NeedsBits {T : Type 0} (n : ℕ) (result : Result T BufferError)
+    (old new : OpenSet) : Type 0 where
   pub in_room : length old.bits + n ≤ old.room → IsOk result
   pub fits : old.offset + length old.bits + n < 2 ^ 64 → IsOkUnless result OutOfMemory
   pub too_many : 2 ^ 64 ≤ old.offset + length old.bits + n → IsErrOf result TooManyBits

@@ -211,7 +211,7 @@ impl<S: BitStore> BitBufferMutView<S> {
     }
 }
 
-#[tactic(auto, using(vb_bits::proofs::WindowLemmas::windows, vb_bits::proofs::WritesLemmas::writes))]
+#[tactic(auto, using(crate::proofs::EditLemmas::edits))]
 impl<'a> BitStore for &'a mut [u8] {
     ghost use Rattle.std.specs.Prelude.{ℕ, length, ◌≤◌, ◌<◌, ◌^◌, ◌+◌, ◌*◌};
     ghost use Rattle.std.proofs.Props.{props};

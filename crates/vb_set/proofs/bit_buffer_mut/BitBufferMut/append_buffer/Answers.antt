@@ -22,12 +22,16 @@ returns-clause-ok g c =
     let n : ℕ = c.self.inside.len in
     let added : List Bool = c.args.set.now.bits in
     let same : bits c.as_slice-bytes.result.now c.offset.result c.len-2.result ≡ added =
-    ap (λ b. bits b c.offset.result c.len-2.result) c.as_slice-bytes.ensures ∙ ap (λ p. bits c.inner.result.now.list p c.len-2.result) c.offset.ensures.value
-    ∙ ap (bits c.inner.result.now.list c.args.set.now.offset) c.len-2.ensures ∙ c.inner.ensures.window.same in
-    let written : Writes (lengthened old new) new (o + n) added = subst (Writes (lengthened old new) new (o + n)) same c.in_ok-push_window.ensures.bits in
+    ap (λ b. bits b c.offset.result c.len-2.result) c.as_slice-bytes.ensures
+    ∙ ap (λ p. bits c.inner.result.now.list p c.len-2.result) c.offset.ensures.value
+    ∙ ap (bits c.inner.result.now.list c.args.set.now.offset) c.len-2.ensures
+    ∙ c.inner.ensures.window.same in
+    let written : Writes (lengthened old new) new (o + n) added =
+    subst (Writes (lengthened old new) new (o + n)) same c.in_ok-push_window.ensures.bits in
     let longer : n + c.len-3.result ≡ n + length added = omega arith in
     let size = length-bits old o n in
-    let joined : bits new o (n + c.len-3.result) ≡ bits old o n ++ added = ap (bits new o) longer ∙ bits_behind old new o n added written (omega arith) in
+    let joined : bits new o (n + c.len-3.result) ≡ bits old o n ++ added =
+    ap (bits new o) longer ∙ bits_behind old new o n added written (omega arith) in
     record {
       bits = search (rules, edits);
       len = search (rules, edits);
