@@ -1,2 +1,3 @@
+mod CalledLemmas
 pub mod SetLemmas
 mod ShownLemmas

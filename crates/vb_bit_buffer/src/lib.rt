@@ -6,5 +6,6 @@
 #![tactic(auto)]
 
 mod bit_buffer;
+mod called;
 
 pub use bit_buffer::BitBuffer;

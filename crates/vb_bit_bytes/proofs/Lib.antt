@@ -1,2 +1,3 @@
 pub mod BytesLemmas
+mod ItemsLemmas
 mod WindowsLemmas

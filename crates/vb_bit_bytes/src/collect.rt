@@ -1,18 +1,14 @@
-//! Bytes made of what a closure answers, of lists of truth values, and of what an iterator gives.
+//! Bytes made of what a closure answers, and of lists of truth values.
 ghost use Rattle.std.specs.Prelude.{◌≡◌, ◌+◌, ◌*◌, ◌^◌, ◌<◌, ◌≤◌, ◌==◌, not, length, map};
-ghost use Rattle.std.specs.Prelude.{◌⊎◌, ⊤, IfOk, MatchResult, IsOkUnless, OnErr};
+ghost use Rattle.std.specs.Prelude.{IfOk, IsOkUnless, OnErr};
 ghost use Rattle.std.specs.Int.{div_ceil};
-ghost use Rattle.std.specs.Iterator.{IsFiniteIterable};
-ghost use Rattle.vb_bit_bytes.specs.Given.{GivesPast};
-ghost use Rattle.vb_mem.specs.Collected.{OfItems};
 ghost use Rattle.vb_pack.specs.Asked.{Answers, CanAsk, span};
 ghost use Rattle.vb_pack.specs.Bits.{at, bits};
 
-use crate::grow::push_bit;
 use crate::make::full;
 use std::alloc::Allocator;
 use vb_core::BufferError;
-use vb_mem::{BufferMut, ByteBuffer, ByteBufferMut};
+use vb_mem::{ByteBuffer, ByteBufferMut};
 use vb_pack::{collect_bool_bytes, map_bool_bytes, pack_bools, pack_truthy};
 
 /// Bytes whose first `len` bits are what `f` answers at the places from 0 up to `len`, as few as
@@ -116,35 +112,4 @@ pub fn from_truthy<A: Allocator + Clone>(
     let mut bytes = full(alloc, false, truthy.len())?;
     pack_truthy(bytes.as_mut_slice(), truthy);
     Ok(bytes)
-}
-
-/// What an iterator gives as bits from the first one on, in as few bytes as hold them, and how many
-/// they are. One bit after the other.
-///
-/// Refused by `TooManyBits` where it gives more than `usize::MAX` items, at the first one past
-/// these, else by `OutOfMemory`. No hint of the iterator is asked for.
-#[tactic(auto, using(crate::proofs::BytesLemmas::edits))]
-pub fn from_iter<A: Allocator + Clone, I: IntoIterator<Item = bool>>(
-    alloc: A,
-    iter: I,
-) -> Result<(ByteBufferMut<A>, usize), BufferError>
-    requires { IsFiniteIterable I.into_iter_gives I.IntoIter.can_next I.IntoIter.remaining iter }
-    ensures made { IfOk result (λ b. OfItems I.into_iter_gives I.IntoIter.next_gives iter
-        (λ items. bits b.0.list 0 b.1 ≡ items)) }
-    ensures len { IfOk result (λ b. length b.0.list ≡ div_ceil b.1 8) }
-    ensures alignment { IfOk result (λ b. b.0.exponent ≡ 0) }
-    ensures err { MatchResult result (λ _. ⊤) (λ e. (e ≡ BufferError.OutOfMemory)
-        ⊎ ((e ≡ BufferError.TooManyBits)
-        × GivesPast I.into_iter_gives I.IntoIter.next_gives iter)) }
-{
-    let mut bytes = BufferMut::empty(alloc);
-    let mut len = 0;
-    for bit in iter {
-        if len == usize::MAX {
-            return Err(BufferError::TooManyBits);
-        }
-        push_bit(&mut bytes, len, bit)?;
-        len += 1;
-    }
-    Ok((bytes, len))
 }

@@ -8,15 +8,15 @@
 mod collect;
 mod edit;
 mod grow;
+mod iter;
 mod make;
 mod shown;
 mod window;
 
-pub use collect::{
-    collect_bool, collect_bool_shared, from_bools, from_iter, from_truthy, map_bool_shared,
-};
+pub use collect::{collect_bool, collect_bool_shared, from_bools, from_truthy, map_bool_shared};
 pub use edit::{combine, copy, fill, negate, write_bit};
 pub use grow::{push_bit, push_bits, reserve_to};
+pub use iter::from_iter;
 pub use make::{full, unaligned};
 pub use shown::write_bits;
 pub use window::push_window;

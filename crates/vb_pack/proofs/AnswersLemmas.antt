@@ -2,6 +2,7 @@
 use Rattle.std.proofs.Common.{◌≡◌, ℕ, zero, suc, ◌+◌, ◌<◌, Bool, false, List, [], ◌∷◌, ◌++◌, length, get_or, map, refl, sym, ap, ◌∙◌, subst, arith, zero-add}
 use Rattle.std.proofs.lemmas.List.{same_lists, get_or_default}
 use Rattle.std.proofs.lemmas.List.FromFn.{length-map-range_with_len, get_or-map-range_with_len}
+use Rattle.std.specs.List.{FoldsTo}
 use Rattle.vb_bits.proofs.RangeLemmas.{range_with_len-add}
 use Rattle.vb_pack.specs.Asked.{Answers, CanAsk, span}
 
@@ -10,6 +11,34 @@ pub span-add : (a m n : ℕ) → span a (m + n) ≡ span a m ++ span (a + m) n
 unfolding span
 span-add a m n = range_with_len-add a m n
 
+pub span-cut : (a b m n k : ℕ) → b ≡ a + m → n ≡ m + k → span a n ≡ span a m ++ span b k
+span-cut a b m n k from whole = ap (span a) whole ∙ span-add a m k ∙ ap (λ x. span a m ++ span x k) (sym from)
+
+-- ---- closures that answer anything
+module _ {F A R : Type 0} (step : F → A → R → F → Type 0) (pre : F → A → Type 0) where
+  -- a closure that may be asked anything
+  pub CanAsk_always : ((p : F) (x : A) → pre p x) → (p : F) (xs : List A) → CanAsk pre step p xs
+  CanAsk_always may p [] = tt
+  CanAsk_always may p (x ∷ xs) = (may p x, λ b q said. CanAsk_always may q xs)
+
+  -- the first questions
+  pub CanAsk-front : (p : F) (xs ys : List A) → CanAsk pre step p (xs ++ ys) → CanAsk pre step p xs
+  CanAsk-front p [] ys may = tt
+  CanAsk-front p (x ∷ xs) ys may = (may.0, λ b q said. CanAsk-front q xs ys (may.1 b q said))
+
+-- ---- closures that answer nothing
+module _ {F A : Type 0} (step : F → A → Unit {0} → F → Type 0) (pre : F → A → Type 0) where
+  -- those behind the first ones
+  pub CanAsk-past : (p : F) (xs ys : List A) (q : F) → CanAsk pre step p (xs ++ ys) → FoldsTo (λ p x q. step p x tt q) p xs q → CanAsk pre step q ys
+  CanAsk-past p [] ys q may called = subst (λ s. CanAsk pre step s ys) called may
+  CanAsk-past p (x ∷ xs) ys q may called = CanAsk-past called.0 xs ys q (may.1 tt called.0 called.1) called.2
+
+-- calls at a list, and then at another one
+pub FoldsTo-append : {F A : Type 0} (step : F → A → F → Type 0) (p : F) (xs ys : List A) (q r : F) → FoldsTo step p xs q → FoldsTo step q ys r → FoldsTo step p (xs ++ ys) r
+FoldsTo-append step p [] ys q r first second = subst (λ s. FoldsTo step s ys r) (sym first) second
+FoldsTo-append step p (x ∷ xs) ys q r first second = (first.0, first.1, FoldsTo-append step first.0 xs ys q r first.2 second)
+
+-- ---- closures that answer truth values
 module _ {F A : Type 0} (step : F → A → Bool → F → Type 0) where
   Answers-append : (p : F) (xs : List A) (bs : List Bool) (q : F) (ys : List A) (cs : List Bool) (r : F) → Answers step p xs bs q → Answers step q ys cs r → Answers step p (xs ++ ys) (bs ++ cs) r
   Answers-append p [] [] q ys cs r first second = subst (λ s. Answers step s ys cs r) (sym first) second
@@ -35,20 +64,11 @@ module _ {F A : Type 0} (step : F → A → Bool → F → Type 0) where
       ap (λ y. y ∷ bs) first ∙ ap (λ l. t x ∷ l) rest
 
   module _ (pre : F → A → Type 0) where
-    CanAsk-front : (p : F) (xs ys : List A) → CanAsk pre step p (xs ++ ys) → CanAsk pre step p xs
-    CanAsk-front p [] ys may = tt
-    CanAsk-front p (x ∷ xs) ys may = (may.0, λ b q said. CanAsk-front q xs ys (may.1 b q said))
-
     CanAsk-behind : (p : F) (xs ys : List A) (bs : List Bool) (q : F) → CanAsk pre step p (xs ++ ys) → Answers step p xs bs q → CanAsk pre step q ys
     CanAsk-behind p [] ys [] q may asked = subst (λ s. CanAsk pre step s ys) asked may
     CanAsk-behind p [] ys (b ∷ bs) q may asked = absurd asked
     CanAsk-behind p (x ∷ xs) ys [] q may asked = absurd asked
     CanAsk-behind p (x ∷ xs) ys (b ∷ bs) q may asked = CanAsk-behind asked.0 xs ys bs q (may.1 b asked.0 asked.1) asked.2
-
-    -- a closure that may be asked anything
-    pub CanAsk_always : ((p : F) (x : A) → pre p x) → (p : F) (xs : List A) → CanAsk pre step p xs
-    CanAsk_always may p [] = tt
-    CanAsk_always may p (x ∷ xs) = (may p x, λ b q said. CanAsk_always may q xs)
 
 module _ {F : Type 0} (step : F → ℕ → Bool → F → Type 0) where
   -- nothing was asked yet
@@ -135,7 +155,15 @@ module _ {F : Type 0} (s t : F → ℕ → Bool → F → Type 0) where
   Answers-alike a (suc n) alike p (b ∷ bs) q asked =
       (asked.0, alike a p b asked.0 (omega arith) asked.1, Answers-alike (a + 1) n (λ k p b q l. alike k p b q (omega arith)) asked.0 bs q asked.2)
 
-  pub CanAsk-alike : (pre other : F → ℕ → Type 0) (a n : ℕ) → ((k : ℕ) (p : F) → k < a + n → pre p k → other p k) → ((k : ℕ) (p : F) (b : Bool) (q : F) → k < a + n → t p k b q → s p k b q) → (p : F) → CanAsk pre s p (span a n) → CanAsk other t p (span a n)
+module _ {F : Type 0} (s t : F → ℕ → F → Type 0) where
+  pub FoldsTo-alike : (a n : ℕ) → ((k : ℕ) (p q : F) → k < a + n → s p k q → t p k q) → (p q : F) → FoldsTo s p (span a n) q → FoldsTo t p (span a n) q
+  unfolding span
+  FoldsTo-alike a zero alike p q called = called
+  FoldsTo-alike a (suc n) alike p q called =
+      (called.0, alike a p called.0 (omega arith) called.1, FoldsTo-alike (a + 1) n (λ k p q l. alike k p q (omega arith)) called.0 q called.2)
+
+module _ {F R : Type 0} (s t : F → ℕ → R → F → Type 0) where
+  pub CanAsk-alike : (pre other : F → ℕ → Type 0) (a n : ℕ) → ((k : ℕ) (p : F) → k < a + n → pre p k → other p k) → ((k : ℕ) (p : F) (b : R) (q : F) → k < a + n → t p k b q → s p k b q) → (p : F) → CanAsk pre s p (span a n) → CanAsk other t p (span a n)
   unfolding span
   CanAsk-alike pre other a zero may alike p can = tt
   CanAsk-alike pre other a (suc n) may alike p can =

@@ -1,8 +1,10 @@
 //! Tests of packing: worked rows of the kernels and of sets, closures that are followed and
-//! counted, and calls whose requests for memory are refused.
+//! counted, closures called at the bits of sets, and calls whose requests for memory are refused.
 #![tactic(auto)]
 
 pub mod alternate;
+#[cfg(test)]
+mod called;
 #[cfg(test)]
 mod compared;
 #[cfg(test)]

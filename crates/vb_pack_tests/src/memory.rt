@@ -18,6 +18,7 @@ enum Call {
     FromTruthy,
     FromIter,
     FromIterShared,
+    MapCmp,
 }
 
 impl Call {
@@ -40,6 +41,7 @@ impl Call {
                 BitBufferMut::from_iter(alloc, (0..3u32).map(|i| i == 1))?.freeze()
             }
             Call::FromIterShared => BitBuffer::from_iter(alloc, (0..3u32).map(|i| i == 1)),
+            Call::MapCmp => mapped(alloc),
         }
     }
 }
@@ -80,6 +82,21 @@ fn collected_shared<A: Allocator + Clone>(alloc: A) -> Result<BitBuffer<A>, Buff
     }
 }
 
+/// Four bits, each true where the bit that it was asked with is true exactly at an even place.
+#[tactic(auto, using(vb_pack::proofs::AnswersLemmas::CanAsk_always))]
+fn mapped<A: Allocator + Clone>(alloc: A) -> Result<BitBuffer<A>, BufferError> {
+    let set = BitBuffer::from_bools(alloc, &[true, false, false, true])?;
+    let mut asked = 0u32;
+    let made = set.map_cmp(&mut |i, bit| {
+        asked = asked.wrapping_add(1);
+        bit == (i % 2 == 0)
+    });
+    match made {
+        Ok(set) => Ok(set),
+        Err(error) => refused_unasked(error, asked),
+    }
+}
+
 /// The refusal, where nothing was asked; else another one, which no call here answers.
 fn refused_unasked<T>(error: BufferError, asked: u32) -> Result<T, BufferError> {
     if asked == 0 {
@@ -100,6 +117,7 @@ const ROWS: &[(Call, &str, u64)] = &[
     (Call::FromTruthy, "0111", 2),
     (Call::FromIter, "010", 2),
     (Call::FromIterShared, "010", 2),
+    (Call::MapCmp, "1100", 4),
 ];
 
 fn makes<A: Allocator + Clone>(

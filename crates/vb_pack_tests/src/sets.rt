@@ -71,3 +71,15 @@ fn no_size_hint_is_relied_on(rt: HostRuntime) -> Result<(), Fail> {
     equal(&rt, set.true_count(), 500);
     Ok(())
 }
+
+#[test]
+#[tactic(auto, using(vb_pack::proofs::AnswersLemmas::CanAsk_always))]
+fn items_are_packed_by_64(rt: HostRuntime) -> Result<(), Fail> {
+    for len in [0usize, 1, 63, 64, 65, 127, 128, 129, 200] {
+        let set = BitBuffer::from_iter(rt.alloc(), (0..len).map(|i| i % 3 == 1))?;
+        let asked = BitBuffer::collect_bool(rt.alloc(), len, &mut |i| i % 3 == 1)?;
+        equal(&rt, set.inner().len(), len.div_ceil(8));
+        equal(&rt, set == asked, true);
+    }
+    Ok(())
+}

@@ -3,6 +3,7 @@ ghost use Rattle.std.specs.Prelude.{◌≡◌, ◌⊎◌, ⊤, length, IfOk, Mat
 ghost use Rattle.std.specs.Int.{div_ceil};
 ghost use Rattle.std.specs.Iterator.{IsFiniteIterable};
 ghost use Rattle.vb_bit_bytes.specs.Given.{GivesPast};
+ghost use Rattle.vb_kernel.specs.Bits.{at};
 ghost use Rattle.vb_mem.specs.Collected.{OfItems};
 ghost use Rattle.vb_pack.specs.Asked.{Answers, CanAsk, span};
 
@@ -50,6 +51,33 @@ impl<A: Allocator + Clone> BitBuffer<A> {
         ensures refused { IsOkUnless result BufferError.OutOfMemory }
     {
         BitBuffer::collect_bool(alloc, len, f)
+    }
+
+    /// What `f` answers at each place, asked with the bit there, in order and once each. Full words
+    /// go by vectors of bytes, the rest bit by bit.
+    ///
+    /// The answers have a storage of their own, with this set's allocator. Refused by `OutOfMemory`
+    /// alone, before the first question.
+    pub fn map_cmp<F: FnMut(usize, bool) -> bool>(&self, f: &mut F) -> Result<Self, BufferError>
+        requires { CanAsk (λ p i. F.pre p i (at self.now.bits i))
+            (λ p i b q. F.step p i (at self.now.bits i) b q)
+            f.old (span 0 (length self.now.bits)) }
+        ensures answered { IfOk result (λ s.
+            Answers (λ p i b q. F.step p i (at self.now.bits i) b q)
+            f.old (span 0 (length self.now.bits)) s.bits f.new) }
+        ensures len { IfOk result (λ s. length s.bits ≡ length self.now.bits) }
+        ensures offset { IfOk result (λ s. s.offset ≡ 0) }
+        ensures bytes { IfOk result (λ s. length s.bytes ≡ div_ceil (length self.now.bits) 8) }
+        ensures not_asked { OnErr result (f.new ≡ f.old) }
+        ensures refused { IsOkUnless result BufferError.OutOfMemory }
+    {
+        // A copy, since this set has the storage too. It is made for its allocator: all of its bits
+        // are written over.
+        let mut bytes = self.clone()?.into_bytes()?;
+        bytes.truncate(self.len.div_ceil(8));
+        let source = self.buffer.as_slice();
+        let answers = vb_bit_bytes::map_bool_shared(bytes, source, self.offset, self.len, f)?;
+        Ok(BitBuffer::window_of(answers, self.len, 0))
     }
 
     /// The truth values of a slice. Refused by `OutOfMemory` alone.

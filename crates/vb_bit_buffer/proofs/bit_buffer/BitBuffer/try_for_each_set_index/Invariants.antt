@@ -6,7 +6,7 @@ use Rattle.vb_bit_buffer.proofs.bit_buffer.BitBuffer.try_for_each_set_index.Give
 
 abbrev pub invariant-loop-i : goal.invariant-loop-i
 invariant-loop-i g l = record {
-  callable : CanAsk (goal.F-pre g) (goal.F-step g) l.f l.i-iterator;
+  callable : CanAsk (goal.F-pre g) (λ p i r q. goal.F-step g p i (Ok r) q) l.f l.i-iterator;
   places : places l.self.bits ≡ l.yielded ++ l.i-iterator;
   ran : FoldsTo (λ p i q. goal.F-step g p i (Ok tt) q) l.fn.f l.yielded l.f;
 }

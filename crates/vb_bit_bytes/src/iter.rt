@@ -1,0 +1,89 @@
+//! Bytes made of what an iterator gives.
+ghost use Rattle.std.specs.Prelude.{◌≡◌, ◌+◌, ◌*◌, ◌≤◌, ◌++◌, ◌⊎◌, ⊤, length};
+ghost use Rattle.std.specs.Prelude.{IfOk, MatchResult, IsOkUnless, OnOk};
+ghost use Rattle.std.specs.Int.{div_ceil};
+ghost use Rattle.std.specs.Iterator.{IsFinite, IsFiniteIterable};
+ghost use Rattle.vb_bit_bytes.specs.Given.{GivesPast, GivesUpTo};
+ghost use Rattle.vb_mem.specs.Collected.{OfItems};
+ghost use Rattle.vb_pack.specs.Bits.{bits};
+ghost use Rattle.vb_pack.specs.Digits.{digits};
+
+use std::alloc::Allocator;
+use vb_core::BufferError;
+use vb_mem::{BufferMut, ByteBufferMut};
+use vb_pack::pack_bool_word_lanes;
+
+/// What an iterator gives as bits from the first one on, in as few bytes as hold them, and how many
+/// they are. They are packed by 64, and each 64 of them lengthen the bytes once.
+///
+/// Refused by `TooManyBits` where it gives more than `usize::MAX` items, at the first one past
+/// these, else by `OutOfMemory`. No hint of the iterator is asked for.
+pub fn from_iter<A: Allocator + Clone, I: IntoIterator<Item = bool>>(
+    alloc: A,
+    iter: I,
+) -> Result<(ByteBufferMut<A>, usize), BufferError>
+    requires { IsFiniteIterable I.into_iter_gives I.IntoIter.can_next I.IntoIter.remaining iter }
+    ensures made { IfOk result (λ b. OfItems I.into_iter_gives I.IntoIter.next_gives iter
+        (λ items. bits b.0.list 0 b.1 ≡ items)) }
+    ensures len { IfOk result (λ b. length b.0.list ≡ div_ceil b.1 8) }
+    ensures alignment { IfOk result (λ b. b.0.exponent ≡ 0) }
+    ensures err { MatchResult result (λ _. ⊤) (λ e. (e ≡ BufferError.OutOfMemory)
+        ⊎ ((e ≡ BufferError.TooManyBits)
+        × GivesPast I.into_iter_gives I.IntoIter.next_gives iter)) }
+{
+    let mut bytes = BufferMut::empty(alloc);
+    let mut len = 0;
+    let mut rest = iter.into_iter();
+    loop {
+        let (word, count, left) = next_word(rest);
+        rest = left;
+        if len > usize::MAX - count {
+            return Err(BufferError::TooManyBits);
+        }
+        push_digits(&mut bytes, word, count)?;
+        len += count;
+        if count < 64 {
+            return Ok((bytes, len));
+        }
+    }
+}
+
+/// The next 64 items of an iterator, or those up to its end, as digits of a word, how many they
+/// are, and the iterator behind them.
+#[inline(always)]
+fn next_word<I: Iterator<Item = bool>>(mut iter: I) -> (u64, usize, I)
+    requires can { I.can_next iter }
+    requires finite { IsFinite (I.remaining iter) }
+    ensures in_word { result.1 ≤ 64 }
+    ensures gives { GivesUpTo I.can_next I.remaining I.next_gives 64 iter
+        (digits result.0 0 result.1) result.2 }
+{
+    let mut bools = [false; 64];
+    for i in 0..64 {
+        let Some(bit) = iter.next() else {
+            return (pack_bool_word_lanes(&bools), i, iter);
+        };
+        bools[i] = bit;
+    }
+    (pack_bool_word_lanes(&bools), 64, iter)
+}
+
+/// Adds the `count` lowest digits of a word behind whole bytes, in as few bytes as hold them.
+///
+/// Refused by `OutOfMemory` alone.
+fn push_digits<A: Allocator + Clone>(
+    bytes: &mut ByteBufferMut<A>,
+    word: u64,
+    count: usize,
+) -> Result<(), BufferError>
+    requires in_word { count ≤ 64 }
+    ensures len { OnOk result (length bytes.new.list
+        ≡ length bytes.old.list + div_ceil count 8) }
+    ensures bits { OnOk result (bits bytes.new.list 0 (8 * length bytes.old.list + count)
+        ≡ bits bytes.old.list 0 (8 * length bytes.old.list) ++ digits word 0 count) }
+    ensures alignment { bytes.new.exponent ≡ bytes.old.exponent }
+    ensures refused { IsOkUnless result BufferError.OutOfMemory }
+{
+    bytes.extend_from_slice(&word.to_le_bytes()[..count.div_ceil(8)])?;
+    Ok(())
+}
