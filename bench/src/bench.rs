@@ -127,9 +127,13 @@ impl Bench {
         let (shown, copied) = (listed(costs), listed(copies));
         let size = grouped(first);
         let outcome = format!("{grown:.2} (aim {GROWN}): {met}");
-        self.add(&format!("| {call} | {size} | {shown} | {copied} | {outcome} |\n"));
+        self.add(&format!(
+            "| {call} | {size} | {shown} | {copied} | {outcome} |\n"
+        ));
         let mut line = Object::default();
-        line.text("level", &self.level).text("part", self.part).text("call", call);
+        line.text("level", &self.level)
+            .text("part", self.part)
+            .text("call", call);
         line.count("first", Some(first));
         line.list("ns_an_item", costs.iter().map(f64::to_string));
         line.list("ns_an_item_copied", copies.iter().map(f64::to_string));

@@ -48,6 +48,9 @@ pub type OfTableInTurn = unsafe extern "C" fn(
     usize,
 ) -> usize;
 
+/// A call on a set that is made of a window, in so many rounds.
+pub type InRounds = unsafe extern "C" fn(Bytes, usize, usize, usize, usize) -> usize;
+
 /// Finds the `n`-th true or false bit of a window.
 pub type Select = unsafe extern "C" fn(Bytes, usize, usize, usize, usize) -> Place;
 
@@ -56,17 +59,8 @@ pub type Select = unsafe extern "C" fn(Bytes, usize, usize, usize, usize) -> Pla
 pub type Write = unsafe extern "C" fn(*mut u8, usize, usize, Bytes, usize, usize, usize);
 
 /// An operator on two windows of one length: which one, and in how many rounds.
-pub type Operator = unsafe extern "C" fn(
-    Bytes,
-    usize,
-    usize,
-    Bytes,
-    usize,
-    usize,
-    usize,
-    usize,
-    usize,
-) -> usize;
+pub type Operator =
+    unsafe extern "C" fn(Bytes, usize, usize, Bytes, usize, usize, usize, usize, usize) -> usize;
 
 /// Bits taken: bytes and length of the set, the indices, the bytes of a validity, and whether it
 /// counts.
@@ -179,12 +173,32 @@ unsafe extern "C" {
         len: usize,
         rounds: usize,
     ) -> usize;
+    pub fn bench_for_each_unset_index(
+        bytes: Bytes,
+        size: usize,
+        offset: usize,
+        len: usize,
+        rounds: usize,
+    ) -> usize;
+    pub fn bench_iter_bits(
+        bytes: Bytes,
+        size: usize,
+        offset: usize,
+        len: usize,
+        rounds: usize,
+    ) -> usize;
+    pub fn bench_map_cmp(
+        bytes: Bytes,
+        size: usize,
+        offset: usize,
+        len: usize,
+        rounds: usize,
+    ) -> usize;
     pub fn bench_freeze_try_into_mut(len: usize, rounds: usize) -> usize;
     pub fn bench_fill_range(len: usize, start: usize, rounds: usize) -> usize;
     pub fn bench_set_to(len: usize, places: *const usize, many: usize, rounds: usize) -> usize;
     pub fn bench_collect_bool(values: *const u32, many: usize, limit: u32) -> usize;
-    pub fn bench_collect_bool_multiversioned(values: *const u32, many: usize, limit: u32)
-    -> usize;
+    pub fn bench_collect_bool_multiversioned(values: *const u32, many: usize, limit: u32) -> usize;
     pub fn bench_from_bools(bools: *const bool, many: usize) -> usize;
     pub fn bench_from_truthy(bytes: Bytes, many: usize) -> usize;
     pub fn bench_from_iter(bytes: Bytes, many: usize) -> usize;
@@ -294,4 +308,9 @@ unsafe extern "C" {
 /// Calls a function on a window.
 pub fn on(call: OnWindow, w: Window) -> usize {
     unsafe { call(w.bytes.as_ptr(), w.bytes.len(), w.offset, w.len) }
+}
+
+/// Calls a function in rounds on a set that it makes of a window.
+pub fn in_rounds(call: InRounds, w: Window, rounds: usize) -> usize {
+    unsafe { call(w.bytes.as_ptr(), w.bytes.len(), w.offset, w.len, rounds) }
 }

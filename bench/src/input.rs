@@ -54,7 +54,9 @@ impl Input {
     /// The bits that are set in each of so many random words.
     fn set_in_all_of(words: usize, size: usize) -> Self {
         let mut random = Random(1);
-        Input::of(size, || (0..words).fold(u64::MAX, |word, _| word & random.number()))
+        Input::of(size, || {
+            (0..words).fold(u64::MAX, |word, _| word & random.number())
+        })
     }
 
     /// This share of the bits is set.
@@ -101,7 +103,9 @@ impl Input {
 
     /// A copy of whole words.
     pub fn copied(bytes: &[u8]) -> Self {
-        let mut words = bytes.chunks_exact(8).map(|word| word.try_into().expect("8 bytes"));
+        let mut words = bytes
+            .chunks_exact(8)
+            .map(|word| word.try_into().expect("8 bytes"));
         Input::of(bytes.len(), || words.next().map_or(0, u64::from_le_bytes))
     }
 

@@ -61,7 +61,10 @@ fn place_in(word: u64, n: usize) -> usize {
 fn realigned(input: &Input, offset: usize, len: usize) -> impl Iterator<Item = u64> {
     let words = &input.words()[offset / 64..];
     let shift = offset % 64;
-    words.windows(2).take(len / 64).map(move |w| w[0] >> shift | w[1] << 1 << (63 - shift))
+    words
+        .windows(2)
+        .take(len / 64)
+        .map(move |w| w[0] >> shift | w[1] << 1 << (63 - shift))
 }
 
 /// Calls a closure at each set bit of a window of whole words.
@@ -89,6 +92,37 @@ pub fn set_indices(input: &Input, offset: usize, len: usize) -> usize {
     let mut sum = 0usize;
     for_each_set_bit(input, offset, len, |place| sum = sum.wrapping_add(place));
     sum
+}
+
+/// The sum of the places of clear bits.
+#[inline(never)]
+pub fn unset_indices(input: &Input, offset: usize, len: usize) -> usize {
+    let mut sum = 0usize;
+    let words = realigned(input, offset, len).enumerate();
+    for (k, word) in words {
+        let mut left = !word;
+        while left != 0 {
+            sum = sum.wrapping_add(64 * k + left.trailing_zeros() as usize);
+            left &= left - 1;
+        }
+    }
+    sum
+}
+
+/// The sum of the places of set bits, by a test of each bit.
+#[inline(never)]
+pub fn iter_bits(w: Window) -> usize {
+    let bit = |place: usize| w.bytes[(w.offset + place) / 8] >> ((w.offset + place) % 8) & 1 == 1;
+    (0..w.len).fold(0, |sum: usize, place| {
+        sum.wrapping_add(if bit(place) { place } else { 0 })
+    })
+}
+
+/// Which bits aren't those of their places' parity.
+#[inline(never)]
+pub fn map_cmp(w: Window) -> usize {
+    let bit = |place: usize| w.bytes[(w.offset + place) / 8] >> ((w.offset + place) % 8) & 1 == 1;
+    collect(w.len, |place| bit(place) != (place % 2 == 0))
 }
 
 /// How many bits are set, one after the other.
@@ -161,7 +195,9 @@ pub fn take_valid<I: Copy>(
     place: impl Fn(I) -> usize,
 ) -> usize {
     let bit = |bytes: &[u8], at: usize| bytes[at / 8] >> (at % 8) & 1 == 1;
-    collect(indices.len(), |i| bit(validity, i) && bit(bytes, place(indices[i])))
+    collect(indices.len(), |i| {
+        bit(validity, i) && bit(bytes, place(indices[i]))
+    })
 }
 
 /// A set with the bits at the places true.
@@ -191,9 +227,17 @@ fn ones_between(input: &Input, start: usize, end: usize) -> usize {
     let words = &input.words()[start / 64..end.div_ceil(64).max(start / 64 + 1)];
     let (skip, last) = (start % 64, words.len() - 1);
     let ones = |k: usize, word: u64| {
-        let word = if k == 0 { word & u64::MAX << skip } else { word };
+        let word = if k == 0 {
+            word & u64::MAX << skip
+        } else {
+            word
+        };
         let kept = (end - (start - skip)).saturating_sub(64 * k).min(64);
-        let word = if kept == 64 { word } else { word & ((1 << kept) - 1) };
+        let word = if kept == 64 {
+            word
+        } else {
+            word & ((1 << kept) - 1)
+        };
         word.count_ones() as usize
     };
     (0..=last).map(|k| ones(k, words[k])).sum()

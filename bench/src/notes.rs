@@ -2,7 +2,10 @@
 
 /// What is known of a call that misses.
 pub fn of(call: &str) -> Option<&'static str> {
-    NOTES.iter().find(|(start, _)| call.starts_with(start)).map(|(_, note)| *note)
+    NOTES
+        .iter()
+        .find(|(start, _)| call.starts_with(start))
+        .map(|(_, note)| *note)
 }
 
 /// By how the name of the call begins.
@@ -24,7 +27,10 @@ const NOTES: [(&str, &str); 13] = [
         "`append` of a million bits",
         "The last byte is loaded after it was stored",
     ),
-    ("`from_iter`", "Bit after bit, since no hint of the iterator is trusted"),
+    (
+        "`from_iter`",
+        "Items are written to a list of 64 one by one, since no hint is trusted, and then packed",
+    ),
     (
         "`take_bits` by `u128`",
         "Each index is narrowed on its own, by tests of both halves",

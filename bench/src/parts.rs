@@ -1,6 +1,7 @@
 //! What is measured, part by part.
 
 mod buffers;
+mod closures;
 mod copies;
 mod count;
 mod directory;
@@ -40,6 +41,7 @@ pub fn measure(bench: &mut Bench) {
     count::measure(bench);
     select::measure(bench);
     walks::measure(bench);
+    closures::measure(bench);
     operators::measure(bench);
     copies::measure(bench);
     made::measure(bench);

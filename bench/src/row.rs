@@ -133,7 +133,9 @@ impl<'a> Row<'a> {
     /// The contenders that give the same answer as ours.
     pub fn equals(&self) -> impl Iterator<Item = &Contender<'a>> {
         let named = self.names.iter().zip(&self.contenders);
-        named.filter(|(name, _)| [UPSTREAM, LOOP].contains(name)).map(|(_, it)| it)
+        named
+            .filter(|(name, _)| [UPSTREAM, LOOP].contains(name))
+            .map(|(_, it)| it)
     }
 
     pub fn contenders(&self) -> &[Contender<'a>] {
@@ -211,7 +213,10 @@ impl Outcome {
 
     fn text(&self) -> String {
         let met = if self.is_met() { "met" } else { "**missed**" };
-        format!("{:.2} {} (aim {:.2}): {met}", self.reached, self.over, self.most)
+        format!(
+            "{:.2} {} (aim {:.2}): {met}",
+            self.reached, self.over, self.most
+        )
     }
 }
 
@@ -246,7 +251,9 @@ impl Measured {
             found.next().map_or(String::new(), |(_, time)| cell(*time))
         };
         let beside = others().filter(|(it, _)| ![UPSTREAM, LOOP].contains(it));
-        let beside: Vec<_> = beside.map(|(it, time)| format!("{it} {}", cell(*time))).collect();
+        let beside: Vec<_> = beside
+            .map(|(it, time)| format!("{it} {}", cell(*time)))
+            .collect();
         let aims: Vec<_> = self.aims.iter().map(Outcome::text).collect();
         format!(
             "| {} | {} | {} | {} | {} | {} | {} |\n",
@@ -274,7 +281,9 @@ impl Measured {
     /// One line of JSON.
     pub fn json(&self, level: &str, part: &str) -> String {
         let mut row = Object::default();
-        row.text("level", level).text("part", part).text("call", &self.call);
+        row.text("level", level)
+            .text("part", part)
+            .text("call", &self.call);
         row.text("input", &self.input);
         row.count("bits", self.bits).count("items", self.items);
         row.list("offsets", self.offsets.iter().map(usize::to_string));
@@ -292,7 +301,8 @@ impl Measured {
 impl Outcome {
     fn json(&self) -> String {
         let mut aim = Object::default();
-        aim.text("over", &self.over).number("at_most", Some(self.most));
+        aim.text("over", &self.over)
+            .number("at_most", Some(self.most));
         aim.number("is", Some(self.reached));
         aim.line()
     }
@@ -310,7 +320,11 @@ pub fn figure(time: f64) -> String {
 /// A share as a percentage of at most two digits that tell something.
 fn percent(share: f64) -> String {
     let percent = 100.0 * share;
-    if percent >= 1.0 { format!("{}", (100.0 * percent).round() / 100.0) } else { format!("{percent:.2}") }
+    if percent >= 1.0 {
+        format!("{}", (100.0 * percent).round() / 100.0)
+    } else {
+        format!("{percent:.2}")
+    }
 }
 
 /// A number as `1,048,576`.

@@ -95,7 +95,9 @@ pub fn last_set_index(set: &BitBuffer) -> usize {
 #[inline(never)]
 pub fn value(w: Window, places: &[usize]) -> usize {
     let view = view(w);
-    places.iter().fold(0, |sum, &place| sum + view.value(place) as usize)
+    places
+        .iter()
+        .fold(0, |sum, &place| sum + view.value(place) as usize)
 }
 
 #[inline(never)]
@@ -170,6 +172,25 @@ pub fn for_each_set_index(set: &BitBuffer) -> usize {
 }
 
 #[inline(never)]
+pub fn for_each_unset_index(set: &BitBuffer) -> usize {
+    let mut sum = 0usize;
+    set.for_each_unset_index(|place| sum = sum.wrapping_add(place));
+    sum
+}
+
+#[inline(never)]
+pub fn iter_bits(set: &BitBuffer) -> usize {
+    let mut sum = 0usize;
+    set.iter_bits(|place, bit| sum = sum.wrapping_add(if bit { place } else { 0 }));
+    sum
+}
+
+#[inline(never)]
+pub fn map_cmp(set: &BitBuffer) -> usize {
+    used(set.map_cmp(|place, bit| bit != (place % 2 == 0)))
+}
+
+#[inline(never)]
 pub fn freeze_try_into_mut(set: &Cell<Option<BitBufferMut>>) -> usize {
     let frozen = set.take().expect("a set was put back").freeze();
     let made = frozen.try_into_mut().expect("the set has one owner");
@@ -200,7 +221,9 @@ pub fn collect_bool(values: &[u32], limit: u32) -> usize {
 
 #[inline(never)]
 pub fn collect_bool_multiversioned(values: &[u32], limit: u32) -> usize {
-    used(BitBuffer::collect_bool_multiversioned(values.len(), |i| values[i] < limit))
+    used(BitBuffer::collect_bool_multiversioned(values.len(), |i| {
+        values[i] < limit
+    }))
 }
 
 #[inline(never)]

@@ -21,13 +21,22 @@ fn made(bench: &mut Bench, items: &[u32]) {
     let (list, many) = (items.as_ptr(), items.len());
     let row = |call: &str, ours| Row::new(call, Contender::of(ours)).items(many);
     let ours = move || unsafe { calls::bench_buffer_copy_from(list, many) };
-    let row_of_copy = row("`Buffer::copy_from`", Box::new(ours) as Box<dyn Fn() -> usize>)
-        .upstream(upstream!(Contender::of(move || crate::upstream::buffer_copy_from(items))))
-        .plain(Contender::of(move || std::hint::black_box(items.to_vec()).len()));
+    let row_of_copy = row(
+        "`Buffer::copy_from`",
+        Box::new(ours) as Box<dyn Fn() -> usize>,
+    )
+    .upstream(upstream!(Contender::of(move || {
+        crate::upstream::buffer_copy_from(items)
+    })))
+    .plain(Contender::of(move || {
+        std::hint::black_box(items.to_vec()).len()
+    }));
     bench.row(row_of_copy.at_most(1.1, UPSTREAM));
     let ours = move || unsafe { calls::bench_buffer_from_iter(many as u32) };
     let row_of_iter = row("`Buffer::from_iter` of a range", Box::new(ours))
-        .upstream(upstream!(Contender::of(move || crate::upstream::buffer_from_iter(many as u32))))
+        .upstream(upstream!(Contender::of(move || {
+            crate::upstream::buffer_from_iter(many as u32)
+        })))
         .plain(Contender::of(move || {
             std::hint::black_box((0..many as u32).collect::<Vec<_>>()).len()
         }));
@@ -41,7 +50,9 @@ fn made(bench: &mut Bench, items: &[u32]) {
         std::hint::black_box(&pushed).len()
     };
     let row_of_push = row("`BufferMut::push`, one by one", Box::new(ours))
-        .upstream(upstream!(Contender::of(move || crate::upstream::buffer_push(items))))
+        .upstream(upstream!(Contender::of(move || {
+            crate::upstream::buffer_push(items)
+        })))
         .plain(Contender::of(plain));
     bench.row(row_of_push);
 }

@@ -16,12 +16,22 @@ pub fn measure(bench: &mut Bench) {
     bench.begin("Copies");
     let input = &Input::random(MILLION / 8);
     for (from, to) in [(0, 0), (3, 3), (0, 3), (5, 2)] {
-        let row = written("`copy_bits`", calls::vb_copy_bits, input.bits(from, MILLION), to)
-            .beside(MEMCPY, memcpy(input.bytes(MILLION / 8)));
+        let row = written(
+            "`copy_bits`",
+            calls::vb_copy_bits,
+            input.bits(from, MILLION),
+            to,
+        )
+        .beside(MEMCPY, memcpy(input.bytes(MILLION / 8)));
         bench.row(row.at_most(2.5, MEMCPY));
     }
     for (from, to) in [(0, 0), (3, 0), (2, 5)] {
-        let row = written("`zip_words`, `&`", calls::vb_and_bits, input.bits(from, MILLION), to);
+        let row = written(
+            "`zip_words`, `&`",
+            calls::vb_and_bits,
+            input.bits(from, MILLION),
+            to,
+        );
         let words = RefCell::new(input.words()[..MILLION / 64].to_vec());
         let plain = move || {
             loops::combine_in_place(&mut words.borrow_mut(), (input, from), MILLION);
@@ -47,7 +57,9 @@ fn written<'a>(call: &str, write: Write, from: Window<'a>, to: usize) -> Row<'a>
         unsafe { write(dst, sizes.0, to, src, sizes.1, from.offset, from.len) };
         0
     };
-    Row::new(call, Contender::of(ours)).bits(from.len).offsets(&[from.offset, to])
+    Row::new(call, Contender::of(ours))
+        .bits(from.len)
+        .offsets(&[from.offset, to])
 }
 
 fn memcpy(bytes: &[u8]) -> Contender<'_> {
@@ -71,10 +83,18 @@ fn writes(bench: &mut Bench) {
         let over = RefCell::new(vec![0u8; MILLION / 8 + 1]);
         let ours = move || unsafe {
             let over = &mut *over.borrow_mut();
-            calls::vb_fill_bits(over.as_mut_ptr(), over.len(), offset, offset + MILLION, true);
+            calls::vb_fill_bits(
+                over.as_mut_ptr(),
+                over.len(),
+                offset,
+                offset + MILLION,
+                true,
+            );
             0
         };
-        let row = Row::new("`fill_bits`", Contender::of(ours)).bits(MILLION).offsets(&[offset]);
+        let row = Row::new("`fill_bits`", Contender::of(ours))
+            .bits(MILLION)
+            .offsets(&[offset]);
         bench.row(row.beside("memset", memset()));
         let over = RefCell::new(vec![0u8; MILLION / 8 + 1]);
         let ours = move || unsafe {
@@ -84,7 +104,10 @@ fn writes(bench: &mut Bench) {
         };
         let words = RefCell::new(vec![0u64; MILLION / 64]);
         let plain = move || {
-            words.borrow_mut().iter_mut().for_each(|word| *word = !*word);
+            words
+                .borrow_mut()
+                .iter_mut()
+                .for_each(|word| *word = !*word);
             0
         };
         let row = Row::new("`map_words`, `!`", Contender::of(ours)).bits(MILLION);
@@ -112,12 +135,17 @@ fn appended(input: &Input, from: usize, before: usize) -> Row<'_> {
         }))
         .beside(MEMCPY, memcpy(input.bytes(MILLION / 8)));
     let row = row.at_most(1.0, UPSTREAM);
-    if (from, before) == (0, 8) { row.at_most(1.1, MEMCPY) } else { row }
+    if (from, before) == (0, 8) {
+        row.at_most(1.1, MEMCPY)
+    } else {
+        row
+    }
 }
 
 fn sliced(bench: &mut Bench, w: Window) {
     let (bytes, size) = (w.bytes.as_ptr(), w.bytes.len());
-    let ours = move |rounds| unsafe { calls::bench_set(bytes, size, w.offset, w.len, 3, 0, rounds) };
+    let ours =
+        move |rounds| unsafe { calls::bench_set(bytes, size, w.offset, w.len, 3, 0, rounds) };
     let row = Row::new("`sliced`", Contender::in_rounds(ours))
         .bits(w.len)
         .offsets(&[w.offset])

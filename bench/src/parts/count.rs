@@ -20,7 +20,9 @@ pub fn measure(bench: &mut Bench) {
                 .bits(w.len)
                 .offsets(&[offset])
                 .set(0.5)
-                .upstream(upstream!(Contender::of(move || crate::upstream::count_ones(w))))
+                .upstream(upstream!(Contender::of(move || {
+                    crate::upstream::count_ones(w)
+                })))
                 .plain(Contender::of(move || loops::count_ones(w)));
             let most = most(&bench.level, offset)[k];
             row = row.at_most(most, LOOP);

@@ -82,9 +82,21 @@ impl<'a> Asked<'a> {
             let (table, entries) = (self.table.as_ptr(), self.table.len());
             let (places, many) = (list.as_ptr(), list.len());
             let (offset, len) = (self.offset, self.len);
-            ours(bytes.as_ptr(), bytes.len(), offset, len, table, entries, places, many)
+            ours(
+                bytes.as_ptr(),
+                bytes.len(),
+                offset,
+                len,
+                table,
+                entries,
+                places,
+                many,
+            )
         };
-        let plain = move || list.iter().fold(0, |sum: usize, &at| sum.wrapping_add(plain(at)));
+        let plain = move || {
+            list.iter()
+                .fold(0, |sum: usize, &at| sum.wrapping_add(plain(at)))
+        };
         Row::new(call, Contender::of_each(list.len(), ours))
             .bits(self.len)
             .offsets(&[self.offset])
@@ -106,11 +118,23 @@ impl<'a> Asked<'a> {
             let (table, entries) = (self.table.as_ptr(), self.table.len());
             let (places, many) = (list.as_ptr(), list.len());
             let (offset, len) = (self.offset, self.len);
-            ours(bytes.as_ptr(), bytes.len(), offset, len, table, entries, places, many, none())
+            ours(
+                bytes.as_ptr(),
+                bytes.len(),
+                offset,
+                len,
+                table,
+                entries,
+                places,
+                many,
+                none(),
+            )
         };
         let plain = move || {
             let mask = none();
-            list.iter().fold(0, |sum: usize, &at| sum.wrapping_add(plain(at ^ (sum & mask))))
+            list.iter().fold(0, |sum: usize, &at| {
+                sum.wrapping_add(plain(at ^ (sum & mask)))
+            })
         };
         Row::new(call, Contender::of_each(list.len(), ours))
             .bits(self.len)
@@ -130,7 +154,10 @@ fn edits(bench: &mut Bench, len: usize) {
         loops::move_entries(&mut entries.borrow_mut()[1..], next);
         len
     };
-    let (from, to) = (vec![1usize; len / 512], RefCell::new(vec![0usize; len / 512]));
+    let (from, to) = (
+        vec![1usize; len / 512],
+        RefCell::new(vec![0usize; len / 512]),
+    );
     let copy = move || {
         to.borrow_mut().copy_from_slice(&from);
         0

@@ -81,13 +81,18 @@ fn writes(bench: &mut Bench, input: &Input) {
 
 fn sets(bench: &mut Bench, input: &Input) {
     for (l, r) in [(0, 0), (0, 3)] {
-        bench.growth(&format!("`&` by reference, offsets {l}, {r}"), BITS, BYTES, |len| {
-            let (a, b) = (input.bits(l, len).bytes, input.bits(r, len).bytes);
-            Contender::in_rounds(move |rounds| unsafe {
-                let (left, right) = (a.as_ptr(), b.as_ptr());
-                calls::bench_operator(left, a.len(), l, right, b.len(), r, len, 0, rounds)
-            })
-        });
+        bench.growth(
+            &format!("`&` by reference, offsets {l}, {r}"),
+            BITS,
+            BYTES,
+            |len| {
+                let (a, b) = (input.bits(l, len).bytes, input.bits(r, len).bytes);
+                Contender::in_rounds(move |rounds| unsafe {
+                    let (left, right) = (a.as_ptr(), b.as_ptr());
+                    calls::bench_operator(left, a.len(), l, right, b.len(), r, len, 0, rounds)
+                })
+            },
+        );
     }
     bench.growth("`!` in place", BITS, BYTES, |len| {
         let w = input.bits(3, len);
@@ -114,39 +119,78 @@ fn lists(bench: &mut Bench) {
     let of = |call: unsafe extern "C" fn(calls::Bytes, usize) -> usize| {
         move |many: usize| Contender::of(move || unsafe { call(bytes[..many].as_ptr(), many) })
     };
-    bench.growth("`from_truthy`", ITEMS, |many| many, of(calls::bench_from_truthy));
-    bench.growth("`from_iter`", ITEMS, |many| many, of(calls::bench_from_iter));
-    bench.growth("`append` to a directory", ITEMS, |many| many, of(calls::bench_ranked_append));
-    bench.growth("`append`", ITEMS, |many| many, |many| {
-        Contender::of(move || unsafe { calls::bench_append(bytes.as_ptr(), many, 0) })
-    });
+    bench.growth(
+        "`from_truthy`",
+        ITEMS,
+        |many| many,
+        of(calls::bench_from_truthy),
+    );
+    bench.growth(
+        "`from_iter`",
+        ITEMS,
+        |many| many,
+        of(calls::bench_from_iter),
+    );
+    bench.growth(
+        "`append` to a directory",
+        ITEMS,
+        |many| many,
+        of(calls::bench_ranked_append),
+    );
+    bench.growth(
+        "`append`",
+        ITEMS,
+        |many| many,
+        |many| Contender::of(move || unsafe { calls::bench_append(bytes.as_ptr(), many, 0) }),
+    );
     let values: &Vec<u32> = &(0..1_000 * ITEMS as u32).collect();
-    bench.growth("`collect_bool`", ITEMS, |many| 4 * many, |many| {
-        Contender::of(move || unsafe { calls::bench_collect_bool(values.as_ptr(), many, 500) })
-    });
-    bench.growth("`BufferMut::push`", ITEMS, |many| 4 * many, |many| {
-        Contender::of(move || unsafe { calls::bench_buffer_push(values.as_ptr(), many) })
-    });
-    bench.growth("`take_bits` by `u32`, random, of as many bits", ITEMS, |many| 4 * many, |many| {
-        let mut random = Random(12);
-        let list: Vec<u32> = (0..many).map(|_| random.below(many) as u32).collect();
-        let size = many.div_ceil(8);
-        Contender::of(move || unsafe {
-            let (bits, list) = (bytes.as_ptr(), list.as_ptr());
-            calls::bench_take_u32(bits, size, many, list, many, bits, size, false)
-        })
-    });
-    bench.growth("`from_indices`, ascending", ITEMS, |many| 8 * many, |many| {
-        let list: Vec<usize> = (0..many).map(|k| 2 * k).collect();
-        Contender::of(move || unsafe {
-            calls::bench_from_indices(2 * many, list.as_ptr(), list.len())
-        })
-    });
+    bench.growth(
+        "`collect_bool`",
+        ITEMS,
+        |many| 4 * many,
+        |many| {
+            Contender::of(move || unsafe { calls::bench_collect_bool(values.as_ptr(), many, 500) })
+        },
+    );
+    bench.growth(
+        "`BufferMut::push`",
+        ITEMS,
+        |many| 4 * many,
+        |many| Contender::of(move || unsafe { calls::bench_buffer_push(values.as_ptr(), many) }),
+    );
+    bench.growth(
+        "`take_bits` by `u32`, random, of as many bits",
+        ITEMS,
+        |many| 4 * many,
+        |many| {
+            let mut random = Random(12);
+            let list: Vec<u32> = (0..many).map(|_| random.below(many) as u32).collect();
+            let size = many.div_ceil(8);
+            Contender::of(move || unsafe {
+                let (bits, list) = (bytes.as_ptr(), list.as_ptr());
+                calls::bench_take_u32(bits, size, many, list, many, bits, size, false)
+            })
+        },
+    );
+    bench.growth(
+        "`from_indices`, ascending",
+        ITEMS,
+        |many| 8 * many,
+        |many| {
+            let list: Vec<usize> = (0..many).map(|k| 2 * k).collect();
+            Contender::of(move || unsafe {
+                calls::bench_from_indices(2 * many, list.as_ptr(), list.len())
+            })
+        },
+    );
 }
 
 /// Rounds of edits: what is counted are the rounds.
 fn edits(bench: &mut Bench) {
-    bench.growth("rounds of `freeze` and `try_into_mut`", ITEMS, |_| 1_000, |rounds| {
-        Contender::of(move || unsafe { calls::bench_freeze_try_into_mut(10_000, rounds) })
-    });
+    bench.growth(
+        "rounds of `freeze` and `try_into_mut`",
+        ITEMS,
+        |_| 1_000,
+        |rounds| Contender::of(move || unsafe { calls::bench_freeze_try_into_mut(10_000, rounds) }),
+    );
 }

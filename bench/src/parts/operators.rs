@@ -1,6 +1,6 @@
 //! Operators, negation and equality.
 
-use std::cell::{Cell, RefCell};
+use std::cell::RefCell;
 
 use super::{MILLION, upstream};
 use crate::bench::Bench;
@@ -22,7 +22,11 @@ pub fn measure(bench: &mut Bench) {
     let left = &Input::random(MILLION / 8);
     let right = &Input::with_set(0.3, MILLION / 8);
     for (operator, name) in NAMES.into_iter().enumerate() {
-        let pairs = if operator == 0 { &PAIRS[..] } else { &PAIRS[..2] };
+        let pairs = if operator == 0 {
+            &PAIRS[..]
+        } else {
+            &PAIRS[..2]
+        };
         for &offsets in pairs {
             let most = if offsets == (0, 0) { 1.0 } else { 0.2 };
             bench.row(lent(name, operator, left, right, offsets, MILLION).at_most(most, UPSTREAM));
@@ -62,7 +66,9 @@ fn lent<'a>(
     if operator > 0 {
         return row;
     }
-    row.plain(Contender::of(move || loops::combine((left, l), (right, r), len)))
+    row.plain(Contender::of(move || {
+        loops::combine((left, l), (right, r), len)
+    }))
 }
 
 /// An operator with an owned left set, in place.
@@ -79,7 +85,7 @@ fn owned<'a>(
         .bits(MILLION)
         .offsets(&[l, r])
         .upstream(upstream!({
-            let a = Cell::new(Some(crate::upstream::set(a)));
+            let a = std::cell::Cell::new(Some(crate::upstream::set(a)));
             let b = crate::upstream::set(b);
             let combine = std::hint::black_box(crate::upstream::operator_owned(operator));
             Contender::of(move || combine(&a, &b))
@@ -107,13 +113,16 @@ unsafe fn run(
     let (left, right) = (a.bytes.as_ptr(), b.bytes.as_ptr());
     let sizes = (a.bytes.len(), b.bytes.len());
     unsafe {
-        call(left, sizes.0, a.offset, right, sizes.1, b.offset, a.len, operator, rounds)
+        call(
+            left, sizes.0, a.offset, right, sizes.1, b.offset, a.len, operator, rounds,
+        )
     }
 }
 
 fn negations(bench: &mut Bench, w: Window) {
     let (bytes, size) = (w.bytes.as_ptr(), w.bytes.len());
-    let lent = move |rounds| unsafe { calls::bench_set(bytes, size, w.offset, w.len, 2, 0, rounds) };
+    let lent =
+        move |rounds| unsafe { calls::bench_set(bytes, size, w.offset, w.len, 2, 0, rounds) };
     let row = Row::new("`!` by reference", Contender::in_rounds(lent))
         .bits(w.len)
         .offsets(&[w.offset])
@@ -123,17 +132,21 @@ fn negations(bench: &mut Bench, w: Window) {
         }))
         .at_most(1.0, UPSTREAM);
     bench.row(row);
-    let owned = move |rounds| unsafe { calls::bench_not_owned(bytes, size, w.offset, w.len, rounds) };
+    let owned =
+        move |rounds| unsafe { calls::bench_not_owned(bytes, size, w.offset, w.len, rounds) };
     let words = RefCell::new(vec![0u64; w.len / 64]);
     let plain = move || {
-        words.borrow_mut().iter_mut().for_each(|word| *word = !*word);
+        words
+            .borrow_mut()
+            .iter_mut()
+            .for_each(|word| *word = !*word);
         w.len
     };
     let row = Row::new("`!` in place", Contender::in_rounds(owned))
         .bits(w.len)
         .offsets(&[w.offset])
         .upstream(upstream!({
-            let set = Cell::new(Some(crate::upstream::set(w)));
+            let set = std::cell::Cell::new(Some(crate::upstream::set(w)));
             Contender::of(move || crate::upstream::not_owned(&set))
         }))
         .plain(Contender::of(plain))
@@ -147,7 +160,11 @@ fn equality(bench: &mut Bench, input: &Input) {
         for (l, r) in [(0, 0), (3, 3), (0, 3), (5, 2)] {
             let most = if l == r { 1.05 } else { 1.5 };
             let row = equal(sets[l].bits(l, len), sets[r].bits(r, len));
-            bench.row(if len == MILLION { row.at_most(most, MEMCMP) } else { row });
+            bench.row(if len == MILLION {
+                row.at_most(most, MEMCMP)
+            } else {
+                row
+            });
         }
     }
     let other = Input::shifted(&Input::with_set(0.3, MILLION / 8), 3);
@@ -169,6 +186,8 @@ fn equal<'a>(left: Window<'a>, right: Window<'a>) -> Row<'a> {
     Row::new("`==`", Contender::of(ours))
         .bits(left.len)
         .offsets(&[left.offset, right.offset])
-        .upstream(upstream!(Contender::of(move || crate::upstream::eq(left, right))))
+        .upstream(upstream!(Contender::of(move || crate::upstream::eq(
+            left, right
+        ))))
         .beside(MEMCMP, Contender::of(compare))
 }

@@ -22,15 +22,41 @@ pub fn measure(bench: &mut Bench) {
             let ones = on(vb_count_ones, w);
             let most = most(&bench.level, offset);
             let last = last(w, offset, 0.5);
-            bench.row(if size == 64 { last.at_most(most, LOOP) } else { last });
-            let turn = true_bits("places in turn", w, in_turn(ones)).offsets(&[offset]).set(0.5);
-            bench.row(if size == 64 { turn.at_most(most, LOOP) } else { turn });
-            bench.row(true_bits("random places", w, random(ones)).offsets(&[offset]).set(0.5));
+            bench.row(if size == 64 {
+                last.at_most(most, LOOP)
+            } else {
+                last
+            });
+            let turn = true_bits("places in turn", w, in_turn(ones))
+                .offsets(&[offset])
+                .set(0.5);
+            bench.row(if size == 64 {
+                turn.at_most(most, LOOP)
+            } else {
+                turn
+            });
+            bench.row(
+                true_bits("random places", w, random(ones))
+                    .offsets(&[offset])
+                    .set(0.5),
+            );
             bench.row(self::last(sparse.window(size, offset), offset, 1.0 / 64.0));
-            bench.row(self::last(sparsest.window(size, offset), offset, 1.0 / 4096.0));
+            bench.row(self::last(
+                sparsest.window(size, offset),
+                offset,
+                1.0 / 4096.0,
+            ));
             let zeros = w.len - ones;
-            bench.row(false_bits("last place", w, vec![zeros - 1]).offsets(&[offset]).set(0.5));
-            bench.row(false_bits("random places", w, random(zeros)).offsets(&[offset]).set(0.5));
+            bench.row(
+                false_bits("last place", w, vec![zeros - 1])
+                    .offsets(&[offset])
+                    .set(0.5),
+            );
+            bench.row(
+                false_bits("random places", w, random(zeros))
+                    .offsets(&[offset])
+                    .set(0.5),
+            );
         }
     }
 }
@@ -38,7 +64,9 @@ pub fn measure(bench: &mut Bench) {
 /// The last true bit. A short window may have none: its first is then sought in vain.
 fn last(w: Window<'_>, offset: usize, set: f64) -> Row<'_> {
     let rank = on(vb_count_ones, w).saturating_sub(1);
-    let row = true_bits("last place", w, vec![rank]).offsets(&[offset]).set(set);
+    let row = true_bits("last place", w, vec![rank])
+        .offsets(&[offset])
+        .set(set);
     match w.bytes.len() {
         64 => row,
         1_048_576 => at_count(row.at_most(1.0, UPSTREAM), w),
@@ -57,7 +85,8 @@ fn most(level: &str, offset: usize) -> f64 {
 
 /// A select of a last bit passes over all bits, as a count does.
 fn at_count<'a>(row: Row<'a>, w: Window<'a>) -> Row<'a> {
-    row.beside(COUNT, Contender::of(move || on(vb_count_ones, w))).at_most(1.05, COUNT)
+    row.beside(COUNT, Contender::of(move || on(vb_count_ones, w)))
+        .at_most(1.05, COUNT)
 }
 
 fn true_bits<'a>(how: &str, w: Window<'a>, ranks: Vec<usize>) -> Row<'a> {
@@ -68,7 +97,9 @@ fn true_bits<'a>(how: &str, w: Window<'a>, ranks: Vec<usize>) -> Row<'a> {
     });
     row("`bit_select`", vb_bit_select, how, w, ranks.clone())
         .upstream(others)
-        .plain(Contender::of_each(ranks.len(), move || sum(&ranks, |n| loops::select::<false>(w, n))))
+        .plain(Contender::of_each(ranks.len(), move || {
+            sum(&ranks, |n| loops::select::<false>(w, n))
+        }))
 }
 
 fn false_bits<'a>(how: &str, w: Window<'a>, ranks: Vec<usize>) -> Row<'a> {
@@ -78,9 +109,17 @@ fn false_bits<'a>(how: &str, w: Window<'a>, ranks: Vec<usize>) -> Row<'a> {
             sum(&ranks, |n| crate::upstream::bit_select_unset(&set, n))
         })
     });
-    row("`bit_select_unset`", vb_bit_select_unset, how, w, ranks.clone())
-        .upstream(others)
-        .plain(Contender::of_each(ranks.len(), move || sum(&ranks, |n| loops::select::<true>(w, n))))
+    row(
+        "`bit_select_unset`",
+        vb_bit_select_unset,
+        how,
+        w,
+        ranks.clone(),
+    )
+    .upstream(others)
+    .plain(Contender::of_each(ranks.len(), move || {
+        sum(&ranks, |n| loops::select::<true>(w, n))
+    }))
 }
 
 fn row<'a>(call: &str, select: Select, how: &str, w: Window<'a>, ranks: Vec<usize>) -> Row<'a> {

@@ -1,7 +1,5 @@
 //! Calls that take little time each: sets made, shared, sliced, edited and grown.
 
-use std::cell::{Cell, RefCell};
-
 use super::{MILLION, upstream};
 use crate::bench::Bench;
 use crate::calls;
@@ -38,12 +36,16 @@ fn made(bench: &mut Bench, len: usize) {
     let ours = move || unsafe { calls::bench_new_set(len) };
     let row = Row::new("`new_set`", Contender::of(ours))
         .bits(len)
-        .upstream(upstream!(Contender::of(move || crate::upstream::new_set(len))));
+        .upstream(upstream!(Contender::of(move || crate::upstream::new_set(
+            len
+        ))));
     bench.row(row.at_most(1.1, UPSTREAM));
     let ours = move || unsafe { calls::bench_new_unset(len) };
     let row = Row::new("`new_unset`", Contender::of(ours))
         .bits(len)
-        .upstream(upstream!(Contender::of(move || crate::upstream::new_unset(len))));
+        .upstream(upstream!(Contender::of(
+            move || crate::upstream::new_unset(len)
+        )));
     bench.row(row.at_most(1.1, UPSTREAM));
 }
 
@@ -61,7 +63,7 @@ fn shared(bench: &mut Bench) {
     let row = Row::new("`freeze` and `try_into_mut`", Contender::in_rounds(ours))
         .bits(MILLION)
         .upstream(upstream!({
-            let set = Cell::new(Some(vortex_buffer::BitBufferMut::new_set(MILLION)));
+            let set = std::cell::Cell::new(Some(vortex_buffer::BitBufferMut::new_set(MILLION)));
             Contender::of(move || crate::upstream::freeze_try_into_mut(&set))
         }));
     bench.row(row.at_most(1.05, UPSTREAM));
@@ -74,8 +76,8 @@ fn edits(bench: &mut Bench) {
             .bits(len)
             .how(format!("from bit {start} on"))
             .upstream(upstream!({
-                let set = RefCell::new(vortex_buffer::BitBufferMut::new_unset(len));
-                let value = Cell::new(false);
+                let set = std::cell::RefCell::new(vortex_buffer::BitBufferMut::new_unset(len));
+                let value = std::cell::Cell::new(false);
                 Contender::of(move || {
                     value.set(!value.get());
                     crate::upstream::fill_range(&mut set.borrow_mut(), start, value.get())
@@ -87,12 +89,15 @@ fn edits(bench: &mut Bench) {
     let ours = move |rounds| unsafe {
         calls::bench_set_to(MILLION, places.as_ptr(), places.len(), rounds)
     };
-    let row = Row::new("`set_to` at 4,096 random places", Contender::in_rounds(ours))
-        .bits(MILLION)
-        .upstream(upstream!({
-            let set = RefCell::new(vortex_buffer::BitBufferMut::new_unset(MILLION));
-            Contender::of(move || crate::upstream::set_to(&mut set.borrow_mut(), places))
-        }));
+    let row = Row::new(
+        "`set_to` at 4,096 random places",
+        Contender::in_rounds(ours),
+    )
+    .bits(MILLION)
+    .upstream(upstream!({
+        let set = std::cell::RefCell::new(vortex_buffer::BitBufferMut::new_unset(MILLION));
+        Contender::of(move || crate::upstream::set_to(&mut set.borrow_mut(), places))
+    }));
     bench.row(row.at_most(1.05, UPSTREAM));
 }
 
@@ -105,7 +110,9 @@ fn grown(bench: &mut Bench) {
         let row = Row::new("`append` of a million bits", Contender::of(ours))
             .items(MILLION)
             .how(how)
-            .upstream(upstream!(Contender::of(move || crate::upstream::append(bools, room))));
+            .upstream(upstream!(Contender::of(move || crate::upstream::append(
+                bools, room
+            ))));
         bench.row(row.at_most_ns_an_item(0.8));
     }
     for before in [0, 3] {

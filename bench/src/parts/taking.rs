@@ -39,15 +39,21 @@ pub fn measure(bench: &mut Bench) {
             let how = format!("{order}, {how}");
             let mask = &mask(validity);
             let most = if validity == Validity::None { 1.2 } else { 2.0 };
-            let row = take("u32", calls::bench_take_u32, bits, &narrow, mask, |i| i as usize);
+            let row = take("u32", calls::bench_take_u32, bits, &narrow, mask, |i| {
+                i as usize
+            });
             #[cfg(feature = "upstream")]
             let row = row.upstream(of_upstream(crate::upstream::take_u32, bits, &narrow, mask));
             bench.row(row.how(&*how).at_most(most, UPSTREAM));
-            let row = take("u64", calls::bench_take_u64, bits, &wide, mask, |i| i as usize);
+            let row = take("u64", calls::bench_take_u64, bits, &wide, mask, |i| {
+                i as usize
+            });
             #[cfg(feature = "upstream")]
             let row = row.upstream(of_upstream(crate::upstream::take_u64, bits, &wide, mask));
             bench.row(row.how(&*how));
-            let row = take("i64", calls::bench_take_i64, bits, &signed, mask, |i| i as usize);
+            let row = take("i64", calls::bench_take_i64, bits, &signed, mask, |i| {
+                i as usize
+            });
             #[cfg(feature = "upstream")]
             let row = row.upstream(of_upstream(crate::upstream::take_i64, bits, &signed, mask));
             let by_u64 = of_ours(calls::bench_take_u64, bits, &wide, mask);
@@ -62,7 +68,11 @@ fn mask(validity: Validity) -> Option<Vec<u8>> {
     match validity {
         Validity::None => None,
         Validity::All => Some(vec![0xFF; MILLION / 8]),
-        Validity::Half => Some(Input::with_set(0.5, MILLION / 8).bytes(MILLION / 8).to_vec()),
+        Validity::Half => Some(
+            Input::with_set(0.5, MILLION / 8)
+                .bytes(MILLION / 8)
+                .to_vec(),
+        ),
     }
 }
 
@@ -78,7 +88,16 @@ fn of_ours<'a, I: Copy>(
         let (list, many) = (indices.as_ptr(), indices.len());
         let valid = mask.as_deref().unwrap_or(unmasked);
         let (v, v_size) = (valid.as_ptr(), valid.len());
-        call(bytes.as_ptr(), bytes.len(), MILLION, list, many, v, v_size, mask.is_some())
+        call(
+            bytes.as_ptr(),
+            bytes.len(),
+            MILLION,
+            list,
+            many,
+            v,
+            v_size,
+            mask.is_some(),
+        )
     })
 }
 
@@ -90,7 +109,9 @@ fn of_upstream<'a, I>(
     mask: &'a Option<Vec<u8>>,
 ) -> Option<Contender<'a>> {
     let bytes = bits.bytes(MILLION / 8);
-    Some(Contender::of(move || take(bytes, MILLION, indices, mask.as_deref())))
+    Some(Contender::of(move || {
+        take(bytes, MILLION, indices, mask.as_deref())
+    }))
 }
 
 fn take<'a, I: Copy>(
@@ -106,9 +127,12 @@ fn take<'a, I: Copy>(
         None => loops::take(bytes, indices, place),
         Some(valid) => loops::take_valid(bytes, indices, valid, place),
     };
-    Row::new(format!("`take_bits` by `{index}`"), of_ours(call, bits, indices, mask))
-        .items(indices.len())
-        .plain(Contender::of(plain))
+    Row::new(
+        format!("`take_bits` by `{index}`"),
+        of_ours(call, bits, indices, mask),
+    )
+    .items(indices.len())
+    .plain(Contender::of(plain))
 }
 
 /// Indices of 128 bits don't cross to C, so the library makes them of narrower ones.

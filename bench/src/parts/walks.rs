@@ -11,6 +11,7 @@ use crate::row::{LOOP, Row, UPSTREAM};
 /// The shares of bits that are set.
 pub const SHARES: [f64; 6] = [0.001, 0.01, 0.1, 0.5, 0.99, 1.0];
 
+#[cfg(feature = "upstream")]
 const UPSTREAM_FOLD: &str = "upstream in a `fold`";
 
 pub fn measure(bench: &mut Bench) {
@@ -20,7 +21,6 @@ pub fn measure(bench: &mut Bench) {
             let input = &Input::with_set(share, MILLION / 8);
             let w = input.bits(offset, MILLION);
             bench.row(places(input, w, share));
-            bench.row(closure(input, w, share));
             bench.row(runs(w).set(share));
         }
         let long = Input::in_runs(1_000, MILLION / 8);
@@ -33,39 +33,34 @@ pub fn measure(bench: &mut Bench) {
 }
 
 fn walk<'a>(call: &str, ours: OnWindow, w: Window<'a>) -> Row<'a> {
-    Row::new(call, Contender::of(move || on(ours, w))).bits(w.len).offsets(&[w.offset])
+    Row::new(call, Contender::of(move || on(ours, w)))
+        .bits(w.len)
+        .offsets(&[w.offset])
 }
 
 /// From a tenth on the loop is what it is held against, below a tenth upstream is too.
 fn places<'a>(input: &'a Input, w: Window<'a>, share: f64) -> Row<'a> {
     let row = walk("`set_indices`, summed", calls::bench_set_indices, w)
         .set(share)
-        .upstream(upstream!(Contender::of(move || crate::upstream::set_indices(w))))
-        .plain(Contender::of(move || loops::set_indices(input, w.offset, w.len)))
-        .at_most(1.05, LOOP);
-    if share < 0.1 { row.at_most(1.0, UPSTREAM) } else { row }
-}
-
-fn closure<'a>(input: &'a Input, w: Window<'a>, share: f64) -> Row<'a> {
-    let ours = move |rounds| unsafe {
-        let (bytes, size) = (w.bytes.as_ptr(), w.bytes.len());
-        calls::bench_for_each_set_index(bytes, size, w.offset, w.len, rounds)
-    };
-    let row = Row::new("`for_each_set_index`, summed", Contender::in_rounds(ours))
-        .bits(w.len)
-        .offsets(&[w.offset])
-        .set(share)
-        .upstream(upstream!({
-            let set = crate::upstream::set(w);
-            Contender::of(move || crate::upstream::for_each_set_index(&set))
+        .upstream(upstream!(Contender::of(move || {
+            crate::upstream::set_indices(w)
+        })))
+        .plain(Contender::of(move || {
+            loops::set_indices(input, w.offset, w.len)
         }))
-        .plain(Contender::of(move || loops::set_indices(input, w.offset, w.len)));
-    if share < 0.1 { row.at_most(1.0, UPSTREAM) } else { row.at_most(1.05, LOOP) }
+        .at_most(1.05, LOOP);
+    if share < 0.1 {
+        row.at_most(1.0, UPSTREAM)
+    } else {
+        row
+    }
 }
 
 fn runs(w: Window<'_>) -> Row<'_> {
     walk("`set_slices`, summed", calls::bench_set_slices, w)
-        .upstream(upstream!(Contender::of(move || crate::upstream::set_slices(w))))
+        .upstream(upstream!(Contender::of(move || {
+            crate::upstream::set_slices(w)
+        })))
         .at_most(0.8, UPSTREAM)
 }
 
@@ -79,7 +74,9 @@ fn bits(bench: &mut Bench, w: Window) {
     bench.row(row);
     let row = walk("`iter`, folded", calls::bench_iter_fold, w)
         .set(0.5)
-        .upstream(upstream!(Contender::of(move || crate::upstream::iter_fold(w))))
+        .upstream(upstream!(Contender::of(
+            move || crate::upstream::iter_fold(w)
+        )))
         .plain(plain())
         .at_most(1.0, UPSTREAM);
     bench.row(row);
@@ -94,10 +91,16 @@ fn words(bench: &mut Bench, input: &Input, offset: usize) {
         .plain(plain())
         .at_most(most, UPSTREAM);
     bench.row(row);
-    let row = walk("`iter_padded`, summed in a `for`", calls::bench_iter_padded, w)
-        .upstream(upstream!(Contender::of(move || crate::upstream::iter_padded(w))))
-        .plain(plain())
-        .at_most(most, UPSTREAM);
+    let row = walk(
+        "`iter_padded`, summed in a `for`",
+        calls::bench_iter_padded,
+        w,
+    )
+    .upstream(upstream!(Contender::of(move || {
+        crate::upstream::iter_padded(w)
+    })))
+    .plain(plain())
+    .at_most(most, UPSTREAM);
     #[cfg(feature = "upstream")]
     let row = row.beside(
         UPSTREAM_FOLD,
@@ -127,15 +130,23 @@ fn single(bench: &mut Bench, w: Window) {
     let mut one = vec![0; w.bytes.len()];
     one[0] = 0x80;
     let w = Window { bytes: &one, ..w };
-    let row = walk("`last_set_index` of a first bit", calls::bench_last_set_index, w)
-        .upstream(upstream!({
-            let set = crate::upstream::set(w);
-            Contender::of(move || crate::upstream::last_set_index(&set))
-        }))
-        .plain(Contender::of(move || {
-            let byte = w.bytes.iter().rposition(|&byte| byte != 0).expect("one bit is true");
-            8 * byte + 7 - w.bytes[byte].leading_zeros() as usize - w.offset
-        }))
-        .at_most(1.05, UPSTREAM);
+    let row = walk(
+        "`last_set_index` of a first bit",
+        calls::bench_last_set_index,
+        w,
+    )
+    .upstream(upstream!({
+        let set = crate::upstream::set(w);
+        Contender::of(move || crate::upstream::last_set_index(&set))
+    }))
+    .plain(Contender::of(move || {
+        let byte = w
+            .bytes
+            .iter()
+            .rposition(|&byte| byte != 0)
+            .expect("one bit is true");
+        8 * byte + 7 - w.bytes[byte].leading_zeros() as usize - w.offset
+    }))
+    .at_most(1.05, UPSTREAM);
     bench.row(row);
 }
