@@ -1,47 +1,316 @@
-//! The calls that are measured, as C functions: every contender has the same signature and is
-//! called through an opaque pointer, so none is inlined and none pays more for its call.
+//! The calls that are measured, as C functions: the kernels' of crates/vb_c, and those of the
+//! benchmarks' own library, `library/`, which says what each does.
 
-/// Counts the true bits of a window: the bytes and how many there are, the window's first bit and
-/// its length in bits.
-pub type CountOnes = unsafe extern "C" fn(*const u8, usize, usize, usize) -> usize;
-
-/// Finds the `n`-th true or false bit of a window: as [`CountOnes`], and then `n`.
-pub type Select = unsafe extern "C" fn(*const u8, usize, usize, usize, usize) -> Place;
+use crate::input::Window;
 
 /// The place of a bit, if there is one.
 #[repr(C)]
-#[derive(Clone, Copy, Debug, PartialEq)]
+#[derive(Clone, Copy)]
 pub struct Place {
-    pub found: bool,
-    pub index: usize,
+    found: bool,
+    index: usize,
 }
 
-impl From<Option<usize>> for Place {
-    fn from(place: Option<usize>) -> Self {
-        Place {
-            found: place.is_some(),
-            index: place.unwrap_or(0),
-        }
+impl Place {
+    /// The place, or a number that is none.
+    pub fn index(self) -> usize {
+        if self.found { self.index } else { usize::MAX }
     }
 }
 
+pub type Bytes = *const u8;
+
+/// A call on a window: its bytes, how many there are, its first bit, and its length in bits.
+pub type OnWindow = unsafe extern "C" fn(Bytes, usize, usize, usize) -> usize;
+
+/// A call of a directory: as [`OnWindow`], with the table's entries and the places or ranks.
+pub type OfTable = unsafe extern "C" fn(
+    Bytes,
+    usize,
+    usize,
+    usize,
+    *const usize,
+    usize,
+    *const usize,
+    usize,
+) -> usize;
+
+/// A directory's call whose questions come in turn, with a mask.
+pub type OfTableInTurn = unsafe extern "C" fn(
+    Bytes,
+    usize,
+    usize,
+    usize,
+    *const usize,
+    usize,
+    *const usize,
+    usize,
+    usize,
+) -> usize;
+
+/// A call on a set that is made of a window, in so many rounds.
+pub type InRounds = unsafe extern "C" fn(Bytes, usize, usize, usize, usize) -> usize;
+
+/// Finds the `n`-th true or false bit of a window.
+pub type Select = unsafe extern "C" fn(Bytes, usize, usize, usize, usize) -> Place;
+
+/// Writes the `len` bits of `src` from bit `s` on, combined in some way with those of `dst` from
+/// bit `d` on, over the latter.
+pub type Write = unsafe extern "C" fn(*mut u8, usize, usize, Bytes, usize, usize, usize);
+
+/// An operator on two windows of one length: which one, and in how many rounds.
+pub type Operator =
+    unsafe extern "C" fn(Bytes, usize, usize, Bytes, usize, usize, usize, usize, usize) -> usize;
+
+/// Bits taken: bytes and length of the set, the indices, the bytes of a validity, and whether it
+/// counts.
+pub type Take<I> =
+    unsafe extern "C" fn(Bytes, usize, usize, *const I, usize, Bytes, usize, bool) -> usize;
+
 #[link(name = "vb_c", kind = "static")]
 unsafe extern "C" {
-    pub fn vb_count_ones(bytes: *const u8, size: usize, offset: usize, len: usize) -> usize;
-
-    pub fn vb_bit_select(
-        bytes: *const u8,
-        size: usize,
-        offset: usize,
-        len: usize,
-        n: usize,
-    ) -> Place;
-
+    pub fn vb_count_ones(bytes: Bytes, size: usize, offset: usize, len: usize) -> usize;
+    pub fn vb_bit_select(bytes: Bytes, size: usize, offset: usize, len: usize, n: usize) -> Place;
     pub fn vb_bit_select_unset(
-        bytes: *const u8,
+        bytes: Bytes,
         size: usize,
         offset: usize,
         len: usize,
         n: usize,
     ) -> Place;
+    pub fn vb_and_bits(
+        dst: *mut u8,
+        dst_size: usize,
+        d: usize,
+        src: Bytes,
+        src_size: usize,
+        s: usize,
+        len: usize,
+    );
+    pub fn vb_copy_bits(
+        dst: *mut u8,
+        dst_size: usize,
+        d: usize,
+        src: Bytes,
+        src_size: usize,
+        s: usize,
+        len: usize,
+    );
+    pub fn vb_fill_bits(bytes: *mut u8, size: usize, start: usize, end: usize, value: bool);
+    pub fn vb_negate_bits(bytes: *mut u8, size: usize, offset: usize, len: usize);
+}
+
+// The kit's functions for memory stand behind the library that calls them.
+#[link(name = "vb_bench", kind = "static")]
+#[link(name = "libc_c", kind = "static")]
+unsafe extern "C" {
+    pub fn bench_set_indices(bytes: Bytes, size: usize, offset: usize, len: usize) -> usize;
+    pub fn bench_set_slices(bytes: Bytes, size: usize, offset: usize, len: usize) -> usize;
+    pub fn bench_iter(bytes: Bytes, size: usize, offset: usize, len: usize) -> usize;
+    pub fn bench_iter_fold(bytes: Bytes, size: usize, offset: usize, len: usize) -> usize;
+    pub fn bench_chunks(bytes: Bytes, size: usize, offset: usize, len: usize) -> usize;
+    pub fn bench_iter_padded(bytes: Bytes, size: usize, offset: usize, len: usize) -> usize;
+    pub fn bench_last_set_index(bytes: Bytes, size: usize, offset: usize, len: usize) -> usize;
+    pub fn bench_value(
+        bytes: Bytes,
+        size: usize,
+        offset: usize,
+        len: usize,
+        places: *const usize,
+        many: usize,
+    ) -> usize;
+    pub fn bench_eq(
+        left: Bytes,
+        left_size: usize,
+        left_offset: usize,
+        right: Bytes,
+        right_size: usize,
+        right_offset: usize,
+        len: usize,
+    ) -> usize;
+    pub fn bench_operator(
+        left: Bytes,
+        left_size: usize,
+        left_offset: usize,
+        right: Bytes,
+        right_size: usize,
+        right_offset: usize,
+        len: usize,
+        operator: usize,
+        rounds: usize,
+    ) -> usize;
+    pub fn bench_operator_owned(
+        left: Bytes,
+        left_size: usize,
+        left_offset: usize,
+        right: Bytes,
+        right_size: usize,
+        right_offset: usize,
+        len: usize,
+        operator: usize,
+        rounds: usize,
+    ) -> usize;
+    pub fn bench_set(
+        bytes: Bytes,
+        size: usize,
+        offset: usize,
+        len: usize,
+        question: usize,
+        start: usize,
+        rounds: usize,
+    ) -> usize;
+    pub fn bench_not_owned(
+        bytes: Bytes,
+        size: usize,
+        offset: usize,
+        len: usize,
+        rounds: usize,
+    ) -> usize;
+    pub fn bench_for_each_set_index(
+        bytes: Bytes,
+        size: usize,
+        offset: usize,
+        len: usize,
+        rounds: usize,
+    ) -> usize;
+    pub fn bench_for_each_unset_index(
+        bytes: Bytes,
+        size: usize,
+        offset: usize,
+        len: usize,
+        rounds: usize,
+    ) -> usize;
+    pub fn bench_iter_bits(
+        bytes: Bytes,
+        size: usize,
+        offset: usize,
+        len: usize,
+        rounds: usize,
+    ) -> usize;
+    pub fn bench_map_cmp(
+        bytes: Bytes,
+        size: usize,
+        offset: usize,
+        len: usize,
+        rounds: usize,
+    ) -> usize;
+    pub fn bench_freeze_try_into_mut(len: usize, rounds: usize) -> usize;
+    pub fn bench_fill_range(len: usize, start: usize, rounds: usize) -> usize;
+    pub fn bench_set_to(len: usize, places: *const usize, many: usize, rounds: usize) -> usize;
+    pub fn bench_collect_bool(values: *const u32, many: usize, limit: u32) -> usize;
+    pub fn bench_collect_bool_multiversioned(values: *const u32, many: usize, limit: u32) -> usize;
+    pub fn bench_from_bools(bools: *const bool, many: usize) -> usize;
+    pub fn bench_from_truthy(bytes: Bytes, many: usize) -> usize;
+    pub fn bench_from_iter(bytes: Bytes, many: usize) -> usize;
+    pub fn bench_from_indices(len: usize, places: *const usize, many: usize) -> usize;
+    pub fn bench_new_set(len: usize) -> usize;
+    pub fn bench_new_unset(len: usize) -> usize;
+    pub fn bench_append(bytes: Bytes, many: usize, room: usize) -> usize;
+    pub fn bench_append_n(before: usize, n: usize) -> usize;
+    pub fn bench_append_buffer(
+        bytes: Bytes,
+        size: usize,
+        offset: usize,
+        len: usize,
+        before: usize,
+        rounds: usize,
+    ) -> usize;
+    pub fn bench_take_u32(
+        bytes: Bytes,
+        size: usize,
+        len: usize,
+        indices: *const u32,
+        many: usize,
+        validity: Bytes,
+        validity_size: usize,
+        is_masked: bool,
+    ) -> usize;
+    pub fn bench_take_u64(
+        bytes: Bytes,
+        size: usize,
+        len: usize,
+        indices: *const u64,
+        many: usize,
+        validity: Bytes,
+        validity_size: usize,
+        is_masked: bool,
+    ) -> usize;
+    pub fn bench_take_i64(
+        bytes: Bytes,
+        size: usize,
+        len: usize,
+        indices: *const i64,
+        many: usize,
+        validity: Bytes,
+        validity_size: usize,
+        is_masked: bool,
+    ) -> usize;
+    pub fn bench_take_u128(
+        bytes: Bytes,
+        size: usize,
+        len: usize,
+        indices: *const u64,
+        many: usize,
+        rounds: usize,
+    ) -> usize;
+    pub fn bench_rank(
+        bytes: Bytes,
+        size: usize,
+        offset: usize,
+        len: usize,
+        table: *const usize,
+        entries: usize,
+        places: *const usize,
+        many: usize,
+    ) -> usize;
+    pub fn bench_rank_in_turn(
+        bytes: Bytes,
+        size: usize,
+        offset: usize,
+        len: usize,
+        table: *const usize,
+        entries: usize,
+        places: *const usize,
+        many: usize,
+        mask: usize,
+    ) -> usize;
+    pub fn bench_select(
+        bytes: Bytes,
+        size: usize,
+        offset: usize,
+        len: usize,
+        table: *const usize,
+        entries: usize,
+        ranks: *const usize,
+        many: usize,
+    ) -> usize;
+    pub fn bench_select_in_turn(
+        bytes: Bytes,
+        size: usize,
+        offset: usize,
+        len: usize,
+        table: *const usize,
+        entries: usize,
+        ranks: *const usize,
+        many: usize,
+        mask: usize,
+    ) -> usize;
+    pub fn bench_ranked_set_to(len: usize, rounds: usize) -> usize;
+    pub fn bench_ranked_append(bytes: Bytes, many: usize) -> usize;
+    pub fn bench_buffer_copy_from(items: *const u32, many: usize) -> usize;
+    pub fn bench_buffer_from_iter(n: u32) -> usize;
+    pub fn bench_buffer_push(items: *const u32, many: usize) -> usize;
+    pub fn bench_buffer_slice(items: *const u32, many: usize, start: usize, rounds: usize)
+    -> usize;
+    pub fn bench_buffer_as_bytes(items: *const u32, many: usize, rounds: usize) -> usize;
+}
+
+/// Calls a function on a window.
+pub fn on(call: OnWindow, w: Window) -> usize {
+    unsafe { call(w.bytes.as_ptr(), w.bytes.len(), w.offset, w.len) }
+}
+
+/// Calls a function in rounds on a set that it makes of a window.
+pub fn in_rounds(call: InRounds, w: Window, rounds: usize) -> usize {
+    unsafe { call(w.bytes.as_ptr(), w.bytes.len(), w.offset, w.len, rounds) }
 }

@@ -1,15 +1,7 @@
-//! The loops over `u64` that a Rust program would write by hand. The bytes are whole words; a
-//! window of them begins in the first word and ends in the last.
+//! The loops that a Rust program would write by hand. Bits lie in words, with a word more behind
+//! the last one that a window reaches into.
 
-use std::slice;
-
-use crate::calls::Place;
-
-/// # Safety
-/// `bytes` points to `size` bytes that nothing writes meanwhile.
-unsafe fn slice_of<'a>(bytes: *const u8, size: usize) -> &'a [u8] {
-    unsafe { slice::from_raw_parts(bytes, size) }
-}
+use crate::input::{Input, Window};
 
 fn words(bytes: &[u8]) -> impl ExactSizeIterator<Item = u64> + DoubleEndedIterator {
     bytes
@@ -21,72 +13,40 @@ fn ones_in(bytes: &[u8]) -> usize {
     words(bytes).map(|word| word.count_ones() as usize).sum()
 }
 
-/// Counts words that the window fills.
-pub unsafe extern "C" fn count_whole(bytes: *const u8, size: usize, _: usize, _: usize) -> usize {
-    ones_in(unsafe { slice_of(bytes, size) })
-}
-
-/// Counts words less the bits of the first and the last that lie outside the window.
-pub unsafe extern "C" fn count_window(
-    bytes: *const u8,
-    size: usize,
-    offset: usize,
-    len: usize,
-) -> usize {
-    let bytes = unsafe { slice_of(bytes, size) };
-    let before = words(bytes).next().unwrap_or(0) & !(u64::MAX << offset);
-    let after = words(bytes).next_back().unwrap_or(0) & !(u64::MAX >> (8 * size - offset - len));
-    ones_in(bytes) - (before.count_ones() + after.count_ones()) as usize
+/// Counts the words, less the bits of the first and the last that lie outside of the window.
+#[inline(never)]
+pub fn count_ones(w: Window) -> usize {
+    if w.offset == 0 && w.len == 8 * w.bytes.len() {
+        return ones_in(w.bytes);
+    }
+    let behind = 8 * w.bytes.len() - w.offset - w.len;
+    let before = words(w.bytes).next().unwrap_or(0) & !(u64::MAX << w.offset);
+    let after = words(w.bytes).next_back().unwrap_or(0) & !(u64::MAX >> behind);
+    ones_in(w.bytes) - (before.count_ones() + after.count_ones()) as usize
 }
 
 /// The sum of the words, which takes as long as reading them.
-pub unsafe extern "C" fn sum_words(bytes: *const u8, size: usize, _: usize, _: usize) -> usize {
-    words(unsafe { slice_of(bytes, size) }).fold(0, u64::wrapping_add) as usize
+#[inline(never)]
+pub fn sum_words(bytes: &[u8]) -> usize {
+    words(bytes).fold(0, u64::wrapping_add) as usize
 }
 
-/// Finds the `n`-th set bit of words that the window fills, or clear bit with `UNSET`.
-pub unsafe extern "C" fn select_whole<const UNSET: bool>(
-    bytes: *const u8,
-    size: usize,
-    _: usize,
-    _: usize,
-    n: usize,
-) -> Place {
-    let bytes = unsafe { slice_of(bytes, size) };
+/// Finds the `n`-th set bit, or clear bit with `UNSET`.
+#[inline(never)]
+pub fn select<const UNSET: bool>(w: Window, n: usize) -> usize {
     let mut left = n;
-    for (k, word) in words(bytes).enumerate() {
-        let word = if UNSET { !word } else { word };
-        let ones = word.count_ones() as usize;
-        if left < ones {
-            return Some(64 * k + place_in(word, left)).into();
-        }
-        left -= ones;
-    }
-    None.into()
-}
-
-/// The same where the window doesn't fill its words.
-pub unsafe extern "C" fn select_window<const UNSET: bool>(
-    bytes: *const u8,
-    size: usize,
-    offset: usize,
-    len: usize,
-    n: usize,
-) -> Place {
-    let bytes = unsafe { slice_of(bytes, size) };
-    let mut left = n;
-    let mut inside = u64::MAX << offset;
-    for (k, word) in words(bytes).enumerate() {
+    let mut inside = u64::MAX << w.offset;
+    for (k, word) in words(w.bytes).enumerate() {
         let word = if UNSET { !word } else { word } & inside;
         let ones = word.count_ones() as usize;
         if left < ones {
-            let place = 64 * k + place_in(word, left) - offset;
-            return Some(place).filter(|&place| place < len).into();
+            let place = 64 * k + place_in(word, left) - w.offset;
+            return if place < w.len { place } else { usize::MAX };
         }
         left -= ones;
         inside = u64::MAX;
     }
-    None.into()
+    usize::MAX
 }
 
 fn place_in(word: u64, n: usize) -> usize {
@@ -95,4 +55,224 @@ fn place_in(word: u64, n: usize) -> usize {
         word &= word - 1;
     }
     word.trailing_zeros() as usize
+}
+
+/// The words of a window of whole ones, from its first bit on.
+fn realigned(input: &Input, offset: usize, len: usize) -> impl Iterator<Item = u64> {
+    let words = &input.words()[offset / 64..];
+    let shift = offset % 64;
+    words
+        .windows(2)
+        .take(len / 64)
+        .map(move |w| w[0] >> shift | w[1] << 1 << (63 - shift))
+}
+
+/// Calls a closure at each set bit of a window of whole words.
+#[inline(always)]
+pub fn for_each_set_bit(input: &Input, offset: usize, len: usize, mut call: impl FnMut(usize)) {
+    let last = (offset + len).div_ceil(64);
+    for (k, &word) in input.words()[..last].iter().enumerate() {
+        let mut left = word;
+        if k == 0 {
+            left &= u64::MAX << offset;
+        }
+        if k + 1 == last {
+            left &= u64::MAX >> (64 * last - offset - len);
+        }
+        while left != 0 {
+            call(64 * k + left.trailing_zeros() as usize - offset);
+            left &= left - 1;
+        }
+    }
+}
+
+/// The sum of the places of set bits.
+#[inline(never)]
+pub fn set_indices(input: &Input, offset: usize, len: usize) -> usize {
+    let mut sum = 0usize;
+    for_each_set_bit(input, offset, len, |place| sum = sum.wrapping_add(place));
+    sum
+}
+
+/// The sum of the places of clear bits.
+#[inline(never)]
+pub fn unset_indices(input: &Input, offset: usize, len: usize) -> usize {
+    let mut sum = 0usize;
+    let words = realigned(input, offset, len).enumerate();
+    for (k, word) in words {
+        let mut left = !word;
+        while left != 0 {
+            sum = sum.wrapping_add(64 * k + left.trailing_zeros() as usize);
+            left &= left - 1;
+        }
+    }
+    sum
+}
+
+/// The sum of the places of set bits, by a test of each bit.
+#[inline(never)]
+pub fn iter_bits(w: Window) -> usize {
+    let bit = |place: usize| w.bytes[(w.offset + place) / 8] >> ((w.offset + place) % 8) & 1 == 1;
+    (0..w.len).fold(0, |sum: usize, place| {
+        sum.wrapping_add(if bit(place) { place } else { 0 })
+    })
+}
+
+/// Which bits aren't those of their places' parity.
+#[inline(never)]
+pub fn map_cmp(w: Window) -> usize {
+    let bit = |place: usize| w.bytes[(w.offset + place) / 8] >> ((w.offset + place) % 8) & 1 == 1;
+    collect(w.len, |place| bit(place) != (place % 2 == 0))
+}
+
+/// How many bits are set, one after the other.
+#[inline(never)]
+pub fn iter(w: Window) -> usize {
+    let bit = |at: usize| (w.bytes[at / 8] >> (at % 8) & 1) as usize;
+    (w.offset..w.offset + w.len).fold(0, |sum, at| sum + bit(at))
+}
+
+/// The sum of the words of a window of whole ones.
+#[inline(never)]
+pub fn chunks(input: &Input, offset: usize, len: usize) -> usize {
+    realigned(input, offset, len).fold(0, u64::wrapping_add) as usize
+}
+
+/// Two windows of whole words combined into words of their own; the answer is their length.
+#[inline(never)]
+pub fn combine(left: (&Input, usize), right: (&Input, usize), len: usize) -> usize {
+    let left = realigned(left.0, left.1, len);
+    let right = realigned(right.0, right.1, len);
+    let made: Vec<u64> = left.zip(right).map(|(l, r)| l & r).collect();
+    64 * std::hint::black_box(&made).len()
+}
+
+/// A window of whole words combined into words that begin with it.
+#[inline(never)]
+pub fn combine_in_place(left: &mut [u64], right: (&Input, usize), len: usize) {
+    for (l, r) in left.iter_mut().zip(realigned(right.0, right.1, len)) {
+        *l &= r;
+    }
+}
+
+/// Bits of which a closure says whether they are true, in words; the answer is how many.
+#[inline(always)]
+pub fn collect(len: usize, mut is_true: impl FnMut(usize) -> bool) -> usize {
+    let word = |k: usize| {
+        let bits = 64 * k..len.min(64 * k + 64);
+        bits.fold(0u64, |word, i| word | (is_true(i) as u64) << (i % 64))
+    };
+    let made: Vec<u64> = (0..len.div_ceil(64)).map(word).collect();
+    std::hint::black_box(&made);
+    len
+}
+
+/// Which values are below a limit.
+#[inline(never)]
+pub fn collect_below(values: &[u32], limit: u32) -> usize {
+    collect(values.len(), |i| values[i] < limit)
+}
+
+/// Which bytes aren't 0.
+#[inline(never)]
+pub fn collect_truthy(bytes: &[u8]) -> usize {
+    collect(bytes.len(), |i| bytes[i] != 0)
+}
+
+/// The bits at indices.
+#[inline(never)]
+pub fn take<I: Copy>(bytes: &[u8], indices: &[I], place: impl Fn(I) -> usize) -> usize {
+    let bit = |at: usize| bytes[at / 8] >> (at % 8) & 1 == 1;
+    collect(indices.len(), |i| bit(place(indices[i])))
+}
+
+/// The bits at indices, false where a validity is.
+#[inline(never)]
+pub fn take_valid<I: Copy>(
+    bytes: &[u8],
+    indices: &[I],
+    validity: &[u8],
+    place: impl Fn(I) -> usize,
+) -> usize {
+    let bit = |bytes: &[u8], at: usize| bytes[at / 8] >> (at % 8) & 1 == 1;
+    collect(indices.len(), |i| {
+        bit(validity, i) && bit(bytes, place(indices[i]))
+    })
+}
+
+/// A set with the bits at the places true.
+#[inline(never)]
+pub fn from_indices(len: usize, places: &[usize]) -> usize {
+    let mut made = vec![0u64; len.div_ceil(64)];
+    for &place in places {
+        made[place / 64] |= 1 << (place % 64);
+    }
+    std::hint::black_box(&made);
+    len
+}
+
+/// A table of the set bits before each block of 512, of a window of the input.
+pub fn table(input: &Input, offset: usize, len: usize) -> Vec<usize> {
+    let mut before = 0;
+    let mut entries = Vec::new();
+    for start in (0..len).step_by(512) {
+        entries.push(before);
+        before += ones_between(input, offset + start, offset + len.min(start + 512));
+    }
+    entries
+}
+
+/// How many bits are set from bit `start` up to `end`.
+fn ones_between(input: &Input, start: usize, end: usize) -> usize {
+    let words = &input.words()[start / 64..end.div_ceil(64).max(start / 64 + 1)];
+    let (skip, last) = (start % 64, words.len() - 1);
+    let ones = |k: usize, word: u64| {
+        let word = if k == 0 {
+            word & u64::MAX << skip
+        } else {
+            word
+        };
+        let kept = (end - (start - skip)).saturating_sub(64 * k).min(64);
+        let word = if kept == 64 {
+            word
+        } else {
+            word & ((1 << kept) - 1)
+        };
+        word.count_ones() as usize
+    };
+    (0..=last).map(|k| ones(k, words[k])).sum()
+}
+
+/// How many of the first `i` bits of a window are set, over its table.
+#[inline(always)]
+pub fn rank(input: &Input, offset: usize, table: &[usize], i: usize) -> usize {
+    let block = i.saturating_sub(1) / 512;
+    table[block] + ones_between(input, offset + 512 * block, offset + i)
+}
+
+/// The place of the `n`-th set bit of a window, over its table.
+#[inline(always)]
+pub fn select_by_table(input: &Input, offset: usize, table: &[usize], n: usize) -> usize {
+    let block = table.partition_point(|&before| before <= n) - 1;
+    let mut left = n - table[block];
+    let at = offset + 512 * block;
+    let mut inside = u64::MAX << (at % 64);
+    for (k, &word) in input.words()[at / 64..].iter().enumerate() {
+        let word = word & inside;
+        let ones = word.count_ones() as usize;
+        if left < ones {
+            return at / 64 * 64 + 64 * k + place_in(word, left) - offset;
+        }
+        left -= ones;
+        inside = u64::MAX;
+    }
+    usize::MAX
+}
+
+/// Adds one to each entry, or takes it away.
+#[inline(never)]
+pub fn move_entries(entries: &mut [usize], by: usize) {
+    for entry in entries {
+        *entry = entry.wrapping_add(by);
+    }
 }

@@ -1,68 +1,33 @@
-//! Times of the C functions of `vb_c` beside the loops that a Rust program would write by hand, as
-//! a table in Markdown. `run` builds both at the same processor level and passes its name.
+//! Times of the repository's calls beside plain Rust loops and beside vortex-buffer, as tables in
+//! Markdown and as lines of JSON. `run` builds all of them for one processor level and passes its
+//! name, for how many milliseconds the rounds of a row go on, the file for the lines, and a word
+//! that a row has to have to be measured.
 
+mod bench;
 mod calls;
-mod count;
-mod goals;
 mod input;
+mod json;
 mod loops;
 mod measure;
-mod select;
-mod table;
+mod notes;
+mod parts;
+mod row;
 #[cfg(feature = "upstream")]
 mod upstream;
 
-use input::Input;
-use measure::Contender;
-use table::{Cell, Table};
+use std::env;
+use std::fs::File;
+use std::time::Duration;
 
-/// The sizes of the inputs in bytes: a cache line, what the caches of a core hold, main memory.
-const SIZES: [usize; 5] = [64, 4 << 10, 64 << 10, 1 << 20, 64 << 20];
-
-/// The bits before the window.
-const OFFSETS: [usize; 2] = [0, 3];
-
-/// A call of ours, and then the functions that it is compared with.
-struct Comparison {
-    call: &'static str,
-    contenders: Vec<Contender>,
-}
+use bench::Bench;
 
 fn main() {
-    let level = std::env::args().nth(1).unwrap_or_default();
-    let [.., longest] = SIZES;
-    let input = Input::random(longest);
-    let sparse = Input::sparse(longest);
-    let sparsest = Input::sparsest(longest);
-    let mut table = Table::default();
-    for offset in OFFSETS {
-        for size in SIZES {
-            let window = input.window(size, offset);
-            let mut comparisons = count::comparisons(window);
-            comparisons.extend(select::comparisons(window));
-            comparisons.push(select::last_of_few(sparse.window(size, offset)));
-            comparisons.push(select::last_of_fewest(sparsest.window(size, offset)));
-            measure(&comparisons, offset, &mut table);
-        }
-    }
-    println!("### {level}\n");
-    println!("{table}");
-    for goal in goals::of(&table, &level) {
-        println!("- {goal}");
-    }
-    println!();
-}
-
-/// Measures all functions in the same rounds.
-fn measure(comparisons: &[Comparison], offset: usize, table: &mut Table) {
-    let contenders: Vec<_> = comparisons.iter().flat_map(|c| &c.contenders).collect();
-    let mut times = measure::best(&contenders).into_iter();
-    for comparison in comparisons {
-        let mut times = times.by_ref().take(comparison.contenders.len());
-        let cell = Cell {
-            ours: times.next().expect("ours"),
-            others: times.collect(),
-        };
-        table.add(comparison.call, offset, cell);
-    }
+    let mut words = env::args().skip(1);
+    let mut word = || words.next().unwrap_or_default();
+    let level = word();
+    let budget = Duration::from_millis(word().parse().expect("milliseconds"));
+    let lines = File::create(word()).expect("the file of lines can be written");
+    let mut bench = Bench::new(level, budget, word(), lines);
+    parts::measure(&mut bench);
+    bench.print();
 }

@@ -5,74 +5,98 @@
 use std::hint::black_box;
 use std::time::{Duration, Instant};
 
-/// How many rounds there are at least, unless they take longer than [`LONGEST`].
-const ROUNDS: usize = 400;
-
-/// The rounds go on for so long, since a short time may fall into a busy moment of the machine.
-const SHORTEST: Duration = Duration::from_secs(4);
-const LONGEST: Duration = Duration::from_secs(24);
+/// How many rounds there are at least, however long they take.
+const ROUNDS: usize = 5;
 
 /// What a contender's part of a round takes at least, so that the clock is fine enough.
 const PART: Duration = Duration::from_micros(20);
 
-/// A function, with the questions that it is asked.
-pub struct Contender {
-    ask: Box<dyn Fn(usize)>,
-    questions: usize,
+/// How many times longer the questions of a round take at least than what is made before them.
+const SHARE: u32 = 4;
+
+/// A function that answers a number, the same as every other contender.
+pub struct Contender<'a> {
+    ask: Box<dyn Fn(usize) -> usize + 'a>,
+    answers: usize,
+    makes: bool,
 }
 
-impl Contender {
-    /// A contender that answers each of the questions in turn.
-    pub fn new<Q: 'static, R>(questions: Vec<Q>, answer: impl Fn(&Q) -> R + 'static) -> Self {
+impl<'a> Contender<'a> {
+    /// A function that answers one question.
+    pub fn of(answer: impl Fn() -> usize + 'a) -> Self {
+        Contender::of_each(1, answer)
+    }
+
+    /// A function that answers so many questions in a call: its time is that of one of them.
+    pub fn of_each(answers: usize, answer: impl Fn() -> usize + 'a) -> Self {
+        let ask = move |times| (0..times).fold(0, |_, _| black_box(answer()));
         Contender {
-            questions: questions.len(),
-            ask: Box::new(move |times| {
-                for _ in 0..times {
-                    for question in &questions {
-                        black_box(answer(question));
-                    }
-                }
-            }),
+            ask: Box::new(ask),
+            answers,
+            makes: false,
         }
+    }
+
+    /// A function that makes its sets, and then answers so many times as it is told. The time of
+    /// the making, which is that of no answers, isn't counted.
+    pub fn in_rounds(ask: impl Fn(usize) -> usize + 'a) -> Self {
+        Contender {
+            ask: Box::new(move |times| black_box(ask(times))),
+            answers: 1,
+            makes: true,
+        }
+    }
+
+    /// The answer, once.
+    pub fn answer(&self) -> usize {
+        (self.ask)(1)
     }
 
     /// The time of all answers, given so many times.
     fn time(&self, times: usize) -> Duration {
         let start = Instant::now();
-        (self.ask)(times);
+        black_box((self.ask)(times));
         start.elapsed()
+    }
+
+    fn making(&self) -> Duration {
+        if self.makes {
+            self.time(0)
+        } else {
+            Duration::ZERO
+        }
     }
 
     /// How many times all answers are given in a round. The first time warms the caches.
     fn times_in_a_round(&self) -> usize {
         self.time(1);
+        let made = self.making().min(self.making());
         let mut times = 1;
-        while self.time(times) < PART {
+        while self.time(times) < PART + (SHARE + 1) * made {
             times *= 2;
         }
         times
     }
 }
 
-/// The nanoseconds of one answer of each contender.
-pub fn best(contenders: &[&Contender]) -> Vec<f64> {
+/// The nanoseconds of one answer of each contender, from rounds that go on for so long.
+pub fn best(contenders: &[Contender], budget: Duration) -> Vec<f64> {
     let times: Vec<usize> = contenders.iter().map(|c| c.times_in_a_round()).collect();
+    let mut makings = vec![Duration::MAX; contenders.len()];
     let mut best = vec![Duration::MAX; contenders.len()];
     let start = Instant::now();
     let mut round = 0;
-    while start.elapsed() < SHORTEST || round < ROUNDS && start.elapsed() < LONGEST {
+    while round < ROUNDS || start.elapsed() < budget {
         for (k, contender) in contenders.iter().enumerate() {
+            makings[k] = makings[k].min(contender.making());
             contender.time(1);
             best[k] = best[k].min(contender.time(times[k]));
         }
         round += 1;
     }
-    let answers = contenders
-        .iter()
-        .zip(&times)
-        .map(|(c, times)| c.questions * times);
-    best.iter()
-        .zip(answers)
-        .map(|(time, answers)| time.as_nanos() as f64 / answers as f64)
-        .collect()
+    let nanoseconds = |k: usize| {
+        let asked = best[k].saturating_sub(makings[k]);
+        asked.as_nanos() as f64 / (times[k] * contenders[k].answers) as f64
+    };
+    (0..contenders.len()).map(nanoseconds).collect()
 }

@@ -1,0 +1,59 @@
+//! Why a call misses its aim, where the cause is known.
+
+/// What is known of a call that misses.
+pub fn of(call: &str) -> Option<&'static str> {
+    NOTES
+        .iter()
+        .find(|(start, _)| call.starts_with(start))
+        .map(|(_, note)| *note)
+}
+
+/// By how the name of the call begins.
+const NOTES: [(&str, &str); 13] = [
+    ("`&` by reference", COPIED),
+    ("`|` by reference", COPIED),
+    ("`^` by reference", COPIED),
+    ("`bitand_not` by reference", COPIED),
+    (
+        "`==`",
+        "The toolchain compiles a comparison of slices to a loop and not to memcmp; at unequal \
+         offsets each word of one side is put together from two",
+    ),
+    (
+        "`last_set_index`",
+        "Each word is read by `read_bits`, which puts the bytes of any number of bits together",
+    ),
+    (
+        "`append` of a million bits",
+        "The last byte is loaded after it was stored",
+    ),
+    (
+        "`from_iter`",
+        "Items are written to a list of 64 one by one, since no hint is trusted, and then packed",
+    ),
+    (
+        "`take_bits` by `u128`",
+        "Each index is narrowed on its own, by tests of both halves",
+    ),
+    (
+        "`bit_select`",
+        "Within a cache line up to 16 looks come one after the other; of long sets with few bits \
+         set few chunks at a time are passed, since the rank doesn't tell more",
+    ),
+    (
+        "`count_ones`",
+        "At x86-64-v2 the loop's instruction counts a word a cycle; within a cache line and a \
+         byte up to 16 looks come one after the other",
+    ),
+    (
+        "`set_to` of the first bit",
+        "A vector add; a copy within the first-level cache moves wider vectors",
+    ),
+    (
+        "`for_each_set_index`",
+        "Upstream has a loop of its own for words that are all true",
+    ),
+];
+
+const COPIED: &str = "The left window is copied and then combined in place: one pass more than to \
+                      combine into new memory";

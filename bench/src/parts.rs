@@ -1,0 +1,53 @@
+//! What is measured, part by part.
+
+mod buffers;
+mod closures;
+mod copies;
+mod count;
+mod directory;
+mod growth;
+mod made;
+mod operators;
+mod select;
+mod small;
+mod taking;
+mod walks;
+
+use crate::bench::Bench;
+
+/// An expression where vortex-buffer is there.
+macro_rules! upstream {
+    ($other:expr) => {{
+        #[cfg(feature = "upstream")]
+        {
+            Some($other)
+        }
+        #[cfg(not(feature = "upstream"))]
+        {
+            None
+        }
+    }};
+}
+use upstream;
+
+/// A million of bits or items, as 2^20.
+const MILLION: usize = 1 << 20;
+
+/// The sizes in bytes of what is counted and searched: a cache line, what the caches of a core
+/// hold, main memory.
+const SIZES: [usize; 6] = [64, 512, 4 << 10, 64 << 10, 1 << 20, 64 << 20];
+
+pub fn measure(bench: &mut Bench) {
+    count::measure(bench);
+    select::measure(bench);
+    walks::measure(bench);
+    closures::measure(bench);
+    operators::measure(bench);
+    copies::measure(bench);
+    made::measure(bench);
+    taking::measure(bench);
+    directory::measure(bench);
+    small::measure(bench);
+    buffers::measure(bench);
+    growth::measure(bench);
+}

@@ -1,0 +1,341 @@
+//! A row: one call on one input, with what it is compared with and what is aimed at.
+
+use std::fmt::Write;
+
+use crate::json::Object;
+use crate::measure::Contender;
+use crate::notes;
+
+/// The names of the contenders that have columns of their own.
+pub const UPSTREAM: &str = "upstream";
+pub const LOOP: &str = "loop";
+
+/// By how much the best rounds of one call differ on a quiet machine.
+pub const NOISE: f64 = 1.02;
+
+/// What a time is held against.
+#[derive(Clone, Copy)]
+enum Over {
+    /// The time of another contender.
+    Other(&'static str),
+    /// One nanosecond, for one answer, or for one of so many items.
+    Nanosecond,
+    NanosecondAnItem,
+}
+
+/// At most so much is aimed at.
+struct Aim {
+    over: Over,
+    most: f64,
+}
+
+/// What is measured of one call on one input.
+pub struct Row<'a> {
+    call: String,
+    how: String,
+    bits: Option<usize>,
+    items: Option<usize>,
+    offsets: Vec<usize>,
+    set: Option<f64>,
+    names: Vec<&'static str>,
+    contenders: Vec<Contender<'a>>,
+    aims: Vec<Aim>,
+}
+
+impl<'a> Row<'a> {
+    pub fn new(call: impl Into<String>, ours: Contender<'a>) -> Self {
+        Row {
+            call: call.into(),
+            how: String::new(),
+            bits: None,
+            items: None,
+            offsets: Vec::new(),
+            set: None,
+            names: vec!["ours"],
+            contenders: vec![ours],
+            aims: Vec::new(),
+        }
+    }
+
+    /// What else is to be said of the input.
+    pub fn how(mut self, how: impl Into<String>) -> Self {
+        self.how = how.into();
+        self
+    }
+
+    pub fn bits(mut self, bits: usize) -> Self {
+        self.bits = Some(bits);
+        self
+    }
+
+    pub fn items(mut self, items: usize) -> Self {
+        self.items = Some(items);
+        self
+    }
+
+    pub fn offsets(mut self, offsets: &[usize]) -> Self {
+        self.offsets = offsets.to_vec();
+        self
+    }
+
+    /// The share of bits that are set.
+    pub fn set(mut self, share: f64) -> Self {
+        self.set = Some(share);
+        self
+    }
+
+    /// Another contender.
+    pub fn beside(mut self, name: &'static str, other: Contender<'a>) -> Self {
+        self.names.push(name);
+        self.contenders.push(other);
+        self
+    }
+
+    /// The crate that ours is compared with, where it is there.
+    pub fn upstream(self, other: Option<Contender<'a>>) -> Self {
+        match other {
+            Some(other) => self.beside(UPSTREAM, other),
+            None => self,
+        }
+    }
+
+    /// A loop that a Rust program would write by hand.
+    pub fn plain(self, other: Contender<'a>) -> Self {
+        self.beside(LOOP, other)
+    }
+
+    /// At most so much of another contender's time.
+    pub fn at_most(mut self, most: f64, other: &'static str) -> Self {
+        let over = Over::Other(other);
+        self.aims.push(Aim { over, most });
+        self
+    }
+
+    /// At most so many nanoseconds.
+    pub fn at_most_ns(mut self, most: f64) -> Self {
+        let over = Over::Nanosecond;
+        self.aims.push(Aim { over, most });
+        self
+    }
+
+    /// At most so many nanoseconds an item.
+    pub fn at_most_ns_an_item(mut self, most: f64) -> Self {
+        let over = Over::NanosecondAnItem;
+        self.aims.push(Aim { over, most });
+        self
+    }
+
+    /// Whether a word stands in the call or the input.
+    pub fn has(&self, word: &str) -> bool {
+        self.call.contains(word) || self.input().contains(word)
+    }
+
+    /// The contenders that give the same answer as ours.
+    pub fn equals(&self) -> impl Iterator<Item = &Contender<'a>> {
+        let named = self.names.iter().zip(&self.contenders);
+        named
+            .filter(|(name, _)| [UPSTREAM, LOOP].contains(name))
+            .map(|(_, it)| it)
+    }
+
+    pub fn contenders(&self) -> &[Contender<'a>] {
+        &self.contenders
+    }
+
+    pub fn call(&self) -> &str {
+        &self.call
+    }
+
+    /// The input in words.
+    pub fn input(&self) -> String {
+        let mut parts = Vec::new();
+        parts.extend(self.bits.map(|bits| format!("{} bits", grouped(bits))));
+        parts.extend(self.items.map(|items| format!("{} items", grouped(items))));
+        parts.extend(self.set.map(|set| format!("{} % set", percent(set))));
+        let offsets: Vec<_> = self.offsets.iter().map(usize::to_string).collect();
+        match offsets.len() {
+            0 => {}
+            1 => parts.push(format!("offset {}", offsets[0])),
+            _ => parts.push(format!("offsets {}", offsets.join(", "))),
+        }
+        if !self.how.is_empty() {
+            parts.push(self.how.clone());
+        }
+        parts.join("; ")
+    }
+
+    /// The row with its times in nanoseconds.
+    pub fn measured(&self, times: Vec<f64>) -> Measured {
+        let aims = self.aims.iter().filter_map(|aim| self.outcome(aim, &times));
+        Measured {
+            call: self.call.clone(),
+            input: self.input(),
+            bits: self.bits,
+            items: self.items,
+            offsets: self.offsets.clone(),
+            set: self.set,
+            names: self.names.clone(),
+            aims: aims.collect(),
+            times,
+        }
+    }
+
+    /// What came of an aim, unless its other contender isn't there.
+    fn outcome(&self, aim: &Aim, times: &[f64]) -> Option<Outcome> {
+        let (over, reached) = match aim.over {
+            Over::Other(name) => {
+                let other = self.names.iter().position(|it| *it == name)?;
+                (format!("of {name}"), times[0] / times[other])
+            }
+            Over::Nanosecond => ("ns".into(), times[0]),
+            Over::NanosecondAnItem => ("ns an item".into(), times[0] / self.items? as f64),
+        };
+        Some(Outcome {
+            over,
+            most: aim.most,
+            reached,
+        })
+    }
+}
+
+/// What was aimed at, and what was reached.
+pub struct Outcome {
+    over: String,
+    most: f64,
+    reached: f64,
+}
+
+impl Outcome {
+    /// Whether it was reached, within what rounds of one call differ by.
+    pub fn is_met(&self) -> bool {
+        self.reached <= self.most * NOISE
+    }
+
+    fn text(&self) -> String {
+        let met = if self.is_met() { "met" } else { "**missed**" };
+        format!(
+            "{:.2} {} (aim {:.2}): {met}",
+            self.reached, self.over, self.most
+        )
+    }
+}
+
+/// A row that was measured.
+pub struct Measured {
+    call: String,
+    input: String,
+    bits: Option<usize>,
+    items: Option<usize>,
+    offsets: Vec<usize>,
+    set: Option<f64>,
+    names: Vec<&'static str>,
+    times: Vec<f64>,
+    aims: Vec<Outcome>,
+}
+
+impl Measured {
+    pub const HEAD: &'static str = "| call | input | ours, ns | upstream | Rust loop | beside | aims |\n\
+        |---|---|---|---|---|---|---|\n";
+
+    pub fn aims(&self) -> &[Outcome] {
+        &self.aims
+    }
+
+    /// A line of a table in Markdown: our time, and the times of the others, each with ours over
+    /// it.
+    pub fn line(&self) -> String {
+        let others = || self.names.iter().zip(&self.times).skip(1);
+        let cell = |time: f64| format!("{} ({:.2})", figure(time), self.times[0] / time);
+        let of = |name: &str| {
+            let mut found = others().filter(|(it, _)| **it == name);
+            found.next().map_or(String::new(), |(_, time)| cell(*time))
+        };
+        let beside = others().filter(|(it, _)| ![UPSTREAM, LOOP].contains(it));
+        let beside: Vec<_> = beside
+            .map(|(it, time)| format!("{it} {}", cell(*time)))
+            .collect();
+        let aims: Vec<_> = self.aims.iter().map(Outcome::text).collect();
+        format!(
+            "| {} | {} | {} | {} | {} | {} | {} |\n",
+            self.call,
+            self.input,
+            figure(self.times[0]),
+            of(UPSTREAM),
+            of(LOOP),
+            beside.join(", "),
+            aims.join("; "),
+        )
+    }
+
+    /// A line on each aim that is missed, with its cause where that is known.
+    pub fn misses(&self) -> String {
+        let mut lines = String::new();
+        for aim in self.aims.iter().filter(|aim| !aim.is_met()) {
+            let note = notes::of(&self.call).map_or(String::new(), |note| format!(". {note}"));
+            let (call, input, text) = (&self.call, &self.input, aim.text());
+            writeln!(lines, "- {call}, {input}: {text}{note}").expect("a string takes all");
+        }
+        lines
+    }
+
+    /// One line of JSON.
+    pub fn json(&self, level: &str, part: &str) -> String {
+        let mut row = Object::default();
+        row.text("level", level)
+            .text("part", part)
+            .text("call", &self.call);
+        row.text("input", &self.input);
+        row.count("bits", self.bits).count("items", self.items);
+        row.list("offsets", self.offsets.iter().map(usize::to_string));
+        row.number("set", self.set);
+        let mut times = Object::default();
+        for (name, time) in self.names.iter().zip(&self.times) {
+            times.number(name, Some(*time));
+        }
+        row.object("ns", times);
+        row.list("aims", self.aims.iter().map(Outcome::json));
+        row.line()
+    }
+}
+
+impl Outcome {
+    fn json(&self) -> String {
+        let mut aim = Object::default();
+        aim.text("over", &self.over)
+            .number("at_most", Some(self.most));
+        aim.number("is", Some(self.reached));
+        aim.line()
+    }
+}
+
+/// A time with as many digits as tell something.
+pub fn figure(time: f64) -> String {
+    match time {
+        ..10.0 => format!("{time:.2}"),
+        ..1000.0 => format!("{time:.1}"),
+        _ => grouped(time.round() as usize),
+    }
+}
+
+/// A share as a percentage of at most two digits that tell something.
+fn percent(share: f64) -> String {
+    let percent = 100.0 * share;
+    if percent >= 1.0 {
+        format!("{}", (100.0 * percent).round() / 100.0)
+    } else {
+        format!("{percent:.2}")
+    }
+}
+
+/// A number as `1,048,576`.
+pub fn grouped(number: usize) -> String {
+    let digits = number.to_string();
+    let mut text = String::new();
+    for (k, digit) in digits.chars().enumerate() {
+        if k > 0 && (digits.len() - k) % 3 == 0 {
+            text.push(',');
+        }
+        text.push(digit);
+    }
+    text
+}
