@@ -3,17 +3,54 @@ use std::alloc::Allocator;
 use vb_bit_buffer::BitBuffer;
 use vb_core::BufferError;
 
+/// An operator whose right value is lent.
+pub(crate) enum Operator {
+    And,
+    Or,
+    Xor,
+}
+
+impl Operator {
+    fn of_owned_and_lent<A: Allocator + Clone>(
+        &self,
+        left: BitBuffer<A>,
+        right: &BitBuffer<A>,
+    ) -> Result<BitBuffer<A>, BufferError> {
+        match self {
+            Operator::And => left & right,
+            Operator::Or => left | right,
+            Operator::Xor => left ^ right,
+        }
+    }
+
+    fn of_lent<A: Allocator + Clone>(
+        &self,
+        left: &BitBuffer<A>,
+        right: &BitBuffer<A>,
+    ) -> Result<BitBuffer<A>, BufferError> {
+        match self {
+            Operator::And => left & right,
+            Operator::Or => left | right,
+            Operator::Xor => left ^ right,
+        }
+    }
+
+    fn bit(&self, left: bool, right: bool) -> bool {
+        match self {
+            Operator::And => left && right,
+            Operator::Or => left || right,
+            Operator::Xor => left != right,
+        }
+    }
+}
+
 /// A call that combines two sets. The first of the owned and lent ones is the left value.
 pub(crate) enum Two {
     AndOwned,
-    AndOwnedLent,
-    AndLentOwned,
-    AndLent,
     OrOwned,
-    OrOwnedLent,
-    OrLent,
-    XorOwnedLent,
-    XorLent,
+    OwnedLent(Operator),
+    AndLentOwned,
+    Lent(Operator),
     AndNotOwned,
     AndNotLent,
 }
@@ -21,19 +58,19 @@ pub(crate) enum Two {
 /// The calls whose left value is lent.
 pub(crate) const LENT: &[Two] = &[
     Two::AndLentOwned,
-    Two::AndLent,
-    Two::OrLent,
-    Two::XorLent,
+    Two::Lent(Operator::And),
+    Two::Lent(Operator::Or),
+    Two::Lent(Operator::Xor),
     Two::AndNotLent,
 ];
 
 /// The calls whose left value is owned.
 pub(crate) const OWNED: &[Two] = &[
     Two::AndOwned,
-    Two::AndOwnedLent,
     Two::OrOwned,
-    Two::OrOwnedLent,
-    Two::XorOwnedLent,
+    Two::OwnedLent(Operator::And),
+    Two::OwnedLent(Operator::Or),
+    Two::OwnedLent(Operator::Xor),
     Two::AndNotOwned,
 ];
 
@@ -45,14 +82,10 @@ impl Two {
     ) -> Result<BitBuffer<A>, BufferError> {
         match self {
             Two::AndOwned => left & right,
-            Two::AndOwnedLent => left & &right,
-            Two::AndLentOwned => &left & right,
-            Two::AndLent => &left & &right,
             Two::OrOwned => left | right,
-            Two::OrOwnedLent => left | &right,
-            Two::OrLent => &left | &right,
-            Two::XorOwnedLent => left ^ &right,
-            Two::XorLent => &left ^ &right,
+            Two::OwnedLent(operator) => operator.of_owned_and_lent(left, &right),
+            Two::AndLentOwned => &left & right,
+            Two::Lent(operator) => operator.of_lent(&left, &right),
             Two::AndNotOwned => left.into_bitand_not(&right),
             Two::AndNotLent => left.bitand_not(&right),
         }
@@ -61,9 +94,9 @@ impl Two {
     /// What it makes of two bits.
     pub(crate) fn bit(&self, left: bool, right: bool) -> bool {
         match self {
-            Two::AndOwned | Two::AndOwnedLent | Two::AndLentOwned | Two::AndLent => left && right,
-            Two::OrOwned | Two::OrOwnedLent | Two::OrLent => left || right,
-            Two::XorOwnedLent | Two::XorLent => left != right,
+            Two::AndOwned | Two::AndLentOwned => left && right,
+            Two::OrOwned => left || right,
+            Two::OwnedLent(operator) | Two::Lent(operator) => operator.bit(left, right),
             Two::AndNotOwned | Two::AndNotLent => left && !right,
         }
     }

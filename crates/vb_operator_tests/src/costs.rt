@@ -1,9 +1,10 @@
 //! What calls ask of the allocator: an owner alone where they work in place, and else the bytes of
 //! the window and an owner.
 use crate::calls::{LENT, OWNED, One, Two};
-use crate::compared::equal;
+use crate::compared::{equal, len_of, len_of_two};
 use crate::made::{list, set};
 use std::alloc::Allocator;
+use std::process::Abort;
 use std::test::Fail;
 use vb_bit_buffer::BitBuffer;
 use vb_core::BufferError;
@@ -15,10 +16,10 @@ fn a_lone_left_value_is_combined_in_place(rt: HostRuntime) -> Result<(), Fail> {
     let (lefts, rights) = (list(rt.alloc(), 6, 200)?, list(rt.alloc(), 7, 200)?);
     let heap = Refusing::new(rt.alloc(), 0);
     for call in OWNED {
-        let (left, right) = (set(&heap, &lefts, 3)?, set(&heap, &rights, 3)?);
+        let (left, right) = (set(&heap, &lefts, 3), set(&heap, &rights, 3));
         heap.refuse(2);
-        let made = call.make(left, right)?;
-        equal(&rt, (made.len(), heap.asked()), (200, 1));
+        equal(&rt, len_of_two(&rt, call, left, right), Ok(200));
+        equal(&rt, heap.asked(), 1);
         heap.refuse(0);
     }
     Ok(())
@@ -32,51 +33,67 @@ const REQUESTS: &[(One, u64)] = &[
     (One::ShrinkOffset, 0),
 ];
 
+/// How many bits a call makes of a set that was made.
+fn len_of_one<A: Allocator + Clone>(
+    rt: &impl Abort,
+    call: &One,
+    made: Result<BitBuffer<A>, BufferError>,
+) -> Result<usize, BufferError> {
+    len_of(call.make(made.expect(rt, "a set")))
+}
+
 #[test]
 fn calls_on_one_set_ask_for_what_they_need(rt: HostRuntime) -> Result<(), Fail> {
     let bits = list(rt.alloc(), 8, 200)?;
     let heap = Refusing::new(rt.alloc(), 0);
     for (call, requests) in REQUESTS {
-        let set = set(&heap, &bits, 3)?;
+        let made = set(&heap, &bits, 3);
         heap.refuse(0);
-        let made = call.make(set)?;
-        equal(&rt, (made.len(), heap.asked()), (200, *requests));
+        equal(&rt, len_of_one(&rt, call, made), Ok(200));
+        equal(&rt, heap.asked(), *requests);
     }
     Ok(())
 }
 
-/// What a call makes of two parts of a longer set.
-fn made_of_parts<A: Allocator + Clone>(
-    call: &Two,
+/// 200 bits of a longer set.
+fn part<A: Allocator + Clone>(
+    rt: &impl Abort,
     all: &BitBuffer<A>,
+    start: usize,
 ) -> Result<BitBuffer<A>, BufferError> {
-    if all.len() < 3000 {
-        return Err(BufferError::NotAligned);
-    }
-    call.make(all.slice(803..1003)?, all.slice(2005..2205)?)
+    let end = start.saturating_add(200);
+    assert!(rt; start <= end && end <= all.len());
+    all.slice(start..end)
 }
 
 /// A copy is of the bytes of the window alone, wherever the storage ends.
+fn copies_are_of_windows<A: Allocator + Clone>(
+    rt: &impl Abort,
+    call: &Two,
+    all: &BitBuffer<A>,
+) -> Result<usize, BufferError> {
+    len_of_two(rt, call, part(rt, all, 803), part(rt, all, 2005))
+}
+
 #[test]
-fn a_lent_left_value_is_copied_alone(rt: HostRuntime) -> Result<(), Fail> {
+fn a_lent_left_value_is_copied_alone(rt: HostRuntime) {
     let heap = Refusing::new(rt.alloc(), 0);
-    let all = BitBuffer::new_set(&heap, 80_000)?;
+    let all = BitBuffer::new_set(&heap, 80_000).expect(&rt, "a set");
     for call in LENT {
         heap.refuse(0);
-        let made = made_of_parts(call, &all)?;
-        equal(&rt, (made.len(), heap.asked()), (200, 2));
+        equal(&rt, copies_are_of_windows(&rt, call, &all), Ok(200));
+        equal(&rt, heap.asked(), 2);
         equal(&rt, heap.asked_bytes() <= 512, true);
     }
-    Ok(())
+    drop(all);
 }
 
 /// A set that begins with its first byte is its own front.
 #[test]
-fn the_front_of_a_front_is_shared(rt: HostRuntime) -> Result<(), Fail> {
+fn the_front_of_a_front_is_shared(rt: HostRuntime) {
     let heap = Refusing::new(rt.alloc(), 0);
-    let set = BitBuffer::new_set(&heap, 200)?;
+    let made = BitBuffer::new_set(&heap, 200);
     heap.refuse(1);
-    let front = set.sliced()?;
-    equal(&rt, (front.len(), heap.asked()), (200, 0));
-    Ok(())
+    equal(&rt, len_of_one(&rt, &One::Sliced, made), Ok(200));
+    equal(&rt, heap.asked(), 0);
 }

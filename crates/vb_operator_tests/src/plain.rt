@@ -2,7 +2,7 @@
 use crate::calls::{LENT, ONE, OWNED, One, Two};
 use crate::compared::{compares, shows};
 use crate::made::{list, set};
-use std::alloc::Global;
+use std::alloc::{Allocator, Global};
 use std::process::Abort;
 use std::test::Fail;
 use vb_bit_buffer::BitBuffer;
@@ -100,19 +100,19 @@ fn copies_and_negations_are_those_of_bits(rt: HostRuntime) -> Result<(), Fail> {
 fn equality_is_plain(
     rt: &impl Abort,
     alloc: Global,
-    here: &BitBuffer,
     bits: &mut Vec<bool>,
-    offset: usize,
-) -> Result<(), BufferError> {
-    compares(rt, here, set(alloc, bits, offset), true)?;
+    (left, right): (usize, usize),
+) {
+    let here = set(alloc, bits, left).expect(rt, "a set");
+    compares(rt, &here, set(alloc, bits, right), true);
     if let Some(last) = bits.last_mut() {
         *last = !*last;
-        compares(rt, here, set(alloc, bits, offset), false)?;
+        compares(rt, &here, set(alloc, bits, right), false);
     }
     if bits.pop().is_some() {
-        compares(rt, here, set(alloc, bits, offset), false)?;
+        compares(rt, &here, set(alloc, bits, right), false);
     }
-    Ok(())
+    drop(here);
 }
 
 #[test]
@@ -121,42 +121,70 @@ fn equality_is_that_of_bits(rt: HostRuntime) -> Result<(), Fail> {
         for right in OFFSETS {
             for len in LENGTHS {
                 let mut bits = list(rt.alloc(), 14, len)?;
-                let here = set(rt.alloc(), &bits, left)?;
-                equality_is_plain(&rt, rt.alloc(), &here, &mut bits, right)?;
+                equality_is_plain(&rt, rt.alloc(), &mut bits, (left, right));
             }
         }
     }
     Ok(())
 }
 
-fn negated_and(one: &BitBuffer, two: &BitBuffer) -> Result<BitBuffer, BufferError> {
+fn negated_and<A: Allocator + Clone>(
+    one: &BitBuffer<A>,
+    two: &BitBuffer<A>,
+) -> Result<BitBuffer<A>, BufferError> {
     let both = (one & two)?;
     !both
 }
 
-fn or_of_negated(one: &BitBuffer, two: &BitBuffer) -> Result<BitBuffer, BufferError> {
+fn or_of_negated<A: Allocator + Clone>(
+    one: &BitBuffer<A>,
+    two: &BitBuffer<A>,
+) -> Result<BitBuffer<A>, BufferError> {
     (!one)? | (!two)?
 }
 
-fn negated_or(one: &BitBuffer, two: &BitBuffer) -> Result<BitBuffer, BufferError> {
+fn negated_or<A: Allocator + Clone>(
+    one: &BitBuffer<A>,
+    two: &BitBuffer<A>,
+) -> Result<BitBuffer<A>, BufferError> {
     let either = (one | two)?;
     !either
 }
 
-fn and_of_negated(one: &BitBuffer, two: &BitBuffer) -> Result<BitBuffer, BufferError> {
+fn and_of_negated<A: Allocator + Clone>(
+    one: &BitBuffer<A>,
+    two: &BitBuffer<A>,
+) -> Result<BitBuffer<A>, BufferError> {
     (!one)? & (!two)?
 }
 
-fn negated_twice(set: &BitBuffer) -> Result<BitBuffer, BufferError> {
+fn negated_twice<A: Allocator + Clone>(set: &BitBuffer<A>) -> Result<BitBuffer<A>, BufferError> {
     let negated = (!set)?;
     !negated
 }
 
+/// Both sets that were made have the same bits.
+fn same<A: Allocator + Clone>(
+    rt: &impl Abort,
+    one: Result<BitBuffer<A>, BufferError>,
+    two: Result<BitBuffer<A>, BufferError>,
+) {
+    let one = one.expect(rt, "a set");
+    compares(rt, &one, two, true);
+    drop(one);
+}
+
 /// Both laws of De Morgan, and that what is negated twice is as it was.
-fn laws_hold(rt: &impl Abort, one: &BitBuffer, two: &BitBuffer) -> Result<(), BufferError> {
-    compares(rt, &negated_and(one, two)?, or_of_negated(one, two), true)?;
-    compares(rt, &negated_or(one, two)?, and_of_negated(one, two), true)?;
-    compares(rt, one, negated_twice(one), true)
+fn laws_hold<A: Allocator + Clone>(
+    rt: &impl Abort,
+    one: Result<BitBuffer<A>, BufferError>,
+    two: Result<BitBuffer<A>, BufferError>,
+) {
+    let (one, two) = (one.expect(rt, "a set"), two.expect(rt, "a set"));
+    same(rt, negated_and(&one, &two), or_of_negated(&one, &two));
+    same(rt, negated_or(&one, &two), and_of_negated(&one, &two));
+    compares(rt, &one, negated_twice(&one), true);
+    drop((one, two));
 }
 
 #[test]
@@ -164,9 +192,10 @@ fn negation_goes_through_operators(rt: HostRuntime) -> Result<(), Fail> {
     for left in OFFSETS {
         for right in OFFSETS {
             for len in LENGTHS {
-                let one = set(rt.alloc(), &list(rt.alloc(), left + 20, len)?, left)?;
-                let two = set(rt.alloc(), &list(rt.alloc(), right + 30, len)?, right)?;
-                laws_hold(&rt, &one, &two)?;
+                let lefts = list(rt.alloc(), left + 20, len)?;
+                let rights = list(rt.alloc(), right + 30, len)?;
+                let one = set(rt.alloc(), &lefts, left);
+                laws_hold(&rt, one, set(rt.alloc(), &rights, right));
             }
         }
     }

@@ -9,5 +9,5 @@ mod refusing;
 
 pub use faulty::{FaultyReader, FaultyWriter};
 pub use handle::Handle;
-pub use in_turn::{WrongAnswer, answers_refusal, each_refused};
+pub use in_turn::{InTurn, WrongAnswer, answers_refusal, each_refused};
 pub use refusing::Refusing;

@@ -1,4 +1,4 @@
-use crate::{WrongAnswer, answers_refusal, each_refused};
+use crate::{Refusing, WrongAnswer, answers_refusal, each_refused};
 use std::alloc::{AllocError, Allocator};
 use std::test::Fail;
 
@@ -42,4 +42,29 @@ fn an_error_that_no_refusal_made_is_an_error(rt: HostRuntime) {
         answer: Err(AllocError),
     };
     assert_eq!(rt; answer, Err(wrong));
+}
+
+#[test]
+fn runs_end_with_one_that_is_refused_nothing(rt: HostRuntime) {
+    let heap = Refusing::new(rt.alloc(), 0);
+    let mut last = 0;
+    for request in heap.in_turn() {
+        last = request;
+        let answer = two_lists(&heap);
+        assert_eq!(rt; answer, heap.wanted(Ok(()), Err(AllocError)));
+    }
+    assert_eq!(rt; (last, heap.asked(), heap.has_refused()), (3, 2, false));
+}
+
+#[test]
+fn runs_that_ask_without_end_are_a_thousand(rt: HostRuntime) {
+    let heap = Refusing::new(rt.alloc(), 0);
+    let mut last = 0;
+    for request in heap.in_turn() {
+        last = request;
+        for _ in 0..request {
+            let _ = two_lists(&heap);
+        }
+    }
+    assert_eq!(rt; (last, heap.has_refused()), (1000, true));
 }
