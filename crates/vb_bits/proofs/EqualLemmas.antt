@@ -1,5 +1,5 @@
 -- Windows that are equal, and numbers and bytes whose digits are.
-use Rattle.std.proofs.Common.{◌≡◌, inl, inr, ℕ, ◌-◌, subst, zero, suc, ◌+◌, ◌*◌, ◌/◌, ◌%◌, ◌^◌, ◌<◌, ◌≤◌, ◌↔◌, Bool, true, false, eqb, max, List, ◌++◌, length, get_or, take, drop, refl, sym, ap, ◌∙◌, arith, zero-add}
+use Rattle.std.proofs.Common.{◌≡◌, inl, inr, ℕ, ◌-◌, subst, zero, suc, ◌+◌, ◌*◌, ◌/◌, ◌%◌, ◌^◌, ◌<◌, ◌≤◌, ◌↔◌, false, eqb, max, List, ◌++◌, length, get_or, take, drop, refl, sym, ap, ◌∙◌, arith, zero-add}
 use Rattle.std.specs.Prelude.{slice_range}
 use Rattle.std.specs.Int.{bit_at}
 use Rattle.std.specs.Int.Bits.{bit_or, bit_xor, xor_self}

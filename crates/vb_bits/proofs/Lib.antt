@@ -7,6 +7,7 @@ pub mod BytesLemmas
 pub mod ReadLemmas
 pub mod ShiftLemmas
 pub mod WindowLemmas
+pub mod WrittenLemmas
 pub mod WritesLemmas
 pub mod OperatorsLemmas
 pub mod RunsLemmas

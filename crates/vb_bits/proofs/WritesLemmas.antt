@@ -1,6 +1,6 @@
 -- Writes of bits: one byte, a run of bytes, a word, one write after another, and what a write makes of a window.
 use Rattle.std.proofs.Common.{◌≡◌, ◌≢◌, ◌⊎◌, inl, inr, ℕ, zero, suc, ◌+◌, ◌-◌, ◌*◌, ◌/◌, ◌%◌, ◌^◌, ◌<◌, ◌≤◌, Bool, true, false, not, eqb, max, min, List, [], ◌∷◌, ◌++◌, length, get_or, set, take, drop, replicate, get_or-set_same, get_or-set_other, refl, sym, ap, subst, ◌∙◌, arith, rules, zero-add, add-zero}
-use Rattle.std.proofs.lemmas.List.{places, same_lists, length-append, length-replicate, length-map, length-set, length-drop, get_or-replicate, get_or-map, get_or-append_right, replicate-append-replicate, map-append, set_split, append-nil, append_assoc, drop_all, get_or_push}
+use Rattle.std.proofs.lemmas.List.{places, length-append, length-replicate, length-map, length-set, length-drop, get_or-replicate, get_or-map, get_or-append_right, replicate-append-replicate, map-append, set_split, append-nil, append_assoc, drop_all, get_or_push}
 use Rattle.std.proofs.lemmas.Bool.{cases_eq, cases_lt}
 use Rattle.std.proofs.lemmas.Nat.{pow_pos}
 use Rattle.std.proofs.lemmas.Nat.Bits.{bit_at_or, bit_at_and, bit_at_xor, bit_at_not, bit_at-lt, bit_at_mask_inside, bit_at_mask_below, bit_at_mask_above, bit_at_set_same, bit_at_set_other, bit_at_clear_same, bit_at_clear_other}
@@ -16,39 +16,46 @@ use Rattle.vb_bits.specs.Writes.{Writes, lengthened}
 use Rattle.vb_bits.proofs.BitsLemmas.{at-bits, length-bits, take-bits, drop-bits, bits-add, same_bits}
 use Rattle.vb_bits.proofs.BytesLemmas.{bits-to_le_bytes, bits_of_read}
 use Rattle.vb_bits.proofs.DigitsLemmas.{digits-bit_not, length-digits, at-digits}
+use Rattle.vb_bits.proofs.WrittenLemmas.{IsWindowed, Written, Written_by_values, Written-at}
+use Rattle.vb_bits.proofs.WrittenLemmas.{Written-add}
 use Rattle.vb_bits.proofs.ShiftLemmas.{shl_high, bit_at_cut}
 use Rattle.vb_bits.proofs.WindowLemmas.{bits-append, bit_of-append, bit_of-lengthened}
 
 -- ---- writes by their bits
+-- bits stand one behind the other in bytes
+pub bits_windowed : IsWindowed bit_of bits
+bits_windowed = record { len = length-bits; at = at-bits }
+
+-- a write, without what it says of the number of bytes, and with it
+pub Written_of : {b c : List ℕ} {o : ℕ} {m : List Bool} → Writes b c o m → Written bit_of bits b c o m
+Written_of w = record { window_is = w.window; others = w.others }
+
+pub Writes_of : {b c : List ℕ} {o : ℕ} {m : List Bool} → length c ≡ length b
+    → Written bit_of bits b c o m → Writes b c o m
+Writes_of same w = record { same_len = same; window = w.window_is; others = w.others }
+
 -- a write, said bit by bit
-pub Writes_by_bits : (b c : List ℕ) (o : ℕ) (m : List Bool) → length c ≡ length b → ((i : ℕ) (d : Bool) → i < length m → bit_of c (o + i) ≡ get_or m i d) → ((i : ℕ) → (i < o) ⊎ (o + length m ≤ i) → bit_of c i ≡ bit_of b i) → Writes b c o m
-Writes_by_bits b c o m len inside others = record {
-  same_len = len;
-  window = same_lists _ _ (length-bits c o (length m))
-      (λ i d l. let within : i < length m = omega (arith, length-bits c o (length m)) in at-bits c o (length m) i d within ∙ inside i d within);
-  others = others;
-}
+pub Writes_by_bits : (b c : List ℕ) (o : ℕ) (m : List Bool) → length c ≡ length b
+    → ((i : ℕ) (d : Bool) → i < length m → bit_of c (o + i) ≡ get_or m i d)
+    → ((i : ℕ) → (i < o) ⊎ (o + length m ≤ i) → bit_of c i ≡ bit_of b i) → Writes b c o m
+Writes_by_bits b c o m same inside others =
+    Writes_of same (Written_by_values bit_of bits bits_windowed b c o m inside others)
 
 -- a bit that was written
-pub Writes-at : (b c : List ℕ) (o i : ℕ) (m : List Bool) (d : Bool) → Writes b c o m → i < length m → bit_of c (o + i) ≡ get_or m i d
-Writes-at b c o i m d w l = sym (at-bits c o (length m) i d l) ∙ ap (λ x. get_or x i d) w.window
+pub Writes-at : (b c : List ℕ) (o i : ℕ) (m : List Bool) (d : Bool) → Writes b c o m
+    → i < length m → bit_of c (o + i) ≡ get_or m i d
+Writes-at b c o i m d w l = Written-at bit_of bits bits_windowed b c o i m d (Written_of w) l
 
 -- nothing is written
 pub Writes_none : (b : List ℕ) (o : ℕ) (m : List Bool) → length m ≡ 0 → Writes b b o m
 Writes_none b o m e = Writes_by_bits b b o m refl (λ i d l. absurd (omega arith)) (λ i h. refl)
 
 -- two writes, the second right behind the first, are one
-pub Writes-add : (b c d : List ℕ) (o p : ℕ) (l m : List Bool) → p ≡ o + length l → Writes b c o l → Writes c d p m → Writes b d o (l ++ m)
+pub Writes-add : (b c d : List ℕ) (o p : ℕ) (l m : List Bool) → p ≡ o + length l
+    → Writes b c o l → Writes c d p m → Writes b d o (l ++ m)
 Writes-add b c d o p l m at one two =
-    let whole : length (l ++ m) ≡ length l + length m = length-append l m in
-    record {
-      same_len = two.same_len ∙ one.same_len;
-      window =
-          ap (bits d o) whole ∙ bits-add d o (length l) (length m)
-          ∙ ap (λ x. x ++ bits d (o + length l) (length m)) (same_bits d c o o (length l) (λ i h. two.others (o + i) (inl (omega arith))) ∙ one.window)
-          ∙ ap (λ x. l ++ x) (ap (λ x. bits d x (length m)) (sym at) ∙ two.window);
-      others = λ i h. two.others i (elim h [ inl low ↦ inl (omega arith) | inr high ↦ inr (omega arith) ]) ∙ one.others i (elim h [ inl low ↦ inl low | inr high ↦ inr (omega arith) ]);
-    }
+    Writes_of (two.same_len ∙ one.same_len)
+    (Written-add bit_of bits bits_windowed b c d o p l m at (Written_of one) (Written_of two))
 
 -- two runs of equal bits
 pub Writes-run : (b c d : List ℕ) (o p m n k : ℕ) (v : Bool) → Writes b c o (replicate m v) → Writes c d p (replicate n v) → p ≡ o + m → k ≡ m + n → Writes b d o (replicate k v)

@@ -108,10 +108,8 @@ impl<T: Element, A: Allocator> Content<T, A> {
         true
     }
 
-    // The storage, all of which is shown, and which has no other owner.
-    //
-    // Std's contract of `Rc::get_mut` doesn't say when there is one owner, so a refusal stands
-    // where none comes.
+    // The storage, all of which is shown, and which has no other owner. Std's contract of
+    // `Rc::get_mut` doesn't say when there is one, so a refusal stands where none comes.
     pub(crate) fn whole_mut(&mut self) -> Result<&mut BufferMut<T, A>>
         requires { IsWhole (λ _. ⊤) self.old }
         ensures* writes_back { sem 𝓛 (LendsStorage T.row A.row T.Element A.Allocator

@@ -1,12 +1,14 @@
 -- Digits of words.
 use Rattle.std.proofs.Common.{◌≡◌, ◌≢◌, inl, inr, ℕ, ◌+◌, ◌-◌, ◌*◌, ◌/◌, ◌%◌, ◌^◌, ◌<◌, ◌≤◌, ◌⊎◌, Bool, false, List, [], ◌++◌, length, get_or, set, replicate, eqb, refl, sym, ap, subst, ◌∙◌, arith, zero-add, length-set, get_or-set_same, get_or-set_other}
 use Rattle.std.proofs.lemmas.Bool.{cases_lt}
-use Rattle.std.proofs.lemmas.List.{same_lists, append_assoc, length-append, length-replicate, get_or-replicate, get_or_append_left, get_or-append_right}
+use Rattle.std.proofs.lemmas.List.{same_lists, length-append, length-replicate, get_or-replicate, get_or_append_left, get_or-append_right}
 use Rattle.std.proofs.lemmas.List.FromFn.{length-map-range_with_len, get_or-map-range_with_len}
 use Rattle.std.proofs.lemmas.Nat.Bits.{bit_at_above}
 use Rattle.vb_bits.specs.Digits.{has_bit, digits}
 use Rattle.vb_bits.proofs.RangeLemmas.{map-range_with_len-add, same_map-range_with_len}
 use Rattle.vb_bits.proofs.DigitsLemmas.{length-digits, at-digits, digits-add}
+use Rattle.vb_bits.proofs.WrittenLemmas.{IsWindowed, Written, Written_by_values, Written-at}
+use Rattle.vb_bits.proofs.WrittenLemmas.{Written-more, Written-ended}
 use Rattle.vb_pack.specs.WordBits.{word_bit, word_bits, WritesWords}
 
 -- as many digits as asked for
@@ -55,41 +57,35 @@ digits_above w n k small h =
     at-digits w (0 + n) (k - n) i d inside ∙ has_bit_above w n (0 + n + i) small (omega arith) ∙ sym (get_or-replicate (k - n) i false d inside)))
 
 -- ---- writes
--- a write, said digit by digit
-pub WritesWords_by_digits : (b c : List ℕ) (o : ℕ) (m : List Bool) → length c ≡ length b → ((i : ℕ) (d : Bool) → i < length m → word_bit c (o + i) ≡ get_or m i d) → ((i : ℕ) → (i < o) ⊎ (o + length m ≤ i) → word_bit c i ≡ word_bit b i) → WritesWords b c o m
-WritesWords_by_digits b c o m long inside outside = record {
-  same_len = long;
-  window = same_lists _ _ (length-word_bits c o (length m))
-      (λ i d h. let here : i < length m = omega (arith, length-word_bits c o (length m)) in at-word_bits c o (length m) i d here ∙ inside i d here);
-  others = outside;
-}
+-- digits stand one behind the other in words
+word_bits_windowed : IsWindowed word_bit word_bits
+word_bits_windowed = record { len = length-word_bits; at = at-word_bits }
 
--- a digit that was written
-pub WritesWords-at : (b c : List ℕ) (o i : ℕ) (m : List Bool) (d : Bool) → WritesWords b c o m → i < length m → word_bit c (o + i) ≡ get_or m i d
-WritesWords-at b c o i m d written h = sym (at-word_bits c o (length m) i d h) ∙ ap (λ l. get_or l i d) written.window
+-- a write, without what it says of the number of words, and with it
+Written_of : {b c : List ℕ} {o : ℕ} {m : List Bool} → WritesWords b c o m
+    → Written word_bit word_bits b c o m
+Written_of w = record { window_is = w.window; others = w.others }
+
+WritesWords_of : {b c : List ℕ} {o : ℕ} {m : List Bool} → length c ≡ length b
+    → Written word_bit word_bits b c o m → WritesWords b c o m
+WritesWords_of same w = record { same_len = same; window = w.window_is; others = w.others }
+
+-- a write, said digit by digit
+pub WritesWords_by_digits : (b c : List ℕ) (o : ℕ) (m : List Bool) → length c ≡ length b
+    → ((i : ℕ) (d : Bool) → i < length m → word_bit c (o + i) ≡ get_or m i d)
+    → ((i : ℕ) → (i < o) ⊎ (o + length m ≤ i) → word_bit c i ≡ word_bit b i) → WritesWords b c o m
+WritesWords_by_digits b c o m same inside others =
+    WritesWords_of same
+    (Written_by_values word_bit word_bits word_bits_windowed b c o m inside others)
 
 -- a write of nothing
 pub WritesWords_none : (b : List ℕ) (o : ℕ) (m : List Bool) → length m ≡ 0 → WritesWords b b o m
-WritesWords_none b o m none = WritesWords_by_digits b b o m refl (λ i d h. absurd (omega arith)) (λ i h. refl)
-
--- two writes, one behind the other
-pub WritesWords-add : (b c d : List ℕ) (o p : ℕ) (l m : List Bool) → p ≡ o + length l → WritesWords b c o l → WritesWords c d p m → WritesWords b d o (l ++ m)
-WritesWords-add b c d o p l m from first second =
-    let whole : length (l ++ m) ≡ length l + length m = length-append l m in
-    record {
-      same_len = second.same_len ∙ first.same_len;
-      window =
-          ap (word_bits d o) whole ∙ word_bits-add d o (length l) (length m)
-          ∙ ap (λ x. x ++ word_bits d (o + length l) (length m))
-          (same_word_bits d c o o (length l) (λ i h. second.others (o + i) (inl (omega arith))) ∙ first.window)
-          ∙ ap (λ x. l ++ x) (ap (λ x. word_bits d x (length m)) (sym from) ∙ second.window);
-      others = λ i h.
-          second.others i (elim h [ inl low ↦ inl (omega arith) | inr high ↦ inr (omega arith) ])
-          ∙ first.others i (elim h [ inl low ↦ inl low | inr high ↦ inr (omega arith) ]);
-    }
+WritesWords_none b o m none =
+    WritesWords_by_digits b b o m refl (λ i d h. absurd (omega arith)) (λ i h. refl)
 
 -- one word
-pub WritesWords_set : (b : List ℕ) (k w : ℕ) → k < length b → WritesWords b (set b k w) (64 * k) (digits w 0 64)
+pub WritesWords_set : (b : List ℕ) (k w : ℕ) → k < length b
+    → WritesWords b (set b k w) (64 * k) (digits w 0 64)
 WritesWords_set b k w h =
     let long : length (digits w 0 64) ≡ 64 = length-digits w 0 64 in
     WritesWords_by_digits b (set b k w) (64 * k) (digits w 0 64) (length-set b k w)
@@ -103,50 +99,51 @@ WritesWords_set b k w h =
     let other : i / 64 ≢ k = elim l [ inl low ↦ omega arith | inr high ↦ omega arith ] in
     ap (λ x. has_bit x (i % 64)) (get_or-set_other b k (i / 64) w 0 other))
 
--- the front of what was written
-pub WritesWords-front : (b c : List ℕ) (o n : ℕ) (l m : List Bool) → WritesWords b c o (l ++ m) → n ≡ length l → word_bits c o n ≡ l
-WritesWords-front b c o n l m written e =
-    same_lists _ _ (length-word_bits c o n ∙ e)
-    (λ i d h.
-    let inside : i < n = omega (arith, length-word_bits c o n) in
-    let within : i < length l = omega arith in
-    let whole : i < length (l ++ m) = omega (arith, length-append l m) in
-    at-word_bits c o n i d inside ∙ WritesWords-at b c o i (l ++ m) d written whole ∙ get_or_append_left l m d i within)
-
 -- a window, and what is written behind it
-pub WritesWords-more : (b c d : List ℕ) (o p m n k : ℕ) (l : List Bool) → p ≡ o + m → length l ≡ n → k ≡ m + n → WritesWords b c o (word_bits c o m) → WritesWords c d p l → (word_bits d o k ≡ word_bits c o m ++ l) × WritesWords b d o (word_bits d o k)
+pub WritesWords-more : (b c d : List ℕ) (o p m n k : ℕ) (l : List Bool) → p ≡ o + m → length l ≡ n
+    → k ≡ m + n → WritesWords b c o (word_bits c o m) → WritesWords c d p l
+    → (word_bits d o k ≡ word_bits c o m ++ l) × WritesWords b d o (word_bits d o k)
 WritesWords-more b c d o p m n k l from long whole first second =
-    let both : WritesWords b d o (word_bits c o m ++ l) = WritesWords-add b c d o p (word_bits c o m) l (omega (arith, length-word_bits c o m)) first second in
-    let size : length (word_bits c o m ++ l) ≡ k = omega (arith, length-append (word_bits c o m) l, length-word_bits c o m) in
-    let window : word_bits d o k ≡ word_bits c o m ++ l = ap (word_bits d o) (sym size) ∙ both.window in
-    (window, subst (WritesWords b d o) (sym window) both)
+    let more =
+    Written-more word_bit word_bits word_bits_windowed b c d o p m k l from (omega arith)
+    (Written_of first) (Written_of second) in
+    (more.0, WritesWords_of (second.same_len ∙ first.same_len) more.1)
 
 -- a write whose end is false, where the digits were
-pub WritesWords-less : (b c : List ℕ) (o k : ℕ) (l : List Bool) → WritesWords b c o (l ++ replicate k false) → ((i : ℕ) → o + length l ≤ i → word_bit b i ≡ false) → WritesWords b c o l
+pub WritesWords-less : (b c : List ℕ) (o k : ℕ) (l : List Bool)
+    → WritesWords b c o (l ++ replicate k false)
+    → ((i : ℕ) → o + length l ≤ i → word_bit b i ≡ false) → WritesWords b c o l
 WritesWords-less b c o k l written clear =
-    let whole : length (l ++ replicate k false) ≡ length l + k = length-append l (replicate k false) ∙ ap (λ n. length l + n) (length-replicate k false) in
+    let filled : List Bool = l ++ replicate k false in
+    let at = Written-at word_bit word_bits word_bits_windowed b c o in
+    let is = Written_of written in
+    let whole : length filled ≡ length l + k =
+    length-append l (replicate k false) ∙ ap (λ n. length l + n) (length-replicate k false) in
     WritesWords_by_digits b c o l written.same_len
-    (λ i d h. WritesWords-at b c o i (l ++ replicate k false) d written (omega arith) ∙ get_or_append_left l (replicate k false) d i h)
+    (λ i d h. at i filled d is (omega arith) ∙ get_or_append_left l (replicate k false) d i h)
     (λ i h. elim h [
-      | inl before ↦ written.others i (inl before)
+      | inl before ↦ is.others i (inl before)
       | inr behind ↦ elim (cases_lt i (o + length l + k)) [
         | inl inside ↦
             let place : o + (i - o) ≡ i = omega arith in
             let past : i - o - length l < k = omega arith in
-            ap (word_bit c) (sym place) ∙ WritesWords-at b c o (i - o) (l ++ replicate k false) false written (omega arith)
-            ∙ get_or-append_right l (replicate k false) (length l) (i - o) false refl (omega arith) ∙ get_or-replicate k (i - o - length l) false false past ∙ sym (clear i behind)
-        | inr after ↦ written.others i (inr (omega arith))
+            ap (word_bit c) (sym place) ∙ at (i - o) filled false is (omega arith)
+            ∙ get_or-append_right l (replicate k false) (length l) (i - o) false refl (omega arith)
+            ∙ get_or-replicate k (i - o - length l) false false past ∙ sym (clear i behind)
+        | inr after ↦ is.others i (inr (omega arith))
       ]
     ])
 
 -- a window, and the digits of a number behind it, of which those from r on are 0
-pub WritesWords-ended : (b c d : List ℕ) (o p m r n k w : ℕ) → p ≡ o + m → n ≡ m + r → r ≤ k → w < 2 ^ r → WritesWords b c o (word_bits c o m) → WritesWords c d p (digits w 0 k) → (word_bits d o n ≡ word_bits c o m ++ digits w 0 r) × WritesWords b d o (word_bits d o n ++ replicate (k - r) false)
+pub WritesWords-ended : (b c d : List ℕ) (o p m r n k w : ℕ) → p ≡ o + m → n ≡ m + r → r ≤ k
+    → w < 2 ^ r → WritesWords b c o (word_bits c o m) → WritesWords c d p (digits w 0 k)
+    → (word_bits d o n ≡ word_bits c o m ++ digits w 0 r)
+    × WritesWords b d o (word_bits d o n ++ replicate (k - r) false)
 WritesWords-ended b c d o p m r n k w from whole few small first second =
-    let front : List Bool = word_bits c o m in let part : List Bool = digits w 0 r in let zeros : List Bool = replicate (k - r) false in
-    let last : WritesWords c d p (part ++ zeros) = subst (WritesWords c d p) (digits_above w r k small few) second in
-    let both : WritesWords b d o ((front ++ part) ++ zeros) =
-    subst (WritesWords b d o) (sym (append_assoc front part zeros))
-    (WritesWords-add b c d o p front (part ++ zeros) (omega (arith, length-word_bits c o m)) first last) in
-    let window : word_bits d o n ≡ front ++ part =
-    WritesWords-front b d o n (front ++ part) zeros both (omega (arith, length-append front part, length-word_bits c o m, length-digits w 0 r)) in
-    (window, subst (λ l. WritesWords b d o (l ++ zeros)) (sym window) both)
+    let part : List Bool = digits w 0 r in let zeros : List Bool = replicate (k - r) false in
+    let last : WritesWords c d p (part ++ zeros) =
+    subst (WritesWords c d p) (digits_above w r k small few) second in
+    let ended =
+    Written-ended word_bit word_bits word_bits_windowed b c d o p m n part zeros from
+    (omega (arith, length-digits w 0 r)) (Written_of first) (Written_of last) in
+    (ended.0, WritesWords_of (second.same_len ∙ first.same_len) ended.1)

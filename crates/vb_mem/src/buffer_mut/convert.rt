@@ -35,9 +35,8 @@ impl<T: Element, A: Allocator + Clone> BufferMut<T, A> {
     }
 
     /// The same items with another alignment, which is at least that of an item. An empty buffer,
-    /// and one that is declared with this alignment or more, keeps its storage, takes no memory and
-    /// isn't refused; the items of any other one are copied. Refused with `OutOfMemory`; the buffer
-    /// is gone then.
+    /// and one that is declared with it or more, keeps its storage, takes no memory and isn't
+    /// refused; else the items are copied. Refused with `OutOfMemory`; the buffer is gone then.
     pub fn aligned(self, alignment: Alignment) -> Result<Self>
         requires { T.align_exponent ≤ alignment }
         ensures ok { IfOk result (λ b. (b.list ≡ self.list) × (b.exponent ≡ alignment)) }

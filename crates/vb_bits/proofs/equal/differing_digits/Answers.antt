@@ -1,5 +1,4 @@
-use Rattle.std.proofs.Common.{◌≡◌, ◌+◌, ◌*◌, ◌/◌, ◌%◌, ◌∙◌, refl, sym, ap, arith}
-use Rattle.vb_bits.specs.Bits.{bits}
+use Rattle.std.proofs.Common.{◌+◌, ◌*◌, ◌/◌, ◌%◌, ◌∙◌, refl, sym, arith}
 use Rattle.vb_bits.proofs.BitsLemmas.{bits_none}
 use Rattle.vb_bits.proofs.ReadLemmas.{digits_of_word}
 use Rattle.vb_bits.proofs.EqualLemmas.{differing-add}

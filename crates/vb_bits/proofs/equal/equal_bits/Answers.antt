@@ -1,4 +1,4 @@
-use Rattle.std.proofs.Common.{◌≡◌, ◌+◌, ◌-◌, ◌*◌, ◌/◌, ◌∙◌, sym, arith}
+use Rattle.std.proofs.Common.{◌+◌, ◌-◌, ◌*◌, ◌/◌, ◌∙◌, sym, arith}
 use Rattle.vb_bits.proofs.EqualLemmas.{same-three}
 use Rattle.vb_bits.proofs.equal.equal_bits.Goals as goal
 use Rattle.vb_bits.proofs.equal.equal_bits.Goals.{then-equal_few, else-equal_few}

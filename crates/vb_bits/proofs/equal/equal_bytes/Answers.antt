@@ -1,4 +1,4 @@
-use Rattle.std.proofs.Common.{rules, ◌≡◌, ◌+◌, ◌↔◌, IsTrue, arith}
+use Rattle.std.proofs.Common.{rules, ◌≡◌, ◌+◌, ◌↔◌, IsTrue}
 use Rattle.std.specs.Prelude.{slice_range}
 use Rattle.vb_bits.proofs.EqualLemmas.{same_ranges}
 use Rattle.vb_bits.proofs.equal.equal_bytes.Goals as goal

@@ -1,4 +1,4 @@
-use Rattle.std.proofs.Common.{◌≡◌, ◌+◌, ◌-◌, ◌*◌, ◌≤◌, ◌∙◌, refl, sym, ap, arith}
+use Rattle.std.proofs.Common.{◌≡◌, ◌+◌, ◌-◌, ◌*◌, ◌≤◌, ◌∙◌, sym, ap, arith}
 use Rattle.vb_bits.specs.Bits.{bits}
 use Rattle.vb_bits.proofs.BitsLemmas.{bits_none}
 use Rattle.vb_bits.proofs.EqualLemmas.{same-bits-add, same-three}

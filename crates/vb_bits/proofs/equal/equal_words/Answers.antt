@@ -1,4 +1,4 @@
-use Rattle.std.proofs.Common.{◌≡◌, ◌*◌, ◌∙◌, refl, sym, arith}
+use Rattle.std.proofs.Common.{◌*◌, ◌∙◌, refl, sym, arith}
 use Rattle.vb_bits.proofs.WindowLemmas.{bits-empty}
 use Rattle.vb_bits.proofs.equal.equal_words.Goals as goal
 
