@@ -4,20 +4,13 @@ use crate::made::{by_fives, mixed};
 use crate::rows::BY_FIVES;
 use std::alloc::Global;
 use std::process::Abort;
-use std::test::Fail;
 use vb_kernel::Tally;
 use vb_rank::{TallyTable, rank_by, select_by, select_unset_by, table_of};
 use vb_set::BitBufferView;
 
 /// Answers one row over counted readers, by at most 16 looks and so many probes.
-fn tallied(
-    rt: &impl Abort,
-    alloc: Global,
-    bits: BitBufferView<'_>,
-    row: Row,
-    probes: u64,
-) -> Result<(), Fail> {
-    let table = table_of(alloc, bits)?;
+fn tallied(rt: &impl Abort, alloc: Global, bits: BitBufferView<'_>, row: Row, probes: u64) {
+    let table = table_of(alloc, bits).expect(rt, "a table");
     let mut src = Tally::new(bits.inner());
     let mut entries = TallyTable::new(table.as_slice());
     let (offset, len) = (bits.offset(), bits.len());
@@ -35,33 +28,33 @@ fn tallied(
         }
     }
     assert!(rt; src.looks() <= 16 && entries.probes() <= probes);
-    Ok(())
+    drop(table);
 }
 
 #[test]
-fn rows_take_at_most_three_probes(rt: HostRuntime) -> Result<(), Fail> {
-    let set = by_fives(rt.alloc(), 1100)?;
+fn rows_take_at_most_three_probes(rt: HostRuntime) {
+    let set = by_fives(&rt, rt.alloc(), 1100);
     for row in BY_FIVES {
-        tallied(&rt, rt.alloc(), set.as_view(), *row, 3)?;
+        tallied(&rt, rt.alloc(), set.as_view(), *row, 3);
     }
-    Ok(())
+    drop(set);
 }
 
 /// How many probes a select in a table of so many blocks may make: as many as one more has digits.
 const PROBES: [u64; 6] = [1, 2, 2, 3, 3, 3];
 
 #[test]
-fn tables_are_halved(rt: HostRuntime) -> Result<(), Fail> {
+fn tables_are_halved(rt: HostRuntime) {
     for (blocks, probes) in PROBES.iter().enumerate() {
         for offset in [0, 3] {
-            let set = mixed(rt.alloc(), offset, blocks * 512)?;
-            let bits = set.as_view();
+            let set = mixed(&rt, rt.alloc(), offset, blocks * 512);
             for n in [0, 1, 255, 511, 700, 1400] {
+                let bits = set.as_view();
                 let (place, hole) = (bits.select(n), bits.select_unset(n));
-                tallied(&rt, rt.alloc(), bits, Row::Select(n, place), *probes)?;
-                tallied(&rt, rt.alloc(), bits, Row::SelectUnset(n, hole), *probes)?;
+                tallied(&rt, rt.alloc(), bits, Row::Select(n, place), *probes);
+                tallied(&rt, rt.alloc(), bits, Row::SelectUnset(n, hole), *probes);
             }
+            drop(set);
         }
     }
-    Ok(())
 }

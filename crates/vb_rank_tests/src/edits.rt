@@ -1,11 +1,10 @@
 //! Random edits of a directory, beside one made anew and beside plain counts.
 use crate::compared::{answers_at, equal, viewed_at};
 use crate::made::mixed;
-use std::alloc::Global;
+use std::alloc::Allocator;
 use std::process::Abort;
-use std::test::Fail;
 use vb_rank::Ranked;
-use vb_set::BitBufferMut;
+use vb_set::{BitBufferMut, BitBufferView};
 
 /// A number without a pattern, by a linear congruence.
 fn next(state: &mut u64) -> usize {
@@ -16,12 +15,12 @@ fn next(state: &mut u64) -> usize {
 }
 
 /// Edits a directory and a plain set alike: three times a bit that is there, then one bit more.
-fn edit(
+fn edit<A: Allocator + Clone>(
     rt: &impl Abort,
-    ranked: &mut Ranked<Global>,
-    plain: &mut BitBufferMut<Global>,
+    ranked: &mut Ranked<A>,
+    plain: &mut BitBufferMut<A>,
     state: &mut u64,
-) -> Result<(), Fail> {
+) {
     for _ in 0..3 {
         let (n, v) = (next(state), next(state) % 2 == 1);
         let i = n % plain.len().max(1);
@@ -31,22 +30,35 @@ fn edit(
         }
     }
     let v = next(state) % 2 == 1;
-    plain.append(v)?;
-    ranked.append(v)?;
+    plain.append(v).expect(rt, "room");
+    ranked.append(v).expect(rt, "room");
     equal(rt, ranked.len(), plain.len());
-    Ok(())
+}
+
+/// Both directories answer as the bits do, about place `i` and rank `i`.
+fn answer_as_bits<A: Allocator + Clone>(
+    rt: &impl Abort,
+    (ranked, anew): (&Ranked<A>, &Ranked<A>),
+    bits: BitBufferView<'_>,
+    i: usize,
+) {
+    if i <= bits.len() {
+        let wanted = viewed_at(rt, bits, i);
+        equal(rt, answers_at(rt, ranked, i), wanted);
+        equal(rt, answers_at(rt, anew, i), wanted);
+    }
 }
 
 /// The directory answers as one of the same bits that is made anew, and as the bits do.
-fn is_as_new(
+fn is_as_new<A: Allocator + Clone>(
     rt: &impl Abort,
-    alloc: Global,
-    ranked: &Ranked<Global>,
-    plain: &BitBufferMut<Global>,
-) -> Result<(), Fail> {
-    let anew = Ranked::new(alloc, plain.clone()?)?;
+    alloc: A,
+    ranked: &Ranked<A>,
+    plain: &BitBufferMut<A>,
+) {
+    let anew = directory(rt, alloc, plain);
     let len = plain.len();
-    for i in [
+    let places = [
         0,
         1,
         511,
@@ -56,28 +68,34 @@ fn is_as_new(
         len / 2,
         len.saturating_sub(1),
         len,
-    ] {
-        if i <= len {
-            let wanted = viewed_at(rt, plain.as_view(), i);
-            equal(rt, answers_at(rt, ranked, i), wanted);
-            equal(rt, answers_at(rt, &anew, i), wanted);
-        }
+    ];
+    for i in places {
+        answer_as_bits(rt, (ranked, &anew), plain.as_view(), i);
     }
-    Ok(())
+    drop(anew);
+}
+
+/// A directory of a copy of the bits.
+fn directory<A: Allocator + Clone>(
+    rt: &impl Abort,
+    alloc: A,
+    plain: &BitBufferMut<A>,
+) -> Ranked<A> {
+    Ranked::new(alloc, plain.clone().expect(rt, "a set")).expect(rt, "a directory")
 }
 
 #[test]
-fn edited_directories_are_as_new(rt: HostRuntime) -> Result<(), Fail> {
+fn edited_directories_are_as_new(rt: HostRuntime) {
     let mut state = 0x2545_F491_4F6C_DD1D;
     for offset in [0, 3, 13] {
         for len in [0, 500, 1020, 2560] {
-            let mut plain = mixed(rt.alloc(), offset, len)?;
-            let mut ranked = Ranked::new(rt.alloc(), plain.clone()?)?;
+            let mut plain = mixed(&rt, rt.alloc(), offset, len);
+            let mut ranked = directory(&rt, rt.alloc(), &plain);
             for _ in 0..20 {
-                edit(&rt, &mut ranked, &mut plain, &mut state)?;
-                is_as_new(&rt, rt.alloc(), &ranked, &plain)?;
+                edit(&rt, &mut ranked, &mut plain, &mut state);
+                is_as_new(&rt, rt.alloc(), &ranked, &plain);
             }
+            drop((plain, ranked));
         }
     }
-    Ok(())
 }

@@ -4,64 +4,89 @@ use crate::compared::{answers_at, equal};
 use crate::made::ones;
 use std::alloc::Allocator;
 use std::process::Abort;
-use std::test::Fail;
 use vb_rank::{Ranked, table_of};
-use vb_set::{BitBufferMut, BufferError};
-use vb_testing::{answers_refusal, each_refused};
+use vb_set::{BitBufferMut, BitBufferView, BufferError};
+use vb_testing::Refusing;
+
+/// How many blocks the table of the bits has.
+fn table_len<A: Allocator + Clone>(
+    alloc: A,
+    bits: BitBufferView<'_>,
+) -> Result<usize, BufferError> {
+    let table = table_of(alloc, bits)?;
+    let len = table.len();
+    drop(table);
+    Ok(len)
+}
 
 /// Makes the table of five blocks, and a directory of them.
-fn make<A: Allocator + Clone>(rt: &impl Abort, alloc: A) -> Result<(), BufferError> {
-    let set = ones(alloc.clone()?, 2560)?;
-    let table = table_of(alloc.clone()?, set.as_view())?;
-    equal(rt, table.len(), 5);
+fn make<A: Allocator + Clone + Copy>(rt: &impl Abort, alloc: A) -> Result<(), BufferError> {
+    let set = ones(alloc, 2560)?;
+    match table_len(alloc, set.as_view()) {
+        Ok(len) => equal(rt, len, 5),
+        Err(error) => {
+            drop(set);
+            return Err(error);
+        }
+    }
     let ranked = Ranked::new(alloc, set)?;
     equal(rt, answers_at(rt, &ranked, 2559), (2559, Some(2559), None));
+    drop(ranked);
     Ok(())
 }
 
 #[test]
-fn a_refused_request_refuses_the_directory(rt: HostRuntime) -> Result<(), Fail> {
-    let requests = each_refused(rt.alloc(), |heap| {
-        let answer = make(&rt, heap);
-        answers_refusal(heap, answer, BufferError::OutOfMemory)
-    })?;
+fn a_refused_request_refuses_the_directory(rt: HostRuntime) {
+    let heap = Refusing::new(rt.alloc(), 0);
+    for _ in heap.in_turn() {
+        let answer = make(&rt, &heap);
+        equal(
+            &rt,
+            answer,
+            heap.wanted(Ok(()), Err(BufferError::OutOfMemory)),
+        );
+    }
     // The set, and each table at once.
-    equal(&rt, requests, Some(3));
-    Ok(())
+    equal(&rt, (heap.asked(), heap.has_refused()), (3, false));
 }
 
 /// Adds true bits to none. A refused append leaves the directory as it was, and the next one adds
 /// the bit.
-fn append<A: Allocator + Clone>(
+fn append<A: Allocator + Clone + Copy>(
     rt: &impl Abort,
     alloc: A,
     count: usize,
 ) -> Result<(), BufferError> {
-    let mut ranked = Ranked::new(alloc.clone()?, BitBufferMut::empty(alloc))?;
+    let mut ranked = Ranked::new(alloc, BitBufferMut::empty(alloc))?;
     let mut answer = Ok(());
     for len in 0..count {
         if let Err(error) = ranked.append(true) {
             answer = Err(error);
             equal(rt, ranked.len(), len);
             equal(rt, answers_at(rt, &ranked, len), (len, None, None));
-            ranked.append(true)?;
+            ranked.append(true).expect(rt, "room");
         }
     }
     equal(rt, ranked.len(), count);
     for i in [0, 511, 512, 1023, 1024] {
         equal(rt, answers_at(rt, &ranked, i), (i, Some(i), None));
     }
+    drop(ranked);
     answer
 }
 
 /// A body that asks for memory at each append, or at each block, fails here.
 #[test]
-fn a_refused_append_leaves_the_directory(rt: HostRuntime) -> Result<(), Fail> {
-    let requests = each_refused(rt.alloc(), |heap| {
-        let answer = append(&rt, heap, 1025);
-        answers_refusal(heap, answer, BufferError::OutOfMemory)
-    })?;
+fn a_refused_append_leaves_the_directory(rt: HostRuntime) {
+    let heap = Refusing::new(rt.alloc(), 0);
+    for _ in heap.in_turn() {
+        let answer = append(&rt, &heap, 1025);
+        equal(
+            &rt,
+            answer,
+            heap.wanted(Ok(()), Err(BufferError::OutOfMemory)),
+        );
+    }
     // Six for the bytes, whose room doubles, and one for the table.
-    equal(&rt, requests, Some(7));
-    Ok(())
+    equal(&rt, (heap.asked(), heap.has_refused()), (7, false));
 }

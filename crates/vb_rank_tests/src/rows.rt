@@ -1,9 +1,10 @@
 //! Worked rows.
 use crate::compared::{Row, answers, equal};
 use crate::made::{by_fives, ones};
-use std::test::Fail;
+use std::alloc::{Allocator, Global};
+use std::process::Abort;
 use vb_rank::{Ranked, table_of};
-use vb_set::BitBufferMut;
+use vb_set::{BitBufferMut, BitBufferView};
 
 /// 1,100 bits, true where 5 divides the place.
 pub(crate) const BY_FIVES: &[Row] = &[
@@ -28,48 +29,58 @@ const WITH_BIT_1: &[Row] = &[
     Row::Select(104, Some(515)),
 ];
 
-#[test]
-fn every_fifth_bit(rt: HostRuntime) -> Result<(), Fail> {
-    let set = by_fives(rt.alloc(), 1100)?;
-    let table = table_of(rt.alloc(), set.as_view())?;
-    assert_eq!(rt; table.as_slice(), [0, 103, 205].as_slice());
-    let mut ranked = Ranked::new(rt.alloc(), set)?;
-    answers(&rt, &ranked, BY_FIVES);
-    for _ in 0..2 {
-        assert!(rt; 1 < ranked.len());
-        ranked.set_to(1, true);
-        answers(&rt, &ranked, WITH_BIT_1);
-    }
+/// The table of the bits has these entries.
+fn has_table(rt: &impl Abort, alloc: Global, bits: BitBufferView<'_>, wanted: &[usize]) {
+    let table = table_of(alloc, bits).expect(rt, "a table");
+    assert_eq!(rt; table.as_slice(), wanted);
+    drop(table);
+}
+
+/// Writes bit 1.
+fn set_bit_1<A: Allocator + Clone>(rt: &impl Abort, ranked: &mut Ranked<A>, v: bool) {
     assert!(rt; 1 < ranked.len());
-    ranked.set_to(1, false);
-    answers(&rt, &ranked, BY_FIVES);
-    equal(&rt, ranked.into_inner().len(), 1100);
-    Ok(())
+    ranked.set_to(1, v);
 }
 
 #[test]
-fn no_bits(rt: HostRuntime) -> Result<(), Fail> {
+fn every_fifth_bit(rt: HostRuntime) {
+    let set = by_fives(&rt, rt.alloc(), 1100);
+    has_table(&rt, rt.alloc(), set.as_view(), &[0, 103, 205]);
+    let mut ranked = Ranked::new(rt.alloc(), set).expect(&rt, "a directory");
+    answers(&rt, &ranked, BY_FIVES);
+    for _ in 0..2 {
+        set_bit_1(&rt, &mut ranked, true);
+        answers(&rt, &ranked, WITH_BIT_1);
+    }
+    set_bit_1(&rt, &mut ranked, false);
+    answers(&rt, &ranked, BY_FIVES);
+    let set = ranked.into_inner();
+    equal(&rt, set.len(), 1100);
+    drop(set);
+}
+
+#[test]
+fn no_bits(rt: HostRuntime) {
     let set = BitBufferMut::empty(rt.alloc());
-    let table = table_of(rt.alloc(), set.as_view())?;
-    equal(&rt, table.len(), 0);
-    let ranked = Ranked::new(rt.alloc(), set)?;
+    has_table(&rt, rt.alloc(), set.as_view(), &[]);
+    let ranked = Ranked::new(rt.alloc(), set).expect(&rt, "a directory");
     let rows = [
         Row::Rank(0, 0),
         Row::Select(0, None),
         Row::SelectUnset(0, None),
     ];
     answers(&rt, &ranked, &rows);
-    Ok(())
+    drop(ranked);
 }
 
 #[test]
-fn a_block_of_true_bits_and_one_more(rt: HostRuntime) -> Result<(), Fail> {
-    let mut ranked = Ranked::new(rt.alloc(), ones(rt.alloc(), 512)?)?;
+fn a_block_of_true_bits_and_one_more(rt: HostRuntime) {
+    let set = ones(rt.alloc(), 512).expect(&rt, "a set");
+    let mut ranked = Ranked::new(rt.alloc(), set).expect(&rt, "a directory");
     answers(&rt, &ranked, &[Row::Rank(512, 512), Row::Select(512, None)]);
-    ranked.append(true)?;
+    ranked.append(true).expect(&rt, "room");
     let rows = [Row::Rank(513, 513), Row::Select(512, Some(512))];
     answers(&rt, &ranked, &rows);
-    let table = table_of(rt.alloc(), ranked.as_view())?;
-    assert_eq!(rt; table.as_slice(), [0, 512].as_slice());
-    Ok(())
+    has_table(&rt, rt.alloc(), ranked.as_view(), &[0, 512]);
+    drop(ranked);
 }
