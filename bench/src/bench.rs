@@ -7,7 +7,6 @@ use std::time::Duration;
 
 use crate::json::Object;
 use crate::measure::{Contender, best};
-use crate::notes;
 use crate::row::{Measured, NOISE, Row, grouped};
 
 /// How many times the first size the later ones of a growth row are.
@@ -62,8 +61,11 @@ impl Bench {
         table.push_str(line);
     }
 
-    /// Measures a row, once all its contenders have given the same answer.
+    /// Measures a row, once all its contenders have given the same answer. Aims are of x86-64-v2
+    /// and v3; at x86-64-v4 there are some of counts alone.
     pub fn row(&mut self, row: Row) {
+        let has_aims = self.level != "x86-64-v4" || self.part == "Counts";
+        let row = if has_aims { row } else { row.without_aims() };
         if !row.has(&self.word) && !self.part.contains(&self.word) {
             return;
         }
@@ -117,8 +119,7 @@ impl Bench {
         self.missed += !is_met as usize;
         let met = if is_met { "met" } else { "**missed**" };
         if !is_met {
-            let note = notes::of(call).map_or(String::new(), |note| format!(". {note}"));
-            let text = format!("- Growth of {call}: {grown:.2} (aim {GROWN}): {met}{note}\n");
+            let text = format!("- Growth of {call}: {grown:.2} (aim {GROWN}): {met}\n");
             self.misses.push_str(&text);
         }
         if self.parts.last().is_some_and(|(_, table)| table.is_empty()) {
@@ -169,6 +170,6 @@ fn each((time, items): (&f64, &usize)) -> f64 {
 }
 
 fn listed(costs: &[f64]) -> String {
-    let costs: Vec<_> = costs.iter().map(|cost| format!("{cost:.4}")).collect();
+    let costs: Vec<_> = costs.iter().map(|cost| format!("{cost:.5}")).collect();
     costs.join(", ")
 }

@@ -9,7 +9,7 @@ pub fn of(call: &str) -> Option<&'static str> {
 }
 
 /// By how the name of the call begins.
-const NOTES: [(&str, &str); 13] = [
+const NOTES: [(&str, &str); 14] = [
     ("`&` by reference", COPIED),
     ("`|` by reference", COPIED),
     ("`^` by reference", COPIED),
@@ -21,7 +21,8 @@ const NOTES: [(&str, &str); 13] = [
     ),
     (
         "`last_set_index`",
-        "Each word is read by `read_bits`, which puts the bytes of any number of bits together",
+        "For each word it is found out how many bits it has, how many bytes are left, and what to \
+         mask; whole words need none of that",
     ),
     (
         "`append` of a million bits",
@@ -30,6 +31,10 @@ const NOTES: [(&str, &str); 13] = [
     (
         "`from_iter`",
         "Items are written to a list of 64 one by one, since no hint is trusted, and then packed",
+    ),
+    (
+        "`take_bits` by `u32`",
+        "Upstream gathers by AVX2's instruction; ours loads byte after byte into a vector",
     ),
     (
         "`take_bits` by `u128`",
@@ -51,7 +56,7 @@ const NOTES: [(&str, &str); 13] = [
     ),
     (
         "`for_each_set_index`",
-        "Upstream has a loop of its own for words that are all true",
+        "A word that is all true goes by the loop of any other word",
     ),
 ];
 

@@ -125,6 +125,12 @@ impl<'a> Row<'a> {
         self
     }
 
+    /// The same row, of which nothing is aimed at.
+    pub fn without_aims(mut self) -> Self {
+        self.aims.clear();
+        self
+    }
+
     /// Whether a word stands in the call or the input.
     pub fn has(&self, word: &str) -> bool {
         self.call.contains(word) || self.input().contains(word)
