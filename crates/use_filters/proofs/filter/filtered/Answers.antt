@@ -1,5 +1,5 @@
 -- The values of the matching rows are the valid ones that meet the condition.
-use Rattle.std.proofs.Common.{◌≡◌, length, ap, ◌∙◌}
+use Rattle.std.proofs.Common.{length, ap, ◌∙◌}
 use Rattle.std.proofs.lemmas.Result.{IfOk-weaker}
 use Rattle.vortex_buffer.specs.Kept.{kept}
 use Rattle.use_filters.specs.Filters.{is_met}

@@ -1,5 +1,5 @@
 -- The closure answers at each row whether its value meets the condition.
-use Rattle.std.proofs.Common.{rules, arith, ◌≡◌, ◌<◌, ℕ, Bool, List, length, map, slice_index, refl, ap, ◌∙◌}
+use Rattle.std.proofs.Common.{rules, arith, ◌≡◌, ◌<◌, length, map, slice_index, refl, ap, ◌∙◌}
 use Rattle.std.proofs.lemmas.Result.{IfOk-weaker}
 use Rattle.vortex_buffer.proofs.AnswersLemmas.{CanAsk-from, Answers-from}
 use Rattle.use_filters.specs.Filters.{is_met}

@@ -1,5 +1,5 @@
 -- The bits taken at the places of the rows are those that the mask keeps.
-use Rattle.std.proofs.Common.{rules, ◌≡◌, ◌<◌, ◌^◌, append-nil, ◌∙◌}
+use Rattle.std.proofs.Common.{rules, ◌≡◌, append-nil, ◌∙◌}
 use Rattle.vortex_buffer.specs.Bits.{places}
 use Rattle.use_filters.proofs.FilterLemmas.{Makes-gathered}
 use Rattle.use_filters.proofs.gather.gather_bits.Goals as goal

@@ -1,7 +1,7 @@
 -- The values at the places of the mask are those that it keeps.
-use Rattle.std.proofs.Common.{rules, ◌≡◌, ℕ, ◌<◌, List, [], ◌∷◌, ◌++◌, length, map, slice_index, append_assoc, sym, ap, subst, ◌∙◌, arith}
+use Rattle.std.proofs.Common.{rules, ◌≡◌, ◌<◌, [], ◌∷◌, ◌++◌, length, map, slice_index, append_assoc, sym, ap, subst, ◌∙◌, arith}
 use Rattle.std.specs.List.{All}
-use Rattle.std.proofs.lemmas.List.Elements.{All-head, All-rest}
+use Rattle.std.proofs.lemmas.List.Elements.{All-rest}
 use Rattle.vortex_buffer.proofs.KeptLemmas.{map-places}
 use Rattle.vortex_buffer.specs.Bits.{places}
 use Rattle.vortex_buffer.specs.Kept.{kept}
