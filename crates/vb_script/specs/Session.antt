@@ -4,7 +4,7 @@ use Rattle.std.specs.Prelude.{length, take, slice_get, count_by, Option, Some, N
 use Rattle.std.specs.Prelude.{Err, IsTrue, IsSomeAnd}
 use Rattle.std.specs.List.{flat_map}
 use Rattle.std.specs.Str.Lines.{lines}
-use Rattle.std.specs.Io.KnownBytes.{Appends, Keeps}
+use Rattle.std.specs.Io.KnownBytes.{Appends}
 use Rattle.vb_command.specs.Machine.{Slot, empty_slots, Order, Reply, Outcome, Run}
 use Rattle.vb_command.specs.Printed.{line_of}
 use Rattle.vb_command.specs.Reading.{asks_memory, reading, script}

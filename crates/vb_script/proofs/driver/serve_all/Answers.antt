@@ -1,4 +1,4 @@
-use Rattle.std.proofs.Common.{[], rules, arith, refl}
+use Rattle.std.proofs.Common.{[], rules, refl}
 use Rattle.std.proofs.lemmas.Result.{err_from_is_err_and}
 use Rattle.vb_script.proofs.KnownBytes.{IfSome-known}
 use Rattle.vb_script.proofs.Progress.{Progress-first, Progress-Keeps, Progress-next, Progress-ends, Progress-unready, Progress-unserved, Ran-nil, RanAny-Keeps, RanAny-next, RanAny-ends, RanAny-unready, RanAny-unserved}

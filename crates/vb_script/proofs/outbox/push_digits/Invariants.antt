@@ -1,4 +1,4 @@
-use Rattle.std.proofs.Common.{◌≡◌, ◌+◌, ◌≤◌, ◌++◌, length, take, vec_len, vec_capacity}
+use Rattle.std.proofs.Common.{◌≡◌, ◌+◌, ◌≤◌, ◌++◌, take, vec_len, vec_capacity}
 use Rattle.std.specs.List.{flat_map}
 use Rattle.vb_command.specs.Printed.{digit_of}
 use Rattle.vb_script.proofs.outbox.push_digits.Given as goal
