@@ -108,9 +108,9 @@ pub extern "C" fn vb_try_rank(
     true
 }
 
-/// The place of the `n`-th true bit of the window, counted from 0, if there is one: by halves of the
-/// table, and then within a block. The table has to have an entry a block; where it isn't that of
-/// [`vb_block_counts`], the place says nothing.
+/// The place of the `n`-th true bit of the window, counted from 0, if there is one: by halves of
+/// the table, and then within a block. The table has to have an entry a block; where it isn't that
+/// of [`vb_block_counts`], the place says nothing.
 #[unsafe(no_mangle)]
 pub extern "C" fn vb_ranked_select(
     bytes: &[u8],

@@ -11,8 +11,8 @@ use vb_kernel::Glance;
 /// most one probe of their table.
 ///
 /// The window has to lie in the bytes, its end has to be a `usize`, `i` has to be at most its
-/// length, and the table has to have an entry for each of its blocks. Where its entries aren't those
-/// that [`table_of`](crate::table_of) makes, the number says nothing.
+/// length, and the table has to have an entry for each of its blocks. Where its entries aren't
+/// those that [`table_of`](crate::table_of) makes, the number says nothing.
 pub fn rank_by<G: Glance, T: Probe>(
     src: &mut G,
     offset: usize,
