@@ -47,8 +47,8 @@ const NOTES: [(&str, &str); 14] = [
     ),
     (
         "`count_ones`",
-        "At x86-64-v2 the loop's instruction counts a word a cycle; within a cache line and a \
-         byte up to 16 looks come one after the other",
+        "Short windows are counted by looks, one after the other; at x86-64-v2 vectors are of 16 \
+         bytes, and upstream's of 32",
     ),
     (
         "`set_to` of the first bit",

@@ -10,7 +10,7 @@ use crate::notes;
 pub const UPSTREAM: &str = "upstream";
 pub const LOOP: &str = "loop";
 
-/// By how much the best rounds of one call differ on a quiet machine.
+/// How far above an aim a ratio may be and count as met: a tolerance for the noise of rounds.
 pub const NOISE: f64 = 1.02;
 
 /// What a time is held against.
@@ -212,7 +212,7 @@ pub struct Outcome {
 }
 
 impl Outcome {
-    /// Whether it was reached, within what rounds of one call differ by.
+    /// Whether it was reached, within the tolerance.
     pub fn is_met(&self) -> bool {
         self.reached <= self.most * NOISE
     }
