@@ -1,7 +1,8 @@
 //! Calls as a new user writes them, proved with no hint.
 ghost use Rattle.std.specs.Prelude.{◌≡◌, IfOk, length};
 
-use std::alloc::Allocator;
+use std::alloc::{Allocator, Global};
+use std::process::Abort;
 use std::test::Fail;
 use vb_core::{Alignment, BufferError};
 use vb_mem::{Buffer, BufferMut, ByteBuffer};
@@ -45,17 +46,22 @@ fn a_front_is_sliced_after_a_look_at_the_length(rt: HostRuntime) -> Result<(), F
     Ok(())
 }
 
+/// The bytes are printed so.
+fn prints(rt: &impl Abort, alloc: Global, bytes: ByteBuffer<Global>, wanted: &str) {
+    let text = format!(in alloc; "{:?}", bytes).expect(rt, "a text");
+    assert_eq!(rt; text.as_str(), wanted);
+    drop(bytes);
+}
+
 #[test]
 fn buffers_are_compared_and_printed(rt: HostRuntime) -> Result<(), Fail> {
     let bytes: ByteBuffer<_> = Buffer::copy_from(rt.alloc(), &[1u8, 2, 3])?;
     let twin = bytes.clone()?;
-    assert_eq!(rt; bytes, twin);
-    let text = format!(in rt.alloc(); "{:?}", twin)?;
-    assert_eq!(rt; text.as_str(), "[1, 2, 3]");
-    drop(twin);
+    assert!(rt; bytes == twin);
+    prints(&rt, rt.alloc(), twin, "[1, 2, 3]");
     let growing = bytes.try_into_mut()?;
-    assert_eq!(rt; growing.len(), 3);
+    assert!(rt; growing.len() == 3);
     let copy = BufferMut::copy_from(rt.alloc(), &[1u8, 2, 3])?;
-    assert_eq!(rt; growing, copy);
+    assert!(rt; growing == copy);
     Ok(())
 }

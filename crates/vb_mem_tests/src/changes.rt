@@ -3,10 +3,9 @@
 use crate::compared::{each, equal, equal_lists};
 use std::alloc::Allocator;
 use std::process::Abort;
-use std::test::Fail;
 use vb_core::{BufferError, ExtendError, trusted_len};
 use vb_mem::{Buffer, BufferMut};
-use vb_testing::{Handle, Refusing, answers_refusal, each_refused};
+use vb_testing::{Handle, Refusing};
 
 /// A change of a growing buffer that is made as a whole or not at all.
 enum Change {
@@ -89,8 +88,11 @@ fn change_sevens<A: Allocator + Clone>(
     let answer = change.make(&mut buffer);
     if answer.is_err() {
         equal(rt, (buffer.len(), buffer.capacity()), (room, room));
-        equal(rt, buffer.as_slice().iter().all(|item| *item == 7), true);
+        for item in buffer.as_slice() {
+            equal(rt, *item, 7);
+        }
     }
+    drop(buffer);
     answer
 }
 
@@ -105,6 +107,7 @@ fn extend<A: Allocator>(
         Err(_) => buffer.capacity(),
     };
     equal(rt, buffer.as_slice().iter().copied().eq(0..kept), true);
+    drop(buffer);
     answer
 }
 
@@ -112,21 +115,46 @@ fn open_clone<A: Allocator + Clone>(
     rt: &impl Abort,
     original: Buffer<u32, A>,
 ) -> Result<(), BufferError> {
-    let opened = original.clone()?.into_mut();
+    let opened = into_mut_of(original.clone());
     equal_lists(rt, original.as_slice(), &[1, 2, 3]);
-    equal_lists(rt, opened?.as_slice(), &[1, 2, 3]);
+    drop(original);
+    let opened = opened?;
+    equal_lists(rt, opened.as_slice(), &[1, 2, 3]);
+    drop(opened);
     Ok(())
+}
+
+fn into_mut_of<A: Allocator + Clone>(
+    made: Result<Buffer<u32, A>, BufferError>,
+) -> Result<BufferMut<u32, A>, BufferError> {
+    made?.into_mut()
 }
 
 fn write_clone<A: Allocator + Clone>(
     rt: &impl Abort,
     original: Buffer<u32, A>,
 ) -> Result<(), BufferError> {
-    let mut copy = original.clone()?;
-    let answer = copy.items_mut().map(|items| items.clear());
+    let answer = clear_items(rt, original.clone());
     equal_lists(rt, original.as_slice(), &[1, 2, 3]);
-    let kept = if answer.is_ok() { 0 } else { 3 };
-    equal(rt, (copy.len(), copy.alignment().as_usize()), (kept, 4));
+    drop(original);
+    answer
+}
+
+/// Clears the items of a buffer. A refusal leaves them.
+fn clear_items<A: Allocator + Clone>(
+    rt: &impl Abort,
+    made: Result<Buffer<u32, A>, BufferError>,
+) -> Result<(), BufferError> {
+    let mut buffer = made?;
+    let (answer, kept) = match buffer.items_mut() {
+        Ok(items) => {
+            items.clear();
+            (Ok(()), 0)
+        }
+        Err(error) => (Err(error), 3),
+    };
+    equal(rt, (buffer.len(), buffer.alignment().as_usize()), (kept, 4));
+    drop(buffer);
     answer
 }
 
@@ -146,15 +174,20 @@ const TRIALS: &[(Trial, u64, u64)] = &[
 ];
 
 #[test]
-fn a_refused_change_leaves_the_buffer(rt: HostRuntime) -> Result<(), Fail> {
+fn a_refused_change_leaves_the_buffer(rt: HostRuntime) {
+    let heap = Refusing::new(rt.alloc(), 0);
     for (trial, least, most) in TRIALS {
-        let requests = each_refused(rt.alloc(), |heap| {
-            let answer = trial.make(&rt, Handle { inner: heap });
-            answers_refusal(heap, answer, BufferError::OutOfMemory)
-        })?;
-        assert!(rt; Some(*least) <= requests && requests <= Some(*most));
+        for _ in heap.in_turn() {
+            let answer = trial.make(&rt, Handle { inner: &heap });
+            equal(
+                &rt,
+                answer,
+                heap.wanted(Ok(()), Err(BufferError::OutOfMemory)),
+            );
+        }
+        assert!(rt; !heap.has_refused());
+        assert!(rt; *least <= heap.asked() && heap.asked() <= *most);
     }
-    Ok(())
 }
 
 /// The changes that lengthen, each with the items that it adds.
@@ -169,32 +202,27 @@ const GROWING: &[(Change, &[u32])] = &[
 ];
 
 /// Makes a change again and again, from no room on.
-fn grow<A: Allocator + Clone>(
-    rt: &impl Abort,
-    alloc: A,
-    change: &Change,
-    items: &[u32],
-) -> Result<(), BufferError> {
+fn grow<A: Allocator + Clone>(rt: &impl Abort, alloc: A, change: &Change, items: &[u32]) {
     let mut buffer = BufferMut::empty(alloc);
     for _ in 0..5000 {
-        change.make(&mut buffer)?;
+        change.make(&mut buffer).expect(rt, "room");
     }
     equal(rt, buffer.len(), 5000usize.saturating_mul(items.len()));
     for (added, wanted) in buffer.as_slice().iter().zip(items.iter().cycle()) {
         equal(rt, *added, *wanted);
     }
-    Ok(())
+    drop(buffer);
 }
 
 /// A body that gives up once the buffer has grown to some length fails here, and so does one that
 /// asks for room at each call, or for more and more of it.
 #[test]
-fn growth_goes_on_while_there_is_memory(rt: HostRuntime) -> Result<(), Fail> {
+fn growth_goes_on_while_there_is_memory(rt: HostRuntime) {
+    let heap = Refusing::new(rt.alloc(), 0);
     for (change, items) in GROWING {
-        let heap = Refusing::new(rt.alloc(), 0);
-        grow(&rt, &heap, change, items)?;
-        equal(&rt, heap.asked() <= 20, true);
-        equal(&rt, heap.asked_bytes() <= 4 * 4 * 15_000, true);
+        heap.refuse(0);
+        grow(&rt, &heap, change, items);
+        assert!(rt; heap.asked() <= 20);
+        assert!(rt; heap.asked_bytes() <= 4 * 4 * 15_000);
     }
-    Ok(())
 }

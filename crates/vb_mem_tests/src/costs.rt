@@ -3,7 +3,7 @@
 use crate::compared::equal_lists;
 use crate::makers::{cloned, sliced, twin};
 use std::alloc::Allocator;
-use std::test::Fail;
+use std::process::Abort;
 use vb_core::{Alignment, BufferError};
 use vb_mem::{Buffer, BufferMut};
 use vb_testing::Refusing;
@@ -68,17 +68,27 @@ const GROWING: &[(Growing, usize, usize)] = &[
     (Growing::Within, 0, 0),
 ];
 
+/// Makes a call on a buffer of a thousand sevens. What it makes is sevens.
+fn grow_sevens<A: Allocator + Clone>(
+    rt: &impl Abort,
+    made: Result<BufferMut<u32, A>, BufferError>,
+    call: &Growing,
+) {
+    let made = call.make(made.expect(rt, "room")).expect(rt, "room");
+    equal_lists(rt, made.as_slice(), &SEVENS[..made.len().min(1001)]);
+    drop(made);
+}
+
 #[test]
-fn growing_buffers_ask_for_what_they_need(rt: HostRuntime) -> Result<(), Fail> {
+fn growing_buffers_ask_for_what_they_need(rt: HostRuntime) {
+    let heap = Refusing::new(rt.alloc(), 0);
     for (call, least, most) in GROWING {
-        let heap = Refusing::new(rt.alloc(), 0);
-        let buffer = BufferMut::full(&heap, 7, 1000)?;
+        heap.refuse(0);
+        let made = BufferMut::full(&heap, 7, 1000);
         assert!(rt; heap.asks_within(4000, 4000));
-        let made = call.make(buffer)?;
+        grow_sevens(&rt, made, call);
         assert!(rt; heap.asks_within(*least, *most));
-        equal_lists(&rt, made.as_slice(), &SEVENS[..made.len().min(1001)]);
     }
-    Ok(())
 }
 
 /// A call on a shared buffer of a thousand sevens that has no other owner.
@@ -144,32 +154,58 @@ const SHARED: &[(Shared, usize, usize)] = &[
     (Shared::ItemsMutOfTwo, 4000, 8256),
 ];
 
+/// Makes a call on a buffer of a thousand sevens. What it makes is sevens.
+fn share_sevens<A: Allocator + Clone>(
+    rt: &impl Abort,
+    made: Result<Buffer<u32, A>, BufferError>,
+    call: &Shared,
+) {
+    let made = call.make(made.expect(rt, "room")).expect(rt, "room");
+    equal_lists(rt, made.as_slice(), &SEVENS[..made.len().min(1001)]);
+    drop(made);
+}
+
 #[test]
-fn shared_buffers_ask_for_what_they_need(rt: HostRuntime) -> Result<(), Fail> {
+fn shared_buffers_ask_for_what_they_need(rt: HostRuntime) {
+    let heap = Refusing::new(rt.alloc(), 0);
     for (call, least, most) in SHARED {
-        let heap = Refusing::new(rt.alloc(), 0);
-        let buffer = Buffer::full(&heap, 7, 1000)?;
+        heap.refuse(0);
+        let made = Buffer::full(&heap, 7, 1000);
         assert!(rt; heap.asks_within(4000, 4256));
-        let made = call.make(buffer)?;
+        share_sevens(&rt, made, call);
         assert!(rt; heap.asks_within(*least, *most));
-        equal_lists(&rt, made.as_slice(), &SEVENS[..made.len().min(1001)]);
     }
-    Ok(())
+}
+
+/// A call that makes room for many items.
+enum Room {
+    WithCapacity,
+    WithCapacityAligned,
+    Zeroed,
+}
+
+const ROOMS: &[Room] = &[Room::WithCapacity, Room::WithCapacityAligned, Room::Zeroed];
+
+impl Room {
+    fn make<A: Allocator + Clone>(&self, rt: &impl Abort, alloc: A, capacity: usize) {
+        let wide = Alignment::from_exponent(9);
+        let made = match self {
+            Room::WithCapacity => BufferMut::<u32, _>::with_capacity(alloc, capacity),
+            Room::WithCapacityAligned => BufferMut::with_capacity_aligned(alloc, capacity, wide),
+            Room::Zeroed => BufferMut::zeroed(alloc, capacity),
+        };
+        drop(made.expect(rt, "room"));
+    }
 }
 
 /// A body that asks for a megabyte more fails here.
 #[test]
-fn room_is_what_was_asked_for(rt: HostRuntime) -> Result<(), Fail> {
+fn room_is_what_was_asked_for(rt: HostRuntime) {
     let heap = Refusing::new(rt.alloc(), 0);
-    let wide = Alignment::from_exponent(9);
     for capacity in [100, 1000, 100_000] {
-        let most = 8 * capacity;
-        drop(BufferMut::<u32, _>::with_capacity(&heap, capacity)?);
-        assert!(rt; heap.asks_within(4 * capacity, most));
-        drop(BufferMut::<u32, _>::with_capacity_aligned(&heap, capacity, wide)?);
-        assert!(rt; heap.asks_within(4 * capacity, most));
-        drop(BufferMut::<u32, _>::zeroed(&heap, capacity)?);
-        assert!(rt; heap.asks_within(4 * capacity, most));
+        for room in ROOMS {
+            room.make(&rt, &heap, capacity);
+            assert!(rt; heap.asks_within(4 * capacity, 8 * capacity));
+        }
     }
-    Ok(())
 }

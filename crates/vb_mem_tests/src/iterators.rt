@@ -1,9 +1,11 @@
 //! Iterators over items, and comparisons by them.
 use crate::compared::{equal, equal_lists};
+use std::alloc::Allocator;
 use std::cmp::Ordering;
 use std::hash::{DefaultHasher, Hash, Hasher};
+use std::process::Abort;
 use std::test::Fail;
-use vb_core::{Alignment, TrustedLen};
+use vb_core::{Alignment, BufferError, TrustedLen};
 use vb_mem::{Buffer, BufferMut};
 
 #[test]
@@ -31,23 +33,31 @@ fn items_are_handed_out_in_turn(rt: HostRuntime) -> Result<(), Fail> {
     Ok(())
 }
 
-#[test]
-fn buffers_compare_by_their_items(rt: HostRuntime) -> Result<(), Fail> {
-    let wide = Alignment::from_exponent(9);
-    let low = Buffer::copy_from(rt.alloc(), &[1u32, 2])?;
-    let same = Buffer::copy_from_aligned(rt.alloc(), &[1u32, 2], wide)?;
-    equal(&rt, low == same, true);
-    equal(&rt, low.cmp(&same), Ordering::Equal);
-    Ok(())
+/// How two buffers compare.
+fn compares<A: Allocator>(
+    rt: &impl Abort,
+    one: &Buffer<u32, A>,
+    two: Result<Buffer<u32, A>, BufferError>,
+    ordering: Ordering,
+) {
+    let two = two.expect(rt, "a buffer");
+    equal(rt, *one == two, ordering == Ordering::Equal);
+    equal(
+        rt,
+        (one.cmp(&two), one.partial_cmp(&two)),
+        (ordering, Some(ordering)),
+    );
+    drop(two);
 }
 
 #[test]
-fn buffers_of_other_items_differ(rt: HostRuntime) -> Result<(), Fail> {
-    let low = Buffer::copy_from(rt.alloc(), &[1u32, 2])?;
-    let high = Buffer::copy_from(rt.alloc(), &[1u32, 3])?;
-    equal(&rt, low == high, false);
-    equal(&rt, low.partial_cmp(&high), Some(Ordering::Less));
-    Ok(())
+fn buffers_compare_by_their_items(rt: HostRuntime) {
+    let wide = Alignment::from_exponent(9);
+    let low = Buffer::copy_from(rt.alloc(), &[1u32, 2]).expect(&rt, "a buffer");
+    let same = Buffer::copy_from_aligned(rt.alloc(), &[1u32, 2], wide);
+    compares(&rt, &low, same, Ordering::Equal);
+    let high = Buffer::copy_from(rt.alloc(), &[1u32, 3]);
+    compares(&rt, &low, high, Ordering::Less);
 }
 
 #[test]
@@ -56,6 +66,7 @@ fn growing_buffers_compare_by_their_items(rt: HostRuntime) -> Result<(), Fail> {
     let high = BufferMut::copy_from(rt.alloc(), &[1u32, 3])?;
     let wide = low.clone()?.aligned(Alignment::from_exponent(9))?;
     equal(&rt, (low == wide, low == high), (true, false));
+    drop((low, high, wide));
     Ok(())
 }
 

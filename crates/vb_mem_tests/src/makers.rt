@@ -1,10 +1,9 @@
 //! Calls that make a buffer: what they make, and each of their requests for memory refused in turn.
-use crate::compared::{each, shows};
+use crate::compared::{each, equal, shows};
 use std::alloc::Allocator;
-use std::test::Fail;
 use vb_core::{Alignment, BufferError, ExtendError, trusted_len};
 use vb_mem::{Buffer, BufferMut};
-use vb_testing::{Handle, answers_refusal, each_refused};
+use vb_testing::{Handle, Refusing};
 
 /// A call that makes a growing buffer.
 enum Growing {
@@ -60,7 +59,9 @@ impl Growing {
 pub fn cloned<A: Allocator + Clone>(
     buffer: BufferMut<u32, A>,
 ) -> Result<BufferMut<u32, A>, BufferError> {
-    buffer.clone()
+    let clone = buffer.clone();
+    drop(buffer);
+    clone
 }
 
 fn try_collected<A: Allocator>(alloc: A) -> Result<BufferMut<u32, A>, BufferError> {
@@ -123,7 +124,9 @@ impl Shared {
 
 /// A second owner of the buffer's storage.
 pub fn twin<A: Allocator + Clone>(buffer: Buffer<u32, A>) -> Result<Buffer<u32, A>, BufferError> {
-    buffer.clone()
+    let twin = buffer.clone();
+    drop(buffer);
+    twin
 }
 
 fn of_vector<A: Allocator + Clone>(alloc: A) -> Result<Buffer<u32, A>, BufferError> {
@@ -134,10 +137,13 @@ fn of_vector<A: Allocator + Clone>(alloc: A) -> Result<Buffer<u32, A>, BufferErr
 fn unaligned_part<A: Allocator + Clone>(
     whole: Buffer<u32, A>,
 ) -> Result<Buffer<u32, A>, BufferError> {
-    if whole.len() < 2 {
-        return Err(BufferError::NotAligned);
-    }
-    whole.slice_unaligned(1..2)
+    let part = if whole.len() < 2 {
+        Err(BufferError::NotAligned)
+    } else {
+        whole.slice_unaligned(1..2)
+    };
+    drop(whole);
+    part
 }
 
 /// The items from `start` up to `end`, which share the storage.
@@ -146,20 +152,26 @@ pub fn sliced<A: Allocator + Clone>(
     start: usize,
     end: usize,
 ) -> Result<Buffer<u32, A>, BufferError> {
-    if !whole.can_slice(start..end, whole.alignment()) {
-        return Err(BufferError::NotAligned);
-    }
-    whole.slice(start..end)
+    let part = if whole.can_slice(start..end, whole.alignment()) {
+        whole.slice(start..end)
+    } else {
+        Err(BufferError::NotAligned)
+    };
+    drop(whole);
+    part
 }
 
 fn aligned_part<A: Allocator + Clone>(
     whole: Buffer<u32, A>,
 ) -> Result<Buffer<u32, A>, BufferError> {
     let four = Alignment::of::<u32>();
-    if !whole.can_slice(3..4, four) {
-        return Err(BufferError::NotAligned);
-    }
-    whole.slice_with_alignment(3..4, four)
+    let part = if whole.can_slice(3..4, four) {
+        whole.slice_with_alignment(3..4, four)
+    } else {
+        Err(BufferError::NotAligned)
+    };
+    drop(whole);
+    part
 }
 
 /// A way from items to bytes and back.
@@ -204,7 +216,9 @@ impl Form {
 }
 
 fn bytes_of<A: Allocator + Clone>(items: Buffer<u32, A>) -> Result<Buffer<u8, A>, BufferError> {
-    items.as_bytes()
+    let bytes = items.as_bytes();
+    drop(items);
+    bytes
 }
 
 /// The calls, each with the items of what it makes, and the alignments: the reported and the
@@ -285,14 +299,21 @@ const ROWS: &[(Shared, &[u32], (usize, usize))] = &[
 ];
 
 #[test]
-fn buffers_are_made_or_refused(rt: HostRuntime) -> Result<(), Fail> {
+fn buffers_are_made_or_refused(rt: HostRuntime) {
+    let heap = Refusing::new(rt.alloc(), 0);
     for (call, items, alignments) in ROWS {
-        let requests = each_refused(rt.alloc(), |heap| {
-            let made = call.make(Handle { inner: heap });
+        for _ in heap.in_turn() {
+            let made = call.make(Handle { inner: &heap });
             let answer = shows(&rt, made, items, *alignments);
-            answers_refusal(heap, answer, BufferError::OutOfMemory)
-        })?;
-        assert!(rt; requests >= Some(1), "room for the items");
+            equal(
+                &rt,
+                answer,
+                heap.wanted(Ok(()), Err(BufferError::OutOfMemory)),
+            );
+        }
+        assert!(rt;
+            !heap.has_refused() && heap.asked() >= 1,
+            "room for the items"
+        );
     }
-    Ok(())
 }

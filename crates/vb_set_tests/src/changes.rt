@@ -4,9 +4,8 @@ use crate::compared::equal;
 use crate::made::ones;
 use std::alloc::Allocator;
 use std::process::Abort;
-use std::test::Fail;
 use vb_set::{BitBufferMut, BufferError};
-use vb_testing::{Handle, Refusing, answers_refusal, each_refused};
+use vb_testing::{Handle, Refusing};
 
 /// An edit that takes memory where there is no room left.
 enum Edit {
@@ -61,23 +60,28 @@ fn edit_ones<A: Allocator + Clone>(
         let first_false = if falses > 0 { Some(len) } else { None };
         equal(rt, view.select_unset(0), first_false);
     }
+    drop(set);
     answer
 }
 
 #[test]
-fn a_refused_edit_leaves_the_set(rt: HostRuntime) -> Result<(), Fail> {
+fn a_refused_edit_leaves_the_set(rt: HostRuntime) {
+    let heap = Refusing::new(rt.alloc(), 0);
     for (edit, trues, falses) in EDITS {
-        let requests = each_refused(rt.alloc(), |heap| {
-            let answer = match ones(Handle { inner: heap }, 8) {
+        for _ in heap.in_turn() {
+            let answer = match ones(Handle { inner: &heap }, 8) {
                 Ok(set) => edit_ones(&rt, set, edit, (*trues, *falses)),
                 Err(error) => Err(error),
             };
-            answers_refusal(heap, answer, BufferError::OutOfMemory)
-        })?;
+            equal(
+                &rt,
+                answer,
+                heap.wanted(Ok(()), Err(BufferError::OutOfMemory)),
+            );
+        }
         // The room for the first bits, and what the edit asks for.
-        equal(&rt, requests, Some(2));
+        equal(&rt, (heap.asked(), heap.has_refused()), (2, false));
     }
-    Ok(())
 }
 
 /// Takes a set. A refusal leaves the set and its room.
@@ -86,30 +90,42 @@ fn take<A: Allocator + Clone>(
     mut set: BitBufferMut<A>,
 ) -> Result<(), BufferError> {
     let room = set.capacity();
-    match set.take() {
-        Ok(taken) => {
-            equal(rt, set.is_empty(), true);
-            equal(rt, (taken.len(), taken.as_view().true_count()), (9, 9));
-            Ok(())
-        }
-        Err(error) => {
-            equal(rt, (set.as_view().true_count(), set.capacity()), (9, room));
-            Err(error)
-        }
+    let answer = taken_nine(rt, set.take());
+    if answer.is_ok() {
+        equal(rt, set.is_empty(), true);
+    } else {
+        equal(rt, (set.as_view().true_count(), set.capacity()), (9, room));
     }
+    drop(set);
+    answer
+}
+
+/// What was taken are nine true bits.
+fn taken_nine<A: Allocator + Clone>(
+    rt: &impl Abort,
+    made: Result<BitBufferMut<A>, BufferError>,
+) -> Result<(), BufferError> {
+    let taken = made?;
+    equal(rt, (taken.len(), taken.as_view().true_count()), (9, 9));
+    drop(taken);
+    Ok(())
 }
 
 #[test]
-fn a_refused_take_leaves_the_set(rt: HostRuntime) -> Result<(), Fail> {
-    let requests = each_refused(rt.alloc(), |heap| {
-        let answer = match ones(Handle { inner: heap }, 9) {
+fn a_refused_take_leaves_the_set(rt: HostRuntime) {
+    let heap = Refusing::new(rt.alloc(), 0);
+    for _ in heap.in_turn() {
+        let answer = match ones(Handle { inner: &heap }, 9) {
             Ok(set) => take(&rt, set),
             Err(error) => Err(error),
         };
-        answers_refusal(heap, answer, BufferError::OutOfMemory)
-    })?;
-    equal(&rt, requests, Some(2));
-    Ok(())
+        equal(
+            &rt,
+            answer,
+            heap.wanted(Ok(()), Err(BufferError::OutOfMemory)),
+        );
+    }
+    equal(&rt, (heap.asked(), heap.has_refused()), (2, false));
 }
 
 /// Makes an edit again and again, from no room on.
@@ -118,30 +134,25 @@ fn grow<A: Allocator + Clone>(
     alloc: A,
     edit: &Edit,
     (trues, falses): (usize, usize),
-) -> Result<(), BufferError> {
+) {
     let mut set = BitBufferMut::empty(alloc);
     for _ in 0..5000 {
-        edit.make(&mut set)?;
+        edit.make(&mut set).expect(rt, "room");
     }
-    let view = set.as_view();
-    let counts = (view.true_count(), view.false_count());
-    equal(
-        rt,
-        counts,
-        (trues.saturating_mul(5000), falses.saturating_mul(5000)),
-    );
-    Ok(())
+    let counts = (set.as_view().true_count(), set.as_view().false_count());
+    drop(set);
+    let wanted = (trues.saturating_mul(5000), falses.saturating_mul(5000));
+    equal(rt, counts, wanted);
 }
 
 /// A body that gives up once the set has grown to some length fails here, and so does one that asks
 /// for room at each call, or for more and more of it.
 #[test]
-fn growth_goes_on_while_there_is_memory(rt: HostRuntime) -> Result<(), Fail> {
+fn growth_goes_on_while_there_is_memory(rt: HostRuntime) {
+    let heap = Refusing::new(rt.alloc(), 0);
     for (edit, trues, falses) in EDITS {
-        let heap = Refusing::new(rt.alloc(), 0);
-        grow(&rt, &heap, edit, (*trues, *falses))?;
-        equal(&rt, heap.asked() <= 20, true);
-        equal(&rt, heap.asked_bytes() <= 4 * 62_500, true);
+        heap.refuse(0);
+        grow(&rt, &heap, edit, (*trues, *falses));
+        assert!(rt; heap.asked() <= 20 && heap.asked_bytes() <= 4 * 62_500);
     }
-    Ok(())
 }

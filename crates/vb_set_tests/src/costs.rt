@@ -4,7 +4,7 @@ use crate::compared::equal;
 use crate::made::ones;
 use crate::makers::{cloned, copied, sliced, twin};
 use std::alloc::Allocator;
-use std::test::Fail;
+use std::process::Abort;
 use vb_set::{BitBuffer, BitBufferMut, BufferError, ByteBuffer, TryIntoMut};
 use vb_testing::Refusing;
 
@@ -61,17 +61,27 @@ const OPEN: &[(Open, usize, usize)] = &[
     (Open::Not, 0, 0),
 ];
 
+/// Makes a call on a set of true bits. What it makes are eight thousand true bits.
+fn edit_ones<A: Allocator + Clone>(
+    rt: &impl Abort,
+    made: Result<BitBufferMut<A>, BufferError>,
+    call: &Open,
+) {
+    let made = call.make(made.expect(rt, "a set")).expect(rt, "a set");
+    equal(rt, (made.len(), made.as_view().true_count()), (8000, 8000));
+    drop(made);
+}
+
 #[test]
-fn sets_to_edit_ask_for_what_they_need(rt: HostRuntime) -> Result<(), Fail> {
+fn sets_to_edit_ask_for_what_they_need(rt: HostRuntime) {
+    let heap = Refusing::new(rt.alloc(), 0);
     for (call, least, most) in OPEN {
-        let heap = Refusing::new(rt.alloc(), 0);
-        let set = ones(&heap, 8000)?;
+        heap.refuse(0);
+        let set = ones(&heap, 8000);
         assert!(rt; heap.asks_within(1000, 2000));
-        let made = call.make(set)?;
+        edit_ones(&rt, set, call);
         assert!(rt; heap.asks_within(*least, *most));
-        equal(&rt, (made.len(), made.as_view().true_count()), (8000, 8000));
     }
-    Ok(())
 }
 
 /// A call on a set of eight thousand true bits that has no other owner.
@@ -119,49 +129,81 @@ const SHARED: &[(Shared, usize, usize)] = &[
     (Shared::CopyFrom, 1000, 2256),
 ];
 
+/// Makes a call on a set of true bits. What it makes are nearly as many.
+fn share_ones<A: Allocator + Clone>(
+    rt: &impl Abort,
+    made: Result<BitBuffer<A>, BufferError>,
+    call: &Shared,
+    alloc: A,
+) {
+    let made = call
+        .make(made.expect(rt, "a set"), alloc)
+        .expect(rt, "a set");
+    equal(rt, (made.false_count(), made.len() >= 6987), (0, true));
+    drop(made);
+}
+
 #[test]
-fn shared_sets_ask_for_what_they_need(rt: HostRuntime) -> Result<(), Fail> {
+fn shared_sets_ask_for_what_they_need(rt: HostRuntime) {
+    let heap = Refusing::new(rt.alloc(), 0);
     for (call, least, most) in SHARED {
-        let heap = Refusing::new(rt.alloc(), 0);
-        let set = BitBuffer::new_set(&heap, 8000)?;
+        heap.refuse(0);
+        let set = BitBuffer::new_set(&heap, 8000);
         assert!(rt; heap.asks_within(1000, 2256));
-        let made = call.make(set, &heap)?;
+        share_ones(&rt, set, call, &heap);
         assert!(rt; heap.asks_within(*least, *most));
-        equal(&rt, (made.false_count(), made.len() >= 6987), (0, true));
     }
-    Ok(())
+}
+
+/// The length and the room of a set that was made.
+fn room<A: Allocator + Clone>(
+    rt: &impl Abort,
+    made: Result<BitBufferMut<A>, BufferError>,
+) -> (usize, usize) {
+    let set = made.expect(rt, "a set");
+    let room = (set.len(), set.capacity());
+    drop(set);
+    room
 }
 
 /// A body that asks for a megabyte more fails here.
 #[test]
-fn room_is_what_was_asked_for(rt: HostRuntime) -> Result<(), Fail> {
+fn room_is_what_was_asked_for(rt: HostRuntime) {
     let heap = Refusing::new(rt.alloc(), 0);
-    let set = BitBufferMut::with_capacity(&heap, 8000)?;
-    equal(&rt, (heap.asked(), set.len()), (1, 0));
-    equal(&rt, set.capacity() >= 8000, true);
-    assert!(rt; heap.asks_within(1000, 2000));
-    Ok(())
+    let (len, capacity) = room(&rt, BitBufferMut::with_capacity(&heap, 8000));
+    equal(&rt, (heap.asked(), len), (1, 0));
+    assert!(rt; capacity >= 8000 && heap.asks_within(1000, 2000));
 }
 
-#[test]
-fn one_of_two_owners_may_not_edit(rt: HostRuntime) -> Result<(), Fail> {
-    let set = BitBuffer::new_set(rt.alloc(), 9)?;
-    let twin = set.clone()?;
-    let answer = set.try_into_mut();
-    assert!(rt; answer.is_err());
-    equal(&rt, twin.true_count(), 9);
-    Ok(())
-}
-
-#[test]
-fn a_lone_owner_edits_without_memory(rt: HostRuntime) -> Result<(), Fail> {
-    let heap = Refusing::new(rt.alloc(), 0);
-    let set = BitBuffer::new_set(&heap, 9)?;
-    drop(set.clone()?);
-    heap.refuse(1);
+/// How many true bits a set has once it is to be edited, and None where it has another owner.
+fn count_opened<A: Allocator + Clone>(set: BitBuffer<A>) -> Option<usize> {
     match set.try_into_mut() {
-        Ok(set) => equal(&rt, (set.as_view().true_count(), heap.asked()), (9, 0)),
-        Err(_) => assert!(rt; false, "there is no other owner"),
+        Ok(open) => {
+            let count = open.as_view().true_count();
+            drop(open);
+            Some(count)
+        }
+        Err(same) => {
+            drop(same);
+            None
+        }
     }
-    Ok(())
+}
+
+#[test]
+fn one_of_two_owners_may_not_edit(rt: HostRuntime) {
+    let set = BitBuffer::new_set(rt.alloc(), 9).expect(&rt, "a set");
+    let twin = set.clone().expect(&rt, "a set");
+    equal(&rt, count_opened(set), None);
+    equal(&rt, twin.true_count(), 9);
+    drop(twin);
+}
+
+#[test]
+fn a_lone_owner_edits_without_memory(rt: HostRuntime) {
+    let heap = Refusing::new(rt.alloc(), 0);
+    let set = BitBuffer::new_set(&heap, 9).expect(&rt, "a set");
+    drop(set.clone().expect(&rt, "a set"));
+    heap.refuse(1);
+    equal(&rt, (count_opened(set), heap.asked()), (Some(9), 0));
 }

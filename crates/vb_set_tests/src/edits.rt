@@ -92,6 +92,7 @@ fn turned_is_plain(
     same(rt, &set, &[]);
     set.append_n(true, 9)?;
     same(rt, &set, &[true; 9]);
+    drop(set);
     Ok(())
 }
 

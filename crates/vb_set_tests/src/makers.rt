@@ -1,11 +1,10 @@
 //! Calls that make a set: the bits that they make, and each of their requests for memory refused in
 //! turn.
-use crate::compared::shows;
+use crate::compared::{equal, shows};
 use crate::made::ones;
 use std::alloc::Allocator;
-use std::test::Fail;
 use vb_set::{BitBuffer, BitBufferMut, BufferError};
-use vb_testing::{Handle, answers_refusal, each_refused};
+use vb_testing::{Handle, Refusing};
 
 /// A call that makes a set to edit.
 enum Open {
@@ -35,18 +34,24 @@ impl Open {
 pub(crate) fn cloned<A: Allocator + Clone>(
     set: BitBufferMut<A>,
 ) -> Result<BitBufferMut<A>, BufferError> {
-    set.clone()
+    let clone = set.clone();
+    drop(set);
+    clone
 }
 
 pub(crate) fn copied<A: Allocator + Clone>(
     alloc: A,
     set: BitBuffer<A>,
 ) -> Result<BitBufferMut<A>, BufferError> {
-    BitBufferMut::copy_from(alloc, &set)
+    let copy = BitBufferMut::copy_from(alloc, &set);
+    drop(set);
+    copy
 }
 
 fn taken<A: Allocator + Clone>(mut set: BitBufferMut<A>) -> Result<BitBufferMut<A>, BufferError> {
-    set.take()
+    let taken = set.take();
+    drop(set);
+    taken
 }
 
 /// A call that makes a set to share.
@@ -75,7 +80,9 @@ impl Shared {
 }
 
 pub(crate) fn twin<A: Allocator + Clone>(set: BitBuffer<A>) -> Result<BitBuffer<A>, BufferError> {
-    set.clone()
+    let twin = set.clone();
+    drop(set);
+    twin
 }
 
 pub(crate) fn sliced<A: Allocator + Clone>(
@@ -83,10 +90,13 @@ pub(crate) fn sliced<A: Allocator + Clone>(
     start: usize,
     end: usize,
 ) -> Result<BitBuffer<A>, BufferError> {
-    if start > end || end > set.len() {
-        return Err(BufferError::NotAligned);
-    }
-    set.slice(start..end)
+    let part = if start <= end && end <= set.len() {
+        set.slice(start..end)
+    } else {
+        Err(BufferError::NotAligned)
+    };
+    drop(set);
+    part
 }
 
 /// The calls, each with the bits that it makes, and how many requests it makes at least.
@@ -107,13 +117,17 @@ const ROWS: &[(Shared, &str, u64)] = &[
 ];
 
 #[test]
-fn sets_are_made_or_refused(rt: HostRuntime) -> Result<(), Fail> {
+fn sets_are_made_or_refused(rt: HostRuntime) {
+    let heap = Refusing::new(rt.alloc(), 0);
     for (call, bits, least) in ROWS {
-        let requests = each_refused(rt.alloc(), |heap| {
-            let answer = shows(&rt, call.make(Handle { inner: heap }), bits);
-            answers_refusal(heap, answer, BufferError::OutOfMemory)
-        })?;
-        assert!(rt; requests >= Some(*least));
+        for _ in heap.in_turn() {
+            let answer = shows(&rt, call.make(Handle { inner: &heap }), bits);
+            equal(
+                &rt,
+                answer,
+                heap.wanted(Ok(()), Err(BufferError::OutOfMemory)),
+            );
+        }
+        assert!(rt; !heap.has_refused() && heap.asked() >= *least);
     }
-    Ok(())
 }

@@ -1,23 +1,70 @@
 //! Worked rows: what edits and changes of a set answer.
 use crate::compared::{equal, shows};
 use crate::made::{ones, window};
+use std::alloc::Allocator;
+use std::process::Abort;
 use std::test::Fail;
-use vb_set::{BitBufferMut, BufferError, ToBitBuffer};
+use vb_set::{BitBuffer, BitBufferMut, BitBufferView, BufferError, ToBitBuffer};
 
-#[test]
-fn append_behind_true_bits(rt: HostRuntime) -> Result<(), Fail> {
-    let mut set = ones(rt.alloc(), 4)?;
-    set.append(false)?;
-    shows(&rt, set.freeze(), "11110")?;
-    Ok(())
+/// An edit of a set.
+enum Edit {
+    Append(bool),
+    AppendN(bool, usize),
+    Truncate(usize),
+}
+
+impl Edit {
+    fn make<A: Allocator + Clone>(&self, set: &mut BitBufferMut<A>) -> Result<(), BufferError> {
+        match self {
+            Edit::Append(v) => set.append(*v),
+            Edit::AppendN(v, n) => set.append_n(*v, *n),
+            Edit::Truncate(n) => {
+                set.truncate(*n);
+                Ok(())
+            }
+        }
+    }
+}
+
+/// How many true bits are edited, the edits, what the last one answers, and the bits behind it.
+const EDITED: &[(usize, &[Edit], Result<(), BufferError>, &str)] = &[
+    (4, &[Edit::Append(false)], Ok(()), "11110"),
+    (
+        1,
+        &[Edit::AppendN(true, usize::MAX)],
+        Err(BufferError::TooManyBits),
+        "1",
+    ),
+    (
+        5,
+        &[Edit::Truncate(2), Edit::AppendN(false, 3)],
+        Ok(()),
+        "11000",
+    ),
+];
+
+/// Makes the edits of a row.
+fn edited<A: Allocator + Clone>(
+    rt: &impl Abort,
+    made: Result<BitBufferMut<A>, BufferError>,
+    edits: &[Edit],
+    last: Result<(), BufferError>,
+) -> Result<BitBuffer<A>, BufferError> {
+    let mut set = made?;
+    let mut answer = Ok(());
+    for edit in edits {
+        answer = edit.make(&mut set);
+    }
+    equal(rt, answer, last);
+    set.freeze()
 }
 
 #[test]
-fn append_n_past_usize(rt: HostRuntime) -> Result<(), Fail> {
-    let mut set = ones(rt.alloc(), 1)?;
-    let answer = set.append_n(true, usize::MAX);
-    equal(&rt, answer, Err(BufferError::TooManyBits));
-    shows(&rt, set.freeze(), "1")?;
+fn edits_answer_and_leave_bits(rt: HostRuntime) -> Result<(), Fail> {
+    for (len, edits, last, bits) in EDITED {
+        let set = edited(&rt, ones(rt.alloc(), *len), edits, *last);
+        shows(&rt, set, bits)?;
+    }
     Ok(())
 }
 
@@ -28,15 +75,6 @@ fn append_n_past_usize_by_the_offset(rt: HostRuntime) -> Result<(), Fail> {
     equal(&rt, answer, Err(BufferError::TooManyBits));
     equal(&rt, (set.offset(), set.len()), (13, 1));
     assert_eq!(rt; set.as_slice(), [0xFF, 0xFF].as_slice());
-    Ok(())
-}
-
-#[test]
-fn append_n_after_truncate(rt: HostRuntime) -> Result<(), Fail> {
-    let mut set = ones(rt.alloc(), 5)?;
-    set.truncate(2);
-    set.append_n(false, 3)?;
-    shows(&rt, set.freeze(), "11000")?;
     Ok(())
 }
 
@@ -73,54 +111,69 @@ fn a_set_is_edited_through_a_view(rt: HostRuntime) -> Result<(), Fail> {
     view.fill_range(2, 5, true);
     equal(&rt, view.true_count(), 6);
     view.unset(0);
-    let set = set.freeze()?;
-    equal(&rt, set.true_count(), 5);
-    equal(
-        &rt,
-        (set.last_set_index(), set.iter().next()),
-        (Some(15), Some(false)),
-    );
-    shows(&rt, Ok(set), "0011100100000001")?;
+    let set = set.freeze();
+    shows_ends(&rt, &set);
+    shows(&rt, set, "0011100100000001")?;
     Ok(())
+}
+
+fn shows_ends<A: Allocator + Clone>(rt: &impl Abort, made: &Result<BitBuffer<A>, BufferError>) {
+    if let Ok(set) = made {
+        equal(rt, set.true_count(), 5);
+        let ends = (set.last_set_index(), set.iter().next());
+        equal(rt, ends, (Some(15), Some(false)));
+    }
+}
+
+/// The offset and the length of a view, and how many bytes it has.
+fn place(view: BitBufferView<'_>) -> (usize, usize, usize) {
+    (view.offset(), view.len(), view.inner().len())
+}
+
+/// The set that was made has the bits of the view, and no more bytes than these need.
+fn is_copy<A: Allocator + Clone>(
+    rt: &impl Abort,
+    view: BitBufferView<'_>,
+    made: Result<BitBuffer<A>, BufferError>,
+) {
+    let copy = made.expect(rt, "a set");
+    equal(rt, (copy.len(), copy.true_count()), (10, 0));
+    let bytes = copy.offset().saturating_add(10).div_ceil(8);
+    equal(rt, copy.inner().len(), bytes);
+    equal(rt, copy.as_view() == view, true);
+    drop(copy);
 }
 
 #[test]
 fn a_view_of_a_set_begins_with_its_first_byte(rt: HostRuntime) -> Result<(), Fail> {
     let set = window(rt.alloc(), (0, 4), 13, 10)?;
-    let view = set.as_view();
-    equal(
-        &rt,
-        (view.offset(), view.len(), view.inner().len()),
-        (5, 10, 3),
-    );
-    let copy = view.to_bit_buffer(rt.alloc())?;
-    equal(&rt, (copy.len(), copy.true_count()), (10, 0));
-    equal(
-        &rt,
-        copy.inner().len(),
-        copy.offset().saturating_add(10).div_ceil(8),
-    );
-    equal(&rt, copy.as_view() == view, true);
+    equal(&rt, place(set.as_view()), (5, 10, 3));
+    is_copy(&rt, set.as_view(), set.as_view().to_bit_buffer(rt.alloc()));
+    drop(set);
     Ok(())
+}
+
+/// The walks over 130 true bits.
+fn walks_end<A: Allocator + Clone>(rt: &impl Abort, set: &BitBuffer<A>) {
+    let mut runs = set.set_slices();
+    equal(rt, (runs.next(), runs.next()), (Some((0, 130)), None));
+    equal(rt, set.set_indices().last(), Some(129));
+    equal(rt, set.into_iter().count(), 130);
+}
+
+/// Their words.
+fn words_end<A: Allocator + Clone>(rt: &impl Abort, set: &BitBuffer<A>) {
+    equal(rt, set.chunks().iter_padded().last(), Some(3));
+    let unaligned = set.unaligned_chunks();
+    let ends = (unaligned.prefix(), unaligned.suffix());
+    equal(rt, ends, (Some(u64::MAX), Some(3)));
 }
 
 #[test]
 fn one_run_past_words(rt: HostRuntime) -> Result<(), Fail> {
     let set = ones(rt.alloc(), 130)?.freeze()?;
-    let mut runs = set.set_slices();
-    equal(&rt, (runs.next(), runs.next()), (Some((0, 130)), None));
-    equal(
-        &rt,
-        (set.set_indices().last(), (&set).into_iter().count()),
-        (Some(129), 130),
-    );
-    let words = set.chunks().iter_padded();
-    equal(&rt, words.last(), Some(3));
-    let unaligned = set.unaligned_chunks();
-    equal(
-        &rt,
-        (unaligned.prefix(), unaligned.suffix()),
-        (Some(u64::MAX), Some(3)),
-    );
+    walks_end(&rt, &set);
+    words_end(&rt, &set);
+    drop(set);
     Ok(())
 }

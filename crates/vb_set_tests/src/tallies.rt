@@ -11,26 +11,46 @@ use vb_set::{BitBufferMut, BufferError};
 /// What a set answers: all its true bits, those of a middle part, and two selects of a rank.
 type Answers = (usize, usize, Option<usize>, Option<usize>);
 
+/// How many true bits a tally over the bytes counts: in the window, and in its part from `start` up
+/// to `end`.
+fn tallied_counts(
+    rt: &impl Abort,
+    bytes: &[u8],
+    (offset, len): (usize, usize),
+    (start, end): (usize, usize),
+) -> (usize, usize) {
+    let fits = window_fits(bytes, offset, len);
+    assert!(rt; fits && start <= end && end <= len);
+    let mut src = Tally::new(bytes);
+    let ones = count_ones_by(&mut src, offset, len);
+    (ones, count_ones_by(&mut src, offset + start, end - start))
+}
+
+/// What a tally over the bytes selects of rank `n`.
+fn tallied_selects(
+    rt: &impl Abort,
+    bytes: &[u8],
+    (offset, len): (usize, usize),
+    n: usize,
+) -> (Option<usize>, Option<usize>) {
+    let fits = window_fits(bytes, offset, len);
+    assert!(rt; fits);
+    let mut src = Tally::new(bytes);
+    let set = bit_select_by(&mut src, offset, len, n);
+    (set, bit_select_unset_by(&mut src, offset, len, n))
+}
+
 /// What a tally over the bytes answers: of the window, of its part from `start` up to `end`, and of
 /// rank `start`.
 fn tallied(
     rt: &impl Abort,
     bytes: &[u8],
-    (offset, len): (usize, usize),
+    window: (usize, usize),
     (start, end): (usize, usize),
 ) -> Answers {
-    let fits = window_fits(bytes, offset, len);
-    assert!(rt; fits && start <= end && end <= len);
-    let mut src = Tally::new(bytes);
-    let ones = count_ones_by(&mut src, offset, len);
-    let part = count_ones_by(&mut src, offset + start, end - start);
-    let set = bit_select_by(&mut src, offset, len, start);
-    (
-        ones,
-        part,
-        set,
-        bit_select_unset_by(&mut src, offset, len, start),
-    )
+    let (ones, part) = tallied_counts(rt, bytes, window, (start, end));
+    let (set, unset) = tallied_selects(rt, bytes, window, start);
+    (ones, part, set, unset)
 }
 
 /// What a set answers, before and after it is shared, beside tallies over its bytes.

@@ -5,7 +5,7 @@ use std::alloc::Allocator;
 use std::process::Abort;
 use std::test::Fail;
 use vb_set::{BitBuffer, BitBufferMut, BufferError};
-use vb_testing::{Handle, Refusing, answers_refusal, each_refused};
+use vb_testing::{Handle, Refusing};
 
 #[test]
 fn false_bits_behind_true_ones(rt: HostRuntime) -> Result<(), Fail> {
@@ -27,13 +27,29 @@ fn stale_bits_are_written_over(rt: HostRuntime) -> Result<(), Fail> {
     Ok(())
 }
 
+/// A set whose room is full of false bits.
+fn full_of_false<A: Allocator + Clone>(
+    rt: &impl Abort,
+    alloc: A,
+) -> Result<BitBufferMut<A>, BufferError> {
+    let mut set = BitBufferMut::new_unset(alloc, 8)?;
+    set.append_n(false, set.capacity() - set.len())
+        .expect(rt, "room");
+    Ok(set)
+}
+
 /// Adds a set of a hundred true bits to one whose room is full of false ones. A refusal leaves the
 /// set and its room.
 fn add_to_full<A: Allocator + Clone>(rt: &impl Abort, alloc: A) -> Result<(), BufferError> {
-    let mut set = BitBufferMut::new_unset(alloc.clone()?, 8)?;
-    set.append_n(false, set.capacity() - set.len())?;
+    let mut set = full_of_false(rt, alloc.clone()?)?;
     let (len, room) = (set.len(), set.capacity());
-    let added = BitBuffer::new_set(alloc, 100)?;
+    let added = match BitBuffer::new_set(alloc, 100) {
+        Ok(added) => added,
+        Err(error) => {
+            drop(set);
+            return Err(error);
+        }
+    };
     let answer = set.append_buffer(&added);
     let longer = if answer.is_ok() { 100 } else { 0 };
     equal(
@@ -42,35 +58,45 @@ fn add_to_full<A: Allocator + Clone>(rt: &impl Abort, alloc: A) -> Result<(), Bu
         (len.saturating_add(longer), longer),
     );
     equal(rt, answer.is_ok() || set.capacity() == room, true);
+    drop((set, added));
     answer
 }
 
 #[test]
-fn a_refused_append_leaves_the_set(rt: HostRuntime) -> Result<(), Fail> {
-    let requests = each_refused(rt.alloc(), |heap| {
-        let answer = add_to_full(&rt, Handle { inner: heap });
-        answers_refusal(heap, answer, BufferError::OutOfMemory)
-    })?;
-    assert!(rt; requests >= Some(4));
-    Ok(())
+fn a_refused_append_leaves_the_set(rt: HostRuntime) {
+    let heap = Refusing::new(rt.alloc(), 0);
+    for _ in heap.in_turn() {
+        let answer = add_to_full(&rt, Handle { inner: &heap });
+        equal(
+            &rt,
+            answer,
+            heap.wanted(Ok(()), Err(BufferError::OutOfMemory)),
+        );
+    }
+    assert!(rt; !heap.has_refused() && heap.asked() >= 4);
+}
+
+/// Adds a set of so many true bits to none, 5000 times.
+fn append_again<A: Allocator + Clone>(rt: &impl Abort, alloc: A, added: BitBuffer<A>) {
+    let mut set = BitBufferMut::empty(alloc);
+    for _ in 0..5000 {
+        set.append_buffer(&added).expect(rt, "room");
+    }
+    let count = added.len().saturating_mul(5000);
+    equal(rt, (set.len(), set.as_view().true_count()), (count, count));
+    drop((set, added));
 }
 
 /// A body that gives up once the set has grown to some length fails here, and so does one that asks
 /// for room at each call, or for more and more of it.
 #[test]
-fn appends_go_on_while_there_is_memory(rt: HostRuntime) -> Result<(), Fail> {
+fn appends_go_on_while_there_is_memory(rt: HostRuntime) {
+    let heap = Refusing::new(rt.alloc(), 0);
     for len in [7, 8] {
-        let heap = Refusing::new(rt.alloc(), 0);
-        let added = BitBuffer::new_set(&heap, len)?;
+        let added = BitBuffer::new_set(&heap, len).expect(&rt, "a set");
+        equal(&rt, added.len(), len);
         heap.refuse(0);
-        let mut set = BitBufferMut::empty(&heap);
-        for _ in 0..5000 {
-            set.append_buffer(&added)?;
-        }
-        let count = len.saturating_mul(5000);
-        equal(&rt, (set.len(), set.as_view().true_count()), (count, count));
-        assert!(rt; heap.asked() <= 20);
-        assert!(rt; heap.asked_bytes() <= 4 * 5000);
+        append_again(&rt, &heap, added);
+        assert!(rt; heap.asked() <= 20 && heap.asked_bytes() <= 4 * 5000);
     }
-    Ok(())
 }

@@ -42,6 +42,7 @@ fn beside_a_loop<I: BitIndex>(
         };
         equal(rt, bit, wanted);
     }
+    drop(made);
     Ok(())
 }
 

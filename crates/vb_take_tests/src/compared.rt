@@ -22,6 +22,7 @@ pub(crate) fn answers<A: Allocator + Clone>(
             for (value, digit) in set.iter().zip(wanted.unwrap_or("").bytes()) {
                 equal(rt, value, digit == b'1');
             }
+            drop(set);
         }
         Err(error) => equal(rt, Some(error), wanted.err()),
     }

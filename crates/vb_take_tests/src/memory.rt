@@ -1,11 +1,10 @@
 //! Calls that make a set: each of their requests for memory refused in turn.
-use crate::compared::answers;
+use crate::compared::{answers, equal};
 use crate::made::taken;
 use std::alloc::Allocator;
 use std::process::Abort;
-use std::test::Fail;
 use vb_set::{BitBuffer, BitBufferMut, BufferError};
-use vb_testing::{Handle, answers_refusal, each_refused};
+use vb_testing::{Handle, Refusing};
 
 /// A call that makes a set.
 enum Call {
@@ -29,13 +28,17 @@ impl Call {
 /// Takes four bits of four true ones.
 fn take<A: Allocator + Clone>(alloc: A) -> Result<BitBuffer<A>, BufferError> {
     let set = BitBuffer::new_set(alloc.clone()?, 4)?;
-    taken(alloc, set.as_view(), &[3u8, 2, 1, 0], None)
+    let made = taken(alloc, set.as_view(), &[3u8, 2, 1, 0], None);
+    drop(set);
+    made
 }
 
 /// Takes the second and the last of them.
 fn take_valid<A: Allocator + Clone>(alloc: A) -> Result<BitBuffer<A>, BufferError> {
     let set = BitBuffer::from_indices(alloc.clone()?, 4, &[1, 3])?;
-    taken(alloc, set.as_view(), &[9u8, 1, 9, 3], Some(set.as_view()))
+    let made = taken(alloc, set.as_view(), &[9u8, 1, 9, 3], Some(set.as_view()));
+    drop(set);
+    made
 }
 
 /// The calls, each with the bits that it makes, and how many requests it makes at least.
@@ -57,13 +60,17 @@ fn makes<A: Allocator + Clone>(
 }
 
 #[test]
-fn sets_are_made_or_refused(rt: HostRuntime) -> Result<(), Fail> {
+fn sets_are_made_or_refused(rt: HostRuntime) {
+    let heap = Refusing::new(rt.alloc(), 0);
     for (call, bits, least) in ROWS {
-        let requests = each_refused(rt.alloc(), |heap| {
-            let answer = makes(&rt, call.make(Handle { inner: heap }), bits);
-            answers_refusal(heap, answer, BufferError::OutOfMemory)
-        })?;
-        assert!(rt; requests >= Some(*least));
+        for _ in heap.in_turn() {
+            let answer = makes(&rt, call.make(Handle { inner: &heap }), bits);
+            equal(
+                &rt,
+                answer,
+                heap.wanted(Ok(()), Err(BufferError::OutOfMemory)),
+            );
+        }
+        assert!(rt; !heap.has_refused() && heap.asked() >= *least);
     }
-    Ok(())
 }
