@@ -117,8 +117,8 @@ const ANSWERED: &[(&str, &str)] = &[
         "ok\n-\n-\nnone\nrefused BadSlot\nrefused BadSlot\nrefused BadSlot\n",
     ),
     (
-        "import 0 3 5 f8\nfreeze 0\nimport 1 0 5 1f\nfreeze 1\nand own 0 1 0\nbits 0\neq 0 1\nshow 0\n\
-         or own 0 0 3\nfull 2 1 6\nfreeze 2\nor ref 0 2 3\n",
+        "import 0 3 5 f8\nfreeze 0\nimport 1 0 5 1f\nfreeze 1\nand own 0 1 0\nbits 0\neq 0 1\n\
+         show 0\nor own 0 0 3\nfull 2 1 6\nfreeze 2\nor ref 0 2 3\n",
         "ok\nok\nok\nok\nok\n11111\n1\n\
          BitBuffer { len: 5, buffer: [true, true, true, true, true] }\n\
          refused BadSlot\nok\nok\nrefused LengthMismatch\n",
