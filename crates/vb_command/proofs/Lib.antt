@@ -2,3 +2,5 @@ pub mod WordLists
 pub mod NumberWords
 pub mod HexLists
 pub mod Lines
+pub mod Behind
+pub mod ListedLemmas

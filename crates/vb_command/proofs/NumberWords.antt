@@ -1,11 +1,20 @@
--- The number that a word writes, from what `parse` gives of it.
-use Rattle.std.proofs.Common.{◌≡◌, ◌≢◌, ℕ, ◌^◌, ◌<◌, true, cond, List, length, get_or, sym, ap, ◌∙◌, Some, None, lt-ltb, ltb-true, Result, Ok, Err}
-use Rattle.std.specs.Result.{result_ok}
+-- The numbers that words write, from what `parse` gives of them.
+use Rattle.std.proofs.Common.{◌≡◌, ◌≢◌, ℕ, ◌^◌, ◌-◌, ◌<◌, ◌≤◌, Bool, true, false, ◌&&◌, cond, List}
+use Rattle.std.proofs.Common.{length, get_or, drop, refl, sym, ap, ◌∙◌, Some, None, arith}
+use Rattle.std.proofs.Common.{Result, Ok, Err}
+use Rattle.std.specs.Prelude.{ℤ, pos, neg_ℤ, ◌==◌, nat_le, if◌then◌else◌}
+use Rattle.std.specs.Option.{option_map}
+use Rattle.std.specs.Result.{OkIff, result_ok}
 use Rattle.std.specs.Str.{all_ascii_digits}
-use Rattle.std.specs.Str.Parse.{ParsesUnsigned, digits_value}
-use Rattle.std.proofs.lemmas.Bool.{and_parts, and_from, false_from_ne_true}
-use Rattle.std.proofs.lemmas.Str.Parse.{IsNumeralModel, numerals_by_value, tells_all_ascii_digits, parse_plain}
+use Rattle.std.specs.Str.Parse.{ParsesUnsigned, ParsesSigned, digits_value}
+use Rattle.std.proofs.lemmas.Bool.{and_parts, and_from, eqb-true, eqb-false, false_from_ne_true}
+use Rattle.std.proofs.lemmas.Bool.{le-leb, leb-true, lt-ltb, ltb-true}
+use Rattle.std.proofs.lemmas.Str.Parse.{IsNumeralModel, numerals_by_value, tells_all_ascii_digits}
+use Rattle.std.proofs.lemmas.Str.Parse.{parse_plain, parse_signed_minus, parse_signed_plain}
+use Rattle.vb_command.specs.Listed.{index, number_to}
+use Rattle.vb_command.specs.Optional.{◌>>=◌}
 use Rattle.vb_command.specs.Words.{is_number, number}
+use mir.Syntax.{w64}
 
 -- numerals are words of decimal digits
 decimal_digits : IsNumeralModel (λ ds. all_ascii_digits ds ≡ true) (digits_value 10)
@@ -16,16 +25,81 @@ abbrev Number : List ℕ → Type 0
 Number w = (all_ascii_digits w ≡ true) × (0 < length w) × (digits_value 10 w < 2 ^ 64)
 
 is_number-true : (w : List ℕ) → Number w → is_number w ≡ true
-is_number-true w h = and_from _ _ (and_from _ _ h.0 (lt-ltb 0 (length w) h.1)) (lt-ltb (digits_value 10 w) (2 ^ 64) h.2)
+is_number-true w h =
+    and_from _ _ (and_from _ _ h.0 (lt-ltb 0 (length w) h.1))
+    (lt-ltb (digits_value 10 w) (2 ^ 64) h.2)
 
 number-facts : (w : List ℕ) → is_number w ≡ true → Number w
-number-facts w t = let a = and_parts _ _ t in let b = and_parts _ _ a.0 in (b.0, ltb-true _ _ b.1, ltb-true _ _ a.1)
+number-facts w t =
+    let a = and_parts _ _ t in
+    let b = and_parts _ _ a.0 in
+    (b.0, ltb-true _ _ b.1, ltb-true _ _ a.1)
 
 -- of a word with no plus in front `parse` gives the number
-pub number_gives : {E : Type 0} (w : List ℕ) (r : Result ℕ E) → ParsesUnsigned 64 10 w r → get_or w 0 0 ≢ 43 → result_ok r ≡ number w
+pub number_gives : {E : Type 0} (w : List ℕ) (r : Result ℕ E) → ParsesUnsigned 64 10 w r
+    → get_or w 0 0 ≢ 43 → result_ok r ≡ number w
 number_gives {E} w (Ok n) h plain =
     let p = parse_plain decimal_digits {E = E} 64 w (Ok n) h plain in
-    ap Some p.1 ∙ sym (ap (λ b. cond b (Some (digits_value 10 w)) None) (is_number-true w p.0))
+    ap Some p.1
+    ∙ sym (ap (λ b. cond b (Some (digits_value 10 w)) None) (is_number-true w p.0))
 number_gives {E} w (Err e) h plain =
     let p = parse_plain decimal_digits {E = E} 64 w (Err e) h plain in
-    sym (ap (λ b. cond b (Some (digits_value 10 w)) None) (false_from_ne_true _ (λ t. p (number-facts w t))))
+    let none = false_from_ne_true _ (λ t. p (number-facts w t)) in
+    sym (ap (λ b. cond b (Some (digits_value 10 w)) None) none)
+
+-- a limit is one more test of a number
+limit : (b : Bool) (v most : ℕ)
+    → (cond b (Some v) None >>= (λ n. cond (nat_le n most) (Some n) None))
+    ≡ cond (b && nat_le v most) (Some v) None
+limit true v most = refl
+limit false v most = refl
+
+-- what tells a numeral and its limit apart gives the number
+limited : {E : Type 0} (f : ℕ → ℤ) (most : ℕ) (w : List ℕ) (r : Result ℤ E) → most < 2 ^ 64
+    → OkIff r ((all_ascii_digits w ≡ true) × (0 < length w) × (digits_value 10 w ≤ most))
+    (f (digits_value 10 w))
+    → result_ok r ≡ option_map f (number_to most w)
+limited f most w (Ok n) small h =
+    let value = digits_value 10 w in
+    let is = is_number-true w (h.0.0, h.0.1, omega (arith, h.0.2)) in
+    let test = and_from _ _ is (le-leb value most h.0.2) in
+    ap Some h.1
+    ∙ sym (ap (option_map f) (limit (is_number w) value most
+    ∙ ap (λ b. cond b (Some value) None) test))
+limited f most w (Err e) small h =
+    let value = digits_value 10 w in
+    let none = false_from_ne_true (is_number w && nat_le value most) (λ t.
+    let both = and_parts _ _ t in
+    let n = number-facts w both.0 in
+    h (n.0, n.1, leb-true value most both.1)) in
+    sym (ap (option_map f) (limit (is_number w) value most
+    ∙ ap (λ b. cond b (Some value) None) none))
+
+-- the same result, told by facts that say the same
+told_by : {T E : Type 0} {P Q : Type 0} (r : Result T E) (x : T) → (P → Q) → (Q → P)
+    → OkIff r P x → OkIff r Q x
+told_by (Ok y) x to from h = (to h.0, h.1)
+told_by (Err e) x to from h = λ q. h (from q)
+
+-- what `parse` gives of a word with no plus in front, by whether a minus stands there
+signed : {E : Type 0} (w : List ℕ) (r : Result ℤ E) (minus : Bool) → (get_or w 0 0 == 45) ≡ minus
+    → ParsesSigned w64 10 w r → get_or w 0 0 ≢ 43
+    → result_ok r ≡ (if minus
+    then option_map (λ n. neg_ℤ (pos n)) (number_to (2 ^ 63) (drop 1 w))
+    else option_map pos (number_to (2 ^ 63 - 1) w))
+signed {E} w r true is h plain =
+    limited (λ n. neg_ℤ (pos n)) (2 ^ 63) (drop 1 w) r (omega arith)
+    (parse_signed_minus decimal_digits {E = E} w64 w r h (eqb-true _ _ is))
+signed {E} w r false is h plain =
+    limited pos (2 ^ 63 - 1) w r (omega arith)
+    (told_by r (pos (digits_value 10 w))
+    (λ f. (f.0, f.1, omega (arith, f.2))) (λ f. (f.0, f.1, omega (arith, f.2)))
+    (parse_signed_plain decimal_digits {E = E} w64 w r h plain (eqb-false _ _ is)))
+
+-- of a word with no plus in front `parse` gives the index
+pub index_gives : {E : Type 0} (w : List ℕ) (r : Result ℤ E) → ParsesSigned w64 10 w r
+    → get_or w 0 0 ≢ 43 → result_ok r ≡ index w
+index_gives w r h plain = signed w r (get_or w 0 0 == 45) refl h plain
+
+-- for `#[tactic(auto, using(..))]`: numbers and indexes
+pub ruleset numbers = (number_gives, index_gives)

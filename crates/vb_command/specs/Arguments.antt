@@ -1,44 +1,44 @@
 -- What a line of words asks for: one equation a command, its name and then its fields.
 use Rattle.std.specs.Prelude.{ℕ, List, codes, Option, Some, None, if◌then◌else◌}
 use Rattle.std.specs.Str.{bytes_eq}
-use Rattle.vb_command.specs.Hex.{hex}
-use Rattle.vb_command.specs.Machine.{Order, Import, Full, Set, Append, Appendn, Fill, Truncate, Clear, Flip, Freeze, Thaw, Clone, Slice, Sliced, Drop, Combine, Not, Len, Count, Get, Countrange, Select, Selectunset, Last, Bits, Places, Runs, Show, Eq}
-use Rattle.vb_command.specs.Optional.{◌>>=◌}
 use Rattle.vb_bits.specs.declared.zip.BitOp.TheVariants.{And, Or, Xor, AndNot}
-use Rattle.vb_command.specs.Words.{number, truth, mode, only_word, only_two, only_three, only_four}
+use Rattle.vb_command.specs.Hex.{hex}
+use Rattle.vb_command.specs.Listed.{listed, index}
+use Rattle.vb_command.specs.Machine.{Order, Import, Full, Indices, Set, Append, Appendn, Appendset}
+use Rattle.vb_command.specs.Machine.{Fill, Truncate, Clear, Flip, Freeze, Thaw, Clone, Slice}
+use Rattle.vb_command.specs.Machine.{Sliced, Drop, Combine, Not, Take, Len, Count, Get, Countrange}
+use Rattle.vb_command.specs.Machine.{Select, Selectunset, Last, Bits, Places, Runs, Show, Eq}
+use Rattle.vb_command.specs.Optional.{◌>>=◌}
+use Rattle.vb_command.specs.Words.{number, optional_number, truth, mode}
+use Rattle.vb_command.specs.Words.{one_field, two_fields, three_fields, four_fields}
 
 -- an order of one field
 abbrev pub one : {A : Type 0} → (A → Order) → (List ℕ → Option A) → List (List ℕ) → Option Order
 one make f ws = do
-  a ← only_word ws
-  x ← f a
+  x ← one_field f ws
   Some (make x)
 
 -- an order of two fields
-abbrev pub two : {A B : Type 0} → (A → B → Order) → (List ℕ → Option A) → (List ℕ → Option B) → List (List ℕ) → Option Order
+abbrev pub two : {A B : Type 0} → (A → B → Order)
+    → (List ℕ → Option A) → (List ℕ → Option B) → List (List ℕ) → Option Order
 two make f g ws = do
-  (a, b) ← only_two ws
-  x ← f a
-  y ← g b
+  (x, y) ← two_fields f g ws
   Some (make x y)
 
 -- an order of three fields
-abbrev pub three : {A B C : Type 0} → (A → B → C → Order) → (List ℕ → Option A) → (List ℕ → Option B) → (List ℕ → Option C) → List (List ℕ) → Option Order
+abbrev pub three : {A B C : Type 0} → (A → B → C → Order)
+    → (List ℕ → Option A) → (List ℕ → Option B) → (List ℕ → Option C)
+    → List (List ℕ) → Option Order
 three make f g h ws = do
-  (a, b, c) ← only_three ws
-  x ← f a
-  y ← g b
-  z ← h c
+  (x, y, z) ← three_fields f g h ws
   Some (make x y z)
 
 -- an order of four fields
-abbrev pub four : {A B C D : Type 0} → (A → B → C → D → Order) → (List ℕ → Option A) → (List ℕ → Option B) → (List ℕ → Option C) → (List ℕ → Option D) → List (List ℕ) → Option Order
+abbrev pub four : {A B C D : Type 0} → (A → B → C → D → Order)
+    → (List ℕ → Option A) → (List ℕ → Option B) → (List ℕ → Option C) → (List ℕ → Option D)
+    → List (List ℕ) → Option Order
 four make f g h i ws = do
-  (a, b, c, d) ← only_four ws
-  w ← f a
-  x ← g b
-  y ← h c
-  z ← i d
+  (w, x, y, z) ← four_fields f g h i ws
   Some (make w x y z)
 
 -- the order of a question
@@ -68,19 +68,26 @@ operator_of name ws =
     if bytes_eq name (codes "not") then three Not mode number number ws else
     question_of name ws
 
--- the order of an edit, of an operator, or of a question
+-- the order of an append, of an operator, or of a question
+unfoldable pub append_of : List ℕ → List (List ℕ) → Option Order
+append_of name ws =
+    if bytes_eq name (codes "append") then two Append number truth ws else
+    if bytes_eq name (codes "appendn") then three Appendn number truth number ws else
+    if bytes_eq name (codes "appendset") then two Appendset number number ws else
+    operator_of name ws
+
+-- the order of an edit that doesn't lengthen, of an append, of an operator, or of a question
 unfoldable pub edit_of : List ℕ → List (List ℕ) → Option Order
 edit_of name ws =
     if bytes_eq name (codes "set") then three Set number number truth ws else
-    if bytes_eq name (codes "append") then two Append number truth ws else
-    if bytes_eq name (codes "appendn") then three Appendn number truth number ws else
     if bytes_eq name (codes "fill") then four Fill number number number truth ws else
     if bytes_eq name (codes "truncate") then two Truncate number number ws else
     if bytes_eq name (codes "clear") then one Clear number ws else
     if bytes_eq name (codes "flip") then one Flip number ws else
-    operator_of name ws
+    append_of name ws
 
--- the order that fills a slot from others or by a value, changes its kind or empties it, or another one
+-- the order that fills a slot from others or by a value, changes its kind or empties it, or another
+-- one
 unfoldable pub slot_of : List ℕ → List (List ℕ) → Option Order
 slot_of name ws =
     if bytes_eq name (codes "full") then three Full number truth number ws else
@@ -96,4 +103,7 @@ slot_of name ws =
 unfoldable pub arguments_of : List ℕ → List (List ℕ) → Option Order
 arguments_of name ws =
     if bytes_eq name (codes "import") then four Import number number number hex ws else
+    if bytes_eq name (codes "indices") then three Indices number number (listed number) ws else
+    if bytes_eq name (codes "take")
+    then four Take number number optional_number (listed index) ws else
     slot_of name ws

@@ -1,5 +1,6 @@
 -- Bytes that are written in hexadecimal, two digits a byte.
-use Rattle.std.specs.Prelude.{ℕ, Bool, is_some, ◌+◌, ◌*◌, List, [], ◌∷◌, codes, Option, Some, None, nat_lt, if◌then◌else◌}
+use Rattle.std.specs.Prelude.{ℕ, Bool, is_some, ◌+◌, ◌*◌, List, [], ◌∷◌, codes, Option, Some, None}
+use Rattle.std.specs.Prelude.{nat_lt, if◌then◌else◌}
 use Rattle.std.specs.Char.{digit_value}
 use Rattle.std.specs.Str.{bytes_eq}
 use Rattle.vb_command.specs.Optional.{◌>>=◌}

@@ -5,5 +5,7 @@ pub mod Parts
 pub mod Optional
 pub mod Words
 pub mod Hex
+pub mod Listed
 pub mod Arguments
 pub mod Reading
+pub use Rattle.vb_take.specs.Takes

@@ -1,6 +1,10 @@
 -- The machine: slots that hold lists of truth values, and what each order answers and does to them.
-use Rattle.std.specs.Prelude.{◌≡◌, ℕ, ◌+◌, ◌-◌, ◌*◌, ◌^◌, ◌<◌, Bool, true, false, ◌&&◌, ◌==◌, List, [], ◌∷◌, ◌++◌, length, take, replicate, slice_get, slice_set, slice_range, Option, Some, None, MatchOption, MatchBool, IsTrue, ◌⊎◌, ◌↔◌, nat_lt, nat_le}
-use Rattle.std.specs.Option.{option_and_then, option_map_or}
+use Rattle.std.specs.Prelude.{◌≡◌, ℕ, ℤ, ◌+◌, ◌-◌, ◌*◌, ◌^◌, ◌<◌, Bool, true, false, ◌&&◌, ◌==◌}
+use Rattle.std.specs.Prelude.{List, [], ◌∷◌, ◌++◌, length, take, replicate, slice_get, slice_set}
+use Rattle.std.specs.Prelude.{slice_range, Option, Some, None, MatchOption, MatchBool, IsTrue}
+use Rattle.std.specs.Prelude.{◌⊎◌, ◌↔◌, nat_lt, nat_le}
+use Rattle.std.specs.List.{list_all}
+use Rattle.std.specs.Option.{option_and_then, option_map, option_map_or}
 use Rattle.vb_bits.specs.Bits.{bits, at, count, negated, places, Selects}
 use Rattle.vb_bits.specs.Edits.{filled}
 use Rattle.vb_bits.specs.Operators.{combined}
@@ -12,6 +16,7 @@ use Rattle.vb_command.specs.declared.command.Command.{Command}
 use Rattle.vb_command.specs.declared.command.Command.TheVariants as commands
 use Rattle.vb_command.specs.declared.command.Mode.{Mode}
 use Rattle.vb_command.specs.declared.command.Mode.TheVariants.{Ref, Own}
+use Rattle.vb_take.specs.Takes.{IsTaken, IsFirstPast, with_true}
 
 -- what a slot holds
 pub data Slot : Type 0 where
@@ -23,13 +28,16 @@ pub data Slot : Type 0 where
 unfoldable pub empty_slots : List Slot
 empty_slots = replicate 16 Empty
 
--- what a command asks of the machine, with the fields of its line in their order; `Combine` stands for the four operators on two lists
+-- what a command asks of the machine, with the fields of its line in their order; `Combine` stands
+-- for the four operators on two lists
 pub data Order : Type 0 where
   Import : ℕ → ℕ → ℕ → List ℕ → Order
   Full : ℕ → Bool → ℕ → Order
+  Indices : ℕ → ℕ → List ℕ → Order
   Set : ℕ → ℕ → Bool → Order
   Append : ℕ → Bool → Order
   Appendn : ℕ → Bool → ℕ → Order
+  Appendset : ℕ → ℕ → Order
   Fill : ℕ → ℕ → ℕ → Bool → Order
   Truncate : ℕ → ℕ → Order
   Clear : ℕ → Order
@@ -42,6 +50,7 @@ pub data Order : Type 0 where
   Drop : ℕ → Order
   Combine : BitOp → Mode → ℕ → ℕ → ℕ → Order
   Not : Mode → ℕ → ℕ → Order
+  Take : ℕ → ℕ → Option ℕ → List ℤ → Order
   Len : ℕ → Order
   Count : ℕ → Order
   Get : ℕ → ℕ → Order
@@ -59,9 +68,11 @@ pub data Order : Type 0 where
 abbrev pub order : {A : Type 0} → Command A → Order
 order (commands.Import t o n bytes) = Import t o n bytes.items
 order (commands.Full t v n) = Full t v n
+order (commands.Indices t n numbers) = Indices t n numbers.items
 order (commands.Set k i v) = Set k i v
 order (commands.Append k v) = Append k v
 order (commands.Appendn k v n) = Appendn k v n
+order (commands.Appendset k j) = Appendset k j
 order (commands.Fill k a b v) = Fill k a b v
 order (commands.Truncate k n) = Truncate k n
 order (commands.Clear k) = Clear k
@@ -77,6 +88,7 @@ order (commands.Or mode l r t) = Combine Or mode l r t
 order (commands.Xor mode l r t) = Combine Xor mode l r t
 order (commands.Andnot mode l r t) = Combine AndNot mode l r t
 order (commands.Not mode l t) = Not mode l t
+order (commands.Take k t m indexes) = Take k t m indexes.items
 order (commands.Len k) = Len k
 order (commands.Count k) = Count k
 order (commands.Get k i) = Get k i
@@ -162,9 +174,25 @@ is_vacant (Frozen l) = false
 abbrev pub vacant_at : List Slot → ℕ → Bool
 vacant_at s k = option_map_or is_vacant (slice_get s k) false
 
--- whether a window of n bits from bit o on begins in the first byte, lies within the bytes and ends at a number of 64 bits
+-- the validity at m, if none is named or slot m is there and holds a frozen list
+abbrev pub validity_at : List Slot → Option ℕ → Option (Option (List Bool))
+validity_at s None = Some None
+validity_at s (Some m) = option_map Some (frozen_at s m)
+
+-- whether a validity, if there is one, is of this length
+abbrev pub is_as_long : ℕ → Option (List Bool) → Bool
+is_as_long n None = true
+is_as_long n (Some validity) = length validity == n
+
+-- whether each number is below n
+abbrev pub all_below : ℕ → List ℕ → Bool
+all_below n numbers = list_all (λ i. nat_lt i n) numbers
+
+-- whether a window of n bits from bit o on begins in the first byte, lies within the bytes and ends
+-- at a number of 64 bits
 abbrev pub fits : ℕ → ℕ → List ℕ → Bool
-fits o n bytes = nat_lt o 8 && nat_le (o + n) (8 * length bytes) && nat_lt (o + n) (2 ^ 64)
+fits o n bytes =
+    nat_lt o 8 && nat_le (o + n) (8 * length bytes) && nat_lt (o + n) (2 ^ 64)
 
 -- whether the places from a up to b are a range of the list
 abbrev pub is_range : ℕ → ℕ → List Bool → Bool
@@ -195,7 +223,8 @@ Releases mode l Then s r t = Then (released mode l s) r t
 abbrev pub Checks : Bool → Reason → Effect → Effect
 Checks passed why Then s r t = MatchBool passed (Then s r t) (Refuses why s r t)
 
--- where a slot holds nothing of the kind the order is refused, and else something follows of what it holds
+-- where a slot holds nothing of the kind the order is refused, and else something follows of what
+-- it holds
 abbrev pub Needs : {X : Type 0} → Option X → (X → Effect) → Effect
 Needs held Then s r t = MatchOption held (Refuses BadSlot s r t) (λ x. Then x s r t)
 
@@ -213,46 +242,76 @@ Edits k edit s r t = Needs (open_at s k) (λ l. Puts k (Open (edit l))) s r t
 
 -- the open list at k is edited where these places are its own
 abbrev pub EditsWithin : ℕ → (List Bool → Bool) → (List Bool → List Bool) → Effect
-EditsWithin k within edit s r t = Needs (open_at s k) (λ l. Checks (within l) OutOfRange (Puts k (Open (edit l)))) s r t
+EditsWithin k within edit s r t =
+    Needs (open_at s k) (λ l. Checks (within l) OutOfRange (Puts k (Open (edit l)))) s r t
 
--- truth values are added to the open list at k, whose new length has to be a number of 64 bits
+-- truth values are added to the open list l at k, whose new length has to be a number of 64 bits
+abbrev pub Lengthens : ℕ → List Bool → List Bool → Effect
+Lengthens k l more s r t = (length l + length more < 2 ^ 64) × Puts k (Open (l ++ more)) s r t
+
+-- truth values are added to the open list at k
 abbrev pub AppendsValues : ℕ → List Bool → Effect
-AppendsValues k more s r t = Needs (open_at s k) (λ l s r t. (length l + length more < 2 ^ 64) × Puts k (Open (l ++ more)) s r t) s r t
+AppendsValues k more s r t = Needs (open_at s k) (λ l. Lengthens k l more) s r t
+
+-- slot j is filled with the values that indexes take from a list, or the order is refused at the
+-- first position that takes nothing
+abbrev pub PutsTaken : ℕ → List Bool → List ℤ → Option (List Bool) → Effect
+PutsTaken j l indexes validity s r t =
+    ((m : List Bool) × IsTaken l indexes validity m × Puts j (Frozen m) s r t)
+    ⊎ ((p : ℕ) × IsFirstPast l indexes validity p × Refuses (TakeOutOfRange p) s r t)
 
 -- the answer is the value at place i, which has to be below the length
 abbrev pub Gets : ℕ → List Bool → Reply → Type 0
 Gets i l r = MatchBool (nat_lt i (length l)) (r ≡ Truth (at l i)) (r ≡ Refused OutOfRange)
 
--- the answer is how many values from place a up to b are true; the places have to be a range of the list
+-- the answer is how many values from place a up to b are true; the places have to be a range of the
+-- list
 abbrev pub CountsRange : ℕ → ℕ → List Bool → Reply → Type 0
-CountsRange a b l r = MatchBool (is_range a b l) (r ≡ Number (count (slice_range l a b))) (r ≡ Refused OutOfRange)
+CountsRange a b l r =
+    MatchBool (is_range a b l) (r ≡ Number (count (slice_range l a b))) (r ≡ Refused OutOfRange)
 
--- the answer is the place of the true value with n true ones before it, or none where there are at most n
+-- the answer is the place of the true value with n true ones before it, or none where there are at
+-- most n
 abbrev pub Finds : ℕ → List Bool → Reply → Type 0
 Finds n l r = (p : Option ℕ) × (r ≡ Place p) × Selects l n p
 
 -- what an order is answered and does; its checks come in the order in which they are written
 abbrev pub Step : List Slot → Order → Reply → List Slot → Type 0
-Step s (Import k o n bytes) r t = Checks (vacant_at s k) BadSlot (Checks (fits o n bytes) BadWindow (Puts k (Open (bits bytes o n)))) s r t
+Step s (Import k o n bytes) r t =
+    Checks (vacant_at s k) BadSlot (Checks (fits o n bytes) BadWindow
+    (Puts k (Open (bits bytes o n)))) s r t
 Step s (Full k v n) r t = Checks (vacant_at s k) BadSlot (Puts k (Open (replicate n v))) s r t
+Step s (Indices k n numbers) r t =
+    Checks (vacant_at s k) BadSlot (Checks (all_below n numbers) OutOfRange
+    (Puts k (Open (with_true (replicate n false) numbers)))) s r t
 Step s (Set k i v) r t = EditsWithin k (λ l. nat_lt i (length l)) (λ l. slice_set l i v) s r t
 Step s (Append k v) r t = AppendsValues k (v ∷ []) s r t
 Step s (Appendn k v n) r t = AppendsValues k (replicate n v) s r t
+Step s (Appendset k j) r t =
+    Needs (open_at s k) (λ l. Needs (frozen_at s j) (λ m. Lengthens k l m)) s r t
 Step s (Fill k a b v) r t = EditsWithin k (is_range a b) (λ l. filled l a b v) s r t
 Step s (Truncate k n) r t = Edits k (take n) s r t
 Step s (Clear k) r t = Edits k (λ l. []) s r t
 Step s (Flip k) r t = Edits k negated s r t
 Step s (Freeze k) r t = Needs (open_at s k) (λ l. Puts k (Frozen l)) s r t
 Step s (Thaw k) r t = Needs (frozen_at s k) (λ l. Puts k (Open l)) s r t
-Step s (Clone k j) r t = Needs (kept_at s k) (λ x. Checks (vacant_at s j) BadSlot (Puts j x)) s r t
+Step s (Clone k j) r t =
+    Needs (kept_at s k) (λ x. Checks (vacant_at s j) BadSlot (Puts j x)) s r t
 Step s (Slice k a b j) r t =
-    Needs (frozen_at s k) (λ l. Checks (vacant_at s j) BadSlot (Checks (is_range a b l) OutOfRange (Puts j (Frozen (slice_range l a b))))) s r t
-Step s (Sliced k j) r t = Needs (frozen_at s k) (λ l. Checks (vacant_at s j) BadSlot (Puts j (Frozen l))) s r t
+    Needs (frozen_at s k) (λ l. Checks (vacant_at s j) BadSlot (Checks (is_range a b l) OutOfRange
+    (Puts j (Frozen (slice_range l a b))))) s r t
+Step s (Sliced k j) r t =
+    Needs (frozen_at s k) (λ l. Checks (vacant_at s j) BadSlot (Puts j (Frozen l))) s r t
 Step s (Combine op mode k j i) r t =
-    Needs (frozen_at s k) (λ l. Needs (frozen_at (released mode k s) j) (λ m. Checks (vacant_at (released mode k s) i) BadSlot
-    (Checks (length l == length m) LengthMismatch (Releases mode k (Puts i (Frozen (combined op l m))))))) s r t
+    Needs (frozen_at s k) (λ l. Needs (frozen_at (released mode k s) j) (λ m.
+    Checks (vacant_at (released mode k s) i) BadSlot (Checks (length l == length m) LengthMismatch
+    (Releases mode k (Puts i (Frozen (combined op l m))))))) s r t
 Step s (Not mode k j) r t =
-    Needs (frozen_at s k) (λ l. Checks (vacant_at (released mode k s) j) BadSlot (Releases mode k (Puts j (Frozen (negated l))))) s r t
+    Needs (frozen_at s k) (λ l. Checks (vacant_at (released mode k s) j) BadSlot
+    (Releases mode k (Puts j (Frozen (negated l))))) s r t
+Step s (Take k j m indexes) r t =
+    Needs (frozen_at s k) (λ l. Checks (vacant_at s j) BadSlot (Needs (validity_at s m) (λ v.
+    Checks (is_as_long (length indexes) v) LengthMismatch (PutsTaken j l indexes v)))) s r t
 Step s (Drop k) r t = Needs (kept_at s k) (λ x. Puts k Empty) s r t
 Step s (Len k) r t = Asks k (λ l a. a ≡ Number (length l)) s r t
 Step s (Count k) r t = Asks k (λ l a. a ≡ Number (count l)) s r t
@@ -279,26 +338,43 @@ Has held Then s r t = MatchOption held ⊥ (λ x. Then x s r t)
 abbrev pub Loses : ℕ → Effect
 Loses k s r t = (r ≡ Refused OutOfMemory) × (t ≡ slice_set s k Empty)
 
--- an append that makes a list of n values is refused: for want of memory where n is a number of 64 bits, or for its bit numbers where n passes 2 ^ 64 - 8
+-- an append that makes a list of n values is refused: for want of memory where n is a number of 64
+-- bits, or for its bit numbers where n passes 2 ^ 64 - 8
 abbrev pub RefusesLength : ℕ → Effect
-RefusesLength n s r t = ((n < 2 ^ 64) × Refuses OutOfMemory s r t) ⊎ ((2 ^ 64 - 8 < n) × Refuses TooManyBits s r t)
+RefusesLength n s r t =
+    ((n < 2 ^ 64) × Refuses OutOfMemory s r t) ⊎ ((2 ^ 64 - 8 < n) × Refuses TooManyBits s r t)
 
--- what an order is answered and does where memory or bit numbers are refused, which can be once its checks are passed
+-- what an order is answered and does where memory or bit numbers are refused, which can be once its
+-- checks are passed
 abbrev pub GivesUp : List Slot → Order → Reply → List Slot → Type 0
-GivesUp s (Import k o n bytes) r t = Passes (vacant_at s k) (Passes (fits o n bytes) (Refuses OutOfMemory)) s r t
+GivesUp s (Import k o n bytes) r t =
+    Passes (vacant_at s k) (Passes (fits o n bytes) (Refuses OutOfMemory)) s r t
 GivesUp s (Full k v n) r t = Passes (vacant_at s k) (Refuses OutOfMemory) s r t
+GivesUp s (Indices k n numbers) r t =
+    Passes (vacant_at s k) (Passes (all_below n numbers) (Refuses OutOfMemory)) s r t
 GivesUp s (Append k v) r t = Has (open_at s k) (λ l. RefusesLength (length l + 1)) s r t
 GivesUp s (Appendn k v n) r t = Has (open_at s k) (λ l. RefusesLength (length l + n)) s r t
+GivesUp s (Appendset k j) r t =
+    Has (open_at s k) (λ l. Has (frozen_at s j) (λ m. RefusesLength (length l + length m))) s r t
 GivesUp s (Freeze k) r t = Has (open_at s k) (λ l. Loses k) s r t
 GivesUp s (Thaw k) r t = Has (frozen_at s k) (λ l. Loses k) s r t
-GivesUp s (Clone k j) r t = Has (kept_at s k) (λ x. Passes (vacant_at s j) (Refuses OutOfMemory)) s r t
-GivesUp s (Slice k a b j) r t = Has (frozen_at s k) (λ l. Passes (vacant_at s j) (Passes (is_range a b l) (Refuses OutOfMemory))) s r t
-GivesUp s (Sliced k j) r t = Has (frozen_at s k) (λ l. Passes (vacant_at s j) (Refuses OutOfMemory)) s r t
+GivesUp s (Clone k j) r t =
+    Has (kept_at s k) (λ x. Passes (vacant_at s j) (Refuses OutOfMemory)) s r t
+GivesUp s (Slice k a b j) r t =
+    Has (frozen_at s k) (λ l. Passes (vacant_at s j) (Passes (is_range a b l)
+    (Refuses OutOfMemory))) s r t
+GivesUp s (Sliced k j) r t =
+    Has (frozen_at s k) (λ l. Passes (vacant_at s j) (Refuses OutOfMemory)) s r t
 GivesUp s (Combine op mode k j i) r t =
-    Has (frozen_at s k) (λ l. Has (frozen_at (released mode k s) j) (λ m. Passes (vacant_at (released mode k s) i)
-    (Passes (length l == length m) (Releases mode k (Refuses OutOfMemory))))) s r t
+    Has (frozen_at s k) (λ l. Has (frozen_at (released mode k s) j) (λ m.
+    Passes (vacant_at (released mode k s) i) (Passes (length l == length m)
+    (Releases mode k (Refuses OutOfMemory))))) s r t
 GivesUp s (Not mode k j) r t =
-    Has (frozen_at s k) (λ l. Passes (vacant_at (released mode k s) j) (Releases mode k (Refuses OutOfMemory))) s r t
+    Has (frozen_at s k) (λ l. Passes (vacant_at (released mode k s) j)
+    (Releases mode k (Refuses OutOfMemory))) s r t
+GivesUp s (Take k j m indexes) r t =
+    Has (frozen_at s k) (λ l. Passes (vacant_at s j) (Has (validity_at s m) (λ v.
+    Passes (is_as_long (length indexes) v) (Refuses OutOfMemory)))) s r t
 GivesUp s (Bits k) r t = Has (list_at s k) (λ l. Refuses OutOfMemory) s r t
 GivesUp s (Places k) r t = Has (list_at s k) (λ l. Refuses OutOfMemory) s r t
 GivesUp s (Runs k) r t = Has (list_at s k) (λ l. Refuses OutOfMemory) s r t

@@ -1,7 +1,10 @@
 -- What answers look like.
 use Rattle.std.specs.Prelude.{ℕ, Bool, true, false, List, [], ◌∷◌, ◌++◌, codes, decimal, Some, None}
 use Rattle.std.specs.List.{flat_map}
-use Rattle.vb_command.specs.Machine.{Reply, Done, Number, Truth, Place, Listed, ListedPlaces, ListedRuns, Text, Refused, Reason, BadSlot, BadWindow, OutOfRange, LengthMismatch, TakeOutOfRange, TooManyBits, OutOfMemory}
+use Rattle.vb_command.specs.Machine.{Reply, Done, Number, Truth, Place, Listed, ListedPlaces}
+use Rattle.vb_command.specs.Machine.{ListedRuns, Text, Refused, Reason, BadSlot, BadWindow}
+use Rattle.vb_command.specs.Machine.{OutOfRange, LengthMismatch, TakeOutOfRange, TooManyBits}
+use Rattle.vb_command.specs.Machine.{OutOfMemory}
 
 -- the name of a refusal, and where it has one its position
 abbrev pub name_of : Reason → List ℕ

@@ -1,7 +1,9 @@
 -- What the lines of an input ask for.
-use Rattle.std.specs.Prelude.{◌≡◌, ℕ, ◌+◌, ◌-◌, ◌^◌, Bool, true, false, IsTrue, is_some, List, [], ◌∷◌, Option, Some, None, Result, Ok, Err, nat_lt, ◌==◌, slice_index, if◌then◌else◌}
+use Rattle.std.specs.Prelude.{◌≡◌, ℕ, ◌+◌, ◌-◌, ◌^◌, Bool, true, false, IsTrue, is_some, List, []}
+use Rattle.std.specs.Prelude.{◌∷◌, Option, Some, None, Result, Ok, Err, nat_lt, ◌==◌, slice_index}
+use Rattle.std.specs.Prelude.{if◌then◌else◌}
 use Rattle.std.specs.List.{list_all}
-use Rattle.vb_command.specs.Machine.{Order, Import}
+use Rattle.vb_command.specs.Machine.{Order, Import, Indices, Take}
 use Rattle.vb_command.specs.Optional.{◌>>=◌}
 use Rattle.vb_command.specs.Words.{words}
 use Rattle.vb_command.specs.Arguments.{arguments_of}
@@ -35,16 +37,18 @@ request_of (w ∷ ws) = if is_comment w then Some None else (do
   c ← arguments_of w ws
   Some (Some c))
 
--- whether an order holds bytes, for which memory is taken
-abbrev pub holds_bytes : Order → Bool
-holds_bytes (Import t o n bytes) = true
-holds_bytes c = false
+-- whether an order holds a list, for which memory is taken
+abbrev pub holds_list : Order → Bool
+holds_list (Import t o n bytes) = true
+holds_list (Indices t n numbers) = true
+holds_list (Take k t m indexes) = true
+holds_list c = false
 
--- whether what a line asks for holds bytes
+-- whether what a line asks for holds a list
 abbrev pub asks_memory : Option (Option Order) → Bool
 asks_memory None = false
 asks_memory (Some None) = false
-asks_memory (Some (Some c)) = holds_bytes c
+asks_memory (Some (Some c)) = holds_list c
 
 -- what a line asks for, if it can be read: a command, or nothing
 abbrev pub reading : List ℕ → Option (Option Order)
@@ -55,7 +59,8 @@ abbrev pub before : Option Order → List Order → List Order
 before None cs = cs
 before (Some c) cs = c ∷ cs
 
--- the orders of lines that are numbered from n on, if each can be read; a line numbered 2 ^ 64 - 1 can't
+-- the orders of lines that are numbered from n on, if each can be read; a line numbered 2 ^ 64 - 1
+-- can't
 abbrev pub script : ℕ → List (List ℕ) → Option (List Order)
 script n [] = Some []
 script n (l ∷ ls) = if nat_lt n (2 ^ 64 - 1) then (do

@@ -1,6 +1,9 @@
 -- Answers and refusals of the code, as those of the machine.
 use Rattle.std.specs.Prelude.{string_bytes}
-use Rattle.vb_command.specs.Machine.{Reply, Done, Number, Truth, Place, Listed, ListedPlaces, ListedRuns, Text, Refused, Reason, BadSlot, BadWindow, OutOfRange, LengthMismatch, TakeOutOfRange, TooManyBits, OutOfMemory}
+use Rattle.vb_command.specs.Machine.{Reply, Done, Number, Truth, Place, Listed, ListedPlaces}
+use Rattle.vb_command.specs.Machine.{ListedRuns, Text, Refused, Reason, BadSlot, BadWindow}
+use Rattle.vb_command.specs.Machine.{OutOfRange, LengthMismatch, TakeOutOfRange, TooManyBits}
+use Rattle.vb_command.specs.Machine.{OutOfMemory}
 use Rattle.vb_command.specs.declared.answer.Answer.{Answer}
 use Rattle.vb_command.specs.declared.answer.Answer.TheVariants as answers
 use Rattle.vb_command.specs.declared.answer.Refusal.{Refusal}

@@ -1,8 +1,11 @@
--- The words of a line, and the numbers, truth values and modes that words write.
-use Rattle.std.specs.Prelude.{ℕ, ◌^◌, Bool, true, false, ◌&&◌, List, [], ◌∷◌, codes, length, filter, Option, Some, None, nat_lt, ◌==◌, if◌then◌else◌}
+-- The words of a line, and the fields that words write: numbers, truth values and modes.
+use Rattle.std.specs.Prelude.{ℕ, ◌^◌, Bool, true, false, ◌&&◌, List, [], ◌∷◌, codes, length}
+use Rattle.std.specs.Prelude.{filter, Option, Some, None, nat_lt, ◌==◌, if◌then◌else◌}
 use Rattle.std.specs.List.{slice_split}
+use Rattle.std.specs.Option.{option_map}
 use Rattle.std.specs.Str.{all_ascii_digits, bytes_eq}
 use Rattle.std.specs.Str.Parse.{digits_value}
+use Rattle.vb_command.specs.Optional.{◌>>=◌}
 use Rattle.vb_command.specs.declared.command.Mode.{Mode}
 use Rattle.vb_command.specs.declared.command.Mode.TheVariants.{Ref, Own}
 
@@ -25,6 +28,10 @@ is_number w = all_ascii_digits w && nat_lt 0 (length w) && nat_lt (digits_value 
 -- the number that a word writes, if it is one
 abbrev pub number : List ℕ → Option ℕ
 number w = if is_number w then Some (digits_value 10 w) else None
+
+-- the number that a word writes, or none where it is `-`
+abbrev pub optional_number : List ℕ → Option (Option ℕ)
+optional_number w = if bytes_eq w (codes "-") then Some None else option_map Some (number w)
 
 -- the truth value that a word writes, if it is one
 abbrev pub truth : List ℕ → Option Bool
@@ -59,3 +66,39 @@ only_three ws = None
 abbrev pub only_four : List (List ℕ) → Option (List ℕ × List ℕ × List ℕ × List ℕ)
 only_four (a ∷ b ∷ c ∷ d ∷ []) = Some (a, b, c, d)
 only_four ws = None
+
+-- the field that the word of a list of one writes
+unfoldable pub one_field : {A : Type 0} → (List ℕ → Option A) → List (List ℕ) → Option A
+one_field f ws = do
+  a ← only_word ws
+  f a
+
+-- the fields that the words of a list of two write
+unfoldable pub two_fields : {A B : Type 0} → (List ℕ → Option A) → (List ℕ → Option B)
+    → List (List ℕ) → Option (A × B)
+two_fields f g ws = do
+  (a, b) ← only_two ws
+  x ← f a
+  y ← g b
+  Some (x, y)
+
+-- the fields that the words of a list of three write
+unfoldable pub three_fields : {A B C : Type 0} → (List ℕ → Option A) → (List ℕ → Option B)
+    → (List ℕ → Option C) → List (List ℕ) → Option (A × B × C)
+three_fields f g h ws = do
+  (a, b, c) ← only_three ws
+  x ← f a
+  y ← g b
+  z ← h c
+  Some (x, y, z)
+
+-- the fields that the words of a list of four write
+unfoldable pub four_fields : {A B C D : Type 0} → (List ℕ → Option A) → (List ℕ → Option B)
+    → (List ℕ → Option C) → (List ℕ → Option D) → List (List ℕ) → Option (A × B × C × D)
+four_fields f g h i ws = do
+  (a, b, c, d) ← only_four ws
+  w ← f a
+  x ← g b
+  y ← h c
+  z ← i d
+  Some (w, x, y, z)

@@ -24,12 +24,17 @@ pub enum Command<A: Allocator = Global> {
     Import(usize, usize, usize, Vec<u8, A>),
     /// `full t v n`: fills slot `t`, which has to be empty, with an open set of `n` bits `v`.
     Full(usize, bool, usize),
+    /// `indices t n NUMBERS`: fills slot `t`, which has to be empty, with an open set of `n` bits
+    /// that is true exactly at these places, all of which have to be below `n`.
+    Indices(usize, usize, Vec<usize, A>),
     /// `set k i v`: makes bit `i`, below the length, of the open set in slot `k` `v`.
     Set(usize, usize, bool),
     /// `append k v`: adds a bit `v` to the open set in slot `k`.
     Append(usize, bool),
     /// `appendn k v n`: adds `n` bits `v` to the open set in slot `k`.
     Appendn(usize, bool, usize),
+    /// `appendset k j`: adds the bits of the frozen set in slot `j` to the open set in slot `k`.
+    Appendset(usize, usize),
     /// `fill k a b v`: makes the bits from `a` up to `b`, `b` excluded, of the open set in slot `k`
     /// `v`. The places have to be a range of the set.
     Fill(usize, usize, usize, bool),
@@ -50,14 +55,14 @@ pub enum Command<A: Allocator = Global> {
     /// `a` up to `b`, `b` excluded, of the frozen set in slot `k`. The places have to be a range of
     /// that set.
     Slice(usize, usize, usize, usize),
-    /// `sliced k t`: fills slot `t`, which has to be empty, with a frozen set of the same bits as the
-    /// frozen set in slot `k`, whose storage holds these alone.
+    /// `sliced k t`: fills slot `t`, which has to be empty, with a frozen set of the same bits as
+    /// the frozen set in slot `k`, whose storage holds these alone.
     Sliced(usize, usize),
     /// `drop k`: empties slot `k`, which has to hold a set.
     Drop(usize),
     /// `and MODE l r t`: fills slot `t` with a frozen set of the bits that are true in both of the
-    /// frozen sets in slots `l` and `r`, which have to be of one length. By `own` slot `l` gives its
-    /// set away: `r` has to be another one, and `t` may be `l`. Otherwise `t` has to be empty.
+    /// frozen sets in slots `l` and `r`, which have to be of one length. By `own` slot `l` gives
+    /// its set away: `r` has to be another one, and `t` may be `l`. Otherwise `t` has to be empty.
     And(Mode, usize, usize, usize),
     /// `or MODE l r t`: as `and`, with the bits that are true in either of the sets.
     Or(Mode, usize, usize, usize),
@@ -70,6 +75,11 @@ pub enum Command<A: Allocator = Global> {
     /// slot `l`. By `own` that slot gives its set away, and `t` may be `l`. Otherwise `t` has to be
     /// empty.
     Not(Mode, usize, usize),
+    /// `take k t m INDEXES`: fills slot `t`, which has to be empty, with a frozen set of the bits
+    /// of the frozen set in slot `k` at these places, one for each. `m` names the slot of a frozen
+    /// set that is as long as they are many: where that is false the bit is false, and the place
+    /// doesn't count. Every place that counts has to be one of the set. With no `m` all count.
+    Take(usize, usize, Option<usize>, Vec<i64, A>),
     /// `len k`: the length in bits of the set in slot `k`.
     Len(usize),
     /// `count k`: the number of true bits of the set in slot `k`.
@@ -93,8 +103,8 @@ pub enum Command<A: Allocator = Global> {
     Places(usize),
     /// `runs k`: the runs of true bits of the set in slot `k`, from front to end.
     Runs(usize),
-    /// `show k`: the length and the first bits of the frozen set in slot `k`, as its `Display` shows
-    /// them.
+    /// `show k`: the length and the first bits of the frozen set in slot `k`, as its `Display`
+    /// shows them.
     Show(usize),
     /// `eq k j`: whether the sets in slots `k` and `j`, of whatever kind, have the same bits.
     Eq(usize, usize),

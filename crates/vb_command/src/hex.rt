@@ -1,5 +1,6 @@
 //! Bytes that are written in hexadecimal.
-ghost use Rattle.std.specs.Prelude.{◌≡◌, ◌*◌, ◌<◌, Some, None, IfOk, IsTrue, MatchResult, is_some, length};
+ghost use Rattle.std.specs.Prelude.{◌≡◌, ◌*◌, ◌<◌, Some, None, IfOk, IsTrue, MatchResult};
+ghost use Rattle.std.specs.Prelude.{is_some, length};
 ghost use Rattle.std.specs.List.{list_all};
 ghost use Rattle.vb_command.specs.Hex.{hex_value, hex_pairs, hex, is_digit};
 

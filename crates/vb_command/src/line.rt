@@ -46,16 +46,19 @@ fn request<A: Allocator + Clone>(alloc: &A, text: &str) -> Result<Option<Command
 ///
 /// Words stand between spaces. The first one is the name of a command, or begins with `#` and makes
 /// the line a comment. The others are the command's fields: numbers in decimal digits, at most
-/// 18446744073709551615, with leading zeros or without and with no sign; and bytes as pairs of
-/// hexadecimal digits of either case, or `-` for none.
+/// 18446744073709551615, with leading zeros or without and with no sign; truth values as `0` or
+/// `1`; modes as `ref` or `own`; bytes as pairs of hexadecimal digits of either case; numbers with
+/// one comma between two; and indices in the same way, from -9223372036854775808 to
+/// 9223372036854775807, with a `-` before those below 0. A `-` alone stands for no bytes, no
+/// numbers, no indices and, in a `take`, no validity.
 ///
 /// A line can't be read, which is `Unread::Unreadable`, if it has a byte that isn't ASCII, be it in
 /// a comment, or if it has words, is no comment, and its first word names no command, words are
 /// missing or left over, or one is of another kind. No other line is answered so.
 ///
-/// Memory is taken for an `import` that can be read: for a copy of `alloc`, and for the bytes as
-/// much as they need. Where that is refused the answer is `Unread::Memory`; no other line is
-/// answered so.
+/// Memory is taken for an `import`, `indices` or `take` that can be read: for a copy of `alloc`,
+/// and for the bytes or numbers as much as they need, by one request. Where that is refused the
+/// answer is `Unread::Memory`; no other line is answered so.
 ///
 /// The time is proportional to the line's length.
 pub fn command_of<A: Allocator + Clone>(

@@ -7,7 +7,7 @@ use std::alloc::{AllocError, AllocFailed};
 /// Why a line gives no command.
 #[derive(Clone, Copy, Debug, PartialEq, Eq)]
 pub enum Unread {
-    /// A request for the memory of the line's bytes was refused.
+    /// A request for the memory of the line's bytes or numbers was refused.
     Memory,
     /// The line can't be read.
     Unreadable,

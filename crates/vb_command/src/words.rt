@@ -2,7 +2,9 @@
 ghost use Rattle.std.specs.Prelude.{◌≡◌, ℕ, List, [], ◌∷◌, MatchOption, MatchResult};
 ghost use Rattle.vb_command.specs.Reading.{Tells};
 ghost use Rattle.vb_command.specs.Words.{words, only_word, only_two, only_three, only_four};
+ghost use Rattle.vb_command.specs.Words.{one_field, two_fields, three_fields, four_fields};
 
+use crate::field::Field;
 use crate::unread::Unread;
 use std::marker::Model;
 
@@ -41,7 +43,7 @@ impl<'a> Words<'a> {
     }
 
     /// The one word that is left.
-    pub fn one(&mut self) -> Result<&'a str, Unread>
+    fn one_word(&mut self) -> Result<&'a str, Unread>
         ensures { Tells (λ word. word.now) result (only_word self.old) }
     {
         let a = self.next().ok_or(Unread::Unreadable)?;
@@ -50,7 +52,7 @@ impl<'a> Words<'a> {
     }
 
     /// The two words that are left.
-    pub fn two(&mut self) -> Result<(&'a str, &'a str), Unread>
+    fn two_words(&mut self) -> Result<(&'a str, &'a str), Unread>
         ensures { Tells (λ (a, b). (a.now, b.now)) result (only_two self.old) }
     {
         let a = self.next().ok_or(Unread::Unreadable)?;
@@ -60,7 +62,7 @@ impl<'a> Words<'a> {
     }
 
     /// The three words that are left.
-    pub fn three(&mut self) -> Result<(&'a str, &'a str, &'a str), Unread>
+    pub fn three_words(&mut self) -> Result<(&'a str, &'a str, &'a str), Unread>
         ensures { Tells (λ (a, b, c). (a.now, b.now, c.now)) result (only_three self.old) }
     {
         let a = self.next().ok_or(Unread::Unreadable)?;
@@ -71,8 +73,9 @@ impl<'a> Words<'a> {
     }
 
     /// The four words that are left.
-    pub fn four(&mut self) -> Result<(&'a str, &'a str, &'a str, &'a str), Unread>
-        ensures { Tells (λ (a, b, c, d). (a.now, b.now, c.now, d.now)) result (only_four self.old) }
+    pub fn four_words(&mut self) -> Result<(&'a str, &'a str, &'a str, &'a str), Unread>
+        ensures { Tells (λ (a, b, c, d). (a.now, b.now, c.now, d.now)) result
+            (only_four self.old) }
     {
         let a = self.next().ok_or(Unread::Unreadable)?;
         let b = self.next().ok_or(Unread::Unreadable)?;
@@ -80,6 +83,43 @@ impl<'a> Words<'a> {
         let d = self.next().ok_or(Unread::Unreadable)?;
         self.end()?;
         Ok((a, b, c, d))
+    }
+
+    /// The field that the one word writes that is left.
+    #[tactic(auto, unfolding(crate::specs::Words::one_field))]
+    pub fn one<W: Field>(&mut self) -> Result<W, Unread>
+        ensures { Tells (λ field. field) result (one_field (W.written) self.old) }
+    {
+        W::read(self.one_word()?)
+    }
+
+    /// The fields that the two words write that are left.
+    #[tactic(auto, unfolding(crate::specs::Words::two_fields))]
+    pub fn two<W: Field, X: Field>(&mut self) -> Result<(W, X), Unread>
+        ensures { Tells (λ fields. fields) result (two_fields (W.written) (X.written) self.old) }
+    {
+        let (a, b) = self.two_words()?;
+        Ok((W::read(a)?, X::read(b)?))
+    }
+
+    /// The fields that the three words write that are left.
+    #[tactic(auto, unfolding(crate::specs::Words::three_fields))]
+    pub fn three<W: Field, X: Field, Y: Field>(&mut self) -> Result<(W, X, Y), Unread>
+        ensures { Tells (λ fields. fields) result
+            (three_fields (W.written) (X.written) (Y.written) self.old) }
+    {
+        let (a, b, c) = self.three_words()?;
+        Ok((W::read(a)?, X::read(b)?, Y::read(c)?))
+    }
+
+    /// The fields that the four words write that are left.
+    #[tactic(auto, unfolding(crate::specs::Words::four_fields))]
+    pub fn four<W: Field, X: Field, Y: Field, Z: Field>(&mut self) -> Result<(W, X, Y, Z), Unread>
+        ensures { Tells (λ fields. fields) result
+            (four_fields (W.written) (X.written) (Y.written) (Z.written) self.old) }
+    {
+        let (a, b, c, d) = self.four_words()?;
+        Ok((W::read(a)?, X::read(b)?, Y::read(c)?, Z::read(d)?))
     }
 
     /// Nothing, if no words are left.

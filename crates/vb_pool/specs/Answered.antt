@@ -6,14 +6,16 @@ use Rattle.vb_command.specs.declared.answer.Answer.{Answer}
 use Rattle.vb_command.specs.declared.answer.Refusal.{Refusal}
 use Rattle.vb_command.specs.declared.answer.Refusal.TheVariants.{BadSlot}
 use Rattle.vb_core.specs.declared.error.BufferError.{BufferError}
-use Rattle.vb_core.specs.declared.error.BufferError.TheVariants.{OutOfMemory, TooManyBits}
+use Rattle.vb_core.specs.declared.error.BufferError.TheVariants.{OutOfMemory, TakeOutOfRange}
+use Rattle.vb_core.specs.declared.error.BufferError.TheVariants.{TooManyBits}
 
 -- the reply of an answer, or of a refusal
 abbrev pub answered : {A : Type 0} → Result (Answer A) Refusal → Reply
 answered (Ok answer) = reply answer
 answered (Err why) = Refused (reason why)
 
--- what a slot holds is given, seen in this way; where it holds nothing of the kind, the slot is refused
+-- what a slot holds is given, seen in this way; where it holds nothing of the kind, the slot is
+-- refused
 abbrev pub GivesHeld : {X Y : Type 0} → (X → Y) → Option Y → Result X Refusal → Type 0
 GivesHeld view held (Ok x) = held ≡ Some (view x)
 GivesHeld view held (Err why) = (why ≡ BadSlot) × (held ≡ None)
@@ -21,5 +23,6 @@ GivesHeld view held (Err why) = (why ≡ BadSlot) × (held ≡ None)
 -- an error by which sets that are made or changed refuse
 abbrev pub IsOfSet : BufferError → Type 0
 IsOfSet OutOfMemory = Unit {0}
+IsOfSet (TakeOutOfRange position) = Unit {0}
 IsOfSet TooManyBits = Unit {0}
 IsOfSet error = ⊥

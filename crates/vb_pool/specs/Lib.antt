@@ -6,3 +6,4 @@ pub use Rattle.vb_command.specs.Views
 pub use Rattle.vb_kernel.specs.Bits
 pub use Rattle.vb_kernel.specs.Edits
 pub use Rattle.vb_kernel.specs.Runs
+pub use Rattle.vb_set.specs.Takes

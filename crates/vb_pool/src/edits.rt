@@ -41,6 +41,20 @@ impl<A: Allocator + Clone> Pool<A> {
         Ok(Answer::Done)
     }
 
+    /// Adds the bits of the frozen set in slot `j`.
+    #[tactic(auto, using(crate::proofs::Slots::taken))]
+    pub(crate) fn append_set(&mut self, k: usize, j: usize) -> Result<Answer<A>, Refusal>
+        ensures { Outcome self.old (machine.Appendset k j) (answered result) self.new }
+    {
+        self.frozen_at(j)?;
+        let mut set = self.take_open(k)?;
+        // Slot j holds its set still, since slot k held an open one.
+        let added = set.append_set(self.frozen_at(j)?);
+        let done = self.put(k, Slot::Open(set));
+        added.map_err(refusal_of)?;
+        Ok(done)
+    }
+
     /// Makes the bits from `a` up to `b`, `b` excluded, `v`.
     pub(crate) fn fill(
         &mut self,

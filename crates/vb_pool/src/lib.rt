@@ -18,6 +18,7 @@ mod refused;
 mod serve;
 mod sixteen;
 mod slot;
+mod taking;
 
 pub use pool::Pool;
 pub use serve::run;

@@ -1,5 +1,6 @@
 //! Slots that are filled and emptied.
-ghost use Rattle.vb_command.specs.Machine.{Step, Outcome};
+ghost use Rattle.std.specs.Prelude.{◌≡◌};
+ghost use Rattle.vb_command.specs.Machine.{Step, Outcome, all_below};
 ghost use Rattle.vb_command.specs.Machine as machine;
 ghost use Rattle.vb_pool.specs.Answered.{answered};
 
@@ -24,6 +25,25 @@ impl<A: Allocator + Clone> Pool<A> {
     {
         self.vacant(k)?;
         let set = OpenBits::full(alloc, v, n).map_err(refusal_of)?;
+        Ok(self.put(k, Slot::Open(set)))
+    }
+
+    /// Opens a set of `n` bits in slot `k`, which has to be empty, true exactly at these places,
+    /// which have to be below `n`.
+    pub(crate) fn indices(
+        &mut self,
+        alloc: &A,
+        k: usize,
+        n: usize,
+        places: &[usize],
+    ) -> Result<Answer<A>, Refusal>
+        ensures { Outcome self.old (machine.Indices k n places.now) (answered result) self.new }
+    {
+        self.vacant(k)?;
+        if !all_below(n, places) {
+            return Err(Refusal::OutOfRange);
+        }
+        let set = OpenBits::from_indices(alloc, n, places).map_err(refusal_of)?;
         Ok(self.put(k, Slot::Open(set)))
     }
 
@@ -76,4 +96,11 @@ impl<A: Allocator + Clone> Pool<A> {
         self.kept(k)?;
         Ok(self.put(k, Slot::Empty))
     }
+}
+
+/// Whether each of these numbers is below `n`.
+fn all_below(n: usize, numbers: &[usize]) -> bool
+    ensures { result ≡ all_below n numbers.now }
+{
+    numbers.iter().all(|number| *number < n)
 }

@@ -1,9 +1,13 @@
 //! The sets that commands edit.
-ghost use Rattle.std.specs.Prelude.{◌≡◌, ◌+◌, ◌*◌, ◌^◌, ◌<◌, ◌≤◌, [], ◌∷◌, ◌++◌, length, take, replicate, slice_set, IfOk, IsOkUnless, OnOk, OnErr};
+ghost use Rattle.std.specs.Prelude.{◌≡◌, ◌+◌, ◌*◌, ◌^◌, ◌<◌, ◌≤◌, [], ◌∷◌, ◌++◌, length, take};
+ghost use Rattle.std.specs.Prelude.{replicate, slice_set, false, IsTrue, IfOk, IsOkUnless};
+ghost use Rattle.std.specs.Prelude.{OnOk, OnErr};
+ghost use Rattle.vb_command.specs.Machine.{all_below};
 ghost use Rattle.vb_core.specs.declared.error.BufferError.TheVariants.{OutOfMemory};
 ghost use Rattle.vb_kernel.specs.Bits.{bits, negated};
 ghost use Rattle.vb_kernel.specs.Edits.{filled};
 ghost use Rattle.vb_pool.specs.OpenBits.{LimitsLength};
+ghost use Rattle.vb_set.specs.Takes.{with_true};
 
 use std::alloc::Allocator;
 use std::marker::Model;
@@ -83,6 +87,15 @@ impl<A: Allocator + Clone> OpenBits<A> {
         Ok(OpenBits::new(BitBufferMut::full(alloc.clone()?, v, n)?))
     }
 
+    /// `n` bits, true exactly at these places. Refused by `OutOfMemory` alone.
+    pub fn from_indices(alloc: &A, n: usize, places: &[usize]) -> Result<Self, BufferError>
+        requires { IsTrue (all_below n places.now) }
+        ensures bits { IfOk result (λ s. s ≡ with_true (replicate n false) places.now) }
+        ensures refused { IsOkUnless result OutOfMemory }
+    {
+        Ok(OpenBits::new(BitBufferMut::from_indices(alloc.clone()?, n, places)?))
+    }
+
     /// The bits of a shared set: in its storage, where it has no other owner, else in a copy.
     /// Refused by `OutOfMemory` alone; then the shared set is gone.
     pub fn thaw(alloc: &A, set: BitBuffer<A>) -> Result<Self, BufferError>
@@ -160,6 +173,16 @@ impl<A: Allocator + Clone> OpenBits<A> {
         ensures limits { LimitsLength (length self.old + n) result }
     {
         self.set.append_n(v, n)
+    }
+
+    /// Adds the bits of a shared set. Refused by `OutOfMemory` or `TooManyBits`; then the set is
+    /// unchanged.
+    pub fn append_set(&mut self, set: &BitBuffer<A>) -> Result<(), BufferError>
+        ensures ok { OnOk result (self.new ≡ self.old ++ set.now.bits) }
+        ensures err { OnErr result (self.new ≡ self.old) }
+        ensures limits { LimitsLength (length self.old + length set.now.bits) result }
+    {
+        self.set.append_buffer(set)
     }
 
     /// Keeps the first `n` bits, or all where there are at most `n`.

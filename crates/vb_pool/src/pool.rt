@@ -1,8 +1,10 @@
 //! The slots, and what the commands do to them.
-ghost use Rattle.std.specs.Prelude.{◌≡◌, true, false, slice_get, slice_set, MatchResult, OnOk, IfErr};
+ghost use Rattle.std.specs.Prelude.{◌≡◌, true, false, slice_get, slice_set, MatchResult, OnOk};
+ghost use Rattle.std.specs.Prelude.{IfErr};
 ghost use Rattle.std.specs.Borrow.{LendsIf, sem};
 ghost use Rattle.std.specs.Option.{option_copied, option_copied_mut};
-ghost use Rattle.vb_command.specs.Machine.{Empty as Vacant, Open as OpenList, Done, empty_slots, list_at, open_at, frozen_at, kept_at, vacant_at};
+ghost use Rattle.vb_command.specs.Machine.{Empty as Vacant, Open as OpenList, Done, empty_slots};
+ghost use Rattle.vb_command.specs.Machine.{list_at, open_at, frozen_at, kept_at, vacant_at};
 ghost use Rattle.vb_command.specs.Views.{reply};
 ghost use Rattle.vb_pool.specs.Answered.{GivesHeld};
 ghost use Rattle.vb_pool.specs.Slot.{content};
@@ -50,8 +52,8 @@ impl<A: Allocator + Clone> Pool<A> {
         }
     }
 
-    /// The bits of the set in slot `k`, of either kind. Refused by `BadSlot`, where the slot isn't there or holds
-    /// none.
+    /// The bits of the set in slot `k`, of either kind. Refused by `BadSlot`, where the slot isn't
+    /// there or holds none.
     pub(crate) fn set_at(&self, k: usize) -> Result<BitBufferView<'_>, Refusal>
         ensures { GivesHeld bits_of (list_at self.now k) result }
     {

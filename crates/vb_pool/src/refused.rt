@@ -1,18 +1,21 @@
 //! Refusals of sets as those of commands.
-ghost use Rattle.std.specs.Prelude.{◌≡◌};
+ghost use Rattle.std.specs.Prelude.{◌≡◌, ℕ};
 ghost use Rattle.vb_pool.specs.Answered.{IsOfSet};
 
 use vb_command::Refusal;
 use vb_core::BufferError;
 
 /// The refusal of a command where a set refused with this. Sets that are made or changed refuse by
-/// these two alone.
+/// these three alone.
 pub(crate) fn refusal_of(error: BufferError) -> Refusal
     requires { IsOfSet error }
     ensures bits { error ≡ BufferError.TooManyBits → result ≡ Refusal.TooManyBits }
+    ensures position { (p : ℕ) → error ≡ BufferError.TakeOutOfRange p
+        → result ≡ Refusal.TakeOutOfRange p }
     ensures memory { error ≡ BufferError.OutOfMemory → result ≡ Refusal.OutOfMemory }
 {
     match error {
+        BufferError::TakeOutOfRange { position } => Refusal::TakeOutOfRange(position),
         BufferError::TooManyBits => Refusal::TooManyBits,
         BufferError::OutOfMemory => Refusal::OutOfMemory,
         _ => unreachable!(),

@@ -16,12 +16,13 @@ impl<A: Allocator + Clone> Pool<A> {
     /// that `freeze`, `thaw` and the operators with `own` give their set away: where memory is
     /// refused, its slot is empty and all others are as before.
     ///
-    /// Memory is asked from copies of `alloc`: `import`, `full`, `bits` and `places` ask once for
-    /// the whole, and so does `thaw` where another slot has the storage too; `runs` asks as its
-    /// list grows, and `show` as its text does. The copy of an open set asks the allocator of that
-    /// set, and so do `sliced` and the operators. `freeze`, `slice`, `clone` of a frozen set and
-    /// `thaw` of a storage's only owner copy no bits, nor do operators with `own` where their left
-    /// set's storage has no other owner.
+    /// Memory is asked from copies of `alloc`: `import`, `full`, `indices`, `take`, `bits` and
+    /// `places` ask once for the whole, and so does `thaw` where another slot has the storage too;
+    /// `runs` asks as its list grows, and `show` as its text does. The copy of an open set asks the
+    /// allocator of that set, and so do the appends, `sliced` and the operators. `freeze`, `slice`,
+    /// `clone` of a frozen set and `thaw` of a storage's only owner copy no bits, nor do operators
+    /// with `own` where their left set's storage has no other owner. A frozen set that is made asks
+    /// for its owner too.
     pub fn serve(&mut self, alloc: &A, command: &Command<A>) -> Answer<A>
         ensures { Outcome self.old (order command.now) (reply result) self.new }
     {
@@ -50,9 +51,11 @@ impl<A: Allocator + Clone> Pool<A> {
                 self.import(alloc, *k, *offset, *len, bytes)
             }
             Command::Full(k, v, n) => self.full(alloc, *k, *v, *n),
+            Command::Indices(k, n, places) => self.indices(alloc, *k, *n, places),
             Command::Set(k, i, v) => self.set(*k, *i, *v),
             Command::Append(k, v) => self.append(*k, *v),
             Command::Appendn(k, v, n) => self.append_n(*k, *v, *n),
+            Command::Appendset(k, j) => self.append_set(*k, *j),
             Command::Fill(k, a, b, v) => self.fill(*k, *a, *b, *v),
             Command::Truncate(k, n) => self.truncate(*k, *n),
             Command::Clear(k) => self.clear(*k),
@@ -68,6 +71,7 @@ impl<A: Allocator + Clone> Pool<A> {
             Command::Xor(mode, l, r, t) => self.combine(BitOp::Xor, *mode, *l, *r, *t),
             Command::Andnot(mode, l, r, t) => self.combine(BitOp::AndNot, *mode, *l, *r, *t),
             Command::Not(mode, l, t) => self.not(*mode, *l, *t),
+            Command::Take(k, t, m, indices) => self.take(alloc, *k, *t, *m, indices),
             Command::Len(k) => self.len(*k),
             Command::Count(k) => self.count(*k),
             Command::Get(k, i) => self.get(*k, *i),

@@ -6,6 +6,7 @@ pub mod Session
 pub mod ToWrite
 pub use Rattle.vb_command.specs.Arguments
 pub use Rattle.vb_command.specs.Hex
+pub use Rattle.vb_command.specs.Listed
 pub use Rattle.vb_command.specs.Machine
 pub use Rattle.vb_command.specs.Optional
 pub use Rattle.vb_command.specs.Parts
@@ -17,3 +18,4 @@ pub use Rattle.vb_pool.specs.Bits
 pub use Rattle.vb_pool.specs.Edits
 pub use Rattle.vb_pool.specs.Runs
 pub use Rattle.vb_pool.specs.Slot
+pub use Rattle.vb_pool.specs.Takes

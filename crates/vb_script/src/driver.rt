@@ -34,8 +34,8 @@ use std::alloc::Allocator;
 ///   answered.
 /// - `Write`: a write failed, as the sink's count of faults tells.
 /// - `Memory`: a request for memory was refused outside of a command; some first ones of the lines
-///   that had ended were answered. If the next one had ended too, it is an `import` that can be
-///   read.
+///   that had ended were answered. If the next one had ended too, it is an `import`, `indices` or
+///   `take` that can be read.
 pub fn drive<A: Allocator + Clone, R: Source, W: Sink>(
     alloc: A,
     input: &mut R,

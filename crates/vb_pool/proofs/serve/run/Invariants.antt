@@ -6,7 +6,8 @@ use Rattle.vb_pool.proofs.serve.run.Given as goal
 -- the answers so far are a run of the commands so far, and there is room for the others
 abbrev pub invariant-loop-command : goal.invariant-loop-command
 invariant-loop-command g l = record {
-  ran : Run l.fn.pool (map order (take l.command-index l.commands)) (map reply l.answers.items) l.pool;
+  ran : Run l.fn.pool (map order (take l.command-index l.commands))
+      (map reply l.answers.items) l.pool;
   counted : vec_len l.answers ≡ l.command-index;
   room : length l.commands ≤ vec_capacity l.answers;
 }

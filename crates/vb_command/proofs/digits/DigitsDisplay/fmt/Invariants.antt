@@ -6,4 +6,7 @@ use Rattle.vb_command.proofs.digits.DigitsDisplay.fmt.Given as goal
 
 -- the digits so far
 abbrev pub invariant-loop-bit : goal.invariant-loop-bit
-invariant-loop-bit g l = IsPlainFormatter l.initial.f → HasWritten g.W.Write.write_str_gives l.initial.f (flat_map digit_of (take l.bit-index l.self.0.now)) l.f
+invariant-loop-bit g l =
+    IsPlainFormatter l.initial.f
+    → HasWritten g.W.Write.write_str_gives l.initial.f
+    (flat_map digit_of (take l.bit-index l.self.0.now)) l.f

@@ -6,4 +6,7 @@ use Rattle.vb_command.proofs.numbers.RunsDisplay.fmt.Given as goal
 
 -- the runs behind the first one so far, each after a comma
 abbrev pub invariant-loop-start : goal.invariant-loop-start
-invariant-loop-start g l = IsPlainFormatter l.initial.f → HasWritten g.W.Write.write_str_gives l.initial.f (flat_map (λ x. codes "," ++ run_text x) (take l.start-index l.rest)) l.f
+invariant-loop-start g l =
+    IsPlainFormatter l.initial.f
+    → HasWritten g.W.Write.write_str_gives l.initial.f
+    (flat_map (λ x. codes "," ++ run_text x) (take l.start-index l.rest)) l.f

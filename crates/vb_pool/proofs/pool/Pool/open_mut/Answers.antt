@@ -13,5 +13,10 @@ returns g c =
     let slot = c.in_ok-self-inside.field-0.now in
     let held = c.in_ok-self-inside.ensures.value in
     let ends = read_of (ghost_name_of c.open_mut.result) in
-    let found = get_seen content slots c.args.self.now c.args.k slot c.self.view_is held in
-    (lent ends content Open slots c.args.self.now c.args.k slot c.self.view_is held, record { writes_back = tt; value = c.open_mut.ensures.value ∙ ap (option_and_then open_list) found })
+    let found = get_seen content slots c.args.self.now c.args.k slot c.self.view_is held in (
+      lent ends content Open slots c.args.self.now c.args.k slot c.self.view_is held,
+      record {
+        writes_back = tt;
+        value = c.open_mut.ensures.value ∙ ap (option_and_then open_list) found;
+      },
+    )

@@ -1,0 +1,81 @@
+//! Bits of a frozen set that are taken at indices.
+ghost use Rattle.std.specs.Prelude.{◌≡◌, length, IfOk, IfErr, IsTrue};
+ghost use Rattle.std.specs.Option.{option_map};
+ghost use Rattle.vb_command.specs.Machine.{Outcome, is_as_long, validity_at};
+ghost use Rattle.vb_command.specs.Machine as machine;
+ghost use Rattle.vb_pool.specs.Answered.{GivesHeld, answered};
+ghost use Rattle.vb_set.specs.Takes.{IsTaken, TakeRefused};
+ghost use Rattle.vb_view.specs.View.{bits_of};
+
+use crate::pool::Pool;
+use crate::refused::refusal_of;
+use crate::slot::Slot;
+use std::alloc::Allocator;
+use vb_command::{Answer, Refusal};
+use vb_core::BufferError;
+use vb_set::{BitBuffer, take_bits};
+use vb_view::BitBufferView;
+
+impl<A: Allocator + Clone> Pool<A> {
+    /// Puts the bits of the frozen set in slot `k` at these indices in slot `t`, which has to be
+    /// empty. Slot `m`, if one is named, holds a frozen set that is as long as they are many: only
+    /// where it is true an index counts.
+    pub(crate) fn take(
+        &mut self,
+        alloc: &A,
+        k: usize,
+        t: usize,
+        m: Option<usize>,
+        indices: &[i64],
+    ) -> Result<Answer<A>, Refusal>
+        ensures { Outcome self.old (machine.Take k t m indices.now) (answered result) self.new }
+    {
+        let bits = self.frozen_at(k)?.as_view();
+        self.vacant(t)?;
+        let validity = self.validity(m)?;
+        if !is_as_long(indices.len(), validity) {
+            return Err(Refusal::LengthMismatch);
+        }
+        let taken = taken(alloc, bits, indices, validity).map_err(refusal_of)?;
+        Ok(self.put(t, Slot::Frozen(taken)))
+    }
+
+    /// The frozen set in slot `m`, if one is named. Refused by `BadSlot`, where the slot isn't
+    /// there or holds none.
+    fn validity(&self, m: Option<usize>) -> Result<Option<BitBufferView<'_>>, Refusal>
+        ensures { GivesHeld (option_map bits_of) (validity_at self.now m) result }
+    {
+        match m {
+            Some(m) => Ok(Some(self.frozen_at(m)?.as_view())),
+            None => Ok(None),
+        }
+    }
+}
+
+/// Whether a validity, if there is one, has `n` bits.
+fn is_as_long(n: usize, validity: Option<BitBufferView<'_>>) -> bool
+    ensures { result ≡ is_as_long n (option_map bits_of validity.entry) }
+{
+    match validity {
+        Some(bits) => bits.len() == n,
+        None => true,
+    }
+}
+
+/// The bits at these indices. Refused by `TakeOutOfRange` with the first position that counts and
+/// whose index names no place, else by `OutOfMemory` alone.
+#[tactic(auto, using(crate::proofs::TakingLemmas::validities))]
+fn taken<A: Allocator + Clone>(
+    alloc: &A,
+    bits: BitBufferView<'_>,
+    indices: &[i64],
+    validity: Option<BitBufferView<'_>>,
+) -> Result<BitBuffer<A>, BufferError>
+    requires { IsTrue (is_as_long (length indices.now) (option_map bits_of validity)) }
+    ensures taken { IfOk result (λ s. IsTaken (bits_of bits.entry) indices.now
+        (option_map bits_of validity.entry) s.bits) }
+    ensures refused { IfErr result (TakeRefused (bits_of bits.entry) indices.now
+        (option_map bits_of validity.entry)) }
+{
+    take_bits(alloc.clone()?, bits, indices, validity)
+}
