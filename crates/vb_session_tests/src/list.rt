@@ -24,6 +24,57 @@ pub(crate) fn fill(bits: &mut [bool], a: usize, b: usize, v: bool) -> Result<(),
     Ok(())
 }
 
+/// Adds `n` bits that are true at these places.
+pub(crate) fn name_places(bits: &mut Vec<bool>, n: usize, places: &str) -> Result<(), Stop> {
+    for place in places.split(',') {
+        if place != "-" && place.parse().unwrap_or(usize::MAX) >= n {
+            return Err(OUT_OF_RANGE);
+        }
+    }
+    lengthen(bits, false, n)?;
+    for place in places.split(',') {
+        if let Some(bit) = bits.get_mut(place.parse().unwrap_or(usize::MAX)) {
+            *bit = true;
+        }
+    }
+    Ok(())
+}
+
+/// Keeps the bits of a list at these indexes, and false where they don't count.
+pub(crate) fn take(
+    bits: &mut Vec<bool>,
+    from: &[bool],
+    counts: Option<&[bool]>,
+    indexes: &str,
+) -> Result<(), Stop> {
+    let is_empty = indexes == "-";
+    let count = if is_empty {
+        0
+    } else {
+        indexes.split(',').count()
+    };
+    match counts {
+        Some(counts) if counts.len() != count => return Err(Stop::Refused("LengthMismatch")),
+        _ => bits.clear(),
+    }
+    if is_empty {
+        return Ok(());
+    }
+    for (position, index) in indexes.split(',').enumerate() {
+        let is_null = match counts {
+            Some(counts) => counts.get(position) == Some(&false),
+            None => false,
+        };
+        let place = usize::try_from(index.parse().unwrap_or(-1i64)).unwrap_or(usize::MAX);
+        match from.get(place) {
+            _ if is_null => bits.push(false)?,
+            Some(bit) => bits.push(*bit)?,
+            None => return Err(Stop::Position(position)),
+        }
+    }
+    Ok(())
+}
+
 /// Combines each bit with that of another list.
 pub(crate) fn combine(bits: &mut [bool], name: &str, right: &[bool]) -> Result<(), Stop> {
     if bits.len() != right.len() {

@@ -2,7 +2,7 @@
 use crate::answer::answer;
 use crate::form::{Kind, Memory, Then};
 use crate::line::{Call, word};
-use crate::list::{combine, cut, fill, lengthen, window};
+use crate::list::{combine, cut, fill, lengthen, name_places, take, window};
 use crate::stop::{BAD_SLOT, OUT_OF_MEMORY, Stop};
 use std::alloc::Global;
 
@@ -138,6 +138,17 @@ impl Plain {
             "set" => return fill(bits, a, a.saturating_add(1), is_true(3)),
             "fill" => return fill(bits, a, b, is_true(4)),
             "slice" => return cut(bits, a, b),
+            "indices" => return name_places(bits, a, word(call.text, 3)),
+            "take" => {
+                let is_counted = word(call.text, 3) != "-";
+                let counts = if is_counted {
+                    Some(self.bits(call, 3))
+                } else {
+                    None
+                };
+                return take(bits, self.bits(call, 1), counts, word(call.text, 4));
+            }
+            "appendset" => bits.extend_from_slice(self.bits(call, 2))?,
             "and" | "or" | "xor" | "andnot" => {
                 return combine(bits, call.name, self.bits(call, 3));
             }

@@ -1,7 +1,12 @@
 //! Sessions whose requests for memory are all refused in turn.
 
 /// The lines of sessions, and how many requests each makes at least.
-pub(crate) const SESSIONS: &[(&str, u64)] = &[(EDITS, 18), (OPERATORS, 25), (SHARES, 12)];
+pub(crate) const SESSIONS: &[(&str, u64)] = &[
+    (EDITS, 18),
+    (OPERATORS, 25),
+    (TAKES, 20),
+    (SHARES, 14),
+];
 
 /// What follows each session: the bits and the kind of every slot, and of one that isn't there.
 pub(crate) const LOOKS: &str = "\
@@ -139,6 +144,43 @@ not own 13 13
 not own 11 11
 ";
 
+/// Sets of places, taking from them, and adding them to others, refused for each of its reasons.
+const TAKES: &str = "\
+indices 0 70 0,64,3,69,3
+indices 0 1 0
+indices 1 4 1,4
+indices 1 0 0
+indices 1 0 -
+indices 16 1 0
+appendset 1 0
+freeze 0
+appendset 1 0
+appendset 0 0
+appendset 1 0
+appendset 1 1
+appendset 2 0
+take 0 2 - 0,1,69,-0
+take 0 3 - 0,70,-1
+take 0 3 - -1
+take 0 2 - 0
+take 1 3 - 0
+take 2 3 2 0,1,2
+take 2 3 2 0,-1,3,4
+take 2 3 2 0,-1,3,2
+take 3 4 3 -
+take 0 5 - -
+take 5 6 5 -
+take 5 7 - 0
+take 0 8 5 -
+clone 0 9
+slice 0 60 70 10
+thaw 9
+appendset 9 10
+appendset 9 3
+thaw 10
+appendset 10 0
+";
+
 /// Sets that share the storage of 201 bits.
 const SHARES: &str = "\
 full 0 1 200
@@ -149,6 +191,7 @@ thaw 1
 slice 0 3 190 2
 not own 2 2
 and ref 0 0 3
+take 0 4 - 0,200
 bits 4
 runs 2
 ";

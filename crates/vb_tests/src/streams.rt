@@ -86,8 +86,15 @@ fn a_source_and_a_sink_of_ones_own_fault(rt: HostRuntime) {
         faults: 0,
     };
     let mut sink = ToWrite::new(Vec::new(rt.alloc()));
-    equal(&rt, drive(rt.alloc(), &mut source, &mut sink), Err(DriveError::Read));
-    assert_eq!(rt; sink.into_inner().as_slice(), b"refused BadSlot\n".as_slice());
+    equal(
+        &rt,
+        drive(rt.alloc(), &mut source, &mut sink),
+        Err(DriveError::Read),
+    );
+    assert_eq!(rt;
+        sink.into_inner().as_slice(),
+        b"refused BadSlot\n".as_slice()
+    );
     let mut lines = FromRead::new(b"len 0\n".as_slice());
     let ended = drive(rt.alloc(), &mut lines, &mut Full { faults: 0 });
     equal(&rt, ended, Err(DriveError::Write));
