@@ -7,11 +7,7 @@ mod compared;
 #[cfg(test)]
 mod drive_memory;
 #[cfg(test)]
-mod plain;
-#[cfg(test)]
 mod readme;
-#[cfg(test)]
-mod refusals;
 #[cfg(test)]
 mod sessions;
 #[cfg(test)]

@@ -117,8 +117,8 @@ const ANSWERED: &[(&str, &str)] = &[
         "ok\n-\n-\nnone\nrefused BadSlot\nrefused BadSlot\nrefused BadSlot\n",
     ),
     (
-        "import 0 3 5 f8\nfreeze 0\nimport 1 0 5 1f\nfreeze 1\nand own 0 1 0\nbits 0\neq 0 1\nshow 0\n\
-         or own 0 0 3\nfull 2 1 6\nfreeze 2\nor ref 0 2 3\n",
+        "import 0 3 5 f8\nfreeze 0\nimport 1 0 5 1f\nfreeze 1\nand own 0 1 0\nbits 0\neq 0 1\n\
+         show 0\nor own 0 0 3\nfull 2 1 6\nfreeze 2\nor ref 0 2 3\n",
         "ok\nok\nok\nok\nok\n11111\n1\n\
          BitBuffer { len: 5, buffer: [true, true, true, true, true] }\n\
          refused BadSlot\nok\nok\nrefused LengthMismatch\n",
@@ -131,6 +131,18 @@ const ANSWERED: &[(&str, &str)] = &[
         "ok\nok\nok\nok\nok\nok\nok\nok\nrefused BadSlot\nok\n1000\n1110\n0110\n0100\n0011\n\
          ok\n1\n0\nok\nrefused BadSlot\n1\nok\nrefused BadSlot\nrefused BadSlot\nrefused BadSlot\n\
          refused BadSlot\n1100\n",
+    ),
+    (
+        "indices 0 4 1,1,3\nfreeze 0\nfull 1 0 4\nflip 1\nfull 2 0 3\nfreeze 2\nappendset 1 2\n\
+         bits 1\nindices 3 4 4\ntake 0 4 - 3,0,-1\nimport 5 0 3 03\nfreeze 5\n\
+         take 0 4 5 3,0,-1\nbits 4\n",
+        "ok\nok\nok\nok\nok\nok\nok\n1111000\nrefused OutOfRange\nrefused TakeOutOfRange 2\n\
+         ok\nok\nok\n100\n",
+    ),
+    (
+        "full 0 1 200\nappend 0 0\nfreeze 0\nclone 0 1\nthaw 1\nslice 0 3 190 2\nnot own 2 2\n\
+         and ref 0 0 3\ntake 0 4 - 0,200\nbits 4\nruns 2\n",
+        "ok\nok\nok\nok\nok\nok\nok\nok\nok\n10\n-\n",
     ),
     // Other owners keep their bits.
     (

@@ -6,7 +6,7 @@ use std::io;
 use std::io::{Read, Write};
 use std::process::Abort;
 use std::test::Fail;
-use vb_script::{DriveError, FromRead, ToWrite, drive};
+use vb_script::{DriveError, Fault, FromRead, Sink, Source, ToWrite, drive};
 use vb_testing::{FaultyReader, FaultyWriter};
 
 /// A session whose read fails after so many bytes answers the lines that were read whole.
@@ -32,6 +32,72 @@ fn whole_lines_before_a_failed_read_are_answered(rt: HostRuntime) {
     ] {
         read_fails(&rt, rt.alloc(), before, answered);
     }
+}
+
+/// Gives its bytes, and faults once, after so many of them.
+#[derive(Drop)]
+struct Broken<'a> {
+    bytes: &'a [u8],
+    until_fault: usize,
+    faults: u64,
+}
+
+impl Source for Broken<'_> {
+    ghost faults = { λ s. s.faults };
+
+    fn read(&mut self, buf: &mut [u8]) -> Result<usize, Fault> {
+        if self.faults == 0 && self.until_fault == 0 {
+            self.until_fault = usize::MAX;
+            self.faults = 1;
+            return Err(Fault);
+        }
+        let count = self.bytes.len().min(buf.len()).min(self.until_fault);
+        let (given, rest) = self.bytes.split_at(count);
+        buf[..count].copy_from_slice(given);
+        self.bytes = rest;
+        self.until_fault -= count;
+        Ok(count)
+    }
+}
+
+/// Takes no bytes at first: its first write faults.
+#[derive(Drop)]
+struct Full {
+    faults: u64,
+}
+
+impl Sink for Full {
+    ghost faults = { λ s. s.faults };
+
+    fn write(&mut self, _bytes: &[u8]) -> Result<(), Fault> {
+        if self.faults > 0 {
+            return Ok(());
+        }
+        self.faults = 1;
+        Err(Fault)
+    }
+}
+
+#[test]
+fn a_source_and_a_sink_of_ones_own_fault(rt: HostRuntime) {
+    let mut source = Broken {
+        bytes: b"len 0\nlen 1\n",
+        until_fault: 10,
+        faults: 0,
+    };
+    let mut sink = ToWrite::new(Vec::new(rt.alloc()));
+    equal(
+        &rt,
+        drive(rt.alloc(), &mut source, &mut sink),
+        Err(DriveError::Read),
+    );
+    assert_eq!(rt;
+        sink.into_inner().as_slice(),
+        b"refused BadSlot\n".as_slice()
+    );
+    let mut lines = FromRead::new(b"len 0\n".as_slice());
+    let ended = drive(rt.alloc(), &mut lines, &mut Full { faults: 0 });
+    equal(&rt, ended, Err(DriveError::Write));
 }
 
 /// A session whose write fails ends so, and nothing is written.

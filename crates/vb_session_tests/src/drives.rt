@@ -1,0 +1,89 @@
+//! Sessions from lines to answers, by `drive`.
+use crate::compared::is_plain;
+use crate::random::{ALL_LENGTHS, LENGTHS, Random};
+use crate::session::{LOOKS, SESSIONS};
+use std::alloc::Global;
+use std::process::Abort;
+use std::test::Fail;
+use vb_script::{FromRead, ToWrite, drive};
+use vb_testing::{Handle, Refusing, each_refused};
+
+/// A session over these lines is that of the plain machine. A copy of its allocator is a request
+/// too.
+fn drive_is_plain(
+    rt: &impl Abort,
+    global: Global,
+    heap: &Refusing<Global>,
+    lines: &str,
+) -> Result<(), Fail> {
+    let mut source = FromRead::new(lines.as_bytes());
+    let mut sink = ToWrite::new(Vec::new(global));
+    let ended = drive(Handle { inner: heap }, &mut source, &mut sink);
+    let written = sink.into_inner();
+    let text = std::str::from_utf8(&written)?;
+    is_plain(rt, global, lines, heap.has_refused(), (ended, text))
+}
+
+/// A session is plain whatever request, copies of the allocator among them, is refused. It makes so
+/// many at least.
+fn each_is_refused(rt: &impl Abort, global: Global, lines: &str, least: u64) -> Result<(), Fail> {
+    let requests = each_refused(global, |heap| drive_is_plain(rt, global, heap, lines))?;
+    assert!(rt; requests >= Some(least), "{requests:?}: {lines}");
+    Ok(())
+}
+
+#[test]
+fn sessions_are_plain_whatever_is_refused(rt: HostRuntime) -> Result<(), Fail> {
+    for (lines, least) in SESSIONS {
+        let lines = format!(in rt.alloc(); "{lines}{LOOKS}")?;
+        each_is_refused(&rt, rt.alloc(), lines.as_str(), *least)?;
+    }
+    Ok(())
+}
+
+/// How many random lines are answered, in sessions that each end at a line that can't be read.
+const LINES: usize = 10_000;
+
+#[test]
+fn random_lines_are_plain(rt: HostRuntime) -> Result<(), Fail> {
+    let mut random = Random {
+        state: 20_251_123,
+        lengths: ALL_LENGTHS,
+    };
+    let heap = Refusing::new(rt.alloc(), 0);
+    let (mut lines, mut line) = (String::new(rt.alloc()), String::new(rt.alloc()));
+    let mut count = 0usize;
+    for _ in 0..LINES {
+        let left = LINES.saturating_sub(count);
+        lines.clear();
+        count = count.saturating_add(random.add_session(&mut lines, &mut line, left)?);
+        drive_is_plain(&rt, rt.alloc(), &heap, lines.as_str())?;
+        if count >= LINES {
+            return Ok(());
+        }
+    }
+    Ok(())
+}
+
+/// How many random lines are answered again with each of their requests refused in turn.
+const REFUSED_LINES: usize = 200;
+
+#[test]
+fn random_lines_are_plain_whatever_is_refused(rt: HostRuntime) -> Result<(), Fail> {
+    let mut random = Random {
+        state: 7,
+        lengths: LENGTHS,
+    };
+    let (mut lines, mut line) = (String::new(rt.alloc()), String::new(rt.alloc()));
+    let mut count = 0usize;
+    for _ in 0..REFUSED_LINES {
+        let left = REFUSED_LINES.saturating_sub(count);
+        lines.clear();
+        count = count.saturating_add(random.add_session(&mut lines, &mut line, left)?);
+        each_is_refused(&rt, rt.alloc(), lines.as_str(), 1)?;
+        if count >= REFUSED_LINES {
+            return Ok(());
+        }
+    }
+    Ok(())
+}

@@ -1,0 +1,34 @@
+//! Why the plain machine stops.
+use std::alloc::{AllocError, AllocFailed};
+
+/// Why a line isn't carried out.
+#[derive(Clone, Copy, Debug)]
+pub(crate) enum Stop {
+    /// It is refused, and this is answered after `refused`.
+    Refused(&'static str),
+    /// The list's new length is so near to 2^64 that the place of its first bit decides between
+    /// two refusals.
+    TooLong,
+    /// An index to take from a list is none of its places, at this position.
+    Position(usize),
+    /// There is no memory for the plain machine itself.
+    Memory,
+}
+
+pub(crate) const BAD_SLOT: Stop = Stop::Refused("BadSlot");
+
+pub(crate) const OUT_OF_RANGE: Stop = Stop::Refused("OutOfRange");
+
+pub(crate) const OUT_OF_MEMORY: Stop = Stop::Refused("OutOfMemory");
+
+impl From<AllocError> for Stop {
+    fn from(_: AllocError) -> Stop {
+        Stop::Memory
+    }
+}
+
+impl<T: Drop> From<AllocFailed<T>> for Stop {
+    fn from(_: AllocFailed<T>) -> Stop {
+        Stop::Memory
+    }
+}
