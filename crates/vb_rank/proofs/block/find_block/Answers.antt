@@ -10,7 +10,7 @@ loop-left-preserved g c =
     let low : ℕ = c.loop-left.low in let left : ℕ = c.loop-left.left in let half : ℕ = left / 2 in
     let n : ℕ = c.args.n in
     let here : Rises c.args.value t → c.bits_before-here.result ≡ passed c.args.value t (low + half) = λ r.
-        (rw c.loop-left.invariant.same at c.bits_before-here.ensures.value) (r.small (low + half) (omega arith)) in
+    (rw c.loop-left.invariant.same at c.bits_before-here.ensures.value) (r.small (low + half) (omega arith)) in
     let same = c.bits_before-here.ensures.same ∙ c.loop-left.invariant.same in
     let halves = halves-step _ _ _ _ left (left - half) c.loop-left.invariant.halves (omega arith) (omega arith) c.bits_before-here.ensures.probe in
     elim c.if-here-n.branch [
