@@ -47,6 +47,31 @@ const OFTEN: &[&str] = &[
     "full", "full", "freeze", "freeze", "freeze", "drop", "slice", "and", "or", "xor", "andnot",
 ];
 
+/// Lines that combine two sets, or take from one. A, B and C are slots, M is a mode, and each H a
+/// digit of bytes.
+const GROUPS: &[&str] = &[
+    "import A 3 40 HHHHHHHHHHHH\nimport B 5 40 HHHHHHHHHHHH\nfreeze A\nfreeze B\nand M A B C\n",
+    "import A 7 70 HHHHHHHHHHHHHHHHHHHH\nclone A B\nflip B\nfreeze A\nfreeze B\nor M A B C\n",
+    "import A 0 9 HHHH\nimport B 0 9 HHHH\nfreeze B\nfreeze A\nxor M A B C\n",
+    "full A 1 65\nfreeze A\nimport B 2 65 HHHHHHHHHHHHHHHHHH\nfreeze B\nandnot M A B C\n",
+    "import A 1 20 HHHHHH\nfreeze A\nimport B 6 4 HHHH\nfreeze B\ntake A C B 3,0,19,20\n",
+    "import A 4 30 HHHHHHHHHH\nfreeze A\nslice A 5 25 B\nnot M B C\neq A C\nappendset A C\n",
+    "indices A 70 69,0,64\nimport B 3 13 HHHH\nfreeze B\nappendset A B\n",
+];
+
+/// Slots of a group.
+const SLOTS: &[(char, char, char)] = &[
+    ('0', '1', '2'),
+    ('3', '0', '1'),
+    ('2', '4', '5'),
+    ('5', '3', '0'),
+];
+
+/// Digits of bytes.
+const DIGITS: &[&str] = &[
+    "0", "1", "2", "3", "4", "5", "6", "7", "8", "9", "a", "B", "c", "D", "e", "F",
+];
+
 /// Slots that aren't there.
 const NO_SLOTS: &[&str] = &["16", "17", "18446744073709551615"];
 
@@ -73,7 +98,8 @@ impl Random {
         words.get(self.below(words.len())).copied().unwrap_or("")
     }
 
-    /// Adds lines up to the first one that can't be read, and at most so many. Answers how many.
+    /// Adds lines up to the first one that can't be read, and at most so many, beside groups of
+    /// lines among them. Answers how many.
     pub(crate) fn add_session(
         &mut self,
         lines: &mut String,
@@ -82,6 +108,9 @@ impl Random {
     ) -> Result<usize, AllocError> {
         for count in 1..=most {
             line.clear();
+            if self.below(25) == 0 {
+                self.add_group(lines)?;
+            }
             if self.below(50) == 0 {
                 line.push_str(self.one_of(SKIPPED))?;
             } else {
@@ -94,6 +123,36 @@ impl Random {
             }
         }
         Ok(most)
+    }
+
+    /// Adds a group of lines on three slots, which are emptied first and looked at last.
+    fn add_group(&mut self, lines: &mut String) -> Result<(), AllocError> {
+        let slots = SLOTS.get(self.below(SLOTS.len())).copied();
+        let group = self.one_of(GROUPS);
+        self.add_filled(lines, "drop A\ndrop B\ndrop C\n", slots)?;
+        self.add_filled(lines, group, slots)?;
+        self.add_filled(lines, "bits C\nruns A\nfreeze C\n", slots)
+    }
+
+    /// Adds a text, with what its capital letters stand for.
+    fn add_filled(
+        &mut self,
+        lines: &mut String,
+        text: &str,
+        slots: Option<(char, char, char)>,
+    ) -> Result<(), AllocError> {
+        let (a, b, c) = slots.unwrap_or(('0', '1', '2'));
+        for letter in text.chars() {
+            match letter {
+                'A' => lines.push(a)?,
+                'B' => lines.push(b)?,
+                'C' => lines.push(c)?,
+                'M' => lines.push_str(self.one_of(&["ref", "own"]))?,
+                'H' => lines.push_str(self.one_of(DIGITS))?,
+                _ => lines.push(letter)?,
+            }
+        }
+        Ok(())
     }
 
     fn add_command(&mut self, text: &mut String) -> Result<(), AllocError> {
