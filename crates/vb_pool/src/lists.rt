@@ -2,16 +2,19 @@
 ghost use Rattle.std.specs.Prelude.{◌≡◌, IfOk, IsOkUnless, string_bytes};
 ghost use Rattle.vb_kernel.specs.Shown.{shown};
 ghost use Rattle.vb_core.specs.declared.error.BufferError.TheVariants.{OutOfMemory};
+ghost use Rattle.vb_bits.specs.Digits.{digits};
 ghost use Rattle.vb_kernel.specs.Bits.{places};
 ghost use Rattle.vb_kernel.specs.Runs.{runs};
 ghost use Rattle.vb_view.specs.View.{bits_of};
 
 use std::alloc::Allocator;
+use vb_bits::read_bits;
 use vb_core::BufferError;
 use vb_set::BitBuffer;
 use vb_view::BitBufferView;
 
-/// The bits from place 0 on, by one request. Refused by `OutOfMemory` alone.
+/// The bits from place 0 on, by one request, a word of them at a time. Refused by `OutOfMemory`
+/// alone.
 pub(crate) fn list_bits<A: Allocator + Clone>(
     alloc: &A,
     view: BitBufferView<'_>,
@@ -19,11 +22,24 @@ pub(crate) fn list_bits<A: Allocator + Clone>(
     ensures bits { IfOk result (λ list. list.items ≡ bits_of view.entry) }
     ensures refused { IsOkUnless result OutOfMemory }
 {
-    let mut bits = Vec::with_capacity(alloc.clone()?, view.len())?;
-    for bit in view.iter() {
-        bits.push(bit)?;
+    let mut list = Vec::with_capacity(alloc.clone()?, view.len())?;
+    while list.len() < view.len() {
+        let count = (view.len() - list.len()).min(64);
+        let word = read_bits(view.inner(), view.offset() + list.len(), count);
+        list.extend_from_slice(&list_digits(word)[..count])?;
     }
-    Ok(bits)
+    Ok(list)
+}
+
+/// The digits of a word.
+fn list_digits(word: u64) -> [bool; 64]
+    ensures { result ≡ digits word 0 64 }
+{
+    let mut list = [false; 64];
+    for k in 0..64 {
+        list[k] = (word >> k) & 1 == 1;
+    }
+    list
 }
 
 /// The places of the true bits, in ascending order, by one request. Refused by `OutOfMemory` alone.

@@ -202,8 +202,20 @@ fn push_digits<A: Allocator>(bytes: &mut Vec<u8, A>, bits: &[bool])
     ensures len { length bytes.new.items ≡ length bytes.old.items + length bits.now }
     ensures room { vec_capacity bytes.old ≤ vec_capacity bytes.new }
 {
-    for bit in bits {
-        bytes.push(digit_byte(*bit)).unwrap();
+    let len = bytes.len();
+    bytes.resize(len + bits.len(), 0).unwrap();
+    write_digits(&mut bytes[len..], bits);
+}
+
+/// Makes as many bytes as there are truth values the codes of their binary digits.
+///
+/// The bytes are there before they are written, so the loop has no way out and goes by vectors.
+fn write_digits(bytes: &mut [u8], bits: &[bool])
+    requires { length bytes.old ≡ length bits.now }
+    ensures { bytes.new ≡ flat_map digit_of bits.now }
+{
+    for k in 0..bits.len() {
+        bytes[k] = digit_byte(bits[k]);
     }
 }
 
