@@ -9,7 +9,7 @@ pub fn of(call: &str) -> Option<&'static str> {
 }
 
 /// By how the name of the call begins.
-const NOTES: [(&str, &str); 14] = [
+const NOTES: [(&str, &str); 13] = [
     ("`&` by reference", COPIED),
     ("`|` by reference", COPIED),
     ("`^` by reference", COPIED),
@@ -18,11 +18,6 @@ const NOTES: [(&str, &str); 14] = [
         "`==`",
         "The toolchain compiles a comparison of slices to a loop and not to memcmp; at unequal \
          offsets each word of one side is put together from two",
-    ),
-    (
-        "`last_set_index`",
-        "For each word it is found out how many bits it has, how many bytes are left, and what to \
-         mask; whole words need none of that",
     ),
     (
         "`append` of a million bits",
