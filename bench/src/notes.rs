@@ -9,20 +9,15 @@ pub fn of(call: &str) -> Option<&'static str> {
 }
 
 /// By how the name of the call begins.
-const NOTES: [(&str, &str); 14] = [
+const NOTES: [(&str, &str); 13] = [
     ("`&` by reference", COPIED),
     ("`|` by reference", COPIED),
     ("`^` by reference", COPIED),
     ("`bitand_not` by reference", COPIED),
     (
         "`==`",
-        "The toolchain compiles a comparison of slices to a loop and not to memcmp; at unequal \
-         offsets each word of one side is put together from two",
-    ),
-    (
-        "`last_set_index`",
-        "For each word it is found out how many bits it has, how many bytes are left, and what to \
-         mask; whole words need none of that",
+        "At x86-64-v2 vectors are of 16 bytes, and memcmp's are wider; at unequal offsets each \
+         word of one side is put together from two",
     ),
     (
         "`append` of a million bits",

@@ -1,15 +1,11 @@
--- Windows that are equal, and numbers and bytes whose digits are.
-use Rattle.std.proofs.Common.{◌≡◌, inl, inr, ℕ, ◌-◌, subst, zero, suc, ◌+◌, ◌*◌, ◌/◌, ◌%◌, ◌^◌, ◌<◌, ◌≤◌, ◌↔◌, false, eqb, max, List, ◌++◌, length, get_or, take, drop, refl, sym, ap, ◌∙◌, arith, zero-add}
-use Rattle.std.specs.Prelude.{slice_range}
+-- Windows that are equal, and numbers whose digits are.
+use Rattle.std.proofs.Common.{◌≡◌, ℕ, ◌-◌, zero, suc, ◌+◌, ◌%◌, ◌^◌, ◌<◌, ◌≤◌, ◌↔◌, false, eqb, max, List, ◌++◌, get_or, take, drop, refl, sym, ap, ◌∙◌, arith, zero-add}
 use Rattle.std.specs.Int.{bit_at}
 use Rattle.std.specs.Int.Bits.{bit_or, bit_xor, xor_self}
-use Rattle.std.proofs.lemmas.Bool.{cases_lt}
-use Rattle.std.proofs.lemmas.List.{ext_get_or, get_or-take, get_or-drop, get_or_past, length-take, length-drop}
 use Rattle.std.proofs.lemmas.Nat.Bits.{bit_at-lt, bit_at-zero, bit_at_or, bit_at_xor, same_from_bits, same_from_bits_below}
-use Rattle.vb_bits.specs.Bits.{bit_of, bits}
+use Rattle.vb_bits.specs.Bits.{bits}
 use Rattle.vb_bits.specs.Digits.{has_bit, digits}
-use Rattle.vb_bits.proofs.BitsLemmas.{at-bits, take-bits, drop-bits, bits-add}
-use Rattle.vb_bits.proofs.BytesLemmas.{bits-slice_range}
+use Rattle.vb_bits.proofs.BitsLemmas.{take-bits, drop-bits, bits-add}
 use Rattle.vb_bits.proofs.DigitsLemmas.{at-digits}
 
 -- two windows are equal exactly where both parts are
@@ -22,21 +18,32 @@ same-bits-add b c o p m n = (
   λ e. bits-add b o m n ∙ ap (λ l. l ++ bits b (o + m) n) e.0 ∙ ap (λ l. bits c p m ++ l) e.1 ∙ sym (bits-add c p m n),
 )
 
--- two windows are equal exactly where all three parts are
-pub same-three : (b c : List ℕ) (o p h m d n k : ℕ) → d ≡ h + m → k ≡ d + n
-    → (bits b o k ≡ bits c p k) ↔ ((bits b o h ≡ bits c p h) × (bits b (o + h) m ≡ bits c (p + h) m) × (bits b (o + d) n ≡ bits c (p + d) n))
-same-three b c o p h m d n k front whole =
-    let outer = same-bits-add b c o p d n in
-    let inner = same-bits-add b c o p h m in
-    let all_b : bits b o k ≡ bits b o (d + n) = ap (bits b o) whole in
-    let all_c : bits c p k ≡ bits c p (d + n) = ap (bits c p) whole in
-    let front_b : bits b o d ≡ bits b o (h + m) = ap (bits b o) front in
-    let front_c : bits c p d ≡ bits c p (h + m) = ap (bits c p) front in (
+-- equal windows, said of other places and of another length that are the same
+pub same-at : (b c : List ℕ) (o p n q r m : ℕ) → o ≡ q → p ≡ r → n ≡ m → bits b o n ≡ bits c p n → bits b q m ≡ bits c r m
+same-at b c o p n q r m at_b at_c len e = ap (λ i. bits b i m) (sym at_b) ∙ ap (bits b o) (sym len) ∙ e ∙ ap (bits c p) len ∙ ap (λ i. bits c i m) at_c
+
+-- two windows are equal exactly where three parts are that make them up; the last one may begin within the second
+pub same-three : (b c : List ℕ) (o p h m n k q r s t : ℕ) → h + m ≤ k → n ≤ k → k ≤ h + m + n → q ≡ o + h → r ≡ p + h → s + n ≡ o + k → t + n ≡ p + k
+    → (bits b o k ≡ bits c p k) ↔ ((bits b o h ≡ bits c p h) × (bits b q m ≡ bits c r m) × (bits b s n ≡ bits c t n))
+same-three b c o p h m n k q r s t inside fits covers at_q at_r at_s at_t =
+    let d : ℕ = h + m in
+    let front = same-bits-add b c o p h m in
+    let rest = same-bits-add b c o p d (k - d) in
+    let last = same-bits-add b c o p (k - n) n in
+    let cut = same-bits-add b c s t (d - (k - n)) (k - d) in
+    let split : d + (k - d) ≡ k = omega (arith, inside) in
+    let whole : k - n + n ≡ k = omega (arith, fits) in
+    let back : d - (k - n) + (k - d) ≡ n = omega (arith, inside, fits, covers) in
+    let from_s : s + (d - (k - n)) ≡ o + d = omega (arith, inside, fits, covers, at_s) in
+    let from_t : t + (d - (k - n)) ≡ p + d = omega (arith, inside, fits, covers, at_t) in (
       λ e.
-          let both = outer.0 (sym all_b ∙ e ∙ all_c) in
-          let two = inner.0 (sym front_b ∙ both.0 ∙ front_c) in
-          (two.0, two.1, both.1),
-      λ e. all_b ∙ outer.1 (front_b ∙ inner.1 (e.0, e.1) ∙ sym front_c, e.2) ∙ sym all_c,
+          let two = front.0 (rest.0 (same-at b c o p k o p (d + (k - d)) refl refl (sym split) e)).0 in
+          let end = (last.0 (same-at b c o p k o p (k - n + n) refl refl (sym whole) e)).1 in
+          (two.0, same-at b c (o + h) (p + h) m q r m (sym at_q) (sym at_r) refl two.1, same-at b c (o + (k - n)) (p + (k - n)) n s t n (omega (arith, fits, at_s)) (omega (arith, fits, at_t)) refl end),
+      λ e.
+          let two = front.1 (e.0, same-at b c q r m (o + h) (p + h) m at_q at_r refl e.1) in
+          let end = (cut.0 (same-at b c s t n s t (d - (k - n) + (k - d)) refl refl (sym back) e.2)).1 in
+          same-at b c o p (d + (k - d)) o p k refl refl split (rest.1 (two, same-at b c (s + (d - (k - n))) (t + (d - (k - n))) (k - d) (o + d) (p + d) (k - d) from_s from_t refl end)),
     )
 
 -- ---- numbers
@@ -93,33 +100,4 @@ differing-add b c o p n d x y m q r small_x small_y before here there at_b at_c 
           let both = parts.0 (sym all_b ∙ e ∙ all_c) in
           let word : x ≡ y = same_from_digits x y 64 small_x small_y (here ∙ to ∙ both.1 ∙ sym from ∙ sym there) in
           (or-zero d (bit_xor x y)).1 (before.1 both.0, (xor-zero x y).1 word),
-    )
-
--- ---- bytes
--- lists of as many bytes are equal where their bits are
-same_bytes : (xs ys : List ℕ) (n : ℕ) → length xs ≡ n → length ys ≡ n → ((i : ℕ) → get_or xs i 0 < 256) → ((i : ℕ) → get_or ys i 0 < 256)
-    → bits xs 0 (8 * n) ≡ bits ys 0 (8 * n) → xs ≡ ys
-same_bytes xs ys n lx ly bx by e = ext_get_or 0 xs ys (lx ∙ sym ly) (λ j l. same_from_bits_below 8 (get_or xs j 0) (get_or ys j 0) (bx j) (by j) (λ i k.
-    let within : 8 * j + i < 8 * n = omega (arith, lx) in
-    let bit : bit_of xs (0 + (8 * j + i)) ≡ bit_of ys (0 + (8 * j + i)) = sym (at-bits xs 0 (8 * n) (8 * j + i) false within) ∙ ap (λ m. get_or m (8 * j + i) false) e ∙ at-bits ys 0 (8 * n) (8 * j + i) false within in
-    let byte : (0 + (8 * j + i)) / 8 ≡ j = omega arith in
-    let digit : (0 + (8 * j + i)) % 8 ≡ i = omega arith in
-    let flag : (zs : List ℕ) → bit_of zs (0 + (8 * j + i)) ≡ has_bit (get_or zs j 0) i = λ zs. ap (λ a. has_bit (get_or zs a 0) ((0 + (8 * j + i)) % 8)) byte ∙ ap (has_bit (get_or zs j 0)) digit in
-    same_flag (bit_at (get_or xs j 0) i) (bit_at (get_or ys j 0) i) (bit_at-lt (get_or xs j 0) i) (bit_at-lt (get_or ys j 0) i) (sym (flag xs) ∙ bit ∙ flag ys)))
-
--- each byte of a range is a byte
-byte_of_range : (b : List ℕ) (o n i : ℕ) → ((j : ℕ) → get_or b j 0 < 256) → get_or (slice_range b o (o + n)) i 0 < 256
-byte_of_range b o n i h = elim (cases_lt i (o + n - o)) [
-  | inl here ↦ subst (λ x. x < 256) (sym (get_or-take (o + n - o) (drop o b) i 0 here ∙ get_or-drop o b i 0)) (h (o + i))
-  | inr past ↦ subst (λ x. x < 256) (sym (get_or_past (take (o + n - o) (drop o b)) i 0 (omega (arith, past, length-take (o + n - o) (drop o b))))) (omega arith)
-]
-
--- ranges of bytes are equal exactly where their bits are
-pub same_ranges : (b c : List ℕ) (o p n : ℕ) → o + n ≤ length b → p + n ≤ length c → ((i : ℕ) → get_or b i 0 < 256) → ((i : ℕ) → get_or c i 0 < 256)
-    → (slice_range b o (o + n) ≡ slice_range c p (p + n)) ↔ (bits b (8 * o) (8 * n) ≡ bits c (8 * p) (8 * n))
-same_ranges b c o p n within also bb bc =
-    let left : length (slice_range b o (o + n)) ≡ n = omega (arith, length-take (o + n - o) (drop o b), length-drop o b) in
-    let right : length (slice_range c p (p + n)) ≡ n = omega (arith, length-take (p + n - p) (drop p c), length-drop p c) in (
-      λ e. sym (bits-slice_range b o n) ∙ ap (λ l. bits l 0 (8 * n)) e ∙ bits-slice_range c p n,
-      λ e. same_bytes _ _ n left right (λ i. byte_of_range b o n i bb) (λ i. byte_of_range c p n i bc) (bits-slice_range b o n ∙ e ∙ sym (bits-slice_range c p n)),
     )

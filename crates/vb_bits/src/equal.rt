@@ -5,17 +5,14 @@ ghost use Rattle.vb_bits.specs.Bits.{bits};
 use crate::bytes::word_at;
 use crate::read::{read_bits, shifted_word};
 
-/// At most how many words are compared before it is seen whether they differ: a vector loop has no
-/// way out.
-const BLOCK: usize = 256;
-
-/// How many are compared at first.
-const FIRST: usize = 8;
+/// How many words are compared before it is seen whether they differ: a vector loop has no way out.
+const BLOCK: usize = 64;
 
 /// Whether the `len` bits of `left` from bit `l` on are those of `right` from bit `r` on.
 ///
-/// Whole bytes that lie alike in both are compared as bytes, others by words of 64 bits, blocks of
-/// which grow from 8 words to 256. No block behind the first difference is read.
+/// The bits up to a word of `left` are compared as one number, and so are the last 64; the words
+/// between go by blocks, which begin with a cache line of `left` where `left` begins with one. No
+/// block behind the first difference is read.
 pub fn equal_bits(left: &[u8], l: usize, right: &[u8], r: usize, len: usize) -> bool
     requires left_inside { l + len ≤ 8 * length left.now }
     requires left_fits { l + len < 2 ^ 64 }
@@ -23,12 +20,14 @@ pub fn equal_bits(left: &[u8], l: usize, right: &[u8], r: usize, len: usize) -> 
     requires right_fits { r + len < 2 ^ 64 }
     ensures { IsTrue result ↔ (bits left.now l len ≡ bits right.now r len) }
 {
-    let head = len.min((8 - l % 8) % 8);
-    let words = (len - head) / 64;
-    let done = head + 64 * words;
+    if len < 64 {
+        return equal_few(left, l, right, r, len);
+    }
+    let head = 64 - l % 64;
+    let rest = len - 64;
     equal_few(left, l, right, r, head)
-        && equal_words(left, l + head, right, r + head, words)
-        && equal_few(left, l + done, right, r + done, len - done)
+        && equal_words(left, (l + head) / 8, right, r + head, (len - head) / 64)
+        && equal_few(left, l + rest, right, r + rest, 64)
 }
 
 /// [`equal_bits`] of at most 64 bits.
@@ -41,55 +40,71 @@ fn equal_few(left: &[u8], l: usize, right: &[u8], r: usize, len: usize) -> bool
     read_bits(left, l, len) == read_bits(right, r, len)
 }
 
-/// [`equal_bits`] of `n` words, which begin with a byte of `left`.
-fn equal_words(left: &[u8], l: usize, right: &[u8], r: usize, n: usize) -> bool
-    requires whole { 0 < n → l % 8 ≡ 0 }
-    requires left_inside { l + 64 * n ≤ 8 * length left.now }
-    requires right_inside { r + 64 * n ≤ 8 * length right.now }
-    requires right_fits { r + 64 * n < 2 ^ 64 }
-    ensures { IsTrue result ↔ (bits left.now l (64 * n) ≡ bits right.now r (64 * n)) }
-{
-    if n == 0 {
-        return true;
-    }
-    if r % 8 == 0 {
-        return equal_bytes(left, l / 8, right, r / 8, 8 * n);
-    }
-    equal_shifted_words(left, l / 8, right, r, n)
-}
-
-/// [`equal_bits`] of `n` bytes of `left` from byte `a` on, and of `right` from byte `b` on.
-fn equal_bytes(left: &[u8], a: usize, right: &[u8], b: usize, n: usize) -> bool
-    requires left_inside { a + n ≤ length left.now }
-    requires right_inside { b + n ≤ length right.now }
-    ensures { IsTrue result ↔ (bits left.now (8 * a) (8 * n) ≡ bits right.now (8 * b) (8 * n)) }
-{
-    left[a..a + n] == right[b..b + n]
-}
-
-/// [`equal_bits`] of `n` words of `left` from byte `a` on, and of `right` from a bit within a byte
-/// on, a block at a time.
-fn equal_shifted_words(left: &[u8], a: usize, right: &[u8], r: usize, n: usize) -> bool
-    requires part { 0 < r % 8 }
+/// [`equal_bits`] of `n` words of `left` from byte `a` on: those up to a multiple of 64 bytes,
+/// blocks, and those that are left.
+fn equal_words(left: &[u8], a: usize, right: &[u8], r: usize, n: usize) -> bool
     requires left_inside { a + 8 * n ≤ length left.now }
     requires right_inside { r + 64 * n ≤ 8 * length right.now }
     requires right_fits { r + 64 * n < 2 ^ 64 }
     ensures { IsTrue result ↔ (bits left.now (8 * a) (64 * n) ≡ bits right.now r (64 * n)) }
 {
-    let mut done = 0;
-    while done < n {
-        let count = (n - done).min(FIRST + done).min(BLOCK);
-        if differing_digits(left, a + 8 * done, right, r + 64 * done, count) != 0 {
+    let lead = n.min((8 - a / 8 % 8) % 8);
+    let blocks = (n - lead) / BLOCK;
+    let done = lead + BLOCK * blocks;
+    differing_digits(left, a, right, r, lead) == 0
+        && equal_blocks(left, a + 8 * lead, right, r + 64 * lead, blocks)
+        && differing_digits(left, a + 8 * done, right, r + 64 * done, n - done) == 0
+}
+
+/// [`equal_bits`] of `n` blocks of `left` from byte `a` on.
+fn equal_blocks(left: &[u8], a: usize, right: &[u8], r: usize, n: usize) -> bool
+    requires left_inside { a + 8 * (BLOCK * n) ≤ length left.now }
+    requires right_inside { r + 64 * (BLOCK * n) ≤ 8 * length right.now }
+    requires right_fits { r + 64 * (BLOCK * n) < 2 ^ 64 }
+    ensures { IsTrue result
+        ↔ (bits left.now (8 * a) (64 * (BLOCK * n)) ≡ bits right.now r (64 * (BLOCK * n))) }
+{
+    for k in 0..n {
+        let done = BLOCK * k;
+        if differing_digits(left, a + 8 * done, right, r + 64 * done, BLOCK) != 0 {
             return false;
         }
-        done += count;
     }
     true
 }
 
-/// The digits that differ in one of the `n` words of `left` from byte `a` on, and of `right` from a
-/// bit within a byte on.
+/// The digits that differ in one of the `n` words of `left` from byte `a` on, and of `right` from
+/// bit `r` on.
+#[inline(always)]
 fn differing_digits(left: &[u8], a: usize, right: &[u8], r: usize, n: usize) -> u64
+    requires left_inside { a + 8 * n ≤ length left.now }
+    requires right_inside { r + 64 * n ≤ 8 * length right.now }
+    ensures { (result ≡ 0) ↔ (bits left.now (8 * a) (64 * n) ≡ bits right.now r (64 * n)) }
+{
+    if r % 8 == 0 {
+        differing_whole(left, a, right, r / 8, n)
+    } else {
+        differing_shifted(left, a, right, r, n)
+    }
+}
+
+/// [`differing_digits`] where the words of both begin with a byte.
+#[inline(always)]
+fn differing_whole(left: &[u8], a: usize, right: &[u8], b: usize, n: usize) -> u64
+    requires left_inside { a + 8 * n ≤ length left.now }
+    requires right_inside { b + 8 * n ≤ length right.now }
+    ensures { (result ≡ 0) ↔ (bits left.now (8 * a) (64 * n) ≡ bits right.now (8 * b) (64 * n)) }
+{
+    let mut differing = 0;
+    for k in 0..n {
+        differing |= word_at(left, a + 8 * k) ^ word_at(right, b + 8 * k);
+    }
+    differing
+}
+
+/// [`differing_digits`] where the words of `right` begin within a byte.
+#[inline(always)]
+fn differing_shifted(left: &[u8], a: usize, right: &[u8], r: usize, n: usize) -> u64
     requires part { 0 < r % 8 }
     requires left_inside { a + 8 * n ≤ length left.now }
     requires right_inside { r + 64 * n ≤ 8 * length right.now }

@@ -17,14 +17,21 @@ returns-then-word-ne0 c =
 pub loop-left-preserved : goal.loop-left-preserved
 loop-left-preserved c =
     let b = c.args.bytes.now in let o = c.args.offset in let w = c.read_bits-word in let n = c.min-count.result in let a = c.loop-left.left - n in
+    let blocks = c.pass_words-left in let words = c.pass_words-left-in-loop-left in
     record {
-      within = omega (arith, c.loop-left.invariant.within);
-      passed = λ i lo hi. elim (cases_lt i c.loop-left.left) [
-        | inl here ↦
-            let place : o + i ≡ o + a + (i - a) = omega arith in
-            ap (bit_of b) place ∙ sym (has_bit-bits b w.result (o + a) n (i - a) w.ensures.digits (omega arith))
-            ∙ ap (λ x. has_bit x (i - a)) c.if-word-ne0.false ∙ digits-clear (i - a)
-        | inr past ↦ c.loop-left.invariant.passed i past hi
+      within = omega (arith, blocks.ensures.within, words.ensures.within, c.loop-left.invariant.within);
+      passed = λ i lo hi. elim (cases_lt i blocks.result) [
+        | inl here ↦ words.ensures.passed i lo here
+        | inr past ↦ elim (cases_lt i a) [
+          | inl here ↦ blocks.ensures.passed i past here
+          | inr behind ↦ elim (cases_lt i c.loop-left.left) [
+            | inl here ↦
+                let place : o + i ≡ o + a + (i - a) = omega arith in
+                ap (bit_of b) place ∙ sym (has_bit-bits b w.result (o + a) n (i - a) w.ensures.digits (omega arith))
+                ∙ ap (λ x. has_bit x (i - a)) c.if-word-ne0.false ∙ digits-clear (i - a)
+            | inr last ↦ c.loop-left.invariant.passed i last hi
+          ]
+        ]
       ];
     }
 

@@ -2,7 +2,7 @@ use Rattle.std.proofs.Common.{◌+◌, ◌*◌, ◌/◌, ◌%◌, ◌∙◌, ref
 use Rattle.vb_bits.proofs.BitsLemmas.{bits_none}
 use Rattle.vb_bits.proofs.ReadLemmas.{digits_of_word}
 use Rattle.vb_bits.proofs.EqualLemmas.{differing-add}
-use Rattle.vb_bits.proofs.equal.differing_digits.Goals as goal
+use Rattle.vb_bits.proofs.equal.differing_shifted.Goals as goal
 
 pub loop-k-init : goal.loop-k-init
 loop-k-init c = (λ _. bits_none c.args.left.now (8 * c.args.a) ∙ sym (bits_none c.args.right.now c.args.r), λ _. refl)
