@@ -5,6 +5,7 @@
 
 ghost use Rattle.std.specs.Prelude.{◌≡◌, ◌≢◌, ◌+◌, ◌*◌, ◌%◌, ◌^◌, ◌<◌, ◌≤◌, [], ◌++◌};
 ghost use Rattle.std.specs.Prelude.{length, vec_capacity, IfOk, IsOk, IsErrOf};
+ghost use Rattle.vb_bytes.specs.Answers.{MakesBytes, ReadsBytes};
 ghost use Rattle.vb_bytes.specs.ByteForm.{byteform, IsReadFrom, AreOnlyItems};
 
 use std::alloc::Allocator;
@@ -71,4 +72,35 @@ pub fn read_items<T: Element, A: Allocator>(bytes: &[u8], items: &mut Vec<T, A>)
     for chunk in bytes.chunks_exact(T::SIZE) {
         items.push_reserved(T::get(chunk));
     }
+}
+
+/// The bytes of items, in a vector made for them. Refused with `TooManyBytes` where their number
+/// passes `usize`, which is looked at before memory is asked for, and else with `OutOfMemory`.
+pub fn bytes_of<T: Element, A: Allocator + Clone>(
+    alloc: &A,
+    items: &[T],
+) -> Result<Vec<u8, A>, BufferError>
+    ensures { MakesBytes (length items.now * T.SIZE)
+        (λ bytes. bytes.items ≡ byteform T.form items.now) result }
+{
+    let len = byte_count::<T>(items.len())?;
+    let mut bytes = Vec::with_capacity(alloc.clone()?, len)?;
+    push_bytes(items, &mut bytes);
+    Ok(bytes)
+}
+
+/// The items whose bytes these are, in a vector made for them. Refused with `ByteLength` where the
+/// size of an item doesn't divide the number of bytes, which is looked at before memory is asked
+/// for, and else with `OutOfMemory`.
+pub fn items_of<T: Element, A: Allocator + Clone>(
+    alloc: &A,
+    bytes: &[u8],
+) -> Result<Vec<T, A>, BufferError>
+    ensures { ReadsBytes (length bytes.now) T.SIZE
+        (λ items. IsReadFrom T.form T.is_in_type bytes.now items.items) result }
+{
+    let len = item_count::<T>(bytes.len())?;
+    let mut items = Vec::with_capacity(alloc.clone()?, len)?;
+    read_items(bytes, &mut items);
+    Ok(items)
 }

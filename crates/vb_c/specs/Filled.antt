@@ -1,5 +1,5 @@
 -- Lists that are written into memory of the caller.
-use Rattle.std.specs.Prelude.{◌≡◌, ℕ, List, ◌++◌, length, min, map, take, drop}
+use Rattle.std.specs.Prelude.{◌≡◌, ℕ, List, ◌++◌, length, min, take, drop}
 use Rattle.vb_c.specs.declared.walk.Run.{Run}
 
 -- the first n of these values stand in front, as many as there was room for; behind them all is as

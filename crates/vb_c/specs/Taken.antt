@@ -1,5 +1,5 @@
 -- How a call that takes bits answers.
-use Rattle.std.specs.Prelude.{◌≡◌, ℕ, ℤ, true, false, Bool, List, Option}
+use Rattle.std.specs.Prelude.{◌≡◌, ℤ, true, false, Bool, List, Option}
 use Rattle.vb_take.specs.Takes.{IsTaken, IsFirstPast}
 use Rattle.vb_c.specs.declared.place.Place.{Place}
 

@@ -1,5 +1,7 @@
 -- Growth in several steps.
-use Rattle.std.proofs.Common.{List, ◌++◌, append_assoc, ap, ◌∙◌, arith}
+use Rattle.std.proofs.Common.{◌≡◌, ◌∙◌, ap, arith, rules}
+use Rattle.std.proofs.Common.{List, [], ◌++◌, append_assoc, Result, Ok, Err}
+use Rattle.std.specs.Prelude.{OnOk, OnErr}
 use Rattle.vb_mem.specs.OpenBuffer.{OpenBuffer, Lengthens}
 
 -- items that are added after others
@@ -11,3 +13,9 @@ Lengthens-append xs ys a b c first more = record {
   declared = more.declared ∙ first.declared;
   room = omega (arith, first.room, more.room);
 }
+
+-- room that was asked for, and may have been refused
+pub Lengthens-asked : {T R E : Type 0} (r : Result R E) (old new : OpenBuffer T)
+    → OnOk r (Lengthens [] old new) → OnErr r (new ≡ old) → Lengthens [] old new
+Lengthens-asked (Ok _) old new made kept = made
+Lengthens-asked (Err _) old new made kept = rw kept (search rules)

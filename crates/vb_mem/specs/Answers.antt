@@ -1,9 +1,9 @@
 -- How calls answer that take memory.
-use Rattle.std.specs.Prelude.{◌≡◌, ◌≢◌, ℕ, ◌%◌, ◌^◌, ◌<◌, ◌≤◌}
-use Rattle.std.specs.Prelude.{Result, IfOk, OnErr, IsOk, IsErrOf, IsOkUnless}
+use Rattle.std.specs.Prelude.{◌≡◌, ℕ}
+use Rattle.std.specs.Prelude.{Result, IfOk, OnErr, IsOk, IsOkUnless}
 use Rattle.vb_core.specs.declared.error.BufferError.{BufferError}
-use Rattle.vb_core.specs.declared.error.BufferError.TheVariants.{OutOfMemory, TooManyBytes}
-use Rattle.vb_core.specs.declared.error.BufferError.TheVariants.{ByteLength}
+use Rattle.vb_core.specs.declared.error.BufferError.TheVariants.{OutOfMemory}
+pub use Rattle.vb_bytes.specs.Answers.{MakesBytes, ReadsBytes}
 use Rattle.vb_mem.specs.OpenBuffer.{OpenBuffer, HasRoom}
 
 -- P holds of what was made, or the call was refused for want of memory
@@ -18,19 +18,3 @@ pub record NeedsRoom {T R : Type 0} (n : ℕ) (result : Result R BufferError)
   pub in_place : HasRoom old n → IsOk result
   pub err : OnErr result (new ≡ old)
   pub refused : IsOkUnless result OutOfMemory
-
--- P holds of what was made of n bytes. Past 64 bits the call was refused by `TooManyBytes`, else
--- for want of memory alone
-pub record MakesBytes {T : Type 0} (n : ℕ) (P : T → Type 0)
-    (result : Result T BufferError) : Type 0 where
-  pub ok : IfOk result P
-  pub fits : n < 2 ^ 64 → IsOkUnless result OutOfMemory
-  pub too_many : 2 ^ 64 ≤ n → IsErrOf result TooManyBytes
-
--- P holds of what was read from n bytes. Where an item's size does not divide n, the call was
--- refused by `ByteLength`, else for want of memory alone
-pub record ReadsBytes {T : Type 0} (n size : ℕ) (P : T → Type 0)
-    (result : Result T BufferError) : Type 0 where
-  pub ok : IfOk result P
-  pub whole : n % size ≡ 0 → IsOkUnless result OutOfMemory
-  pub uneven : n % size ≢ 0 → IsErrOf result (ByteLength n size)

@@ -32,23 +32,18 @@ pub(crate) enum Content<T: Element, A: Allocator> {
 impl<T: Element, A: Allocator> Content<T, A> {
     ghost use Rattle.vb_mem.specs.Content.{seen, IsSound, IsWhole};
 
-    // The place of the first item in the storage, in items.
-    fn start(&self) -> usize
-        ensures { (seen T.SIZE self.now).place ≡ result * T.SIZE }
-    {
-        match self {
-            Content::Nothing(_) | Content::Stored(_, None) => 0,
-            Content::Stored(_, Some(window)) => window.start,
-        }
-    }
-
     // Whether an alignment divides the place in bytes of the item so many on. A place that wraps
     // keeps its remainder.
     pub(crate) fn is_place_divided(&self, alignment: Alignment, items_on: usize) -> bool
         ensures { IsTrue result
             ↔ (((seen T.SIZE self.now).place + items_on * T.SIZE) % 2 ^ alignment ≡ 0) }
     {
-        let item = self.start().wrapping_add(items_on);
+        let start = match self {
+            Content::Nothing(_) => 0,
+            Content::Stored(_, None) => 0,
+            Content::Stored(_, Some(window)) => window.start,
+        };
+        let item = start.wrapping_add(items_on);
         alignment.is_offset_aligned(item.wrapping_mul(T::SIZE))
     }
 
@@ -69,24 +64,15 @@ impl<T: Element, A: Allocator> Content<T, A> {
         let Content::Stored(_, shown) = self else {
             return;
         };
-        match *shown {
-            Some(window) => {
-                let start = window.start + range.start;
-                *shown = Some(Window {
-                    start,
-                    len,
-                    alignment,
-                });
-            }
-            None => {
-                let start = range.start;
-                *shown = Some(Window {
-                    start,
-                    len,
-                    alignment,
-                });
-            }
-        }
+        let start = match shown {
+            Some(window) => window.start + range.start,
+            None => range.start,
+        };
+        *shown = Some(Window {
+            start,
+            len,
+            alignment,
+        });
     }
 
     // Keeps what is shown of the storage, where no other buffer shares it. Answers whether it did.

@@ -115,7 +115,7 @@ fn open_clone<A: Allocator + Clone>(
     rt: &impl Abort,
     original: Buffer<u32, A>,
 ) -> Result<(), BufferError> {
-    let opened = into_mut_of(original.clone());
+    let opened = opened(original.clone());
     equal_lists(rt, original.as_slice(), &[1, 2, 3]);
     drop(original);
     let opened = opened?;
@@ -124,7 +124,8 @@ fn open_clone<A: Allocator + Clone>(
     Ok(())
 }
 
-fn into_mut_of<A: Allocator + Clone>(
+/// A buffer that was made, to be changed.
+pub fn opened<A: Allocator + Clone>(
     made: Result<Buffer<u32, A>, BufferError>,
 ) -> Result<BufferMut<u32, A>, BufferError> {
     made?.into_mut()

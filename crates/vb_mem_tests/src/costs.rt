@@ -1,7 +1,8 @@
 //! What calls ask of the allocator: nothing where they share or work in place, and at most twice
 //! the bytes that they need where they copy or grow.
+use crate::changes::opened;
 use crate::compared::equal_lists;
-use crate::makers::{cloned, sliced, twin};
+use crate::makers::{cloned, frozen, sliced, twin};
 use std::alloc::Allocator;
 use std::process::Abort;
 use vb_core::{Alignment, BufferError};
@@ -30,11 +31,11 @@ impl Growing {
         mut buffer: BufferMut<u32, A>,
     ) -> Result<BufferMut<u32, A>, BufferError> {
         match self {
-            Growing::Freeze => buffer.freeze()?.into_mut(),
+            Growing::Freeze => opened(buffer.freeze()),
             Growing::Take => buffer.take(),
             Growing::AlignedWithin => buffer.aligned(Alignment::from_exponent(8)),
             Growing::AlignedBeyond => buffer.aligned(Alignment::from_exponent(9)),
-            Growing::Clone => cloned(buffer),
+            Growing::Clone => cloned(Ok(buffer)),
             Growing::Reserve => {
                 buffer.reserve(1000)?;
                 Ok(buffer)
@@ -113,25 +114,35 @@ impl Shared {
         buffer: Buffer<u32, A>,
     ) -> Result<Buffer<u32, A>, BufferError> {
         match self {
-            Shared::Clone => twin(buffer),
-            Shared::Slice => sliced(buffer, 64, 1000),
-            Shared::CloneOfSlice => twin(sliced(buffer, 64, 1000)?),
+            Shared::Clone => twin(Ok(buffer)),
+            Shared::Slice => sliced(Ok(buffer), 64, 1000),
+            Shared::CloneOfSlice => twin(sliced(Ok(buffer), 64, 1000)),
             Shared::AlignedWithin => buffer.aligned(Alignment::from_exponent(8)),
             Shared::AlignedBeyond => buffer.aligned(Alignment::from_exponent(9)),
             Shared::EnsureAligned => buffer.ensure_aligned(Alignment::from_exponent(8)),
-            Shared::IntoMut => buffer.into_mut()?.freeze(),
-            Shared::IntoMutOfSlice => sliced(buffer, 64, 1000)?.into_mut()?.freeze(),
-            Shared::IntoMutOfTwo => buffer.clone()?.into_mut()?.freeze(),
-            Shared::ItemsMut => written(buffer),
-            Shared::ItemsMutOfSlice => written(sliced(buffer, 64, 1000)?),
-            Shared::ItemsMutOfTwo => written(buffer.clone()?),
+            Shared::IntoMut => frozen(buffer.into_mut()),
+            Shared::IntoMutOfSlice => frozen(opened(sliced(Ok(buffer), 64, 1000))),
+            Shared::IntoMutOfTwo => {
+                let opened = opened(buffer.clone());
+                drop(buffer);
+                frozen(opened)
+            }
+            Shared::ItemsMut => written(Ok(buffer)),
+            Shared::ItemsMutOfSlice => written(sliced(Ok(buffer), 64, 1000)),
+            Shared::ItemsMutOfTwo => {
+                let written = written(buffer.clone());
+                drop(buffer);
+                written
+            }
         }
     }
 }
 
+/// Writes the items of a buffer that was made.
 fn written<A: Allocator + Clone>(
-    mut buffer: Buffer<u32, A>,
+    made: Result<Buffer<u32, A>, BufferError>,
 ) -> Result<Buffer<u32, A>, BufferError> {
+    let mut buffer = made?;
     buffer.items_mut()?.as_mut_slice().fill(7);
     Ok(buffer)
 }

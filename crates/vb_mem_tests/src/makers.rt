@@ -40,7 +40,7 @@ impl Growing {
                 BufferMut::zeroed_preferred_aligned(alloc, 2, four, Some(wide))
             }
             Growing::Full => BufferMut::full(alloc, 7, 3),
-            Growing::Clone => cloned(BufferMut::copy_from(alloc, &[1, 2])?),
+            Growing::Clone => cloned(BufferMut::copy_from(alloc, &[1, 2])),
             Growing::Aligned => BufferMut::copy_from(alloc, &[1, 2])?.aligned(wide),
             Growing::CopyFrom => BufferMut::copy_from(alloc, &[1, 2]),
             Growing::CopyFromAligned => BufferMut::copy_from_aligned(alloc, &[1, 2], wide),
@@ -55,10 +55,11 @@ impl Growing {
     }
 }
 
-/// The buffer's clone.
+/// The clone of a buffer that was made.
 pub fn cloned<A: Allocator + Clone>(
-    buffer: BufferMut<u32, A>,
+    made: Result<BufferMut<u32, A>, BufferError>,
 ) -> Result<BufferMut<u32, A>, BufferError> {
+    let buffer = made?;
     let clone = buffer.clone();
     drop(buffer);
     clone
@@ -91,15 +92,14 @@ enum Shared {
     SliceUnaligned,
     Slice,
     SliceWithAlignment,
-    Bytes(Form),
 }
 
 impl Shared {
     fn make<A: Allocator + Clone>(&self, alloc: A) -> Result<Buffer<u32, A>, BufferError> {
         let (four, wide) = (Alignment::of::<u32>(), Alignment::from_exponent(9));
         match self {
-            Shared::Frozen(call) => call.make(alloc)?.freeze(),
-            Shared::Clone => twin(Buffer::copy_from(alloc, &[1, 2])?),
+            Shared::Frozen(call) => frozen(call.make(alloc)),
+            Shared::Clone => twin(Buffer::copy_from(alloc, &[1, 2])),
             Shared::Aligned => Buffer::copy_from(alloc, &[1, 2])?.aligned(wide),
             Shared::CopyFromAligned => Buffer::copy_from_aligned(alloc, &[1, 2], wide),
             Shared::CopyFromPreferredAligned => {
@@ -114,16 +114,25 @@ impl Shared {
             Shared::FromIter => Buffer::from_iter(alloc, (3..6u32).filter(each)),
             Shared::FromTrustedLenIter => Buffer::from_trusted_len_iter(alloc, 3..6u32),
             Shared::FromVec => of_vector(alloc),
-            Shared::SliceUnaligned => unaligned_part(Buffer::copy_from(alloc, &[1, 2, 3])?),
-            Shared::Slice => sliced(Buffer::copy_from(alloc, &[1, 2, 3, 4])?, 2, 4),
-            Shared::SliceWithAlignment => aligned_part(Buffer::copy_from(alloc, &[1, 2, 3, 4])?),
-            Shared::Bytes(form) => form.make(alloc),
+            Shared::SliceUnaligned => unaligned_part(Buffer::copy_from(alloc, &[1, 2, 3])),
+            Shared::Slice => sliced(Buffer::copy_from(alloc, &[1, 2, 3, 4]), 2, 4),
+            Shared::SliceWithAlignment => aligned_part(Buffer::copy_from(alloc, &[1, 2, 3, 4])),
         }
     }
 }
 
-/// A second owner of the buffer's storage.
-pub fn twin<A: Allocator + Clone>(buffer: Buffer<u32, A>) -> Result<Buffer<u32, A>, BufferError> {
+/// The buffer that was made, to be shared.
+pub fn frozen<A: Allocator + Clone>(
+    made: Result<BufferMut<u32, A>, BufferError>,
+) -> Result<Buffer<u32, A>, BufferError> {
+    made?.freeze()
+}
+
+/// A second owner of the storage of a buffer that was made.
+pub fn twin<A: Allocator + Clone>(
+    made: Result<Buffer<u32, A>, BufferError>,
+) -> Result<Buffer<u32, A>, BufferError> {
+    let buffer = made?;
     let twin = buffer.clone();
     drop(buffer);
     twin
@@ -135,8 +144,9 @@ fn of_vector<A: Allocator + Clone>(alloc: A) -> Result<Buffer<u32, A>, BufferErr
 }
 
 fn unaligned_part<A: Allocator + Clone>(
-    whole: Buffer<u32, A>,
+    made: Result<Buffer<u32, A>, BufferError>,
 ) -> Result<Buffer<u32, A>, BufferError> {
+    let whole = made?;
     let part = if whole.len() < 2 {
         Err(BufferError::NotAligned)
     } else {
@@ -146,12 +156,13 @@ fn unaligned_part<A: Allocator + Clone>(
     part
 }
 
-/// The items from `start` up to `end`, which share the storage.
+/// The items from `start` up to `end` of a buffer that was made, which share the storage.
 pub fn sliced<A: Allocator + Clone>(
-    whole: Buffer<u32, A>,
+    made: Result<Buffer<u32, A>, BufferError>,
     start: usize,
     end: usize,
 ) -> Result<Buffer<u32, A>, BufferError> {
+    let whole = made?;
     let part = if whole.can_slice(start..end, whole.alignment()) {
         whole.slice(start..end)
     } else {
@@ -162,9 +173,10 @@ pub fn sliced<A: Allocator + Clone>(
 }
 
 fn aligned_part<A: Allocator + Clone>(
-    whole: Buffer<u32, A>,
+    made: Result<Buffer<u32, A>, BufferError>,
 ) -> Result<Buffer<u32, A>, BufferError> {
     let four = Alignment::of::<u32>();
+    let whole = made?;
     let part = if whole.can_slice(3..4, four) {
         whole.slice_with_alignment(3..4, four)
     } else {
@@ -172,53 +184,6 @@ fn aligned_part<A: Allocator + Clone>(
     };
     drop(whole);
     part
-}
-
-/// A way from items to bytes and back.
-enum Form {
-    AsBytes,
-    IntoByteBuffer,
-    IntoByteBufferOfGrowing,
-    FromByteBufferAligned,
-    IntoBytes,
-    FromBytesAligned,
-}
-
-impl Form {
-    fn make<A: Allocator + Clone>(&self, alloc: A) -> Result<Buffer<u32, A>, BufferError> {
-        let wide = Alignment::from_exponent(9);
-        match self {
-            Form::AsBytes => Buffer::from_byte_buffer(bytes_of(Buffer::copy_from(
-                alloc,
-                &[1, 2],
-            )?)?),
-            Form::IntoByteBuffer => {
-                Buffer::from_byte_buffer(Buffer::copy_from(alloc, &[1u32, 2])?.into_byte_buffer()?)
-            }
-            Form::IntoByteBufferOfGrowing => {
-                let bytes = BufferMut::copy_from(alloc, &[1u32, 2])?.into_byte_buffer()?;
-                Buffer::from_byte_buffer(bytes.freeze()?)
-            }
-            Form::FromByteBufferAligned => Buffer::from_byte_buffer_aligned(
-                bytes_of(Buffer::copy_from(alloc, &[1, 2])?)?,
-                wide,
-            ),
-            Form::IntoBytes => {
-                let bytes = Buffer::copy_from(alloc.clone()?, &[1u32, 2])?.into_bytes()?;
-                Buffer::from_bytes(alloc, bytes)
-            }
-            Form::FromBytesAligned => {
-                let bytes = Buffer::copy_from(alloc.clone()?, &[1u32, 2])?.into_bytes()?;
-                Buffer::from_bytes_aligned(alloc, bytes, wide)
-            }
-        }
-    }
-}
-
-fn bytes_of<A: Allocator + Clone>(items: Buffer<u32, A>) -> Result<Buffer<u8, A>, BufferError> {
-    let bytes = items.as_bytes();
-    drop(items);
-    bytes
 }
 
 /// The calls, each with the items of what it makes, and the alignments: the reported and the
@@ -282,20 +247,6 @@ const ROWS: &[(Shared, &[u32], (usize, usize))] = &[
     (Shared::SliceUnaligned, &[2], (4, 256)),
     (Shared::Slice, &[3, 4], (4, 256)),
     (Shared::SliceWithAlignment, &[4], (4, 256)),
-    (Shared::Bytes(Form::AsBytes), &[1, 2], (4, 256)),
-    (Shared::Bytes(Form::IntoByteBuffer), &[1, 2], (4, 256)),
-    (
-        Shared::Bytes(Form::IntoByteBufferOfGrowing),
-        &[1, 2],
-        (4, 256),
-    ),
-    (
-        Shared::Bytes(Form::FromByteBufferAligned),
-        &[1, 2],
-        (512, 512),
-    ),
-    (Shared::Bytes(Form::IntoBytes), &[1, 2], (4, 256)),
-    (Shared::Bytes(Form::FromBytesAligned), &[1, 2], (512, 512)),
 ];
 
 #[test]

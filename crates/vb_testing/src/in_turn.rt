@@ -1,5 +1,6 @@
 //! Each request for memory refused in turn.
 ghost use Rattle.std.specs.Iterator.{at_most};
+ghost use Rattle.std.specs.Prelude.{◌≡◌, ◌⊎◌};
 
 use crate::Refusing;
 use std::alloc::{Allocator, Global};
@@ -70,7 +71,9 @@ impl<B: Allocator> Refusing<B> {
 
     /// What a run is to answer: `refusal` where its request was refused, and `ample` where none
     /// was.
-    pub fn wanted<T: Copy>(&self, ample: T, refusal: T) -> T {
+    pub fn wanted<T: Copy>(&self, ample: T, refusal: T) -> T
+        ensures { (result ≡ ample) ⊎ (result ≡ refusal) }
+    {
         if self.has_refused() { refusal } else { ample }
     }
 }

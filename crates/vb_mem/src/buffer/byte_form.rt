@@ -9,7 +9,7 @@ use crate::Result;
 use crate::buffer_mut::BufferMut;
 use bytes::Bytes;
 use std::alloc::Allocator;
-use vb_bytes::{item_count, read_items};
+use vb_bytes::{bytes_of, items_of};
 use vb_core::{Alignment, Element};
 
 impl<T: Element, A: Allocator + Clone> Buffer<T, A> {
@@ -18,7 +18,8 @@ impl<T: Element, A: Allocator + Clone> Buffer<T, A> {
         ensures { MakesBytes (length self.now.list * T.SIZE)
             (ShowsMade (byteform T.form self.now.list) 0) result }
     {
-        BufferMut::bytes_of(&self.alloc, self.as_slice(), Alignment::none())?.freeze()
+        let bytes = bytes_of(&self.alloc, self.as_slice())?;
+        BufferMut::of_made(bytes, Alignment::none()).freeze()
     }
 
     /// The bytes of the items, of the same alignment, copied. Refused as [`Buffer::into_bytes`] is.
@@ -26,7 +27,8 @@ impl<T: Element, A: Allocator + Clone> Buffer<T, A> {
         ensures { MakesBytes (length self.list * T.SIZE)
             (ShowsMade (byteform T.form self.list) self.exponent) result }
     {
-        BufferMut::bytes_of(&self.alloc, self.as_slice(), self.alignment())?.freeze()
+        let bytes = bytes_of(&self.alloc, self.as_slice())?;
+        BufferMut::of_made(bytes, self.alignment()).freeze()
     }
 
     /// The bytes of the items as `Bytes`, copied. Refused with `TooManyBytes` where their number
@@ -35,8 +37,8 @@ impl<T: Element, A: Allocator + Clone> Buffer<T, A> {
         ensures { MakesBytes (length self.list * T.SIZE)
             (λ bytes. bytes ≡ byteform T.form self.list) result }
     {
-        let bytes = BufferMut::bytes_of(&self.alloc, self.as_slice(), Alignment::none())?;
-        Ok(Bytes::from_vec(bytes.items)?)
+        let bytes = bytes_of(&self.alloc, self.as_slice())?;
+        Ok(Bytes::from_vec(bytes)?)
     }
 
     /// The items whose bytes a buffer has, of the alignment of an item, copied. Refused with
@@ -56,7 +58,8 @@ impl<T: Element, A: Allocator + Clone> Buffer<T, A> {
         ensures { ReadsBytes (length bytes.list) T.SIZE
             (ShowsRead T.form T.is_in_type bytes.list alignment) result }
     {
-        Buffer::items_of(&bytes.alloc, bytes.as_slice(), alignment)
+        let items = items_of(&bytes.alloc, bytes.as_slice())?;
+        BufferMut::of_made(items, alignment).freeze()
     }
 
     /// The items whose bytes `Bytes` has, of the alignment of an item, copied. Refused as
@@ -75,18 +78,7 @@ impl<T: Element, A: Allocator + Clone> Buffer<T, A> {
         ensures { ReadsBytes (length bytes) T.SIZE
             (ShowsRead T.form T.is_in_type bytes alignment) result }
     {
-        Buffer::items_of(&alloc, bytes.as_slice(), alignment)
-    }
-
-    // The items whose bytes these are, copied. The number of bytes is looked at before memory.
-    fn items_of(alloc: &A, bytes: &[u8], alignment: Alignment) -> Result<Self>
-        requires { T.align_exponent ≤ alignment }
-        ensures { ReadsBytes (length bytes.now) T.SIZE
-            (ShowsRead T.form T.is_in_type bytes.now alignment) result }
-    {
-        let len = item_count::<T>(bytes.len())?;
-        let mut items = BufferMut::with_capacity_aligned(alloc.clone()?, len, alignment)?;
-        read_items(bytes, &mut items.items);
-        items.freeze()
+        let items = items_of(&alloc, bytes.as_slice())?;
+        BufferMut::of_made(items, alignment).freeze()
     }
 }

@@ -10,7 +10,7 @@ use super::BufferMut;
 use crate::Result;
 use crate::buffer::Buffer;
 use std::alloc::Allocator;
-use vb_bytes::{byte_count, push_bytes};
+use vb_bytes::bytes_of;
 use vb_core::{Alignment, BufferError, Element};
 
 impl<T: Element, A: Allocator + Clone> BufferMut<T, A> {
@@ -73,23 +73,7 @@ impl<T: Element, A: Allocator + Clone> BufferMut<T, A> {
         ensures { MakesBytes (length self.list * T.SIZE)
             (HoldsMade (byteform T.form self.list) self.exponent) result }
     {
-        BufferMut::bytes_of(self.items.allocator(), self.as_slice(), self.alignment)
-    }
-}
-
-impl<A: Allocator + Clone> BufferMut<u8, A> {
-    // A copy of the bytes of items. Their number is looked at before memory is asked for.
-    pub(crate) fn bytes_of<T: Element>(
-        alloc: &A,
-        items: &[T],
-        alignment: Alignment,
-    ) -> Result<BufferMut<u8, A>>
-        ensures { MakesBytes (length items.now * T.SIZE)
-            (HoldsMade (byteform T.form items.now) alignment) result }
-    {
-        let len = byte_count::<T>(items.len())?;
-        let mut bytes = BufferMut::with_capacity_aligned(alloc.clone()?, len, alignment)?;
-        push_bytes(items, &mut bytes.items);
-        Ok(bytes)
+        let bytes = bytes_of(self.items.allocator(), self.as_slice())?;
+        Ok(BufferMut::of_made(bytes, self.alignment))
     }
 }

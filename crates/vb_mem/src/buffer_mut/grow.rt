@@ -94,9 +94,10 @@ impl<T: Element, A: Allocator> BufferMut<T, A> {
             let Some(item) = over else {
                 return Ok(());
             };
+            // As many as are hinted at, where memory allows it.
             let hint = end.saturating_sub(self.items.len());
-            self.reserve_by_hint(hint)?;
-            self.push_unchecked(item);
+            let _ = self.reserve(if hint > 1 { hint } else { 0 });
+            self.push(item)?;
         }
     }
 
@@ -117,19 +118,6 @@ impl<T: Element, A: Allocator> BufferMut<T, A> {
         }
         let over = iter.next();
         (over, iter)
-    }
-
-    // Makes room for one more item, and for as many as are hinted at where memory allows it.
-    fn reserve_by_hint(&mut self, hint: usize) -> Result<()>
-        ensures ok { OnOk result (Lengthens [] self.old self.new) }
-        ensures room { OnOk result (HasRoom self.new 1) }
-        ensures err { OnErr result (self.new ≡ self.old) }
-        ensures refused { IsOkUnless result BufferError.OutOfMemory }
-    {
-        if hint > 1 && self.reserve(hint).is_ok() {
-            return Ok(());
-        }
-        self.reserve(1)
     }
 
     /// Adds the items that an iterator of known length gives, all of them or none. Refused as

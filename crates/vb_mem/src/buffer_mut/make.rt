@@ -108,6 +108,19 @@ impl<T: Element, A: Allocator> BufferMut<T, A> {
         }
     }
 
+    // Items in a vector made for them, over-aligned to 256 bytes.
+    pub(crate) fn of_made(items: Vec<T, A>, alignment: Alignment) -> Self
+        requires { T.align_exponent ≤ alignment }
+        ensures { HoldsMade items.items alignment result }
+    {
+        let declared = alignment.max(Alignment::DEFAULT_ALIGNMENT);
+        BufferMut {
+            items,
+            alignment,
+            declared,
+        }
+    }
+
     /// `len` copies of an item, over-aligned to 256 bytes. Refused with `OutOfMemory`.
     pub fn full(alloc: A, item: T, len: usize) -> Result<Self>
         ensures { Makes (HoldsMade (replicate len item) T.align_exponent) result }

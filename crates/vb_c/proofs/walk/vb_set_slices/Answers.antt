@@ -1,4 +1,4 @@
-use Rattle.std.proofs.Common.{rules, ◌≡◌, ◌+◌, ◌<◌, ◌≤◌, ◌++◌, ◌∷◌, [], length, set, sym, ap, ◌∙◌, arith, map, drop}
+use Rattle.std.proofs.Common.{◌+◌, ◌<◌, ◌++◌, ◌∷◌, [], length, sym, ap, ◌∙◌, arith, map, drop}
 use Rattle.std.proofs.lemmas.List.{append_assoc, length-append, length-set, length-map, map_push}
 use Rattle.vb_c.specs.Filled.{run_of}
 use Rattle.vb_c.proofs.FillsLemmas.{set_next}

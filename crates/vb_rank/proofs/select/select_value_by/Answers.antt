@@ -1,4 +1,4 @@
-use Rattle.std.proofs.Common.{ℕ, List, length, ap, arith}
+use Rattle.std.proofs.Common.{ℕ, List, arith}
 use Rattle.vb_kernel.proofs.SearchesLemmas.{count-matching-bits-le, Searched_inside}
 use Rattle.vb_rank.proofs.TablesLemmas.{Rises-table, Selects-block_some, Selects-block_none, probes-le}
 use Rattle.vb_rank.proofs.select.select_value_by.Goals as goal

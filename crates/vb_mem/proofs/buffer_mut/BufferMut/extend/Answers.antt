@@ -1,7 +1,7 @@
 use Rattle.std.proofs.Common.{rules, ◌≡◌, ◌≤◌, ◌+◌, [], ◌∷◌, ◌++◌, Result, Ok, Err, IsErr}
 use Rattle.std.proofs.Common.{length, length-append, append-nil, refl, subst, ap, arith}
 use Rattle.std.specs.Prelude.{MatchResult}
-use Rattle.vb_mem.proofs.Growth.{Lengthens-append}
+use Rattle.vb_mem.proofs.Growth.{Lengthens-append, Lengthens-asked}
 use Rattle.vb_mem.proofs.Runs.{Yields-push, Yields-append}
 use Rattle.vb_mem.proofs.buffer_mut.BufferMut.extend.Goals as goal
 
@@ -39,28 +39,34 @@ returns-in_default-clause-lengthens g c =
     )
 
 -- the items that the room took, before memory was refused for the next one
-pub returns-in_err-reserve_by_hint-clause-lengthens
-    : goal.returns-in_err-reserve_by_hint-clause-lengthens
-returns-in_err-reserve_by_hint-clause-lengthens g c =
+pub returns-in_err-push-clause-lengthens
+    : goal.returns-in_err-push-clause-lengthens
+returns-in_err-push-clause-lengthens g c =
     let steps = g.I.IntoIter.Iterator.next_gives in
     let start = c.into_iter-rest.result in
     let kept = c.loop-item.invariant.given in
     let filled = c.fill_room-over.ensures.fills in
     let gave = filled.2.0 in
-    let run = Yields-append steps kept.0 filled.0 start c.loop-item.rest gave.0 kept.1 gave.1 in (
+    let run = Yields-append steps kept.0 filled.0 start c.loop-item.rest gave.0 kept.1 gave.1 in
+    let grown =
+    Lengthens-append kept.0 filled.0 c.args.self.now c.loop-item.self c.fill_room-over.new.self
+    kept.2 filled.1 in
+    let roomy =
+    Lengthens-append (kept.0 ++ filled.0) [] c.args.self.now c.fill_room-over.new.self
+    c.reserve.new.self grown (Lengthens-asked c.reserve.result _ _ c.reserve.ensures.ok
+    c.reserve.ensures.needs_room.err) in
+    let same = append-nil (kept.0 ++ filled.0) in (
       start,
       kept.0 ++ filled.0,
       c.into_iter-rest.ensures.into_iter_gives,
-      rw c.in_err-reserve_by_hint.ensures.err
-          (Lengthens-append kept.0 filled.0 c.args.self.now c.loop-item.self
-          c.fill_room-over.new.self kept.2 filled.1),
+      rw c.in_err-push.ensures.needs_room.err (rw same at roomy),
       at_err c.from_residual.result _ _ c.from_residual.ensures.0 (gave.0, run),
     )
 
 -- had there been room for all items, the list would not have been full
-pub returns-in_err-reserve_by_hint-clause-in_place
-    : goal.returns-in_err-reserve_by_hint-clause-in_place
-returns-in_err-reserve_by_hint-clause-in_place g c room =
+pub returns-in_err-push-clause-in_place
+    : goal.returns-in_err-push-clause-in_place
+returns-in_err-push-clause-in_place g c room =
     let steps = g.I.IntoIter.Iterator.next_gives in
     let start = c.into_iter-rest.result in
     let kept = c.loop-item.invariant.given in
@@ -115,7 +121,8 @@ loop-item-preserved g c =
     kept.2 filled.1 in
     let roomy =
     Lengthens-append (kept.0 ++ filled.0) [] c.args.self.now c.fill_room-over.new.self
-    c.reserve_by_hint.new.self grown c.in_ok-reserve_by_hint.ensures.ok in
+    c.reserve.new.self grown (Lengthens-asked c.reserve.result _ _ c.reserve.ensures.ok
+    c.reserve.ensures.needs_room.err) in
     let same = append-nil (kept.0 ++ filled.0) in
     record {
       can = nearer.0;
@@ -123,8 +130,7 @@ loop-item-preserved g c =
       given = (
         (kept.0 ++ filled.0) ++ item ∷ [],
         run,
-        Lengthens-append (kept.0 ++ filled.0) (item ∷ []) c.args.self.now
-            c.reserve_by_hint.new.self c.push_unchecked.new.self (rw same at roomy)
-            c.push_unchecked.ensures,
+        Lengthens-append (kept.0 ++ filled.0) (item ∷ []) c.args.self.now c.reserve.new.self
+            c.push.new.self (rw same at roomy) c.in_ok-push.ensures.ok,
       );
     }

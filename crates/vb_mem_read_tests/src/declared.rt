@@ -1,12 +1,9 @@
-//! What `items_mut` and `into_mut` leave of the declared alignment, and what a refused hint
-//! decides.
+//! What `items_mut` and `into_mut` leave of the declared alignment.
 use crate::compared::{equal, equal_lists};
 use std::alloc::Allocator;
 use std::process::Abort;
-use std::test::Fail;
 use vb_core::{Alignment, BufferError};
-use vb_mem::{Buffer, BufferMut};
-use vb_testing::Refusing;
+use vb_mem::Buffer;
 
 /// Four numbers, of which the storage is declared with 1024 bytes.
 fn declared_1024<A: Allocator + Clone>(alloc: A) -> Result<Buffer<u32, A>, BufferError> {
@@ -53,24 +50,33 @@ fn a_lone_owner_keeps_the_declared_alignment(rt: HostRuntime) {
     keeps_declared(&rt, part, &[2, 3]);
 }
 
-#[test]
-fn a_copy_has_its_own_declared_alignment(rt: HostRuntime) -> Result<(), Fail> {
-    let mut buffer = declared_1024(rt.alloc())?;
-    let twin = buffer.clone()?;
-    buffer.items_mut()?.as_mut_slice().fill(7);
-    equal(&rt, buffer.declared().as_usize(), 256);
-    equal(&rt, twin.declared().as_usize(), 1024);
-    let third = twin.clone()?;
-    equal(&rt, twin.into_mut()?.declared().as_usize(), 256);
-    equal(&rt, third.into_mut()?.declared().as_usize(), 1024);
-    Ok(())
+/// How a buffer is declared once it is opened.
+fn opened_declared<A: Allocator + Clone>(rt: &impl Abort, buffer: Buffer<u32, A>) -> usize {
+    let open = buffer.into_mut().expect(rt, "a buffer");
+    let declared = open.declared().as_usize();
+    drop(open);
+    declared
+}
+
+/// A buffer with another owner, which keeps how it is declared.
+fn copy_is_declared_256<A: Allocator + Clone>(
+    rt: &impl Abort,
+    made: Result<Buffer<u32, A>, BufferError>,
+) -> Buffer<u32, A> {
+    let mut buffer = made.expect(rt, "a buffer");
+    let twin = buffer.clone().expect(rt, "a clone");
+    let items = buffer.items_mut().expect(rt, "items");
+    items.as_mut_slice().fill(7);
+    let declared = (buffer.declared().as_usize(), twin.declared().as_usize());
+    equal(rt, declared, (256, 1024));
+    drop(buffer);
+    twin
 }
 
 #[test]
-fn a_refused_hint_is_no_refusal(rt: HostRuntime) {
-    let heap = Refusing::new(rt.alloc(), 1);
-    let buffer = BufferMut::from_iter(&heap, 0..100u32).expect(&rt, "room");
-    equal(&rt, heap.has_refused(), true);
-    equal(&rt, buffer.as_slice().iter().copied().eq(0..100), true);
-    drop(buffer);
+fn a_copy_has_its_own_declared_alignment(rt: HostRuntime) {
+    let twin = copy_is_declared_256(&rt, declared_1024(rt.alloc()));
+    let third = twin.clone().expect(&rt, "a clone");
+    equal(&rt, opened_declared(&rt, twin), 256);
+    equal(&rt, opened_declared(&rt, third), 1024);
 }

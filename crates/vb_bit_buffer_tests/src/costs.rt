@@ -1,0 +1,68 @@
+//! What calls ask of the allocator: nothing, since they share the bytes.
+use crate::compared::equal;
+use crate::makers::{sliced, twin};
+use std::alloc::Allocator;
+use std::process::Abort;
+use vb_bit_buffer::BitBuffer;
+use vb_core::BufferError;
+use vb_mem::ByteBuffer;
+use vb_testing::Refusing;
+
+/// A call on a set of eight thousand true bits that has no other owner.
+enum Call {
+    Clone,
+    Slice,
+    SliceOfClone,
+    IntoInner,
+}
+
+/// A body that copies the bytes fails here.
+const CALLS: &[Call] = &[
+    Call::Clone,
+    Call::Slice,
+    Call::SliceOfClone,
+    Call::IntoInner,
+];
+
+impl Call {
+    fn make<A: Allocator + Clone>(
+        &self,
+        made: Result<BitBuffer<A>, BufferError>,
+    ) -> Result<BitBuffer<A>, BufferError> {
+        match self {
+            Call::Clone => twin(made),
+            Call::Slice => sliced(made, 13, 7000),
+            Call::SliceOfClone => sliced(twin(made), 13, 7000),
+            Call::IntoInner => Ok(windowed(made?.into_inner())),
+        }
+    }
+}
+
+fn windowed<A: Allocator + Clone>(
+    (offset, len, bytes): (usize, usize, ByteBuffer<A>),
+) -> BitBuffer<A> {
+    let bits = bytes.len().saturating_mul(8);
+    if offset <= bits && len <= bits - offset {
+        return BitBuffer::new_with_offset(bytes, len, offset);
+    }
+    BitBuffer::new(bytes, 0)
+}
+
+/// What was made are nearly as many true bits.
+fn are_ones<A: Allocator + Clone>(rt: &impl Abort, made: Result<BitBuffer<A>, BufferError>) {
+    let set = made.expect(rt, "a set");
+    equal(rt, (set.false_count(), set.len() >= 6987), (0, true));
+    drop(set);
+}
+
+#[test]
+fn shared_sets_ask_for_nothing(rt: HostRuntime) {
+    let heap = Refusing::new(rt.alloc(), 0);
+    for call in CALLS {
+        heap.refuse(0);
+        let made = BitBuffer::new_set(&heap, 8000);
+        assert!(rt; heap.asks_within(1000, 2256));
+        are_ones(&rt, call.make(made));
+        assert!(rt; heap.asked() == 0);
+    }
+}

@@ -1,0 +1,12 @@
+//! Tests of shared sets of bits: calls whose requests for memory are refused, what calls ask of the
+//! allocator, and walks over a set past words. Those of their operators are `vb_operator_tests`.
+#![tactic(auto)]
+
+#[cfg(test)]
+mod compared;
+#[cfg(test)]
+mod costs;
+#[cfg(test)]
+mod makers;
+#[cfg(test)]
+mod walks;

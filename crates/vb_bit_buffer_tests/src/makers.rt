@@ -1,0 +1,82 @@
+//! Calls that make a set: the bits that they make, and each of their requests for memory refused in
+//! turn.
+use crate::compared::{equal, shows};
+use std::alloc::Allocator;
+use vb_bit_buffer::BitBuffer;
+use vb_core::BufferError;
+use vb_testing::{Handle, Refusing};
+
+/// A call that makes a set, of nine true bits where it is made of another one.
+enum Call {
+    NewSet,
+    NewUnset,
+    Full,
+    Clone,
+    Slice,
+    SliceOfClone,
+}
+
+impl Call {
+    fn make<A: Allocator + Clone>(&self, alloc: A) -> Result<BitBuffer<A>, BufferError> {
+        match self {
+            Call::NewSet => BitBuffer::new_set(alloc, 9),
+            Call::NewUnset => BitBuffer::new_unset(alloc, 9),
+            Call::Full => BitBuffer::full(alloc, true, 3),
+            Call::Clone => twin(BitBuffer::new_set(alloc, 9)),
+            Call::Slice => sliced(BitBuffer::new_set(alloc, 9), 0, 5),
+            Call::SliceOfClone => sliced(twin(BitBuffer::new_set(alloc, 9)), 0, 5),
+        }
+    }
+}
+
+/// A second owner of the bytes of a set that was made.
+pub(crate) fn twin<A: Allocator + Clone>(
+    made: Result<BitBuffer<A>, BufferError>,
+) -> Result<BitBuffer<A>, BufferError> {
+    let set = made?;
+    let twin = set.clone();
+    drop(set);
+    twin
+}
+
+/// The bits from `start` up to `end` of a set that was made.
+pub(crate) fn sliced<A: Allocator + Clone>(
+    made: Result<BitBuffer<A>, BufferError>,
+    start: usize,
+    end: usize,
+) -> Result<BitBuffer<A>, BufferError> {
+    let set = made?;
+    let part = if start <= end && end <= set.len() {
+        set.slice(start..end)
+    } else {
+        Err(BufferError::NotAligned)
+    };
+    drop(set);
+    part
+}
+
+/// The calls, each with the bits that it makes, and how many requests it makes at least.
+const ROWS: &[(Call, &str, u64)] = &[
+    (Call::NewSet, "111111111", 2),
+    (Call::NewUnset, "000000000", 2),
+    (Call::Full, "111", 2),
+    (Call::Clone, "111111111", 5),
+    (Call::Slice, "11111", 5),
+    (Call::SliceOfClone, "11111", 6),
+];
+
+#[test]
+fn sets_are_made_or_refused(rt: HostRuntime) {
+    let heap = Refusing::new(rt.alloc(), 0);
+    for (call, bits, least) in ROWS {
+        for _ in heap.in_turn() {
+            let answer = shows(&rt, call.make(Handle { inner: &heap }), bits);
+            equal(
+                &rt,
+                answer,
+                heap.wanted(Ok(()), Err(BufferError::OutOfMemory)),
+            );
+        }
+        assert!(rt; !heap.has_refused() && heap.asked() >= *least);
+    }
+}

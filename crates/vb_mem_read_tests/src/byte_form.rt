@@ -1,0 +1,193 @@
+//! The items of buffers as bytes, and back: bytes that are known, and each request for memory
+//! refused in turn.
+use crate::compared::{equal, equal_lists, shows};
+use bytes::Bytes;
+use std::alloc::Allocator;
+use std::fmt::Debug;
+use std::process::Abort;
+use vb_bytes::{byte_count, item_count};
+use vb_core::{Alignment, BufferError, Element};
+use vb_mem::{Buffer, BufferMut};
+use vb_testing::{Handle, Refusing};
+
+/// The items that were made have these bytes.
+fn has_bytes<T: Element, A: Allocator + Clone>(
+    rt: &impl Abort,
+    made: Result<Buffer<T, A>, BufferError>,
+    wanted: &[u8],
+) {
+    let items = made.expect(rt, "items");
+    let bytes = items.as_bytes().expect(rt, "bytes");
+    equal_lists(rt, bytes.as_slice(), wanted);
+    drop((items, bytes));
+}
+
+#[test]
+fn bytes_stand_in_little_endian_order(rt: HostRuntime) {
+    let words = Buffer::copy_from(rt.alloc(), &[1u32, 256]);
+    has_bytes(&rt, words, &[1, 0, 0, 0, 0, 1, 0, 0]);
+    let negative = Buffer::copy_from(rt.alloc(), &[-2i16]);
+    has_bytes(&rt, negative, &[0xfe, 0xff]);
+}
+
+/// Seven bytes are no items, in a buffer and as `Bytes`.
+fn seven_are_refused<A: Allocator + Clone>(
+    rt: &impl Abort,
+    made: Result<Buffer<u8, A>, BufferError>,
+    alloc: A,
+) {
+    let seven = made.expect(rt, "bytes");
+    let refused = Some(BufferError::ByteLength { len: 7, size: 4 });
+    let twin = seven.clone().expect(rt, "bytes");
+    equal(rt, Buffer::<u32, _>::from_byte_buffer(twin).err(), refused);
+    let bytes = seven.into_bytes().expect(rt, "bytes");
+    let answer = Buffer::<u32, _>::from_bytes(alloc, bytes);
+    equal(rt, answer.err(), refused);
+}
+
+#[test]
+fn bytes_that_are_no_items_are_refused(rt: HostRuntime) {
+    seven_are_refused(&rt, Buffer::copy_from(rt.alloc(), &[0; 7]), rt.alloc());
+}
+
+/// No list is so long that its bytes pass `usize`, so the counts alone are tried.
+#[test]
+fn byte_counts_past_usize_are_refused(rt: HostRuntime) {
+    equal(&rt, byte_count::<u32>(3), Ok(12));
+    equal(&rt, item_count::<u32>(12), Ok(3));
+    let refused = Err(BufferError::TooManyBytes);
+    equal(&rt, byte_count::<u128>(1 << 60), refused);
+}
+
+/// The items that were made are these, and have this alignment in bytes.
+fn has_items<T: Element + PartialEq + Debug, A: Allocator>(
+    rt: &impl Abort,
+    made: Result<Buffer<T, A>, BufferError>,
+    items: &[T],
+    alignment: usize,
+) {
+    let buffer = made.expect(rt, "items");
+    equal_lists(rt, buffer.as_slice(), items);
+    equal(rt, buffer.alignment().as_usize(), alignment);
+    drop(buffer);
+}
+
+/// The bytes of two numbers, made of a growing buffer, with a wide alignment.
+fn read_wide<A: Allocator + Clone>(
+    rt: &impl Abort,
+    made: Result<BufferMut<i64, A>, BufferError>,
+) -> Result<Buffer<i64, A>, BufferError> {
+    let open = made.expect(rt, "items").into_byte_buffer();
+    let bytes = open.expect(rt, "bytes").freeze().expect(rt, "bytes");
+    equal(rt, (bytes.len(), bytes.alignment().as_usize()), (16, 8));
+    Buffer::from_byte_buffer_aligned(bytes, Alignment::from_exponent(5))
+}
+
+#[test]
+fn bytes_go_both_ways(rt: HostRuntime) {
+    let open = BufferMut::copy_from(rt.alloc(), &[-1, i64::MIN]);
+    has_items(&rt, read_wide(&rt, open), &[-1, i64::MIN], 32);
+}
+
+/// Two numbers by `Bytes`.
+fn read_bytes<A: Allocator + Clone>(
+    rt: &impl Abort,
+    made: Result<Buffer<u128, A>, BufferError>,
+    alloc: A,
+) -> Result<Buffer<u128, A>, BufferError> {
+    let bytes = made.expect(rt, "items").into_bytes().expect(rt, "bytes");
+    equal(rt, bytes.len(), 32);
+    Buffer::from_bytes(alloc, bytes)
+}
+
+#[test]
+fn bytes_of_another_crate_go_both_ways(rt: HostRuntime) {
+    let items = Buffer::copy_from(rt.alloc(), &[u128::MAX, 1]);
+    let back = read_bytes(&rt, items, rt.alloc());
+    has_items(&rt, back, &[u128::MAX, 1], 16);
+}
+
+/// A way from items to bytes.
+enum Form {
+    AsBytes,
+    IntoByteBuffer,
+    OfGrowing,
+}
+
+impl Form {
+    /// The bytes of 1 and 2.
+    fn make<A: Allocator + Clone>(&self, alloc: A) -> Result<Buffer<u8, A>, BufferError> {
+        match self {
+            Form::AsBytes => bytes_of(Buffer::copy_from(alloc, &[1, 2])?),
+            Form::IntoByteBuffer => Buffer::copy_from(alloc, &[1u32, 2])?.into_byte_buffer(),
+            Form::OfGrowing => {
+                let bytes = BufferMut::copy_from(alloc, &[1u32, 2])?.into_byte_buffer()?;
+                bytes.freeze()
+            }
+        }
+    }
+}
+
+fn bytes_of<A: Allocator + Clone>(items: Buffer<u32, A>) -> Result<Buffer<u8, A>, BufferError> {
+    let bytes = items.as_bytes();
+    drop(items);
+    bytes
+}
+
+/// The bytes of 1 and 2 as `Bytes`.
+fn in_bytes<A: Allocator + Clone>(alloc: &A) -> Result<Bytes<A>, BufferError> {
+    Buffer::copy_from(alloc.clone()?, &[1u32, 2])?.into_bytes()
+}
+
+/// A way from items to bytes and back.
+enum Way {
+    Buffer(Form),
+    BufferAligned(Form),
+    Bytes,
+    BytesAligned,
+}
+
+impl Way {
+    fn make<A: Allocator + Clone>(&self, alloc: A) -> Result<Buffer<u32, A>, BufferError> {
+        let wide = Alignment::from_exponent(9);
+        match self {
+            Way::Buffer(form) => Buffer::from_byte_buffer(form.make(alloc)?),
+            Way::BufferAligned(form) => Buffer::from_byte_buffer_aligned(form.make(alloc)?, wide),
+            Way::Bytes => {
+                let bytes = in_bytes(&alloc)?;
+                Buffer::from_bytes(alloc, bytes)
+            }
+            Way::BytesAligned => {
+                let bytes = in_bytes(&alloc)?;
+                Buffer::from_bytes_aligned(alloc, bytes, wide)
+            }
+        }
+    }
+}
+
+/// The ways, each with the alignments of what it makes: the reported and the declared one.
+const WAYS: &[(Way, (usize, usize))] = &[
+    (Way::Buffer(Form::AsBytes), (4, 256)),
+    (Way::Buffer(Form::IntoByteBuffer), (4, 256)),
+    (Way::Buffer(Form::OfGrowing), (4, 256)),
+    (Way::BufferAligned(Form::AsBytes), (512, 512)),
+    (Way::Bytes, (4, 256)),
+    (Way::BytesAligned, (512, 512)),
+];
+
+#[test]
+fn bytes_are_made_and_read_or_refused(rt: HostRuntime) {
+    let heap = Refusing::new(rt.alloc(), 0);
+    for (way, alignments) in WAYS {
+        for _ in heap.in_turn() {
+            let made = way.make(Handle { inner: &heap });
+            let answer = shows(&rt, made, &[1, 2], *alignments);
+            equal(
+                &rt,
+                answer,
+                heap.wanted(Ok(()), Err(BufferError::OutOfMemory)),
+            );
+        }
+        assert!(rt; !heap.has_refused() && heap.asked() >= 4);
+    }
+}

@@ -1,0 +1,113 @@
+//! Iterators over items, and comparisons by them.
+use crate::compared::{equal, equal_lists};
+use std::alloc::Allocator;
+use std::cmp::Ordering;
+use std::hash::{DefaultHasher, Hash, Hasher};
+use std::process::Abort;
+use vb_core::{Alignment, BufferError, TrustedLen};
+use vb_mem::{Buffer, BufferIterator, BufferMut, Iter};
+
+/// Lends 10, 20 and 30.
+fn lends_in_turn(rt: &impl Abort, mut items: Iter<'_, u32>) {
+    equal(rt, items.next().copied(), Some(10));
+    equal(rt, (items.len(), items.exact_len()), (2, 2));
+    equal(rt, items.size_hint(), (2, Some(2)));
+    equal(rt, items.nth(1).copied(), Some(30));
+    equal(rt, items.next().copied(), None);
+}
+
+/// Gives 10, and then two items are left.
+fn gives_the_first<A: Allocator>(
+    rt: &impl Abort,
+    mut items: BufferIterator<u32, A>,
+) -> BufferIterator<u32, A> {
+    equal(rt, items.next(), Some(10));
+    equal(rt, (items.len(), items.exact_len()), (2, 2));
+    equal(rt, items.size_hint(), (2, Some(2)));
+    items
+}
+
+/// The items 10, 20 and 30 are lent, and then handed out.
+fn gives_in_turn<A: Allocator + Clone>(
+    rt: &impl Abort,
+    made: Result<Buffer<u32, A>, BufferError>,
+    alloc: A,
+) {
+    let buffer = made.expect(rt, "a buffer");
+    lends_in_turn(rt, buffer.iter());
+    let ends = (buffer.iter().last().copied(), buffer.iter().count());
+    equal(rt, ends, (Some(30), 3));
+    let rest = gives_the_first(rt, buffer.into_iter());
+    let rest = Buffer::from_trusted_len_iter(alloc, rest).expect(rt, "a buffer");
+    equal_lists(rt, rest.as_slice(), &[20, 30]);
+    drop(rest);
+}
+
+#[test]
+fn items_are_given_in_turn(rt: HostRuntime) {
+    let made = Buffer::copy_from(rt.alloc(), &[10, 20, 30]);
+    gives_in_turn(&rt, made, rt.alloc());
+}
+
+/// How two buffers compare.
+fn compares<A: Allocator>(
+    rt: &impl Abort,
+    one: &Buffer<u32, A>,
+    two: Result<Buffer<u32, A>, BufferError>,
+    ordering: Ordering,
+) {
+    let two = two.expect(rt, "a buffer");
+    equal(rt, *one == two, ordering == Ordering::Equal);
+    let given = (one.cmp(&two), one.partial_cmp(&two));
+    equal(rt, given, (ordering, Some(ordering)));
+    drop(two);
+}
+
+#[test]
+fn buffers_compare_by_their_items(rt: HostRuntime) {
+    let wide = Alignment::from_exponent(9);
+    let low = Buffer::copy_from(rt.alloc(), &[1u32, 2]).expect(&rt, "a buffer");
+    let same = Buffer::copy_from_aligned(rt.alloc(), &[1u32, 2], wide);
+    compares(&rt, &low, same, Ordering::Equal);
+    let high = Buffer::copy_from(rt.alloc(), &[1u32, 3]);
+    compares(&rt, &low, high, Ordering::Less);
+    drop(low);
+}
+
+/// Whether two growing buffers are equal is as wanted.
+fn are_equal<A: Allocator>(
+    rt: &impl Abort,
+    one: &BufferMut<u32, A>,
+    two: Result<BufferMut<u32, A>, BufferError>,
+    wanted: bool,
+) {
+    let two = two.expect(rt, "a buffer");
+    equal(rt, *one == two, wanted);
+    drop(two);
+}
+
+#[test]
+fn growing_buffers_compare_by_their_items(rt: HostRuntime) {
+    let low = BufferMut::copy_from(rt.alloc(), &[1u32, 2]).expect(&rt, "a buffer");
+    let wide = Alignment::from_exponent(9);
+    let same = low.clone().expect(&rt, "a buffer").aligned(wide);
+    are_equal(&rt, &low, same, true);
+    let high = BufferMut::copy_from(rt.alloc(), &[1u32, 3]);
+    are_equal(&rt, &low, high, false);
+    drop(low);
+}
+
+/// What is hashed as 1 and 2 are.
+fn hashes_as_items<A: Allocator>(rt: &impl Abort, made: Result<Buffer<u32, A>, BufferError>) {
+    let buffer = made.expect(rt, "a buffer");
+    let (mut of_buffer, mut of_items) = (DefaultHasher::new(), DefaultHasher::new());
+    buffer.hash(&mut of_buffer);
+    drop(buffer);
+    [1u32, 2].as_slice().hash(&mut of_items);
+    equal(rt, of_buffer.finish(), of_items.finish());
+}
+
+#[test]
+fn a_buffer_hashes_as_its_items(rt: HostRuntime) {
+    hashes_as_items(&rt, Buffer::copy_from(rt.alloc(), &[1, 2]));
+}
