@@ -42,8 +42,8 @@ const NOTES: [(&str, &str); 13] = [
     ),
     (
         "`count_ones`",
-        "Short windows are counted by looks, one after the other; at x86-64-v2 vectors are of 16 \
-         bytes, and upstream's of 32",
+        "At x86-64-v2 vectors are of 16 bytes, and upstream's of 32; of short windows the partial \
+         bytes are looked at apart",
     ),
     (
         "`set_to` of the first bit",

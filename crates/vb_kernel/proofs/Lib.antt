@@ -3,3 +3,4 @@ pub mod UnitsLemmas
 pub mod WordLemmas
 pub mod AdderLemmas
 pub mod LanesLemmas
+pub mod RestLemmas

@@ -30,12 +30,12 @@ impl Model for LaneSum {
 }
 
 impl LaneSum {
-    /// The sum of nothing.
-    pub(crate) fn zero() -> LaneSum
-        ensures { result ≡ 0 }
+    /// A sum that has come to so much.
+    pub(crate) fn of(ones: usize) -> LaneSum
+        ensures { result ≡ ones }
     {
         LaneSum {
-            a: 0,
+            a: ones,
             b: 0,
             c: 0,
             d: 0,
@@ -90,7 +90,7 @@ fn word_ones(bytes: &[u8], at: usize) -> usize
 pub(crate) fn chunk_ones(chunk: &[u8; 64]) -> usize
     ensures { result ≡ count (bits chunk.now 0 512) }
 {
-    LaneSum::zero().add(chunk).total()
+    LaneSum::of(0).add(chunk).total()
 }
 
 /// The place of the `n`-th bit of the chunk that is `value`.

@@ -3,16 +3,14 @@
 //! The window is read as Mula, Kurz and Lemire's "Faster Population Counts Using AVX2 Instructions"
 //! does: whole vectors first, many of them by carry-save adders, and what is left by words and
 //! bytes. The compiler chooses the count of a word or vector.
-ghost use Rattle.std.specs.Prelude.{◌≡◌, ℕ, ◌+◌, ◌*◌, ◌%◌, ◌^◌, ◌<◌, ◌≤◌, length, min};
+ghost use Rattle.std.specs.Prelude.{◌≡◌, ℕ, ◌+◌, ◌-◌, ◌*◌, ◌/◌, ◌%◌, ◌^◌, ◌<◌, ◌≤◌, length, min};
 ghost use Rattle.vb_bits.specs.Bits.{bits, count};
 ghost use Rattle.vb_kernel.specs.Looks.{looks};
-ghost use Rattle.vb_kernel.specs.Parts.{rest_looks};
 
 use crate::chunk::{LaneSum, chunk_ones};
 use crate::counter::Counter;
 use crate::glance::{Glance, Plain};
-use crate::parts::Parts;
-use crate::unit::Unit;
+use crate::rest::add_rest;
 use crate::word::byte_part;
 
 /// From so many chunks on, adders count. Where a vector has 32 bytes they are faster than the
@@ -28,14 +26,28 @@ pub fn count_ones(bytes: &[u8], offset: usize, len: usize) -> usize
     requires fits { offset + len < 2 ^ 64 }
     ensures { result ≡ count (bits bytes.now offset len) }
 {
-    count_ones_by(&mut Plain::new(bytes), offset, len)
+    if len <= 512 {
+        count_short(&mut Plain::new(bytes), offset, len)
+    } else {
+        count_of_many(bytes, offset, len)
+    }
+}
+
+/// [`count_ones`], called for long windows, so that a short one needs no source in memory.
+#[inline(never)]
+fn count_of_many(bytes: &[u8], offset: usize, len: usize) -> usize
+    requires long { 512 < len }
+    requires inside { offset + len ≤ 8 * length bytes.now }
+    requires fits { offset + len < 2 ^ 64 }
+    ensures { result ≡ count (bits bytes.now offset len) }
+{
+    count_long(&mut Plain::new(bytes), offset, len)
 }
 
 /// How many bits of the window of `src` are true.
 ///
 /// It looks once at a partial first byte, once at each 64 whole bytes, once at each eight of those
 /// left, once at each byte then left, and once at a partial last byte.
-#[tactic(auto, using(vb_bits::proofs::BitsLemmas::windows))]
 pub fn count_ones_by<G: Glance>(src: &mut G, offset: usize, len: usize) -> usize
     requires inside { offset + len ≤ 8 * length (G.bytes src.old) }
     requires fits { offset + len < 2 ^ 64 }
@@ -43,35 +55,76 @@ pub fn count_ones_by<G: Glance>(src: &mut G, offset: usize, len: usize) -> usize
     ensures same { G.bytes src.new ≡ G.bytes src.old }
     ensures looks { G.looks src.new ≡ G.looks src.old + looks offset len }
 {
-    let parts = Parts::of(offset, len);
-    let chunks_at = offset + parts.head;
-    let rest_at = chunks_at + 512 * parts.chunks;
-    let head = count_part(src, offset, parts.head);
-    let rest = count_rest(src, rest_at, parts.rest);
-    // The chunks come last, so that nothing has to be kept over the call that counts many.
-    add_chunks(src, chunks_at, parts.chunks, head + rest)
+    if len <= 512 {
+        count_short(src, offset, len)
+    } else {
+        count_long(src, offset, len)
+    }
 }
 
-/// Counts `len` bits from bit `at` on, by words and bytes.
+/// Counts a window of at most 512 bits.
 #[tactic(auto, using(vb_bits::proofs::BitsLemmas::windows))]
-fn count_rest<G: Glance>(src: &mut G, at: usize, len: usize) -> usize
-    requires aligned { 0 < len → at % 8 ≡ 0 }
-    requires inside { at + len ≤ 8 * length (G.bytes src.old) }
-    requires fits { at + len < 2 ^ 64 }
-    ensures value { result ≡ count (bits (G.bytes src.old) at len) }
+#[inline(always)]
+fn count_short<G: Glance>(src: &mut G, offset: usize, len: usize) -> usize
+    requires short { len ≤ 512 }
+    requires inside { offset + len ≤ 8 * length (G.bytes src.old) }
+    requires fits { offset + len < 2 ^ 64 }
+    ensures value { result ≡ count (bits (G.bytes src.old) offset len) }
     ensures same { G.bytes src.new ≡ G.bytes src.old }
-    ensures looks { G.looks src.new ≡ G.looks src.old + rest_looks len }
+    ensures looks { G.looks src.new ≡ G.looks src.old + looks offset len }
 {
-    // Most long windows end with a chunk, and then three tests are saved.
-    if len == 0 {
+    let head = (8 - offset % 8) % 8;
+    if len <= head {
+        return count_part(src, offset, len);
+    }
+    let at = (offset + head) / 8;
+    let ones = count_head(src, offset);
+    if len - head < 512 {
+        add_rest(src, at, len - head, ones)
+    } else {
+        ones + chunk_ones(&src.chunk(at))
+    }
+}
+
+/// Counts a window of more than 512 bits.
+#[tactic(auto, using(vb_bits::proofs::BitsLemmas::windows))]
+#[inline(never)]
+fn count_long<G: Glance>(src: &mut G, offset: usize, len: usize) -> usize
+    requires long { 512 < len }
+    requires inside { offset + len ≤ 8 * length (G.bytes src.old) }
+    requires fits { offset + len < 2 ^ 64 }
+    ensures value { result ≡ count (bits (G.bytes src.old) offset len) }
+    ensures same { G.bytes src.new ≡ G.bytes src.old }
+    ensures looks { G.looks src.new ≡ G.looks src.old + looks offset len }
+{
+    let head = (8 - offset % 8) % 8;
+    let at = (offset + head) / 8;
+    let chunks = (len - head) / 512;
+    let rest = (len - head) % 512;
+    let ones = count_head(src, offset);
+    // Most long windows end with a chunk, and then the tests of the rest are saved.
+    let ones = if rest == 0 {
+        ones
+    } else {
+        add_rest(src, at + 64 * chunks, rest, ones)
+    };
+    // The chunks come last, so that nothing has to be kept over the call that counts them.
+    add_chunks(src, at, chunks, ones)
+}
+
+/// Counts the bits from bit `offset` on up to the first whole byte, which are the rest of a byte.
+fn count_head<G: Glance>(src: &mut G, offset: usize) -> usize
+    requires inside { 0 < offset % 8 → offset / 8 < length (G.bytes src.old) }
+    ensures value { result ≡ count (bits (G.bytes src.old) offset ((8 - offset % 8) % 8)) }
+    ensures few { result ≤ (8 - offset % 8) % 8 }
+    ensures same { G.bytes src.new ≡ G.bytes src.old }
+    ensures looks { G.looks src.new ≡ G.looks src.old + min (offset % 8) 1 }
+{
+    let before = offset % 8;
+    if before == 0 {
         return 0;
     }
-    let bytes_at = at + len / 64 * 64;
-    let tail_at = at + len / 8 * 8;
-    let words = count_units::<u64, G>(src, at, len / 64);
-    let bytes = count_units::<u8, G>(src, bytes_at, len % 64 / 8);
-    let tail = count_part(src, tail_at, len % 8);
-    words + bytes + tail
+    (u64::from(src.byte(offset / 8)) >> before).count_ones() as usize
 }
 
 /// Counts `len` bits that lie in one byte, from bit `at` on.
@@ -89,78 +142,45 @@ fn count_part<G: Glance>(src: &mut G, at: usize, len: usize) -> usize
     byte_part(src.byte(at / 8), at % 8, len, true).count_ones() as usize
 }
 
-/// Counts `n` units from bit `at` on, one by one.
-#[tactic(auto, using(vb_bits::proofs::BitsLemmas::windows))]
-fn count_units<U: Unit, G: Glance>(src: &mut G, at: usize, n: usize) -> usize
-    requires aligned { 0 < n → at % 8 ≡ 0 }
-    requires inside { at + 8 * (U.SIZE * n) ≤ 8 * length (G.bytes src.old) }
-    requires fits { at + 8 * (U.SIZE * n) < 2 ^ 64 }
-    ensures value { result ≡ count (bits (G.bytes src.old) at (8 * (U.SIZE * n))) }
-    ensures same { G.bytes src.new ≡ G.bytes src.old }
-    ensures looks { G.looks src.new ≡ G.looks src.old + n }
-{
-    let mut ones = 0;
-    for k in 0..n {
-        ones += U::read(src, at / 8 + U::SIZE * k).count(true);
-    }
-    ones
-}
-
-/// Adds to `ones` the true bits of `n` chunks from bit `at` on.
-#[tactic(auto, using(vb_bits::proofs::BitsLemmas::windows))]
-fn add_chunks<G: Glance>(src: &mut G, at: usize, n: usize, ones: usize) -> usize
-    requires aligned { 0 < n → at % 8 ≡ 0 }
-    requires inside { at + 512 * n ≤ 8 * length (G.bytes src.old) }
-    requires fits { at + 512 * n < 2 ^ 64 }
-    requires room { ones + 512 * n < 2 ^ 64 }
-    ensures value { result ≡ ones + count (bits (G.bytes src.old) at (512 * n)) }
-    ensures same { G.bytes src.new ≡ G.bytes src.old }
-    ensures looks { G.looks src.new ≡ G.looks src.old + n }
-{
-    match n {
-        0 => ones,
-        1 => ones + chunk_ones(&src.chunk(at / 8)),
-        _ => ones + count_chunks(src, at / 8, n),
-    }
-}
-
-/// Counts `n` chunks from byte `at` on.
+/// Adds to `ones` the true bits of `n` chunks from byte `at` on.
 ///
 /// Fewer than [`MANY`] are counted by their words, more by sixteen, and what is left by words. It
 /// isn't inlined: callers with few chunks then keep nothing over it.
 #[tactic(auto, using(vb_bits::proofs::BitsLemmas::windows))]
 #[inline(never)]
-pub(crate) fn count_chunks<G: Glance>(src: &mut G, at: usize, n: usize) -> usize
+pub(crate) fn add_chunks<G: Glance>(src: &mut G, at: usize, n: usize, ones: usize) -> usize
     requires inside { at + 64 * n ≤ length (G.bytes src.old) }
     requires fits { 8 * at + 512 * n < 2 ^ 64 }
-    ensures value { result ≡ count (bits (G.bytes src.old) (8 * at) (512 * n)) }
+    requires room { ones + 512 * n < 2 ^ 64 }
+    ensures value { result ≡ ones + count (bits (G.bytes src.old) (8 * at) (512 * n)) }
     ensures same { G.bytes src.new ≡ G.bytes src.old }
     ensures looks { G.looks src.new ≡ G.looks src.old + n }
 {
     if n < MANY {
-        return count_few(src, at, n);
+        return add_few(src, at, n, ones);
     }
     // Of memory, quarters that are a power of two apart are read an eighth slower.
     let turns = n / 16 - usize::from(PAST_CACHES <= n);
-    let rest = count_few(src, at + 1024 * turns, n - 16 * turns);
+    let rest = add_few(src, at + 1024 * turns, n - 16 * turns, ones);
     rest + count_quarters(src, at, turns)
 }
 
-/// Counts `n` chunks from byte `at` on by the counts of their words.
+/// Adds to `ones` the true bits of `n` chunks from byte `at` on by the counts of their words.
 ///
 /// Two chunks a turn, which are summed before their sum is added: a compiler that counts the bits
 /// of bytes then adds those counts as bytes and widens them once a turn. It isn't inlined: among
 /// the sums of other parts the compiler no longer sees its four as the lanes of one vector.
 #[tactic(auto, using(vb_bits::proofs::BitsLemmas::windows))]
 #[inline(never)]
-fn count_few<G: Glance>(src: &mut G, at: usize, n: usize) -> usize
+fn add_few<G: Glance>(src: &mut G, at: usize, n: usize, ones: usize) -> usize
     requires inside { at + 64 * n ≤ length (G.bytes src.old) }
     requires fits { 8 * at + 512 * n < 2 ^ 64 }
-    ensures value { result ≡ count (bits (G.bytes src.old) (8 * at) (512 * n)) }
+    requires room { ones + 512 * n < 2 ^ 64 }
+    ensures value { result ≡ ones + count (bits (G.bytes src.old) (8 * at) (512 * n)) }
     ensures same { G.bytes src.new ≡ G.bytes src.old }
     ensures looks { G.looks src.new ≡ G.looks src.old + n }
 {
-    let mut sum = LaneSum::zero();
+    let mut sum = LaneSum::of(ones);
     for k in 0..n / 2 {
         sum = sum.plus(sum_chunks(src, at + 128 * k, 2));
     }
@@ -197,7 +217,7 @@ fn sum_chunks<G: Glance>(src: &mut G, at: usize, n: usize) -> LaneSum
     ensures same { G.bytes src.new ≡ G.bytes src.old }
     ensures looks { G.looks src.new ≡ G.looks src.old + n }
 {
-    let mut sum = LaneSum::zero();
+    let mut sum = LaneSum::of(0);
     for k in 0..n {
         sum = sum.add(&src.chunk(at + 64 * k));
     }

@@ -17,6 +17,7 @@ mod glance;
 mod lanes;
 mod looks;
 mod parts;
+mod rest;
 mod search;
 mod select;
 mod unit;

@@ -6,7 +6,7 @@ ghost use Rattle.vb_kernel.specs.Searches.{matching, Searched, IsWithin, SearchA
 ghost use Rattle.vb_kernel.specs.Parts.{rest_looks};
 
 use crate::chunk::find_in_chunk;
-use crate::count::count_chunks;
+use crate::count::add_chunks;
 use crate::glance::{Glance, Plain};
 use crate::parts::Parts;
 use crate::search::{Search, find_in_part, find_in_rest, find_in_units};
@@ -151,7 +151,7 @@ fn find_in_many_chunks<G: Glance>(
 /// of the `chunks` it passed, and what is left of the rank after them.
 ///
 /// `n / 512` chunks have at most `n` bits, so the one that is sought comes after them: they are
-/// counted as fast as [`count_chunks`] does, and none of them is searched. The same then holds of
+/// counted as fast as [`add_chunks`] does, and none of them is searched. The same then holds of
 /// the rank that is left.
 fn pass_chunks<G: Glance>(
     src: &mut G,
@@ -190,6 +190,6 @@ fn count_matching<G: Glance>(src: &mut G, at: usize, n: usize, value: bool) -> u
     ensures same { G.bytes src.new ≡ G.bytes src.old }
     ensures looks { G.looks src.new ≡ G.looks src.old + n }
 {
-    let ones = count_chunks(src, at, n);
+    let ones = add_chunks(src, at, n, 0);
     if value { ones } else { 512 * n - ones }
 }

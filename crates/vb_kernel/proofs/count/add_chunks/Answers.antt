@@ -1,12 +1,13 @@
-use Rattle.std.proofs.Common.{◌*◌, ◌/◌, ap, refl, arith}
-use Rattle.vb_bits.specs.Bits.{bits, count}
-use Rattle.vb_bits.proofs.BytesLemmas.{bits_of_read}
+use Rattle.std.proofs.Common.{◌+◌, ◌-◌, ◌*◌, ◌/◌, ℕ, List, true, arith}
+use Rattle.vb_kernel.proofs.SearchesLemmas.{count-matching-bits_split}
 use Rattle.vb_kernel.proofs.count.add_chunks.Goals as goal
 
-pub returns-in-1-clause-value : goal.returns-in-1-clause-value
-returns-in-1-clause-value g c =
-    let b = g.G.Glance.bytes c.args.src.now in
-    let is_one = c.in-1.is in
-    let aligned = c.requires.aligned (omega arith) in
-    let chunk = bits_of_read b b c.chunk.result (c.args.at / 8) 64 c.args.at refl c.chunk.ensures.value (omega arith) in
-    omega (arith, c.chunk_ones.ensures, ap count chunk, ap (λ n. count (bits b c.args.at (512 * n))) is_one)
+pub returns-clause-value : goal.returns-clause-value
+returns-clause-value g c =
+    let b : List ℕ = g.G.Glance.bytes c.args.src.now in let o : ℕ = 8 * c.args.at in let t : ℕ = c.args.n / 16 - c.from.result in
+    omega (
+      arith,
+      c.add_few-rest.ensures.value,
+      rw c.add_few-rest.ensures.same at c.count_quarters.ensures.value,
+      count-matching-bits_split true b o (8192 * t) (512 * c.args.n) (8 * (c.args.at + 1024 * t)) (512 * (c.args.n - 16 * t)) (omega arith) (omega arith),
+    )

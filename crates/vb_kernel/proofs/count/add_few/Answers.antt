@@ -1,7 +1,7 @@
 use Rattle.std.proofs.Common.{◌+◌, ◌*◌, ◌/◌, ◌%◌, ℕ, List, true, ap, arith, ◌∙◌}
 use Rattle.vb_bits.specs.Bits.{bits, count}
 use Rattle.vb_kernel.proofs.SearchesLemmas.{count-matching-bits_split}
-use Rattle.vb_kernel.proofs.count.count_few.Goals as goal
+use Rattle.vb_kernel.proofs.count.add_few.Goals as goal
 
 pub loop-k-preserved : goal.loop-k-preserved
 loop-k-preserved g c =
