@@ -1,3 +1,4 @@
 pub mod BytesLemmas
+mod CombinedLemmas
 mod ItemsLemmas
 mod WindowsLemmas

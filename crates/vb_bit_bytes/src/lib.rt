@@ -5,6 +5,7 @@
 //! these share with others, and takes no memory.
 #![tactic(auto)]
 
+mod bytewise;
 mod collect;
 mod edit;
 mod grow;
@@ -14,6 +15,7 @@ mod make;
 mod shown;
 mod window;
 
+pub use bytewise::combine_into;
 pub use collect::{collect_bool, collect_bool_shared, from_bools, from_truthy, map_bool_shared};
 pub use edit::{combine, copy, fill, negate, write_bit};
 pub use grow::{push_bit, push_bits, reserve_to};

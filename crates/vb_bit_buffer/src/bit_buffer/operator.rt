@@ -9,7 +9,7 @@ ghost use Rattle.vb_bit_buffer.specs.Gives.{GivesCombined, GivesNegated};
 use super::BitBuffer;
 use std::alloc::Allocator;
 use std::ops::{BitAnd, BitOr, BitXor, Not};
-use vb_bit_bytes::{combine, negate};
+use vb_bit_bytes::{combine, combine_into, negate};
 use vb_bits::BitOp;
 use vb_core::BufferError;
 
@@ -36,7 +36,7 @@ impl<A: Allocator + Clone> BitBuffer<A> {
         ensures { GivesCombined op self.now right.now result }
     {
         self.compare_len(right)?;
-        self.clone()?.combine(right, op)
+        self.combine_apart(right, op)
     }
 
     // The same, in the storage of the bits where no other owner has it.
@@ -58,6 +58,23 @@ impl<A: Allocator + Clone> BitBuffer<A> {
         Err(BufferError::LengthMismatch {
             left: self.len,
             right: right.len,
+        })
+    }
+
+    // The bits combined with those of a set of as many, in bytes of their own.
+    fn combine_apart(&self, right: &Self, op: BitOp) -> Result<Self, BufferError>
+        requires { length self.now.bits ≡ length right.now.bits }
+        ensures { GivesCombined op self.now right.now result }
+    {
+        let (offset, len) = (self.offset, self.len);
+        let room = self.buffer.with_room((offset + len).div_ceil(8))?;
+        let (left, other) = (self.buffer.as_slice(), right.buffer.as_slice());
+        let bytes = combine_into(room, left, offset, other, right.offset, len, op)?;
+        let buffer = bytes.freeze()?;
+        Ok(BitBuffer {
+            buffer,
+            offset,
+            len,
         })
     }
 

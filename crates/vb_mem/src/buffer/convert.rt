@@ -1,9 +1,9 @@
 //! More owners of a buffer, other alignments, and items to be written.
-ghost use Rattle.std.specs.Prelude.{◌≡◌, ◌≤◌};
+ghost use Rattle.std.specs.Prelude.{◌≡◌, ◌≤◌, []};
 ghost use Rattle.std.specs.Prelude.{IfOk, IfErr, IsOk, IsOkAnd, IsErrOf, IsOkUnless};
 ghost use Rattle.std.specs.Borrow.{sem};
 ghost use Rattle.vb_mem.specs.Answers.{Makes};
-ghost use Rattle.vb_mem.specs.OpenBuffer.{Holds};
+ghost use Rattle.vb_mem.specs.OpenBuffer.{Holds, HoldsMade};
 ghost use Rattle.vb_mem.specs.SharedBuffer.{Shows, ShowsMade, IsAlignedTo, KeepsItems, shown};
 ghost use Rattle.vb_mem.specs.Loans.{LendsAll};
 
@@ -74,6 +74,14 @@ impl<T: Element, A: Allocator + Clone> Buffer<T, A> {
         };
         let alloc = self.alloc.clone()?;
         Ok(Buffer { content, alloc })
+    }
+
+    /// Room for `capacity` items, of the same alignment and from the same allocator, over-aligned
+    /// to 256 bytes. Refused with `OutOfMemory`.
+    pub fn with_room(&self, capacity: usize) -> Result<BufferMut<T, A>>
+        ensures { Makes (λ b. HoldsMade [] self.now.exponent b × (capacity ≤ b.room)) result }
+    {
+        BufferMut::with_capacity_aligned(self.alloc.clone()?, capacity, self.alignment())
     }
 
     /// The same items, to be changed; all other owners keep theirs. A lone owner's stay in their
