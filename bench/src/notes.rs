@@ -55,5 +55,5 @@ const NOTES: [(&str, &str); 13] = [
     ),
 ];
 
-const COPIED: &str = "The left window is copied and then combined in place: one pass more than to \
-                      combine into new memory";
+const COPIED: &str = "At unequal offsets the left window is copied and then combined in place: one \
+                      pass more than to combine into new memory";

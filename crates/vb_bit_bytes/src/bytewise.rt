@@ -13,7 +13,7 @@ use vb_bits::BitOp;
 use vb_core::BufferError;
 use vb_mem::ByteBufferMut;
 
-/// Bytes in which the `len` bits from bit `l` on are what `op` makes of those of `left` from bit `l`
+/// Bytes in which the `len` bits from bit `l` on are what `op` makes of those of `left` from there
 /// on, as the left ones, and of those of `right` from bit `r` on: as few as hold them. They are
 /// written to `room`, an empty buffer.
 ///

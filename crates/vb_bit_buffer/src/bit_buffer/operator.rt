@@ -96,6 +96,23 @@ impl<A: Allocator + Clone> BitBuffer<A> {
         Ok(BitBuffer::window_of(bytes.freeze()?, len, offset))
     }
 
+    // The bits negated, in bytes of their own.
+    fn negated_apart(&self) -> Result<Self, BufferError>
+        ensures { GivesNegated self.now result }
+    {
+        let (offset, len) = (self.offset, self.len);
+        let count = (offset + len).div_ceil(8);
+        let mut bytes = self.buffer.with_room(count)?;
+        bytes.extend_from_slice(&self.buffer.as_slice()[..count])?;
+        negate(&mut bytes, offset, len);
+        let buffer = bytes.freeze()?;
+        Ok(BitBuffer {
+            buffer,
+            offset,
+            len,
+        })
+    }
+
     // The bits negated, in their storage where no other owner has it.
     fn negated(self) -> Result<Self, BufferError>
         ensures { GivesNegated self result }
@@ -270,6 +287,6 @@ impl<A: Allocator + Clone> Not for &BitBuffer<A> {
     ghost not_gives = { λ s t. GivesNegated s.now t };
 
     fn not(self) -> Result<BitBuffer<A>, BufferError> {
-        self.clone()?.negated()
+        self.negated_apart()
     }
 }
