@@ -69,7 +69,8 @@ fn frozen<A: Allocator + Clone>(
     made?.freeze()
 }
 
-/// The calls, each with the bits that it makes, and how many requests it and `freeze` make at least.
+/// The calls, each with the bits that it makes, and how many requests it makes with `freeze` at
+/// least.
 const ROWS: &[(Open, &str, u64)] = &[
     (Open::NewSet, "111111111", 4),
     (Open::NewUnset, "000000000", 4),
