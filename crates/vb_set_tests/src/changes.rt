@@ -40,25 +40,42 @@ const EDITS: &[(Edit, usize, usize)] = &[
     (Edit::Reserve, 100, 0),
 ];
 
+/// The set has its true bits and its room.
+fn is_left<A: Allocator + Clone>(rt: &impl Abort, set: &BitBufferMut<A>, len: usize, room: usize) {
+    equal(rt, (set.len(), set.capacity()), (len, room));
+    equal(rt, set.as_view().true_count(), len);
+}
+
+/// True bits, to which true and false ones were added.
+fn is_longer<A: Allocator + Clone>(
+    rt: &impl Abort,
+    set: &BitBufferMut<A>,
+    len: usize,
+    (trues, falses): (usize, usize),
+) {
+    let view = set.as_view();
+    let counts = (view.true_count(), view.false_count());
+    equal(rt, counts, (len.saturating_add(trues), falses));
+    let first_false = if falses > 0 { Some(len) } else { None };
+    equal(rt, view.select_unset(0), first_false);
+}
+
 /// Edits a set of true bits up to its room. A refusal leaves the set and its room.
 fn edit_ones<A: Allocator + Clone>(
     rt: &impl Abort,
-    mut set: BitBufferMut<A>,
+    made: Result<BitBufferMut<A>, BufferError>,
     edit: &Edit,
-    (trues, falses): (usize, usize),
+    added: (usize, usize),
 ) -> Result<(), BufferError> {
-    set.append_n(true, set.capacity() - set.len())?;
+    let mut set = made?;
+    let filled = set.append_n(true, set.capacity() - set.len());
+    equal(rt, filled, Ok(()));
     let (len, room) = (set.len(), set.capacity());
     let answer = edit.make(&mut set);
     if answer.is_err() {
-        equal(rt, (set.len(), set.capacity()), (len, room));
-        equal(rt, set.as_view().true_count(), len);
+        is_left(rt, &set, len, room);
     } else {
-        let view = set.as_view();
-        let counts = (view.true_count(), view.false_count());
-        equal(rt, counts, (len.saturating_add(trues), falses));
-        let first_false = if falses > 0 { Some(len) } else { None };
-        equal(rt, view.select_unset(0), first_false);
+        is_longer(rt, &set, len, added);
     }
     drop(set);
     answer
@@ -69,10 +86,8 @@ fn a_refused_edit_leaves_the_set(rt: HostRuntime) {
     let heap = Refusing::new(rt.alloc(), 0);
     for (edit, trues, falses) in EDITS {
         for _ in heap.in_turn() {
-            let answer = match ones(Handle { inner: &heap }, 8) {
-                Ok(set) => edit_ones(&rt, set, edit, (*trues, *falses)),
-                Err(error) => Err(error),
-            };
+            let made = ones(Handle { inner: &heap }, 8);
+            let answer = edit_ones(&rt, made, edit, (*trues, *falses));
             equal(
                 &rt,
                 answer,
@@ -87,14 +102,15 @@ fn a_refused_edit_leaves_the_set(rt: HostRuntime) {
 /// Takes a set. A refusal leaves the set and its room.
 fn take<A: Allocator + Clone>(
     rt: &impl Abort,
-    mut set: BitBufferMut<A>,
+    made: Result<BitBufferMut<A>, BufferError>,
 ) -> Result<(), BufferError> {
+    let mut set = made?;
     let room = set.capacity();
     let answer = taken_nine(rt, set.take());
     if answer.is_ok() {
         equal(rt, set.is_empty(), true);
     } else {
-        equal(rt, (set.as_view().true_count(), set.capacity()), (9, room));
+        is_left(rt, &set, 9, room);
     }
     drop(set);
     answer
@@ -115,10 +131,7 @@ fn taken_nine<A: Allocator + Clone>(
 fn a_refused_take_leaves_the_set(rt: HostRuntime) {
     let heap = Refusing::new(rt.alloc(), 0);
     for _ in heap.in_turn() {
-        let answer = match ones(Handle { inner: &heap }, 9) {
-            Ok(set) => take(&rt, set),
-            Err(error) => Err(error),
-        };
+        let answer = take(&rt, ones(Handle { inner: &heap }, 9));
         equal(
             &rt,
             answer,

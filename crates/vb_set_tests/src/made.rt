@@ -1,7 +1,6 @@
 //! Sets to start from. No clause says what they hold, since the proof of a test would search among
 //! these facts at each of its calls.
-use std::alloc::{Allocator, Global};
-use std::test::Fail;
+use std::alloc::Allocator;
 use vb_set::{BitBufferMut, BufferError, ByteBufferMut};
 
 /// True bits.
@@ -13,16 +12,16 @@ pub(crate) fn ones<A: Allocator + Clone>(
 }
 
 /// A window of bytes that are all the same.
-pub(crate) fn window(
-    alloc: Global,
+pub(crate) fn window<A: Allocator + Clone>(
+    alloc: A,
     (byte, count): (u8, usize),
     offset: usize,
     len: usize,
-) -> Result<BitBufferMut<Global>, Fail> {
+) -> Result<BitBufferMut<A>, BufferError> {
     let bytes = ByteBufferMut::full(alloc, byte, count)?;
     let bits = bytes.len().saturating_mul(8);
     if offset <= bits && len <= bits - offset {
         return Ok(BitBufferMut::from_buffer(bytes, offset, len));
     }
-    Err(Fail::new("the bytes have no such window"))
+    Err(BufferError::NotAligned)
 }

@@ -3,7 +3,6 @@ use crate::compared::{equal, shows};
 use crate::made::{ones, window};
 use std::alloc::Allocator;
 use std::process::Abort;
-use std::test::Fail;
 use vb_set::{BitBuffer, BitBufferMut, BitBufferView, BufferError, ToBitBuffer};
 
 /// An edit of a set.
@@ -60,61 +59,66 @@ fn edited<A: Allocator + Clone>(
 }
 
 #[test]
-fn edits_answer_and_leave_bits(rt: HostRuntime) -> Result<(), Fail> {
+fn edits_answer_and_leave_bits(rt: HostRuntime) {
     for (len, edits, last, bits) in EDITED {
         let set = edited(&rt, ones(rt.alloc(), *len), edits, *last);
-        shows(&rt, set, bits)?;
+        equal(&rt, shows(&rt, set, bits), Ok(()));
     }
-    Ok(())
 }
 
 #[test]
-fn append_n_past_usize_by_the_offset(rt: HostRuntime) -> Result<(), Fail> {
-    let mut set = window(rt.alloc(), (0xFF, 2), 13, 1)?;
+fn append_n_past_usize_by_the_offset(rt: HostRuntime) {
+    let mut set = window(rt.alloc(), (0xFF, 2), 13, 1).expect(&rt, "a set");
     let answer = set.append_n(true, 18446744073709551602);
     equal(&rt, answer, Err(BufferError::TooManyBits));
     equal(&rt, (set.offset(), set.len()), (13, 1));
-    assert_eq!(rt; set.as_slice(), [0xFF, 0xFF].as_slice());
-    Ok(())
+    assert!(rt; set.as_slice() == [0xFF, 0xFF].as_slice());
+    drop(set);
 }
 
 #[test]
-fn freeze_leaves_out_whole_bytes(rt: HostRuntime) -> Result<(), Fail> {
-    let set = window(rt.alloc(), (0xFF, 4), 13, 10)?.freeze()?;
-    equal(&rt, set.offset(), 5);
-    equal(&rt, set.inner().len(), 3);
+fn freeze_leaves_out_whole_bytes(rt: HostRuntime) {
+    let set = window(rt.alloc(), (0xFF, 4), 13, 10).expect(&rt, "a set");
+    let set = set.freeze().expect(&rt, "a set");
+    equal(&rt, (set.offset(), set.inner().len()), (5, 3));
     equal(&rt, set.true_count(), 10);
-    Ok(())
+    drop(set);
 }
 
 #[test]
-fn truncate_leaves_bytes_and_clear_none(rt: HostRuntime) -> Result<(), Fail> {
-    let mut set = window(rt.alloc(), (0xFF, 4), 13, 10)?;
+fn truncate_leaves_bytes_and_clear_none(rt: HostRuntime) {
+    let mut set = window(rt.alloc(), (0xFF, 4), 13, 10).expect(&rt, "a set");
     set.truncate(4);
-    equal(
-        &rt,
-        (set.offset(), set.len(), set.inner().len()),
-        (13, 4, 3),
-    );
+    let place = (set.offset(), set.len(), set.inner().len());
+    equal(&rt, place, (13, 4, 3));
     set.clear();
-    equal(&rt, (set.offset(), set.len(), set.inner().len()), (0, 0, 0));
-    Ok(())
+    let place = (set.offset(), set.len(), set.inner().len());
+    equal(&rt, place, (0, 0, 0));
+    drop(set);
 }
 
-#[test]
-fn a_set_is_edited_through_a_view(rt: HostRuntime) -> Result<(), Fail> {
-    let mut set = BitBufferMut::new_unset(rt.alloc(), 16)?;
+/// Edits sixteen false bits.
+fn edited_by_view<A: Allocator + Clone>(
+    rt: &impl Abort,
+    made: Result<BitBufferMut<A>, BufferError>,
+) -> Result<BitBuffer<A>, BufferError> {
+    let mut set = made.expect(rt, "a set");
     let mut view = set.as_mut_view();
+    assert!(rt; view.len() == 16);
     view.set(0);
     view.set(15);
     view.set_to(7, true);
     view.fill_range(2, 5, true);
-    equal(&rt, view.true_count(), 6);
+    equal(rt, view.true_count(), 6);
     view.unset(0);
-    let set = set.freeze();
+    set.freeze()
+}
+
+#[test]
+fn a_set_is_edited_through_a_view(rt: HostRuntime) {
+    let set = edited_by_view(&rt, BitBufferMut::new_unset(rt.alloc(), 16));
     shows_ends(&rt, &set);
-    shows(&rt, set, "0011100100000001")?;
-    Ok(())
+    equal(&rt, shows(&rt, set, "0011100100000001"), Ok(()));
 }
 
 fn shows_ends<A: Allocator + Clone>(rt: &impl Abort, made: &Result<BitBuffer<A>, BufferError>) {
@@ -145,35 +149,9 @@ fn is_copy<A: Allocator + Clone>(
 }
 
 #[test]
-fn a_view_of_a_set_begins_with_its_first_byte(rt: HostRuntime) -> Result<(), Fail> {
-    let set = window(rt.alloc(), (0, 4), 13, 10)?;
+fn a_view_of_a_set_begins_with_its_first_byte(rt: HostRuntime) {
+    let set = window(rt.alloc(), (0, 4), 13, 10).expect(&rt, "a set");
     equal(&rt, place(set.as_view()), (5, 10, 3));
     is_copy(&rt, set.as_view(), set.as_view().to_bit_buffer(rt.alloc()));
     drop(set);
-    Ok(())
-}
-
-/// The walks over 130 true bits.
-fn walks_end<A: Allocator + Clone>(rt: &impl Abort, set: &BitBuffer<A>) {
-    let mut runs = set.set_slices();
-    equal(rt, (runs.next(), runs.next()), (Some((0, 130)), None));
-    equal(rt, set.set_indices().last(), Some(129));
-    equal(rt, set.into_iter().count(), 130);
-}
-
-/// Their words.
-fn words_end<A: Allocator + Clone>(rt: &impl Abort, set: &BitBuffer<A>) {
-    equal(rt, set.chunks().iter_padded().last(), Some(3));
-    let unaligned = set.unaligned_chunks();
-    let ends = (unaligned.prefix(), unaligned.suffix());
-    equal(rt, ends, (Some(u64::MAX), Some(3)));
-}
-
-#[test]
-fn one_run_past_words(rt: HostRuntime) -> Result<(), Fail> {
-    let set = ones(rt.alloc(), 130)?.freeze()?;
-    walks_end(&rt, &set);
-    words_end(&rt, &set);
-    drop(set);
-    Ok(())
 }

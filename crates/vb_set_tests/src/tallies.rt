@@ -2,14 +2,10 @@
 use crate::compared::equal;
 use crate::edits::{LENGTHS, OFFSETS};
 use crate::made::window;
-use std::alloc::Global;
+use std::alloc::Allocator;
 use std::process::Abort;
-use std::test::Fail;
 use vb_kernel::{Tally, bit_select_by, bit_select_unset_by, count_ones_by, window_fits};
-use vb_set::{BitBufferMut, BufferError};
-
-/// What a set answers: all its true bits, those of a middle part, and two selects of a rank.
-type Answers = (usize, usize, Option<usize>, Option<usize>);
+use vb_set::{BitBuffer, BitBufferMut, BufferError};
 
 /// How many true bits a tally over the bytes counts: in the window, and in its part from `start` up
 /// to `end`.
@@ -40,55 +36,55 @@ fn tallied_selects(
     (set, bit_select_unset_by(&mut src, offset, len, n))
 }
 
-/// What a tally over the bytes answers: of the window, of its part from `start` up to `end`, and of
-/// rank `start`.
-fn tallied(
+/// What a set to edit answers, beside tallies over its bytes.
+fn open_is_tallied<A: Allocator + Clone>(
     rt: &impl Abort,
-    bytes: &[u8],
-    window: (usize, usize),
+    set: &BitBufferMut<A>,
     (start, end): (usize, usize),
-) -> Answers {
-    let (ones, part) = tallied_counts(rt, bytes, window, (start, end));
-    let (set, unset) = tallied_selects(rt, bytes, window, start);
-    (ones, part, set, unset)
+) {
+    assert!(rt; start <= end && end <= set.len());
+    let (bytes, window) = (set.inner().as_slice(), (set.offset(), set.len()));
+    let view = set.as_view();
+    let counts = (view.true_count(), view.slice(start..end).true_count());
+    equal(rt, counts, tallied_counts(rt, bytes, window, (start, end)));
+    let selects = (view.select(start), view.select_unset(start));
+    equal(rt, selects, tallied_selects(rt, bytes, window, start));
 }
 
-/// What a set answers, before and after it is shared, beside tallies over its bytes.
-fn answers_are_tallied(
+/// What a shared set answers, beside tallies over its bytes.
+fn shared_is_tallied<A: Allocator + Clone>(
     rt: &impl Abort,
-    set: BitBufferMut<Global>,
+    set: &BitBuffer<A>,
     (start, end): (usize, usize),
-) -> Result<(), BufferError> {
+) {
     assert!(rt; start <= end && end <= set.len());
-    let view = set.as_view();
-    let (ones, part) = (view.true_count(), view.slice(start..end).true_count());
-    let open = (ones, part, view.select(start), view.select_unset(start));
-    let window = (set.offset(), set.len());
-    equal(
-        rt,
-        open,
-        tallied(rt, set.inner().as_slice(), window, (start, end)),
-    );
-    let set = set.freeze()?;
-    assert!(rt; start <= end && end <= set.len());
-    let (ones, part) = (set.true_count(), set.count_range(start, end));
-    let shared = (ones, part, set.select(start), set.select_unset(start));
-    let window = (set.offset(), set.len());
-    equal(
-        rt,
-        shared,
-        tallied(rt, set.inner().as_slice(), window, (start, end)),
-    );
-    Ok(())
+    let (bytes, window) = (set.inner().as_slice(), (set.offset(), set.len()));
+    let counts = (set.true_count(), set.count_range(start, end));
+    equal(rt, counts, tallied_counts(rt, bytes, window, (start, end)));
+    let selects = (set.select(start), set.select_unset(start));
+    equal(rt, selects, tallied_selects(rt, bytes, window, start));
+}
+
+/// What a set answers before and after it is shared: all its true bits, those of a middle part, and
+/// two selects of a rank.
+fn answers_are_tallied<A: Allocator + Clone>(
+    rt: &impl Abort,
+    made: Result<BitBufferMut<A>, BufferError>,
+    part: (usize, usize),
+) {
+    let set = made.expect(rt, "a set");
+    open_is_tallied(rt, &set, part);
+    let set = set.freeze().expect(rt, "a set");
+    shared_is_tallied(rt, &set, part);
+    drop(set);
 }
 
 #[test]
-fn sets_answer_as_tallies(rt: HostRuntime) -> Result<(), Fail> {
+fn sets_answer_as_tallies(rt: HostRuntime) {
     for offset in OFFSETS {
         for len in LENGTHS {
-            let set = window(rt.alloc(), (0b1011_0010, 30), offset, len)?;
-            answers_are_tallied(&rt, set, (len / 3, len - len / 4))?;
+            let set = window(rt.alloc(), (0b1011_0010, 30), offset, len);
+            answers_are_tallied(&rt, set, (len / 3, len - len / 4));
         }
     }
-    Ok(())
 }
