@@ -1,6 +1,6 @@
 //! What a plain list is answered when it is asked.
 use crate::line::Call;
-use crate::list::{count, last_place, nth_place};
+use crate::list::{count, nth_place};
 use crate::stop::{OUT_OF_RANGE, Stop};
 
 /// Adds the answer of a question to a list. Another list is compared by `eq` alone.
@@ -18,7 +18,7 @@ pub(crate) fn answer(
         "countrange" => write!(text, "{}", count(bits.get(a..b).ok_or(OUT_OF_RANGE)?))?,
         "select" => add_place(text, nth_place(bits, true, a))?,
         "selectunset" => add_place(text, nth_place(bits, false, a))?,
-        "last" => add_place(text, last_place(bits))?,
+        "last" => add_place(text, nth_place(bits, true, count(bits).wrapping_sub(1)))?,
         "bits" if bits.is_empty() => text.push('-')?,
         "bits" => add_bits(text, bits)?,
         "places" | "runs" if count(bits) == 0 => text.push('-')?,

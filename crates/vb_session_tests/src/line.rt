@@ -54,7 +54,10 @@ fn is_word(kind: Kind, word: &str) -> bool {
         Kind::Truth => word == "0" || word == "1",
         Kind::Mode => word == "ref" || word == "own",
         Kind::Validity => word == "-" || is_number(word),
-        Kind::Hex => word == "-" || is_hex(word),
+        Kind::Hex => {
+            let are_digits = word.bytes().all(|byte| byte.is_ascii_hexdigit());
+            word == "-" || are_digits && !word.is_empty() && word.len().is_multiple_of(2)
+        }
         Kind::Numbers => word == "-" || word.split(',').all(is_number),
         Kind::Indexes => word == "-" || word.split(',').all(is_index),
         _ => is_number(word),
@@ -67,11 +70,6 @@ fn is_number(word: &str) -> bool {
 
 fn is_index(word: &str) -> bool {
     word.parse::<i64>().is_ok() && !word.starts_with('+')
-}
-
-fn is_hex(word: &str) -> bool {
-    let are_digits = word.bytes().all(|byte| byte.is_ascii_hexdigit());
-    are_digits && !word.is_empty() && word.len().is_multiple_of(2)
 }
 
 impl Call<'_> {

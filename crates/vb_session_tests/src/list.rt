@@ -135,14 +135,3 @@ pub(crate) fn nth_place(bits: &[bool], v: bool, n: usize) -> Option<usize> {
     }
     None
 }
-
-/// The place of the last bit that is true.
-pub(crate) fn last_place(bits: &[bool]) -> Option<usize> {
-    let mut last = None;
-    for (place, bit) in bits.iter().enumerate() {
-        if *bit {
-            last = Some(place);
-        }
-    }
-    last
-}
