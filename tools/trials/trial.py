@@ -25,8 +25,8 @@ class Said:
 
 @dataclass
 class Trial:
-    """The verdict on the function of each edit of a check, and what the check said. There is none on
-    a function of which nothing but a mark is refused."""
+    """The verdict on the function of each edit of a check, and what the check said. There is none
+    on a function of which nothing but a mark is refused."""
 
     verdicts: list[Verdict | None]
     said: Said
@@ -128,6 +128,6 @@ def tried(root: Path, crate: str, edits: list[Edit], marks: bool) -> Trial:
         for answers in filter(None, files):
             mark(answers)
         said = check(folder, [it.path for it in edits])
-    verdicts = [judged(said.text).get(it.path) for it in edits]
-    told = [it if it and (it.goals or it.waits or not at) else None for it, at in zip(verdicts, files)]
-    return Trial(told, said)
+    verdicts = judged(said.text)
+    found = [(verdicts.get(it.path), at) for it, at in zip(edits, files)]
+    return Trial([it if it and (it.goals or it.waits or not at) else None for it, at in found], said)
