@@ -10,9 +10,13 @@ TOOLS = Path(__file__).resolve().parent.parent
 SOURCE = "pub fn one() -> u8\n    ensures { result ≡ 1 }\n{\n    1\n}\n\npub fn two() -> u8\n    ensures { result ≡ 1 }\n{\n    1\n}\n"
 RT = """#!/usr/bin/env bash
 echo "$@" >> "$ASKED"
-awk '/fn one/ { name = "one" } /fn two/ { name = "two" }
-  /^    2$/ { bad = 1; print "fn demo::" name ": no proof: `search` did not prove `returns`" }
-  /^    1$/ { print "fn demo::" name ": proved" }
+marked=$(grep -rls no_goal_at_all proofs | sort | tr '\\n' ' ')
+echo "marked $marked" >> "$ASKED.marks"
+awk -v marked="$marked" '/fn one/ { name = "one" } /fn two/ { name = "two" }
+  { has_mark = index(marked, "proofs/" name "/Answers.antt") }
+  /^    2$/ { bad = 1; if (has_mark) print "note: src/lib.rt:" NR ":5: it is not proved that it holds (`returns`)"
+    print "fn demo::" name ": " (has_mark ? "not proved" : "no proof: `search` did not prove `returns`") }
+  /^    1$/ { bad = bad || has_mark; print "fn demo::" name ": " (has_mark ? "not proved" : "proved") }
   END { print bad ? "logic=not-proved" : "logic=proved" }' src/lib.rt
 """
 
@@ -39,6 +43,9 @@ class Command(unittest.TestCase):
     def run_it(self, *flags: str):
         path = {**os.environ, "PATH": f"{self.root}/bin:{os.environ['PATH']}", "ASKED": f"{self.root}/asked"}
         return subprocess.run([self.root / "tools/edits", *flags], env=path, capture_output=True, text=True)
+
+    def marks(self) -> list[str]:
+        return (self.root / "asked.marks").read_text().splitlines()
 
     def asked(self) -> list[str]:
         return (self.root / "asked").read_text().splitlines()
@@ -99,6 +106,47 @@ class Command(unittest.TestCase):
         self.edit("harmless", "two", "1", "expect: proved\n")
         self.run_it()
         self.assertEqual(self.asked(), ["check --jobs 1", "check --jobs 1 --only demo::two --only demo::one"])
+
+    def test_answers_are_marked_where_a_goal_is_to_be_refused(self):
+        self.edit("one_is_two", "one", "2")
+        self.edit("harmless", "two", "1", "expect: proved\n")
+        ran = self.run_it()
+        self.assertEqual(self.marks(), ["marked ", "marked proofs/one/Answers.antt "])
+        self.assertIn("one_is_two.edit: refused at ensures of one", ran.stdout)
+        self.assertEqual(ran.returncode, 0)
+
+    def test_an_edit_is_let_through_only_where_no_mark_stands(self):
+        self.edit("one_stays", "one", "1")
+        ran = self.run_it()
+        self.assertEqual(self.marks()[-1], "marked ")
+        self.assertIn("one_stays.edit: NOT REFUSED of one", ran.stdout)
+
+    def test_a_proof_that_is_all_by_hand_is_not_marked(self):
+        (self.root / "crates/demo/proofs/one").mkdir(parents=True)
+        (self.root / "crates/demo/proofs/one/Proof.antt").write_text("")
+        self.edit("one_is_two", "one", "2")
+        self.run_it()
+        self.assertEqual(set(self.marks()), {"marked "})
+
+    def test_answers_that_stand_are_kept_before_the_mark(self):
+        folder = self.root / "crates/demo/proofs/one"
+        folder.mkdir(parents=True)
+        (folder / "Answers.antt").write_text("returns = given")
+        self.edit("one_is_two", "one", "2")
+        self.run_it()
+        self.assertEqual(self.marks()[-1], "marked proofs/one/Answers.antt ")
+        self.assertEqual((folder / "Answers.antt").read_text(), "returns = given")
+
+    def test_what_takes_longest_is_tried_first(self):
+        kept = self.root / "crates/demo/out/incremental/build"
+        kept.mkdir(parents=True)
+        (kept / "Rattle-demo-proofs.one.Goals.oantt").write_text("of one")
+        (kept / "Rattle-demo-proofs.two.Goals.oantt").write_text("more, of two")
+        self.edit("one_is_two", "one", "2")
+        self.edit("two_is_two", "two", "2")
+        self.run_it("--batch", "1", "--lanes", "1")
+        checks = [it for it in self.asked() if "--only" in it]
+        self.assertEqual(checks, [f"check --jobs 1 --only demo::{it}" for it in ("two", "one")])
 
     def test_an_edit_of_a_function_that_no_check_names_fails(self):
         (self.root / "crates/demo/src/lib.rt").write_text(SOURCE + "fn three() {\n    3\n}\n")

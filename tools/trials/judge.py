@@ -8,7 +8,7 @@ from pathlib import Path
 from .batch import batches, callees
 from .edit import Edit
 from .source import Function
-from .trial import Trial, texts_of, tried
+from .trial import Trial, kept_bytes, texts_of, tried
 from .verdict import Verdict, clauses_of
 
 # What doesn't compile.
@@ -78,11 +78,13 @@ def judge(
     """The outcome of each edit of each crate.
 
     An edit that doesn't compile is not tried again. Others that a check did not judge, since it
-    stopped there or their function waits for another, are tried again in smaller batches, and in the
-    last round each alone.
+    stopped there or their function waits for another, are tried again in smaller batches, and in
+    the last round each alone. Answers are marked in all rounds but the last, so what is not refused
+    is told by a check of the crate as the edit makes it and nothing else.
     """
     texts = {crate: texts_of(root / "crates" / crate) for crate in work}
     below = {crate: callees(texts[crate]) for crate in work}
+    weights = {crate: weights_of(root / "crates" / crate, edits) for crate, edits in work.items()}
     left = dict(work)
     done = {crate: Judgement() for crate in work}
     sizes = (size, max(size // 5, 1), 1)
@@ -95,12 +97,13 @@ def judge(
         if not groups:
             break
         # The longest first, so that no lane is left alone with one.
-        groups.sort(key=lambda it: -len(it[1]))
+        groups.sort(key=lambda it: -sum(weights[it[0]][edit.name] for edit in it[1]))
         tell(f"round {turn}: {sum(len(it) for _, it in groups)} edits in {len(groups)} checks")
-        left = {}
+        left, is_last = {}, turn == len(sizes)
         with ThreadPoolExecutor(lanes) as pool:
-            for (crate, group), trial in zip(groups, pool.map(lambda it: tried(root, *it), groups)):
-                found, again = settled(group, trial, texts[crate], turn == len(sizes))
+            trials = pool.map(lambda it: tried(root, *it, marks=not is_last), groups)
+            for (crate, group), trial in zip(groups, trials):
+                found, again = settled(group, trial, texts[crate], is_last)
                 done[crate].seconds += trial.said.seconds
                 done[crate].outcomes += found
                 left.setdefault(crate, []).extend(again)
@@ -108,6 +111,11 @@ def judge(
                     tell(f"{crate}/{it.edit.name}: {it.text} of {it.edit.function.title}")
                 tell(f"{crate}: {len(found)} of {len(group)} edits in {trial.said.seconds:.0f} s of one processor")
     return done
+
+
+def weights_of(crate: Path, edits: list[Edit]) -> dict[str, int]:
+    """About what it takes to check each edit, by the names of the edits."""
+    return dict(zip((it.name for it in edits), kept_bytes(crate, edits)))
 
 
 def settled(

@@ -10,6 +10,9 @@ from .edit import Edit, applied
 from .verdict import Verdict, judged, verdict_on
 
 SOURCES = ("src", "specs", "proofs")
+# An answer that is none. Where a function's answers have it, a check still tells each goal that is
+# open, and writes no offer of answers to them, which takes as long as it took to find them open.
+MARK = "\n\npub no_goal : no_goal_at_all\nno_goal = no_goal_at_all\n"
 
 
 @dataclass
@@ -22,7 +25,8 @@ class Said:
 
 @dataclass
 class Trial:
-    """The verdict on the function of each edit of a check, and what the check said."""
+    """The verdict on the function of each edit of a check, and what the check said. There is none
+    on a function of which nothing but a mark is refused."""
 
     verdicts: list[Verdict | None]
     said: Said
@@ -86,8 +90,32 @@ def named(edits: list[Edit], said: str) -> tuple[list[Edit], list[tuple[str, str
     return good, bad
 
 
-def tried(root: Path, crate: str, edits: list[Edit]) -> Trial:
-    """What a check says of a crate where all of these edits are made at once."""
+def kept_bytes(crate: Path, edits: list[Edit]) -> list[int]:
+    """How many bytes `rt check` kept of the proof of each edit's function: about what it takes to
+    check the edit, so that those that take longest can be tried first."""
+    kept = [(it.name, it.stat().st_size) for it in crate.glob("out/incremental/*/*-proofs.*.oantt")]
+    fronts = [f"Rattle-{it.path.replace('::', '-proofs.', 1).replace('::', '.')}." for it in edits]
+    return [sum(size for name, size in kept if name.startswith(front)) for front in fronts]
+
+
+def answers_of(crate: Path, edit: Edit) -> Path | None:
+    """The file of the answers of the edit's function, there or not; None where its whole proof is
+    written by hand."""
+    folder = crate / "proofs" / edit.path.partition("::")[2].replace("::", "/")
+    return None if (folder / "Proof.antt").exists() else folder / "Answers.antt"
+
+
+def mark(answers: Path) -> None:
+    """Puts the mark behind the answers, in place of a link."""
+    text = answers.read_text() if answers.exists() else ""
+    answers.parent.mkdir(parents=True, exist_ok=True)
+    answers.unlink(missing_ok=True)
+    answers.write_text(text + MARK)
+
+
+def tried(root: Path, crate: str, edits: list[Edit], marks: bool) -> Trial:
+    """What a check says of a crate where all of these edits are made at once, and where the answers
+    of those that are to be refused at a goal are marked, if that is asked."""
     texts = texts_of(root / "crates" / crate)
     changed = applied([change for it in edits for change in it.changes], texts)
     with tempfile.TemporaryDirectory(prefix="edits-") as room:
@@ -96,6 +124,10 @@ def tried(root: Path, crate: str, edits: list[Edit]) -> Trial:
             if text != texts[file]:
                 (folder / file).unlink()
                 (folder / file).write_text(text)
+        files = [answers_of(folder, it) if marks and it.expect == "goal" else None for it in edits]
+        for answers in filter(None, files):
+            mark(answers)
         said = check(folder, [it.path for it in edits])
     verdicts = judged(said.text)
-    return Trial([verdicts.get(it.path) for it in edits], said)
+    found = [(verdicts.get(it.path), at) for it, at in zip(edits, files)]
+    return Trial([it if it and (it.goals or it.waits or not at) else None for it, at in found], said)
