@@ -23,6 +23,7 @@ enum Growing {
     FromTrustedLenIter,
     TryFromTrustedLenIter,
     IntoMut,
+    WithRoom,
 }
 
 impl Growing {
@@ -51,6 +52,7 @@ impl Growing {
             Growing::FromTrustedLenIter => BufferMut::from_trusted_len_iter(alloc, 3..6u32),
             Growing::TryFromTrustedLenIter => try_collected(alloc),
             Growing::IntoMut => Buffer::copy_from(alloc, &[1, 2])?.into_mut(),
+            Growing::WithRoom => room_of(Buffer::copy_from_aligned(alloc, &[1, 2], wide)),
         }
     }
 }
@@ -63,6 +65,16 @@ pub fn cloned<A: Allocator + Clone>(
     let clone = buffer.clone();
     drop(buffer);
     clone
+}
+
+/// Room from the allocator of a buffer that was made.
+fn room_of<A: Allocator + Clone>(
+    made: Result<Buffer<u32, A>, BufferError>,
+) -> Result<BufferMut<u32, A>, BufferError> {
+    let buffer = made?;
+    let room = buffer.with_room(3);
+    drop(buffer);
+    room
 }
 
 fn try_collected<A: Allocator>(alloc: A) -> Result<BufferMut<u32, A>, BufferError> {
@@ -233,6 +245,7 @@ const ROWS: &[(Shared, &[u32], (usize, usize))] = &[
         (4, 256),
     ),
     (Shared::Frozen(Growing::IntoMut), &[1, 2], (4, 256)),
+    (Shared::Frozen(Growing::WithRoom), &[], (512, 512)),
     (Shared::Clone, &[1, 2], (4, 256)),
     (Shared::Aligned, &[1, 2], (512, 512)),
     (Shared::CopyFromAligned, &[1, 2], (512, 512)),
