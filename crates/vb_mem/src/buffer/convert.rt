@@ -17,7 +17,8 @@ use vb_core::{Alignment, BufferError, Element};
 
 impl<T: Element, A: Allocator> Buffer<T, A> {
     /// The same items, to be changed, moved to the front of their storage, where no other buffer
-    /// shares it; else the buffer is given back. It takes no memory.
+    /// shares it; else the buffer is given back. It takes no memory, and constant time but for the
+    /// move of items that don't begin the storage.
     pub fn try_into_mut(self) -> Result<BufferMut<T, A>, Self>
         ensures ok { IfOk result (Holds self.list self.exponent self.declared_exponent) }
         ensures err { IfErr result (λ b. b ≡ self) }
