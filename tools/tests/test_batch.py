@@ -2,7 +2,7 @@
 import unittest
 
 from trials.batch import batches, callees
-from trials.coverage import public_clauses, summary, superfluous
+from trials.coverage import public_clauses, shares, summary, superfluous
 from trials.edit import parsed, placed
 from trials.judge import Outcome
 
@@ -18,20 +18,58 @@ def edit(old: str):
 
 
 class Batches(unittest.TestCase):
-    def test_callers_and_callees_are_apart(self):
-        edits = [edit("1"), edit("+ 2"), edit("3")]
-        found = batches(edits, 8, callees(TEXTS), TEXTS)
-        self.assertEqual([[it.name for it in group] for group in found], [["1", "3"], ["+ 2"]])
+    def names(self, edits, size: int = 8) -> list[list[str]]:
+        return [[it.name for it in group] for group in batches(edits, size, callees(TEXTS), TEXTS)]
 
-    def test_a_batch_is_no_larger_than_asked(self):
-        found = batches([edit("1"), edit("3")], 1, callees(TEXTS), TEXTS)
-        self.assertEqual(len(found), 2)
+    def test_edits_of_callers_and_callees_are_judged_together(self):
+        self.assertEqual(self.names([edit("1"), edit("+ 2"), edit("3")]), [["1", "+ 2", "3"]])
+
+    def test_callers_are_apart_from_a_callee_that_is_tried_at_some_clauses(self):
+        callee = edit("1")
+        callee.at = ("small",)
+        self.assertEqual(self.names([callee, edit("+ 2"), edit("3")]), [["1", "3"], ["+ 2"]])
+
+    def test_a_caller_that_must_be_proved_is_apart_from_its_callees(self):
+        harmless = edit("+ 2")
+        harmless.expect = "proved"
+        self.assertEqual(self.names([harmless, edit("1"), edit("3")]), [["+ 2", "3"], ["1"]])
+
+    def test_a_name_that_several_functions_have_is_each_of_them(self):
+        texts = {"src/lib.rt": "impl One {\n    fn len() {\n        1\n    }\n}\nimpl Two {\n    fn len() {\n        2\n    }\n}\nfn both() {\n    x.len()\n}\n"}
+        below = {it.title: {other.title for other in others} for it, others in callees(texts).items()}
+        self.assertEqual(below, {"One::len": set(), "Two::len": set(), "both": {"One::len", "Two::len"}})
+
+    def test_edits_of_one_function_are_apart(self):
+        twice = [edit("3"), edit("1"), edit("3")]
+        self.assertEqual(self.names(twice), [["3", "1"], ["3"]])
+
+    def test_batches_are_no_larger_than_asked_and_about_equal(self):
+        self.assertEqual(self.names([edit("1"), edit("3")], 1), [["1"], ["3"]])
+        self.assertEqual(self.names([edit("1"), edit("3"), edit("+ 2")], 2), [["1", "+ 2"], ["3"]])
 
     def test_clauses_that_no_edit_reaches_are_listed(self):
         outcomes = [Outcome(edit("1"), True, "", ["small"])]
         text, count, left = summary(outcomes, TEXTS)
         self.assertEqual(text, "2 public clauses; no edit is refused at 1: low.value")
         self.assertEqual((count, left), (2, 1))
+
+    def test_each_clause_falls_to_the_edit_that_breaks_fewest(self):
+        text = "fn low()\n    ensures value { a }\n    ensures small { b }\n    ensures odd { c }\n{\n    1\n}\n"
+
+        def refused(name: str, *clauses: str) -> Outcome:
+            it = parsed(name, "file: src/lib.rt\nold: 1\nnew: 2\n")
+            it.function = placed(it, {"src/lib.rt": text})
+            return Outcome(it, True, "", list(clauses))
+
+        outcomes = [refused("most", "value", "small", "odd"), refused("few", "small", "odd")]
+        outcomes[1].edit.keep = "a likely mistake"
+        self.assertEqual(shares(outcomes), {"few": ["small", "odd"], "most": ["value"]})
+        outcomes = [refused("front", "value", "small"), refused("back", "small", "odd")]
+        self.assertEqual(shares(outcomes), {"back": ["small", "odd"], "front": ["value"]})
+
+    def test_an_edit_that_alone_breaks_its_clauses_is_tried_at_all(self):
+        self.assertEqual(shares([Outcome(edit("1"), True, "", ["value", "small"])]), {})
+        self.assertEqual(shares([Outcome(edit("3"), True, "", ["of_its_trait"])] * 2), {})
 
     def test_clauses_with_no_other_answer_are_listed_apart(self):
         it = edit("1")

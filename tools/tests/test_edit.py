@@ -1,9 +1,19 @@
 """How edits are read and where they are placed."""
 import unittest
 
-from trials.edit import BadEdit, applied, parsed, placed
+from trials.edit import BadEdit, applied, checked, narrowed, parsed, placed
+from trials.source import functions
 
 TEXTS = {"src/lib.rt": "pub fn one() -> u8\n    ensures { result ≡ 1 }\n{\n    1\n}\n\npub fn two() -> u8 {\n    1 + 1\n}\n"}
+
+
+CLAUSES = "pub fn one() -> u8\n    ensures odd { odd\n        result }\n    ensures low { result < 9 }\n    ensures { result ≡ 1 }\n{\n    1\n}\n"
+
+
+def tried_at(names: str, text: str = CLAUSES):
+    edit = parsed("e", f"file: src/lib.rt\nat: {names}\nold:     1\nnew:     2\n")
+    edit.function = placed(edit, {"src/lib.rt": text})
+    return checked(edit, {"src/lib.rt": text})
 
 
 class Edits(unittest.TestCase):
@@ -48,3 +58,45 @@ class Edits(unittest.TestCase):
         for text in ("", "file: src/lib.rt\n", "old: 1\nnew: 2\n", "file: src/lib.rt\nexpect: luck\nold: 1\nnew: 2\n"):
             with self.assertRaises(BadEdit):
                 parsed("e", text)
+
+    def test_other_clauses_say_nothing_and_lines_stay(self):
+        text = narrowed([tried_at("low")], {"src/lib.rt": CLAUSES})["src/lib.rt"]
+        self.assertEqual([it.name for it in functions("src/lib.rt", text)[0].ensures], ["odd", "low", "ensures"])
+        self.assertEqual(text.replace("\n", "").count("{ result ≡ result }"), 2)
+        self.assertIn("    ensures low { result < 9 }\n", text)
+        self.assertEqual(text.count("\n"), CLAUSES.count("\n"))
+        self.assertEqual(narrowed([tried_at("")], {"src/lib.rt": CLAUSES})["src/lib.rt"], CLAUSES)
+
+    def test_what_the_clauses_need_that_say_nothing_is_named_once(self):
+        names = "ghost use Rattle.std.specs.Prelude.{◌<◌};\n"
+        text = narrowed([tried_at("low", names + CLAUSES)], {"src/lib.rt": names + CLAUSES})["src/lib.rt"]
+        self.assertTrue(text.startswith(f"ghost use Rattle.std.specs.Prelude.{{◌≡◌}}; {names}pub fn"))
+        names = names.replace("◌<◌", "◌<◌, ◌≡◌")
+        text = narrowed([tried_at("low", names + CLAUSES)], {"src/lib.rt": names + CLAUSES})["src/lib.rt"]
+        self.assertTrue(text.startswith(f"{names}pub fn"))
+
+    def test_clauses_are_found_where_edits_have_moved_them(self):
+        first = "pub fn none() {\n    0\n}\n"
+        other = parsed("e", "file: src/lib.rt\nold: 0\nnew: 1000\n")
+        edit = tried_at("odd ensures", first + CLAUSES)
+        text = narrowed([edit], applied(other.changes, {"src/lib.rt": first + CLAUSES}))["src/lib.rt"]
+        self.assertIn("1000\n}\npub fn one() -> u8\n    ensures odd { odd\n        result }\n    ensures low { result ≡ result }\n", text)
+        self.assertIn("ensures { result ≡ 1 }", text)
+
+    def test_what_calls_itself_is_tried_at_all_clauses(self):
+        with self.assertRaisesRegex(BadEdit, "one calls itself"):
+            tried_at("low", CLAUSES.replace("    1\n", "    one();\n    1\n"))
+        tried_at("low", CLAUSES.replace("    1\n", "    other.one();\n    Set::one();\n    1\n"))
+        method = "impl Set {\n" + CLAUSES + "}\n"
+        for call in ("self.one()", "Self::one()", "Set::one::<u8>()"):
+            with self.assertRaisesRegex(BadEdit, "Set::one calls itself"):
+                tried_at("low", method.replace("    1\n", f"    {call};\n    1\n"))
+        tried_at("low", method.replace("    1\n", "    one();\n    self.items.one();\n    1\n"))
+
+    def test_only_clauses_of_its_function_are_tried(self):
+        with self.assertRaisesRegex(BadEdit, "one has no clause high"):
+            tried_at("low high")
+        with self.assertRaisesRegex(BadEdit, "one lends"):
+            tried_at("low", CLAUSES.replace("ensures odd", "ensures* odd"))
+        with self.assertRaisesRegex(BadEdit, "refused at a goal"):
+            parsed("e", "file: src/lib.rt\nat: low\nexpect: proved\nold: 1\nnew: 2\n")

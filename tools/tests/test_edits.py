@@ -9,6 +9,7 @@ from pathlib import Path
 TOOLS = Path(__file__).resolve().parent.parent
 SOURCE = "pub fn one() -> u8\n    ensures { result ≡ 1 }\n{\n    1\n}\n\npub fn two() -> u8\n    ensures { result ≡ 1 }\n{\n    1\n}\n"
 RT = """#!/usr/bin/env bash
+[ "$1" = version ] && exec echo a kit
 echo "$@" >> "$ASKED"
 marked=$(grep -rls no_goal_at_all proofs | sort | tr '\\n' ' ')
 echo "marked $marked" >> "$ASKED.marks"
@@ -159,3 +160,23 @@ class Command(unittest.TestCase):
         self.edit("one_is_two", "one", "2")
         self.run_it()
         self.assertEqual((self.root / "crates/demo/src/lib.rt").read_text(), SOURCE)
+
+    def test_a_crate_that_was_proved_as_it_stands_is_not_checked_again(self):
+        (self.root / "crates/demo/out").mkdir()
+        self.edit("harmless", "two", "1", "expect: proved\n")
+        self.run_it()
+        self.run_it()
+        self.assertEqual(self.asked().count("check --jobs 1"), 1)
+        (self.root / "crates/demo/src/lib.rt").write_text(SOURCE + "\n")
+        self.run_it()
+        self.assertEqual(self.asked().count("check --jobs 1"), 2)
+
+    def test_a_crate_that_is_not_proved_as_it_stands_is_checked_each_time(self):
+        (self.root / "crates/demo/out").mkdir()
+        (self.root / "crates/demo/src/lib.rt").write_text(SOURCE.replace("    1\n}\n\n", "    2\n}\n\n"))
+        self.edit("two_is_two", "two", "2")
+        for _ in range(2):
+            ran = self.run_it()
+            self.assertIn("demo/src: BAD EDIT: it isn't proved as it stands", ran.stdout)
+            self.assertEqual(ran.returncode, 1)
+        self.assertEqual(self.asked(), ["check --jobs 1"] * 2)

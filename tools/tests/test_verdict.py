@@ -5,7 +5,7 @@ from trials.edit import parsed, placed
 from trials.judge import outcome, settled
 from trials.source import functions
 from trials.trial import Said, Trial
-from trials.verdict import clauses_of, judged, verdict_on
+from trials.verdict import clauses_of, judged, unproved, verdict_on
 
 SAID = '''checked demo::one, 1 of 5
 ./proofs/lib/../Answers.antt:1:1: note: nothing
@@ -119,3 +119,33 @@ class Verdicts(unittest.TestCase):
         self.assertEqual([it.edit for it in found], edits[1:])
         self.assertEqual(found[0].text, "NOT JUDGED: src/lib.rt:7:5: error[types]: no")
         self.assertEqual(again, edits[:1])
+
+    def test_an_edit_is_refused_at_all_clauses_that_it_is_tried_at(self):
+        said = "note: src/deep.rt:2:5: it is not proved that it holds (`returns-clause-value`)\nfn demo::deep::Set::len: not proved\n"
+        verdict = judged(said)["demo::deep::Set::len"]
+        it = edit("src/deep/grow.rt", "        5")
+        it.at = ("value",)
+        self.assertTrue(outcome(it, verdict, said).is_right)
+        it.at = ("value", "kept")
+        self.assertEqual(outcome(it, verdict, said).text, "refused at value, NOT AT kept")
+        self.assertFalse(outcome(it, verdict, said).is_right)
+
+    def test_what_is_said_of_other_clauses_is_passed_over(self):
+        said = "./proofs/deep/Set/len/Answers.antt:1:1: error: `returns-clause-kept`: the two types differ\nfn demo::deep::Set::len: not proved\n"
+        it = edit("src/deep/grow.rt", "        5")
+        it.at = ("value",)
+        found = outcome(it, judged(said)["demo::deep::Set::len"], said)
+        self.assertEqual((found.is_right, found.clauses), (False, []))
+
+    def test_callees_that_a_function_waits_for(self):
+        said = (
+            "fn demo::one: not proved\n"
+            "fn demo::two: no proof: it calls `demo::one` and `demo::three`, which are not proved\n"
+            "fn demo::four: not proved; it calls `demo::two`, which is not proved; it passes the block `demo::fn::four::do`, which is not proved\n"
+        )
+        verdicts = judged(said)
+        self.assertEqual(unproved(verdicts["demo::one"], verdicts), set())
+        self.assertEqual(
+            unproved(verdicts["demo::four"], verdicts),
+            {"demo::one", "demo::two", "demo::three", "demo::fn::four::do"},
+        )

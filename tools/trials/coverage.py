@@ -72,6 +72,30 @@ def superfluous(outcomes: list[Outcome]) -> list[Outcome]:
     return left
 
 
+def shares(outcomes: list[Outcome]) -> dict[str, list[str]]:
+    """The clauses that an edit need be tried at, by its name, where its function has more: each clause
+    falls to the edit that is refused at the fewest, and one that stays anyway keeps all of its."""
+    left = superfluous(outcomes)
+    split = [it for it in outcomes if it not in left and can_be_split(it)]
+    found = reached([it for it in outcomes if it not in left and it not in split])
+    mine: dict[str, list[str]] = {}
+    for it in sorted(split, key=lambda it: (not is_kept(it), len(it.clauses), it.edit.name)):
+        function = it.edit.function
+        names = [clause for clause in it.clauses if is_kept(it) or (function.title, clause) not in found]
+        found |= {(function.title, clause) for clause in names}
+        if names and len(names) < len(function.clauses):
+            mine[it.edit.name] = names
+    return mine
+
+
+def can_be_split(outcome: Outcome) -> bool:
+    """Whether an edit can be tried at some of its clauses alone: those of its function itself, where
+    the gate doesn't try it."""
+    function = outcome.edit.function
+    is_of_it = set(outcome.clauses) <= set(function.clauses) and not any(it.has_star for it in function.ensures)
+    return is_of_it and not outcome.edit.name.startswith("must-fail/")
+
+
 def forced(outcomes: list[Outcome]) -> set[tuple[str, str]]:
     """The clauses of functions of which an edit shows that no other answer can be written."""
     functions = [it.edit.function for it in outcomes if it.edit.expect == "no other answer" and it.is_right]

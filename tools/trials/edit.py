@@ -1,10 +1,13 @@
 """Edits: files that say which text of a crate another takes the place of."""
 import os
+import re
 from dataclasses import dataclass, field
 from pathlib import Path
 
 from .source import Function, functions
 
+# What the clauses need that say nothing.
+EQUALITY = "ghost use Rattle.std.specs.Prelude.{◌≡◌};"
 EXPECTED = ("goal", "no proof", "proved", "no other answer")
 
 
@@ -26,19 +29,20 @@ class Change:
 @dataclass
 class Edit:
     """A wrong body of one function, or a harmless one. `expect` says what the check must answer,
-    `keep` for which likely mistake it stands, if others reach its clauses, and `path` is the
-    function's name in what a check says."""
+    `at` at which clauses alone it is tried, if not at all, `keep` for which likely mistake it
+    stands, if others reach its clauses, and `path` is the function's name in what a check says."""
 
     name: str
     changes: list[Change]
     expect: str = "goal"
+    at: tuple[str, ...] = ()
     keep: str = ""
     function: Function | None = field(default=None, compare=False)
     path: str = field(default="", compare=False)
 
 
 def parsed(name: str, text: str) -> Edit:
-    """Reads an edit: lines `file:`, `old:` and `new:`, and perhaps `in:`, `expect:` and `keep:`."""
+    """Reads an edit: lines `file:`, `old:` and `new:`, and perhaps `in:`, `at:`, `expect:` and `keep:`."""
     edit, file, inside, old = Edit(name, []), "", "", None
     for line in text.split("\n"):
         word, _, rest = line.partition(":")
@@ -49,6 +53,8 @@ def parsed(name: str, text: str) -> Edit:
             inside = rest.strip()
         elif word == "expect":
             edit.expect = rest.strip()
+        elif word == "at":
+            edit.at = tuple(rest.split())
         elif word == "keep":
             edit.keep = rest.strip()
         elif word == "old":
@@ -62,6 +68,8 @@ def parsed(name: str, text: str) -> Edit:
         raise BadEdit("it has no 'old:' and 'new:'")
     if edit.expect not in EXPECTED:
         raise BadEdit(f"it expects '{edit.expect}', which is none of {', '.join(EXPECTED)}")
+    if edit.at and edit.expect != "goal":
+        raise BadEdit("clauses to be tried at are those of an edit that is refused at a goal")
     return edit
 
 
@@ -113,6 +121,42 @@ def placed(edit: Edit, texts: dict[str, str]) -> Function:
     return next(f for f in functions(file, texts[file]) if f.key == key)
 
 
+def narrowed(edits: list[Edit], texts: dict[str, str]) -> dict[str, str]:
+    """The texts where, of these edits' functions, the clauses that they aren't tried at say nothing.
+    Names and lines stay as they are."""
+    texts = dict(texts)
+    for it in filter(lambda it: it.at, edits):
+        file, key = it.function.file, it.function.key
+        text = texts[file]
+        [function] = [f for f in functions(file, text) if f.key == key]
+        for clause in reversed(function.ensures):
+            if clause.name not in it.at:
+                lines = "\n" * text.count("\n", clause.start, clause.end)
+                text = f"{text[: clause.start]} result ≡ result {lines}{text[clause.end :]}"
+        texts[file] = text if "◌≡◌" in text else text.replace("ghost use", f"{EQUALITY} ghost use", 1)
+    return texts
+
+
+def checked(edit: Edit, texts: dict[str, str]) -> Edit:
+    """The edit, if it is tried at all clauses, or at some of its function's. Of one that lends all
+    clauses are one goal, and one that calls itself is proved by all of them."""
+    function = edit.function
+    unknown = [it for it in edit.at if it not in function.clauses]
+    if unknown:
+        raise BadEdit(f"{function.title} has no clause {', '.join(unknown)}")
+    if edit.at and any(it.has_star for it in function.ensures):
+        raise BadEdit(f"{function.title} lends, so it can't be tried at some of its clauses")
+    if edit.at and calls_itself(function, texts[function.file]):
+        raise BadEdit(f"{function.title} calls itself, so it can't be tried at some of its clauses")
+    return edit
+
+
+def calls_itself(function: Function, text: str) -> bool:
+    """Whether a function names itself in a call, as far as that can be told without types."""
+    front = rf"(?:\b(?:Self|{function.block.owner})(?:::<[^(]*>)?::|\bself\.)" if function.block else r"(?<![.:\w])"
+    return re.search(rf"{front}{function.name}(?:::<[^(]*>)?\(", text[function.body : function.end]) is not None
+
+
 def read_all(crate: Path) -> tuple[list[Edit], list[tuple[str, str]]]:
     """The edits of a crate, each placed in its function, and those that show nothing, with why."""
     texts = {str(it.relative_to(crate)): it.read_text() for it in sorted(crate.glob("src/**/*.rt"))}
@@ -122,7 +166,7 @@ def read_all(crate: Path) -> tuple[list[Edit], list[tuple[str, str]]]:
         try:
             edit = parsed(name, path.read_text())
             edit.function = placed(edit, texts)
-            good.append(edit)
+            good.append(checked(edit, texts))
         except BadEdit as why:
             bad.append((name, str(why)))
     return good, bad

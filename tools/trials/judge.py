@@ -1,14 +1,10 @@
-"""Which edits of a crate its contracts refuse, and at which clauses."""
+"""What became of an edit: whether its function's contract refuses it, and at which clauses."""
 import re
-from collections.abc import Callable
-from concurrent.futures import ThreadPoolExecutor
-from dataclasses import dataclass, field
-from pathlib import Path
+from dataclasses import dataclass
 
-from .batch import batches, callees
 from .edit import Edit
 from .source import Function
-from .trial import Trial, kept_bytes, texts_of, tried
+from .trial import Trial
 from .verdict import Verdict, clauses_of
 
 # What doesn't compile.
@@ -35,14 +31,6 @@ class Outcome:
         return {(name, clause) for clause in self.clauses for name in (function.title, of_trait)}
 
 
-@dataclass
-class Judgement:
-    """The outcomes of a crate's edits, and for how many seconds processors worked on them."""
-
-    outcomes: list[Outcome] = field(default_factory=list)
-    seconds: float = 0
-
-
 def outcome(edit: Edit, verdict: Verdict | None, said: str) -> Outcome | None:
     """What a verdict says of an edit; None where its function was not judged."""
     if verdict is None or verdict.waits and not verdict.goals:
@@ -54,9 +42,10 @@ def outcome(edit: Edit, verdict: Verdict | None, said: str) -> Outcome | None:
     if edit.expect == "no other answer":
         return Outcome(edit, NEVER in verdict.goals, f"refused at {', '.join(verdict.goals)}", [])
     if verdict.goals:
-        clauses = clauses_of(verdict, edit.function)
-        text = f"refused at {', '.join(clauses or verdict.goals)}"
-        return Outcome(edit, edit.expect == "goal", text, clauses)
+        clauses = [it for it in clauses_of(verdict, edit.function) if not edit.at or it in edit.at]
+        missed = [it for it in edit.at if it not in clauses]
+        text = f"refused at {', '.join(clauses or verdict.goals)}" + f", NOT AT {', '.join(missed)}" * bool(missed)
+        return Outcome(edit, edit.expect == "goal" and not missed, text, clauses)
     return Outcome(edit, edit.expect == "no proof", f"no goal: {verdict.reason[:120]}", [])
 
 
@@ -66,56 +55,6 @@ def unjudged(edit: Edit, verdict: Verdict | None, said: str) -> Outcome:
         return Outcome(edit, False, f"NOT JUDGED: {verdict.reason[:160]}", [])
     first = next((it for it in said.split("\n") if ": error" in it or it.startswith("error")), said[-160:])
     return Outcome(edit, False, f"NOT JUDGED: {first.strip()[:200]}", [])
-
-
-def judge(
-    root: Path,
-    work: dict[str, list[Edit]],
-    lanes: int,
-    size: int,
-    tell: Callable[[str], None],
-) -> dict[str, Judgement]:
-    """The outcome of each edit of each crate.
-
-    An edit that doesn't compile is not tried again. Others that a check did not judge, since it
-    stopped there or their function waits for another, are tried again in smaller batches, and in
-    the last round each alone. Answers are marked in all rounds but the last, so what is not refused
-    is told by a check of the crate as the edit makes it and nothing else.
-    """
-    texts = {crate: texts_of(root / "crates" / crate) for crate in work}
-    below = {crate: callees(texts[crate]) for crate in work}
-    weights = {crate: weights_of(root / "crates" / crate, edits) for crate, edits in work.items()}
-    left = dict(work)
-    done = {crate: Judgement() for crate in work}
-    sizes = (size, max(size // 5, 1), 1)
-    for turn in range(1, len(sizes) + 1):
-        groups = [
-            (crate, group)
-            for crate, edits in left.items()
-            for group in batches(edits, sizes[turn - 1], below[crate], texts[crate])
-        ]
-        if not groups:
-            break
-        # The longest first, so that no lane is left alone with one.
-        groups.sort(key=lambda it: -sum(weights[it[0]][edit.name] for edit in it[1]))
-        tell(f"round {turn}: {sum(len(it) for _, it in groups)} edits in {len(groups)} checks")
-        left, is_last = {}, turn == len(sizes)
-        with ThreadPoolExecutor(lanes) as pool:
-            trials = pool.map(lambda it: tried(root, *it, marks=not is_last), groups)
-            for (crate, group), trial in zip(groups, trials):
-                found, again = settled(group, trial, texts[crate], is_last)
-                done[crate].seconds += trial.said.seconds
-                done[crate].outcomes += found
-                left.setdefault(crate, []).extend(again)
-                for it in found:
-                    tell(f"{crate}/{it.edit.name}: {it.text} of {it.edit.function.title}")
-                tell(f"{crate}: {len(found)} of {len(group)} edits in {trial.said.seconds:.0f} s of one processor")
-    return done
-
-
-def weights_of(crate: Path, edits: list[Edit]) -> dict[str, int]:
-    """About what it takes to check each edit, by the names of the edits."""
-    return dict(zip((it.name for it in edits), kept_bytes(crate, edits)))
 
 
 def settled(

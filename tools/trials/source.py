@@ -9,7 +9,7 @@ BLOCK = re.compile(
 FUNCTION = re.compile(
     r"(?m)^[ \t]*(?P<public>pub(?:\([^)]*\))?\s+)?(?:(?:const|unsafe|final|extern)\s+)*fn\s+(?P<name>\w+)"
 )
-CLAUSE = re.compile(r"\b(?P<kind>requires|ensures|ghost)\*?\s*(?P<name>\w+)?\s*:?\s*$")
+CLAUSE = re.compile(r"\b(?P<kind>requires|ensures|ghost)(?P<star>\*?)\s*(?P<name>\w+)?\s*:?\s*$")
 REFERENCE = re.compile(r"&\s*(?:'\w+\s+)?(mut\b)?")
 CLOSING = {"(": ")", "[": "]", "{": "}"}
 
@@ -30,17 +30,33 @@ class Block:
 
 
 @dataclass(frozen=True)
+class Clause:
+    """An `ensures` of a function, and where what it says begins and ends, between its brackets, by
+    offsets into the text. One with a star says what a function lends."""
+
+    name: str
+    has_star: bool
+    start: int
+    end: int
+
+
+@dataclass(frozen=True)
 class Function:
-    """A function of a file, by offsets into its text. `clauses` are the names of its `ensures`."""
+    """A function of a file, by offsets into its text."""
 
     file: str
     name: str
     block: Block | None
     is_public: bool
-    clauses: tuple[str, ...]
+    ensures: tuple[Clause, ...]
     start: int
     body: int
     end: int
+
+    @property
+    def clauses(self) -> tuple[str, ...]:
+        """The names of its `ensures`."""
+        return tuple(it.name for it in self.ensures)
 
     @property
     def title(self) -> str:
@@ -146,7 +162,7 @@ def blocks(text: str) -> list[Block]:
     return found
 
 
-def signature(text: str, at: int) -> tuple[tuple[str, ...], int, int]:
+def signature(text: str, at: int) -> tuple[tuple[Clause, ...], int, int]:
     """The `ensures` of the function whose name ends at this offset, where its body begins and where
     that ends. A function of a trait that has no body ends where it would begin."""
     clauses, since = [], at
@@ -164,7 +180,7 @@ def signature(text: str, at: int) -> tuple[tuple[str, ...], int, int]:
         if sign[0] == "{":
             since = end + 1
             if clause["kind"] == "ensures":
-                clauses.append(clause["name"] or "ensures")
+                clauses.append(Clause(clause["name"] or "ensures", bool(clause["star"]), at + 1, end))
         at = end + 1
 
 

@@ -6,8 +6,8 @@ import tempfile
 from dataclasses import dataclass
 from pathlib import Path
 
-from .edit import Edit, applied
-from .verdict import Verdict, judged, verdict_on
+from .edit import Edit, applied, narrowed
+from .verdict import Verdict, judged, unproved, verdict_on
 
 SOURCES = ("src", "specs", "proofs")
 # An answer that is none. Where a function's answers have it, a check still tells each goal that is
@@ -115,9 +115,13 @@ def mark(answers: Path) -> None:
 
 def tried(root: Path, crate: str, edits: list[Edit], marks: bool) -> Trial:
     """What a check says of a crate where all of these edits are made at once, and where the answers
-    of those that are to be refused at a goal are marked, if that is asked."""
+    of those that are to be refused at a goal are marked, if that is asked.
+
+    Where not all clauses of a function stand, nothing is known of one that calls it, so there is no
+    verdict on such a one.
+    """
     texts = texts_of(root / "crates" / crate)
-    changed = applied([change for it in edits for change in it.changes], texts)
+    changed = narrowed(edits, applied([change for it in edits for change in it.changes], texts))
     with tempfile.TemporaryDirectory(prefix="edits-") as room:
         folder = copy_of(root, crate, Path(room))
         for file, text in changed.items():
@@ -129,5 +133,7 @@ def tried(root: Path, crate: str, edits: list[Edit], marks: bool) -> Trial:
             mark(answers)
         said = check(folder, [it.path for it in edits])
     verdicts = judged(said.text)
+    narrow = {it.path for it in edits if it.at}
     found = [(verdicts.get(it.path), at) for it, at in zip(edits, files)]
-    return Trial([it if it and (it.goals or it.waits or not at) else None for it, at in found], said)
+    is_told = lambda it, at: not unproved(it, verdicts) & narrow and (it.goals or it.waits or not at)
+    return Trial([it if it and is_told(it, at) else None for it, at in found], said)

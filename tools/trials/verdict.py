@@ -14,12 +14,12 @@ SEARCHED = re.compile(r"`search` did not prove (.*)")
 
 @dataclass
 class Verdict:
-    """What was said of one function: proved, or the goals that were not, or the callee that it
-    waits for, or another reason."""
+    """What was said of one function: proved, or the goals that were not, or the paths of callees that
+    it waits for, or another reason."""
 
     path: str
     is_proved: bool = False
-    waits: bool = False
+    waits: tuple[str, ...] = ()
     reason: str = ""
     goals: list[str] = field(default_factory=list)
     lines: list[tuple[str, int]] = field(default_factory=list)
@@ -37,7 +37,7 @@ def judged(said: str) -> dict[str, Verdict]:
         elif it := SAID.match(line):
             verdict = Verdict(it[1], is_proved=it[2] == "proved")
             if not verdict.is_proved:
-                verdict.waits = "it calls `" in it[2]
+                verdict.waits = tuple(re.findall(r"`([^`]+)`", it[2].partition("it calls ")[2]))
                 verdict.reason = it[2].removeprefix("no proof: ")
                 verdict.goals = [goal for _, _, goal in pending]
                 if searched := SEARCHED.search(it[2]):
@@ -48,6 +48,17 @@ def judged(said: str) -> dict[str, Verdict]:
     for path, verdict in found.items():
         verdict.goals += answers.get(path.partition("::")[2], [])
         verdict.goals = list(dict.fromkeys(verdict.goals))
+    return found
+
+
+def unproved(verdict: Verdict, verdicts: dict[str, Verdict]) -> set[str]:
+    """The paths of the callees, direct or not, that a function waits for."""
+    found, left = set(), [verdict]
+    while left:
+        for path in left.pop().waits:
+            if path not in found and path in verdicts:
+                left.append(verdicts[path])
+            found.add(path)
     return found
 
 
