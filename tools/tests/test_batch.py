@@ -1,7 +1,7 @@
 """Which edits one check judges together."""
 import unittest
 
-from trials.batch import batches, callees
+from trials.batch import batches, calls
 from trials.coverage import public_clauses, shares, summary, superfluous
 from trials.edit import parsed, placed
 from trials.judge import Outcome
@@ -19,25 +19,33 @@ def edit(old: str):
 
 class Batches(unittest.TestCase):
     def names(self, edits, size: int = 8) -> list[list[str]]:
-        return [[it.name for it in group] for group in batches(edits, size, callees(TEXTS), TEXTS)]
+        return [[it.name for it in group] for group in batches(edits, size, calls(TEXTS), TEXTS)]
 
     def test_edits_of_callers_and_callees_are_judged_together(self):
-        self.assertEqual(self.names([edit("1"), edit("+ 2"), edit("3")]), [["1", "+ 2", "3"]])
+        self.assertEqual(self.names([edit("1"), edit("    low()"), edit("3")]), [["1", "    low()", "3"]])
+
+    def test_what_stands_between_edited_functions_is_not_proved_again(self):
+        self.assertEqual(self.names([edit("1"), edit("+ 2"), edit("3")]), [["1", "3"], ["+ 2"]])
 
     def test_callers_are_apart_from_a_callee_that_is_tried_at_some_clauses(self):
         callee = edit("1")
         callee.at = ("small",)
-        self.assertEqual(self.names([callee, edit("+ 2"), edit("3")]), [["1", "3"], ["+ 2"]])
+        self.assertEqual(self.names([callee, edit("    low()"), edit("3")]), [["1", "3"], ["    low()"]])
 
     def test_a_caller_that_must_be_proved_is_apart_from_its_callees(self):
-        harmless = edit("+ 2")
+        harmless = edit("    low()")
         harmless.expect = "proved"
-        self.assertEqual(self.names([harmless, edit("1"), edit("3")]), [["+ 2", "3"], ["1"]])
+        self.assertEqual(self.names([harmless, edit("1"), edit("3")]), [["    low()", "3"], ["1"]])
 
     def test_a_name_that_several_functions_have_is_each_of_them(self):
         texts = {"src/lib.rt": "impl One {\n    fn len() {\n        1\n    }\n}\nimpl Two {\n    fn len() {\n        2\n    }\n}\nfn both() {\n    x.len()\n}\n"}
-        below = {it.title: {other.title for other in others} for it, others in callees(texts).items()}
+        below = {it.title: {other.title for other in others} for it, others in calls(texts).all.items()}
         self.assertEqual(below, {"One::len": set(), "Two::len": set(), "both": {"One::len", "Two::len"}})
+
+    def test_a_function_that_is_handed_on_is_called(self):
+        texts = {"src/lib.rt": "fn told() {\n    1\n}\nfn all() {\n    x.map_err(told)?;\n    y.map(1, crate::told)\n}\nfn none() {\n    told\n}\n"}
+        below = {it.title: {other.title for other in others} for it, others in calls(texts).all.items()}
+        self.assertEqual(below, {"told": set(), "all": {"told"}, "none": set()})
 
     def test_edits_of_one_function_are_apart(self):
         twice = [edit("3"), edit("1"), edit("3")]
@@ -45,7 +53,7 @@ class Batches(unittest.TestCase):
 
     def test_batches_are_no_larger_than_asked_and_about_equal(self):
         self.assertEqual(self.names([edit("1"), edit("3")], 1), [["1"], ["3"]])
-        self.assertEqual(self.names([edit("1"), edit("3"), edit("+ 2")], 2), [["1", "+ 2"], ["3"]])
+        self.assertEqual(self.names([edit("1"), edit("3"), edit("    low()")], 2), [["1", "    low()"], ["3"]])
 
     def test_clauses_that_no_edit_reaches_are_listed(self):
         outcomes = [Outcome(edit("1"), True, "", ["small"])]

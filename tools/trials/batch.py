@@ -1,6 +1,7 @@
 """Edits that one check can judge together."""
 import re
 from collections import Counter
+from collections.abc import Callable
 from dataclasses import dataclass, field
 
 from .edit import BadEdit, Edit, applied
@@ -9,18 +10,37 @@ from .source import Function, functions
 Callees = dict[Function, set[Function]]
 
 
-def callees(texts: dict[str, str]) -> Callees:
-    """For each function of a crate those that it may call, directly or not, by their names: of a name
-    that several functions have, each of them."""
+@dataclass(frozen=True)
+class Calls:
+    """Which functions of a crate call which, as far as names tell.
+
+    `all` has the functions that one may call, directly or not: of a name that several functions have,
+    each of them. `through` has those that it calls by way of another, by names that one has.
+    """
+
+    all: Callees
+    through: Callees
+
+
+def calls(texts: dict[str, str]) -> Calls:
+    """The calls of a crate's functions."""
     every = [it for file, text in texts.items() for it in functions(file, text)]
     by_name: dict[str, list[Function]] = {}
     for it in every:
         by_name.setdefault(it.name, []).append(it)
-    direct = {}
+    may, does = {}, {}
     for it in every:
-        names = set(re.findall(r"\b(\w+)(?:::<[^(]*>)?\(", texts[it.file][it.body : it.end + 1]))
-        direct[it] = {called for name in names for called in by_name.get(name, [])} - {it}
-    return closed(direct)
+        called = [by_name.get(name, []) for name in names_in(texts[it.file][it.body : it.end + 1])]
+        may[it] = {one for some in called for one in some} - {it}
+        does[it] = {some[0] for some in called if len(some) == 1} - {it}
+    below = closed(does)
+    return Calls(closed(may), {it: {one for other in does[it] for one in below[other]} for it in every})
+
+
+def names_in(body: str) -> set[str]:
+    """The names that a body calls, or hands on to be called, as `map_err(refusal_of)` does."""
+    calls = re.findall(r"\b(\w+)(?:::<[^(]*>)?\(", body)
+    return {*calls, *re.findall(r"[(,]\s*(?:\w+::)*(\w+)\s*(?=[,)])", body)}
 
 
 def closed(direct: Callees) -> Callees:
@@ -36,10 +56,15 @@ def closed(direct: Callees) -> Callees:
     return found
 
 
-def waits(edit: Edit, other: Edit, below: Callees) -> bool:
-    """Whether an edit can't be judged beside one of a callee. Goals of a caller are told all the
-    same: they follow from the callee's clauses, so those have to stand, and it isn't proved."""
-    return other.function in below.get(edit.function, ()) and (bool(other.at) or edit.expect != "goal")
+def are_apart(caller: Edit, callee: Edit, known: Calls) -> bool:
+    """Whether an edit is better tried without another, of a function that it calls.
+
+    Goals of a caller follow from its callees' clauses, so those have to stand, and are told though it
+    isn't proved. What stands between a caller and an edited function would be proved again.
+    """
+    if callee.function in known.through.get(caller.function, ()):
+        return True
+    return callee.function in known.all.get(caller.function, ()) and (bool(callee.at) or caller.expect != "goal")
 
 
 @dataclass
@@ -49,11 +74,11 @@ class Batch:
     texts: dict[str, str]
     edits: list[Edit] = field(default_factory=list)
 
-    def with_edit(self, edit: Edit, below: Callees) -> "Batch | None":
-        """This one with another edit, if it is of another function, waits for none of the others, nor
-        they for it, and changes a text that they leave."""
+    def with_edit(self, edit: Edit, known: Calls) -> "Batch | None":
+        """This one with another edit, if it is of another function, need be apart from none of the
+        others, and changes a text that they leave."""
         for other in self.edits:
-            if edit.function == other.function or waits(edit, other, below) or waits(other, edit, below):
+            if edit.function == other.function or are_apart(edit, other, known) or are_apart(other, edit, known):
                 return None
         try:
             return Batch(applied(edit.changes, self.texts), [*self.edits, edit])
@@ -61,14 +86,27 @@ class Batch:
             return None
 
 
-def batches(edits: list[Edit], size: int, below: Callees, texts: dict[str, str]) -> list[list[Edit]]:
-    """The edits in as few groups of at most `size` as one check each can judge, and in about equal
-    ones."""
+def batches(edits: list[Edit], size: int, known: Calls, texts: dict[str, str]) -> list[list[Edit]]:
+    """The edits in few groups of at most `size`, each of which one check can judge: about equal ones,
+    or, where that gives fewer, as many in the first ones as can be."""
+    equal = grouped(edits, size, known, texts, len)
+    full = grouped(edits, size, known, texts, lambda _: 0)
+    return min(equal, full, key=len)
+
+
+def grouped(
+    edits: list[Edit],
+    size: int,
+    known: Calls,
+    texts: dict[str, str],
+    rank: Callable[[list[Edit]], int],
+) -> list[list[Edit]]:
+    """The edits in groups, each in the one of lowest rank that takes it."""
     counts = Counter(it.function for it in edits)
     found = [Batch(texts)] * max([-(-len(edits) // size), *counts.values()])
     for edit in sorted(edits, key=lambda it: -counts[it.function]):
-        for at in sorted(range(len(found)), key=lambda at: len(found[at].edits)):
-            larger = found[at].with_edit(edit, below) if len(found[at].edits) < size else None
+        for at in sorted(range(len(found)), key=lambda at: rank(found[at].edits)):
+            larger = found[at].with_edit(edit, known) if len(found[at].edits) < size else None
             if larger:
                 found[at] = larger
                 break

@@ -4,7 +4,7 @@ from dataclasses import dataclass, field
 from functools import partial
 from pathlib import Path
 
-from .batch import batches, callees
+from .batch import batches, calls
 from .edit import Edit, read_all
 from .judge import Outcome, settled
 from .lanes import Job
@@ -54,7 +54,7 @@ class Course:
     def begin(self) -> Job:
         """The check of the crate as it stands, which leads to those of its edits that are wanted."""
         self.texts = texts_of(self.folder)
-        self.below = callees(self.texts)
+        self.calls = calls(self.texts)
         edits, self.bad = read_all(self.folder)
         edits = [it for it in edits if self.wanted(f"crates/{self.crate}/{it.name}")]
         # All crates come before all edits: without names it isn't known which edits take long.
@@ -77,7 +77,7 @@ class Course:
     def checks(self, edits: list[Edit], turn: int) -> list[Job]:
         """The checks of a round."""
         size = (self.size, max(self.size // 5, 1), 1)[turn - 1]
-        groups = batches(edits, size, self.below, self.texts)
+        groups = batches(edits, size, self.calls, self.texts)
         this = Round(turn, len(groups))
         return [
             Job(

@@ -73,7 +73,7 @@ def superfluous(outcomes: list[Outcome]) -> list[Outcome]:
 
 
 def shares(outcomes: list[Outcome]) -> dict[str, list[str]]:
-    """The clauses that an edit need be tried at, by its name, where its function has more: each clause
+    """The clauses that an edit need be tried at, by its name, where it is tried at more: each clause
     falls to the edit that is refused at the fewest, and one that stays anyway keeps all of its."""
     left = superfluous(outcomes)
     split = [it for it in outcomes if it not in left and can_be_split(it)]
@@ -83,7 +83,7 @@ def shares(outcomes: list[Outcome]) -> dict[str, list[str]]:
         function = it.edit.function
         names = [clause for clause in it.clauses if is_kept(it) or (function.title, clause) not in found]
         found |= {(function.title, clause) for clause in names}
-        if names and len(names) < len(function.clauses):
+        if names and len(names) < len(it.edit.at or function.clauses):
             mine[it.edit.name] = names
     return mine
 
