@@ -1,4 +1,4 @@
-"""The edits of a crate on their way through checks."""
+"""The checks that a crate's edits go through."""
 from collections.abc import Callable
 from dataclasses import dataclass, field
 from functools import partial
@@ -14,7 +14,7 @@ from .trial import Said, Trial, kept_bytes, named, texts_of, tried
 ROUNDS = 3
 
 
-def told(text: str) -> None:
+def say(text: str) -> None:
     print(text, flush=True)
 
 
@@ -33,7 +33,7 @@ class Round:
 
 
 @dataclass
-class Course:
+class CrateEdits:
     """What becomes of a crate's edits. After a check of the crate as it stands come rounds of checks
     with edits in them.
 
@@ -58,13 +58,13 @@ class Course:
         edits, self.bad = read_all(self.folder)
         edits = [it for it in edits if self.wanted(f"crates/{self.crate}/{it.name}")]
         # All crates come before all edits: without names it isn't known which edits take long.
-        return Job((1, len(edits)), partial(standing, self.root, self.crate), partial(self.named, edits))
+        return Job((1, len(edits)), partial(standing, self.root, self.crate), partial(self.first_round, edits))
 
     @property
     def folder(self) -> Path:
         return self.root / "crates" / self.crate
 
-    def named(self, edits: list[Edit], said: Said) -> list[Job]:
+    def first_round(self, edits: list[Edit], said: Said) -> list[Job]:
         """The first round, if the crate is proved."""
         self.seconds += said.seconds
         if not is_proved(said):
@@ -94,8 +94,8 @@ class Course:
         self.outcomes += found
         self.seconds += trial.said.seconds
         for it in found:
-            told(f"{self.crate}/{it.edit.name}: {it.text} of {it.edit.function.title}")
-        told(f"{self.crate}: round {this.turn}: {len(found)} of {len(group)} edits in {trial.said.seconds:.0f} s of one processor")
+            say(f"{self.crate}/{it.edit.name}: {it.text} of {it.edit.function.title}")
+        say(f"{self.crate}: round {this.turn}: {len(found)} of {len(group)} edits in {trial.said.seconds:.0f} s of one processor")
         this.left += again
         this.open -= 1
         return self.checks(this.left, this.turn + 1) if this.left and not this.open else []
