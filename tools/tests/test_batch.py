@@ -1,7 +1,7 @@
 """Which edits one check judges together."""
 import unittest
 
-from trials.batch import batches, calls
+from trials.batch import Room, batches, calls
 from trials.coverage import public_clauses, shares, summary, superfluous
 from trials.edit import parsed, placed
 from trials.judge import Outcome
@@ -18,14 +18,21 @@ def edit(old: str):
 
 
 class Batches(unittest.TestCase):
-    def names(self, edits, size: int = 8) -> list[list[str]]:
-        return [[it.name for it in group] for group in batches(edits, size, calls(TEXTS), TEXTS)]
+    def names(self, edits, size: int = 8, again: int = 0) -> list[list[str]]:
+        known = calls(TEXTS)
+        room = Room(size, again, {it: 10 for it in known.all})
+        return [[it.name for it in group] for group in batches(edits, known, room, TEXTS)]
 
     def test_edits_of_callers_and_callees_are_judged_together(self):
         self.assertEqual(self.names([edit("1"), edit("    low()"), edit("3")]), [["1", "    low()", "3"]])
 
-    def test_what_stands_between_edited_functions_is_not_proved_again(self):
-        self.assertEqual(self.names([edit("1"), edit("+ 2"), edit("3")]), [["1", "3"], ["+ 2"]])
+    def test_little_of_what_stands_between_edited_functions_is_proved_again(self):
+        chain = [edit("1"), edit("+ 2"), edit("3")]
+        self.assertEqual(self.names(chain, again=9), [["1", "3"], ["+ 2"]])
+        self.assertEqual(self.names(chain, again=10), [["1", "+ 2", "3"]])
+
+    def test_what_is_edited_itself_is_not_proved_again(self):
+        self.assertEqual(self.names([edit("1"), edit("    low()"), edit("+ 2")]), [["1", "    low()", "+ 2"]])
 
     def test_callers_are_apart_from_a_callee_that_is_tried_at_some_clauses(self):
         callee = edit("1")

@@ -102,6 +102,18 @@ class Command(unittest.TestCase):
         self.assertIn("two_is_two_again.edit: ", ran.stdout)
         self.assertNotIn("two_is_two.edit: ", ran.stdout)
 
+    def test_what_the_gate_tries_is_tried_if_that_is_asked(self):
+        self.edit("harmless", "two", "1", "expect: proved\n")
+        gate = self.root / "crates/demo/must-fail"
+        gate.mkdir()
+        (gate / "one_is_two.edit").write_text("file: src/lib.rt\nin: one\nold: 1\nnew: 2\n")
+        ran = self.run_it()
+        self.assertNotIn("one_is_two", ran.stdout)
+        self.assertIn("no edit is refused at 2: one.ensures two.ensures", ran.stdout)
+        ran = self.run_it("--gate")
+        self.assertIn("must-fail/one_is_two.edit: refused at ensures of one", ran.stdout)
+        self.assertEqual(ran.returncode, 0)
+
     def test_a_check_is_narrowed_to_the_edited_functions(self):
         self.edit("one_is_two", "one", "2")
         self.edit("harmless", "two", "1", "expect: proved\n")

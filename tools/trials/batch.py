@@ -12,14 +12,18 @@ Callees = dict[Function, set[Function]]
 
 @dataclass(frozen=True)
 class Calls:
-    """Which functions of a crate call which, as far as names tell.
+    """Which functions of a crate call which, directly or not, as far as names tell.
 
-    `all` has the functions that one may call, directly or not: of a name that several functions have,
-    each of them. `through` has those that it calls by way of another, by names that one has.
+    `all` has the functions that one may call: of a name that several functions have, each of them.
+    `sure` has those that it calls by names that one function has.
     """
 
     all: Callees
-    through: Callees
+    sure: Callees
+
+    def between(self, caller: Function, callee: Function) -> set[Function]:
+        """What a function calls that calls another."""
+        return {it for it in self.sure.get(caller, ()) if callee in self.sure[it]} - {caller, callee}
 
 
 def calls(texts: dict[str, str]) -> Calls:
@@ -33,8 +37,7 @@ def calls(texts: dict[str, str]) -> Calls:
         called = [by_name.get(name, []) for name in names_in(texts[it.file][it.body : it.end + 1])]
         may[it] = {one for some in called for one in some} - {it}
         does[it] = {some[0] for some in called if len(some) == 1} - {it}
-    below = closed(does)
-    return Calls(closed(may), {it: {one for other in does[it] for one in below[other]} for it in every})
+    return Calls(closed(may), closed(does))
 
 
 def names_in(body: str) -> set[str]:
@@ -57,57 +60,74 @@ def closed(direct: Callees) -> Callees:
 
 
 def are_apart(caller: Edit, callee: Edit, known: Calls) -> bool:
-    """Whether an edit is better tried without another, of a function that it calls.
+    """Whether an edit must be tried without another, of a function that it calls.
 
     Goals of a caller follow from its callees' clauses, so those have to stand, and are told though it
-    isn't proved. What stands between a caller and an edited function would be proved again.
+    isn't proved.
     """
-    if callee.function in known.through.get(caller.function, ()):
-        return True
-    return callee.function in known.all.get(caller.function, ()) and (bool(callee.at) or caller.expect != "goal")
+    is_below = callee.function in known.all.get(caller.function, ())
+    return is_below and (bool(callee.at) or caller.expect != "goal")
+
+
+@dataclass(frozen=True)
+class Room:
+    """How many edits a check may have, and how much may be proved again beside them: what stands
+    between edited functions, in bytes of the proofs that are kept."""
+
+    edits: int
+    again: int
+    kept: dict[Function, int]
+
+    def holds(self, edits: list[Edit], between: frozenset[Function]) -> bool:
+        again = between - {it.function for it in edits}
+        return len(edits) <= self.edits and all(it in self.kept for it in again) and sum(self.kept[it] for it in again) <= self.again
 
 
 @dataclass
 class Batch:
-    """Edits that one check can judge, and the texts as they make them."""
+    """Edits that one check can judge, the texts as they make them, and what stands between their
+    functions."""
 
     texts: dict[str, str]
     edits: list[Edit] = field(default_factory=list)
+    between: frozenset[Function] = frozenset()
 
-    def with_edit(self, edit: Edit, known: Calls) -> "Batch | None":
-        """This one with another edit, if it is of another function, need be apart from none of the
-        others, and changes a text that they leave."""
+    def with_edit(self, edit: Edit, known: Calls, room: Room) -> "Batch | None":
+        """This one with another edit, if there is room, it is of another function, need be apart from
+        none of the others, and changes a text that they leave."""
+        between = set(self.between)
         for other in self.edits:
             if edit.function == other.function or are_apart(edit, other, known) or are_apart(other, edit, known):
                 return None
+            between |= known.between(edit.function, other.function) | known.between(other.function, edit.function)
+        edits, between = [*self.edits, edit], frozenset(between)
         try:
-            return Batch(applied(edit.changes, self.texts), [*self.edits, edit])
+            return Batch(applied(edit.changes, self.texts), edits, between) if room.holds(edits, between) else None
         except BadEdit:
             return None
 
 
-def batches(edits: list[Edit], size: int, known: Calls, texts: dict[str, str]) -> list[list[Edit]]:
-    """The edits in few groups of at most `size`, each of which one check can judge: about equal ones,
-    or, where that gives fewer, as many in the first ones as can be."""
-    equal = grouped(edits, size, known, texts, len)
-    full = grouped(edits, size, known, texts, lambda _: 0)
+def batches(edits: list[Edit], known: Calls, room: Room, texts: dict[str, str]) -> list[list[Edit]]:
+    """The edits in few groups, each of which one check can judge: about equal ones, or, where that
+    gives fewer, as many in the first ones as can be."""
+    equal = grouped(edits, known, room, texts, len)
+    full = grouped(edits, known, room, texts, lambda _: 0)
     return min(equal, full, key=len)
 
 
 def grouped(
     edits: list[Edit],
-    size: int,
     known: Calls,
+    room: Room,
     texts: dict[str, str],
     rank: Callable[[list[Edit]], int],
 ) -> list[list[Edit]]:
     """The edits in groups, each in the one of lowest rank that takes it."""
     counts = Counter(it.function for it in edits)
-    found = [Batch(texts)] * max([-(-len(edits) // size), *counts.values()])
+    found = [Batch(texts)] * max([-(-len(edits) // room.edits), *counts.values()])
     for edit in sorted(edits, key=lambda it: -counts[it.function]):
         for at in sorted(range(len(found)), key=lambda at: rank(found[at].edits)):
-            larger = found[at].with_edit(edit, known) if len(found[at].edits) < size else None
-            if larger:
+            if larger := found[at].with_edit(edit, known, room):
                 found[at] = larger
                 break
         else:

@@ -4,14 +4,18 @@ from dataclasses import dataclass, field
 from functools import partial
 from pathlib import Path
 
-from .batch import batches, calls
+from .batch import Room, batches, calls
 from .edit import Edit, read_all
 from .judge import Outcome, settled
 from .lanes import Job
 from .standing import is_proved, standing
-from .trial import Said, Trial, kept_bytes, named, texts_of, tried
+from .source import Function
+from .trial import Said, Trial, kept_bytes, paths_in, texts_of, tried
 
 ROUNDS = 3
+# What may be proved again beside the edits of a check, in bytes of the proofs that are kept: about
+# half of what it takes to load a crate.
+AGAIN = 400_000
 
 
 def say(text: str) -> None:
@@ -49,6 +53,7 @@ class CrateEdits:
     wanted: Callable[[str], bool]
     bad: list[tuple[str, str]] = field(default_factory=list)
     outcomes: list[Outcome] = field(default_factory=list)
+    kept: dict[Function, int] = field(default_factory=dict)
     seconds: float = 0
 
     def begin(self) -> Job:
@@ -70,18 +75,21 @@ class CrateEdits:
         if not is_proved(said):
             self.bad.append(("src", "it isn't proved as it stands, so no edit of it is tried"))
             return []
-        edits, lost = named(edits, said.text)
-        self.bad += lost
-        return self.checks(edits, 1)
+        paths = paths_in(said.text, self.calls.all)
+        self.kept = kept_bytes(self.folder, paths)
+        for it in edits:
+            it.path = paths.get(it.function, "")
+        self.bad += [(it.name, f"a check says nothing of {it.function.title}") for it in edits if not it.path]
+        return self.checks([it for it in edits if it.path], 1)
 
     def checks(self, edits: list[Edit], turn: int) -> list[Job]:
         """The checks of a round."""
         size = (self.size, max(self.size // 5, 1), 1)[turn - 1]
-        groups = batches(edits, size, self.calls, self.texts)
+        groups = batches(edits, self.calls, Room(size, AGAIN, self.kept), self.texts)
         this = Round(turn, len(groups))
         return [
             Job(
-                (0, sum(kept_bytes(self.folder, it))),
+                (0, sum(self.kept[edit.function] for edit in it)),
                 partial(tried, self.root, self.crate, it, marks=not this.is_last),
                 partial(self.settle, this, it),
             )

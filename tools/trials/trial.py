@@ -3,10 +3,12 @@ import os
 import shutil
 import subprocess
 import tempfile
+from collections.abc import Iterable
 from dataclasses import dataclass
 from pathlib import Path
 
 from .edit import Edit, applied, narrowed
+from .source import Function
 from .verdict import Verdict, judged, unproved, verdict_on
 
 SOURCES = ("src", "specs", "proofs")
@@ -77,25 +79,17 @@ def check(crate: Path, paths: list[str] | None = None) -> Said:
     return Said(text, used.ru_utime + used.ru_stime)
 
 
-def named(edits: list[Edit], said: str) -> tuple[list[Edit], list[tuple[str, str]]]:
-    """The edits, each with its function's name in what a check says of the crate as it stands, and
-    those of which it says nothing."""
-    verdicts, good, bad = judged(said), [], []
-    for it in edits:
-        if found := verdict_on(it.function, verdicts):
-            it.path = found.path
-            good.append(it)
-        else:
-            bad.append((it.name, f"a check says nothing of {it.function.title}"))
-    return good, bad
+def paths_in(said: str, functions: Iterable[Function]) -> dict[Function, str]:
+    """The names of functions in what a check says, of those that it says something of."""
+    verdicts = judged(said)
+    return {it: found.path for it in functions if (found := verdict_on(it, verdicts))}
 
 
-def kept_bytes(crate: Path, edits: list[Edit]) -> list[int]:
-    """How many bytes `rt check` kept of the proof of each edit's function: about what it takes to
-    check the edit, so that those that take longest can be tried first."""
+def kept_bytes(crate: Path, paths: dict[Function, str]) -> dict[Function, int]:
+    """How many bytes `rt check` kept of the proof of each function: about what it takes to check it."""
     kept = [(it.name, it.stat().st_size) for it in crate.glob("out/incremental/*/*-proofs.*.oantt")]
-    fronts = [f"Rattle-{it.path.replace('::', '-proofs.', 1).replace('::', '.')}." for it in edits]
-    return [sum(size for name, size in kept if name.startswith(front)) for front in fronts]
+    fronts = {it: f"Rattle-{path.replace('::', '-proofs.', 1).replace('::', '.')}." for it, path in paths.items()}
+    return {it: sum(size for name, size in kept if name.startswith(front)) for it, front in fronts.items()}
 
 
 def answers_of(crate: Path, edit: Edit) -> Path | None:
