@@ -15,7 +15,7 @@ from .trial import Said, Trial, kept_bytes, paths_in, texts_of, tried
 ROUNDS = 3
 # What may be proved again beside the edits of a check, in bytes of the proofs that are kept: about
 # half of what it takes to load a crate.
-AGAIN = 400_000
+AGAIN = 6_000_000
 
 
 def say(text: str) -> None:
