@@ -27,6 +27,13 @@ class Lanes(unittest.TestCase):
         run_all([long, self.job("short", (1, 0), Job((1, 0), done.set, lambda _: []))], 2)
         self.assertEqual(self.ran, ["short", True])
 
+    def test_of_jobs_that_need_the_same_one_runs_at_a_time(self):
+        done = threading.Event()
+        first = Job((9, 0), lambda: done.wait(10), lambda was_done: self.ran.append(was_done) or [], "the crate")
+        second = Job((8, 0), lambda: self.ran.append("second"), lambda _: [], "the crate")
+        run_all([first, second, Job((1, 0), done.set, lambda _: [])], 3)
+        self.assertEqual(self.ran, [True, "second"])
+
     def test_a_job_that_fails_is_not_passed_over(self):
         def fails():
             raise OSError("no room")

@@ -62,8 +62,14 @@ class CrateEdits:
         self.calls = calls(self.texts)
         edits, self.bad = read_all(self.folder)
         edits = [it for it in edits if self.wanted(f"crates/{self.crate}/{it.name}")]
-        # All crates come before all edits: without names it isn't known which edits take long.
-        return Job((1, len(edits)), partial(standing, self.root, self.crate), partial(self.first_round, edits))
+        # All crates come before all edits: without names it isn't known which edits take long. `rt`
+        # keeps others out of the crates that a check reads, so one of them is checked at a time.
+        return Job(
+            (1, len(edits)),
+            partial(standing, self.root, self.crate),
+            partial(self.first_round, edits),
+            alone_with="the crates as they stand",
+        )
 
     @property
     def folder(self) -> Path:

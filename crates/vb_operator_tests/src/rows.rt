@@ -54,9 +54,10 @@ fn bytes_past_the_window_are_left_out(rt: HostRuntime) -> Result<(), Fail> {
 }
 
 /// The set is printed so.
-fn prints(rt: &impl Abort, alloc: Global, set: &BitBuffer, wanted: &str) -> Result<(), Fail> {
-    let text = format!(in alloc; "{set}")?;
-    assert_eq!(rt; text.as_str(), wanted);
+fn prints(rt: &impl Abort, alloc: Global, set: BitBuffer, wanted: &str) -> Result<(), Fail> {
+    let text = format!(in alloc; "{set}");
+    drop(set);
+    assert_eq!(rt; text?.as_str(), wanted);
     Ok(())
 }
 
@@ -76,10 +77,10 @@ const PRINTED: &[(u8, usize, usize, usize, &str)] = &[
 #[test]
 fn at_most_sixteen_bits_are_printed(rt: HostRuntime) -> Result<(), Fail> {
     let none = BitBuffer::empty(rt.alloc());
-    prints(&rt, rt.alloc(), &none, "BitBuffer { len: 0, buffer: [] }")?;
+    prints(&rt, rt.alloc(), none, "BitBuffer { len: 0, buffer: [] }")?;
     for (byte, count, offset, len, wanted) in PRINTED {
         let set = window(ByteBuffer::full(rt.alloc(), *byte, *count)?, *offset, *len)?;
-        prints(&rt, rt.alloc(), &set, wanted)?;
+        prints(&rt, rt.alloc(), set, wanted)?;
     }
     Ok(())
 }

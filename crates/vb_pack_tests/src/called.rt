@@ -79,12 +79,16 @@ fn calls_are_plain<A: Allocator + Clone>(
 #[tactic(auto, using(vb_pack::proofs::AnswersLemmas::CanAsk_always))]
 fn places_and_bits_in_order(rt: HostRuntime) -> Result<(), Fail> {
     let set = BitBuffer::collect_bool(rt.alloc(), 200, &mut |i| i % 3 == 0 || i % 7 == 2)?;
-    calls_are_plain(&rt, &set)?;
-    calls_are_plain(&rt, &set.slice(0..0)?)?;
-    calls_are_plain(&rt, &set.slice(0..64)?)?;
-    calls_are_plain(&rt, &set.slice(3..64)?)?;
-    calls_are_plain(&rt, &set.slice(5..69)?)?;
-    calls_are_plain(&rt, &set.slice(7..137)?)?;
+    for (start, end) in [
+        (0usize, 200usize),
+        (0, 0),
+        (0, 64),
+        (3, 64),
+        (5, 69),
+        (7, 137),
+    ] {
+        calls_are_plain(&rt, &set.slice(start..end)?)?;
+    }
     Ok(())
 }
 

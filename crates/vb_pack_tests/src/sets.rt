@@ -1,5 +1,6 @@
 //! Worked rows of sets.
 use crate::compared::{equal, shows};
+use std::process::Abort;
 use std::test::Fail;
 use vb_set::{BitBuffer, BitBufferMut};
 
@@ -14,17 +15,27 @@ fn truthy(rt: HostRuntime) -> Result<(), Fail> {
 #[test]
 fn bools(rt: HostRuntime) -> Result<(), Fail> {
     let set = BitBufferMut::from_bools(rt.alloc(), &[true, false, true])?;
-    assert_eq!(rt; set.as_slice(), [0b101].as_slice());
+    bytes_are(&rt, set.as_slice(), &[0b101]);
+    drop(set);
     let set = BitBuffer::from_bools(rt.alloc(), &[true, false, true])?;
-    assert_eq!(rt; set.inner().as_slice(), [0b101].as_slice());
-    let mut bools = Vec::new(rt.alloc());
-    bools.push(true)?;
-    bools.push(true)?;
-    let set = BitBufferMut::from_bool_vec(rt.alloc(), bools.clone()?)?;
-    assert_eq!(rt; set.as_slice(), [0b11].as_slice());
-    let set = BitBuffer::from_bool_vec(rt.alloc(), bools)?;
-    assert_eq!(rt; set.inner().as_slice(), [0b11].as_slice());
+    bytes_are(&rt, set.inner().as_slice(), &[0b101]);
+    drop(set);
     Ok(())
+}
+
+#[test]
+fn vectors_of_bools(rt: HostRuntime) -> Result<(), Fail> {
+    let set = BitBufferMut::from_bool_vec(rt.alloc(), [true, true].to_vec(rt.alloc())?)?;
+    bytes_are(&rt, set.as_slice(), &[0b11]);
+    drop(set);
+    let set = BitBuffer::from_bool_vec(rt.alloc(), [true, true].to_vec(rt.alloc())?)?;
+    bytes_are(&rt, set.inner().as_slice(), &[0b11]);
+    drop(set);
+    Ok(())
+}
+
+fn bytes_are(rt: &impl Abort, given: &[u8], wanted: &[u8]) {
+    assert_eq!(rt; given, wanted);
 }
 
 #[test]

@@ -1,6 +1,6 @@
 //! The whole of an input, line by line.
 ghost use Rattle.std.specs.Prelude.{◌≡◌, ◌+◌, ◌-◌, ◌^◌, ◌⊎◌, ◌<◌, [], None, Some, drop, length};
-ghost use Rattle.std.specs.Prelude.{IfErr, IfSome, IsSomeAnd, IsTrue, MatchOption, OnOk};
+ghost use Rattle.std.specs.Prelude.{IfErr, IfOk, IfSome, IsSomeAnd, IsTrue, MatchOption, OnOk};
 ghost use Rattle.std.specs.Io.KnownBytes.{append_known, Appends};
 ghost use Rattle.std.specs.Option.{ForSome};
 ghost use Rattle.vb_command.specs.Machine.{empty_slots};
@@ -17,7 +17,7 @@ use crate::outbox::Outbox;
 use crate::session::Session;
 use crate::sink::Sink;
 use crate::source::Source;
-use std::alloc::Allocator;
+use std::alloc::{AllocError, Allocator};
 
 /// Reads lines to the end of the input, carries out the command of each and writes the answers,
 /// one a line. The slots are empty at first and gone at the end.
@@ -48,11 +48,22 @@ pub fn drive<A: Allocator + Clone, R: Source, W: Sink>(
     ensures counts { CountsFaults result
         (R.faults input.old) (W.faults output.old) (R.faults input.new) (W.faults output.new) }
 {
-    let mut feed = Feed::new(alloc.clone().map_err(|_| DriveError::Memory)?);
-    let room = alloc.clone().map_err(|_| DriveError::Memory)?;
-    let mut out = Outbox::new(room).map_err(|_| DriveError::Memory)?;
-    let mut session = Session::new(alloc);
-    serve_all(&mut session, &mut feed, &mut out, input, output)
+    let (mut session, mut feed, mut out) = begin(alloc).map_err(|_| DriveError::Memory)?;
+    let ended = serve_all(&mut session, &mut feed, &mut out, input, output);
+    // By a call, since the end of a block takes ten times as long to prove.
+    drop((session, feed, out));
+    ended
+}
+
+/// Empty slots, nothing read and nothing to be written.
+fn begin<A: Allocator + Clone>(alloc: A) -> Result<(Session<A>, Feed<A>, Outbox<A>), AllocError>
+    ensures slots { IfOk result (λ it. it.0.pool ≡ empty_slots) }
+    ensures feed { IfOk result (λ it. it.1 ≡ []) }
+    ensures out { IfOk result (λ it. it.2 ≡ []) }
+{
+    let feed = Feed::new(alloc.clone()?);
+    let out = Outbox::new(alloc.clone()?)?;
+    Ok((Session::new(alloc), feed, out))
 }
 
 /// Serves all lines of an input, from the first one on.

@@ -50,31 +50,31 @@ fn first<T>(items: &[T], count: usize) -> &[T] {
     &items[..count.min(items.len())]
 }
 
-/// Without validity, and with it.
-fn both_ways<I: BitIndex>(
+/// From 5000 bits, without validity and with it.
+fn in_blocks<I: BitIndex>(
     rt: &impl Abort,
     alloc: Global,
-    set: &BitBuffer<Global>,
     indices: &[I],
-    validity: &BitBuffer<Global>,
 ) -> Result<(), BufferError> {
-    beside_a_loop(rt, alloc, set, indices, None)?;
-    beside_a_loop(rt, alloc, set, indices, Some(validity))
+    let set = scattered(alloc, 5000)?;
+    let validity = scattered(alloc, indices.len()).expect(rt, "memory");
+    let plain = beside_a_loop(rt, alloc, &set, indices, None);
+    let masked = beside_a_loop(rt, alloc, &set, indices, Some(&validity));
+    drop((set, validity));
+    plain?;
+    masked
 }
 
 #[test]
 fn blocks_beside_a_loop(rt: HostRuntime) -> Result<(), Fail> {
-    let set = scattered(rt.alloc(), 5000)?;
-    let mut narrow = Vec::new(rt.alloc());
-    let mut signed = Vec::new(rt.alloc());
+    let (mut narrow, mut signed) = ([0u32; 200], [0i64; 200]);
     for k in 0..200u32 {
-        narrow.push(k * 997 % 5000)?;
-        signed.push(i64::from(k * 131 % 5000))?;
+        narrow[k as usize] = k * 997 % 5000;
+        signed[k as usize] = i64::from(k * 131 % 5000);
     }
     for count in [0, 1, 63, 64, 65, 130, 200] {
-        let validity = scattered(rt.alloc(), count)?;
-        both_ways(&rt, rt.alloc(), &set, first(&narrow, count), &validity)?;
-        both_ways(&rt, rt.alloc(), &set, first(&signed, count), &validity)?;
+        in_blocks(&rt, rt.alloc(), first(&narrow, count))?;
+        in_blocks(&rt, rt.alloc(), first(&signed, count))?;
     }
     Ok(())
 }
@@ -83,13 +83,14 @@ fn blocks_beside_a_loop(rt: HostRuntime) -> Result<(), Fail> {
 #[test]
 fn null_positions_are_not_looked_at(rt: HostRuntime) -> Result<(), Fail> {
     let set = scattered(rt.alloc(), 300)?;
-    let validity = scattered(rt.alloc(), 200)?;
-    let mut indices = Vec::new(rt.alloc());
-    for counts in validity.iter() {
-        indices.push(if counts { 299i32 } else { -7 })?;
+    let validity = scattered(rt.alloc(), 200).expect(&rt, "memory");
+    let mut indices = [-7i32; 200];
+    for (index, counts) in indices.iter_mut().zip(validity.iter()) {
+        *index = if counts { 299 } else { -7 };
     }
-    beside_a_loop(&rt, rt.alloc(), &set, &indices, Some(&validity))?;
-    Ok(())
+    let ended = beside_a_loop(&rt, rt.alloc(), &set, &indices, Some(&validity));
+    drop((set, validity));
+    Ok(ended?)
 }
 
 /// The first bad position is named, in a block or behind the last one.

@@ -47,12 +47,14 @@ fn commands(rt: HostRuntime) -> Result<(), Fail> {
         Command::Count(0),
         Command::Select(0, 1),
     ];
-    let answers = run(rt.alloc(), &mut Pool::new(), &commands)?;
+    let mut pool = Pool::new();
+    let answers = run(rt.alloc(), &mut pool, &commands).expect(&rt, "memory");
     assert!(rt;
         matches!(
             answers.as_slice(),
             [Answer::Done, Answer::Number(6), Answer::Place(Some(2))]
         )
     );
+    drop((answers, commands, pool));
     Ok(())
 }

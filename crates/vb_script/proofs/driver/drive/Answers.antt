@@ -5,29 +5,11 @@ use Rattle.vb_script.proofs.Progress.{AnswersRun-none, SessionEnds-none, UnlessW
 use Rattle.vb_script.specs.declared.error.DriveError.TheVariants.{Memory}
 use Rattle.vb_script.proofs.driver.drive.Goals as goal
 
-pub returns-in_err-map_err-clause-ends : goal.returns-in_err-map_err-clause-ends
-returns-in_err-map_err-clause-ends g c =
-    let memory : c.in_err-map_err.field-0.0 ≡ Memory = search rules in
+pub returns-in_err-session-clause-ends : goal.returns-in_err-session-clause-ends
+returns-in_err-session-clause-ends g c =
+    let memory : c.in_err-session.field-0.0 ≡ Memory = search rules in
     let p = err_from_is_err_and c.from_residual.result c.from_residual.ensures.1 in
     rw (p.1, p.2, memory) (IfSome-known _ _ (λ input e. SessionEnds-none input (g.R.Source.remaining c.args.input.now) (g.W.Sink.contents c.args.output.now) e))
 
-pub returns-in_err-map_err-clause-ran : goal.returns-in_err-map_err-clause-ran
-returns-in_err-map_err-clause-ran g c = UnlessWrite-anyway c.from_residual.result _ (AnswersRun-none (g.W.Sink.contents c.args.output.now))
-
-pub returns-in_err-room-clause-ends : goal.returns-in_err-room-clause-ends
-returns-in_err-room-clause-ends g c =
-    let memory : c.in_err-room.field-0.0 ≡ Memory = search rules in
-    let p = err_from_is_err_and c.from_residual-in_err-room.result c.from_residual-in_err-room.ensures.1 in
-    rw (p.1, p.2, memory) (IfSome-known _ _ (λ input e. SessionEnds-none input (g.R.Source.remaining c.args.input.now) (g.W.Sink.contents c.args.output.now) e))
-
-pub returns-in_err-room-clause-ran : goal.returns-in_err-room-clause-ran
-returns-in_err-room-clause-ran g c = UnlessWrite-anyway c.from_residual-in_err-room.result _ (AnswersRun-none (g.W.Sink.contents c.args.output.now))
-
-pub returns-in_err-out-clause-ends : goal.returns-in_err-out-clause-ends
-returns-in_err-out-clause-ends g c =
-    let memory : c.in_err-out.field-0.0 ≡ Memory = search rules in
-    let p = err_from_is_err_and c.from_residual-in_err-out.result c.from_residual-in_err-out.ensures.1 in
-    rw (p.1, p.2, memory) (IfSome-known _ _ (λ input e. SessionEnds-none input (g.R.Source.remaining c.args.input.now) (g.W.Sink.contents c.args.output.now) e))
-
-pub returns-in_err-out-clause-ran : goal.returns-in_err-out-clause-ran
-returns-in_err-out-clause-ran g c = UnlessWrite-anyway c.from_residual-in_err-out.result _ (AnswersRun-none (g.W.Sink.contents c.args.output.now))
+pub returns-in_err-session-clause-ran : goal.returns-in_err-session-clause-ran
+returns-in_err-session-clause-ran g c = UnlessWrite-anyway c.from_residual.result _ (AnswersRun-none (g.W.Sink.contents c.args.output.now))
