@@ -80,7 +80,8 @@ class Room:
 
     def holds(self, edits: list[Edit], between: frozenset[Function]) -> bool:
         again = between - {it.function for it in edits}
-        return len(edits) <= self.edits and all(it in self.kept for it in again) and sum(self.kept[it] for it in again) <= self.again
+        is_known = all(it in self.kept for it in again)
+        return len(edits) <= self.edits and is_known and sum(self.kept[it] for it in again) <= self.again
 
 
 @dataclass
