@@ -58,6 +58,12 @@ class Batches(unittest.TestCase):
         twice = [edit("3"), edit("1"), edit("3")]
         self.assertEqual(self.names(twice), [["3", "1"], ["3"]])
 
+    def test_copies_of_one_function_are_judged_together_and_with_its_callers(self):
+        copies = [edit("1"), edit("1"), edit("    low()"), edit("+ 2")]
+        for it in copies[:2]:
+            it.is_copied, it.at = True, ("small",)
+        self.assertEqual(self.names(copies), [["    low()", "+ 2", "1", "1"]])
+
     def test_batches_are_no_larger_than_asked_and_about_equal(self):
         self.assertEqual(self.names([edit("1"), edit("3")], 1), [["1"], ["3"]])
         self.assertEqual(self.names([edit("1"), edit("3"), edit("    low()")], 2), [["1", "    low()"], ["3"]])

@@ -13,7 +13,7 @@ RT = """#!/usr/bin/env bash
 echo "$@" >> "$ASKED"
 marked=$(grep -rls no_goal_at_all proofs | sort | tr '\\n' ' ')
 echo "marked $marked" >> "$ASKED.marks"
-awk -v marked="$marked" '/fn one/ { name = "one" } /fn two/ { name = "two" }
+awk -v marked="$marked" 'match($0, /fn [a-z_0-9]+/) { name = substr($0, RSTART + 3, RLENGTH - 3) }
   { has_mark = index(marked, "proofs/" name "/Answers.antt") }
   /^    2$/ { bad = 1; if (has_mark) print "note: src/lib.rt:" NR ":5: it is not proved that it holds (`returns`)"
     print "fn demo::" name ": " (has_mark ? "not proved" : "no proof: `search` did not prove `returns`") }
@@ -118,13 +118,13 @@ class Command(unittest.TestCase):
         self.edit("one_is_two", "one", "2")
         self.edit("harmless", "two", "1", "expect: proved\n")
         self.run_it()
-        self.assertEqual(self.asked(), ["check --jobs 1", "check --jobs 1 --only demo::two --only demo::one"])
+        self.assertEqual(self.asked(), ["check --jobs 1", "check --jobs 1 --only demo::two_edited_0 --only demo::one_edited_1"])
 
     def test_answers_are_marked_where_a_goal_is_to_be_refused(self):
         self.edit("one_is_two", "one", "2")
         self.edit("harmless", "two", "1", "expect: proved\n")
         ran = self.run_it()
-        self.assertEqual(self.marks(), ["marked ", "marked proofs/one/Answers.antt "])
+        self.assertEqual(self.marks(), ["marked ", "marked proofs/one_edited_1/Answers.antt "])
         self.assertIn("one_is_two.edit: refused at ensures of one", ran.stdout)
         self.assertEqual(ran.returncode, 0)
 
@@ -147,7 +147,7 @@ class Command(unittest.TestCase):
         (folder / "Answers.antt").write_text("returns = given")
         self.edit("one_is_two", "one", "2")
         self.run_it()
-        self.assertEqual(self.marks()[-1], "marked proofs/one/Answers.antt ")
+        self.assertEqual(self.marks()[-1], "marked proofs/one_edited_0/Answers.antt ")
         self.assertEqual((folder / "Answers.antt").read_text(), "returns = given")
 
     def test_what_takes_longest_is_tried_first(self):
@@ -159,7 +159,36 @@ class Command(unittest.TestCase):
         self.edit("two_is_two", "two", "2")
         self.run_it("--batch", "1", "--lanes", "1")
         checks = [it for it in self.asked() if "--only" in it]
-        self.assertEqual(checks, [f"check --jobs 1 --only demo::{it}" for it in ("two", "one")])
+        self.assertEqual(checks, [f"check --jobs 1 --only demo::{it}_edited_0" for it in ("two", "one")])
+
+    def test_one_check_tries_many_edits_of_one_function(self):
+        self.edit("one_is_two", "one", "2")
+        self.edit("one_stays", "one", "1")
+        self.edit("harmless", "one", "1", "expect: proved\n")
+        ran = self.run_it()
+        self.assertIn("harmless.edit: proved of one", ran.stdout)
+        self.assertIn("one_is_two.edit: refused at ensures of one", ran.stdout)
+        self.assertIn("one_stays.edit: NOT REFUSED of one", ran.stdout)
+        self.assertEqual(self.asked()[1], "check --jobs 1" + "".join(f" --only demo::one_edited_{it}" for it in range(3)))
+
+    def test_a_copy_with_no_edit_is_proved(self):
+        self.edit("one_is_two", "one", "2")
+        self.edit("one_is_two_again", "one", "2")
+        ran = self.run_it("--unedited")
+        self.assertIn("unedited/demo::one: proved of one", ran.stdout)
+        self.assertEqual(self.asked()[1:], ["check --jobs 1 --only demo::one_edited_0"])
+        self.assertEqual(self.marks()[-1], "marked ")
+        self.assertEqual(ran.returncode, 0)
+
+    def test_a_method_of_a_trait_is_edited_where_it_stands(self):
+        of_trait = "impl Deep for One {\n    fn deep() {\n    1\n    }\n}\n"
+        (self.root / "crates/demo/src/lib.rt").write_text(of_trait)
+        (self.root / "bin/rt").write_text(RT.replace('print "fn demo::"', 'print "fn demo::OneDeep::"'))
+        self.edit("deep_is_two", "Deep for One::deep", "2")
+        self.edit("deep_stays", "Deep for One::deep", "1", "expect: proved\n")
+        ran = self.run_it()
+        self.assertEqual(self.asked()[1:], ["check --jobs 1 --only demo::OneDeep::deep"] * 2)
+        self.assertIn("deep_is_two.edit: ", ran.stdout)
 
     def test_an_edit_of_a_function_that_no_check_names_fails(self):
         (self.root / "crates/demo/src/lib.rt").write_text(SOURCE + "fn three() {\n    3\n}\n")

@@ -5,7 +5,7 @@ from trials.edit import parsed, placed
 from trials.judge import outcome, settled
 from trials.source import functions
 from trials.trial import Said, Trial
-from trials.verdict import clauses_of, judged, unproved, verdict_on
+from trials.verdict import clauses_of, error_in, judged, unproved, verdict_on
 
 SAID = '''checked demo::one, 1 of 5
 ./proofs/lib/../Answers.antt:1:1: note: nothing
@@ -115,7 +115,8 @@ class Verdicts(unittest.TestCase):
     def test_an_edit_that_does_not_compile_is_not_tried_again(self):
         said = "src/lib.rt:7:5: error[types]: no\nrt: the check failed\n"
         edits = [edit("src/lib.rt", "    1"), edit("src/lib.rt", "    2")]
-        found, again = settled(edits, Trial([None, None], Said(said, 1)), TEXTS, False)
+        errors = [error_in(it.function, TEXTS["src/lib.rt"], said) for it in edits]
+        found, again = settled(edits, Trial([None, None], errors, Said(said, 1)), False)
         self.assertEqual([it.edit for it in found], edits[1:])
         self.assertEqual(found[0].text, "NOT JUDGED: src/lib.rt:7:5: error[types]: no")
         self.assertEqual(again, edits[:1])

@@ -63,10 +63,25 @@ def are_apart(caller: Edit, callee: Edit, known: Calls) -> bool:
     """Whether an edit must be tried without another, of a function that it calls.
 
     Goals of a caller follow from its callees' clauses, so those have to stand, and are told though it
-    isn't proved.
+    isn't proved. A copy of a function is called by none.
     """
-    is_below = callee.function in known.all.get(caller.function, ())
+    is_below = callee.function in known.all.get(caller.function, ()) and not callee.is_copied
     return is_below and (bool(callee.at) or caller.expect != "goal")
+
+
+def are_of_one(one: Edit, other: Edit) -> bool:
+    """Whether both edits change the very same text of one function."""
+    return one.function == other.function and not one.is_copied and not other.is_copied
+
+
+def with_changes(edit: Edit, texts: dict[str, str]) -> dict[str, str]:
+    """The texts of functions after an edit, of which one that is made in a copy changes none."""
+    return texts if edit.is_copied else applied(edit.changes, texts)
+
+
+def proved_again(caller: Edit, callee: Edit, known: Calls) -> set[Function]:
+    """What has to be proved again since it stands between two edited functions."""
+    return set() if callee.is_copied else known.between(caller.function, callee.function)
 
 
 @dataclass(frozen=True)
@@ -94,24 +109,25 @@ class Batch:
     between: frozenset[Function] = frozenset()
 
     def with_edit(self, edit: Edit, known: Calls, room: Room) -> "Batch | None":
-        """This one with another edit, if there is room, it is of another function, need be apart from
-        none of the others, and changes a text that they leave."""
+        """This one with another edit, if there is room, it is made in another function, need be apart
+        from none of the others, and changes a text that they leave."""
         between = set(self.between)
         for other in self.edits:
-            if edit.function == other.function or are_apart(edit, other, known) or are_apart(other, edit, known):
+            if are_of_one(edit, other) or are_apart(edit, other, known) or are_apart(other, edit, known):
                 return None
-            between |= known.between(edit.function, other.function) | known.between(other.function, edit.function)
+            between |= proved_again(edit, other, known) | proved_again(other, edit, known)
         edits, between = [*self.edits, edit], frozenset(between)
         try:
-            return Batch(applied(edit.changes, self.texts), edits, between) if room.holds(edits, between) else None
+            texts = with_changes(edit, self.texts)
+            return Batch(texts, edits, between) if room.holds(edits, between) else None
         except BadEdit:
             return None
 
 
 def batches(edits: list[Edit], known: Calls, room: Room, texts: dict[str, str]) -> list[list[Edit]]:
-    """The edits in few groups, each of which one check can judge: about equal ones, or, where that
-    gives fewer, as many in the first ones as can be."""
-    equal = grouped(edits, known, room, texts, len)
+    """The edits in few groups, each of which one check can judge: ones that take about as long, or,
+    where that gives fewer, as many in the first ones as can be."""
+    equal = grouped(edits, known, room, texts, lambda group: sum(room.kept.get(it.function, 0) for it in group))
     full = grouped(edits, known, room, texts, lambda _: 0)
     return min(equal, full, key=len)
 
@@ -124,13 +140,13 @@ def grouped(
     rank: Callable[[list[Edit]], int],
 ) -> list[list[Edit]]:
     """The edits in groups, each in the one of lowest rank that takes it."""
-    counts = Counter(it.function for it in edits)
+    counts = Counter(it.function for it in edits if not it.is_copied)
     found = [Batch(texts)] * max([-(-len(edits) // room.edits), *counts.values()])
-    for edit in sorted(edits, key=lambda it: -counts[it.function]):
+    for edit in sorted(edits, key=lambda it: (-counts[it.function], -room.kept.get(it.function, 0))):
         for at in sorted(range(len(found)), key=lambda at: rank(found[at].edits)):
             if larger := found[at].with_edit(edit, known, room):
                 found[at] = larger
                 break
         else:
-            found.append(Batch(applied(edit.changes, texts), [edit]))
+            found.append(Batch(with_changes(edit, texts), [edit]))
     return [it.edits for it in found if it.edits]

@@ -5,6 +5,7 @@ from functools import partial
 from pathlib import Path
 
 from .batch import Room, batches, calls
+from .copies import can_be_copied, unedited
 from .edit import Edit, read_all
 from .judge import Outcome, settled
 from .lanes import Job
@@ -51,6 +52,7 @@ class CrateEdits:
     crate: str
     size: int
     wanted: Callable[[str], bool]
+    is_unedited: bool = False
     bad: list[tuple[str, str]] = field(default_factory=list)
     outcomes: list[Outcome] = field(default_factory=list)
     kept: dict[Function, int] = field(default_factory=dict)
@@ -85,8 +87,9 @@ class CrateEdits:
         self.kept = kept_bytes(self.folder, paths)
         for it in edits:
             it.path = paths.get(it.function, "")
+            it.is_copied = bool(it.path) and can_be_copied(it, self.folder)
         self.bad += [(it.name, f"a check says nothing of {it.function.title}") for it in edits if not it.path]
-        return self.checks([it for it in edits if it.path], 1)
+        return self.checks(unedited(edits) if self.is_unedited else [it for it in edits if it.path], 1)
 
     def checks(self, edits: list[Edit], turn: int) -> list[Job]:
         """The checks of a round."""
@@ -104,7 +107,7 @@ class CrateEdits:
 
     def settle(self, this: Round, group: list[Edit], trial: Trial) -> list[Job]:
         """Notes what a check said, and gives the next round when it was the last one of its round."""
-        found, again = settled(group, trial, self.texts, this.is_last)
+        found, again = settled(group, trial, this.is_last)
         self.outcomes += found
         self.seconds += trial.said.seconds
         for it in found:

@@ -30,7 +30,8 @@ class Change:
 class Edit:
     """A wrong body of one function, or a harmless one. `expect` says what the check must answer,
     `at` at which clauses alone it is tried, if not at all, `keep` for which likely mistake it
-    stands, if others reach its clauses, and `path` is the function's name in what a check says."""
+    stands, if others reach its clauses, `path` is the function's name in what a check says, and
+    `is_copied` whether the edit is made in a copy of it."""
 
     name: str
     changes: list[Change]
@@ -39,6 +40,7 @@ class Edit:
     keep: str = ""
     function: Function | None = field(default=None, compare=False)
     path: str = field(default="", compare=False)
+    is_copied: bool = field(default=False, compare=False)
 
 
 def parsed(name: str, text: str) -> Edit:
@@ -133,8 +135,13 @@ def narrowed(edits: list[Edit], texts: dict[str, str]) -> dict[str, str]:
             if clause.name not in it.at:
                 lines = "\n" * text.count("\n", clause.start, clause.end)
                 text = f"{text[: clause.start]} result ≡ result {lines}{text[clause.end :]}"
-        texts[file] = text if "◌≡◌" in text else text.replace("ghost use", f"{EQUALITY} ghost use", 1)
+        texts[file] = with_equality(text)
     return texts
+
+
+def with_equality(text: str) -> str:
+    """The text, where what the clauses need that say nothing is named."""
+    return text if "◌≡◌" in text else text.replace("ghost use", f"{EQUALITY} ghost use", 1)
 
 
 def checked(edit: Edit, texts: dict[str, str]) -> Edit:

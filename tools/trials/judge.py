@@ -1,14 +1,10 @@
 """What became of an edit: whether its function's contract refuses it, and at which clauses."""
-import re
 from dataclasses import dataclass
 
 from .edit import Edit
-from .source import Function
 from .trial import Trial
 from .verdict import Verdict, clauses_of
 
-# What doesn't compile.
-ERROR = re.compile(r"(?:\./)?(src/\S+?\.rt):(\d+):\d+: error")
 # The goal of a body that never answers.
 NEVER = "unreachable-requires"
 
@@ -57,18 +53,13 @@ def unjudged(edit: Edit, verdict: Verdict | None, said: str) -> Outcome:
     return Outcome(edit, False, f"NOT JUDGED: {first.strip()[:200]}", [])
 
 
-def settled(
-    edits: list[Edit],
-    trial: Trial,
-    texts: dict[str, str],
-    is_last: bool,
-) -> tuple[list[Outcome], list[Edit]]:
+def settled(edits: list[Edit], trial: Trial, is_last: bool) -> tuple[list[Outcome], list[Edit]]:
     """The outcomes of the edits of a check, and the edits to be tried again, of which there are none
     in the last round."""
     found, again = [], []
-    for edit, verdict in zip(edits, trial.verdicts):
+    for edit, verdict, error in zip(edits, trial.verdicts, trial.errors):
         said_of = outcome(edit, verdict, trial.said.text)
-        if said_of is None and (error := error_in(edit.function, trial.said.text, texts)):
+        if said_of is None and error:
             said_of = Outcome(edit, False, f"NOT JUDGED: {error}", [])
         if said_of is None and is_last:
             said_of = unjudged(edit, verdict, trial.said.text)
@@ -77,15 +68,3 @@ def settled(
         else:
             found.append(said_of)
     return found, again
-
-
-def error_in(function: Function, said: str, texts: dict[str, str]) -> str:
-    """What a check said of code within a function that it doesn't compile, if it did. The lines are
-    those of the text with no edit, since each edit keeps the number of lines."""
-    text = texts[function.file]
-    first, last = (text.count("\n", 0, at) + 1 for at in (function.start, function.end))
-    for line in said.split("\n"):
-        it = ERROR.match(line)
-        if it and it[1] == function.file and first <= int(it[2]) <= last:
-            return line[:200]
-    return ""

@@ -24,8 +24,10 @@ class Block:
     trait: str
     argument: str
     name: str
-    is_public_trait: bool
+    is_trait: bool
+    is_public: bool
     start: int
+    opening: int
     end: int
 
 
@@ -154,8 +156,10 @@ def blocks(text: str) -> list[Block]:
                 last_word(trait) if trait else "",
                 argument.lstrip("&").lstrip(),
                 name_of(whole, last_word(trait), argument) if trait else "",
-                it["kind"] == "trait" and (it["public"] or "").strip() == "pub",
+                it["kind"] == "trait",
+                (it["public"] or "").strip() == "pub",
                 it.start(),
+                opening,
                 closing(text, opening),
             )
         )
@@ -194,6 +198,6 @@ def functions(file: str, text: str) -> list[Function]:
         clauses, body, end = signature(text, it.end())
         block = next((b for b in holders if b.start <= it.start() <= b.end), None)
         is_public = (it["public"] or "").strip() == "pub"
-        is_public = is_public or bool(block and (block.trait or block.is_public_trait))
+        is_public = is_public or bool(block and (block.trait or block.is_trait and block.is_public))
         found.append(Function(file, it["name"], block, is_public, clauses, it.start(), body, end))
     return found

@@ -7,9 +7,10 @@ from collections.abc import Iterable
 from dataclasses import dataclass
 from pathlib import Path
 
-from .edit import Edit, applied, narrowed
-from .source import Function
-from .verdict import Verdict, judged, unproved, verdict_on
+from .copies import Site, copy_proofs, made, proofs_of, site_of
+from .edit import Edit
+from .source import Function, functions
+from .verdict import Verdict, error_in, judged, unproved, verdict_on
 
 SOURCES = ("src", "specs", "proofs")
 # An answer that is none. Where a function's answers have it, a check still tells each goal that is
@@ -27,10 +28,12 @@ class Said:
 
 @dataclass
 class Trial:
-    """The verdict on the function of each edit of a check, and what the check said. There is none
-    on a function of which nothing but a mark is refused."""
+    """For each edit of a check the verdict on its function, and what was said of code there that
+    doesn't compile, and what the check said in all. There is no verdict on a function of which
+    nothing but a mark is refused."""
 
     verdicts: list[Verdict | None]
+    errors: list[str]
     said: Said
 
 
@@ -92,10 +95,10 @@ def kept_bytes(crate: Path, paths: dict[Function, str]) -> dict[Function, int]:
     return {it: sum(size for name, size in kept if name.startswith(front)) for it, front in fronts.items()}
 
 
-def answers_of(crate: Path, edit: Edit) -> Path | None:
-    """The file of the answers of the edit's function, there or not; None where its whole proof is
-    written by hand."""
-    folder = crate / "proofs" / edit.path.partition("::")[2].replace("::", "/")
+def answers_of(crate: Path, path: str) -> Path | None:
+    """The file of the answers of a function, there or not; None where its whole proof is written by
+    hand."""
+    folder = proofs_of(crate, path)
     return None if (folder / "Proof.antt").exists() else folder / "Answers.antt"
 
 
@@ -115,19 +118,36 @@ def tried(root: Path, crate: str, edits: list[Edit], marks: bool) -> Trial:
     verdict on such a one.
     """
     texts = texts_of(root / "crates" / crate)
-    changed = narrowed(edits, applied([change for it in edits for change in it.changes], texts))
+    changed, sites = made(edits, texts), [site_of(it, number) for number, it in enumerate(edits)]
     with tempfile.TemporaryDirectory(prefix="edits-") as room:
         folder = copy_of(root, crate, Path(room))
         for file, text in changed.items():
             if text != texts[file]:
                 (folder / file).unlink()
                 (folder / file).write_text(text)
-        files = [answers_of(folder, it) if marks and it.expect == "goal" else None for it in edits]
-        for answers in filter(None, files):
-            mark(answers)
-        said = check(folder, [it.path for it in edits])
+        is_marked = [prepare(folder, it, site, marks) for it, site in zip(edits, sites)]
+        said = check(folder, [it.path for it in sites])
     verdicts = judged(said.text)
-    narrow = {it.path for it in edits if it.at}
-    found = [(verdicts.get(it.path), at) for it, at in zip(edits, files)]
-    is_told = lambda it, at: not unproved(it, verdicts) & narrow and (it.goals or it.waits or not at)
-    return Trial([it if it and is_told(it, at) else None for it, at in found], said)
+    narrow = {it.path for it in edits if it.at and not it.is_copied}
+    found = [(verdicts.get(it.path), marked) for it, marked in zip(sites, is_marked)]
+    is_told = lambda it, marked: not unproved(it, verdicts) & narrow and (it.goals or it.waits or not marked)
+    told = [it if it and is_told(it, marked) else None for it, marked in found]
+    return Trial(told, [error_at(it, said.text, changed) for it in sites], said)
+
+
+def prepare(crate: Path, edit: Edit, site: Site, marks: bool) -> bool:
+    """Gives the function at a site its answers, with a mark behind them if it is to be refused at a
+    goal and marks are asked. Whether it has one."""
+    if edit.is_copied:
+        copy_proofs(crate, edit, site)
+    answers = answers_of(crate, site.path) if marks and edit.expect == "goal" else None
+    if answers:
+        mark(answers)
+    return answers is not None
+
+
+def error_at(site: Site, said: str, texts: dict[str, str]) -> str:
+    """What a check said of code at a site that it doesn't compile, if it did."""
+    text = texts[site.file]
+    [function] = [it for it in functions(site.file, text) if it.key == site.key]
+    return error_in(function, text, said)

@@ -8,6 +8,8 @@ GOAL = re.compile(r"(?:note: )?(?:\./)?(src/\S+?\.rt):(\d+):\d+: it is not prove
 PROOF = re.compile(r"(?:\./)?proofs/(\S+)/(?:Answers|Invariants|Proof)\.antt:\d+:\d+: error: `([^`]+)`: (.*)")
 # A proof that names what the edit took away says nothing of the contract.
 GONE = re.compile(r"has no field|is not in scope|has no `|was not admitted")
+# What doesn't compile.
+ERROR = re.compile(r"(?:\./)?(src/\S+?\.rt):(\d+):\d+: error")
 SAID = re.compile(r"fn (\S+?): (.*)")
 SEARCHED = re.compile(r"`search` did not prove (.*)")
 
@@ -122,3 +124,13 @@ def clauses_of(verdict: Verdict, function: Function) -> list[str]:
         elif len(function.clauses) == 1 and (goal.startswith("loop-") or goal.endswith("_spec")):
             found.append(function.clauses[0])
     return list(dict.fromkeys(found))
+
+
+def error_in(function: Function, text: str, said: str) -> str:
+    """What a check said of code within a function of this text that it doesn't compile, if it did."""
+    first, last = (text.count("\n", 0, at) + 1 for at in (function.start, function.end))
+    for line in said.split("\n"):
+        it = ERROR.match(line)
+        if it and it[1] == function.file and first <= int(it[2]) <= last:
+            return line[:200]
+    return ""
