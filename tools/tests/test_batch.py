@@ -108,6 +108,16 @@ class Batches(unittest.TestCase):
         few.keep = "a likely mistake"
         self.assertEqual(superfluous(outcomes), [])
 
+    def test_an_edit_of_another_block_stays_though_its_title_and_clause_are_the_same(self):
+        texts = {"src/lib.rt": "impl Not for Set {\n    fn not(self) {\n        1\n    }\n}\nimpl Not for &Set {\n    fn not(self) {\n        2\n    }\n}\n"}
+        outcomes = []
+        for number in "12":
+            it = parsed(number, f"file: src/lib.rt\nold: {number}\nnew: 3\n")
+            it.function = placed(it, texts)
+            outcomes.append(Outcome(it, True, "", ["value"]))
+        self.assertEqual(outcomes[0].reached, outcomes[1].reached)
+        self.assertEqual(superfluous(outcomes), [])
+
     def test_what_the_gate_tries_and_what_is_to_be_looked_at_stays(self):
         gate, wrong, beside = edit("1"), edit("1"), edit("1")
         gate.name, wrong.name, beside.name = "must-fail/a.edit", "edits/b.edit", "edits/c.edit"

@@ -58,16 +58,22 @@ def is_kept(outcome: Outcome) -> bool:
     return edit.name.startswith("must-fail/") or edit.expect != "goal" or bool(edit.keep) or not outcome.is_right
 
 
+def own(outcomes: list[Outcome]) -> set[tuple[Function, str]]:
+    """The clauses at which edits of a function are refused. Functions of several blocks may have one
+    title, and one clause of their trait."""
+    return {(it.edit.function, clause) for it in outcomes for clause in it.clauses}
+
+
 def superfluous(outcomes: list[Outcome]) -> list[Outcome]:
-    """The edits that are refused at no clause at which none of the others is. Those that reach most
-    are kept first."""
-    found = reached([it for it in outcomes if is_kept(it)])
+    """The edits that are refused at no clause at which no other of their function is. Those that
+    reach most are kept first."""
+    found = own([it for it in outcomes if is_kept(it)])
     left = sorted((it for it in outcomes if not is_kept(it)), key=lambda it: it.edit.name)
     while left:
-        best = max(left, key=lambda it: len(it.reached - found))
-        if best.reached <= found:
+        best = max(left, key=lambda it: len(own([it]) - found))
+        if own([best]) <= found:
             break
-        found |= best.reached
+        found |= own([best])
         left.remove(best)
     return left
 
@@ -77,12 +83,12 @@ def shares(outcomes: list[Outcome]) -> dict[str, list[str]]:
     falls to the edit that is refused at the fewest, and one that stays anyway keeps all of its."""
     left = superfluous(outcomes)
     split = [it for it in outcomes if it not in left and can_be_split(it)]
-    found = reached([it for it in outcomes if it not in left and it not in split])
+    found = own([it for it in outcomes if it not in left and it not in split])
     mine: dict[str, list[str]] = {}
     for it in sorted(split, key=lambda it: (not is_kept(it), len(it.clauses), it.edit.name)):
         function = it.edit.function
-        names = [clause for clause in it.clauses if is_kept(it) or (function.title, clause) not in found]
-        found |= {(function.title, clause) for clause in names}
+        names = [clause for clause in it.clauses if is_kept(it) or (function, clause) not in found]
+        found |= {(function, clause) for clause in names}
         if names and len(names) < len(it.edit.at or function.clauses):
             mine[it.edit.name] = names
     return mine
