@@ -4,9 +4,10 @@ import tempfile
 import unittest
 from pathlib import Path
 
-from trials.copies import can_be_copied, copy_proofs, made, site_of
+from trials.copies import can_be_copied, copy_proofs, made, site_of, unedited
 from trials.edit import parsed, placed
 from trials.source import functions
+from trials.trial import MARK, prepare
 
 TEXT = """ghost use Rattle.std.specs.Prelude.{◌<◌};
 
@@ -104,6 +105,23 @@ class Copies(unittest.TestCase):
     def test_what_is_proved_all_by_hand_is_not_copied(self):
         self.proof("Set/len/Proof.antt", "")
         self.assertFalse(can_be_copied(edit("2", "demo::Set::len"), self.crate))
+
+    def test_a_whole_body_is_put_in_a_copy_whatever_it_takes_the_place_of(self):
+        self.proof("Set/again/Proof.antt", "")
+        whole = parsed("e", "file: src/lib.rt\nin: Set::again\nbody: 9\n")
+        whole.function, whole.path = placed(whole, TEXTS), "demo::Set::again"
+        self.assertTrue(can_be_copied(whole, self.crate))
+        whole.is_copied = True
+        self.assertEqual([it.path for it in unedited([whole, edit("2", "demo::Set::len")], self.crate)], ["demo::Set::len"])
+
+    def test_a_whole_body_has_none_of_the_answers(self):
+        self.proof("Set/len/Answers.antt", "len = len.len\n")
+        whole = parsed("e", "file: src/lib.rt\nin: Set::len\nbody: 9\n")
+        whole.function, whole.path = placed(whole, TEXTS), "demo::Set::len"
+        for whole.is_copied in (True, False):
+            self.assertTrue(prepare(self.crate, whole, site_of(whole, 3), True))
+            answers = self.crate / "proofs/Set" / ("len_edited_3" if whole.is_copied else "len") / "Answers.antt"
+            self.assertEqual(answers.read_text(), MARK)
 
     def test_a_copy_has_the_answers_of_its_function(self):
         self.proof("Set/len/Answers.antt", "use Rattle.demo.proofs.Set.len.Goals as goal\nlen = len.len\n")

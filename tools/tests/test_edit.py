@@ -35,6 +35,15 @@ class Edits(unittest.TestCase):
         edit = parsed("e", "file: src/lib.rt\nold: fn two() -> u8 {\nnew: fn two() -> u8 { return 7;\n")
         self.assertEqual(placed(edit, TEXTS).title, "two")
 
+    def test_a_body_may_be_given_whole(self):
+        edit = parsed("e", "file: src/lib.rt\nin: two\nbody: 7\n")
+        self.assertTrue(edit.is_whole)
+        self.assertEqual(placed(edit, TEXTS).title, "two")
+        self.assertTrue(applied(edit.changes, TEXTS)["src/lib.rt"].endswith("}\n\npub fn two() -> u8 { 7 }\n"))
+        self.assertFalse(parsed("e", "file: src/lib.rt\nin: two\nold: 1 + 1\nnew: 7\n").is_whole)
+        with self.assertRaisesRegex(BadEdit, "before any 'in:'"):
+            parsed("e", "file: src/lib.rt\nbody: 7\n")
+
     def test_methods_of_a_type_and_of_a_reference_to_it_are_told_apart(self):
         text = "impl Not for Set {\n    fn not(self) {\n        1\n    }\n}\nimpl Not for &Set {\n    fn not(self) {\n        2\n    }\n}\n"
         edit = parsed("e", "file: src/lib.rt\nold:         2\nnew:         3\n")

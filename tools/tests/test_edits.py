@@ -118,7 +118,7 @@ class Command(unittest.TestCase):
         self.edit("one_is_two", "one", "2")
         self.edit("harmless", "two", "1", "expect: proved\n")
         self.run_it()
-        self.assertEqual(self.asked(), ["check --jobs 1", "check --jobs 1 --only demo::two_edited_0 --only demo::one_edited_1"])
+        self.assertEqual(self.asked(), ["check --jobs 1", "check --jobs 1 --progress --only demo::two_edited_0 --only demo::one_edited_1"])
 
     def test_answers_are_marked_where_a_goal_is_to_be_refused(self):
         self.edit("one_is_two", "one", "2")
@@ -159,7 +159,7 @@ class Command(unittest.TestCase):
         self.edit("two_is_two", "two", "2")
         self.run_it("--batch", "1", "--lanes", "1")
         checks = [it for it in self.asked() if "--only" in it]
-        self.assertEqual(checks, [f"check --jobs 1 --only demo::{it}_edited_0" for it in ("two", "one")])
+        self.assertEqual(checks, [f"check --jobs 1 --progress --only demo::{it}_edited_0" for it in ("two", "one")])
 
     def test_one_check_tries_many_edits_of_one_function(self):
         self.edit("one_is_two", "one", "2")
@@ -169,14 +169,14 @@ class Command(unittest.TestCase):
         self.assertIn("harmless.edit: proved of one", ran.stdout)
         self.assertIn("one_is_two.edit: refused at ensures of one", ran.stdout)
         self.assertIn("one_stays.edit: NOT REFUSED of one", ran.stdout)
-        self.assertEqual(self.asked()[1], "check --jobs 1" + "".join(f" --only demo::one_edited_{it}" for it in range(3)))
+        self.assertEqual(self.asked()[1], "check --jobs 1 --progress" + "".join(f" --only demo::one_edited_{it}" for it in range(3)))
 
     def test_a_copy_with_no_edit_is_proved(self):
         self.edit("one_is_two", "one", "2")
         self.edit("one_is_two_again", "one", "2")
         ran = self.run_it("--unedited")
         self.assertIn("unedited/demo::one: proved of one", ran.stdout)
-        self.assertEqual(self.asked()[1:], ["check --jobs 1 --only demo::one_edited_0"])
+        self.assertEqual(self.asked()[1:], ["check --jobs 1 --progress --only demo::one_edited_0"])
         self.assertEqual(self.marks()[-1], "marked ")
         self.assertEqual(ran.returncode, 0)
 
@@ -187,7 +187,7 @@ class Command(unittest.TestCase):
         self.edit("deep_is_two", "Deep for One::deep", "2")
         self.edit("deep_stays", "Deep for One::deep", "1", "expect: proved\n")
         ran = self.run_it()
-        self.assertEqual(self.asked()[1:], ["check --jobs 1 --only demo::OneDeep::deep"] * 2)
+        self.assertEqual(self.asked()[1:], ["check --jobs 1 --progress --only demo::OneDeep::deep"] * 2)
         self.assertIn("deep_is_two.edit: ", ran.stdout)
 
     def test_an_edit_of_a_function_that_no_check_names_fails(self):

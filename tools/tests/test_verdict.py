@@ -116,7 +116,7 @@ class Verdicts(unittest.TestCase):
         said = "src/lib.rt:7:5: error[types]: no\nrt: the check failed\n"
         edits = [edit("src/lib.rt", "    1"), edit("src/lib.rt", "    2")]
         errors = [error_in(it.function, TEXTS["src/lib.rt"], said) for it in edits]
-        found, again = settled(edits, Trial([None, None], errors, Said(said, 1)), False)
+        found, again = settled(edits, Trial([None, None], errors, [0, 0], Said(said, 1)), False)
         self.assertEqual([it.edit for it in found], edits[1:])
         self.assertEqual(found[0].text, "NOT JUDGED: src/lib.rt:7:5: error[types]: no")
         self.assertEqual(again, edits[:1])

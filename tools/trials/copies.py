@@ -19,20 +19,23 @@ class Site:
 
 def can_be_copied(edit: Edit, crate: Path) -> bool:
     """Whether a copy of the edit's function is proved like the function itself: not where a trait
-    gives the name, the copy would call the function and not itself, or a proof is all by hand."""
+    gives the name, or of what stays of the body the copy would call the function and not itself, or
+    the proof is all by hand."""
     function = edit.function
     has_own_name = not function.block or not (function.block.trait or function.block.is_trait)
     calls = calls_itself(function, (crate / function.file).read_text())
-    return has_own_name and not calls and not (proofs_of(crate, edit.path) / "Proof.antt").exists()
+    by_hand = (proofs_of(crate, edit.path) / "Proof.antt").exists()
+    return has_own_name and (edit.is_whole or not calls and not by_hand)
 
 
-def unedited(edits: list[Edit]) -> list[Edit]:
+def unedited(edits: list[Edit], crate: Path) -> list[Edit]:
     """For each function that edits are made in a copy of, a copy as it stands, which must be proved."""
     functions = {it.path: it.function for it in edits if it.is_copied}
-    return [
+    copies = [
         Edit(f"unedited/{path}", [], expect="proved", function=function, path=path, is_copied=True)
         for path, function in functions.items()
     ]
+    return [it for it in copies if can_be_copied(it, crate)]
 
 
 def proofs_of(crate: Path, path: str) -> Path:

@@ -89,7 +89,7 @@ class CrateEdits:
             it.path = paths.get(it.function, "")
             it.is_copied = bool(it.path) and can_be_copied(it, self.folder)
         self.bad += [(it.name, f"a check says nothing of {it.function.title}") for it in edits if not it.path]
-        return self.checks(unedited(edits) if self.is_unedited else [it for it in edits if it.path], 1)
+        return self.checks(unedited(edits, self.folder) if self.is_unedited else [it for it in edits if it.path], 1)
 
     def checks(self, edits: list[Edit], turn: int) -> list[Job]:
         """The checks of a round."""
@@ -111,7 +111,7 @@ class CrateEdits:
         self.outcomes += found
         self.seconds += trial.said.seconds
         for it in found:
-            say(f"{self.crate}/{it.edit.name}: {it.text} of {it.edit.function.title}")
+            say(f"{self.crate}/{it.edit.name}: {it.text} of {it.edit.function.title}, {it.seconds:.1f} s")
         say(f"{self.crate}: round {this.turn}: {len(found)} of {len(group)} edits in {trial.said.seconds:.0f} s of one processor")
         this.left += again
         this.open -= 1

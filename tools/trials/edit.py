@@ -18,11 +18,11 @@ class BadEdit(Exception):
 @dataclass(frozen=True)
 class Change:
     """A text that takes the place of another, which stands once in the file, or, where a function
-    is named, once in its body."""
+    is named, once in its body. Without an old text it is the whole body of the function."""
 
     file: str
     inside: str
-    old: str
+    old: str | None
     new: str
 
 
@@ -42,9 +42,15 @@ class Edit:
     path: str = field(default="", compare=False)
     is_copied: bool = field(default=False, compare=False)
 
+    @property
+    def is_whole(self) -> bool:
+        """Whether it gives the whole body, to which no answer or invariant of the function belongs."""
+        return any(it.old is None for it in self.changes)
+
 
 def parsed(name: str, text: str) -> Edit:
-    """Reads an edit: lines `file:`, `old:` and `new:`, and perhaps `in:`, `at:`, `expect:` and `keep:`."""
+    """Reads an edit: lines `file:`, `old:` and `new:`, or `file:`, `in:` and `body:`, and perhaps
+    `in:`, `at:`, `expect:` and `keep:`."""
     edit, file, inside, old = Edit(name, []), "", "", None
     for line in text.split("\n"):
         word, _, rest = line.partition(":")
@@ -59,6 +65,10 @@ def parsed(name: str, text: str) -> Edit:
             edit.at = tuple(rest.split())
         elif word == "keep":
             edit.keep = rest.strip()
+        elif word == "body":
+            if not inside:
+                raise BadEdit("a line 'body:' stands before any 'in:'")
+            edit.changes.append(Change(file, inside, None, f" {rest} "))
         elif word == "old":
             old = rest
         elif word == "new":
@@ -67,7 +77,7 @@ def parsed(name: str, text: str) -> Edit:
             edit.changes.append(Change(file, inside, old, rest))
             old = None
     if not edit.changes:
-        raise BadEdit("it has no 'old:' and 'new:'")
+        raise BadEdit("it has no 'old:' and 'new:', and no 'body:'")
     if edit.expect not in EXPECTED:
         raise BadEdit(f"it expects '{edit.expect}', which is none of {', '.join(EXPECTED)}")
     if edit.at and edit.expect != "goal":
@@ -75,45 +85,50 @@ def parsed(name: str, text: str) -> Edit:
     return edit
 
 
-def place(change: Change, texts: dict[str, str]) -> int:
-    """Where the old text stands."""
+def place(change: Change, texts: dict[str, str]) -> tuple[int, int]:
+    """Where the old text begins and ends."""
     text = texts.get(change.file, "")
     begin, end = 0, len(text)
     if change.inside:
         holders = [it for it in functions(change.file, text) if it.title == change.inside]
         if len(holders) != 1:
             raise BadEdit(f"{change.file} has {len(holders)} functions {change.inside}")
-        begin, end = holders[0].body, holders[0].end + 1
+        begin, end = holders[0].body + 1, holders[0].end
+    if change.old is None:
+        return begin, end
     count = text.count(change.old, begin, end)
     if count != 1:
         raise BadEdit(f"'{change.old.strip()[:60]}' is {count} times in {change.file}, and not once")
-    return text.index(change.old, begin, end)
+    begin = text.index(change.old, begin, end)
+    return begin, begin + len(change.old)
 
 
 def applied(changes: list[Change], texts: dict[str, str]) -> dict[str, str]:
     """The texts after these changes, one after the other."""
     texts = dict(texts)
     for it in changes:
-        at, text = place(it, texts), texts[it.file]
-        texts[it.file] = text[:at] + it.new + text[at + len(it.old) :]
+        (begin, end), text = place(it, texts), texts[it.file]
+        texts[it.file] = text[:begin] + it.new + text[end:]
     return texts
 
 
-def changed(old: str, new: str) -> tuple[int, int]:
-    """Which part of the old text differs from the new one."""
+def changed(change: Change, texts: dict[str, str]) -> tuple[int, int]:
+    """Where what a change alters begins and ends: the part of the old text that differs from the new."""
+    begin, end = place(change, texts)
+    old, new = texts[change.file][begin:end], change.new
     front = len(os.path.commonprefix([old, new]))
     back = len(os.path.commonprefix([old[front:][::-1], new[front:][::-1]]))
-    return front, len(old) - back
+    return begin + front, end - back
 
 
 def placed(edit: Edit, texts: dict[str, str]) -> Function:
     """The one function whose body the edit changes."""
     found, made = set(), dict(texts)
     for it in edit.changes:
-        begin, end = (place(it, made) + bound for bound in changed(it.old, it.new))
+        begin, end = changed(it, made)
         holders = [f for f in functions(it.file, made[it.file]) if f.body < begin and end <= f.end]
         if not holders:
-            raise BadEdit(f"'{it.old.strip()[:60]}' stands in no function's body")
+            raise BadEdit(f"'{(it.old or '').strip()[:60]}' stands in no function's body")
         found.add((it.file, holders[0].key))
         made = applied([it], made)
     if len(found) != 1:

@@ -11,12 +11,14 @@ NEVER = "unreachable-requires"
 
 @dataclass
 class Outcome:
-    """What became of an edit: whether that is what it expects, and what to say of it."""
+    """What became of an edit: whether that is what it expects, what to say of it, the clauses at which
+    it was refused, and how many seconds its function took."""
 
     edit: Edit
     is_right: bool
     text: str
     clauses: list[str]
+    seconds: float = 0
 
     @property
     def reached(self) -> set[tuple[str, str]]:
@@ -57,7 +59,7 @@ def settled(edits: list[Edit], trial: Trial, is_last: bool) -> tuple[list[Outcom
     """The outcomes of the edits of a check, and the edits to be tried again, of which there are none
     in the last round."""
     found, again = [], []
-    for edit, verdict, error in zip(edits, trial.verdicts, trial.errors):
+    for edit, verdict, error, took in zip(edits, trial.verdicts, trial.errors, trial.took):
         said_of = outcome(edit, verdict, trial.said.text)
         if said_of is None and error:
             said_of = Outcome(edit, False, f"NOT JUDGED: {error}", [])
@@ -66,5 +68,6 @@ def settled(edits: list[Edit], trial: Trial, is_last: bool) -> tuple[list[Outcom
         if said_of is None:
             again.append(edit)
         else:
+            said_of.seconds = took
             found.append(said_of)
     return found, again

@@ -1,10 +1,12 @@
 """Checks of a copy of the repository with edits in it."""
 import os
+import re
 import shutil
 import subprocess
 import tempfile
+import time
 from collections.abc import Iterable
-from dataclasses import dataclass
+from dataclasses import dataclass, field
 from pathlib import Path
 
 from .copies import Site, copy_proofs, made, proofs_of, site_of
@@ -13,6 +15,7 @@ from .source import Function, functions
 from .verdict import Verdict, error_in, judged, unproved, verdict_on
 
 SOURCES = ("src", "specs", "proofs")
+ENDED = re.compile(r"checked (\S+), \d+ of \d+")
 # An answer that is none. Where a function's answers have it, a check still tells each goal that is
 # open, and writes no offer of answers to them, which takes as long as it took to find them open.
 MARK = "\n\npub no_goal : no_goal_at_all\nno_goal = no_goal_at_all\n"
@@ -20,20 +23,24 @@ MARK = "\n\npub no_goal : no_goal_at_all\nno_goal = no_goal_at_all\n"
 
 @dataclass
 class Said:
-    """What a check said, and for how many seconds processors worked on it."""
+    """What a check said, for how many seconds processors worked on it, and how many passed until it
+    had ended with a function since it ended with the one before. Those of the first one are also
+    what it takes to load the crate."""
 
     text: str
     seconds: float
+    took: dict[str, float] = field(default_factory=dict)
 
 
 @dataclass
 class Trial:
-    """For each edit of a check the verdict on its function, and what was said of code there that
-    doesn't compile, and what the check said in all. There is no verdict on a function of which
-    nothing but a mark is refused."""
+    """For each edit of a check the verdict on its function, what was said of code there that doesn't
+    compile, and how many seconds its function took, and what the check said in all. There is no
+    verdict on a function of which nothing but a mark is refused."""
 
     verdicts: list[Verdict | None]
     errors: list[str]
+    took: list[float]
     said: Said
 
 
@@ -65,7 +72,8 @@ def texts_of(crate: Path) -> dict[str, str]:
 
 def check(crate: Path, paths: list[str] | None = None) -> Said:
     """What `rt check` says of a crate, or of these functions of it and those that they call."""
-    narrowed = [word for path in paths or [] for word in ("--only", path)]
+    narrowed = ["--progress", *(word for path in paths for word in ("--only", path))] if paths else []
+    begun, lines, took = time.time(), [], {}
     running = subprocess.Popen(
         ["rt", "check", "--jobs", "1", *narrowed],
         cwd=crate,
@@ -76,10 +84,13 @@ def check(crate: Path, paths: list[str] | None = None) -> Said:
         errors="replace",
     )
     with running.stdout:
-        text = running.stdout.read()
+        for line in running.stdout:
+            lines.append(line)
+            if ended := ENDED.match(line):
+                took[ended[1]] = time.time() - begun - sum(took.values())
     _, status, used = os.wait4(running.pid, 0)
     running.returncode = os.waitstatus_to_exitcode(status)
-    return Said(text, used.ru_utime + used.ru_stime)
+    return Said("".join(lines), used.ru_utime + used.ru_stime, took)
 
 
 def paths_in(said: str, functions: Iterable[Function]) -> dict[Function, str]:
@@ -132,13 +143,16 @@ def tried(root: Path, crate: str, edits: list[Edit], marks: bool) -> Trial:
     found = [(verdicts.get(it.path), marked) for it, marked in zip(sites, is_marked)]
     is_told = lambda it, marked: not unproved(it, verdicts) & narrow and (it.goals or it.waits or not marked)
     told = [it if it and is_told(it, marked) else None for it, marked in found]
-    return Trial(told, [error_at(it, said.text, changed) for it in sites], said)
+    errors = [error_at(it, said.text, changed) for it in sites]
+    return Trial(told, errors, [said.took.get(it.path, 0) for it in sites], said)
 
 
 def prepare(crate: Path, edit: Edit, site: Site, marks: bool) -> bool:
-    """Gives the function at a site its answers, with a mark behind them if it is to be refused at a
-    goal and marks are asked. Whether it has one."""
-    if edit.is_copied:
+    """Gives the function at a site its answers, if its body isn't new, with a mark behind them if it
+    is to be refused at a goal and marks are asked. Whether it has one."""
+    if edit.is_whole:
+        shutil.rmtree(proofs_of(crate, site.path), ignore_errors=True)
+    elif edit.is_copied:
         copy_proofs(crate, edit, site)
     answers = answers_of(crate, site.path) if marks and edit.expect == "goal" else None
     if answers:
