@@ -1,5 +1,6 @@
 """The command, with an `rt` that refuses what returns 2."""
 import os
+import re
 import shutil
 import subprocess
 import tempfile
@@ -149,6 +150,17 @@ class Command(unittest.TestCase):
         self.run_it()
         self.assertEqual(self.marks()[-1], "marked proofs/one_edited_0/Answers.antt ")
         self.assertEqual((folder / "Answers.antt").read_text(), "returns = given")
+
+    def test_the_seconds_of_a_function_stand_behind_its_edit(self):
+        text = RT.replace("marked=$(", "[ $# -gt 3 ] && sleep 0.6 && echo 'checked demo::one_edited_1, 1 of 2' && sleep 0.1 && echo 'checked demo::two_edited_0, 2 of 2'\nmarked=$(", 1)
+        (self.root / "bin/rt").write_text(text)
+        self.edit("one_is_two", "one", "2")
+        self.edit("harmless", "two", "1", "expect: proved\n")
+        ran = self.run_it()
+        one = re.search(r"one_is_two.edit: refused at ensures of one, ([0-9.]+) s\n", ran.stdout)
+        two = re.search(r"harmless.edit: proved of two, ([0-9.]+) s\n", ran.stdout)
+        self.assertGreaterEqual(float(one[1]), 0.6)
+        self.assertLess(float(two[1]), float(one[1]))
 
     def test_what_takes_longest_is_tried_first(self):
         kept = self.root / "crates/demo/out/incremental/build"
