@@ -118,10 +118,10 @@ class Copies(unittest.TestCase):
         self.proof("Set/len/Answers.antt", "len = len.len\n")
         whole = parsed("e", "file: src/lib.rt\nin: Set::len\nbody: 9\n")
         whole.function, whole.path = placed(whole, TEXTS), "demo::Set::len"
-        for whole.is_copied in (True, False):
+        for is_copied, folder in ((True, "len_edited_3"), (False, "len")):
+            whole.is_copied = is_copied
             self.assertTrue(prepare(self.crate, whole, site_of(whole, 3), True))
-            answers = self.crate / "proofs/Set" / ("len_edited_3" if whole.is_copied else "len") / "Answers.antt"
-            self.assertEqual(answers.read_text(), MARK)
+            self.assertEqual((self.crate / "proofs/Set" / folder / "Answers.antt").read_text(), MARK)
 
     def test_a_copy_has_the_answers_of_its_function(self):
         self.proof("Set/len/Answers.antt", "use Rattle.demo.proofs.Set.len.Goals as goal\nlen = len.len\n")

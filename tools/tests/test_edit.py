@@ -43,6 +43,8 @@ class Edits(unittest.TestCase):
         self.assertFalse(parsed("e", "file: src/lib.rt\nin: two\nold: 1 + 1\nnew: 7\n").is_whole)
         with self.assertRaisesRegex(BadEdit, "before any 'in:'"):
             parsed("e", "file: src/lib.rt\nbody: 7\n")
+        with self.assertRaisesRegex(BadEdit, "Deep::deep has no body"):
+            placed(parsed("e", "file: src/lib.rt\nin: Deep::deep\nbody: 7\n"), {"src/lib.rt": "trait Deep {\n    fn deep(&self);\n}\n"})
 
     def test_methods_of_a_type_and_of_a_reference_to_it_are_told_apart(self):
         text = "impl Not for Set {\n    fn not(self) {\n        1\n    }\n}\nimpl Not for &Set {\n    fn not(self) {\n        2\n    }\n}\n"

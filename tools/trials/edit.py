@@ -94,6 +94,8 @@ def place(change: Change, texts: dict[str, str]) -> tuple[int, int]:
         if len(holders) != 1:
             raise BadEdit(f"{change.file} has {len(holders)} functions {change.inside}")
         begin, end = holders[0].body + 1, holders[0].end
+    if change.old is None and begin > end:
+        raise BadEdit(f"{change.inside} has no body")
     if change.old is None:
         return begin, end
     count = text.count(change.old, begin, end)
