@@ -1,15 +1,22 @@
 use crate::{FaultyReader, FaultyWriter};
-use std::io::{BufWriter, ErrorKind, Read, Write};
+use std::io::{BufWriter, Error, ErrorKind, Read, Write};
+use std::process::Abort;
 use std::test::Fail;
+
+fn is_broken_pipe<T: Drop>(answer: Result<T, Error>) -> bool {
+    match answer {
+        Ok(_) => false,
+        Err(fault) => fault.kind() == ErrorKind::BrokenPipe,
+    }
+}
 
 #[test]
 fn a_reader_faults_once_after_its_bytes(rt: HostRuntime) -> Result<(), Fail> {
     for (before, first) in [(0, ""), (4, "abcd"), (6, "abcdef")] {
         let mut reader = FaultyReader::new(b"abcdef".as_slice(), before);
         let mut got = Vec::new(rt.alloc());
-        let fault = reader.read_to_end(&mut got);
         assert!(rt;
-            fault.is_err_and(|e| e.kind() == ErrorKind::BrokenPipe),
+            is_broken_pipe(reader.read_to_end(&mut got)),
             "after {before}"
         );
         assert_eq!(rt; got.as_slice(), first.as_bytes());
@@ -28,22 +35,26 @@ fn a_reader_that_ends_before_its_fault_just_ends(rt: HostRuntime) -> Result<(), 
     Ok(())
 }
 
+/// Reads once, and compares how many bytes came, none for a fault, and what the buffer holds then.
+fn assert_read<R: Read>(
+    rt: &impl Abort,
+    reader: &mut R,
+    buf: &mut [u8],
+    count: Option<usize>,
+    holds: &[u8],
+) {
+    assert_eq!(rt; reader.read(buf).ok(), count);
+    assert_eq!(rt; *buf, *holds);
+}
+
 #[test]
-fn a_read_stops_short_of_the_fault(rt: HostRuntime) -> Result<(), Fail> {
+fn a_read_stops_short_of_the_fault(rt: HostRuntime) {
     let mut reader = FaultyReader::new(b"abcdef".as_slice(), 2);
     let mut buf = [0u8; 4];
-    assert_eq!(rt; reader.read(&mut [])?, 0);
-    assert_eq!(rt;
-        reader.read(&mut buf)?,
-        2,
-        "two bytes are left before the fault"
-    );
-    assert_eq!(rt; buf, [b'a', b'b', 0, 0]);
-    assert!(rt; reader.read(&mut buf).is_err());
-    assert_eq!(rt; buf, [b'a', b'b', 0, 0], "a fault gives nothing");
-    assert_eq!(rt; reader.read(&mut buf)?, 4, "then whole buffers again");
-    assert_eq!(rt; buf, *b"cdef");
-    Ok(())
+    assert_read(&rt, &mut reader, &mut [], Some(0), b"");
+    assert_read(&rt, &mut reader, &mut buf, Some(2), b"ab\0\0");
+    assert_read(&rt, &mut reader, &mut buf, None, b"ab\0\0");
+    assert_read(&rt, &mut reader, &mut buf, Some(4), b"cdef");
 }
 
 #[test]
@@ -54,11 +65,7 @@ fn a_writer_faults_once_after_its_writes(rt: HostRuntime) -> Result<(), Fail> {
             writer.write_all(b"ab")?;
             writer.flush()?;
         }
-        let fault = writer.write_all(b"cd");
-        assert!(rt;
-            fault.is_err_and(|e| e.kind() == ErrorKind::BrokenPipe),
-            "after {before}"
-        );
+        assert!(rt; is_broken_pipe(writer.write_all(b"cd")), "after {before}");
         assert_eq!(rt; writer.inner().len(), 2 * before, "a fault writes nothing");
         writer.write_all(b"efg")?;
         assert_eq!(rt; writer.inner().len(), 2 * before + 3);
@@ -68,13 +75,13 @@ fn a_writer_faults_once_after_its_writes(rt: HostRuntime) -> Result<(), Fail> {
 }
 
 #[test]
-fn a_flush_reaches_the_writer_within_and_is_no_write(rt: HostRuntime) -> Result<(), Fail> {
-    let buffered = BufWriter::new(rt.alloc(), Vec::new(rt.alloc()))?;
+fn a_flush_reaches_the_writer_within_and_is_no_write(rt: HostRuntime) {
+    let buffered = BufWriter::new(rt.alloc(), Vec::new(rt.alloc())).expect(&rt, "memory");
     let mut writer = FaultyWriter::new(buffered, 1);
-    writer.write_all(b"ab")?;
+    assert!(rt; writer.write_all(b"ab").is_ok());
     assert_eq!(rt; writer.inner().get_ref().len(), 0);
-    writer.flush()?;
+    assert!(rt; writer.flush().is_ok());
     assert_eq!(rt; writer.inner().get_ref().as_slice(), b"ab".as_slice());
     assert!(rt; writer.write_all(b"cd").is_err());
-    Ok(())
+    drop(writer);
 }

@@ -3,13 +3,32 @@ use std::alloc::{AllocError, Allocator};
 use std::rc::Rc;
 use std::test::Fail;
 
-// Three requests for memory, and a copy of the allocator between them.
-fn build<A: Allocator + Clone>(alloc: A) -> Result<usize, AllocError> {
-    let mut list = Vec::with_capacity(alloc.clone()?, 1)?;
-    list.push(1u8)?;
-    list.push(2)?;
-    let shared = Rc::new(alloc, 3u8)?;
-    Ok(list.len() + (*shared as usize))
+// One request for room of one item, and one for more.
+fn two_items<A: Allocator>(alloc: A) -> Result<usize, AllocError> {
+    let mut list = Vec::with_capacity(alloc, 1)?;
+    let is_pushed = list.push(1u8).is_ok() && list.push(2).is_ok();
+    let len = list.len();
+    drop(list);
+    if is_pushed { Ok(len) } else { Err(AllocError) }
+}
+
+// One request.
+fn shared_number<A: Allocator>(alloc: A) -> Result<usize, AllocError> {
+    let shared = Rc::new(alloc, 3usize)?;
+    let number = *shared;
+    drop(shared);
+    Ok(number)
+}
+
+// A copy of the allocator, and three requests for memory. Answers how many items the list had, and
+// the number.
+fn build<A: Allocator + Clone>(alloc: A) -> Result<(usize, usize), AllocError> {
+    let twin = alloc.clone()?;
+    let Ok(len) = two_items(alloc) else {
+        drop(twin);
+        return Err(AllocError);
+    };
+    Ok((len, shared_number(twin)?))
 }
 
 #[test]
@@ -21,10 +40,10 @@ fn refuses_each_request_and_clone_in_turn(rt: HostRuntime) {
         assert_eq!(rt; (heap.asked(), heap.has_refused()), (refused, true));
     }
     let heap = Refusing::new(rt.alloc(), 5);
-    assert_eq!(rt; build(Handle { inner: &heap }), Ok(5));
+    assert_eq!(rt; build(Handle { inner: &heap }), Ok((2, 3)));
     assert_eq!(rt; (heap.asked(), heap.has_refused()), (4, false));
     heap.refuse(0);
-    assert_eq!(rt; build(&heap), Ok(5));
+    assert_eq!(rt; build(&heap), Ok((2, 3)));
     assert_eq!(rt; heap.asked(), 3, "a clone of a reference is no request");
 }
 

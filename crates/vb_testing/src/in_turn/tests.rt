@@ -2,12 +2,17 @@ use crate::{Refusing, WrongAnswer, answers_refusal, each_refused};
 use std::alloc::{AllocError, Allocator};
 use std::test::Fail;
 
-// Two requests.
-fn two_lists<A: Allocator + Clone>(alloc: A) -> Result<(), AllocError> {
-    let first = Vec::from_elem(alloc.clone()?, 1u8, 2)?;
-    let second = Vec::from_elem(alloc, 1u8, 2)?;
-    drop((first, second));
+// One request.
+fn list<A: Allocator>(alloc: A) -> Result<(), AllocError> {
+    let items = Vec::from_elem(alloc, 1u8, 2)?;
+    drop(items);
     Ok(())
+}
+
+// Two requests.
+fn two_lists<B: Allocator>(heap: &Refusing<B>) -> Result<(), AllocError> {
+    list(heap)?;
+    list(heap)
 }
 
 #[test]
