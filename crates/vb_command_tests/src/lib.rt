@@ -4,4 +4,6 @@
 #[cfg(test)]
 mod answers;
 #[cfg(test)]
+mod compared;
+#[cfg(test)]
 mod lines;

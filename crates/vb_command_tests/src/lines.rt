@@ -1,15 +1,20 @@
 //! Which lines can be read, and what they ask for.
+use crate::compared::equal_at;
 use std::alloc::{AllocError, Global};
-use std::test::Fail;
+use std::process::Abort;
+use std::str;
 use vb_command::command_of;
 
-/// What a line asks for.
-fn asked(alloc: Global, line: &[u8]) -> Result<String, AllocError> {
-    format!(in alloc; "{:?}", command_of(&alloc, line))
+/// A line asks for this, as `Debug` prints it.
+fn asks(rt: &impl Abort, alloc: Global, line: &[u8], wanted: &str) -> Result<(), AllocError> {
+    let asked = format!(in alloc; "{:?}", command_of(&alloc, line))?;
+    equal_at(rt, asked.as_str(), wanted, str::from_utf8(line).ok());
+    drop(asked);
+    Ok(())
 }
 
 #[test]
-fn commands_are_read(rt: HostRuntime) -> Result<(), Fail> {
+fn commands_are_read(rt: HostRuntime) -> Result<(), AllocError> {
     for (line, want) in [
         ("import 0 0 8 14", "Ok(Some(Import(0, 0, 8, [20])))"),
         ("import 16 0 0 -", "Ok(Some(Import(16, 0, 0, [])))"),
@@ -34,13 +39,13 @@ fn commands_are_read(rt: HostRuntime) -> Result<(), Fail> {
         ("eq 1 2", "Ok(Some(Eq(1, 2)))"),
         ("   get   15  7 ", "Ok(Some(Get(15, 7)))"),
     ] {
-        assert_eq!(rt; asked(rt.alloc(), line.as_bytes())?.as_str(), want);
+        asks(&rt, rt.alloc(), line.as_bytes(), want)?;
     }
     Ok(())
 }
 
 #[test]
-fn commands_that_change_slots_are_read(rt: HostRuntime) -> Result<(), Fail> {
+fn commands_that_change_slots_are_read(rt: HostRuntime) -> Result<(), AllocError> {
     for (line, want) in [
         ("full 0 1 4", "Ok(Some(Full(0, true, 4)))"),
         ("set 1 7 0", "Ok(Some(Set(1, 7, false)))"),
@@ -78,25 +83,21 @@ fn commands_that_change_slots_are_read(rt: HostRuntime) -> Result<(), Fail> {
         ("andnot ref 6 6 7", "Ok(Some(Andnot(Ref, 6, 6, 7)))"),
         ("not own 8 8", "Ok(Some(Not(Own, 8, 8)))"),
     ] {
-        assert_eq!(rt; asked(rt.alloc(), line.as_bytes())?.as_str(), want);
+        asks(&rt, rt.alloc(), line.as_bytes(), want)?;
     }
     Ok(())
 }
 
 #[test]
-fn empty_lines_and_comments_are_skipped(rt: HostRuntime) -> Result<(), Fail> {
+fn empty_lines_and_comments_are_skipped(rt: HostRuntime) -> Result<(), AllocError> {
     for line in ["", "   ", "#", "# a", "  #len 0", "# \r\t\x00\x7f"] {
-        assert_eq!(rt;
-            asked(rt.alloc(), line.as_bytes())?.as_str(),
-            "Ok(None)",
-            "{line}"
-        );
+        asks(&rt, rt.alloc(), line.as_bytes(), "Ok(None)")?;
     }
     Ok(())
 }
 
 #[test]
-fn other_lines_cannot_be_read(rt: HostRuntime) -> Result<(), Fail> {
+fn other_lines_cannot_be_read(rt: HostRuntime) -> Result<(), AllocError> {
     for line in [
         "import 0 0 8 1",
         "import 0 0 8 1g",
@@ -156,17 +157,13 @@ fn other_lines_cannot_be_read(rt: HostRuntime) -> Result<(), Fail> {
         "take 0 4 - 9223372036854775808",
         "take 0 4 - -9223372036854775809",
     ] {
-        assert_eq!(rt;
-            asked(rt.alloc(), line.as_bytes())?.as_str(),
-            "Err(Unreadable)",
-            "{line}"
-        );
+        asks(&rt, rt.alloc(), line.as_bytes(), "Err(Unreadable)")?;
     }
     Ok(())
 }
 
 #[test]
-fn bytes_past_ascii_cannot_be_read(rt: HostRuntime) -> Result<(), Fail> {
+fn bytes_past_ascii_cannot_be_read(rt: HostRuntime) -> Result<(), AllocError> {
     for line in [
         b"\xff".as_slice(),
         b"# \xff".as_slice(),
@@ -174,7 +171,7 @@ fn bytes_past_ascii_cannot_be_read(rt: HostRuntime) -> Result<(), Fail> {
         b"len \xff".as_slice(),
         b"len 0 \x80".as_slice(),
     ] {
-        assert_eq!(rt; asked(rt.alloc(), line)?.as_str(), "Err(Unreadable)");
+        asks(&rt, rt.alloc(), line, "Err(Unreadable)")?;
     }
     Ok(())
 }

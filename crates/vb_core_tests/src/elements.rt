@@ -1,6 +1,7 @@
 //! Numbers as bytes, and back.
 ghost use Rattle.std.specs.Prelude.{◌≡◌, length};
 
+use crate::compared::{equal, equal_lists};
 use std::process::Abort;
 use vb_core::Element;
 
@@ -9,17 +10,16 @@ fn assert_form<T: Element + PartialEq>(rt: &impl Abort, value: T, bytes: &[u8], 
     requires bytes { length bytes.now ≡ T.SIZE }
     requires out { length out.old ≡ T.SIZE }
 {
-    assert_eq!(rt; T::SIZE, bytes.len());
-    assert_eq!(rt; T::ALIGN, bytes.len());
-    assert!(rt; value.is_value());
+    equal(rt, (T::SIZE, T::ALIGN), (bytes.len(), bytes.len()));
+    equal(rt, value.is_value(), true);
     value.put(out);
-    assert_eq!(rt; *out, *bytes);
+    equal_lists(rt, out, bytes);
     let read = T::get(bytes);
-    assert!(rt; read == value);
+    equal(rt, read == value, true);
     T::zero().put(out);
-    assert!(rt; out.iter().all(|byte| *byte == 0));
+    equal(rt, out.iter().all(|byte| *byte == 0), true);
     read.put(out);
-    assert_eq!(rt; *out, *bytes);
+    equal_lists(rt, out, bytes);
 }
 
 #[test]

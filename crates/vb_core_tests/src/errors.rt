@@ -1,4 +1,5 @@
 //! What refusals say.
+use crate::compared::equal;
 use std::alloc::{AllocError, AllocFailed};
 use vb_core::BufferError;
 
@@ -54,14 +55,14 @@ const TEXTS: [(BufferError, &str); 14] = [
 fn each_refusal_has_its_text(rt: HostRuntime) -> Result<(), AllocError> {
     for (error, text) in TEXTS {
         let shown = format!(in rt.alloc(); "{error}")?;
-        assert_eq!(rt; shown.as_str(), text);
+        equal(&rt, shown.as_str(), text);
     }
     Ok(())
 }
 
 #[test]
 fn refused_memory_becomes_out_of_memory(rt: HostRuntime) {
-    assert_eq!(rt; BufferError::from(AllocError), BufferError::OutOfMemory);
+    equal(&rt, BufferError::from(AllocError), BufferError::OutOfMemory);
     let failed = AllocFailed { value: 7u8 };
-    assert_eq!(rt; BufferError::from(failed), BufferError::OutOfMemory);
+    equal(&rt, BufferError::from(failed), BufferError::OutOfMemory);
 }

@@ -4,6 +4,8 @@
 #[cfg(test)]
 mod alignments;
 #[cfg(test)]
+mod compared;
+#[cfg(test)]
 mod elements;
 #[cfg(test)]
 mod errors;

@@ -1,6 +1,7 @@
 //! Iterators that know how many items they give.
 ghost use Rattle.std.specs.Prelude.{◌≡◌};
 
+use crate::compared::equal;
 use std::process::Abort;
 use vb_core::{TrustedLen, trusted_len};
 
@@ -33,9 +34,9 @@ fn ranges_count_down(rt: HostRuntime) {
 
 #[test]
 fn the_longest_ranges_have_their_number(rt: HostRuntime) {
-    assert_eq!(rt; (i8::MIN..i8::MAX).exact_len(), 255);
-    assert_eq!(rt; (i64::MIN..i64::MAX).exact_len(), usize::MAX);
-    assert_eq!(rt; (0..u64::MAX).exact_len(), usize::MAX);
+    equal(&rt, (i8::MIN..i8::MAX).exact_len(), 255);
+    equal(&rt, (i64::MIN..i64::MAX).exact_len(), usize::MAX);
+    equal(&rt, (0..u64::MAX).exact_len(), usize::MAX);
 }
 
 #[test]
@@ -44,12 +45,12 @@ fn slices_and_adapters_count_down(rt: HostRuntime) {
     assert_counts_down(&rt, tens.iter(), 3);
     assert_counts_down(&rt, trusted_len(tens.iter(), 3), 3);
     assert_counts_down(&rt, trusted_len(tens.iter().skip(1), 2), 2);
-    assert_eq!(rt; trusted_len(tens.iter(), 3).size_hint(), (3, Some(3)));
+    equal(&rt, trusted_len(tens.iter(), 3).size_hint(), (3, Some(3)));
 }
 
 #[test]
 #[tactic(auto, using(vb_core::specs::ExactCounts::unsigned_range_counts))]
 fn what_a_closure_makes_of_a_range_is_counted(rt: HostRuntime) {
     let halves = trusted_len((0..3usize).map(|number| number / 2), 3);
-    assert_eq!(rt; halves.exact_len(), 3);
+    equal(&rt, halves.exact_len(), 3);
 }

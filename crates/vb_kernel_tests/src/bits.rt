@@ -1,4 +1,5 @@
 //! Single bits and windows.
+use crate::compared::{equal, equal_at};
 use vb_kernel::{get_bit, get_bit_unchecked, set_bit_unchecked, unset_bit_unchecked, window_fits};
 
 #[test]
@@ -6,11 +7,16 @@ fn single_bits(rt: HostRuntime) {
     let mut bytes = [0u8, 0];
     set_bit_unchecked(&mut bytes, 3);
     set_bit_unchecked(&mut bytes, 15);
-    assert_eq!(rt; bytes, [0b0000_1000, 0b1000_0000]);
-    assert!(rt; get_bit(&bytes, 15) && get_bit_unchecked(&bytes, 3));
-    assert!(rt; !get_bit(&bytes, 14) && !get_bit_unchecked(&bytes, 4));
+    equal(&rt, bytes, [0b0000_1000, 0b1000_0000]);
+    equal(
+        &rt,
+        (get_bit(&bytes, 15), get_bit(&bytes, 14)),
+        (true, false),
+    );
+    let unchecked = (get_bit_unchecked(&bytes, 3), get_bit_unchecked(&bytes, 4));
+    equal(&rt, unchecked, (true, false));
     unset_bit_unchecked(&mut bytes, 3);
-    assert_eq!(rt; bytes, [0, 0b1000_0000]);
+    equal(&rt, bytes, [0, 0b1000_0000]);
 }
 
 #[test]
@@ -26,7 +32,7 @@ fn windows(rt: HostRuntime) {
         (1, usize::MAX, false),
     ];
     for (offset, len, fits) in rows {
-        assert_eq!(rt; window_fits(&[0], offset, len), fits, "at {offset}, {len}");
+        equal_at(&rt, window_fits(&[0], offset, len), fits, (offset, len));
     }
-    assert!(rt; window_fits(&[], 0, 0));
+    equal(&rt, window_fits(&[], 0, 0), true);
 }

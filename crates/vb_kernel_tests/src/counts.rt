@@ -1,4 +1,5 @@
 //! Counts, and the looks that they take.
+use crate::compared::{equal, equal_at};
 use crate::{plain, sample};
 use std::alloc::AllocError;
 use std::process::Abort;
@@ -8,18 +9,13 @@ fn count_is_plain(rt: &impl Abort, bytes: &[u8], offset: usize, len: usize) {
     let fits = window_fits(bytes, offset, len);
     assert!(rt; fits);
     let ones = count_ones(bytes, offset, len);
-    assert_eq!(rt;
-        ones,
-        plain::count_ones(bytes, offset, len),
-        "at {offset}, {len}"
-    );
+    let wanted = plain::count_ones(bytes, offset, len);
+    equal_at(rt, ones, wanted, (offset, len));
     let mut src = Tally::new(bytes);
-    assert_eq!(rt;
-        count_ones_by(&mut src, offset, len),
-        ones,
-        "at {offset}, {len}"
-    );
-    assert!(rt; src.looks() <= most_looks(len) as u64, "at {offset}, {len}");
+    let counted = count_ones_by(&mut src, offset, len);
+    equal_at(rt, counted, ones, (offset, len));
+    let is_within = src.looks() <= most_looks(len) as u64;
+    equal_at(rt, is_within, true, (offset, len));
 }
 
 #[test]
@@ -68,14 +64,9 @@ fn looks(rt: HostRuntime) -> Result<(), AllocError> {
         let fits = window_fits(&bytes, offset, len);
         assert!(rt; fits);
         let mut src = Tally::new(&bytes);
-        assert_eq!(rt;
-            count_ones_by(&mut src, offset, len),
-            len,
-            "at {offset}, {len}"
-        );
-        assert_eq!(rt; src.looks(), looks, "at {offset}, {len}");
+        let counted = count_ones_by(&mut src, offset, len);
+        equal_at(&rt, (counted, src.looks()), (len, looks), (offset, len));
     }
-    assert_eq!(rt; most_looks(506), 16);
-    assert_eq!(rt; most_looks(8000), 31);
+    equal(&rt, (most_looks(506), most_looks(8000)), (16, 31));
     Ok(())
 }

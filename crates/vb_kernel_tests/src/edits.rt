@@ -1,4 +1,5 @@
 //! Fills, negated, copied and combined windows, compared with single bits.
+use crate::compared::{equal, equal_at};
 use crate::sample;
 use std::alloc::AllocError;
 use std::process::Abort;
@@ -19,7 +20,7 @@ fn fill_is_plain(rt: &impl Abort, before: &[u8; 32], offset: usize, len: usize, 
         } else {
             get_bit(before, i)
         };
-        assert_eq!(rt; get_bit(&after, i), wanted, "at {offset}, {len}, {i}");
+        equal_at(rt, get_bit(&after, i), wanted, (offset, len, i));
     }
 }
 
@@ -31,7 +32,7 @@ fn map_is_plain(rt: &impl Abort, before: &[u8; 32], offset: usize, len: usize) {
     for i in 0..256 {
         let inside = offset <= i && i < end;
         let wanted = get_bit(before, i) != inside;
-        assert_eq!(rt; get_bit(&after, i), wanted, "at {offset}, {len}, {i}");
+        equal_at(rt, get_bit(&after, i), wanted, (offset, len, i));
     }
 }
 
@@ -81,11 +82,7 @@ fn combined_is_plain(rt: &impl Abort, left: &[u8; 32], how: Combined, (d, s, len
         } else {
             old
         };
-        assert_eq!(rt;
-            get_bit(&after, i),
-            wanted,
-            "{how:?} at {d}, {s}, {len}, {i}"
-        );
+        equal_at(rt, get_bit(&after, i), wanted, (how, (d, s, len), i));
     }
 }
 
@@ -115,22 +112,17 @@ fn edits_are_plain(rt: HostRuntime) -> Result<(), AllocError> {
 fn copy_within_two_bytes(rt: HostRuntime) {
     let mut bytes = [0xFF; 2];
     copy_bits(&mut bytes, 3, &[0; 2], 5, 7);
-    assert_eq!(rt; bytes, [0x07, 0xFC]);
+    equal(&rt, bytes, [0x07, 0xFC]);
 }
 
 #[test]
 fn fill_past_a_word(rt: HostRuntime) {
     let mut bytes = [0u8; 9];
+    let filled = [0xF8, 0xFF, 0xFF, 0xFF, 0xFF, 0xFF, 0xFF, 0xFF, 0x3F];
     fill_bits(&mut bytes, 3, 70, true);
-    assert_eq!(rt;
-        bytes,
-        [0xF8, 0xFF, 0xFF, 0xFF, 0xFF, 0xFF, 0xFF, 0xFF, 0x3F]
-    );
+    equal(&rt, bytes, filled);
     fill_bits(&mut bytes, 70, 3, false);
-    assert_eq!(rt;
-        bytes,
-        [0xF8, 0xFF, 0xFF, 0xFF, 0xFF, 0xFF, 0xFF, 0xFF, 0x3F]
-    );
+    equal(&rt, bytes, filled);
     fill_bits(&mut bytes, 0, 72, false);
-    assert_eq!(rt; bytes, [0; 9]);
+    equal(&rt, bytes, [0; 9]);
 }

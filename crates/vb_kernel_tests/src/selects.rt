@@ -1,4 +1,5 @@
 //! Selects, by every rank.
+use crate::compared::{equal, equal_at};
 use crate::{plain, sample};
 use std::alloc::AllocError;
 use std::process::Abort;
@@ -12,14 +13,11 @@ fn selects_are_plain(rt: &impl Abort, bytes: &[u8], offset: usize, len: usize) {
     assert!(rt; fits);
     for n in 0..=len {
         let set = bit_select(bytes, offset, len, n);
-        assert_eq!(rt;
-            set,
-            plain::bit_select(bytes, offset, len, n),
-            "at {offset}, {len}, {n}"
-        );
+        let wanted = plain::bit_select(bytes, offset, len, n);
+        equal_at(rt, set, wanted, (offset, len, n));
         let unset = bit_select_unset(bytes, offset, len, n);
         let wanted = plain::bit_select_unset(bytes, offset, len, n);
-        assert_eq!(rt; unset, wanted, "at {offset}, {len}, {n}");
+        equal_at(rt, unset, wanted, (offset, len, n));
     }
 }
 
@@ -52,24 +50,24 @@ fn selects_of_mixed_bytes(rt: HostRuntime) -> Result<(), AllocError> {
 #[test]
 fn selects_in_one_byte(rt: HostRuntime) {
     for (n, place) in [(0, Some(2)), (1, Some(4)), (2, None)] {
-        assert_eq!(rt; bit_select(&[0b0001_0100], 0, 8, n), place, "at {n}");
+        equal_at(&rt, bit_select(&[0b0001_0100], 0, 8, n), place, n);
     }
 }
 
 #[test]
 fn false_bits_end_with_the_window(rt: HostRuntime) {
     for n in 0..7 {
-        assert_eq!(rt; bit_select_unset(&[0, 0, 0], 3, 7, n), Some(n));
+        equal(&rt, bit_select_unset(&[0, 0, 0], 3, 7, n), Some(n));
     }
-    assert_eq!(rt; bit_select_unset(&[0, 0, 0], 3, 7, 7), None);
+    equal(&rt, bit_select_unset(&[0, 0, 0], 3, 7, 7), None);
 }
 
 #[test]
 fn true_bits_past_a_chunk(rt: HostRuntime) {
     let bytes = [0xFF; 65];
-    assert_eq!(rt; bit_select(&bytes, 0, 513, 512), Some(512));
-    assert_eq!(rt; bit_select(&bytes, 0, 513, 513), None);
-    assert_eq!(rt; count_ones_by(&mut Tally::new(&bytes), 0, 513), 513);
+    equal(&rt, bit_select(&bytes, 0, 513, 512), Some(512));
+    equal(&rt, bit_select(&bytes, 0, 513, 513), None);
+    equal(&rt, count_ones_by(&mut Tally::new(&bytes), 0, 513), 513);
 }
 
 #[test]
@@ -79,14 +77,9 @@ fn looks_of_selects(rt: HostRuntime) {
     for (n, looks) in rows {
         let mut src = Tally::new(&bytes);
         let set = bit_select_by(&mut src, 0, 520, n);
-        assert_eq!(rt; src.looks(), looks, "at {n}");
+        equal_at(&rt, (set.is_some(), src.looks()), (n < 260, looks), n);
         let mut src = Tally::new(&bytes);
         let unset = bit_select_unset_by(&mut src, 0, 520, n);
-        assert_eq!(rt; src.looks(), looks, "at {n}");
-        assert_eq!(rt;
-            (set.is_some(), unset.is_some()),
-            (n < 260, n < 260),
-            "at {n}"
-        );
+        equal_at(&rt, (unset.is_some(), src.looks()), (n < 260, looks), n);
     }
 }

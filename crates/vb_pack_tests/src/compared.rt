@@ -10,6 +10,11 @@ pub(crate) fn equal<T: Copy + PartialEq + Debug>(rt: &impl Abort, given: T, want
     assert_eq!(rt; given, wanted);
 }
 
+/// The two lists are equal.
+pub(crate) fn equal_lists<T: PartialEq + Debug>(rt: &impl Abort, given: &[T], wanted: &[T]) {
+    assert_eq!(rt; given, wanted);
+}
+
 /// The set has these bits, `1` for a true one.
 pub(crate) fn shows<A: Allocator + Clone>(rt: &impl Abort, set: &BitBuffer<A>, bits: &str) {
     equal(rt, set.len(), bits.len());

@@ -1,4 +1,5 @@
 //! Worked rows of the kernels.
+use crate::compared::equal;
 use vb_pack::{
     collect_bool_bytes, collect_bool_word, collect_bool_word_scalar, collect_bool_words,
     collect_bool_words_multiversioned, pack_bool_word_lanes, pack_bool_word_swar,
@@ -11,18 +12,18 @@ fn packs_of_thirds(rt: HostRuntime) {
     for i in 0..64 {
         bools[i] = i % 3 == 0;
     }
-    assert_eq!(rt; pack_bool_word_swar(&bools), 0x9249_2492_4924_9249);
-    assert_eq!(rt; pack_bool_word_lanes(&bools), 0x9249_2492_4924_9249);
+    equal(&rt, pack_bool_word_swar(&bools), 0x9249_2492_4924_9249);
+    equal(&rt, pack_bool_word_lanes(&bools), 0x9249_2492_4924_9249);
 }
 
 #[test]
 #[tactic(auto, using(vb_pack::proofs::AnswersLemmas::CanAsk_always))]
 fn words_of_even_places(rt: HostRuntime) {
-    assert_eq!(rt; collect_bool_word(5, &mut |i| i % 2 == 0), 21);
-    assert_eq!(rt; collect_bool_word(0, &mut |_| true), 0);
-    assert_eq!(rt; collect_bool_word(64, &mut |_| true), u64::MAX);
-    assert_eq!(rt; collect_bool_word_scalar(5, &mut |i| i % 2 == 0), 21);
-    assert_eq!(rt; collect_bool_word_scalar(64, &mut |_| true), u64::MAX);
+    equal(&rt, collect_bool_word(5, &mut |i| i % 2 == 0), 21);
+    equal(&rt, collect_bool_word(0, &mut |_| true), 0);
+    equal(&rt, collect_bool_word(64, &mut |_| true), u64::MAX);
+    equal(&rt, collect_bool_word_scalar(5, &mut |i| i % 2 == 0), 21);
+    equal(&rt, collect_bool_word_scalar(64, &mut |_| true), u64::MAX);
 }
 
 #[test]
@@ -30,10 +31,10 @@ fn words_of_even_places(rt: HostRuntime) {
 fn later_words_stay(rt: HostRuntime) {
     let mut words = [9u64; 3];
     collect_bool_words(&mut words, 65, &mut |_| true);
-    assert_eq!(rt; words, [u64::MAX, 1, 9]);
+    equal(&rt, words, [u64::MAX, 1, 9]);
     let mut words = [9u64; 3];
     collect_bool_words_multiversioned(&mut words, 65, &mut |_| true);
-    assert_eq!(rt; words, [u64::MAX, 1, 9]);
+    equal(&rt, words, [u64::MAX, 1, 9]);
 }
 
 #[test]
@@ -49,13 +50,14 @@ fn bytes_of_even_places(rt: HostRuntime) {
             i % 2 == 0
         },
     );
-    assert_eq!(rt;
+    equal(
+        &rt,
         bytes,
         [
-            0x55, 0x55, 0x55, 0x55, 0x55, 0x55, 0x55, 0x55, 0x55, 0x15, 0xFF
-        ]
+            0x55, 0x55, 0x55, 0x55, 0x55, 0x55, 0x55, 0x55, 0x55, 0x15, 0xFF,
+        ],
     );
-    assert_eq!(rt; asked, 77);
+    equal(&rt, asked, 77);
 }
 
 #[test]
@@ -63,5 +65,5 @@ fn bytes_of_even_places(rt: HostRuntime) {
 fn words_from_a_digit_on(rt: HostRuntime) {
     let mut words = [0b11111u64, 0];
     pack_bools_into_words(&mut words, 5, 70, &mut |_| true);
-    assert_eq!(rt; words, [u64::MAX, 2047]);
+    equal(&rt, words, [u64::MAX, 2047]);
 }

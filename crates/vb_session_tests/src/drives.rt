@@ -20,8 +20,10 @@ fn drive_is_plain(
     let mut sink = ToWrite::new(Vec::new(global));
     let ended = drive(Handle { inner: heap }, &mut source, &mut sink);
     let written = sink.into_inner();
-    let text = std::str::from_utf8(&written)?;
-    is_plain(rt, global, lines, heap.has_refused(), (ended, text))
+    let text = std::str::from_utf8(&written).expect(rt, "ASCII");
+    let compared = is_plain(rt, global, lines, heap.has_refused(), (ended, text));
+    drop(written);
+    compared
 }
 
 /// A session is plain whatever request, copies of the allocator among them, is refused. It makes so

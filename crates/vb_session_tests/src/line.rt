@@ -3,8 +3,12 @@ use crate::form::{Form, Kind, form_of};
 
 /// The word at a place of a line, or no text where there are fewer.
 pub(crate) fn word(text: &str, place: usize) -> &str {
-    let mut words = text.split(' ').filter(|word| !word.is_empty());
+    let mut words = text.split(' ').filter(has_letters);
     words.nth(place).unwrap_or("")
+}
+
+fn has_letters(word: &&str) -> bool {
+    !word.is_empty()
 }
 
 /// What a line is.
@@ -91,10 +95,12 @@ impl Call<'_> {
 
     /// The place of the slot that gives its list away before memory is asked.
     pub(crate) fn given(&self) -> Option<usize> {
-        match (self.name, word(self.text, 1)) {
-            ("freeze" | "thaw", _) => Some(1),
-            (_, "own") => Some(2),
-            _ => None,
+        if self.name == "freeze" || self.name == "thaw" {
+            return Some(1);
         }
+        if word(self.text, 1) == "own" {
+            return Some(2);
+        }
+        None
     }
 }

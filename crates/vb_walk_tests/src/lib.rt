@@ -2,6 +2,8 @@
 #![tactic(auto)]
 
 #[cfg(test)]
+mod compared;
+#[cfg(test)]
 mod sample;
 #[cfg(test)]
 mod views;

@@ -1,15 +1,11 @@
 //! Metadata, chunks and views.
+use crate::compared::equal;
 use crate::sample;
 use std::alloc::AllocError;
-use std::fmt::Debug;
 use std::process::Abort;
 use vb_core::TrustedLen;
 use vb_kernel::window_fits;
 use vb_view::{BitBufferMeta, BitBufferMutView, BitBufferView};
-
-fn equal<T: Copy + PartialEq + Debug>(rt: &impl Abort, given: T, wanted: T) {
-    assert_eq!(rt; given, wanted);
-}
 
 fn view<'a>(rt: &impl Abort, bytes: &'a [u8], offset: usize, len: usize) -> BitBufferView<'a> {
     let fits = window_fits(bytes, offset, len);

@@ -1,6 +1,7 @@
 //! Walks over windows, beside plain bit loops.
 ghost use Rattle.std.specs.Prelude.{◌<◌};
 
+use crate::compared::{equal, equal_at, equal_lists};
 use crate::sample;
 use std::alloc::{AllocError, Global};
 use std::process::Abort;
@@ -29,9 +30,9 @@ fn bits_are_plain(rt: &impl Abort, bytes: &[u8], offset: usize, len: usize) {
     let mut bits = BitIterator::new(bytes, offset, len);
     for i in 0..len {
         let bit = get_bit(bytes, offset + i);
-        assert_eq!(rt; bits.next(), Some(bit), "{i} at {offset}, {len}");
+        equal_at(rt, bits.next(), Some(bit), (i, offset, len));
     }
-    assert_eq!(rt; (bits.next(), bits.next()), (None, None));
+    equal(rt, (bits.next(), bits.next()), (None, None));
 }
 
 fn places_are_plain(rt: &impl Abort, bytes: &[u8], offset: usize, len: usize) {
@@ -43,17 +44,18 @@ fn places_are_plain(rt: &impl Abort, bytes: &[u8], offset: usize, len: usize) {
     for i in 0..len {
         let bit = get_bit(bytes, offset + i);
         let here = place.unwrap_or(len);
-        assert_eq!(rt; bit, i == here, "{i} at {offset}, {len}");
+        equal_at(rt, bit, i == here, (i, offset, len));
         if i == here {
             last = place;
             place = places.next();
         }
     }
-    assert_eq!(rt; (place, places.next()), (None, None));
-    assert_eq!(rt;
+    equal(rt, (place, places.next()), (None, None));
+    equal_at(
+        rt,
         last_set_index(bytes, offset, len),
         last,
-        "at {offset}, {len}"
+        (len, offset, len),
     );
 }
 
@@ -65,14 +67,14 @@ fn runs_are_plain(rt: &impl Abort, bytes: &[u8], offset: usize, len: usize) {
     for i in 0..len {
         let bit = get_bit(bytes, offset + i);
         let (start, end) = run.unwrap_or((len, len));
-        assert_eq!(rt; bit, start <= i && i < end, "{i} at {offset}, {len}");
+        equal_at(rt, bit, start <= i && i < end, (i, offset, len));
         if i == end {
             run = runs.next();
         }
     }
     let (_start, end) = run.unwrap_or((len, len));
-    assert_eq!(rt; end, len, "at {offset}, {len}");
-    assert_eq!(rt; (runs.next(), runs.next()), (None, None));
+    equal_at(rt, end, len, (len, offset, len));
+    equal(rt, (runs.next(), runs.next()), (None, None));
 }
 
 fn walks_are_plain(rt: &impl Abort, bytes: &[u8], offset: usize, len: usize) {
@@ -112,22 +114,17 @@ fn bits_from_both_ends(rt: HostRuntime) -> Result<(), AllocError> {
         assert!(rt; fits);
         let mut bits = BitIterator::new(&bytes, offset, len);
         for i in 0..len {
-            assert_eq!(rt; (bits.len(), bits.exact_len()), (len - i, len - i));
+            equal(&rt, (bits.len(), bits.exact_len()), (len - i, len - i));
             let (given, place) = if i % 2 == 0 {
                 (bits.next(), i / 2)
             } else {
                 (bits.next_back(), len - 1 - i / 2)
             };
-            assert_eq!(rt;
-                given,
-                Some(get_bit(&bytes, offset + place)),
-                "at {offset}, {len}"
-            );
+            let bit = get_bit(&bytes, offset + place);
+            equal_at(&rt, given, Some(bit), (i, offset, len));
         }
-        assert_eq!(rt;
-            (bits.next(), bits.next_back(), bits.len()),
-            (None, None, 0)
-        );
+        let ends = (bits.next(), bits.next_back(), bits.len());
+        equal(&rt, ends, (None, None, 0));
     }
     Ok(())
 }
@@ -136,13 +133,14 @@ fn bits_from_both_ends(rt: HostRuntime) -> Result<(), AllocError> {
 #[test]
 fn worked_rows(rt: HostRuntime) -> Result<(), AllocError> {
     let places = BitIndexIterator::new(&[0x76], 0, 7).collect::<Vec<usize>>(rt.alloc())?;
-    assert_eq!(rt; places.as_slice(), [1, 2, 4, 5, 6].as_slice());
+    equal_lists(&rt, places.as_slice(), &[1, 2, 4, 5, 6]);
+    drop(places);
     let mut runs = BitSliceIterator::new(&[0x76], 0, 7);
-    assert_eq!(rt; runs.next(), Some((1, 3)));
-    assert_eq!(rt; runs.clone()?.next(), Some((4, 7)));
-    assert_eq!(rt; (runs.next(), runs.next()), (Some((4, 7)), None));
+    equal(&rt, runs.next(), Some((1, 3)));
+    equal(&rt, runs.clone()?.next(), Some((4, 7)));
+    equal(&rt, (runs.next(), runs.next()), (Some((4, 7)), None));
     let mut full = BitSliceIterator::new(&[0xFF; 17], 0, 130);
-    assert_eq!(rt; (full.next(), full.next()), (Some((0, 130)), None));
-    assert_eq!(rt; BitSliceIterator::new(&[], 0, 0).next(), None);
+    equal(&rt, (full.next(), full.next()), (Some((0, 130)), None));
+    equal(&rt, BitSliceIterator::new(&[], 0, 0).next(), None);
     Ok(())
 }

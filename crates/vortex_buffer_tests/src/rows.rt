@@ -34,18 +34,20 @@ fn an_alignment_of_a_type_is_tested(rt: HostRuntime) -> Result<(), Fail> {
 }
 
 #[test]
-fn a_text_is_its_bytes(rt: HostRuntime) -> Result<(), Fail> {
-    let hello = BufferString::from_str(rt.alloc(), "hello")?;
+fn a_text_is_its_bytes(rt: HostRuntime) {
+    let hello = BufferString::from_str(rt.alloc(), "hello").expect(&rt, "memory");
     equal(
         &rt,
         (hello.inner().len(), hello.inner().alignment().as_usize()),
         (5, 1),
     );
     equal(&rt, hello.as_str(), "hello");
-    let world = BufferString::try_from_buffer(Buffer::copy_from(rt.alloc(), b"world")?)?;
+    let bytes = Buffer::copy_from(rt.alloc(), b"world").expect(&rt, "memory");
+    let world = BufferString::try_from_buffer(bytes).expect(&rt, "a text");
     equal(&rt, (hello == world, hello < world), (false, true));
-    equal(&rt, BufferString::empty(rt.alloc()) < hello, true);
-    Ok(())
+    let empty = BufferString::empty(rt.alloc());
+    equal(&rt, empty < hello, true);
+    drop((hello, world, empty));
 }
 
 /// A body that asks for memory before it looks at the text fails here.
