@@ -1,5 +1,5 @@
-//! Comparisons of what is given with what is wanted. Each is proved once here, where `assert_eq!` is
-//! proved again, with all that it prints, wherever it stands.
+//! Comparisons of what is given with what is wanted. Each is proved once here, where `assert_eq!`
+//! is proved again, with all that it prints, wherever it stands.
 use std::fmt::Debug;
 use std::process::Abort;
 

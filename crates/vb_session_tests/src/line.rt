@@ -3,11 +3,11 @@ use crate::form::{Form, Kind, form_of};
 
 /// The word at a place of a line, or no text where there are fewer.
 pub(crate) fn word(text: &str, place: usize) -> &str {
-    let mut words = text.split(' ').filter(has_letters);
+    let mut words = text.split(' ').filter(is_not_empty);
     words.nth(place).unwrap_or("")
 }
 
-fn has_letters(word: &&str) -> bool {
+fn is_not_empty(word: &&str) -> bool {
     !word.is_empty()
 }
 

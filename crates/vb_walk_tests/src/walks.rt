@@ -51,12 +51,7 @@ fn places_are_plain(rt: &impl Abort, bytes: &[u8], offset: usize, len: usize) {
         }
     }
     equal(rt, (place, places.next()), (None, None));
-    equal_at(
-        rt,
-        last_set_index(bytes, offset, len),
-        last,
-        (len, offset, len),
-    );
+    equal_at(rt, last_set_index(bytes, offset, len), last, (offset, len));
 }
 
 fn runs_are_plain(rt: &impl Abort, bytes: &[u8], offset: usize, len: usize) {
@@ -73,7 +68,7 @@ fn runs_are_plain(rt: &impl Abort, bytes: &[u8], offset: usize, len: usize) {
         }
     }
     let (_start, end) = run.unwrap_or((len, len));
-    equal_at(rt, end, len, (len, offset, len));
+    equal_at(rt, end, len, (offset, len));
     equal(rt, (runs.next(), runs.next()), (None, None));
 }
 
