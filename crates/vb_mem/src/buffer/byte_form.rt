@@ -27,8 +27,10 @@ impl<T: Element, A: Allocator + Clone> Buffer<T, A> {
         ensures { MakesBytes (length self.list * T.SIZE)
             (ShowsMade (byteform T.form self.list) self.exponent) result }
     {
-        let bytes = bytes_of(&self.alloc, self.as_slice())?;
-        BufferMut::of_made(bytes, self.alignment()).freeze()
+        let alignment = self.alignment();
+        let bytes = bytes_of(&self.alloc, self.as_slice());
+        drop(self);
+        BufferMut::of_made(bytes?, alignment).freeze()
     }
 
     /// The bytes of the items as `Bytes`, copied. Refused with `TooManyBytes` where their number
@@ -37,8 +39,9 @@ impl<T: Element, A: Allocator + Clone> Buffer<T, A> {
         ensures { MakesBytes (length self.list * T.SIZE)
             (λ bytes. bytes ≡ byteform T.form self.list) result }
     {
-        let bytes = bytes_of(&self.alloc, self.as_slice())?;
-        Ok(Bytes::from_vec(bytes)?)
+        let bytes = bytes_of(&self.alloc, self.as_slice());
+        drop(self);
+        Ok(Bytes::from_vec(bytes?)?)
     }
 
     /// The items whose bytes a buffer has, of the alignment of an item, copied. Refused with
@@ -58,8 +61,9 @@ impl<T: Element, A: Allocator + Clone> Buffer<T, A> {
         ensures { ReadsBytes (length bytes.list) T.SIZE
             (ShowsRead T.form T.is_in_type bytes.list alignment) result }
     {
-        let items = items_of(&bytes.alloc, bytes.as_slice())?;
-        BufferMut::of_made(items, alignment).freeze()
+        let items = items_of(&bytes.alloc, bytes.as_slice());
+        drop(bytes);
+        BufferMut::of_made(items?, alignment).freeze()
     }
 
     /// The items whose bytes `Bytes` has, of the alignment of an item, copied. Refused as

@@ -12,6 +12,7 @@ use crate::Result;
 use crate::buffer_mut::BufferMut;
 use crate::content::Content;
 use std::alloc::Allocator;
+use std::mem;
 use std::rc::Rc;
 use vb_core::{Alignment, BufferError, Element};
 
@@ -54,6 +55,7 @@ impl<T: Element, A: Allocator> Buffer<T, A> {
             IsErrOf result BufferError.NotAligned }
     {
         if !self.is_aligned(alignment) {
+            drop(self);
             return Err(BufferError::NotAligned);
         }
         let mut buffer = self;
@@ -69,11 +71,11 @@ impl<T: Element, A: Allocator + Clone> Buffer<T, A> {
     pub fn clone(&self) -> Result<Self>
         ensures { Makes (λ b. b ≡ self.now) result }
     {
+        let alloc = self.alloc.clone()?;
         let content = match &self.content {
             Content::Nothing(alignment) => Content::Nothing(*alignment),
             Content::Stored(storage, window) => Content::Stored(storage.clone()?, *window),
         };
-        let alloc = self.alloc.clone()?;
         Ok(Buffer { content, alloc })
     }
 
@@ -94,8 +96,9 @@ impl<T: Element, A: Allocator + Clone> Buffer<T, A> {
         match self.try_into_mut() {
             Ok(growing) => Ok(growing),
             Err(shared) => {
-                let alloc = shared.alloc.clone()?;
-                BufferMut::copy_from_aligned(alloc, shared.as_slice(), shared.alignment())
+                let copy = shared.copy(shared.alignment());
+                drop(shared);
+                copy
             }
         }
     }
@@ -115,8 +118,9 @@ impl<T: Element, A: Allocator + Clone> Buffer<T, A> {
         if self.is_aligned(alignment) {
             return self.ensure_aligned(alignment);
         }
-        let alloc = self.alloc.clone()?;
-        BufferMut::copy_from_aligned(alloc, self.as_slice(), alignment)?.freeze()
+        let copy = self.copy(alignment);
+        drop(self);
+        copy?.freeze()
     }
 
     /// The items, to be written; all other owners keep theirs. A lone owner's items stay in their
@@ -135,8 +139,17 @@ impl<T: Element, A: Allocator + Clone> Buffer<T, A> {
             return self.content.whole_mut();
         }
         let alloc = self.alloc.clone()?;
-        let copy = BufferMut::copy_from_aligned(alloc, self.as_slice(), self.alignment())?;
-        self.content = Content::Stored(Rc::new(self.alloc.clone()?, copy)?, None);
+        let storage = Rc::new(alloc, self.copy(self.alignment())?)?;
+        drop(mem::replace(&mut self.content, Content::Stored(storage, None)));
         self.content.whole_mut()
+    }
+
+    /// The items with an alignment that is at least that of an item, in a copy that is
+    /// over-aligned to 256 bytes. Refused with `OutOfMemory`.
+    fn copy(&self, alignment: Alignment) -> Result<BufferMut<T, A>>
+        requires { T.align_exponent ≤ alignment }
+        ensures { Makes (HoldsMade self.now.list alignment) result }
+    {
+        BufferMut::copy_from_aligned(self.alloc.clone()?, self.as_slice(), alignment)
     }
 }

@@ -30,8 +30,16 @@ impl<T: Element, A: Allocator + Clone> BufferMut<T, A> {
     pub fn clone(&self) -> Result<Self>
         ensures { Makes (HoldsMade self.now.list self.now.exponent) result }
     {
-        let alloc = self.items.allocator().clone()?;
-        BufferMut::copy_from_aligned(alloc, self.as_slice(), self.alignment)
+        self.copy(self.alignment)
+    }
+
+    /// A copy with an alignment that is at least that of an item, over-aligned to 256 bytes.
+    /// Refused with `OutOfMemory`.
+    fn copy(&self, alignment: Alignment) -> Result<Self>
+        requires { T.align_exponent ≤ alignment }
+        ensures { Makes (HoldsMade self.now.list alignment) result }
+    {
+        BufferMut::copy_from_aligned(self.items.allocator().clone()?, self.as_slice(), alignment)
     }
 
     /// The same items with another alignment, which is at least that of an item. An empty buffer,
@@ -50,8 +58,9 @@ impl<T: Element, A: Allocator + Clone> BufferMut<T, A> {
         ensures refused { IsOkUnless result BufferError.OutOfMemory }
     {
         if !self.items.is_empty() && self.declared < alignment {
-            let alloc = self.items.allocator().clone()?;
-            return BufferMut::copy_from_aligned(alloc, self.as_slice(), alignment);
+            let copy = self.copy(alignment);
+            drop(self);
+            return copy;
         }
         let mut buffer = self;
         buffer.alignment = alignment;
@@ -73,7 +82,9 @@ impl<T: Element, A: Allocator + Clone> BufferMut<T, A> {
         ensures { MakesBytes (length self.list * T.SIZE)
             (HoldsMade (byteform T.form self.list) self.exponent) result }
     {
-        let bytes = bytes_of(self.items.allocator(), self.as_slice())?;
-        Ok(BufferMut::of_made(bytes, self.alignment))
+        let alignment = self.alignment;
+        let bytes = bytes_of(self.items.allocator(), self.as_slice());
+        drop(self);
+        Ok(BufferMut::of_made(bytes?, alignment))
     }
 }
