@@ -43,7 +43,10 @@ impl<A: Allocator + Clone> BitBuffer<A> {
     fn into_combined(self, right: &Self, op: BitOp) -> Result<Self, BufferError>
         ensures { GivesCombined op self right.now result }
     {
-        self.compare_len(right)?;
+        if let Err(why) = self.compare_len(right) {
+            drop(self);
+            return Err(why);
+        }
         self.combine(right, op)
     }
 
@@ -136,7 +139,9 @@ impl<A: Allocator + Clone> BitAnd<BitBuffer<A>> for BitBuffer<A> {
     ghost bitand_gives = { GivesCombined And };
 
     fn bitand(self, rhs: BitBuffer<A>) -> Result<BitBuffer<A>, BufferError> {
-        self.into_combined(&rhs, BitOp::And)
+        let set = self.into_combined(&rhs, BitOp::And);
+        drop(rhs);
+        set
     }
 }
 
@@ -167,7 +172,9 @@ impl<A: Allocator + Clone> BitAnd<BitBuffer<A>> for &BitBuffer<A> {
     ghost bitand_gives = { λ l r s. GivesCombined And l.now r s };
 
     fn bitand(self, rhs: BitBuffer<A>) -> Result<BitBuffer<A>, BufferError> {
-        self.combined(&rhs, BitOp::And)
+        let set = self.combined(&rhs, BitOp::And);
+        drop(rhs);
+        set
     }
 }
 
@@ -198,7 +205,9 @@ impl<A: Allocator + Clone> BitOr<BitBuffer<A>> for BitBuffer<A> {
     ghost bitor_gives = { GivesCombined Or };
 
     fn bitor(self, rhs: BitBuffer<A>) -> Result<BitBuffer<A>, BufferError> {
-        self.into_combined(&rhs, BitOp::Or)
+        let set = self.into_combined(&rhs, BitOp::Or);
+        drop(rhs);
+        set
     }
 }
 
