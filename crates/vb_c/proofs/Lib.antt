@@ -1,1 +1,2 @@
 pub mod FillsLemmas
+pub mod IntoLemmas

@@ -4,7 +4,7 @@ ghost use Rattle.vb_c.specs.Fits.{Checks, InBytes};
 ghost use Rattle.vb_kernel.specs.Bits.{bits};
 
 /// Whether the `len` bits of `left` from bit `l` on are those of `right` from bit `r` on. No block
-/// of 2,048 bytes behind the first difference is read.
+/// of 512 bytes behind the first difference is read.
 #[unsafe(no_mangle)]
 pub extern "C" fn vb_equal_bits(left: &[u8], l: usize, right: &[u8], r: usize, len: usize) -> bool
     requires left_inside { l + len ≤ 8 * length left.now }

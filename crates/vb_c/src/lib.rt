@@ -15,6 +15,7 @@ mod bit;
 mod combine;
 mod count;
 mod equal;
+mod into;
 mod pack;
 mod place;
 mod rank;
@@ -30,6 +31,10 @@ pub use combine::{
 };
 pub use count::{vb_count_ones, vb_try_count_ones};
 pub use equal::{vb_equal_bits, vb_try_equal_bits};
+pub use into::{
+    vb_and_into, vb_and_not_into, vb_or_into, vb_try_and_into, vb_try_and_not_into, vb_try_or_into,
+    vb_try_xor_into, vb_xor_into,
+};
 pub use pack::{vb_pack_bools, vb_pack_truthy, vb_try_pack_bools, vb_try_pack_truthy};
 pub use place::Place;
 pub use rank::{
