@@ -6,9 +6,12 @@ pub use Rattle.vb_bit_bytes.specs.Given
 pub use Rattle.vb_bits.specs.Kept
 pub use Rattle.vb_bytes.specs.ByteForm
 pub use Rattle.vb_core.specs.Alignments
+pub use Rattle.vb_core.specs.ElementLaws
 pub use Rattle.vb_core.specs.Elements
+pub use Rattle.vb_core.specs.ExactCounts
 pub use Rattle.vb_core.specs.Indices
 pub use Rattle.vb_core.specs.Lengths
+pub use Rattle.vb_core.specs.LittleEndian
 pub use Rattle.vb_kernel.specs.Bits
 pub use Rattle.vb_kernel.specs.Digits
 pub use Rattle.vb_kernel.specs.Edits

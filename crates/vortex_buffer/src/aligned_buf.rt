@@ -19,6 +19,9 @@ pub trait AlignedBuf {
     // Whether as many bytes, of which there are enough, can be passed over.
     ghost is_step: { Self → ℕ → Type 0 };
 
+    // Whether the second value is what passing over as many bytes makes of the first.
+    ghost is_past: { Self → ℕ → Self → Type 0 };
+
     /// The number of bytes that are left.
     fn remaining(&self) -> usize
         ensures { result ≡ length (unread self.now) };
@@ -32,16 +35,19 @@ pub trait AlignedBuf {
     fn can_advance(&self, n: usize) -> bool
         ensures { IsTrue result ↔ ((n ≤ length (unread self.now)) × is_step self.now n) };
 
-    /// Passes over `n` bytes, for which [`AlignedBuf::can_advance`] holds. It takes no memory.
+    /// Passes over `n` bytes, for which [`AlignedBuf::can_advance`] holds. It takes no memory. A
+    /// [`ByteBuffer`] keeps its alignment and its storage.
     fn advance(&mut self, n: usize)
         requires in_bounds { n ≤ length (unread self.old) }
         requires is_step { is_step self.old n }
         ensures rest { unread self.new ≡ drop n (unread self.old) }
-        ensures keeps { (m : ℕ) → is_step self.old m → is_step self.new m };
+        ensures keeps { (m : ℕ) → is_step self.old m → is_step self.new m }
+        ensures part { is_past self.old n self.new };
 
     /// A copy of the next `len` bytes, for which [`AlignedBuf::can_advance`] holds, with an
-    /// alignment, over-aligned to 256 bytes; they are passed over. Refused with `OutOfMemory`, and
-    /// then no byte is passed over.
+    /// alignment, over-aligned to 256 bytes; they are passed over, as [`AlignedBuf::advance`] does.
+    /// The copy stands in memory of the allocator that is handed in, and grows from it. Refused
+    /// with `OutOfMemory`, and then no byte is passed over.
     fn copy_to_aligned<A: Allocator + Clone>(
         &mut self,
         alloc: A,
@@ -53,6 +59,7 @@ pub trait AlignedBuf {
         ensures copy { Makes (ShowsMade (take len (unread self.old)) alignment) result }
         ensures rest { OnOk result (unread self.new ≡ drop len (unread self.old)) }
         ensures keeps { (m : ℕ) → is_step self.old m → is_step self.new m }
+        ensures part { OnOk result (is_past self.old len self.new) }
         ensures err { OnErr result (self.new ≡ self.old) }
     {
         let copy = Buffer::copy_from_aligned(alloc, &self.chunk()[..len], alignment)?;
@@ -65,6 +72,8 @@ impl AlignedBuf for &[u8] {
     ghost unread = { λ bytes. bytes.now };
 
     ghost is_step = { λ _ _. Unit {0} };
+
+    ghost is_past = { λ bytes n rest. rest.now ≡ drop n bytes.now };
 
     fn remaining(&self) -> usize {
         self.len()
@@ -89,6 +98,9 @@ impl<A: Allocator> AlignedBuf for Buffer<u8, A> {
 
     ghost is_step = { λ bytes n. n % 2 ^ bytes.exponent ≡ 0 };
 
+    ghost is_past = { λ bytes n rest.
+        ShowsPart 1 bytes n (length bytes.list) bytes.exponent rest };
+
     fn remaining(&self) -> usize {
         self.len()
     }
@@ -101,20 +113,14 @@ impl<A: Allocator> AlignedBuf for Buffer<u8, A> {
         n <= self.len() && self.alignment().is_offset_aligned(n)
     }
 
-    fn advance(&mut self, n: usize)
-        requires in_bounds { n ≤ length self.old.list }
-        requires is_step { n % 2 ^ self.old.exponent ≡ 0 }
-        ensures rest { self.new.list ≡ drop n self.old.list }
-        ensures keeps { (m : ℕ) → m % 2 ^ self.old.exponent ≡ 0 → m % 2 ^ self.new.exponent ≡ 0 }
-        ensures part { ShowsPart 1 self.old n (length self.old.list) self.old.exponent self.new }
-    {
+    fn advance(&mut self, n: usize) {
         self.narrow(n..self.len());
     }
 }
 
 /// A copy of the next `len` bytes, for which [`AlignedBuf::can_advance`] holds, aligned to `N`
-/// bytes, which are a power of two; they are passed over. Refused as
-/// [`AlignedBuf::copy_to_aligned`] is.
+/// bytes, which are a power of two, over-aligned to 256 bytes; they are passed over. Refused with
+/// `OutOfMemory`, and then no byte is passed over.
 pub fn copy_to_const_aligned<const N: usize, B: AlignedBuf, A: Allocator + Clone>(
     buf: &mut B,
     alloc: A,
@@ -126,6 +132,7 @@ pub fn copy_to_const_aligned<const N: usize, B: AlignedBuf, A: Allocator + Clone
     ensures copy { Makes (ShowsFixed (take len (B.unread buf.old)) N) result }
     ensures rest { OnOk result (B.unread buf.new ≡ drop len (B.unread buf.old)) }
     ensures keeps { (m : ℕ) → B.is_step buf.old m → B.is_step buf.new m }
+    ensures part { OnOk result (B.is_past buf.old len buf.new) }
     ensures err { OnErr result (buf.new ≡ buf.old) }
 {
     let alignment = ConstBuffer::<u8, N, A>::alignment();

@@ -5,15 +5,15 @@ ghost use Rattle.vb_mem.specs.SharedBuffer.{Shows, ShowsMade};
 ghost use Rattle.vortex_buffer.specs.Text.{IsNoText};
 
 use simdutf8::compat::from_utf8;
-use std::alloc::{Allocator, Global};
+use std::alloc::{AllocError, Allocator, Global};
 use std::marker::Model;
 use vb_core::BufferError;
 use vb_mem::{Buffer, ByteBuffer, Result};
 
 /// A buffer of bytes that are UTF-8.
 ///
-/// Contracts see it as its buffer, [`BufferString::inner`]. Equality, order and hash are those of
-/// the bytes.
+/// Contracts see it as its buffer, [`BufferString::inner`]. Equality, order and hash are that
+/// buffer's; `Debug` is the text's.
 #[derive(Drop)]
 pub struct BufferString<A: Allocator = Global> {
     bytes: ByteBuffer<A>,
@@ -49,7 +49,7 @@ impl<A: Allocator> BufferString<A> {
         }
     }
 
-    /// The text of bytes. It takes no memory. Refused with `NotUtf8` exactly where they aren't
+    /// The text of bytes, in their storage. It takes no memory. Refused with `NotUtf8` exactly where they aren't
     /// UTF-8; the buffer is gone then.
     pub fn try_from_buffer(bytes: ByteBuffer<A>) -> Result<Self>
         ensures ok { IfOk result (λ text. (text ≡ bytes) × IsUtf8 bytes.list) }
@@ -93,8 +93,11 @@ impl<A: Allocator + Clone> BufferString<A> {
         Ok(BufferString { bytes })
     }
 
-    /// A text, of alignment 1, with which its storage is declared. Refused with `OutOfMemory`; the
-    /// text is gone then.
+    /// A text, of alignment 1, with which its storage is declared: nothing is copied, and nothing
+    /// is over-aligned. What has to be asked now is asked of `alloc`, and so is what copies and
+    /// further owners ask; the storage itself grows from the allocator of `text`, once it is moved
+    /// out by [`BufferString::into_inner`] and `into_mut`. Refused with `OutOfMemory`; the text is
+    /// gone then.
     pub fn from_string(alloc: A, text: String<A>) -> Result<Self>
         ensures { Makes (Shows (string_bytes text) 0 0 0) result }
     {
@@ -113,14 +116,23 @@ impl<A: Allocator + Clone> BufferString<A> {
         BufferString::from_str(alloc, tested(bytes)?)
     }
 
-    /// One more owner of the same text, in constant time. Refused with `OutOfMemory` where a copy
-    /// of the allocator finds no memory.
+    /// One more owner of the same text, in constant time and without memory for the storage.
+    /// Refused with `OutOfMemory` where a copy of the allocator finds no memory.
     pub fn clone(&self) -> Result<Self>
         ensures { Makes (λ text. text ≡ self.now) result }
     {
         Ok(BufferString {
             bytes: self.bytes.clone()?,
         })
+    }
+}
+
+impl<A: Allocator + Clone> Clone for BufferString<A> {
+    ghost is_clone = { λ text copy. copy ≡ text };
+
+    /// [`BufferString::clone`], for code that is generic over std's `Clone`.
+    fn clone(&self) -> std::result::Result<Self, AllocError> {
+        BufferString::clone(self).map_err(|_| AllocError)
     }
 }
 

@@ -1,5 +1,5 @@
-//! Equality, order and hash of the buffers of this crate: those of their lists. Alignments don't
-//! count.
+//! Equality, order and hash of the buffers of this crate, which are their buffer's, and their text
+//! for programmers. Alignments don't count.
 ghost use Rattle.std.specs.Prelude.{Some, nat_eq, refl};
 ghost use Rattle.std.specs.Ordering.{nat_cmp};
 ghost use Rattle.std.specs.Cmp.{on_per, on_equiv, on_po, on_total, partial_equiv_from_equiv};
@@ -16,6 +16,7 @@ use crate::buffer_string::BufferString;
 use crate::const_buffer::ConstBuffer;
 use std::alloc::Allocator;
 use std::cmp::Ordering;
+use std::fmt::{self, Debug};
 use std::hash::{Hash, Hasher};
 use vb_core::Element;
 
@@ -93,11 +94,23 @@ impl<A: Allocator> Ord for BufferString<A> {
 }
 
 impl<A: Allocator> Hash for BufferString<A> {
-    ghost hash_input = { λ b. fed.str b.list };
+    ghost hash_input = { λ b. fed.slice fed.u8 b.list };
 
     ghost respects_eq = { Prim.search (hashing, rules) };
 
     fn hash<H: Hasher>(&self, state: &mut H) {
-        self.as_str().hash(state);
+        self.inner().hash(state);
+    }
+}
+
+impl<T: Element + Debug, const N: usize, A: Allocator> Debug for ConstBuffer<T, N, A> {
+    fn fmt<W: fmt::Write>(&self, f: &mut fmt::Formatter<W>) -> fmt::Result {
+        Debug::fmt(&self.as_slice(), f)
+    }
+}
+
+impl<A: Allocator> Debug for BufferString<A> {
+    fn fmt<W: fmt::Write>(&self, f: &mut fmt::Formatter<W>) -> fmt::Result {
+        Debug::fmt(&self.as_str(), f)
     }
 }

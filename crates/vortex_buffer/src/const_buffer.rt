@@ -6,15 +6,15 @@ ghost use Rattle.vb_mem.specs.Answers.{Makes};
 ghost use Rattle.vb_mem.specs.SharedBuffer.{IsAlignedTo, Shows, ShowsMade};
 ghost use Rattle.vortex_buffer.specs.Fixed.{HasAlignment, OfBytes, ShowsFixed};
 
-use std::alloc::{Allocator, Global};
+use std::alloc::{AllocError, Allocator, Global};
 use std::marker::Model;
 use vb_core::{Alignment, BufferError, Element};
 use vb_mem::{Buffer, Result};
 
 /// A buffer that is aligned to `N` bytes, and reports `N` or a multiple of it.
 ///
-/// Contracts see it as its buffer, [`ConstBuffer::inner`]. Equality, order and hash are those of
-/// the list.
+/// Contracts see it as its buffer, [`ConstBuffer::inner`]. Equality, order, hash and `Debug` are
+/// that buffer's.
 #[derive(Drop)]
 pub struct ConstBuffer<T: Element, const N: usize, A: Allocator = Global> {
     buffer: Buffer<T, A>,
@@ -129,13 +129,22 @@ impl<T: Element, const N: usize, A: Allocator + Clone> ConstBuffer<T, N, A> {
         Ok(ConstBuffer::of(buffer))
     }
 
-    /// One more owner of the same items, in constant time. Refused with `OutOfMemory` where a copy
-    /// of the allocator finds no memory.
+    /// One more owner of the same items, in constant time and without memory for the storage.
+    /// Refused with `OutOfMemory` where a copy of the allocator finds no memory.
     pub fn clone(&self) -> Result<Self>
         ensures { Makes (λ fixed. fixed ≡ self.now) result }
     {
         Ok(ConstBuffer {
             buffer: self.buffer.clone()?,
         })
+    }
+}
+
+impl<T: Element, const N: usize, A: Allocator + Clone> Clone for ConstBuffer<T, N, A> {
+    ghost is_clone = { λ fixed copy. copy ≡ fixed };
+
+    /// [`ConstBuffer::clone`], for code that is generic over std's `Clone`.
+    fn clone(&self) -> std::result::Result<Self, AllocError> {
+        ConstBuffer::clone(self).map_err(|_| AllocError)
     }
 }

@@ -14,6 +14,7 @@ mod const_buffer;
 pub use aligned_buf::{AlignedBuf, copy_to_const_aligned};
 pub use buffer_string::BufferString;
 pub use const_buffer::{ConstBuffer, ConstByteBuffer};
+pub use ghost_count::GhostCount;
 pub use vb_core::{
     Alignment, BitIndex, BufferError, Element, ExtendError, TrustedLen, TrustedLenAdapter,
     trusted_len,
