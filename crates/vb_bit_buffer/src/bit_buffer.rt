@@ -86,8 +86,8 @@ impl<A: Allocator + Clone> BitBuffer<A> {
         &self.buffer
     }
 
-    /// The offset, the length in bits, and the byte buffer, of which the bits were a window. Its
-    /// alignment is 1.
+    /// The offset, the length in bits, and the byte buffer, of which the bits were a window, in
+    /// constant time; no memory is taken. Its alignment is 1.
     pub fn into_inner(self) -> (usize, usize, ByteBuffer<A>)
         ensures offset { result.0 ≡ self.offset }
         ensures len { result.1 ≡ length self.bits }

@@ -1,35 +1,72 @@
 //! Bytes made of places.
-ghost use Rattle.std.specs.Prelude.{◌≡◌, false, length, replicate, IfOk, IfErr, OnOk};
+ghost use Rattle.std.specs.Prelude.{◌≡◌, false, length, replicate, IfOk, IfErr};
 ghost use Rattle.std.specs.Int.{div_ceil};
+ghost use Rattle.std.specs.Iterator.{IsFiniteIterable};
 ghost use Rattle.vb_bits.specs.Bits.{bits};
+ghost use Rattle.vb_mem.specs.Collected.{OfItems};
 ghost use Rattle.vb_take.specs.Takes.{with_true, AllBelow, IndexRefused};
 
 use crate::make::full;
 use std::alloc::Allocator;
 use vb_core::BufferError;
-use vb_mem::ByteBufferMut;
+use vb_mem::{ByteBuffer, ByteBufferMut};
 use vb_take::set_bits_at;
 
-/// Bytes whose first `len` bits are true exactly at these places, which may be named more than
-/// once, as few as hold them.
+/// Bytes whose first `len` bits are true exactly at the places that an iterator gives, which may
+/// come more than once, as few as hold them.
 ///
-/// Refused by `IndexOutOfRange` with the first number that isn't below `len`, else by `OutOfMemory`
-/// alone.
-pub fn from_indices<A: Allocator + Clone>(
+/// Refused by `OutOfMemory` before the iterator is asked, else by `IndexOutOfRange` with the first
+/// number that isn't below `len`, behind which it isn't asked.
+pub fn from_indices<A: Allocator + Clone, I: IntoIterator<Item = usize>>(
     alloc: A,
     len: usize,
-    indices: &[usize],
+    indices: I,
 ) -> Result<ByteBufferMut<A>, BufferError>
-    ensures bits { IfOk result (λ b.
-        bits b.list 0 len ≡ with_true (replicate len false) indices.now) }
-    ensures within { OnOk result (AllBelow len indices.now) }
+    requires { IsFiniteIterable I.into_iter_gives I.IntoIter.can_next
+        I.IntoIter.remaining indices }
+    ensures bits { IfOk result (λ b. OfItems I.into_iter_gives I.IntoIter.next_gives indices
+        (λ places. AllBelow len places
+        × (bits b.list 0 len ≡ with_true (replicate len false) places))) }
     ensures len { IfOk result (λ b. length b.list ≡ div_ceil len 8) }
     ensures alignment { IfOk result (λ b. b.exponent ≡ 0) }
-    ensures refused { IfErr result (IndexRefused len indices.now) }
+    ensures refused { IfErr result
+        (IndexRefused I.into_iter_gives I.IntoIter.next_gives len indices) }
 {
+    let places = indices.into_iter();
     let mut bytes = full(alloc, false, len)?;
-    match set_bits_at(bytes.as_mut_slice(), len, indices) {
+    match set_bits_at(bytes.as_mut_slice(), len, places) {
         Ok(()) => Ok(bytes),
-        Err(index) => Err(BufferError::IndexOutOfRange { index, len }),
+        Err(index) => {
+            drop(bytes);
+            Err(BufferError::IndexOutOfRange { index, len })
+        }
+    }
+}
+
+/// [`from_indices`] of bytes that can be shared, whose owner takes its memory before the iterator
+/// is asked too.
+pub fn from_indices_shared<A: Allocator + Clone, I: IntoIterator<Item = usize>>(
+    alloc: A,
+    len: usize,
+    indices: I,
+) -> Result<ByteBuffer<A>, BufferError>
+    requires { IsFiniteIterable I.into_iter_gives I.IntoIter.can_next
+        I.IntoIter.remaining indices }
+    ensures bits { IfOk result (λ b. OfItems I.into_iter_gives I.IntoIter.next_gives indices
+        (λ places. AllBelow len places
+        × (bits b.list 0 len ≡ with_true (replicate len false) places))) }
+    ensures len { IfOk result (λ b. length b.list ≡ div_ceil len 8) }
+    ensures alignment { IfOk result (λ b. b.exponent ≡ 0) }
+    ensures refused { IfErr result
+        (IndexRefused I.into_iter_gives I.IntoIter.next_gives len indices) }
+{
+    let places = indices.into_iter();
+    let mut bytes = full(alloc, false, len)?.freeze()?;
+    match set_bits_at(bytes.items_mut()?.as_mut_slice(), len, places) {
+        Ok(()) => Ok(bytes),
+        Err(index) => {
+            drop(bytes);
+            Err(BufferError::IndexOutOfRange { index, len })
+        }
     }
 }

@@ -1,26 +1,18 @@
 -- Bits taken at indices, and places that are made true.
 use Rattle.std.proofs.Common.{◌≡◌, ℕ, Bool, true, List, length, get_or}
-use Rattle.std.proofs.Common.{inl, inr, Option, Some, None, arith}
+use Rattle.std.proofs.Common.{Option, Some, None}
 use Rattle.std.specs.Prelude.{nat_lt}
 use Rattle.std.specs.Option.{ForSome}
 use Rattle.std.proofs.lemmas.Bool.{eqb-true, ltb-true}
 use Rattle.std.proofs.lemmas.List.Sums.{AllPass-from_list_all}
-use Rattle.std.proofs.lemmas.Option.{get_or_from_slice_get, none-some, slice_get_within}
+use Rattle.std.proofs.lemmas.Option.{none-some}
 use Rattle.vb_command.specs.Machine.{all_below, is_as_long}
-use Rattle.vb_core.specs.declared.error.BufferError.{BufferError}
-use Rattle.vb_core.specs.declared.error.BufferError.TheVariants.{OutOfMemory}
-use Rattle.vb_set.specs.Takes.{IndexRefused}
+use Rattle.vb_set.specs.Takes.{AllBelow}
 
--- where each place is below n, none is refused
-pub only_memory : (n : ℕ) (places : List ℕ) (e : BufferError)
-    → IndexRefused n places e → all_below n places ≡ true → e ≡ OutOfMemory
-only_memory n places e (inl memory) below = memory
-only_memory n places e (inr (index, is, first)) below =
-    let p = first.position in
-    let found = get_or_from_slice_get places p index 0 first.found in
-    let within = slice_get_within places p index first.found in
-    let less = AllPass-from_list_all (λ i. nat_lt i n) places below p 0 within in
-    absurd (omega (arith, ltb-true (get_or places p 0) n less, first.past))
+-- each place is below n, where the test says so
+pub below_all : (n : ℕ) (places : List ℕ) → all_below n places ≡ true → AllBelow n places
+below_all n places below = λ i within.
+    ltb-true (get_or places i 0) n (AllPass-from_list_all (λ p. nat_lt p n) places below i 0 within)
 
 -- a validity that is as long as the indices
 pub validity_fits : (n : ℕ) (validity : Option (List Bool))

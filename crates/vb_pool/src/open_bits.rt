@@ -93,7 +93,7 @@ impl<A: Allocator + Clone> OpenBits<A> {
         ensures bits { IfOk result (λ s. s ≡ with_true (replicate n false) places.now) }
         ensures refused { IsOkUnless result OutOfMemory }
     {
-        Ok(OpenBits::new(BitBufferMut::from_indices(alloc.clone()?, n, places)?))
+        Ok(OpenBits::new(BitBufferMut::from_indices(alloc.clone()?, n, places.iter().copied())?))
     }
 
     /// The bits of a shared set: in its storage, where it has no other owner, else in a copy.

@@ -111,7 +111,8 @@ impl<A: Allocator + Clone> BitBufferMut<A> {
         &self.buffer
     }
 
-    /// The byte buffer, of which the bits were a window. Ask for offset and length before.
+    /// The byte buffer, of which the bits were a window, in constant time; no memory is taken. Ask
+    /// for offset and length before.
     pub fn into_inner(self) -> ByteBufferMut<A>
         ensures bytes { result.list ≡ self.bytes }
         ensures window { IsWindow result.list self.offset self.bits }

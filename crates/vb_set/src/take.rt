@@ -18,7 +18,8 @@ use vb_view::BitBufferView;
 /// where it is true: the others give false, and their indices aren't looked at.
 ///
 /// Refused by `TakeOutOfRange` with the first position that counts and whose index names no place
-/// of `bits`, else by `OutOfMemory` alone. It takes the memory of the new set.
+/// of `bits`, else by `OutOfMemory` alone. It takes memory for the bytes of the new set and the
+/// count of their owners, of the allocator that is handed in.
 #[tactic(auto, using(vb_bit_bytes::proofs::BytesLemmas::edits))]
 pub fn take_bits<A: Allocator + Clone, I: BitIndex>(
     alloc: A,

@@ -15,8 +15,9 @@ pub trait ToBitBuffer {
     // the bits
     ghost bits: { Self → List Bool };
 
-    /// A set of the same bits, over a copy of the bytes in which they lie and of no others. Refused
-    /// by `OutOfMemory` alone.
+    /// A set of the same bits, over a copy of the bytes in which they lie and of no others. It
+    /// takes memory for these and for the count of owners, of the allocator that is handed in.
+    /// Refused by `OutOfMemory` alone.
     fn to_bit_buffer<A: Allocator + Clone>(&self, alloc: A) -> Result<BitBuffer<A>, BufferError>
         ensures bits { IfOk result (λ s. s.bits ≡ bits self.now) }
         ensures byte_len { IfOk result (λ s. length s.bytes

@@ -12,8 +12,8 @@ pub trait TryIntoMut<A: Allocator + Clone>: Sized {
     ghost set: { Self → SharedSet };
 
     /// The same bits for editing, where no other owner has the storage, with all the bytes and no
-    /// memory taken; otherwise the set itself, as an `Err`. Bytes that don't begin the storage are
-    /// moved to its front; else it takes constant time.
+    /// memory taken; otherwise the set itself, given back as an `Err`. Bytes that don't begin the
+    /// storage are moved to its front; else it takes constant time.
     fn try_into_mut(self) -> Result<BitBufferMut<A>, Self>
         ensures bits { IfOk result (λ s. s.bits ≡ (set self).bits) }
         ensures offset { IfOk result (λ s. s.offset ≡ (set self).offset) }

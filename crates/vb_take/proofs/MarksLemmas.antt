@@ -1,16 +1,17 @@
 -- Bits made true at places, one after the other.
-use Rattle.std.proofs.Common.{◌≡◌, ◌⊎◌, inl, inr, ℕ, ◌+◌, ◌<◌, ◌≤◌, Bool, true, false, ◌||◌, eqb, List, [], ◌∷◌, ◌++◌, length, take, refl, sym, ap, ◌∙◌, arith, zero-add}
+use Rattle.std.proofs.Common.{◌≡◌, ◌⊎◌, inl, inr, ℕ, ◌+◌, ◌<◌, ◌≤◌, Bool, true, false, ◌||◌, eqb, List, [], ◌∷◌, ◌++◌, length, length-append, refl, sym, ap, ◌∙◌, arith, zero-add}
 use Rattle.std.specs.List.{list_any}
 use Rattle.std.proofs.lemmas.Bool.{cases_eq, cases_lt, eq-eqb, eqb-true, false_from_ne_true}
-use Rattle.std.proofs.lemmas.List.{same_lists, take_all}
+use Rattle.std.proofs.Math.Seq.{get_or-append_seam}
+use Rattle.std.proofs.lemmas.List.{same_lists, get_or_append_left}
 use Rattle.std.proofs.lemmas.List.Folds.{list_any-append}
 use Rattle.std.proofs.lemmas.List.FromFn.{length-map-range_with_len, get_or-map-range_with_len}
 use Rattle.vb_bits.specs.Bits.{bit_of, bits, at}
 use Rattle.vb_bits.specs.Writes.{Writes}
 use Rattle.vb_bits.proofs.BitsLemmas.{length-bits, at-bits}
 use Rattle.vb_bits.proofs.WritesLemmas.{Writes-at}
-use Rattle.vb_take.specs.Takes.{with_true}
-use Rattle.vb_take.specs.Blocks.{MarkedTo}
+use Rattle.vb_take.specs.Takes.{with_true, AllBelow}
+use Rattle.vb_take.specs.Blocks.{MarkedAt}
 
 -- what is or-ed to a truth value
 or_true : (b : Bool) → (b || true) ≡ true
@@ -22,29 +23,29 @@ or_false true = refl
 or_false false = refl
 
 -- one more place
-pub MarkedTo-bit : (k n p : ℕ) (ps : List ℕ) (old out new : List ℕ) → MarkedTo k n ps old out → take (k + 1) ps ≡ take k ps ++ p ∷ [] → Writes out new p (true ∷ []) → MarkedTo (k + 1) n ps old new
-MarkedTo-bit k n p ps old out new before more w = λ i h.
+pub MarkedAt-bit : (n p : ℕ) (ps : List ℕ) (old out new : List ℕ) → MarkedAt n ps old out → Writes out new p (true ∷ []) → MarkedAt n (ps ++ p ∷ []) old new
+MarkedAt-bit n p ps old out new before w = λ i h.
     let any : List ℕ → Bool = list_any (λ q. eqb q i) in
-    let next : (bit_of old i || any (take (k + 1) ps)) ≡ (bit_of old i || (any (take k ps) || eqb p i)) =
-    ap (λ b. bit_of old i || b) (ap any more ∙ list_any-append (λ q. eqb q i) (take k ps) (p ∷ []) ∙ ap (λ b. any (take k ps) || b) (or_false (eqb p i))) in
+    let next : (bit_of old i || any (ps ++ p ∷ [])) ≡ (bit_of old i || (any ps || eqb p i)) =
+    ap (λ b. bit_of old i || b) (list_any-append (λ q. eqb q i) ps (p ∷ []) ∙ ap (λ b. any ps || b) (or_false (eqb p i))) in
     elim (cases_eq i p) [
       | inl same ↦
           let bit : bit_of new (p + 0) ≡ true = Writes-at out new p 0 (true ∷ []) false w (omega arith) in
           let place : i ≡ p + 0 = omega arith in
           ap (bit_of new) place ∙ bit
-          ∙ sym (next ∙ ap (λ b. bit_of old i || (any (take k ps) || b)) (eq-eqb p i (sym same)) ∙ ap (λ b. bit_of old i || b) (or_true (any (take k ps))) ∙ or_true (bit_of old i))
+          ∙ sym (next ∙ ap (λ b. bit_of old i || (any ps || b)) (eq-eqb p i (sym same)) ∙ ap (λ b. bit_of old i || b) (or_true (any ps)) ∙ or_true (bit_of old i))
       | inr other ↦
           let none : eqb p i ≡ false = false_from_ne_true (eqb p i) (λ e. other (sym (eqb-true p i e))) in
           w.others i (apart i p other) ∙ before i h
-          ∙ sym (next ∙ ap (λ b. bit_of old i || b) (ap (λ b. any (take k ps) || b) none ∙ or_false (any (take k ps))))
+          ∙ sym (next ∙ ap (λ b. bit_of old i || b) (ap (λ b. any ps || b) none ∙ or_false (any ps)))
     ]
   where
     apart : (i p : ℕ) → (i ≡ p → ⊥) → (i < p) ⊎ (p + 1 ≤ i)
     apart i p ne = elim (cases_lt i p) [ inl low ↦ inl low | inr high ↦ inr (omega (arith, ne)) ]
 
 -- all places
-pub with_true-all : (k n : ℕ) (ps old new : List ℕ) → length ps ≤ k → MarkedTo k n ps old new → bits new 0 n ≡ with_true (bits old 0 n) ps
-with_true-all k n ps old new enough marked =
+pub with_true-all : (n : ℕ) (ps old new : List ℕ) → MarkedAt n ps old new → bits new 0 n ≡ with_true (bits old 0 n) ps
+with_true-all n ps old new marked =
     let l : List Bool = bits old 0 n in
     let f : ℕ → Bool = λ i. at l i || list_any (λ p. eqb p i) ps in
     let size : length l ≡ n = length-bits old 0 n in
@@ -52,6 +53,15 @@ with_true-all k n ps old new enough marked =
     (λ i d h.
     let low : i < n = omega (arith, length-bits new 0 n) in
     at-bits new 0 n i d low ∙ ap (bit_of new) (zero-add i) ∙ marked i low
-    ∙ ap (λ xs. bit_of old i || list_any (λ p. eqb p i) xs) (take_all k ps enough)
     ∙ ap (λ b. b || list_any (λ p. eqb p i) ps) (sym (at-bits old 0 n i false low ∙ ap (bit_of old) (zero-add i)))
     ∙ sym (get_or-map-range_with_len f 0 (length l) i i d (omega arith) (zero-add i)))
+
+-- one more number below n
+pub AllBelow-push : (n p : ℕ) (ps : List ℕ) → AllBelow n ps → p < n → AllBelow n (ps ++ p ∷ [])
+AllBelow-push n p ps below h = λ i within.
+    elim (cases_eq i (length ps)) [
+      | inl last ↦ rw last (rw (get_or-append_seam ps p [] 0) h)
+      | inr front ↦
+          let low : i < length ps = omega (arith, within, length-append ps (p ∷ []), front) in
+          rw (get_or_append_left ps (p ∷ []) 0 i low) (below i low)
+    ]

@@ -1,6 +1,6 @@
 -- Blocks of 64 indices.
 use Rattle.std.specs.Prelude.{◌≡◌, ℕ, ℤ, ◌-◌, ◌^◌, ◌<◌, ◌≤◌, ◌||◌, ◌==◌, Bool, false, List, length}
-use Rattle.std.specs.Prelude.{take, min, slice_get, slice_index, Option, Some, Result, Ok, Err}
+use Rattle.std.specs.Prelude.{min, slice_get, slice_index, Option, Some, Result, Ok, Err}
 use Rattle.std.specs.Prelude.{IsTrue, if◌then◌else◌}
 use Rattle.std.specs.List.{list_any}
 use Rattle.std.specs.Option.{unwrap_or}
@@ -34,7 +34,7 @@ pub record KeepsBehind (n : ℕ) (old new : List ℕ) : Type 0 where
   pub same_len : length new ≡ length old
   pub others : (i : ℕ) → n ≤ i → bit_of new i ≡ bit_of old i
 
--- of the first n bits those at the first k places are true, and the others are as before
-abbrev pub MarkedTo : ℕ → ℕ → List ℕ → List ℕ → List ℕ → Type 0
-MarkedTo k n places old new = (i : ℕ) → i < n
-    → bit_of new i ≡ (bit_of old i || list_any (λ p. p == i) (take k places))
+-- of the first n bits those at the places are true, and the others are as before
+abbrev pub MarkedAt : ℕ → List ℕ → List ℕ → List ℕ → Type 0
+MarkedAt n places old new = (i : ℕ) → i < n
+    → bit_of new i ≡ (bit_of old i || list_any (λ p. p == i) places)

@@ -2,6 +2,7 @@
 use Rattle.std.specs.Prelude.{◌≡◌, ℕ, ℤ, negsuc, ◌<◌, ◌≤◌, ◌⊎◌, ◌||◌, ◌==◌, Bool, true, false, List}
 use Rattle.std.specs.Prelude.{length, map, slice_get, slice_index, slice_index_or, Option, Some}
 use Rattle.std.specs.Prelude.{None, IsSome, if◌then◌else◌}
+use Rattle.std.specs.Iterator.{Drains, YieldsThen}
 use Rattle.std.specs.List.{range_with_len, list_any}
 use Rattle.std.specs.Option.{option_and_then}
 use Rattle.vb_bits.specs.Bits.{at}
@@ -43,21 +44,28 @@ abbrev pub with_true : List Bool → List ℕ → List Bool
 with_true l places =
     map (λ i. at l i || list_any (λ p. p == i) places) (range_with_len 0 (length l))
 
--- the number is the first of these that isn't below n
-pub record FirstNotBelow (n : ℕ) (places : List ℕ) (index : ℕ) : Type 0 where
-  pub position : ℕ
-  pub found : slice_get places position ≡ Some index
-  pub past : n ≤ index
-  pub before : (i : ℕ) → i < position → slice_index places i < n
-
 -- each number is below n
 abbrev pub AllBelow : ℕ → List ℕ → Type 0
 AllBelow n places = (i : ℕ) → i < length places → slice_index places i < n
 
--- why a set isn't made of places: want of memory, or the first number that isn't below n
-abbrev pub IndexRefused : ℕ → List ℕ → BufferError → Type 0
-IndexRefused n places e =
-    (e ≡ OutOfMemory) ⊎ ((index : ℕ) × (e ≡ IndexOutOfRange index n) × FirstNotBelow n places index)
+module _ {S : Type 0} (steps : S → Option ℕ → S → Type 0) where
+  -- calls from s gave numbers below n alone and came to an end, and P holds of the numbers
+  abbrev pub GivesBelow : ℕ → S → (List ℕ → Type 0) → Type 0
+  GivesBelow n s P = (places : List ℕ) × Drains steps s places × AllBelow n places × P places
+
+  -- calls from s gave numbers below n, and then this one, which isn't
+  abbrev pub FirstNotBelow : ℕ → S → ℕ → Type 0
+  FirstNotBelow n s index = (places : List ℕ) × (t : S)
+      × YieldsThen steps s places (Some index) t × AllBelow n places × (n ≤ index)
+
+-- why a set isn't made of what an iterator gives: want of memory, or the first number that isn't
+-- below n, behind which nothing was asked
+abbrev pub IndexRefused : {U S : Type 0} → (U → S → Type 0) → (S → Option ℕ → S → Type 0)
+    → ℕ → U → BufferError → Type 0
+IndexRefused {S = S} becomes steps n source e =
+    (e ≡ OutOfMemory)
+    ⊎ ((s : S) × (index : ℕ) × becomes source s × (e ≡ IndexOutOfRange index n)
+    × FirstNotBelow steps n s index)
 
 -- why bits aren't taken: want of memory, or the first position that takes nothing
 abbrev pub TakeRefused : List Bool → List ℤ → Option (List Bool) → BufferError → Type 0

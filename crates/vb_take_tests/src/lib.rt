@@ -13,4 +13,6 @@ mod made;
 #[cfg(test)]
 mod memory;
 #[cfg(test)]
+mod places;
+#[cfg(test)]
 mod rows;

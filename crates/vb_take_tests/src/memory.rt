@@ -19,8 +19,8 @@ impl Call {
         match self {
             Call::Take => take(alloc),
             Call::TakeValid => take_valid(alloc),
-            Call::Open => BitBufferMut::from_indices(alloc, 4, &[1, 3])?.freeze(),
-            Call::Shared => BitBuffer::from_indices(alloc, 4, &[1, 3]),
+            Call::Open => BitBufferMut::from_indices(alloc, 4, [1, 3])?.freeze(),
+            Call::Shared => BitBuffer::from_indices(alloc, 4, [1, 3]),
         }
     }
 }
@@ -35,7 +35,7 @@ fn take<A: Allocator + Clone>(alloc: A) -> Result<BitBuffer<A>, BufferError> {
 
 /// Takes the second and the last of them.
 fn take_valid<A: Allocator + Clone>(alloc: A) -> Result<BitBuffer<A>, BufferError> {
-    let set = BitBuffer::from_indices(alloc.clone()?, 4, &[1, 3])?;
+    let set = BitBuffer::from_indices(alloc.clone()?, 4, [1, 3])?;
     let made = taken(alloc, set.as_view(), &[9u8, 1, 9, 3], Some(set.as_view()));
     drop(set);
     made

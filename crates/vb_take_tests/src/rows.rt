@@ -1,9 +1,9 @@
-//! Worked rows: what is taken, and what is made of places.
-use crate::compared::{answers, equal};
+//! Worked rows: what is taken.
+use crate::compared::answers;
 use crate::made::{bits, taken};
 use std::alloc::Global;
 use std::test::Fail;
-use vb_set::{BitBuffer, BitBufferMut, BufferError};
+use vb_set::{BitBuffer, BufferError};
 
 /// Indices of a type.
 enum Indices {
@@ -84,43 +84,10 @@ fn true_bits_are_no_leave_to_pass_bounds(rt: HostRuntime) -> Result<(), Fail> {
 }
 
 #[test]
+#[tactic(auto, using(vb_pack::proofs::AnswersLemmas::CanAsk_always))]
 fn one_false_bit_among_ten_thousand(rt: HostRuntime) -> Result<(), Fail> {
-    let mut set = BitBufferMut::new_set(rt.alloc(), 10_000)?;
-    set.as_mut_view().unset(37);
-    let set = set.freeze()?;
+    let set = BitBuffer::collect_bool(rt.alloc(), 10_000, &mut |i| i != 37)?;
     let made = Indices::U32(&[36, 37, 38]).take(rt.alloc(), &set, None);
     answers(&rt, made, Ok("101"));
-    Ok(())
-}
-
-/// A length, places below it or not, and the bits or the refusal.
-const PLACES: &[(usize, &[usize], Result<&str, BufferError>)] = &[
-    (4, &[1, 1, 3], Ok("0101")),
-    (0, &[], Ok("")),
-    (
-        4,
-        &[4],
-        Err(BufferError::IndexOutOfRange { index: 4, len: 4 }),
-    ),
-    (
-        10,
-        &[9, 12, 11],
-        Err(BufferError::IndexOutOfRange { index: 12, len: 10 }),
-    ),
-];
-
-#[test]
-fn places_make_sets_or_are_refused(rt: HostRuntime) -> Result<(), Fail> {
-    for (len, places, wanted) in PLACES {
-        answers(
-            &rt,
-            BitBuffer::from_indices(rt.alloc(), *len, places),
-            *wanted,
-        );
-        match BitBufferMut::from_indices(rt.alloc(), *len, places) {
-            Ok(set) => answers(&rt, set.freeze(), *wanted),
-            Err(error) => equal(&rt, Some(error), wanted.err()),
-        }
-    }
     Ok(())
 }

@@ -16,7 +16,8 @@ impl<A: Allocator + Clone> BitBuffer<A> {
     /// What `f` answers at the places from 0 up to `len`, asked in order and once each. Full words
     /// go by vectors of bytes, the rest bit by bit.
     ///
-    /// Refused by `OutOfMemory` alone, before the first question.
+    /// It takes memory for the bytes of the bits and the count of owners. Refused by `OutOfMemory`
+    /// alone, before the first question.
     pub fn collect_bool<F: FnMut(usize) -> bool>(
         alloc: A,
         len: usize,
@@ -35,7 +36,8 @@ impl<A: Allocator + Clone> BitBuffer<A> {
         Ok(BitBuffer::window_of(bytes, len, 0))
     }
 
-    /// [`collect_bool`](Self::collect_bool), which goes by vectors as it is.
+    /// [`collect_bool`](Self::collect_bool), which goes by vectors as it is: the same answer, the
+    /// same memory and the same refusal.
     pub fn collect_bool_multiversioned<F: FnMut(usize) -> bool>(
         alloc: A,
         len: usize,
@@ -56,8 +58,8 @@ impl<A: Allocator + Clone> BitBuffer<A> {
     /// What `f` answers at each place, asked with the bit there, in order and once each. Full words
     /// go by vectors of bytes, the rest bit by bit.
     ///
-    /// The answers have a storage of their own, with this set's allocator. Refused by `OutOfMemory`
-    /// alone, before the first question.
+    /// The answers have a storage of their own: it takes memory for their bytes and the count of
+    /// owners, of this set's allocator. Refused by `OutOfMemory` alone, before the first question.
     pub fn map_cmp<F: FnMut(usize, bool) -> bool>(&self, f: &mut F) -> Result<Self, BufferError>
         requires { CanAsk (λ p i. F.pre p i (at self.now.bits i))
             (λ p i b q. F.step p i (at self.now.bits i) b q)
@@ -80,7 +82,8 @@ impl<A: Allocator + Clone> BitBuffer<A> {
         Ok(BitBuffer::window_of(answers, self.len, 0))
     }
 
-    /// The truth values of a slice. Refused by `OutOfMemory` alone.
+    /// The truth values of a slice. It takes memory for the bytes of the bits and the count of
+    /// owners. Refused by `OutOfMemory` alone.
     pub fn from_bools(alloc: A, bools: &[bool]) -> Result<Self, BufferError>
         ensures bits { IfOk result (λ s. s.bits ≡ bools.now) }
         ensures offset { IfOk result (λ s. s.offset ≡ 0) }
@@ -91,7 +94,9 @@ impl<A: Allocator + Clone> BitBuffer<A> {
         Ok(BitBuffer::window_of(bytes, bools.len(), 0))
     }
 
-    /// The truth values of a vector. Refused by `OutOfMemory` alone.
+    /// The truth values of a vector. It takes memory for the bytes of the bits and the count of
+    /// owners, and gives the vector's back. Refused by `OutOfMemory` alone; the vector is gone then
+    /// too.
     pub fn from_bool_vec(alloc: A, bools: Vec<bool, A>) -> Result<Self, BufferError>
         ensures bits { IfOk result (λ s. s.bits ≡ bools.items) }
         ensures offset { IfOk result (λ s. s.offset ≡ 0) }
@@ -101,10 +106,10 @@ impl<A: Allocator + Clone> BitBuffer<A> {
         BitBuffer::from_bools(alloc, bools.as_slice())
     }
 
-    /// What an iterator gives. No hint of it is asked for.
+    /// What an iterator gives. No hint of it is asked for: the bytes grow with the items.
     ///
     /// Refused by `TooManyBits` at the first item past `usize::MAX` of them, else by `OutOfMemory`
-    /// where memory is.
+    /// where memory is. Then the iterator and the items that it gave are gone.
     pub fn from_iter<I: IntoIterator<Item = bool>>(alloc: A, iter: I) -> Result<Self, BufferError>
         requires { IsFiniteIterable I.into_iter_gives I.IntoIter.can_next
             I.IntoIter.remaining iter }

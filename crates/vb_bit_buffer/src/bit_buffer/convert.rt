@@ -11,8 +11,9 @@ use vb_mem::ByteBufferMut;
 
 #[tactic(auto, using(crate::proofs::SetLemmas::sets))]
 impl<A: Allocator + Clone> BitBuffer<A> {
-    /// Another owner of the same bits, which shares the storage, in constant time. Refused by
-    /// `OutOfMemory` alone, where the allocator can't be copied.
+    /// Another owner of the same bits, which shares the storage, in constant time. It takes no
+    /// memory but what a copy of the allocator takes. Refused by `OutOfMemory` alone, where the
+    /// allocator can't be copied.
     pub fn clone(&self) -> Result<Self, BufferError>
         ensures same { IfOk result (λ s. s ≡ self.now) }
         ensures refused { IsOkUnless result BufferError.OutOfMemory }
@@ -48,7 +49,8 @@ impl<A: Allocator + Clone> BitBuffer<A> {
     }
 
     /// The same bits at offset 0, with the bytes in which they lie and no others: in the same
-    /// storage where the offset is 0, else in a copy. Refused by `OutOfMemory` alone.
+    /// storage where the offset is 0, else in a copy, which takes memory for its bytes and the
+    /// count of their owners, of the set's allocator. Refused by `OutOfMemory` alone.
     pub fn sliced(&self) -> Result<Self, BufferError>
         ensures bits { IfOk result (λ s. s.bits ≡ self.now.bits) }
         ensures offset { IfOk result (λ s. s.offset ≡ 0) }

@@ -56,7 +56,8 @@ impl<A: Allocator + Clone> BitBuffer<A> {
         }
     }
 
-    /// `n` bits, all true. Refused by `OutOfMemory` alone.
+    /// `n` bits, all true. It takes memory for their bytes and the count of owners. Refused by
+    /// `OutOfMemory` alone.
     pub fn new_set(alloc: A, n: usize) -> Result<Self, BufferError>
         ensures bits { IfOk result (λ s. s.bits ≡ replicate n true) }
         ensures len { IfOk result (λ s. length s.bits ≡ n) }
@@ -67,7 +68,8 @@ impl<A: Allocator + Clone> BitBuffer<A> {
         BitBuffer::full(alloc, true, n)
     }
 
-    /// `n` bits, all false. Refused by `OutOfMemory` alone.
+    /// `n` bits, all false. It takes memory for their bytes and the count of owners. Refused by
+    /// `OutOfMemory` alone.
     pub fn new_unset(alloc: A, n: usize) -> Result<Self, BufferError>
         ensures bits { IfOk result (λ s. s.bits ≡ replicate n false) }
         ensures len { IfOk result (λ s. length s.bits ≡ n) }
@@ -78,7 +80,8 @@ impl<A: Allocator + Clone> BitBuffer<A> {
         BitBuffer::full(alloc, false, n)
     }
 
-    /// `n` bits, all `v`. Refused by `OutOfMemory` alone.
+    /// `n` bits, all `v`. It takes memory for their bytes and the count of owners. Refused by
+    /// `OutOfMemory` alone.
     pub fn full(alloc: A, v: bool, n: usize) -> Result<Self, BufferError>
         ensures bits { IfOk result (λ s. s.bits ≡ replicate n v) }
         ensures len { IfOk result (λ s. length s.bits ≡ n) }

@@ -1,8 +1,9 @@
 //! Sets combined bit by bit, and negated.
 //!
 //! An owned left value keeps its offset, and where no other owner has its storage its bytes are
-//! written over in place; else they are copied, those of the window alone. Lengths are compared
-//! before memory is asked for.
+//! written over in place, and memory is taken for the count of owners alone; else they are copied,
+//! those of the window alone, which takes memory for these too. All of it is asked of the left
+//! value's allocator. Lengths are compared before memory is asked for.
 ghost use Rattle.std.specs.Prelude.{◌≡◌, ◌≢◌, length, IsOk, IsErrOf};
 ghost use Rattle.vb_bit_buffer.specs.Gives.{GivesCombined, GivesNegated};
 
@@ -15,7 +16,8 @@ use vb_core::BufferError;
 
 #[tactic(auto, using(crate::proofs::SetLemmas::sets))]
 impl<A: Allocator + Clone> BitBuffer<A> {
-    /// The bits that are true here and not in `right`, in bytes of their own. Refused by
+    /// The bits that are true here and not in `right`, in bytes of their own: it takes memory for
+    /// the bytes of the window and the count of owners, of this set's allocator. Refused by
     /// `LengthMismatch` exactly where the lengths differ, else by `OutOfMemory` alone.
     pub fn bitand_not(&self, right: &Self) -> Result<Self, BufferError>
         ensures { GivesCombined BitOp.AndNot self.now right.now result }
@@ -24,7 +26,8 @@ impl<A: Allocator + Clone> BitBuffer<A> {
     }
 
     /// The bits that are true here and not in `right`, in the same storage where no other owner
-    /// has it. Refused as [`bitand_not`](Self::bitand_not) is; the set is gone then.
+    /// has it: then memory is taken for the count of owners alone, else as by
+    /// [`bitand_not`](Self::bitand_not). Refused as that is; the set is gone then.
     pub fn into_bitand_not(self, right: &Self) -> Result<Self, BufferError>
         ensures { GivesCombined BitOp.AndNot self right.now result }
     {
@@ -127,9 +130,10 @@ impl<A: Allocator + Clone> BitBuffer<A> {
     }
 }
 
-/// The bits that are true in both, in the left one's storage where no other owner has it. Refused
-/// by `LengthMismatch` exactly where the lengths differ, else by `OutOfMemory` alone; both are gone
-/// then.
+/// The bits that are true in both, in the left one's storage where no other owner has it, else in
+/// bytes of their own. Memory is taken for such bytes and for the count of owners, of the left
+/// one's allocator. Refused by `LengthMismatch` exactly where the lengths differ, else by
+/// `OutOfMemory` alone; both are gone then.
 impl<A: Allocator + Clone> BitAnd<BitBuffer<A>> for BitBuffer<A> {
     ghost use Rattle.vb_bit_buffer.specs.Gives.{GivesCombined};
     ghost use Rattle.vb_bits.specs.declared.zip.BitOp.TheVariants.{And};
@@ -145,9 +149,10 @@ impl<A: Allocator + Clone> BitAnd<BitBuffer<A>> for BitBuffer<A> {
     }
 }
 
-/// The bits that are true in both, in the left one's storage where no other owner has it. Refused
-/// by `LengthMismatch` exactly where the lengths differ, else by `OutOfMemory` alone; the left one
-/// is gone then.
+/// The bits that are true in both, in the left one's storage where no other owner has it, else in
+/// bytes of their own. Memory is taken for such bytes and for the count of owners, of the left
+/// one's allocator. Refused by `LengthMismatch` exactly where the lengths differ, else by
+/// `OutOfMemory` alone; the left one is gone then.
 impl<A: Allocator + Clone> BitAnd<&BitBuffer<A>> for BitBuffer<A> {
     ghost use Rattle.vb_bit_buffer.specs.Gives.{GivesCombined};
     ghost use Rattle.vb_bits.specs.declared.zip.BitOp.TheVariants.{And};
@@ -161,8 +166,9 @@ impl<A: Allocator + Clone> BitAnd<&BitBuffer<A>> for BitBuffer<A> {
     }
 }
 
-/// The bits that are true in both, in bytes of their own. Refused by `LengthMismatch` exactly where
-/// the lengths differ, else by `OutOfMemory` alone; the right one is gone then.
+/// The bits that are true in both, in bytes of their own, for which and for the count of owners
+/// memory is taken of the left one's allocator. Refused by `LengthMismatch` exactly where the
+/// lengths differ, else by `OutOfMemory` alone; the right one is gone then.
 impl<A: Allocator + Clone> BitAnd<BitBuffer<A>> for &BitBuffer<A> {
     ghost use Rattle.vb_bit_buffer.specs.Gives.{GivesCombined};
     ghost use Rattle.vb_bits.specs.declared.zip.BitOp.TheVariants.{And};
@@ -178,8 +184,9 @@ impl<A: Allocator + Clone> BitAnd<BitBuffer<A>> for &BitBuffer<A> {
     }
 }
 
-/// The bits that are true in both, in bytes of their own. Refused by `LengthMismatch` exactly where
-/// the lengths differ, else by `OutOfMemory` alone.
+/// The bits that are true in both, in bytes of their own, for which and for the count of owners
+/// memory is taken of the left one's allocator. Refused by `LengthMismatch` exactly where the
+/// lengths differ, else by `OutOfMemory` alone.
 impl<A: Allocator + Clone> BitAnd<&BitBuffer<A>> for &BitBuffer<A> {
     ghost use Rattle.vb_bit_buffer.specs.Gives.{GivesCombined};
     ghost use Rattle.vb_bits.specs.declared.zip.BitOp.TheVariants.{And};
@@ -194,8 +201,9 @@ impl<A: Allocator + Clone> BitAnd<&BitBuffer<A>> for &BitBuffer<A> {
 }
 
 /// The bits that are true in one of them or in both, in the left one's storage where no other owner
-/// has it. Refused by `LengthMismatch` exactly where the lengths differ, else by `OutOfMemory`
-/// alone; both are gone then.
+/// has it, else in bytes of their own. Memory is taken for such bytes and for the count of owners,
+/// of the left one's allocator. Refused by `LengthMismatch` exactly where the lengths differ, else
+/// by `OutOfMemory` alone; both are gone then.
 impl<A: Allocator + Clone> BitOr<BitBuffer<A>> for BitBuffer<A> {
     ghost use Rattle.vb_bit_buffer.specs.Gives.{GivesCombined};
     ghost use Rattle.vb_bits.specs.declared.zip.BitOp.TheVariants.{Or};
@@ -212,8 +220,9 @@ impl<A: Allocator + Clone> BitOr<BitBuffer<A>> for BitBuffer<A> {
 }
 
 /// The bits that are true in one of them or in both, in the left one's storage where no other owner
-/// has it. Refused by `LengthMismatch` exactly where the lengths differ, else by `OutOfMemory`
-/// alone; the left one is gone then.
+/// has it, else in bytes of their own. Memory is taken for such bytes and for the count of owners,
+/// of the left one's allocator. Refused by `LengthMismatch` exactly where the lengths differ, else
+/// by `OutOfMemory` alone; the left one is gone then.
 impl<A: Allocator + Clone> BitOr<&BitBuffer<A>> for BitBuffer<A> {
     ghost use Rattle.vb_bit_buffer.specs.Gives.{GivesCombined};
     ghost use Rattle.vb_bits.specs.declared.zip.BitOp.TheVariants.{Or};
@@ -227,8 +236,9 @@ impl<A: Allocator + Clone> BitOr<&BitBuffer<A>> for BitBuffer<A> {
     }
 }
 
-/// The bits that are true in one of them or in both, in bytes of their own. Refused by
-/// `LengthMismatch` exactly where the lengths differ, else by `OutOfMemory` alone.
+/// The bits that are true in one of them or in both, in bytes of their own, for which and for the
+/// count of owners memory is taken of the left one's allocator. Refused by `LengthMismatch` exactly
+/// where the lengths differ, else by `OutOfMemory` alone.
 impl<A: Allocator + Clone> BitOr<&BitBuffer<A>> for &BitBuffer<A> {
     ghost use Rattle.vb_bit_buffer.specs.Gives.{GivesCombined};
     ghost use Rattle.vb_bits.specs.declared.zip.BitOp.TheVariants.{Or};
@@ -243,8 +253,9 @@ impl<A: Allocator + Clone> BitOr<&BitBuffer<A>> for &BitBuffer<A> {
 }
 
 /// The bits that are true in one of them and not in both, in the left one's storage where no other
-/// owner has it. Refused by `LengthMismatch` exactly where the lengths differ, else by
-/// `OutOfMemory` alone; the left one is gone then.
+/// owner has it, else in bytes of their own. Memory is taken for such bytes and for the count of
+/// owners, of the left one's allocator. Refused by `LengthMismatch` exactly where the lengths
+/// differ, else by `OutOfMemory` alone; the left one is gone then.
 impl<A: Allocator + Clone> BitXor<&BitBuffer<A>> for BitBuffer<A> {
     ghost use Rattle.vb_bit_buffer.specs.Gives.{GivesCombined};
     ghost use Rattle.vb_bits.specs.declared.zip.BitOp.TheVariants.{Xor};
@@ -258,8 +269,9 @@ impl<A: Allocator + Clone> BitXor<&BitBuffer<A>> for BitBuffer<A> {
     }
 }
 
-/// The bits that are true in one of them and not in both, in bytes of their own. Refused by
-/// `LengthMismatch` exactly where the lengths differ, else by `OutOfMemory` alone.
+/// The bits that are true in one of them and not in both, in bytes of their own, for which and for
+/// the count of owners memory is taken of the left one's allocator. Refused by `LengthMismatch`
+/// exactly where the lengths differ, else by `OutOfMemory` alone.
 impl<A: Allocator + Clone> BitXor<&BitBuffer<A>> for &BitBuffer<A> {
     ghost use Rattle.vb_bit_buffer.specs.Gives.{GivesCombined};
     ghost use Rattle.vb_bits.specs.declared.zip.BitOp.TheVariants.{Xor};
@@ -273,8 +285,9 @@ impl<A: Allocator + Clone> BitXor<&BitBuffer<A>> for &BitBuffer<A> {
     }
 }
 
-/// Each bit negated, in the same storage where no other owner has it. Refused by `OutOfMemory`
-/// alone; the set is gone then.
+/// Each bit negated, in the same storage where no other owner has it, else in bytes of their own.
+/// Memory is taken for such bytes and for the count of owners, of the set's allocator. Refused by
+/// `OutOfMemory` alone; the set is gone then.
 impl<A: Allocator + Clone> Not for BitBuffer<A> {
     ghost use Rattle.vb_bit_buffer.specs.Gives.{GivesNegated};
 
@@ -287,7 +300,8 @@ impl<A: Allocator + Clone> Not for BitBuffer<A> {
     }
 }
 
-/// Each bit negated, in bytes of their own. Refused by `OutOfMemory` alone.
+/// Each bit negated, in bytes of their own, for which and for the count of owners memory is taken
+/// of the set's allocator. Refused by `OutOfMemory` alone.
 impl<A: Allocator + Clone> Not for &BitBuffer<A> {
     ghost use Rattle.vb_bit_buffer.specs.Gives.{GivesNegated};
 

@@ -10,8 +10,9 @@ use vb_core::BufferError;
 #[tactic(auto, using(crate::proofs::SetLemmas::sets))]
 impl<A: Allocator + Clone> BitBuffer<A> {
     /// The bits of a range, which has to be in order and to end within the length. They share the
-    /// storage, from the byte of the first bit on, in constant time. Refused by `OutOfMemory`
-    /// alone, where the allocator can't be copied.
+    /// storage, from the byte of the first bit on, in constant time. It takes no memory but what a
+    /// copy of the allocator takes. Refused by `OutOfMemory` alone, where the allocator can't be
+    /// copied.
     pub fn slice(&self, range: Range<usize>) -> Result<Self, BufferError>
         requires order { range.start ≤ range.end }
         requires within { range.end ≤ length self.now.bits }

@@ -16,7 +16,8 @@ impl<A: Allocator + Clone> BitBufferMut<A> {
     /// What `f` answers at the places from 0 up to `len`, asked in order and once each. Full words
     /// go by vectors of bytes, the rest bit by bit.
     ///
-    /// Refused by `OutOfMemory` alone, before the first question.
+    /// It takes memory for the bytes of the bits. Refused by `OutOfMemory` alone, before the first
+    /// question.
     pub fn collect_bool<F: FnMut(usize) -> bool>(
         alloc: A,
         len: usize,
@@ -36,7 +37,8 @@ impl<A: Allocator + Clone> BitBufferMut<A> {
         Ok(BitBufferMut::from_buffer(bytes, 0, len))
     }
 
-    /// [`collect_bool`](Self::collect_bool), which goes by vectors as it is.
+    /// [`collect_bool`](Self::collect_bool), which goes by vectors as it is: the same answer, the
+    /// same memory and the same refusal.
     pub fn collect_bool_multiversioned<F: FnMut(usize) -> bool>(
         alloc: A,
         len: usize,
@@ -55,7 +57,8 @@ impl<A: Allocator + Clone> BitBufferMut<A> {
         BitBufferMut::collect_bool(alloc, len, f)
     }
 
-    /// The truth values of a slice. Refused by `OutOfMemory` alone.
+    /// The truth values of a slice. It takes memory for the bytes of the bits. Refused by
+    /// `OutOfMemory` alone.
     pub fn from_bools(alloc: A, bools: &[bool]) -> Result<Self, BufferError>
         ensures bits { IfOk result (λ s. s.bits ≡ bools.now) }
         ensures offset { IfOk result (λ s. s.offset ≡ 0) }
@@ -67,7 +70,8 @@ impl<A: Allocator + Clone> BitBufferMut<A> {
         Ok(BitBufferMut::from_buffer(bytes, 0, bools.len()))
     }
 
-    /// The truth values of a vector. Refused by `OutOfMemory` alone.
+    /// The truth values of a vector. It takes memory for the bytes of the bits, and gives the
+    /// vector's back. Refused by `OutOfMemory` alone; the vector is gone then too.
     pub fn from_bool_vec(alloc: A, bools: Vec<bool, A>) -> Result<Self, BufferError>
         ensures bits { IfOk result (λ s. s.bits ≡ bools.items) }
         ensures offset { IfOk result (λ s. s.offset ≡ 0) }
@@ -78,7 +82,8 @@ impl<A: Allocator + Clone> BitBufferMut<A> {
         BitBufferMut::from_bools(alloc, bools.as_slice())
     }
 
-    /// Bytes, each of which is true where it isn't 0. Refused by `OutOfMemory` alone.
+    /// Bytes, each of which is true where it isn't 0. It takes memory for the bytes of the bits.
+    /// Refused by `OutOfMemory` alone.
     pub fn from_truthy(alloc: A, truthy: &[u8]) -> Result<Self, BufferError>
         ensures bits { IfOk result (λ s. s.bits ≡ map (λ x. not (x == 0)) truthy.now) }
         ensures offset { IfOk result (λ s. s.offset ≡ 0) }
@@ -90,10 +95,10 @@ impl<A: Allocator + Clone> BitBufferMut<A> {
         Ok(BitBufferMut::from_buffer(bytes, 0, truthy.len()))
     }
 
-    /// What an iterator gives. No hint of it is asked for.
+    /// What an iterator gives. No hint of it is asked for: the bytes grow with the items.
     ///
     /// Refused by `TooManyBits` at the first item past `usize::MAX` of them, else by `OutOfMemory`
-    /// where memory is.
+    /// where memory is. Then the iterator and the items that it gave are gone.
     pub fn from_iter<I: IntoIterator<Item = bool>>(alloc: A, iter: I) -> Result<Self, BufferError>
         requires { IsFiniteIterable I.into_iter_gives I.IntoIter.can_next
             I.IntoIter.remaining iter }

@@ -9,7 +9,8 @@ use vb_core::BufferError;
 
 #[tactic(auto, using(vb_bit_bytes::proofs::BytesLemmas::edits))]
 impl<A: Allocator + Clone> BitBufferMut<A> {
-    /// A copy, with all the bytes, which takes memory for these. Refused by `OutOfMemory` alone.
+    /// A copy, with all the bytes, which takes memory for these of the set's allocator. Refused by
+    /// `OutOfMemory` alone.
     pub fn clone(&self) -> Result<Self, BufferError>
         ensures same { IfOk result (λ s. s ≡ record self.now { room = s.room }) }
         ensures refused { IsOkUnless result BufferError.OutOfMemory }

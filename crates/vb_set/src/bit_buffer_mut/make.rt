@@ -15,7 +15,8 @@ use vb_mem::{BufferMut, ByteBufferMut};
 #[tactic(auto, using(vb_bit_bytes::proofs::BytesLemmas::edits))]
 impl<A: Allocator + Clone> BitBufferMut<A> {
     /// The `len` bits of a byte buffer from bit `offset` on. They have to lie in its bytes, and
-    /// `offset + len` has to be a `usize`: `vb_kernel::window_fits` is the test.
+    /// `offset + len` has to be a `usize`: `vb_kernel::window_fits` is the test. No memory is
+    /// taken, and what the set asks for later is asked of the buffer's allocator.
     pub fn from_buffer(buffer: ByteBufferMut<A>, offset: usize, len: usize) -> Self
         requires inside { offset + len ≤ 8 * length buffer.list }
         requires fits { offset + len < 2 ^ 64 }
@@ -33,7 +34,7 @@ impl<A: Allocator + Clone> BitBufferMut<A> {
         }
     }
 
-    /// No bits, with room for `n`. Refused by `OutOfMemory` alone.
+    /// No bits, with room for `n`, for whose bytes it takes memory. Refused by `OutOfMemory` alone.
     pub fn with_capacity(alloc: A, n: usize) -> Result<Self, BufferError>
         ensures empty { IfOk result (IsEmptySet 0) }
         ensures room { IfOk result (λ s. n ≤ s.room) }
@@ -43,7 +44,7 @@ impl<A: Allocator + Clone> BitBufferMut<A> {
         Ok(BitBufferMut::from_buffer(buffer, 0, 0))
     }
 
-    /// `n` bits, all true. Refused by `OutOfMemory` alone.
+    /// `n` bits, all true, for whose bytes it takes memory. Refused by `OutOfMemory` alone.
     pub fn new_set(alloc: A, n: usize) -> Result<Self, BufferError>
         ensures bits { IfOk result (λ s. s.bits ≡ replicate n true) }
         ensures len { IfOk result (λ s. length s.bits ≡ n) }
@@ -55,7 +56,7 @@ impl<A: Allocator + Clone> BitBufferMut<A> {
         BitBufferMut::full(alloc, true, n)
     }
 
-    /// `n` bits, all false. Refused by `OutOfMemory` alone.
+    /// `n` bits, all false, for whose bytes it takes memory. Refused by `OutOfMemory` alone.
     pub fn new_unset(alloc: A, n: usize) -> Result<Self, BufferError>
         ensures bits { IfOk result (λ s. s.bits ≡ replicate n false) }
         ensures len { IfOk result (λ s. length s.bits ≡ n) }
@@ -67,7 +68,7 @@ impl<A: Allocator + Clone> BitBufferMut<A> {
         BitBufferMut::full(alloc, false, n)
     }
 
-    /// `n` bits, all `v`. Refused by `OutOfMemory` alone.
+    /// `n` bits, all `v`, for whose bytes it takes memory. Refused by `OutOfMemory` alone.
     pub fn full(alloc: A, v: bool, n: usize) -> Result<Self, BufferError>
         ensures bits { IfOk result (λ s. s.bits ≡ replicate n v) }
         ensures len { IfOk result (λ s. length s.bits ≡ n) }
@@ -86,8 +87,8 @@ impl<A: Allocator + Clone> BitBufferMut<A> {
         BitBufferMut::from_buffer(BufferMut::empty(alloc), 0, 0)
     }
 
-    /// A copy of a shared set, with all its bytes, which takes memory for these. Refused by
-    /// `OutOfMemory` alone.
+    /// A copy of a shared set, with all its bytes, which takes memory for these of the allocator
+    /// that is handed in. Refused by `OutOfMemory` alone.
     pub fn copy_from(alloc: A, set: &BitBuffer<A>) -> Result<Self, BufferError>
         ensures bits { IfOk result (λ s. s.bits ≡ set.now.bits) }
         ensures offset { IfOk result (λ s. s.offset ≡ set.now.offset) }

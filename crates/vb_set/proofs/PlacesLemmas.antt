@@ -1,0 +1,20 @@
+-- Sets made of an iterator's numbers, where it is known which list of numbers it gives.
+use Rattle.std.proofs.Common.{◌≡◌, ℕ, ◌<◌, List, length, get_or, Option, Some, None, refl, ◌∙◌, sym, arith, map-id}
+use Rattle.std.proofs.lemmas.Grind.{get_or_default_zero}
+use Rattle.std.proofs.lemmas.Iterator.{YieldsList}
+use Rattle.std.proofs.lemmas.Iterator.Consumers.{YieldsList-turn, YieldsList-end}
+use Rattle.std.specs.Iterator.{Drains}
+use Rattle.vb_take.specs.Takes.{AllBelow, FirstNotBelow}
+
+module _ {S : Type 0} {steps : S → Option ℕ → S → Type 0} {s : S} {all : List ℕ} (road : YieldsList steps (λ x. x) s all) where
+  -- the items that came are the list
+  pub items_are : (items : List ℕ) → Drains steps s items → items ≡ all
+  items_are items (u, (t, run, step)) =
+      sym (map-id items) ∙ (YieldsList-end road items t run None u refl step).0
+
+  -- where each number of the list is below n, none is the first that isn't
+  pub none_past : (n index : ℕ) → AllBelow n all → FirstNotBelow steps n s index → ⊥
+  none_past n index below (places, u, (t, run, step), front, past) =
+      let turn = YieldsList-turn road places t run (Some index) u index refl step in
+      let zero = get_or_default_zero all (length places) index turn.0 in
+      omega (arith, turn.1, zero, below (length places) turn.0, past)

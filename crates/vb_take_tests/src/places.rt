@@ -1,0 +1,81 @@
+//! Sets made of places: worked rows, and how far the iterator is asked.
+use crate::compared::{answers, equal};
+use std::alloc::Allocator;
+use vb_set::{BitBuffer, BitBufferMut, BufferError};
+use vb_testing::{Handle, Refusing};
+
+/// A length, places below it or not, and the bits or the refusal.
+const PLACES: &[(usize, &[usize], Result<&str, BufferError>)] = &[
+    (4, &[1, 1, 3], Ok("0101")),
+    (0, &[], Ok("")),
+    (
+        4,
+        &[4],
+        Err(BufferError::IndexOutOfRange { index: 4, len: 4 }),
+    ),
+    (
+        10,
+        &[9, 12, 11],
+        Err(BufferError::IndexOutOfRange { index: 12, len: 10 }),
+    ),
+];
+
+/// A set to be shared, made as it is or by way of one to edit.
+fn made<A: Allocator + Clone>(
+    alloc: A,
+    is_shared: bool,
+    len: usize,
+    places: &[usize],
+) -> Result<BitBuffer<A>, BufferError> {
+    let places = places.iter().copied();
+    if is_shared {
+        return BitBuffer::from_indices(alloc, len, places);
+    }
+    BitBufferMut::from_indices(alloc, len, places)?.freeze()
+}
+
+#[test]
+fn places_make_sets_or_are_refused(rt: HostRuntime) {
+    for (len, places, wanted) in PLACES {
+        answers(&rt, made(rt.alloc(), true, *len, places), *wanted);
+        answers(&rt, made(rt.alloc(), false, *len, places), *wanted);
+    }
+}
+
+/// What a call that is given the numbers 2, 3, 4 and 5 as places below 4 answers, and how many of
+/// them it leaves to the iterator.
+fn numbers_left<A: Allocator + Clone>(alloc: A, is_shared: bool) -> (Option<BufferError>, usize) {
+    let mut numbers = 2..6usize;
+    let error = if is_shared {
+        error_of(BitBuffer::from_indices(alloc, 4, numbers.by_ref()))
+    } else {
+        error_of(BitBufferMut::from_indices(alloc, 4, numbers.by_ref()))
+    };
+    (error, numbers.count())
+}
+
+fn error_of<S: Drop>(made: Result<S, BufferError>) -> Option<BufferError> {
+    match made {
+        Ok(set) => {
+            drop(set);
+            None
+        }
+        Err(error) => Some(error),
+    }
+}
+
+/// All memory is asked for before the first number, and no number behind the first that is no
+/// place.
+#[test]
+fn no_number_is_asked_for_in_vain(rt: HostRuntime) {
+    let heap = Refusing::new(rt.alloc(), 0);
+    let past = Some(BufferError::IndexOutOfRange { index: 4, len: 4 });
+    for is_shared in [false, true] {
+        for _ in heap.in_turn() {
+            let answer = numbers_left(Handle { inner: &heap }, is_shared);
+            let wanted = heap.wanted((past, 1), (Some(BufferError::OutOfMemory), 4));
+            equal(&rt, answer, wanted);
+        }
+        equal(&rt, heap.has_refused(), false);
+    }
+}
