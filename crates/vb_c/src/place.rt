@@ -7,7 +7,9 @@ ghost use Rattle.vb_c.specs.Place.{answered_place};
 #[repr(C)]
 #[derive(Clone, Copy)]
 pub struct Place {
+    /// Whether there is a place.
     pub found: bool,
+    /// The place, counted from 0; it says something only where `found` is true.
     pub index: usize,
 }
 

@@ -11,7 +11,9 @@ use vb_walk::{BitIndexIterator, BitSliceIterator};
 #[repr(C)]
 #[derive(Clone, Copy)]
 pub struct Run {
+    /// The place of its first bit.
     pub start: usize,
+    /// The place behind its last bit.
     pub end: usize,
 }
 
