@@ -1,0 +1,109 @@
+"""Whether the pages are exact: nothing public is missing, each link leads somewhere, each public
+item has a docstring."""
+import re
+from html import unescape
+from pathlib import Path
+from urllib.parse import unquote
+
+from reference_pages.rust_items import Item
+from reference_pages.site import Site
+
+DECLARES = re.compile(
+    r'^\s*pub (?:unsafe |const (?=fn)|extern "C" )*(?:fn|struct|enum|trait|type|const|static) (\w+)'
+)
+EXPORTS = re.compile(r"^pub use [^;]*;", re.MULTILINE)
+IDENTITY = re.compile(r'\bid="([^"]*)"')
+
+
+def declared_lines(path: Path) -> list[tuple[int, str]]:
+    """The public declarations of a file, by a look at each of its lines."""
+    found = []
+    for n, line in enumerate(path.read_text(encoding="utf-8").split("\n"), 1):
+        it = DECLARES.match(line)
+        if it:
+            found.append((n, it.group(1)))
+    return found
+
+
+class Checks:
+    """What is wrong with the pages, each with its file and line."""
+
+    def __init__(self, site: Site) -> None:
+        self.site, self.library = site, site.library
+        self.found: list[str] = list(dict.fromkeys(site.errors))
+        self.shown = {
+            (it.source.path, it.line): it for item in site.items()
+            for it in [item, *site.members(item)]
+        }
+        self.missing()
+        self.exports()
+        self.docstrings()
+        self.links()
+
+    # ---- nothing is missing
+    def missing(self) -> None:
+        """Each line that declares something public has an entry; what no user reaches has none."""
+        for crate in self.library.shown:
+            for module in crate.modules.values():
+                path = self.site.root / module.file.source.path
+                for n, name in declared_lines(path):
+                    entry = self.shown.get((module.file.source.path, n))
+                    if entry is None and not self.is_hidden(crate.name, module.path, n, name):
+                        self.found.append(f"{module.file.source.path}:{n}: `{name}` has no entry")
+                    if entry is not None and entry.name != name:
+                        where = f"{module.file.source.path}:{n}"
+                        self.found.append(f"{where}: `{name}` is shown as `{entry.name}`")
+
+    def is_hidden(self, crate: str, module: tuple[str, ...], n: int, name: str) -> bool:
+        """Whether no user can name it: its type isn't public, or no `pub use` gives it."""
+        for item in self.library.crates[crate].modules[module].file.items:
+            if item.kind == "impl" and any(it.line == n for it in item.items):
+                of = self.site.urls.type_of(item)
+                return of is None or not self.library.is_public(of)
+        top = self.site.root / "crates" / crate / "src" / "lib.rt"
+        text = top.read_text(encoding="utf-8")
+        is_given = re.search(rf"\b{name}\b", " ".join(EXPORTS.findall(text)))
+        return bool(module) and not is_given and f"pub mod {module[0]};" not in text
+
+    def exports(self) -> None:
+        """Each name that a crate's `pub use` lists is one that it is shown to give."""
+        for crate in self.library.shown:
+            path = crate.modules[()].file.source.path
+            for text in EXPORTS.findall((self.site.root / path).read_text(encoding="utf-8")):
+                for name in re.findall(r"\b\w+(?=[,}\s]*[,};])", text):
+                    if name not in self.library.reached[crate.name]:
+                        self.found.append(f"{path}: `{name}` of a `pub use` has no entry")
+
+    # ---- docstrings
+    def docstrings(self) -> None:
+        for item in self.site.items():
+            self.documented(item)
+            for it in self.site.members(item):
+                self.documented(it)
+            for it in item.of_kind("variant"):
+                self.documented(it)
+            for it in item.of_kind("field"):
+                if it.visibility == "pub":
+                    self.documented(it)
+
+    def documented(self, item: Item) -> None:
+        if not item.docs.strip():
+            self.found.append(f"{item.place}: `{item.name}` has no docstring")
+
+    # ---- links
+    def links(self) -> None:
+        anchors = {
+            url: {unescape(it) for it in IDENTITY.findall("\n".join(page.body))}
+            for url, page in self.site.pages.items()
+        }
+        for url, page in self.site.pages.items():
+            for to in dict.fromkeys(page.links):
+                path, _, anchor = to.partition("#")
+                if path not in self.site.pages:
+                    self.found.append(f"{url}: leads to {path}, which isn't there")
+                elif anchor and unquote(anchor) not in anchors[path]:
+                    self.found.append(f"{url}: leads to {to}, which isn't there")
+        for row in self.site.names():
+            path, _, anchor = row[2].partition("#")
+            if path not in self.site.pages or anchor and unquote(anchor) not in anchors[path]:
+                self.found.append(f"names.js: {row[0]} leads to {row[2]}, which isn't there")

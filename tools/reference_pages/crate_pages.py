@@ -1,0 +1,161 @@
+"""The page of all crates, and that of one."""
+from html import escape
+
+from reference_pages.antt_items import AnttFile
+from reference_pages.docs_html import docs_html
+from reference_pages.fragments import Fragments
+from reference_pages.html_text import tag
+from reference_pages.item_pages import display
+from reference_pages.library import Crate, Reach, sentence
+from reference_pages.pages import Page
+from reference_pages.rust_items import Item
+
+SECTIONS = [("type", "Types"), ("trait", "Traits"), ("call", "Calls"), ("constant", "Constants")]
+
+
+class CratePages:
+    """Makes the page of the crates, and one for each of them."""
+
+    def __init__(self, fragments: Fragments) -> None:
+        self.fragments, self.library, self.urls = fragments, fragments.library, fragments.urls
+
+    # ---- all crates
+    def groups(self) -> list[tuple[str, list[Crate]]]:
+        """The crates in four groups: the library, commands, other languages and tests, examples."""
+        facade = self.library.crates["vortex_buffer"]
+        library = [it for it in self.library.shown if it is facade or it.name in self.below(facade)]
+        library.sort(key=lambda it: it is not facade)
+        rest = [it for it in self.library.shown if it not in library]
+        examples = [it for it in rest if it.is_example]
+        other = [it for it in rest if it.is_static or it.name == "vb_testing"]
+        commands = [it for it in rest if it not in examples and it not in other]
+        return [
+            ("The library", library),
+            ("Commands", commands),
+            ("Other languages, and tests", other),
+            ("How to use it", examples),
+        ]
+
+    def below(self, crate: Crate) -> set[str]:
+        found: set[str] = set()
+        todo = list(crate.deps)
+        while todo:
+            name = todo.pop()
+            if name in self.library.crates and name not in found:
+                found.add(name)
+                todo += self.library.crates[name].deps
+        return found
+
+    def index(self) -> Page:
+        page = Page("index.html", "vortex_buffer reference")
+        page.add(tag("h1", "Reference"), HOW_TO_READ)
+        for title, crates in self.groups():
+            rows = "".join(self.crate_row(page, it) for it in crates)
+            page.add(tag("h2", title), tag("table", rows, class_="list"))
+            page.nav.append(tag("h2", title))
+            page.nav.append(tag("ul", "".join(
+                tag("li", page.link(f"{it.name}/index.html", it.name)) for it in crates)))
+        return page
+
+    def crate_row(self, page: Page, crate: Crate) -> str:
+        name = page.link(f"{crate.name}/index.html", tag("code", crate.name))
+        return tag("tr", tag("th", name) + tag("td", self.fragments.plain(sentence(crate.docs))))
+
+    # ---- one crate
+    def crate(self, crate: Crate) -> Page:
+        page = Page(f"{crate.name}/index.html", crate.name)
+        place = crate.modules[()].file.source.path
+        every = page.link("index.html", "all crates")
+        where = self.fragments.source_link(page, place, 1)
+        page.add(tag("p", f"{every} {where}", class_="crumbs"))
+        page.add(tag("h1", f'{crate.name} {tag("span", "crate", class_="badge")}'))
+        page.add(tag("div", docs_html(crate.docs, self.lookup(page, crate)), class_="docs"))
+        if not crate.docs:
+            self.fragments.errors.append(f"{place}:1: the crate has no docstring")
+        page.nav.append(tag("p", page.link("index.html", "all crates"), class_="crate"))
+        self.items(page, crate)
+        self.files(page, crate, "specs", "Definitions", "definitions")
+        self.files(page, crate, "proofs", "Lemmas", "lemmas")
+        return page
+
+    def lookup(self, page: Page, crate: Crate):
+        top = crate.modules[()].file
+        stand_in = Item("mod", crate.name, top.source, 0)
+        stand_in.crate = crate.name
+        return self.fragments.lookup(page, stand_in)
+
+    def items(self, page: Page, crate: Crate) -> None:
+        reached = sorted(self.library.reached[crate.name].values(), key=lambda it: it.name.lower())
+        for kind, title in SECTIONS:
+            found = [it for it in reached if display(it.item) == kind]
+            if not found:
+                continue
+            rows = "".join(self.item_row(page, crate, it) for it in found)
+            page.add(tag("h2", title, id=kind), tag("table", rows, class_="list"))
+            page.nav.append(tag("h2", page.link(f"{page.url}#{kind}", title)))
+            page.nav.append(tag("ul", "".join(
+                tag("li", page.link(self.urls.of(it.item), escape(it.name))) for it in found)))
+
+    def item_row(self, page: Page, crate: Crate, reach: Reach) -> str:
+        item = reach.item
+        name = page.link(self.urls.of(item), tag("code", escape(reach.name)))
+        says = self.fragments.first(page, item)
+        if item.crate != crate.name:
+            says += " " + tag("span", f"of {item.crate}", class_="from")
+        return tag("tr", tag("th", name) + tag("td", says))
+
+    # ---- its definitions and lemmas
+    def own_files(self, crate: Crate, folder: str) -> list[AnttFile]:
+        files = crate.specs if folder == "specs" else crate.proofs
+        return [it for name, it in files.items() if name != "Lib"]
+
+    def given_files(self, crate: Crate, folder: str) -> list[AnttFile]:
+        """The files of other crates that a crate re-exports."""
+        files = crate.specs if folder == "specs" else crate.proofs
+        found = []
+        for use in files["Lib"].uses if "Lib" in files else []:
+            path = use.path.split(".")
+            if use.is_public and path[1] in self.library.crates:
+                file = self.library.antt_file(path[1], path[2], path[3])
+                if file is not None:
+                    found.append(file)
+        return found
+
+    def files(self, page: Page, crate: Crate, folder: str, title: str, anchor: str) -> None:
+        own = self.own_files(crate, folder) if folder == "specs" else []
+        given = self.given_files(crate, folder)
+        files = sorted([*own, *given], key=lambda it: it.source.path.split("/")[-1])
+        if not files:
+            return
+        rows = "".join(self.file_row(page, crate, it) for it in files)
+        page.add(tag("h2", title, id=anchor), tag("table", rows, class_="list"))
+        page.nav.append(tag("h2", page.link(f"{page.url}#{anchor}", title)))
+        page.nav.append(tag("ul", "".join(
+            tag("li", page.link(self.urls.file(it), it.source.path.split("/")[-1][:-5]))
+            for it in files)))
+
+    def file_row(self, page: Page, crate: Crate, file: AnttFile) -> str:
+        name = file.source.path.split("/")[-1].removesuffix(".antt")
+        link = page.link(self.urls.file(file), tag("code", name))
+        says = self.fragments.plain(file.sentence)
+        owner = file.source.path.split("/")[1]
+        if owner != crate.name:
+            says += " " + tag("span", f"of {owner}", class_="from")
+        names = [it.name for it in file.declarations if it.is_public and it.kind != "ruleset"]
+        shown = ", ".join(f"<code>{escape(it)}</code>" for it in names[:8])
+        more = f" and {len(names) - 8} more" if len(names) > 8 else ""
+        return tag("tr", tag("th", link) + tag("td", f'{says}<p class="names">{shown}{more}</p>'))
+
+
+HOW_TO_READ = """<div class="docs">
+<p>Each call has its contract: what it asks of its caller, <code>requires</code>, and what then
+holds, <code>ensures</code>. The compiler proves both: a caller that hasn't shown the first is
+refused, and so is a body that doesn't give the second.</p>
+<p>A word of a clause is a link to its definition, which has a sentence above it. A word of the
+standard library shows its path under the pointer. In a clause a value is what its type's page says
+that a clause sees of it: <code>buffer.list</code> is the list of a buffer's items. Of what a
+reference lends, <code>x.now</code> is the value, and of a <code>&amp;mut</code>
+<code>x.old</code> and <code>x.new</code> are the values before and after the call.</p>
+<p class="scripted-only">Press <kbd>/</kbd> to search, <kbd>↑</kbd> <kbd>↓</kbd> to choose,
+<kbd>Enter</kbd> to open.</p>
+</div>"""

@@ -1,0 +1,105 @@
+// The search: names.js has what can be found, as [name, kind, address, sentence, crate].
+(() => {
+  "use strict";
+  const MOST = 40;
+  const query = document.getElementById("query");
+  const found = document.getElementById("found");
+  const root = document.body.dataset.root;
+  let chosen = 0;
+
+  // How well a name answers what was typed; 0 where it doesn't.
+  function rank(name, typed) {
+    const low = name.toLowerCase();
+    const last = low.slice(low.lastIndexOf(":") + 1);
+    if (name === typed) return 100;
+    if (low === typed.toLowerCase() || last === typed.toLowerCase()) return 90;
+    const want = typed.toLowerCase();
+    if (last.startsWith(want)) return 70 - last.length / 100;
+    if (low.startsWith(want)) return 65 - low.length / 100;
+    if (("_" + low.replace(/[:-]+/g, "_")).includes("_" + want)) return 50 - low.length / 100;
+    if (low.includes(want)) return 40 - low.length / 100;
+    return 0;
+  }
+
+  // The names that have each of the words, or whose sentences have them; the best ones first.
+  function search(text) {
+    const words = text.trim().split(/\s+/).filter(Boolean);
+    const rows = [];
+    for (const row of window.NAMES) {
+      let sum = 0;
+      for (const word of words) {
+        const says = row[3].toLowerCase().includes(word.toLowerCase());
+        const good = rank(row[0], word) || (says ? 5 : 0);
+        if (!good) { sum = 0; break; }
+        sum += good;
+      }
+      if (sum) rows.push([sum, row]);
+    }
+    rows.sort((a, b) => b[0] - a[0] || a[1][0].localeCompare(b[1][0]));
+    return rows.slice(0, MOST).map((it) => it[1]);
+  }
+
+  function element(name, text) {
+    const made = document.createElement(name);
+    made.textContent = text;
+    return made;
+  }
+
+  function entry([name, kind, address, sentence, crate], i) {
+    const item = document.createElement("li");
+    const link = document.createElement("a");
+    link.href = root + address;
+    const what = crate ? `${kind} of ${crate}` : kind;
+    link.append(element("b", name), element("i", what), element("span", sentence));
+    link.addEventListener("click", close);
+    item.append(link);
+    item.addEventListener("mousemove", () => choose(i));
+    return item;
+  }
+
+  function choose(i) {
+    const items = [...found.children];
+    chosen = Math.max(0, Math.min(i, items.length - 1));
+    items.forEach((it, k) => it.setAttribute("aria-selected", String(k === chosen)));
+    items[chosen]?.scrollIntoView({ block: "nearest" });
+  }
+
+  function show() {
+    const text = query.value;
+    found.replaceChildren(...search(text).map(entry));
+    if (text.trim() && !found.children.length) {
+      const none = element("li", "Nothing has this name.");
+      none.className = "none";
+      found.append(none);
+    }
+    found.hidden = !text.trim();
+    choose(0);
+  }
+
+  function close() {
+    found.hidden = true;
+    query.blur();
+  }
+
+  query.addEventListener("input", show);
+  query.addEventListener("focus", () => { if (query.value) show(); });
+  query.addEventListener("keydown", (event) => {
+    if (event.key === "ArrowDown") choose(chosen + 1);
+    else if (event.key === "ArrowUp") choose(chosen - 1);
+    else if (event.key === "Enter") found.children[chosen]?.querySelector("a")?.click();
+    else if (event.key === "Escape") close();
+    else return;
+    event.preventDefault();
+  });
+  document.addEventListener("keydown", (event) => {
+    const typing = /^(INPUT|TEXTAREA|SELECT)$/.test(document.activeElement?.tagName ?? "");
+    if (event.key === "/" && !typing && !event.ctrlKey && !event.metaKey && !event.altKey) {
+      event.preventDefault();
+      query.focus();
+      query.select();
+    }
+  });
+  document.addEventListener("click", (event) => {
+    if (!event.target.closest(".search")) found.hidden = true;
+  });
+})();

@@ -1,0 +1,119 @@
+"""What a clause sees of a type: its model, the definitions that ask it, or its own parts."""
+from html import escape
+
+from reference_pages.antt_items import AnttFile, Declaration
+from reference_pages.antt_text import words_of
+from reference_pages.fragments import Fragments
+from reference_pages.html_text import linked_html, tag
+from reference_pages.pages import Page
+from reference_pages.rust_items import Item
+
+SAYS = {
+    "Value": "its value is a",
+    "view": "made of its parts",
+    "invariant": "always holds",
+    "inverse": "and back",
+    "also_owns": "also owns",
+}
+
+
+class Sight:
+    """Adds the section to the page of a type."""
+
+    def __init__(self, fragments: Fragments) -> None:
+        self.fragments, self.library, self.urls = fragments, fragments.library, fragments.urls
+        self.asked = self.asking()
+
+    def asking(self) -> dict[int, list[Declaration]]:
+        """For each type the definitions whose first argument is a value of it."""
+        found: dict[int, list[Declaration]] = {}
+        for crate in self.library.shown:
+            for file in crate.specs.values():
+                self.ask(file, found)
+        return found
+
+    def ask(self, file: AnttFile, found: dict[int, list[Declaration]]) -> None:
+        scope = self.fragments.scopes.of_antt(file)
+        for declared in file.declarations:
+            name = first_argument(declared)
+            target = scope.imported.get(name)
+            if target is not None and target.item is not None:
+                found.setdefault(id(target.item), []).append(declared)
+
+    def add(self, page: Page, item: Item) -> None:
+        model = self.library.model_of(item)
+        asked = self.asked.get(id(item), [])
+        ghosts = self.fragments.ghosts(page, item)
+        if model is None and not asked and not ghosts:
+            self.parts(page, item)
+            return
+        page.add(tag("h2", "What a clause sees", id="sees"))
+        if model is not None:
+            self.model(page, model)
+        if asked:
+            self.questions(page, asked)
+        page.add(ghosts)
+
+    def parts(self, page: Page, item: Item) -> None:
+        """A type without a model is seen as it is."""
+        if item.kind == "enum":
+            text = "The variant, with its fields."
+        elif any(it.visibility == "pub" for it in item.of_kind("field")):
+            text = "Its fields."
+        else:
+            text = "No part of it: what its calls say is all."
+        page.add(tag("h2", "What a clause sees", id="sees"), tag("p", text))
+
+    def model(self, page: Page, model: Item) -> None:
+        """The value that stands for it in contracts, and what always holds of it."""
+        rows = []
+        for it in model.of_kind("ghost"):
+            scope = self.fragments.scopes.of_block(it)
+            linked = self.fragments.link_clause(it, it.clauses[0], scope)
+            rows.append(self.fragments.row(page, SAYS.get(it.name, it.name), "", linked))
+            if it.name == "Value":
+                self.value(page, linked)
+        summary = tag("summary", "How its value is made of its parts")
+        table = tag("table", "".join(rows), class_="contract")
+        page.add(tag("details", summary + table, class_="glossary"))
+
+    def value(self, page: Page, linked: list) -> None:
+        """The record that the value is, with its sentence and its text; or its type."""
+        records = [it for it in self.fragments.definitions(linked) if it.kind == "record"]
+        shown = tag("code", linked_html(linked, page.href))
+        if not records:
+            page.add(tag("p", f"A clause sees it as {shown}."))
+            return
+        record = records[0]
+        says = self.fragments.plain(record.sentence)
+        page.add(tag("p", f"A clause sees it as {shown}: {says}."))
+        page.add(self.fragments.definition(page, record, self.scope_of(record)))
+
+    def scope_of(self, declared: Declaration):
+        _, crate, folder, name = declared.source.path.split("/")
+        file = self.library.antt_file(crate, folder, name.removesuffix(".antt"))
+        assert file is not None
+        return self.fragments.scopes.of_antt(file)
+
+    def questions(self, page: Page, asked: list[Declaration]) -> None:
+        rows = "".join(
+            tag("dt", page.link(self.urls.declaration(it), escape(it.name)))
+            + tag("dd", self.fragments.plain(it.sentence))
+            for it in asked
+        )
+        page.add(tag("dl", rows, class_="words"))
+
+
+def first_argument(declared: Declaration) -> str:
+    """The type of the first argument that a definition takes, or of a record's first parameter."""
+    words = [it for it in words_of(declared.signature) if it.kind != "space"]
+    at = next((i for i, it in enumerate(words) if it.text == declared.name), len(words)) + 1
+    while at < len(words) and words[at].text == "{":
+        at = next((i for i in range(at, len(words)) if words[i].text == "}"), len(words)) + 1
+    if at < len(words) and words[at].text == ":":
+        at += 1
+        while at < len(words) and words[at].text == "{":
+            at = next((i for i in range(at, len(words)) if words[i].text == "→"), len(words)) + 1
+        return words[at].text if at < len(words) else ""
+    colon = next((i for i in range(at, len(words)) if words[i].text == ":"), len(words))
+    return words[colon + 1].text if colon + 1 < len(words) else ""

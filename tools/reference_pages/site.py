@@ -1,0 +1,187 @@
+"""All pages: made, checked, and written into a folder."""
+import json
+import re
+import shutil
+from html import escape
+from pathlib import Path
+
+from reference_pages.antt_items import AnttFile
+from reference_pages.antt_pages import AnttPages
+from reference_pages.crate_pages import CratePages
+from reference_pages.examples import Examples
+from reference_pages.fragments import Fragments
+from reference_pages.html_text import rust_lines, tag
+from reference_pages.item_pages import ItemPages, display, public_members
+from reference_pages.library import Library, sentence
+from reference_pages.pages import HERE, Page
+from reference_pages.rust_items import Item
+from reference_pages.rust_text import Source
+from reference_pages.urls import Urls, source_page
+
+
+class Site:
+    """The pages of a repository."""
+
+    def __init__(self, root: Path) -> None:
+        self.root = root
+        self.library = Library(root)
+        self.urls = Urls(self.library)
+        self.pages: dict[str, Page] = {}
+        self.fragments = Fragments(self.library, self.urls, Examples(self.library, self.calls()))
+        self.item_pages = ItemPages(self.fragments)
+        self.crate_pages = CratePages(self.fragments)
+        self.antt_pages = AnttPages(self.fragments)
+        self.make()
+
+    @property
+    def errors(self) -> list[str]:
+        return self.fragments.errors
+
+    def items(self) -> list[Item]:
+        """The public items, those of each crate by their names."""
+        return [it for crate in self.library.shown for it in self.library.own_items(crate)]
+
+    def members(self, item: Item) -> list[Item]:
+        """The public calls and constants of a type or trait."""
+        blocks = [item] if item.kind == "trait" else []
+        members = [it for block in blocks for it in block.of_kind("fn", "const")]
+        for impl, trait in self.library.impls_of(item):
+            if not trait:
+                members += [it for it in impl.of_kind("fn", "const") if it.visibility == "pub"]
+        return members
+
+    def calls(self) -> list[Item]:
+        every = [it for item in self.items() for it in [item, *self.members(item)]]
+        return [it for it in every if it.kind == "fn"]
+
+    # ---- pages
+    def make(self) -> None:
+        self.add(self.crate_pages.index())
+        for crate in self.library.shown:
+            self.add(self.crate_pages.crate(crate))
+        for item in self.items():
+            self.add(self.item_pages.page(item))
+        made = [(self.antt_pages.page(it), it) for it in self.antt_files()]
+        made += self.led_to([page for page, _ in made])
+        for page, file in made:
+            self.antt_pages.add_citations(page, file)
+            self.add(page)
+        for path in sorted(self.source_paths()):
+            self.add(self.source(path))
+
+    def led_to(self, pages: list[Page]) -> list[tuple[Page, AnttFile]]:
+        """The pages of lemmas to which these lead, and which aren't made yet."""
+        made = {it.url for it in pages}
+        found: list[tuple[Page, AnttFile]] = []
+        for page in pages:
+            for url in page.links:
+                path = url.partition("#")[0]
+                crate, _, name = path.partition("/proofs/")
+                if name and path not in made:
+                    file = self.library.antt_file(crate, "proofs", name.removesuffix(".html"))
+                    if file is not None:
+                        made.add(path)
+                        found.append((self.antt_pages.page(file), file))
+        return found
+
+    def add(self, page: Page) -> None:
+        if page.url.lower() in (it.lower() for it in self.pages):
+            self.errors.append(f"two pages have the address {page.url}")
+        self.pages[page.url] = page
+
+    def antt_files(self) -> list[AnttFile]:
+        """All files of definitions, and those of lemmas that another crate re-exports or cites."""
+        found = {}
+        for crate in self.library.shown:
+            own = self.crate_pages.own_files(crate, "specs")
+            for it in [*own, *self.crate_pages.given_files(crate, "proofs")]:
+                found[it.source.path] = it
+        for crate in self.library.shown:
+            for module in crate.modules.values():
+                for use in module.ghost_uses:
+                    self.cited_file(use.path, found)
+            for file in crate.specs.values():
+                for use in file.uses:
+                    self.cited_file(use.path, found)
+            for item in crate.all_items():
+                for it in item.imports:
+                    self.cited_file(it.head_text.split()[2].partition(".{")[0], found)
+        return list(found.values())
+
+    def cited_file(self, path: str, found: dict[str, AnttFile]) -> None:
+        steps = path.split(".")
+        if len(steps) > 3 and steps[1] in self.library.crates and steps[2] == "proofs":
+            file = self.library.antt_file(steps[1], "proofs", steps[3])
+            if file is not None:
+                found[file.source.path] = file
+
+    def source_paths(self) -> set[str]:
+        """The files that a page leads to."""
+        found = set(self.fragments.sources)
+        for page in self.pages.values():
+            for url in page.links:
+                if url.startswith("source/"):
+                    found.add(url.partition("#")[0].removeprefix("source/").removesuffix(".html"))
+        return found
+
+    def source(self, path: str) -> Page:
+        page = Page(source_page(path), path)
+        source = Source.read(self.root, self.root / path)
+        if path.endswith(".rt"):
+            lines = rust_lines(source)
+        else:
+            lines = [self.antt_line(it) for it in source.text.rstrip("\n").split("\n")]
+        numbered = "".join(
+            f'<a id="L{n}" href="#L{n}" data-n="{n}"></a>{line}\n'
+            for n, line in enumerate(lines, 1)
+        )
+        crate = path.split("/")[1]
+        if f"{crate}/index.html" in self.pages:
+            page.nav.append(tag("p", page.link(f"{crate}/index.html", crate), class_="crate"))
+        page.add(tag("p", escape(path), class_="crumbs"))
+        page.add(tag("pre", tag("code", numbered), class_="source"))
+        return page
+
+    def antt_line(self, line: str) -> str:
+        body = escape(line, quote=False)
+        return tag("span", body, class_="co") if line.lstrip().startswith("--") else body
+
+    # ---- names to search
+    def names(self) -> list[list[str]]:
+        """What can be found: its name, kind, address, sentence and crate."""
+        rows = [
+            [it.name, "crate", f"{it.name}/index.html", sentence(it.docs), ""]
+            for it in self.library.shown
+        ]
+        for item in self.items():
+            rows.append(self.name_row(item, item.name))
+            for _, members in public_members(self.fragments, item):
+                rows += [self.name_row(it, f"{item.name}::{it.name}") for it in members]
+            variants = item.of_kind("variant")
+            rows += [self.name_row(it, f"{item.name}::{it.name}") for it in variants]
+        for file in self.antt_files():
+            crate, folder = file.source.path.split("/")[1:3]
+            kind = "word" if folder == "specs" else "lemma"
+            rows += [
+                [it.name, kind, self.urls.declaration(it), it.sentence, crate]
+                for it in file.declarations
+                if it.is_public and it.kind != "ruleset"
+            ]
+        return rows
+
+    def name_row(self, item: Item, name: str) -> list[str]:
+        said = re.sub(r"\[(`[^`]+`)\](\([^)]*\))?", r"\1", sentence(item.docs)).replace("`", "")
+        return [name, display(item), self.urls.of(item), said, item.crate]
+
+    # ---- files
+    def write(self, folder: Path) -> None:
+        if folder.exists():
+            shutil.rmtree(folder)
+        for page in self.pages.values():
+            path = folder / page.url
+            path.parent.mkdir(parents=True, exist_ok=True)
+            path.write_text(page.html(), encoding="utf-8")
+        for name in ("style.css", "search.js"):
+            shutil.copy(HERE / name, folder / name)
+        names = json.dumps(self.names(), ensure_ascii=False, separators=(",", ":"))
+        (folder / "names.js").write_text(f"window.NAMES={names};\n", encoding="utf-8")

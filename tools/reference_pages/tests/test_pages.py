@@ -1,0 +1,152 @@
+"""What the pages say of a small repository, and which errors are found."""
+import re
+import tempfile
+import unittest
+from pathlib import Path
+
+from reference_pages.checks import Checks
+from reference_pages.site import Site
+from reference_pages.tests.fixture import Repository
+
+COUNTER = "crates/low/src/counter.rt"
+
+
+def text_of(html: str) -> str:
+    return re.sub(r"<[^>]+>", "", html)
+
+
+def errors(*edits: tuple[str, str, str]) -> list[str]:
+    with Repository(*edits) as root:
+        return Checks(Site(Path(root))).found
+
+
+class Pages(unittest.TestCase):
+    @classmethod
+    def setUpClass(cls):
+        cls.repository = Repository()
+        cls.site = Site(cls.repository.root)
+
+    @classmethod
+    def tearDownClass(cls):
+        cls.repository.cleanup()
+
+    def html(self, url: str) -> str:
+        return self.site.pages[url].html()
+
+    def test_nothing_is_wrong(self):
+        self.assertEqual(Checks(self.site).found, [])
+
+    def test_each_kind_of_thing_has_a_page(self):
+        wanted = {
+            "index.html", "low/index.html", "vortex_buffer/index.html", "low/Counter.html",
+            "low/Place.html", "low/Step.html", "low/fresh.html", "use_low/three.html",
+            "low/specs/Seen.html", "low/proofs/SeenLemmas.html",
+            "source/crates/low/src/counter.rt.html",
+        }
+        self.assertLessEqual(wanted, set(self.site.pages))
+
+    def test_words_lead_to_definitions_and_those_of_std_say_where_they_are(self):
+        html = self.html("low/Counter.html")
+        link = 'href="specs/Seen.html#counted" title="the count with more">counted</a>'
+        self.assertIn(link, html)
+        self.assertIn('title="Rattle.std.specs.Prelude.◌≡◌">≡</span>', html)
+
+    def test_a_field_leads_to_the_record_that_a_clause_sees(self):
+        html = self.html("low/Counter.html")
+        self.assertIn('href="specs/Seen.html#Seen.count"', html)
+        self.assertIn("A clause sees it as Seen: how many were counted.", text_of(html))
+
+    def test_a_contract_names_its_clauses(self):
+        html = self.html("low/fresh.html")
+        self.assertIn('<span class="kind">ensures</span><span class="name">zero</span>', html)
+
+    def test_private_items_have_no_entry(self):
+        self.assertNotIn('id="hidden"', self.html("low/Counter.html"))
+
+    def test_what_is_given_again_leads_to_the_first_page(self):
+        html = self.html("vortex_buffer/index.html")
+        self.assertIn('href="../low/Counter.html"', html)
+        self.assertIn("of low", text_of(html))
+
+    def test_an_example_is_the_shortest_function_that_calls(self):
+        html = text_of(self.html("low/Counter.html"))
+        self.assertIn("fn one_is_added", html)
+        self.assertIn("use_low/src/lib.rt:", html)
+        self.assertIn("pub fn three", text_of(self.html("low/Counter.html")))
+
+    def test_a_definition_says_who_cites_it(self):
+        html = self.html("low/specs/Seen.html")
+        self.assertIn('Cited by the contracts of <a href="../Counter.html#add">', html)
+
+    def test_patterns_are_no_links(self):
+        html = self.html("low/specs/Seen.html")
+        self.assertIn("more)", text_of(html))
+        self.assertNotIn(">more</a>", html)
+
+    def test_a_lemma_is_shown_without_its_proof(self):
+        html = self.html("low/proofs/SeenLemmas.html")
+        self.assertIn("one_is_one", html)
+        self.assertNotIn("refl", html)
+
+    def test_a_docstring_leads_to_what_it_names(self):
+        self.assertIn('<a href="#counted"><code>counted</code></a>', self.html("low/Counter.html"))
+
+    def test_names_can_be_searched(self):
+        names = {(row[0], row[1]) for row in self.site.names()}
+        self.assertLessEqual(
+            {("Counter::add", "call"), ("Place::At", "variant"), ("counted", "word"),
+             ("one_is_one", "lemma"), ("Step", "trait"), ("low", "crate")}, names)
+
+    def test_the_pages_are_written(self):
+        with tempfile.TemporaryDirectory() as folder:
+            self.site.write(Path(folder) / "made")
+            made = {it.name for it in (Path(folder) / "made").iterdir()}
+            self.assertLessEqual({"index.html", "style.css", "search.js", "names.js"}, made)
+
+
+class Errors(unittest.TestCase):
+    def test_a_missing_docstring(self):
+        found = errors((COUNTER, "    /// Nowhere.\n", ""))
+        self.assertEqual(found, [f"{COUNTER}:50: `Nowhere` has no docstring"])
+
+    def test_a_crate_without_one(self):
+        found = errors(("crates/low/src/lib.rt", "//! Counts that are kept.\n", ""))
+        self.assertEqual(found, ["crates/low/src/lib.rt:1: the crate has no docstring"])
+
+    def test_a_word_that_is_not_known(self):
+        found = errors((COUNTER, "counted self.old by", "countd self.old by"))
+        self.assertEqual(found, [f"{COUNTER}:22: the word `countd` isn't known"])
+
+    def test_a_docstring_that_leads_nowhere(self):
+        found = errors((COUNTER, "[`fresh`]", "[`stale`]"))
+        self.assertEqual(found, [f"{COUNTER}:22: `stale` of its docstring isn't there"])
+
+    def test_a_definition_without_a_sentence(self):
+        found = errors(("crates/low/specs/Seen.antt", "-- the number is one\n", ""))
+        self.assertEqual(found, ["crates/low/specs/Seen.antt:12: `IsOne` has no sentence above it"])
+
+    def test_an_export_that_is_not_there(self):
+        found = errors(("crates/low/src/lib.rt", "Place, fresh}", "Place, fresh, stale}"))
+        self.assertEqual(found, ["crates/low/src/lib.rt: `stale` of a `pub use` has no entry"])
+
+    def test_an_item_that_is_left_out(self):
+        with Repository() as root:
+            site = Site(Path(root))
+            site.members = lambda item: []
+            found = Checks(site).found
+        self.assertIn(f"{COUNTER}:22: `add` has no entry", found)
+
+    def test_a_link_that_leads_nowhere(self):
+        with Repository() as root:
+            site = Site(Path(root))
+            site.pages["index.html"].href("low/Nothing.html")
+            site.pages["index.html"].href("low/Counter.html#nothing")
+            found = Checks(site).found
+        self.assertEqual(found, [
+            "index.html: leads to low/Nothing.html, which isn't there",
+            "index.html: leads to low/Counter.html#nothing, which isn't there",
+        ])
+
+
+if __name__ == "__main__":
+    unittest.main()

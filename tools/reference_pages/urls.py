@@ -1,0 +1,68 @@
+"""Where each thing stands in the pages."""
+from urllib.parse import quote
+
+from reference_pages.antt_items import AnttFile, Declaration
+from reference_pages.library import Library
+from reference_pages.rust_heads import impl_parts
+from reference_pages.rust_items import Item
+
+
+def source_page(path: str) -> str:
+    return f"source/{path}.html"
+
+
+def has_entry(item: Item, owner: Item) -> bool:
+    """Whether the page of a type has an entry for one of its members."""
+    if item.kind in ("variant", "ghost") or owner.kind == "trait" or item.visibility == "pub":
+        return True
+    is_of_trait = owner.kind == "impl" and bool(impl_parts(owner.head_text)[0])
+    return is_of_trait and item.kind == "fn" and bool(item.docs or item.clauses)
+
+
+class Urls:
+    """The address of an item or a declaration, from the top of the pages."""
+
+    def __init__(self, library: Library) -> None:
+        self.library = library
+        self.anchors: dict[int, str] = {}
+        for crate in library.shown:
+            for item in library.own_items(crate):
+                self.number_members(item)
+
+    def number_members(self, item: Item) -> None:
+        """Gives each member of a type an anchor of its own: two of one name get numbers."""
+        taken: set[str] = set()
+        blocks = [impl for impl, _ in self.library.impls_of(item)]
+        for block in [item, *blocks]:
+            for member in block.items:
+                name, n = member.name, 1
+                while name in taken:
+                    n += 1
+                    name = f"{member.name}-{n}"
+                taken.add(name)
+                self.anchors[id(member)] = name
+
+    def of(self, item: Item) -> str:
+        """The page of a public item, the anchor of its member, or the line of any other."""
+        if self.library.is_public(item):
+            return f"{item.crate}/{item.name}.html"
+        owner = item.owner
+        if id(item) in self.anchors and owner is not None and has_entry(item, owner):
+            page = self.type_of(owner)
+            if page is not None and self.library.is_public(page):
+                return f"{page.crate}/{page.name}.html#{quote(self.anchors[id(item)])}"
+        return f"{source_page(item.source.path)}#L{item.line}"
+
+    def type_of(self, block: Item) -> Item | None:
+        if block.kind != "impl":
+            return block if block.kind in ("struct", "enum", "trait") else None
+        return next((of for it, _, _, _, of in self.library.impls if it is block), None)
+
+    def file(self, file: AnttFile) -> str:
+        _, crate, folder, name = file.source.path.split("/")
+        return f"{crate}/{folder}/{name.removesuffix('.antt')}.html"
+
+    def declaration(self, declared: Declaration, member: str = "") -> str:
+        _, crate, folder, name = declared.source.path.split("/")
+        anchor = quote(f"{declared.name}.{member}" if member else declared.name)
+        return f"{crate}/{folder}/{name.removesuffix('.antt')}.html#{anchor}"
