@@ -132,9 +132,10 @@ class Linker:
         self.bound = [it for it in self.bound if it.depth < 0] + [
             it for it in self.bound if it.name in self.module_names()
         ]
-        own = self.own_parts()
+        own, inner = self.own_parts(), 0
         for word in self.words[i:]:
-            if word.text == "=" or word.text == ":":
+            inner += {"(": 1, "{": 1, ")": -1, "}": -1}.get(word.text, 0)
+            if word.text in ("=", ":") and inner == 0:
                 return
             if word.kind == "name" and word.text not in own and self.lookup(word.text) is None:
                 self.bind(word.text, depth)

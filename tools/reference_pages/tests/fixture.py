@@ -108,6 +108,10 @@ IsOne n = n ≡ 1
 abbrev pub total : List ℕ → ℕ
 total [] = 0
 total (n ∷ more) = n + total more
+
+-- the list has no number
+abbrev pub IsNone : {S : Type 0} → (S → ℕ) → S → Type 0
+IsNone {S = S} measure s = measure s ≡ 0
 """,
     "crates/low/proofs/Lib.antt": "pub mod SeenLemmas\n",
     "crates/low/proofs/SeenLemmas.antt": """-- Laws of what is seen.
