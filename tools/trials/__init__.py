@@ -1,1 +1,0 @@
-"""Wrong bodies, tried many to a check: what `tools/edits` is made of."""
