@@ -13,6 +13,13 @@ pub set_same : {T : Type 0} (l : List T) (k : ℕ) (x : T)
     → slice_get l k ≡ Some x → slice_set l k x ≡ l
 set_same l k x held = rw (get_or_from_slice_get l k x x held) at (set-get_or l k x)
 
+-- where there is no item nothing is written
+pub set_none : {T : Type 0} (l : List T) (k : ℕ) (x : T)
+    → slice_get l k ≡ None → slice_set l k x ≡ l
+set_none [] k x none = refl
+set_none (z ∷ zs) zero x none = absurd (none-some z (sym none))
+set_none (z ∷ zs) (suc k) x none = ap (λ l. z ∷ l) (set_none zs k x none)
+
 -- an item of a list that is seen as another
 pub get_seen : {S M : Type 0} (see : S → M) (l : List S) (seen : List M) (k : ℕ) (x : S)
     → map see l ≡ seen → Some x ≡ slice_get l k → Some (see x) ≡ slice_get seen k

@@ -49,10 +49,14 @@ impl<A: Allocator + Clone> Pool<A> {
         self.frozen_at(j)?;
         let mut set = self.take_open(k)?;
         // Slot j holds its set still, since slot k held an open one.
-        let added = set.append_set(self.frozen_at(j)?);
-        let done = self.put(k, Slot::Open(set));
+        let Ok(more) = self.frozen_at(j) else {
+            drop(set);
+            return Err(Refusal::BadSlot);
+        };
+        let added = set.append_set(more);
+        drop(self.put(k, Slot::Open(set)));
         added.map_err(refusal_of)?;
-        Ok(done)
+        Ok(Answer::Done)
     }
 
     /// Makes the bits from `a` up to `b`, `b` excluded, `v`.

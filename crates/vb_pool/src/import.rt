@@ -43,7 +43,10 @@ impl<A: Allocator + Clone> Pool<A> {
         ensures { Outcome self.old (machine.Import k offset len bytes.items)
             (answered result) self.new }
     {
-        self.can_import(k, offset, len, &bytes)?;
+        if let Err(why) = self.can_import(k, offset, len, &bytes) {
+            drop(bytes);
+            return Err(why);
+        }
         let set = OpenBits::window(alloc, bytes, offset, len).map_err(refusal_of)?;
         Ok(self.put(k, Slot::Open(set)))
     }

@@ -75,7 +75,11 @@ impl<A: Allocator + Clone> OpenBits<A> {
         ensures bits { IfOk result (λ s. s ≡ bits bytes.items offset len) }
         ensures refused { IsOkUnless result OutOfMemory }
     {
-        let buffer = Buffer::from_vec(alloc.clone()?, bytes)?.into_mut()?;
+        let Ok(alloc) = alloc.clone() else {
+            drop(bytes);
+            return Err(BufferError::OutOfMemory);
+        };
+        let buffer = Buffer::from_vec(alloc, bytes)?.into_mut()?;
         Ok(OpenBits::new(BitBufferMut::from_buffer(buffer, offset, len)))
     }
 
@@ -84,7 +88,7 @@ impl<A: Allocator + Clone> OpenBits<A> {
         ensures bits { IfOk result (λ s. s ≡ replicate n v) }
         ensures refused { IsOkUnless result OutOfMemory }
     {
-        Ok(OpenBits::new(BitBufferMut::full(alloc.clone()?, v, n)?))
+        BitBufferMut::full(alloc.clone()?, v, n).map(OpenBits::new)
     }
 
     /// `n` bits, true exactly at these places. Refused by `OutOfMemory` alone.
@@ -105,8 +109,21 @@ impl<A: Allocator + Clone> OpenBits<A> {
         prove!(set.offset() < 8);
         match set.try_into_mut() {
             Ok(set) => Ok(OpenBits::new(set)),
-            Err(set) => Ok(OpenBits::new(BitBufferMut::copy_from(alloc.clone()?, &set)?)),
+            Err(set) => {
+                let copy = OpenBits::copy_from(alloc, &set);
+                drop(set);
+                copy
+            }
         }
+    }
+
+    /// The bits of a shared set, in a copy. Refused by `OutOfMemory` alone.
+    fn copy_from(alloc: &A, set: &BitBuffer<A>) -> Result<Self, BufferError>
+        ensures bits { IfOk result (λ s. s ≡ set.now.bits) }
+        ensures refused { IsOkUnless result OutOfMemory }
+    {
+        prove!(set.offset() < 8);
+        BitBufferMut::copy_from(alloc.clone()?, set).map(OpenBits::new)
     }
 
     /// The same bits to be shared, with no copy. Refused by `OutOfMemory` alone; then the set is
@@ -123,7 +140,7 @@ impl<A: Allocator + Clone> OpenBits<A> {
         ensures same { IfOk result (λ s. s ≡ self.now) }
         ensures refused { IsOkUnless result OutOfMemory }
     {
-        Ok(OpenBits::new(self.set.clone()?))
+        self.set.clone().map(OpenBits::new)
     }
 
     /// The set, to read.

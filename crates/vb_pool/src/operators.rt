@@ -38,7 +38,14 @@ impl<A: Allocator + Clone> Pool<A> {
         }
         let set = match mode {
             Mode::Ref => combined(self.frozen_at(l)?, self.frozen_at(r)?, op),
-            Mode::Own => into_combined(self.take_frozen(l)?, self.frozen_at(r)?, op),
+            Mode::Own => {
+                let left = self.take_frozen(l)?;
+                let Ok(right) = self.frozen_at(r) else {
+                    drop(left);
+                    return Err(Refusal::BadSlot);
+                };
+                into_combined(left, right, op)
+            }
         };
         Ok(self.put(t, Slot::Frozen(set.map_err(refusal_of)?)))
     }

@@ -146,7 +146,7 @@ impl<A: Allocator + Clone> Pool<A> {
         ensures slots { self.new ≡ slice_set self.old k (content slot) }
         ensures done { reply result ≡ Done }
     {
-        let _ = self.slots.replace(k, slot);
+        drop(self.slots.replace(k, slot));
         Answer::Done
     }
 }

@@ -38,7 +38,11 @@ impl<A: Allocator + Clone> Pool<A> {
             Command::Import(k, offset, len, bytes) => {
                 answer_of(self.import_owned(alloc, k, offset, len, bytes))
             }
-            other => self.serve(alloc, &other),
+            other => {
+                let answer = self.serve(alloc, &other);
+                drop(other);
+                answer
+            }
         }
     }
 
@@ -46,44 +50,44 @@ impl<A: Allocator + Clone> Pool<A> {
     fn carry_out(&mut self, alloc: &A, command: &Command<A>) -> Result<Answer<A>, Refusal>
         ensures { Outcome self.old (order command.now) (answered result) self.new }
     {
-        match command {
-            Command::Import(k, offset, len, bytes) => {
-                self.import(alloc, *k, *offset, *len, bytes)
+        match *command {
+            Command::Import(k, offset, len, ref bytes) => {
+                self.import(alloc, k, offset, len, bytes)
             }
-            Command::Full(k, v, n) => self.full(alloc, *k, *v, *n),
-            Command::Indices(k, n, places) => self.indices(alloc, *k, *n, places),
-            Command::Set(k, i, v) => self.set(*k, *i, *v),
-            Command::Append(k, v) => self.append(*k, *v),
-            Command::Appendn(k, v, n) => self.append_n(*k, *v, *n),
-            Command::Appendset(k, j) => self.append_set(*k, *j),
-            Command::Fill(k, a, b, v) => self.fill(*k, *a, *b, *v),
-            Command::Truncate(k, n) => self.truncate(*k, *n),
-            Command::Clear(k) => self.clear(*k),
-            Command::Flip(k) => self.flip(*k),
-            Command::Freeze(k) => self.freeze(*k),
-            Command::Thaw(k) => self.thaw(alloc, *k),
-            Command::Clone(k, t) => self.clone(*k, *t),
-            Command::Slice(k, a, b, t) => self.slice(*k, *a, *b, *t),
-            Command::Sliced(k, t) => self.sliced(*k, *t),
-            Command::Drop(k) => self.drop(*k),
-            Command::And(mode, l, r, t) => self.combine(BitOp::And, *mode, *l, *r, *t),
-            Command::Or(mode, l, r, t) => self.combine(BitOp::Or, *mode, *l, *r, *t),
-            Command::Xor(mode, l, r, t) => self.combine(BitOp::Xor, *mode, *l, *r, *t),
-            Command::Andnot(mode, l, r, t) => self.combine(BitOp::AndNot, *mode, *l, *r, *t),
-            Command::Not(mode, l, t) => self.not(*mode, *l, *t),
-            Command::Take(k, t, m, indices) => self.take(alloc, *k, *t, *m, indices),
-            Command::Len(k) => self.len(*k),
-            Command::Count(k) => self.count(*k),
-            Command::Get(k, i) => self.get(*k, *i),
-            Command::Countrange(k, a, b) => self.count_range(*k, *a, *b),
-            Command::Select(k, n) => self.select(*k, *n),
-            Command::Selectunset(k, n) => self.select_unset(*k, *n),
-            Command::Last(k) => self.last(*k),
-            Command::Bits(k) => self.bits(alloc, *k),
-            Command::Places(k) => self.places(alloc, *k),
-            Command::Runs(k) => self.runs(alloc, *k),
-            Command::Show(k) => self.show(alloc, *k),
-            Command::Eq(k, j) => self.equal(*k, *j),
+            Command::Full(k, v, n) => self.full(alloc, k, v, n),
+            Command::Indices(k, n, ref places) => self.indices(alloc, k, n, places),
+            Command::Set(k, i, v) => self.set(k, i, v),
+            Command::Append(k, v) => self.append(k, v),
+            Command::Appendn(k, v, n) => self.append_n(k, v, n),
+            Command::Appendset(k, j) => self.append_set(k, j),
+            Command::Fill(k, a, b, v) => self.fill(k, a, b, v),
+            Command::Truncate(k, n) => self.truncate(k, n),
+            Command::Clear(k) => self.clear(k),
+            Command::Flip(k) => self.flip(k),
+            Command::Freeze(k) => self.freeze(k),
+            Command::Thaw(k) => self.thaw(alloc, k),
+            Command::Clone(k, t) => self.clone(k, t),
+            Command::Slice(k, a, b, t) => self.slice(k, a, b, t),
+            Command::Sliced(k, t) => self.sliced(k, t),
+            Command::Drop(k) => self.drop(k),
+            Command::And(mode, l, r, t) => self.combine(BitOp::And, mode, l, r, t),
+            Command::Or(mode, l, r, t) => self.combine(BitOp::Or, mode, l, r, t),
+            Command::Xor(mode, l, r, t) => self.combine(BitOp::Xor, mode, l, r, t),
+            Command::Andnot(mode, l, r, t) => self.combine(BitOp::AndNot, mode, l, r, t),
+            Command::Not(mode, l, t) => self.not(mode, l, t),
+            Command::Take(k, t, m, ref indices) => self.take(alloc, k, t, m, indices),
+            Command::Len(k) => self.len(k),
+            Command::Count(k) => self.count(k),
+            Command::Get(k, i) => self.get(k, i),
+            Command::Countrange(k, a, b) => self.count_range(k, a, b),
+            Command::Select(k, n) => self.select(k, n),
+            Command::Selectunset(k, n) => self.select_unset(k, n),
+            Command::Last(k) => self.last(k),
+            Command::Bits(k) => self.bits(alloc, k),
+            Command::Places(k) => self.places(alloc, k),
+            Command::Runs(k) => self.runs(alloc, k),
+            Command::Show(k) => self.show(alloc, k),
+            Command::Eq(k, j) => self.equal(k, j),
         }
     }
 }

@@ -128,28 +128,14 @@ impl<T> Sixteen<T> {
 impl<T: Drop> Sixteen<T> {
     /// Puts a value in the place of value `k`, which it answers; `None` from 16 on, where nothing
     /// changes.
+    #[tactic(auto, using(crate::proofs::Slots::set_none))]
     pub fn replace(&mut self, k: usize, value: T) -> Option<T>
         ensures before { result ≡ slice_get self.old k }
         ensures after { self.new ≡ slice_set self.old k value }
     {
-        match k {
-            0 => Some(mem::replace(&mut self.s0, value)),
-            1 => Some(mem::replace(&mut self.s1, value)),
-            2 => Some(mem::replace(&mut self.s2, value)),
-            3 => Some(mem::replace(&mut self.s3, value)),
-            4 => Some(mem::replace(&mut self.s4, value)),
-            5 => Some(mem::replace(&mut self.s5, value)),
-            6 => Some(mem::replace(&mut self.s6, value)),
-            7 => Some(mem::replace(&mut self.s7, value)),
-            8 => Some(mem::replace(&mut self.s8, value)),
-            9 => Some(mem::replace(&mut self.s9, value)),
-            10 => Some(mem::replace(&mut self.s10, value)),
-            11 => Some(mem::replace(&mut self.s11, value)),
-            12 => Some(mem::replace(&mut self.s12, value)),
-            13 => Some(mem::replace(&mut self.s13, value)),
-            14 => Some(mem::replace(&mut self.s14, value)),
-            15 => Some(mem::replace(&mut self.s15, value)),
-            _ => None,
+        match self.get_mut(k) {
+            Some(place) => Some(mem::replace(place, value)),
+            None => None,
         }
     }
 }
