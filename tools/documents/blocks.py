@@ -1,0 +1,80 @@
+"""Whether the code of documents stands in the sources: that of README and CALLING in the tests."""
+import re
+
+from documents.files import Document, Repository
+
+SHOWN = ["README.md", "crates/vortex_buffer/CALLING.md"]
+TOKEN = re.compile(r"//[^\n]*|--[^\n]*|\"(?:\\.|[^\"\\])*\"|\w+|[^\w\s]")
+IMPORT = re.compile(r"^\s*(?:ghost )?use [^;]+;", re.MULTILINE)
+
+
+def tokens(text: str) -> str:
+    """The text as tokens with one space between, but for commas before a closing bracket."""
+    found = [" ".join(it.split()) for it in TOKEN.findall(text)]
+    kept = [
+        it for i, it in enumerate(found)
+        if not (it == "," and i + 1 < len(found) and found[i + 1] in ")]}")
+    ]
+    return " " + " ".join(kept) + " "
+
+
+def imports(text: str) -> set[str]:
+    """The names that are brought in, each with the first step of its path."""
+    found = set()
+    for it in IMPORT.findall(text):
+        path, _, names = " ".join(it.split()).rstrip(";").partition("{")
+        if names:
+            found |= {name.strip() for name in names.rstrip("}").split(",") if name.strip()}
+        else:
+            found.add(re.split(r"::|\.", path)[-1].strip())
+    return found
+
+
+def parts(block: str) -> list[str]:
+    """The block in parts that are divided by empty lines, without what it imports."""
+    text = IMPORT.sub("", block)
+    return [it for it in re.split(r"\n\s*\n", text) if it.strip()]
+
+
+class Blocks:
+    """Compares blocks with sources."""
+
+    def __init__(self, repository: Repository) -> None:
+        self.code = repository.code
+        self.written = {path: tokens(text) for path, text in self.code.items()}
+        self.found: list[str] = []
+        for path in SHOWN:
+            self.document(repository.document(path))
+
+    def document(self, document: Document) -> None:
+        for language, suffix in (("rust", ".rt"), ("antt", ".antt")):
+            for line, block in document.blocks(language):
+                self.block(f"{document.path}:{line}", block, suffix)
+
+    def block(self, where: str, block: str, suffix: str) -> None:
+        holders: set[str] = set()
+        for part in parts(block):
+            holding = self.holding(part, suffix)
+            if not holding:
+                first = part.strip().split("\n")[0]
+                self.found.append(f"{where}: stands in no source: {first.strip()}")
+                return
+            holders |= holding
+        brought = set().union(*(imports(self.code[it]) for it in holders))
+        missing = sorted(imports(block) - brought)
+        if missing:
+            self.found.append(f"{where}: the sources that have it don't import {', '.join(missing)}")
+
+    def holding(self, part: str, suffix: str) -> set[str]:
+        """The files in which it stands: of tests and examples, and where it is a contract of any."""
+        wanted = tokens(part)
+        is_contract = re.search(r"^\s*ensures", part, re.MULTILINE) is not None
+        return {
+            path for path, text in self.written.items()
+            if path.endswith(suffix) and wanted in text and (is_contract or is_shown(path))
+        }
+
+
+def is_shown(path: str) -> bool:
+    crate = path.split("/")[1]
+    return crate.endswith("_tests") or crate.startswith("use_") or path.endswith("tests.rt")

@@ -1,0 +1,52 @@
+"""Whether lists of one thing agree: the C functions in header, Rust table and crate; what the crate
+to depend on gives, and what its tests reach."""
+import re
+
+from documents.files import Repository
+
+EXPORT = re.compile(r"^pub use [\w:]+?::(?:\{([^}]*)\}|(\w+));", re.MULTILINE)
+NATIVE = re.compile(r"^    (\w+)\(", re.MULTILINE)
+
+
+def exported(text: str) -> set[str]:
+    """The names that the `pub use` lines of a file list."""
+    found: set[str] = set()
+    for names, name in EXPORT.findall(text):
+        found |= {it.strip() for it in (names or name).split(",") if it.strip()}
+    return found
+
+
+def differ(one: str, first: set[str], other: str, second: set[str]) -> list[str]:
+    found = [f"{one}: has `{it}`, which {other} hasn't" for it in sorted(first - second)]
+    return found + [f"{other}: has `{it}`, which {one} hasn't" for it in sorted(second - first)]
+
+
+def headers(repository: Repository) -> list[str]:
+    found = sorted((repository.root / "bindings" / "c").glob("*.h"))
+    return [it.relative_to(repository.root).as_posix() for it in found]
+
+
+def c_functions(repository: Repository) -> list[str]:
+    """The functions of the header, of the Rust table, and of the crate."""
+    crate, table = "crates/vb_c/src/lib.rt", "bindings/rust/src/native.rs"
+    given = {it for it in exported(repository.read(crate)) if it[0].islower()}
+    found = []
+    for header in headers(repository):
+        declared = set(re.findall(r"^\w[\w ]*?\W(vb_\w+)\(", repository.read(header), re.MULTILINE))
+        found += differ(crate, given, header, declared)
+    _, _, listed = repository.read(table).partition("\nkernels! {")
+    native = {f"vb_{it}" for it in NATIVE.findall(listed.partition("\n}")[0])}
+    plain = {it for it in given if not it.startswith("vb_try_")}
+    return found + differ(crate, plain, table, native)
+
+
+def facade(repository: Repository) -> list[str]:
+    """What users can name, and what the tests of the crate name."""
+    crate = "crates/vortex_buffer/src/lib.rt"
+    tests = "crates/vortex_buffer_tests/src/reached.rt"
+    given, reached = exported(repository.read(crate)), exported(repository.read(tests))
+    return differ(crate, given, tests, reached)
+
+
+def lists(repository: Repository) -> list[str]:
+    return c_functions(repository) + facade(repository)

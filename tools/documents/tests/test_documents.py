@@ -1,0 +1,112 @@
+"""What the checks of documents find, and what they leave alone."""
+import tempfile
+import unittest
+from pathlib import Path
+
+from documents.blocks import Blocks
+from documents.files import Repository
+from documents.lists import lists
+from documents.texts import links, names, stale
+
+FILES = {
+    "README.md": """# Top
+Call `one` of [low](docs/LOW.md#a-part-of-it), see [upstream](https://example.org).
+
+```rust
+use low::{one, two};
+
+// Adds.
+let a = one(1);
+
+assert!(rt; matches!(a, [1, 2]));
+```
+""",
+    "docs/LOW.md": "## A part of `it`\nIt takes `Type::of` and `bits b`.\n",
+    "docs/DIFFERENCES.md": "| `Upstream` | `one` |\n| left out | `other` |\n",
+    "crates/vortex_buffer/CALLING.md": """```antt
+abbrev pub f : A
+f = b
+```
+
+```rust
+pub fn two(n: u8) -> u8
+    ensures { result ≡ n }
+```
+""",
+    "crates/low/src/lib.rt": "pub fn two(n: u8) -> u8\n    ensures { result ≡ n }\n{\n    n\n}\n"
+    "pub struct Type; impl Type { fn of() {} }\n// bits it\n",
+    "crates/low_tests/src/lib.rt": "use low::{one, three, two};\n#[test]\nfn a() {\n    // Adds.\n"
+    "    let a = one(1);\n    assert!(rt;\n        matches!(\n            a,\n            [1, 2],\n"
+    "        )\n    );\n}\n",
+    "crates/use_low/specs/F.antt": "-- f\nabbrev pub f : A\nf = b\n",
+    "crates/vb_c/src/lib.rt": "pub use bit::{vb_get, vb_try_get};\npub use place::Place;\n",
+    "bindings/c/any.h": "bool vb_get(const uint8_t *b);\nbool vb_try_get(size_t n);\n",
+    "bindings/rust/src/native.rs": "\nkernels! {\n    get(b: *const u8) -> bool;\n}\n",
+    "crates/vortex_buffer/src/lib.rt": "pub use low::{one,\n    two};\npub use low::Type;\n",
+    "crates/vortex_buffer_tests/src/reached.rt": "pub use vortex_buffer::{Type, one, two};\n",
+}
+
+
+class Checked(unittest.TestCase):
+    def repository(self, **edits: tuple[str, str]) -> Repository:
+        folder = tempfile.TemporaryDirectory()
+        self.addCleanup(folder.cleanup)
+        root = Path(folder.name)
+        for path, text in FILES.items():
+            for where, (old, new) in edits.items():
+                if path.endswith(where.replace("_dot_", ".")):
+                    self.assertIn(old, text)
+                    text = text.replace(old, new)
+            (root / path).parent.mkdir(parents=True, exist_ok=True)
+            (root / path).write_text(text, encoding="utf-8")
+        return Repository(root)
+
+    def test_nothing_is_wrong(self):
+        repository = self.repository()
+        for check in (lists, names, links, stale):
+            self.assertEqual(check(repository), [])
+        self.assertEqual(Blocks(repository).found, [])
+
+    def test_code_that_no_test_has(self):
+        found = Blocks(self.repository(README_dot_md=("one(1)", "one(2)"))).found
+        self.assertEqual(found, ["README.md:5: stands in no source: // Adds."])
+
+    def test_a_name_that_the_test_does_not_import(self):
+        found = Blocks(self.repository(README_dot_md=("{one, two}", "{one, four}"))).found
+        self.assertEqual(found, ["README.md:5: the sources that have it don't import four"])
+
+    def test_a_contract_that_the_source_has_not(self):
+        found = Blocks(self.repository(CALLING_dot_md=("≡ n", "≢ n"))).found
+        self.assertEqual(len(found), 1)
+
+    def test_a_function_that_the_header_lacks(self):
+        found = lists(self.repository(any_dot_h=("vb_try_get", "vb_try_got")))
+        self.assertEqual(found, [
+            "crates/vb_c/src/lib.rt: has `vb_try_get`, which bindings/c/any.h hasn't",
+            "bindings/c/any.h: has `vb_try_got`, which crates/vb_c/src/lib.rt hasn't",
+        ])
+
+    def test_a_name_that_the_tests_do_not_reach(self):
+        found = lists(self.repository(reached_dot_rt=(", two", "")))
+        self.assertEqual(found, ["crates/vortex_buffer/src/lib.rt: has `two`, which "
+                                 "crates/vortex_buffer_tests/src/reached.rt hasn't"])
+
+    def test_a_name_that_is_gone(self):
+        found = names(self.repository(LOW_dot_md=("Type::of", "Type::gone")))
+        self.assertEqual(found, ["docs/LOW.md:2: `gone` isn't in the sources"])
+
+    def test_links_that_lead_nowhere(self):
+        found = links(self.repository(README_dot_md=("#a-part-of-it", "#no-part")))
+        self.assertEqual(found, ["README.md:2: docs/LOW.md#no-part isn't there"])
+        found = links(self.repository(README_dot_md=("LOW.md", "HIGH.md")))
+        self.assertEqual(found, ["README.md:2: docs/HIGH.md#a-part-of-it isn't there"])
+
+    def test_figures_that_go_stale(self):
+        for text, what in (("on 3 May", "a date"), ("took 12.5 seconds", "a duration"),
+                           ("2026-05-03", "a date"), ("751 edits", "a count of edits")):
+            found = stale(self.repository(LOW_dot_md=("It takes", f"It {text} takes")))
+            self.assertEqual([it.split(": ")[1] for it in found], [what], text)
+
+
+if __name__ == "__main__":
+    unittest.main()

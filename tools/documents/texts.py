@@ -1,0 +1,88 @@
+"""What documents say: names that exist, links that lead somewhere, and no figure that goes stale."""
+import re
+import unicodedata
+from pathlib import Path
+
+from documents.files import Document, Repository
+
+NAME = re.compile(r"`([^`\n]+)`")
+IDENTIFIER = re.compile(r"&?(?:[^\W\d_]\w*(?:::|\.))*[^\W\d_]\w*")
+LINK = re.compile(r"\[(?:[^\[\]]|\[[^\]]*\])*\]\(([^)\s]+)\)")
+MONTHS = (
+    "January|February|March|April|May|June|July|August|September|October|November|December"
+)
+STALE = {
+    "a date": re.compile(rf"\b\d{{1,2}} (?:{MONTHS})\b|\b\d{{4}}-\d\d-\d\d\b"),
+    "a duration": re.compile(r"\b\d[\d,.:]* (?:s|seconds?|minutes?|hours?|CPU-\w+)\b"),
+    "a count of edits": re.compile(r"\b\d[\d,]* (?:edits|wrong bodies|public clauses|passed)\b"),
+}
+OUTSIDE = set("rustc cargo rt git errno".split())
+
+
+def names(repository: Repository) -> list[str]:
+    """The names in backquotes that no source has."""
+    found = []
+    for document in repository.documents:
+        for n, line in document.lines():
+            for it in NAME.findall(ours(document, line)):
+                for word in missing(it, repository.words):
+                    found.append(f"{document.path}:{n}: `{word}` isn't in the sources")
+    return found
+
+
+def ours(document: Document, line: str) -> str:
+    """A line without upstream's names: the first cell of a difference, and what is left out."""
+    if document.path.endswith("DIFFERENCES.md") and line.startswith("|"):
+        first, *rest = line.split("|")[1:]
+        return "" if first.strip() == "left out" else "|".join(rest)
+    return line
+
+
+def missing(text: str, words: set[str]) -> list[str]:
+    """The steps of a name that are in no source; of several words the first is the name."""
+    found = IDENTIFIER.match(text)
+    if found is None or "/" in text.split()[0]:
+        return []
+    steps = re.split(r"::|\.", found.group().strip("&"))
+    return [it for it in steps if it and it not in words and it not in OUTSIDE]
+
+
+def slug(heading: str) -> str:
+    """The anchor of a heading."""
+    text = unicodedata.normalize("NFC", re.sub(r"[`*]", "", heading).strip().lower())
+    return re.sub(r"[^\w\- ]", "", text).replace(" ", "-")
+
+
+def anchors(text: str) -> set[str]:
+    return {slug(it) for it in re.findall(r"^#+ (.*)$", text, re.MULTILINE)}
+
+
+def links(repository: Repository) -> list[str]:
+    """The links within the repository that lead nowhere."""
+    found = []
+    for document in repository.documents:
+        for n, line in document.lines():
+            for to in LINK.findall(line):
+                if "://" not in to and not leads(repository.root, document, to):
+                    found.append(f"{document.path}:{n}: {to} isn't there")
+    return found
+
+
+def leads(root: Path, document: Document, to: str) -> bool:
+    path, _, anchor = to.partition("#")
+    target = (root / document.path).parent / path if path else root / document.path
+    if not target.exists():
+        return False
+    is_text = target.suffix == ".md" and bool(anchor)
+    return not is_text or anchor in anchors(target.read_text(encoding="utf-8"))
+
+
+def stale(repository: Repository) -> list[str]:
+    """Dates, durations of proofs and tests, and counts that the next change makes false."""
+    found = []
+    for document in repository.documents:
+        for n, line in document.lines():
+            for what, pattern in STALE.items():
+                for it in pattern.finditer(line):
+                    found.append(f"{document.path}:{n}: {what}: {it.group()}")
+    return found
