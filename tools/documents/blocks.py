@@ -63,10 +63,11 @@ class Blocks:
         brought = set().union(*(imports(self.code[it]) for it in holders))
         missing = sorted(imports(block) - brought)
         if missing:
-            self.found.append(f"{where}: the sources that have it don't import {', '.join(missing)}")
+            names = ", ".join(missing)
+            self.found.append(f"{where}: the sources that have it don't import {names}")
 
     def holding(self, part: str, suffix: str) -> set[str]:
-        """The files in which it stands: of tests and examples, and where it is a contract of any."""
+        """The files in which it stands: of tests and examples, or of any if it is a contract."""
         wanted = tokens(part)
         is_contract = re.search(r"^\s*ensures", part, re.MULTILINE) is not None
         return {

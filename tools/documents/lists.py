@@ -1,8 +1,10 @@
-"""Whether lists of one thing agree: the C functions in header, Rust table and crate; what the crate
-to depend on gives, and what its tests reach."""
+"""Whether what is said in several places agrees: the C functions in header, Rust table and crate;
+what the crate to depend on gives, and what its tests reach; the version; the picture of the crates.
+"""
 import re
 
 from documents.files import Repository
+from documents.picture import picture
 
 EXPORT = re.compile(r"^pub use [\w:]+?::(?:\{([^}]*)\}|(\w+));", re.MULTILINE)
 NATIVE = re.compile(r"^    (\w+)\(", re.MULTILINE)
@@ -48,5 +50,29 @@ def facade(repository: Repository) -> list[str]:
     return differ(crate, given, tests, reached)
 
 
+VERSION = re.compile(r"\b\d+\.\d+\.\d+-r\d+\b")
+
+
+def versions(repository: Repository) -> list[str]:
+    """README, the newest heading of CHANGELOG and bindings/rust say one version."""
+    newest = re.search(r"^## (\S+)", repository.read("CHANGELOG.md"), re.MULTILINE)
+    wanted = newest.group(1) if newest else ""
+    found = []
+    for path in ("README.md", "bindings/rust/Cargo.toml"):
+        said = VERSION.search(repository.read(path))
+        if said is None or said.group() != wanted:
+            found.append(f"{path}: its version isn't {wanted}, that of CHANGELOG.md")
+    return found
+
+
+def drawn(repository: Repository) -> list[str]:
+    """The picture of the crates is that of crates.txt."""
+    if repository.read("docs/crates.svg") == picture(repository.read("crates.txt")):
+        return []
+    return ["docs/crates.svg: isn't that of crates.txt: run tools/draw-crates"]
+
+
 def lists(repository: Repository) -> list[str]:
-    return c_functions(repository) + facade(repository)
+    return [
+        *c_functions(repository), *facade(repository), *versions(repository), *drawn(repository)
+    ]

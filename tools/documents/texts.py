@@ -1,4 +1,4 @@
-"""What documents say: names that exist, links that lead somewhere, and no figure that goes stale."""
+"""What documents say: names that exist, links that lead somewhere, no figure that goes stale."""
 import re
 import unicodedata
 from pathlib import Path

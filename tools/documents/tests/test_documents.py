@@ -6,10 +6,17 @@ from pathlib import Path
 from documents.blocks import Blocks
 from documents.files import Repository
 from documents.lists import lists
+from documents.picture import dependencies, levels, picture, reduced
 from documents.texts import links, names, stale
 
+CRATES = "# NAME:\nlow:\nmiddle: low thiserror\nvortex_buffer: low middle\nlow_tests: low\n"
 FILES = {
+    "CHANGELOG.md": "# Changes\n\n## 1.2.3-r4\n",
+    "bindings/rust/Cargo.toml": 'version = "1.2.3-r4"\n',
+    "crates.txt": CRATES,
+    "docs/crates.svg": picture(CRATES),
     "README.md": """# Top
+1.2.3-r4
 Call `one` of [low](docs/LOW.md#a-part-of-it), see [upstream](https://example.org).
 
 ```rust
@@ -69,11 +76,11 @@ class Checked(unittest.TestCase):
 
     def test_code_that_no_test_has(self):
         found = Blocks(self.repository(README_dot_md=("one(1)", "one(2)"))).found
-        self.assertEqual(found, ["README.md:5: stands in no source: // Adds."])
+        self.assertEqual(found, ["README.md:6: stands in no source: // Adds."])
 
     def test_a_name_that_the_test_does_not_import(self):
         found = Blocks(self.repository(README_dot_md=("{one, two}", "{one, four}"))).found
-        self.assertEqual(found, ["README.md:5: the sources that have it don't import four"])
+        self.assertEqual(found, ["README.md:6: the sources that have it don't import four"])
 
     def test_a_contract_that_the_source_has_not(self):
         found = Blocks(self.repository(CALLING_dot_md=("≡ n", "≢ n"))).found
@@ -97,9 +104,24 @@ class Checked(unittest.TestCase):
 
     def test_links_that_lead_nowhere(self):
         found = links(self.repository(README_dot_md=("#a-part-of-it", "#no-part")))
-        self.assertEqual(found, ["README.md:2: docs/LOW.md#no-part isn't there"])
+        self.assertEqual(found, ["README.md:3: docs/LOW.md#no-part isn't there"])
         found = links(self.repository(README_dot_md=("LOW.md", "HIGH.md")))
-        self.assertEqual(found, ["README.md:2: docs/HIGH.md#a-part-of-it isn't there"])
+        self.assertEqual(found, ["README.md:3: docs/HIGH.md#a-part-of-it isn't there"])
+
+    def test_a_version_that_differs(self):
+        found = lists(self.repository(README_dot_md=("-r4", "-r3")))
+        self.assertEqual(found, ["README.md: its version isn't 1.2.3-r4, that of CHANGELOG.md"])
+
+    def test_a_picture_that_is_not_current(self):
+        found = lists(self.repository(crates_dot_txt=("middle: low", "middle:")))
+        wanted = "docs/crates.svg: isn't that of crates.txt: run tools/draw-crates"
+        self.assertEqual(found, [wanted])
+
+    def test_the_picture_has_each_crate_above_those_that_it_stands_on(self):
+        deps = reduced(dependencies(CRATES))
+        self.assertEqual(deps, {"low": [], "middle": ["low"], "vortex_buffer": ["middle"]})
+        self.assertEqual(levels(deps), {"low": 0, "middle": 1, "vortex_buffer": 2})
+        self.assertEqual(picture(CRATES).count("<path"), 2)
 
     def test_figures_that_go_stale(self):
         for text, what in (("on 3 May", "a date"), ("took 12.5 seconds", "a duration"),
