@@ -1,0 +1,6 @@
+//! Values filtered by a mask: those whose bit is true, in order.
+#![tactic(auto)]
+
+mod values;
+
+pub use values::Filter;

@@ -1,0 +1,6 @@
+//! Tests of values filtered by masks: beside a plain loop at each kind of mask, at lengths that
+//! differ, and with each request for memory refused.
+#![tactic(auto)]
+
+#[cfg(test)]
+mod values;

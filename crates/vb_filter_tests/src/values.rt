@@ -1,0 +1,113 @@
+//! Values of buffers.
+use std::alloc::Allocator;
+use vb_bit_buffer::BitBuffer;
+use vb_core::BufferError;
+use vb_filter::Filter;
+use vb_mem::Buffer;
+use vb_testing::{Handle, Refusing};
+
+/// How many values there are, the bit at which their mask begins in its bytes, and which bits of it
+/// are true: one in so many, or all but one in so many.
+const ROWS: &[(usize, usize, Kept)] = &[
+    (0, 0, Kept::OneIn(1)),
+    (1, 7, Kept::OneIn(1)),
+    (64, 0, Kept::OneIn(1)),
+    (200, 3, Kept::OneIn(1)),
+    (200, 0, Kept::OneIn(2)),
+    (200, 5, Kept::OneIn(3)),
+    (1000, 1, Kept::OneIn(64)),
+    (1000, 0, Kept::OneIn(999)),
+    (1000, 3, Kept::OneIn(5000)),
+    (1000, 0, Kept::AllButOneIn(7)),
+    (1000, 6, Kept::AllButOneIn(64)),
+    (1000, 3, Kept::AllButOneIn(5000)),
+    (129, 0, Kept::AllButOneIn(1)),
+];
+
+/// Which bits of the bytes of a mask are true, from bit 1 on.
+#[derive(Clone, Copy)]
+enum Kept {
+    OneIn(usize),
+    AllButOneIn(usize),
+}
+
+impl Kept {
+    fn has(self, bit: usize) -> bool {
+        match self {
+            Kept::OneIn(n) => n > 0 && bit % n == 1 % n,
+            Kept::AllButOneIn(n) => n > 0 && bit % n != 1 % n,
+        }
+    }
+}
+
+/// The mask of `len` bits, which begins with bit `offset` of its bytes.
+fn mask<A: Allocator + Clone>(
+    alloc: A,
+    len: usize,
+    offset: usize,
+    kept: Kept,
+) -> Result<BitBuffer<A>, BufferError> {
+    let end = offset.saturating_add(len);
+    let whole = BitBuffer::from_iter(alloc, (0..end).map(|bit| kept.has(bit)))?;
+    let part = whole.slice(offset.min(whole.len())..whole.len());
+    drop(whole);
+    part
+}
+
+/// Whether these are the places that a plain loop keeps of a row's.
+fn is_plain(given: &[u32], row: &(usize, usize, Kept)) -> bool {
+    let places = (0..row.0).filter(|place| row.2.has(row.1.saturating_add(*place)));
+    given.iter().map(|value| *value as usize).eq(places)
+}
+
+fn filtered<A: Allocator + Clone>(
+    alloc: A,
+    row: &(usize, usize, Kept),
+) -> Result<Buffer<u32, A>, BufferError> {
+    let values = Buffer::from_trusted_len_iter(
+        alloc.clone()?,
+        0..u32::try_from(row.0).unwrap_or(0),
+    )?;
+    let mask = mask(alloc, row.0, row.1, row.2)?;
+    let kept = values.filtered(mask.as_view());
+    drop((values, mask));
+    kept
+}
+
+#[test]
+fn kept_values_are_those_of_a_plain_loop(rt: HostRuntime) -> Result<(), BufferError> {
+    for row in ROWS {
+        let kept = filtered(rt.alloc(), row)?;
+        assert!(rt; is_plain(kept.as_slice(), row));
+        drop(kept);
+    }
+    Ok(())
+}
+
+#[test]
+fn a_mask_of_another_length_is_refused_before_memory(rt: HostRuntime) -> Result<(), BufferError> {
+    let heap = Refusing::new(rt.alloc(), 0);
+    let values = Buffer::copy_from(&heap, &[7u8, 8, 9])?;
+    let mask = BitBuffer::new_set(&heap, 4)?;
+    let asked = heap.asked();
+    let refused = values.filtered(mask.as_view()).map(|kept| kept.len());
+    let wanted = BufferError::LengthMismatch { left: 3, right: 4 };
+    assert_eq!(rt; (refused, heap.asked()), (Err(wanted), asked));
+    drop((values, mask));
+    Ok(())
+}
+
+#[test]
+fn each_request_is_refused(rt: HostRuntime) {
+    let heap = Refusing::new(rt.alloc(), 0);
+    for row in ROWS {
+        for _ in heap.in_turn() {
+            let kept = filtered(Handle { inner: &heap }, row).map(|kept| is_plain(
+                kept.as_slice(),
+                row,
+            ));
+            assert_eq!(rt; kept, heap.wanted(Ok(true), Err(BufferError::OutOfMemory)));
+        }
+        assert!(rt; !heap.has_refused());
+    }
+}
