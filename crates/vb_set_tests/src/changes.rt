@@ -1,8 +1,8 @@
 //! Edits that take memory: what stands after a refused one, and that none gives up while there is
 //! memory.
 use crate::compared::equal;
-use crate::made::ones;
-use std::alloc::Allocator;
+use crate::made::window;
+use std::alloc::{AllocError, Allocator, Global};
 use std::process::Abort;
 use vb_set::{BitBufferMut, BufferError};
 use vb_testing::{Handle, Refusing};
@@ -40,10 +40,32 @@ const EDITS: &[(Edit, usize, usize)] = &[
     (Edit::Reserve, 100, 0),
 ];
 
-/// The set has its true bits and its room.
-fn is_left<A: Allocator + Clone>(rt: &impl Abort, set: &BitBufferMut<A>, len: usize, room: usize) {
-    equal(rt, (set.len(), set.capacity()), (len, room));
-    equal(rt, set.as_view().true_count(), len);
+/// What a refusal has to leave.
+#[derive(Drop)]
+struct Before {
+    offset: usize,
+    len: usize,
+    room: usize,
+    bytes: Vec<u8>,
+}
+
+impl Before {
+    fn of<A: Allocator + Clone>(alloc: Global, set: &BitBufferMut<A>) -> Result<Self, AllocError> {
+        Ok(Before {
+            offset: set.offset(),
+            len: set.len(),
+            room: set.capacity(),
+            bytes: set.as_slice().to_vec(alloc)?,
+        })
+    }
+
+    /// The set has its bits, its offset, its bytes and its room.
+    fn is_left<A: Allocator + Clone>(&self, rt: &impl Abort, set: &BitBufferMut<A>) {
+        let place = (set.offset(), set.len(), set.capacity());
+        equal(rt, place, (self.offset, self.len, self.room));
+        assert!(rt; set.as_slice() == self.bytes.as_slice());
+        equal(rt, set.as_view().true_count(), self.len);
+    }
 }
 
 /// True bits, to which true and false ones were added.
@@ -63,6 +85,7 @@ fn is_longer<A: Allocator + Clone>(
 /// Edits a set of true bits up to its room. A refusal leaves the set and its room.
 fn edit_ones<A: Allocator + Clone>(
     rt: &impl Abort,
+    alloc: Global,
     made: Result<BitBufferMut<A>, BufferError>,
     edit: &Edit,
     added: (usize, usize),
@@ -70,14 +93,14 @@ fn edit_ones<A: Allocator + Clone>(
     let mut set = made?;
     let filled = set.append_n(true, set.capacity() - set.len());
     equal(rt, filled, Ok(()));
-    let (len, room) = (set.len(), set.capacity());
+    let before = Before::of(alloc, &set).expect(rt, "memory");
     let answer = edit.make(&mut set);
     if answer.is_err() {
-        is_left(rt, &set, len, room);
+        before.is_left(rt, &set);
     } else {
-        is_longer(rt, &set, len, added);
+        is_longer(rt, &set, before.len, added);
     }
-    drop(set);
+    drop((set, before));
     answer
 }
 
@@ -86,8 +109,8 @@ fn a_refused_edit_leaves_the_set(rt: HostRuntime) {
     let heap = Refusing::new(rt.alloc(), 0);
     for (edit, trues, falses) in EDITS {
         for _ in heap.in_turn() {
-            let made = ones(Handle { inner: &heap }, 8);
-            let answer = edit_ones(&rt, made, edit, (*trues, *falses));
+            let made = window(Handle { inner: &heap }, (0xFF, 3), 11, 9);
+            let answer = edit_ones(&rt, rt.alloc(), made, edit, (*trues, *falses));
             equal(
                 &rt,
                 answer,
@@ -102,27 +125,29 @@ fn a_refused_edit_leaves_the_set(rt: HostRuntime) {
 /// Takes a set. A refusal leaves the set and its room.
 fn take<A: Allocator + Clone>(
     rt: &impl Abort,
+    alloc: Global,
     made: Result<BitBufferMut<A>, BufferError>,
 ) -> Result<(), BufferError> {
     let mut set = made?;
-    let room = set.capacity();
+    let before = Before::of(alloc, &set).expect(rt, "memory");
     let answer = taken_nine(rt, set.take());
     if answer.is_ok() {
-        equal(rt, set.is_empty(), true);
+        equal(rt, (set.is_empty(), set.offset()), (true, 0));
     } else {
-        is_left(rt, &set, 9, room);
+        before.is_left(rt, &set);
     }
-    drop(set);
+    drop((set, before));
     answer
 }
 
-/// What was taken are nine true bits.
+/// What was taken are nine true bits at their offset.
 fn taken_nine<A: Allocator + Clone>(
     rt: &impl Abort,
     made: Result<BitBufferMut<A>, BufferError>,
 ) -> Result<(), BufferError> {
     let taken = made?;
-    equal(rt, (taken.len(), taken.as_view().true_count()), (9, 9));
+    equal(rt, (taken.offset(), taken.len()), (11, 9));
+    equal(rt, taken.as_view().true_count(), 9);
     drop(taken);
     Ok(())
 }
@@ -131,7 +156,8 @@ fn taken_nine<A: Allocator + Clone>(
 fn a_refused_take_leaves_the_set(rt: HostRuntime) {
     let heap = Refusing::new(rt.alloc(), 0);
     for _ in heap.in_turn() {
-        let answer = take(&rt, ones(Handle { inner: &heap }, 9));
+        let made = window(Handle { inner: &heap }, (0xFF, 3), 11, 9);
+        let answer = take(&rt, rt.alloc(), made);
         equal(
             &rt,
             answer,

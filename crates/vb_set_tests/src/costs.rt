@@ -37,7 +37,7 @@ impl Open {
     }
 }
 
-fn opened<A: Allocator + Clone>(
+pub(crate) fn opened<A: Allocator + Clone>(
     made: Result<BitBuffer<A>, BufferError>,
 ) -> Result<BitBufferMut<A>, BufferError> {
     match made?.try_into_mut() {

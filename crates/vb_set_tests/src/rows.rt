@@ -67,6 +67,15 @@ fn edits_answer_and_leave_bits(rt: HostRuntime) {
 }
 
 #[test]
+fn a_false_bit_behind_four_true_ones(rt: HostRuntime) {
+    let mut set = ones(rt.alloc(), 4).expect(&rt, "a set");
+    set.append(false).expect(&rt, "room");
+    assert!(rt; set.len() == 5);
+    equal(&rt, (set.value(3), set.value(4)), (true, false));
+    drop(set);
+}
+
+#[test]
 fn append_n_past_usize_by_the_offset(rt: HostRuntime) {
     let mut set = window(rt.alloc(), (0xFF, 2), 13, 1).expect(&rt, "a set");
     let answer = set.append_n(true, 18446744073709551602);

@@ -1,0 +1,216 @@
+//! Of which allocator memory is asked, where two could be meant: by a call, and by all that is
+//! asked of what it made. No contract can say it.
+//!
+//! One of two heaps is refused each of its requests in turn. The other one would refuse its first
+//! request, and is asked for nothing.
+use crate::compared::equal;
+use crate::costs::opened;
+use crate::made::window;
+use crate::makers::copied;
+use std::alloc::Allocator;
+use vb_set::{BitBuffer, BitBufferMut, BufferError, ToBitBuffer, take_bits};
+use vb_testing::{Handle, Refusing};
+
+/// Nine true bits of three bytes.
+fn nine<A: Allocator + Clone>(alloc: A) -> Result<BitBuffer<A>, BufferError> {
+    window(alloc, (0xFF, 3), 3, 9)?.freeze()
+}
+
+/// A second owner of a set that was made, to which false bits are added; then a copy of it. Answers
+/// how many bits there are, and how many of them are true.
+fn grown<A: Allocator + Clone>(
+    made: Result<BitBuffer<A>, BufferError>,
+) -> Result<(usize, usize), BufferError> {
+    let set = made?;
+    let twin = set.clone();
+    drop(set);
+    let mut open = opened(twin)?;
+    let added = open.append_n(false, 1000);
+    let copy = open.clone();
+    drop(open);
+    added?;
+    counts(copy)
+}
+
+fn counts<A: Allocator + Clone>(
+    made: Result<BitBufferMut<A>, BufferError>,
+) -> Result<(usize, usize), BufferError> {
+    let set = made?;
+    let counts = (set.len(), set.as_view().true_count());
+    drop(set);
+    Ok(counts)
+}
+
+/// A call that copies the bits of a set, and is handed an allocator.
+enum Copy {
+    OfView,
+    OfMutView,
+    From,
+    Take,
+    TakeValid,
+}
+
+const COPIES: &[Copy] = &[
+    Copy::OfView,
+    Copy::OfMutView,
+    Copy::From,
+    Copy::Take,
+    Copy::TakeValid,
+];
+
+impl Copy {
+    fn make<A: Allocator + Clone>(
+        &self,
+        made: Result<BitBuffer<A>, BufferError>,
+        alloc: A,
+    ) -> Result<BitBuffer<A>, BufferError> {
+        match self {
+            Copy::OfMutView => copy_of_mut_view(opened(made), alloc),
+            Copy::From => copied(alloc, made)?.freeze(),
+            Copy::OfView | Copy::Take | Copy::TakeValid => self.of_view(made, alloc),
+        }
+    }
+
+    fn of_view<A: Allocator + Clone>(
+        &self,
+        made: Result<BitBuffer<A>, BufferError>,
+        alloc: A,
+    ) -> Result<BitBuffer<A>, BufferError> {
+        let set = made?;
+        let copy = match self {
+            Copy::TakeValid => taken_valid(&set, alloc),
+            Copy::Take => take_bits(alloc, set.as_view(), &PLACES, None),
+            _ => set.as_view().to_bit_buffer(alloc),
+        };
+        drop(set);
+        copy
+    }
+}
+
+const PLACES: [u8; 9] = [8, 7, 6, 5, 4, 3, 2, 1, 0];
+
+/// The bits of nine at places that all count.
+fn taken_valid<A: Allocator + Clone>(
+    set: &BitBuffer<A>,
+    alloc: A,
+) -> Result<BitBuffer<A>, BufferError> {
+    let view = set.as_view();
+    if view.len() == 9 {
+        return take_bits(alloc, view, &PLACES, Some(view));
+    }
+    Err(BufferError::NotAligned)
+}
+
+fn copy_of_mut_view<A: Allocator + Clone>(
+    made: Result<BitBufferMut<A>, BufferError>,
+    alloc: A,
+) -> Result<BitBuffer<A>, BufferError> {
+    let mut set = made?;
+    let copy = set.as_mut_view().to_bit_buffer(alloc);
+    drop(set);
+    copy
+}
+
+#[test]
+fn what_is_handed_in_is_asked(rt: HostRuntime) {
+    let (own, handed) = (Refusing::new(rt.alloc(), 0), Refusing::new(rt.alloc(), 0));
+    for call in COPIES {
+        for _ in handed.in_turn() {
+            own.refuse(0);
+            let set = nine(Handle { inner: &own });
+            own.refuse(1);
+            let answer = grown(call.make(set, Handle { inner: &handed }));
+            let wanted = handed.wanted(Ok((1009, 9)), Err(BufferError::OutOfMemory));
+            equal(&rt, (answer, own.asked()), (wanted, 0));
+        }
+        assert!(rt; !handed.has_refused() && handed.asked() >= 5);
+    }
+}
+
+/// A set made of a vector of nine true values, which has another allocator.
+fn of_vector<A: Allocator + Clone>(
+    alloc: A,
+    values: Vec<bool, A>,
+    is_shared: bool,
+) -> Result<BitBuffer<A>, BufferError> {
+    if is_shared {
+        return BitBuffer::from_bool_vec(alloc, values);
+    }
+    BitBufferMut::from_bool_vec(alloc, values)?.freeze()
+}
+
+#[test]
+fn a_vector_is_asked_for_nothing(rt: HostRuntime) {
+    let (own, handed) = (Refusing::new(rt.alloc(), 0), Refusing::new(rt.alloc(), 0));
+    for is_shared in [false, true] {
+        for _ in handed.in_turn() {
+            own.refuse(0);
+            let values = [true; 9].to_vec(Handle { inner: &own });
+            own.refuse(1);
+            let values = values.expect(&rt, "a vector");
+            let answer = grown(of_vector(Handle { inner: &handed }, values, is_shared));
+            let wanted = handed.wanted(Ok((1009, 9)), Err(BufferError::OutOfMemory));
+            equal(&rt, (answer, own.asked()), (wanted, 0));
+        }
+        assert!(rt; !handed.has_refused() && handed.asked() >= 5);
+    }
+}
+
+/// A call of a set of nine true bits, and of another one.
+enum Own {
+    Append,
+    Sliced,
+    Opened,
+}
+
+/// The calls, and how many true bits each makes.
+const OWN: &[(Own, usize)] = &[(Own::Append, 18), (Own::Sliced, 9), (Own::Opened, 9)];
+
+impl Own {
+    fn make<A: Allocator + Clone>(
+        &self,
+        made: Result<BitBuffer<A>, BufferError>,
+        other: &BitBuffer<A>,
+    ) -> Result<BitBuffer<A>, BufferError> {
+        match self {
+            Own::Append => appended(opened(made), other),
+            Own::Sliced => sliced(made),
+            Own::Opened => opened(made)?.freeze(),
+        }
+    }
+}
+
+fn appended<A: Allocator + Clone>(
+    made: Result<BitBufferMut<A>, BufferError>,
+    other: &BitBuffer<A>,
+) -> Result<BitBuffer<A>, BufferError> {
+    let mut set = made?;
+    set.append_buffer(other)?;
+    set.freeze()
+}
+
+fn sliced<A: Allocator + Clone>(
+    made: Result<BitBuffer<A>, BufferError>,
+) -> Result<BitBuffer<A>, BufferError> {
+    let set = made?;
+    let front = set.sliced();
+    drop(set);
+    front
+}
+
+#[test]
+fn a_set_asks_its_own(rt: HostRuntime) {
+    let (own, other) = (Refusing::new(rt.alloc(), 0), Refusing::new(rt.alloc(), 0));
+    let added = nine(Handle { inner: &other }).expect(&rt, "a set");
+    other.refuse(1);
+    for (call, ones) in OWN {
+        for _ in own.in_turn() {
+            let answer = grown(call.make(nine(Handle { inner: &own }), &added));
+            let ample = Ok((ones.saturating_add(1000), *ones));
+            let wanted = own.wanted(ample, Err(BufferError::OutOfMemory));
+            equal(&rt, (answer, other.asked()), (wanted, 0));
+        }
+        assert!(rt; !own.has_refused() && own.asked() >= 5);
+    }
+    drop(added);
+}
