@@ -3,6 +3,7 @@ from html import escape
 
 from reference_pages.antt_items import AnttFile, Declaration
 from reference_pages.fragments import Fragments
+from reference_pages.library import FACADE
 from reference_pages.html_text import tag
 from reference_pages.pages import Page
 from reference_pages.rust_items import Item
@@ -26,11 +27,20 @@ class AnttPages:
         page.add(tag("p", f"{top} {where}", class_="crumbs"))
         page.add(tag("h1", f'{name} {tag("span", kind, class_="badge")}'))
         page.add(tag("div", f"<p>{self.fragments.plain(file.sentence)}</p>", class_="docs"))
-        uses = f"ghost use Rattle.{crate}.{folder}.{name}.{{..}};"
-        page.add(tag("pre", tag("code", escape(uses)), class_="signature"))
+        uses = "\n".join(self.imports(file, crate, folder, name))
+        page.add(tag("pre", tag("code", uses), class_="signature"))
         self.declarations(page, file, folder)
         self.nav(page, file, crate)
         return page
+
+    def imports(self, file: AnttFile, crate: str, folder: str, name: str) -> list[str]:
+        """How its names are brought in: from the crate that users name, if it gives them."""
+        library = self.fragments.library
+        given = FACADE in library.crates and library.antt_file(FACADE, folder, name) is file
+        owners = [FACADE] if given and crate != FACADE else []
+        keyword = tag("span", "ghost use" if folder == "specs" else "use", class_="kw")
+        end = ";" if folder == "specs" else ""
+        return [f"{keyword} Rattle.{it}.{folder}.{name}.{{..}}{end}" for it in [*owners, crate]]
 
     def shown(self, file: AnttFile, folder: str) -> list[Declaration]:
         """All definitions; of lemmas, those that others can cite."""

@@ -2,11 +2,11 @@
 from html import escape
 
 from reference_pages.antt_items import AnttFile
-from reference_pages.docs_html import docs_html
+from reference_pages.docs_html import Lookup, docs_html
 from reference_pages.fragments import Fragments
 from reference_pages.html_text import tag
 from reference_pages.item_pages import display
-from reference_pages.library import Crate, Reach, sentence
+from reference_pages.library import FACADE, Crate, Reach, sentence
 from reference_pages.pages import Page
 from reference_pages.rust_items import Item
 
@@ -22,7 +22,7 @@ class CratePages:
     # ---- all crates
     def groups(self) -> list[tuple[str, list[Crate]]]:
         """The crates in four groups: the library, commands, other languages and tests, examples."""
-        facade = self.library.crates["vortex_buffer"]
+        facade = self.library.crates[FACADE]
         library = [it for it in self.library.shown if it is facade or it.name in self.below(facade)]
         library.sort(key=lambda it: it is not facade)
         rest = [it for it in self.library.shown if it not in library]
@@ -78,7 +78,7 @@ class CratePages:
         self.files(page, crate, "proofs", "Lemmas", "lemmas")
         return page
 
-    def lookup(self, page: Page, crate: Crate):
+    def lookup(self, page: Page, crate: Crate) -> Lookup:
         top = crate.modules[()].file
         stand_in = Item("mod", crate.name, top.source, 0)
         stand_in.crate = crate.name

@@ -3,7 +3,7 @@ from html import escape
 from typing import Callable, Iterable
 
 from reference_pages.antt_items import Declaration
-from reference_pages.docs_html import DocLinks, docs_html, inline_html
+from reference_pages.docs_html import DocLinks, Lookup, docs_html, inline_html
 from reference_pages.examples import MOST_LINES, Call, Examples
 from reference_pages.html_text import linked_html, rust_html, tag
 from reference_pages.library import Library, sentence
@@ -35,7 +35,7 @@ class Fragments:
         self.sources: set[str] = set()
 
     # ---- text
-    def lookup(self, page: Page, item: Item) -> Callable[[str], str | None]:
+    def lookup(self, page: Page, item: Item) -> Lookup:
         def found(path: str) -> str | None:
             other = self.doc_links.find(item, path)
             if other is None:

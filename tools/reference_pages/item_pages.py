@@ -56,6 +56,8 @@ class ItemPages:
         page.add(tag("p", f"{crate} {where}", class_="crumbs"))
         kind = tag("span", display(item), class_="badge")
         page.add(tag("h1", f"{escape(item.name)} {kind}"))
+        given = [*self.library.re_exported_by(item)[:1], item.crate]
+        page.add(tag("p", f"<code>use {given[0]}::{escape(item.name)};</code>", class_="use"))
         if item.kind != "enum" and item.kind != "struct":
             page.add(self.fragments.signature(page, item))
         page.add(tag("div", self.fragments.docs(page, item), class_="docs"))

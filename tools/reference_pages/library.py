@@ -9,6 +9,7 @@ from reference_pages.rust_heads import base_name, impl_parts, use_names
 from reference_pages.rust_items import File, Item, parse
 from reference_pages.rust_text import Source
 
+FACADE = "vortex_buffer"  # the crate that users name
 NAMED = {"fn", "struct", "enum", "trait", "type", "const", "static"}
 Path_ = tuple[str, ...]
 
@@ -182,11 +183,13 @@ class Library:
         return sorted(items, key=lambda it: it.name.lower())
 
     def re_exported_by(self, item: Item) -> list[str]:
-        return [
+        """The crates that give an item of another one; the one that users name comes first."""
+        found = [
             crate
             for crate, reach in self.reached.items()
             if crate != item.crate and any(it.item is item for it in reach.values())
         ]
+        return sorted(found, key=lambda it: it != FACADE)
 
     # ---- implementations
     @cached_property

@@ -53,7 +53,6 @@ class Scope:
     crate: str = ""
     module: tuple[str, ...] = ()
     own: AnttFile | None = None
-    block: Item | None = None
 
 
 class Scopes:
@@ -92,6 +91,8 @@ class Scopes:
         steps = path.split(".")
         if steps[0] != "Rattle" or steps[1] not in self.library.crates:
             return Target("std", title=f"{path}.{name}", path=f"{path}.{name}")
+        if len(steps) < 4:
+            return None
         if steps[3] in ("declared", "contracts"):
             return self.import_of_rust(steps[1:], name)
         file = self.library.antt_file(steps[1], steps[2], steps[3])
@@ -169,9 +170,16 @@ class Scopes:
             self.add_uses(scope, [parse_use(it.head_text) for it in block.imports])
             self.add_generics(scope, block)
             if block.kind in ("trait", "struct", "enum", "impl"):
-                scope.block = block
                 self.add_members(scope, block)
+            if block.kind == "impl":
+                self.add_self(scope, block)
         return scope
+
+    def add_self(self, scope: Scope, block: Item) -> None:
+        """Within an implementation a value of its type is seen as its model, but for the model's."""
+        trait, kind = impl_parts(" ".join(block.head_text.split()))
+        if trait != "Model":
+            scope.shapes["Self"] = self.shapes_in(block, kind, None)
 
     def add_generics(self, scope: Scope, block: Item) -> None:
         if block.kind not in ("fn", "impl", "struct", "enum", "trait", "type"):

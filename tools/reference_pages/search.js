@@ -47,6 +47,8 @@
 
   function entry([name, kind, address, sentence, crate], i) {
     const item = document.createElement("li");
+    item.id = `found-${i}`;
+    item.setAttribute("role", "option");
     const link = document.createElement("a");
     link.href = root + address;
     const what = crate ? `${kind} of ${crate}` : kind;
@@ -62,6 +64,7 @@
     chosen = Math.max(0, Math.min(i, items.length - 1));
     items.forEach((it, k) => it.setAttribute("aria-selected", String(k === chosen)));
     items[chosen]?.scrollIntoView({ block: "nearest" });
+    query.setAttribute("aria-activedescendant", items[chosen]?.id ?? "");
   }
 
   function show() {
@@ -73,6 +76,7 @@
       found.append(none);
     }
     found.hidden = !text.trim();
+    query.setAttribute("aria-expanded", String(!found.hidden));
     choose(0);
   }
 

@@ -5,8 +5,10 @@ from reference_pages.antt_items import AnttFile, Declaration
 from reference_pages.antt_text import words_of
 from reference_pages.fragments import Fragments
 from reference_pages.html_text import linked_html, tag
+from reference_pages.links import Linked
 from reference_pages.pages import Page
 from reference_pages.rust_items import Item
+from reference_pages.scopes import Scope
 
 SAYS = {
     "Value": "its value is a",
@@ -77,7 +79,7 @@ class Sight:
         table = tag("table", "".join(rows), class_="contract")
         page.add(tag("details", summary + table, class_="glossary"))
 
-    def value(self, page: Page, linked: list) -> None:
+    def value(self, page: Page, linked: list[Linked]) -> None:
         """The record that the value is, with its sentence and its text; or its type."""
         records = [it for it in self.fragments.definitions(linked) if it.kind == "record"]
         shown = tag("code", linked_html(linked, page.href))
@@ -89,7 +91,7 @@ class Sight:
         page.add(tag("p", f"A clause sees it as {shown}: {says}."))
         page.add(self.fragments.definition(page, record, self.scope_of(record)))
 
-    def scope_of(self, declared: Declaration):
+    def scope_of(self, declared: Declaration) -> Scope:
         _, crate, folder, name = declared.source.path.split("/")
         file = self.library.antt_file(crate, folder, name.removesuffix(".antt"))
         assert file is not None

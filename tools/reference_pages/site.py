@@ -15,7 +15,7 @@ from reference_pages.item_pages import ItemPages, display, public_members
 from reference_pages.library import Library, sentence
 from reference_pages.pages import HERE, Page
 from reference_pages.rust_items import Item
-from reference_pages.rust_text import Source
+from reference_pages.rust_text import Source, SourceError
 from reference_pages.urls import Urls, source_page
 
 
@@ -175,7 +175,10 @@ class Site:
 
     # ---- files
     def write(self, folder: Path) -> None:
-        if folder.exists():
+        """Writes all into a folder that isn't there, is empty, or has the pages of before."""
+        if folder.exists() and any(folder.iterdir()):
+            if not (folder / "names.js").exists():
+                raise SourceError(f"{folder} has files that aren't pages of the reference")
             shutil.rmtree(folder)
         for page in self.pages.values():
             path = folder / page.url

@@ -5,6 +5,7 @@ import unittest
 from pathlib import Path
 
 from reference_pages.checks import Checks
+from reference_pages.rust_text import SourceError
 from reference_pages.site import Site
 from reference_pages.tests.fixture import Repository
 
@@ -102,6 +103,9 @@ class Pages(unittest.TestCase):
             self.site.write(Path(folder) / "made")
             made = {it.name for it in (Path(folder) / "made").iterdir()}
             self.assertLessEqual({"index.html", "style.css", "search.js", "names.js"}, made)
+            self.site.write(Path(folder) / "made")
+            with self.assertRaisesRegex(SourceError, "has files that aren't pages"):
+                self.site.write(Path(folder))
 
 
 class Errors(unittest.TestCase):
