@@ -2,7 +2,7 @@
  * A filter over a column with validity: the places and the sum of the values that are valid and
  * above a limit, by masks and by a plain loop over the column.
  */
-#include "vb_bits.h"
+#include "vortex_bits.h"
 
 #include <stdio.h>
 #include <stdlib.h>

@@ -1,8 +1,8 @@
 /*
- * Each function of vb_bits.h beside a loop over single bits, over random windows, and each checked
- * form with numbers at and past every limit. It is C and C++ alike.
+ * Each function of vortex_bits.h beside a loop over single bits, over random windows, and each
+ * checked form with numbers at and past every limit. It is C and C++ alike.
  */
-#include "vb_bits.h"
+#include "vortex_bits.h"
 
 #include <stdio.h>
 #include <stdlib.h>
@@ -142,21 +142,49 @@ static void walks(const uint8_t *bytes, size_t offset, size_t len)
 
 typedef void (*combine)(uint8_t *, size_t, size_t, const uint8_t *, size_t, size_t, size_t);
 typedef bool (*try_combine)(uint8_t *, size_t, size_t, const uint8_t *, size_t, size_t, size_t);
+typedef void (*into)(uint8_t *, size_t, size_t, const uint8_t *, size_t, size_t, const uint8_t *,
+    size_t, size_t, size_t);
+typedef bool (*try_into)(uint8_t *, size_t, size_t, const uint8_t *, size_t, size_t,
+    const uint8_t *, size_t, size_t, size_t);
 
 /* What each operator makes of two bits: digit 2 * left + right. */
 static const struct {
     const char *name;
     combine plain;
     try_combine checked;
+    into third;
+    try_into third_checked;
     unsigned table;
 } combines[] = {
-    {"copy", vb_copy_bits, vb_try_copy_bits, 0xA},
-    {"and", vb_and_bits, vb_try_and_bits, 0x8},
-    {"or", vb_or_bits, vb_try_or_bits, 0xE},
-    {"xor", vb_xor_bits, vb_try_xor_bits, 0x6},
-    {"and not", vb_and_not_bits, vb_try_and_not_bits, 0x4},
+    {"copy", vb_copy_bits, vb_try_copy_bits, NULL, NULL, 0xA},
+    {"and", vb_and_bits, vb_try_and_bits, vb_and_into, vb_try_and_into, 0x8},
+    {"or", vb_or_bits, vb_try_or_bits, vb_or_into, vb_try_or_into, 0xE},
+    {"xor", vb_xor_bits, vb_try_xor_bits, vb_xor_into, vb_try_xor_into, 0x6},
+    {"and not", vb_and_not_bits, vb_try_and_not_bits, vb_and_not_into, vb_try_and_not_into, 0x4},
 };
 enum { COMBINES = sizeof combines / sizeof combines[0] };
+
+/* The operator k of two windows into one of a third, whose other bits stay. */
+static void thirds(size_t k, const uint8_t *bytes, size_t l, const uint8_t *other, size_t r,
+    size_t len)
+{
+    uint8_t wanted[BYTES], got[BYTES];
+    const size_t o = random_below(BITS - len + 1);
+    if (combines[k].third == NULL) {
+        return;
+    }
+    memset(wanted, 0x5A, BYTES);
+    memset(got, 0x5A, BYTES);
+    for (size_t i = 0; i < len; i++) {
+        const unsigned both = 2u * bit(bytes, l + i) + bit(other, r + i);
+        put(wanted, o + i, (combines[k].table >> both & 1) != 0);
+    }
+    combines[k].third(got, BYTES, o, bytes, BYTES, l, other, BYTES, r, len);
+    check(memcmp(got, wanted, BYTES) == 0, combines[k].name);
+    memset(got, 0x5A, BYTES);
+    check(combines[k].third_checked(got, BYTES, o, bytes, BYTES, l, other, BYTES, r, len)
+            && memcmp(got, wanted, BYTES) == 0, combines[k].name);
+}
 
 static void writes(const uint8_t *bytes, const uint8_t *other, size_t offset, size_t len)
 {
@@ -174,6 +202,7 @@ static void writes(const uint8_t *bytes, const uint8_t *other, size_t offset, si
         memcpy(got, bytes, BYTES);
         check(combines[k].checked(got, BYTES, offset, other, BYTES, s, len)
                 && memcmp(got, wanted, BYTES) == 0, combines[k].name);
+        thirds(k, bytes, offset, other, s, len);
     }
     memcpy(got, bytes, BYTES);
     vb_copy_bits(got, BYTES, offset, other, BYTES, s, len);
@@ -410,6 +439,11 @@ static void refusals(const uint8_t *bytes)
         for (size_t c = 0; c < COMBINES; c++) {
             check(!combines[c].checked(got, BYTES, offset, bytes, BYTES, 0, len), combines[c].name);
             check(!combines[c].checked(got, BYTES, 0, bytes, BYTES, offset, len), combines[c].name);
+            for (size_t at = 0; at < 3 && combines[c].third != NULL; at++) {
+                check(!combines[c].third_checked(got, BYTES, at == 0 ? offset : 0, bytes, BYTES,
+                    at == 1 ? offset : 0, bytes, BYTES, at == 2 ? offset : 0, len),
+                    combines[c].name);
+            }
         }
         check(number == 77 && flag && place.found && place.index == 9 && places[0] == 5
                 && runs[0].start == 3 && runs[0].end == 4 && memcmp(got, bytes, BYTES) == 0,

@@ -1,30 +1,50 @@
-//! Links the archives of the processor levels: those in `native/`, or in the folder that
-//! `VB_BITS_NATIVE` names.
+//! Links the archives of the processor levels, those in `native/` or in the folder that
+//! `VORTEX_BITS_NATIVE` names, and says so by `cfg(vortex_bits_native)`. Without them, for another
+//! machine than x86-64 Linux, and under Miri, nothing is linked.
 use std::env;
-use std::path::PathBuf;
+use std::path::{Path, PathBuf};
+
+const LEVELS: [&str; 2] = ["v2", "v3"];
 
 fn main() {
-    println!("cargo::rerun-if-env-changed=VB_BITS_NATIVE");
-    let arch = env::var("CARGO_CFG_TARGET_ARCH").unwrap_or_default();
-    let os = env::var("CARGO_CFG_TARGET_OS").unwrap_or_default();
-    if (arch.as_str(), os.as_str()) != ("x86_64", "linux") {
-        println!("cargo::error=vb_bits has code for x86_64 Linux alone, and none for {arch} {os}");
+    println!("cargo::rerun-if-env-changed=VORTEX_BITS_NATIVE");
+    println!("cargo::rustc-check-cfg=cfg(vortex_bits_native)");
+    let folder = folder();
+    let archives = LEVELS.map(|level| archive(&folder, level));
+    for archive in &archives {
+        println!("cargo::rerun-if-changed={}", archive.display());
+    }
+    if !has_code() {
         return;
     }
-    let folder = env::var_os("VB_BITS_NATIVE").map_or_else(
+    if let Some(missing) = archives.iter().find(|archive| !archive.is_file()) {
+        let missing = missing.display();
+        println!("cargo::warning=no {missing}: the portable code stands in for it");
+        return;
+    }
+    println!("cargo::rustc-cfg=vortex_bits_native");
+    println!("cargo::rustc-link-search=native={}", folder.display());
+    for level in LEVELS {
+        println!("cargo::rustc-link-lib=static=vortex_bits_0_1_{level}");
+    }
+}
+
+fn folder() -> PathBuf {
+    env::var_os("VORTEX_BITS_NATIVE").map_or_else(
         || PathBuf::from(env::var_os("CARGO_MANIFEST_DIR").unwrap_or_default()).join("native"),
         PathBuf::from,
-    );
-    println!("cargo::rustc-link-search=native={}", folder.display());
-    for level in ["v2", "v3"] {
-        let archive = folder.join(format!("libvb_c_{level}.a"));
-        println!("cargo::rerun-if-changed={}", archive.display());
-        if !archive.is_file() {
-            println!(
-                "cargo::error=no archive {}: bindings/run makes it",
-                archive.display()
-            );
-        }
-        println!("cargo::rustc-link-lib=static=vb_c_{level}");
-    }
+    )
+}
+
+fn archive(folder: &Path, level: &str) -> PathBuf {
+    folder.join(format!("libvortex_bits_0_1_{level}.a"))
+}
+
+/// Whether the archives have code for the target, which Miri can't run.
+fn has_code() -> bool {
+    let is = |name: &str, value: &str| env::var(name).is_ok_and(|it| it == value);
+    is("CARGO_CFG_TARGET_ARCH", "x86_64")
+        && is("CARGO_CFG_TARGET_OS", "linux")
+        && is("CARGO_CFG_TARGET_POINTER_WIDTH", "64")
+        && env::var_os("CARGO_CFG_MIRI").is_none()
 }

@@ -1,15 +1,18 @@
 //! Questions on one window, and the comparison of two.
 
-use vb_bits::{
-    Ranks, Run, bit_select, bit_select_unset, blocks, count_ones, equal_bits, get_bit,
-    last_set_index, set_indices, set_slices,
-};
+use std::fmt::Debug;
+
+use vortex_bits::{Bitmap, Ranks, blocks};
 
 use crate::case::Case;
 use crate::plain;
 
 /// An answer that should be `wanted`.
-pub fn same<T: PartialEq + std::fmt::Debug>(name: &str, got: T, wanted: T) -> Result<u64, String> {
+pub fn same<T: PartialEq<U> + Debug, U: Debug>(
+    name: &str,
+    got: T,
+    wanted: U,
+) -> Result<u64, String> {
     if got == wanted {
         Ok(1)
     } else {
@@ -17,87 +20,91 @@ pub fn same<T: PartialEq + std::fmt::Debug>(name: &str, got: T, wanted: T) -> Re
     }
 }
 
+pub fn compare(case: &Case) -> Result<u64, String> {
+    let (bits, n) = (case.left(), case.n);
+    let list = plain::bits(bits);
+    let trues = plain::places(&list, true);
+    let falses = plain::places(&list, false);
+    Ok(same("count_ones", bits.count_ones(), trues.len())?
+        + same("count_zeros", bits.count_zeros(), falses.len())?
+        + same("select", bits.select(n), trues.get(n).copied())?
+        + same("select_unset", bits.select_unset(n), falses.get(n).copied())?
+        + same("last_set", bits.last_set(), trues.last().copied())?
+        + same("any", bits.any(), !trues.is_empty())?
+        + same("all", bits.all(), falses.is_empty())?
+        + same("get", bits.get(n), list.get(n).copied())?
+        + same(
+            "==",
+            bits == case.right(),
+            list == plain::bits(case.right()),
+        )?
+        + walks(case, &list, &trues)?
+        + ranks(case, &list, &trues, &falses)?)
+}
+
 /// What a walk with room for `room` items writes before the items that stay as they were.
-fn filled<T: Clone>(items: &[T], room: usize, rest: T) -> (usize, Vec<T>) {
+fn filled(items: &[usize], room: usize) -> (usize, Vec<usize>) {
     let mut out = items[..room.min(items.len())].to_vec();
     let count = out.len();
-    out.resize(room, rest);
+    out.resize(room, usize::MAX);
     (count, out)
 }
 
-pub fn compare(case: &Case) -> Result<u64, String> {
-    let Case {
-        left,
-        l,
-        right,
-        r,
-        len,
-        n,
-        ..
-    } = case;
-    let (l, r, len, n) = (*l, *r, *len, *n);
-    let list = plain::bits(left, l, len);
-    let trues = plain::places(&list, true);
-    let falses = plain::places(&list, false);
-    let mut calls = same("count_ones", count_ones(left, l, len), trues.len())?
+/// The iterators by steps up to the `n`-th, and then in one go.
+fn walks(case: &Case, list: &[bool], trues: &[usize]) -> Result<u64, String> {
+    let (bits, n) = (case.left(), case.n);
+    let mut out = vec![usize::MAX; n];
+    let count = bits.write_set_indices(&mut out);
+    let mut places = bits.set_indices();
+    let mut stepped: Vec<usize> = places.by_ref().take(n).collect();
+    let left = places.len();
+    places.for_each(|place| stepped.push(place));
+    let mut slices = bits.set_slices();
+    let mut runs: Vec<_> = slices.by_ref().take(n / 3).collect();
+    slices.for_each(|run| runs.push(run));
+    let mut all = bits.iter();
+    let mut bools: Vec<bool> = all.by_ref().take(n).collect();
+    let rest = all.len();
+    all.for_each(|bit| bools.push(bit));
+    Ok(same("write_set_indices", (count, out), filled(trues, n))?
+        + same("set_indices", stepped, trues)?
+        + same("set_indices, left", left, trues.len().saturating_sub(n))?
+        + same("set_slices", runs, plain::runs(list))?
+        + same("iter", bools, list)?
+        + same("iter, left", rest, list.len().saturating_sub(n))?
         + same(
-            "bit_select",
-            bit_select(left, l, len, n),
-            trues.get(n).copied(),
-        )?
-        + same(
-            "bit_select_unset",
-            bit_select_unset(left, l, len, n),
-            falses.get(n).copied(),
-        )?
-        + same(
-            "last_set_index",
-            last_set_index(left, l, len),
-            trues.last().copied(),
-        )?
-        + same(
-            "equal_bits",
-            equal_bits(left, l, right, r, len),
-            list == plain::bits(right, r, len),
-        )?;
-    if let Some(&bit) = list.get(n) {
-        calls += same("get_bit", get_bit(left, l + n), bit)?;
-    }
-    let mut places = vec![usize::MAX; n];
-    let count = set_indices(left, l, len, &mut places);
-    calls += same(
-        "set_indices",
-        (count, places),
-        filled(&trues, n, usize::MAX),
-    )?;
-    let mut runs = vec![Run::default(); n];
-    let count = set_slices(left, l, len, &mut runs);
-    calls += same(
-        "set_slices",
-        (count, runs),
-        filled(&plain::runs(&list), n, Run::default()),
-    )?;
-    Ok(calls + ranks(case, &list, &trues, &falses)?)
+            "words",
+            bits.words().collect::<Vec<_>>(),
+            plain::words(list),
+        )?)
 }
 
-/// Ranks over a table, which has one entry more than there are blocks.
+/// Ranks over a table, which has one entry more than there are blocks, and over one of no use,
+/// whose answers say nothing.
 fn ranks(case: &Case, list: &[bool], trues: &[usize], falses: &[usize]) -> Result<u64, String> {
-    let Case {
-        left, l, len, n, ..
-    } = case;
-    let mut table = vec![0; blocks(*len) + 1];
-    let ranks = Ranks::new(left, *l, *len, &mut table).map_err(|it| it.to_string())?;
-    let i = n.min(len);
-    let wanted = list[..*i].iter().filter(|&&bit| bit).count();
-    Ok(same("rank", ranks.rank(*i), wanted)?
-        + same(
-            "select over a table",
-            ranks.select(*n),
-            trues.get(*n).copied(),
-        )?
-        + same(
-            "select_unset over a table",
-            ranks.select_unset(*n),
-            falses.get(*n).copied(),
-        )?)
+    let (bits, n) = (case.left(), case.n);
+    let mut table = vec![usize::MAX; blocks(case.len) + 1];
+    let wrong = Ranks::with_table(bits, &table);
+    let _ = (
+        wrong.count(),
+        wrong.select(n),
+        wrong.select_unset(n),
+        wrong.try_rank(n),
+    );
+    let _ = Ranks::new(bits, &mut table);
+    let ranked = Bitmap::new(case.left.as_slice(), case.l, case.len).ranked();
+    let i = n.min(list.len());
+    let wanted = list[..i].iter().filter(|&&bit| bit).count();
+    let mut calls = same("the table", table.last(), Some(&usize::MAX))?;
+    for ranks in [Ranks::with_table(bits, &table), ranked.ranks()] {
+        calls += same("rank", ranks.rank(i), wanted)?
+            + same("count by ranks", ranks.count(), trues.len())?
+            + same("select by ranks", ranks.select(n), trues.get(n).copied())?
+            + same(
+                "select_unset by ranks",
+                ranks.select_unset(n),
+                falses.get(n).copied(),
+            )?;
+    }
+    Ok(calls)
 }

@@ -1,5 +1,7 @@
 //! Two windows of one length over bytes of their own, and what else the calls ask.
 
+use vortex_bits::Bits;
+
 use crate::random::Random;
 
 #[derive(Debug)]
@@ -69,6 +71,14 @@ impl Case {
             n: random.below(len + 2),
             value: random.below(2) == 0,
         }
+    }
+
+    pub fn left(&self) -> Bits<'_> {
+        Bits::new(&self.left, self.l, self.len)
+    }
+
+    pub fn right(&self) -> Bits<'_> {
+        Bits::new(&self.right, self.r, self.len)
     }
 }
 

@@ -1,84 +1,85 @@
-//! Packs of truth values, and bits taken at indices.
+//! Bits taken at indices, and bits that a mask keeps, into windows at any offset.
 
-use vb_bits::{Index, TakeError, pack_bools, pack_truthy, try_take, try_take_valid};
+use std::fmt::Debug;
+
+use vortex_bits::{BitIndex, Bits, BitsMut, TakeError};
 
 use crate::ask::same;
 use crate::case::{Case, bit, put};
-use crate::plain;
 use crate::random::Random;
 
-/// The bytes of the right side with these values in front, and false up to the end of a byte.
-fn packed(case: &Case, values: &[bool]) -> Vec<u8> {
-    let mut bytes = case.right.clone();
-    bytes[..values.len().div_ceil(8)].fill(0);
-    for (i, &value) in values.iter().enumerate() {
-        put(&mut bytes, i, value);
-    }
-    bytes
+/// Bytes for `len` bits from bit `r` on and some more, which hold anything.
+fn room(case: &Case, len: usize) -> Vec<u8> {
+    let size = (case.r + len).div_ceil(8) + 2;
+    case.right.iter().copied().cycle().take(size).collect()
 }
 
-fn packs(case: &Case) -> Result<u64, String> {
-    let list = plain::bits(&case.left, case.l, case.len.min(8 * case.right.len()));
-    let wanted = packed(case, &list);
-    let mut bools = case.right.clone();
-    pack_bools(&mut bools, &list);
-    let truthy: Vec<u8> = list
-        .iter()
-        .map(|&value| if value { case.n as u8 | 1 } else { 0 })
-        .collect();
-    let mut bytes = case.right.clone();
-    pack_truthy(&mut bytes, &truthy);
-    Ok(same("pack_bools", &bools, &wanted)? + same("pack_truthy", &bytes, &wanted)?)
-}
-
-/// What a take of these places answers, where those count that `counts` names.
+/// What a take of these places writes, where those count that `counts` names; or the first position
+/// that counts and whose place isn't one.
 fn taken(case: &Case, places: &[usize], counts: impl Fn(usize) -> bool) -> Result<Vec<u8>, usize> {
     let past = |&p: &usize| counts(p) && places[p] >= case.len;
     if let Some(position) = (0..places.len()).find(past) {
         return Err(position);
     }
-    let mut bytes = case.right.clone();
+    let mut bytes = room(case, places.len());
     for (p, &place) in places.iter().enumerate() {
-        put(&mut bytes, p, counts(p) && bit(&case.left, case.l + place));
+        put(
+            &mut bytes,
+            case.r + p,
+            counts(p) && bit(&case.left, case.l + place),
+        );
     }
     Ok(bytes)
 }
 
-/// The answer of a call that writes into a copy of the right side.
+/// The answer of a call that writes into such bytes.
 fn answer(
     case: &Case,
-    take: impl Fn(&mut [u8]) -> Result<(), TakeError>,
+    len: usize,
+    take: impl FnOnce(BitsMut<'_>) -> Result<(), TakeError>,
 ) -> Result<Result<Vec<u8>, usize>, String> {
-    let mut bytes = case.right.clone();
-    match take(&mut bytes) {
+    let mut bytes = room(case, len);
+    match take(BitsMut::new(&mut bytes, case.r, len)) {
         Ok(()) => Ok(Ok(bytes)),
         Err(TakeError::Index { position }) => Ok(Err(position)),
         Err(refused) => Err(refused.to_string()),
     }
 }
 
-fn takes<I: Index + TryFrom<usize>>(case: &Case, places: &[usize]) -> Result<u64, String> {
-    let Case {
-        left,
-        l,
-        right,
-        r,
-        len,
-        ..
-    } = case;
-    let (l, r, len) = (*l, *r, *len);
-    let index = |&place| I::try_from(place).map_err(|_| String::from("a place past 32 bits"));
-    let indices: Vec<I> = places.iter().map(index).collect::<Result<_, _>>()?;
-    let all = answer(case, |out| try_take(out, left, l, len, &indices))?;
-    let valid = answer(case, |out| {
-        try_take_valid(out, left, l, len, &indices, right, r)
+/// By a type of indices, in which a place past the window is `past`.
+fn takes<I: BitIndex + TryFrom<usize> + Debug>(
+    case: &Case,
+    places: &[usize],
+    past: I,
+) -> Result<u64, String>
+where
+    I: Copy,
+{
+    let index = |&place: &usize| match I::try_from(place) {
+        Ok(index) if place < case.len => index,
+        _ => past,
+    };
+    let indices: Vec<I> = places.iter().map(index).collect();
+    let valid = Bits::new(&case.right, case.r, places.len());
+    let len = places.len();
+    let all = answer(case, len, |out| case.left().try_take_into(&indices, out))?;
+    let some = answer(case, len, |out| {
+        case.left().try_take_valid_into(&indices, valid, out)
     })?;
-    Ok(same("take", all, taken(case, places, |_| true))?
-        + same(
-            "take_valid",
-            valid,
-            taken(case, places, |p| bit(right, r + p)),
-        )?)
+    let counts = |p| bit(&case.right, case.r + p);
+    Ok(same("take_into", all, taken(case, places, |_| true))?
+        + same("take_valid_into", some, taken(case, places, counts))?)
+}
+
+fn filters(case: &Case) -> Result<u64, String> {
+    let mask = case.right();
+    let kept: Vec<usize> = (0..case.len)
+        .filter(|&i| bit(&case.right, case.r + i))
+        .collect();
+    let mut bytes = room(case, kept.len());
+    let out = BitsMut::new(&mut bytes, case.r, kept.len());
+    case.left().filter_into(mask, out);
+    same("filter_into", Ok(bytes), taken(case, &kept, |_| true))
 }
 
 /// Of two cases one has indices past the window among its own.
@@ -90,5 +91,10 @@ pub fn compare(case: &Case, random: &mut Random) -> Result<u64, String> {
         random.below(case.len + 1)
     };
     let places: Vec<usize> = (0..count).map(|_| random.below(most)).collect();
-    Ok(packs(case)? + takes::<u32>(case, &places)? + takes::<u64>(case, &places)?)
+    Ok(filters(case)?
+        + takes(case, &places, u32::MAX)?
+        + takes(case, &places, case.len as u64)?
+        + takes(case, &places, case.len)?
+        + takes(case, &places, -1i32)?
+        + takes(case, &places, i64::MIN)?)
 }

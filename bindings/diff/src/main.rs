@@ -1,9 +1,10 @@
-//! Random calls of `vb_bits`, whose answers are compared with loops over single bits, and with
+//! Random calls of `vortex_bits`, whose answers are compared with loops over single bits, and with
 //! those of vortex-buffer where it is built with it.
 //!
 //!     diff [CALLS [SEED]]
 //!
-//! CALLS is how many calls are made at each level of the processor, two million unless it is said.
+//! CALLS is how many calls are made at each level that there is code for, two million unless it is
+//! said.
 
 mod ask;
 mod case;
@@ -19,7 +20,7 @@ use std::process::ExitCode;
 
 use case::Case;
 use random::Random;
-use vb_bits::Level;
+use vortex_bits::Level;
 
 /// The number that the command line has at this place.
 fn number(place: usize, otherwise: u64) -> Result<u64, String> {
@@ -39,11 +40,8 @@ fn compare(case: &Case, random: &mut Random) -> Result<u64, String> {
 fn run() -> Result<(), String> {
     let wanted = number(1, 2_000_000)?;
     let seed = number(2, 88_172_645_463_325_252)?;
-    for level in Level::ALL {
-        if !level.make_current() {
-            println!("{level:?}: skipped, the processor doesn't have it");
-            continue;
-        }
+    for level in Level::available() {
+        assert!(level.make_current());
         let mut random = Random::new(seed);
         let mut calls = 0;
         let mut cases = 0;

@@ -1,11 +1,16 @@
 //! What the calls answer, by loops over single bits.
 
-use vb_bits::Run;
+use std::ops::Range;
+
+use vortex_bits::Bits;
 
 use crate::case::bit;
 
-pub fn bits(bytes: &[u8], offset: usize, len: usize) -> Vec<bool> {
-    (offset..offset + len).map(|i| bit(bytes, i)).collect()
+pub fn bits(window: Bits<'_>) -> Vec<bool> {
+    let start = window.offset();
+    (start..start + window.len())
+        .map(|i| bit(window.bytes(), i))
+        .collect()
 }
 
 /// The places of the bits that are `value`.
@@ -14,16 +19,19 @@ pub fn places(list: &[bool], value: bool) -> Vec<usize> {
 }
 
 /// The runs of true bits, each as long as can be.
-pub fn runs(list: &[bool]) -> Vec<Run> {
-    let mut runs: Vec<Run> = Vec::new();
+pub fn runs(list: &[bool]) -> Vec<Range<usize>> {
+    let mut runs: Vec<Range<usize>> = Vec::new();
     for start in places(list, true) {
         match runs.last_mut() {
             Some(run) if run.end == start => run.end += 1,
-            _ => runs.push(Run {
-                start,
-                end: start + 1,
-            }),
+            _ => runs.push(start..start + 1),
         }
     }
     runs
+}
+
+/// Words of 64, the first bit lowest.
+pub fn words(list: &[bool]) -> Vec<u64> {
+    let word = |bits: &[bool]| (0..bits.len()).map(|i| u64::from(bits[i]) << i).sum();
+    list.chunks(64).map(word).collect()
 }

@@ -1,29 +1,46 @@
 //! Writes of one window, after which every bit of the bytes is looked at.
 
-use vb_bits::{and_bits, and_not_bits, copy_bits, fill_bits, negate_bits, or_bits, xor_bits};
+use vortex_bits::{Bits, BitsMut};
 
 use crate::ask::same;
 use crate::case::{Case, bit, put};
+use crate::plain;
 
 /// A call that writes a window by another one.
-type Write = fn(&mut [u8], usize, &[u8], usize, usize);
+type Write = fn(&mut BitsMut<'_>, Bits<'_>);
+/// A call that writes a window by two others.
+type Combine = fn(&mut BitsMut<'_>, Bits<'_>, Bits<'_>);
 /// What it makes of two bits.
-type Combine = fn(bool, bool) -> bool;
+type Of = fn(bool, bool) -> bool;
 
-const BY_ANOTHER: [(&str, Write, Combine); 5] = [
-    ("copy_bits", copy_bits, |_, b| b),
-    ("and_bits", and_bits, |a, b| a & b),
-    ("or_bits", or_bits, |a, b| a | b),
-    ("xor_bits", xor_bits, |a, b| a ^ b),
-    ("and_not_bits", and_not_bits, |a, b| a & !b),
+const BY_ANOTHER: [(&str, Write, Of); 5] = [
+    ("copy_from", |it, b| it.copy_from(b), |_, b| b),
+    ("and", |it, b| it.and(b), |a, b| a & b),
+    ("or", |it, b| it.or(b), |a, b| a | b),
+    ("xor", |it, b| it.xor(b), |a, b| a ^ b),
+    ("and_not", |it, b| it.and_not(b), |a, b| a & !b),
 ];
 
-/// The bytes of the left side, with each bit of the window as `wanted` says of its place.
-fn written(case: &Case, wanted: impl Fn(usize) -> bool) -> Vec<u8> {
-    let mut bytes = case.left.clone();
-    for i in 0..case.len {
-        put(&mut bytes, case.l + i, wanted(i));
+const BY_TWO: [(&str, Combine, Of); 4] = [
+    ("and_of", |it, a, b| it.and_of(a, b), |a, b| a & b),
+    ("or_of", |it, a, b| it.or_of(a, b), |a, b| a | b),
+    ("xor_of", |it, a, b| it.xor_of(a, b), |a, b| a ^ b),
+    ("and_not_of", |it, a, b| it.and_not_of(a, b), |a, b| a & !b),
+];
+
+/// These bytes, with each bit of the window as `wanted` says of its place.
+fn written(bytes: &[u8], offset: usize, len: usize, wanted: impl Fn(usize) -> bool) -> Vec<u8> {
+    let mut bytes = bytes.to_vec();
+    for i in 0..len {
+        put(&mut bytes, offset + i, wanted(i));
     }
+    bytes
+}
+
+/// The bytes of the left side after `write` wrote to its window.
+fn after(case: &Case, write: impl FnOnce(&mut BitsMut<'_>)) -> Vec<u8> {
+    let mut bytes = case.left.clone();
+    write(&mut BitsMut::new(&mut bytes, case.l, case.len));
     bytes
 }
 
@@ -34,20 +51,43 @@ pub fn compare(case: &Case) -> Result<u64, String> {
         right,
         r,
         len,
+        n,
         value,
-        ..
     } = case;
-    let (l, r, len, value) = (*l, *r, *len, *value);
-    let mut filled = left.clone();
-    fill_bits(&mut filled, l, l + len, value);
-    let mut negated = left.clone();
-    negate_bits(&mut negated, l, len);
-    let mut calls = same("fill_bits", filled, written(case, |_| value))?
-        + same("negate_bits", negated, written(case, |i| !bit(left, l + i)))?;
-    for (name, write, combine) in BY_ANOTHER {
+    let (l, r, len, n, value) = (*l, *r, *len, *n, *value);
+    let (a, b) = (|i| bit(left, l + i), |i| bit(right, r + i));
+    let bools = plain::bits(case.right());
+    let truthy: Vec<u8> = bools
+        .iter()
+        .map(|&it| u8::from(it) * (n as u8 | 1))
+        .collect();
+    let copied = written(left, l, len, b);
+    let filled = after(case, |out| out.fill(value));
+    let negated = after(case, |it| it.negate());
+    let packed = after(case, |out| out.copy_from_bools(&bools));
+    let truths = after(case, |out| out.copy_from_truthy(&truthy));
+    let asked = after(case, |out| out.fill_with(|place| bools[place]));
+    let mut calls = same("fill", filled, written(left, l, len, |_| value))?
+        + same("negate", negated, written(left, l, len, |i| !a(i)))?
+        + same("copy_from_bools", &packed, &copied)?
+        + same("copy_from_truthy", &truths, &copied)?
+        + same("fill_with", &asked, &copied)?;
+    if n < len {
+        let set = after(case, |out| out.set(n, value));
+        let slice = after(case, |out| out.slice(n..).fill(value));
+        calls += same("set", set, written(left, l + n, 1, |_| value))?
+            + same("slice", slice, written(left, l + n, len - n, |_| value))?;
+    }
+    for (name, write, of) in BY_ANOTHER {
+        let bytes = after(case, |out| write(out, case.right()));
+        calls += same(name, bytes, written(left, l, len, |i| of(a(i), b(i))))?;
+    }
+    for (name, combine, of) in BY_TWO {
         let mut bytes = left.clone();
-        write(&mut bytes, l, right, r, len);
-        let wanted = written(case, |i| combine(bit(left, l + i), bit(right, r + i)));
+        bytes.reverse();
+        let wanted = written(&bytes, l, len, |i| of(a(i), b(i)));
+        let mut out = BitsMut::new(&mut bytes, l, len);
+        combine(&mut out, case.left(), case.right());
         calls += same(name, bytes, wanted)?;
     }
     Ok(calls)

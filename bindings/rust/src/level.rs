@@ -1,104 +1,147 @@
 //! Which code the processor can run, and which of it runs.
 
-use std::ptr;
-use std::sync::atomic::{AtomicPtr, Ordering};
+use core::sync::atomic::{AtomicU8, Ordering};
 
+#[cfg(vortex_bits_native)]
 use crate::native::{Kernels, V2, V3};
 
-/// A level of x86-64 that there is code for.
+/// Code that calls run. Answers don't depend on it.
 #[derive(Clone, Copy, Debug, PartialEq, Eq, PartialOrd, Ord, Hash)]
+#[non_exhaustive]
 pub enum Level {
-    /// x86-64-v2: SSE4.2 and `popcnt`.
+    /// Rust of this crate, on any machine: compared with loops over single bits, and not proved.
+    Portable,
+    /// Proved code for x86-64-v2: SSE4.2 and `popcnt`.
     V2,
-    /// x86-64-v3: AVX2 and BMI2.
+    /// Proved code for x86-64-v3: AVX2 and BMI2.
     V3,
 }
 
-/// The functions that calls go to; null until the first call has chosen them.
-static CURRENT: AtomicPtr<Kernels> = AtomicPtr::new(ptr::null_mut());
+/// All levels, the lowest first.
+const LEVELS: [Level; 3] = [Level::Portable, Level::V2, Level::V3];
+
+/// The level where it is known when the program is compiled, as by `-C target-cpu=x86-64-v3`: calls
+/// then go straight to its functions.
+const FIXED: Option<Level> = if cfg!(not(vortex_bits_native)) {
+    Some(Level::Portable)
+} else if cfg!(all(
+    not(feature = "levels"),
+    target_feature = "sse4.2",
+    target_feature = "ssse3",
+    target_feature = "popcnt",
+    target_feature = "cmpxchg16b",
+    target_feature = "avx2",
+    target_feature = "bmi1",
+    target_feature = "bmi2",
+    target_feature = "f16c",
+    target_feature = "fma",
+    target_feature = "lzcnt",
+    target_feature = "movbe",
+)) {
+    Some(Level::V3)
+} else {
+    None
+};
+
+/// The level that calls use, as its place behind 0; 0 until the first call has chosen it.
+static CURRENT: AtomicU8 = AtomicU8::new(0);
+
+/// Whether the processor has each feature: as it is found when the program runs, and without
+/// `std` as the compiler was told.
+#[cfg(vortex_bits_native)]
+macro_rules! has {
+    ($($feature:tt),*) => {{
+        #[cfg(feature = "std")]
+        let has = $(std::arch::is_x86_feature_detected!($feature))&&*;
+        #[cfg(not(feature = "std"))]
+        let has = cfg!(all($(target_feature = $feature),*));
+        has
+    }};
+}
 
 impl Level {
-    /// All levels, the lowest first.
-    pub const ALL: [Level; 2] = [Level::V2, Level::V3];
-
-    /// Whether this processor has the level.
-    pub fn is_available(self) -> bool {
-        match self {
-            Level::V2 => has_v2(),
-            Level::V3 => has_v2() && has_v3(),
+    /// The level that calls use: the highest one that there is code for here and that the processor
+    /// has, unless `make_current` said another.
+    #[inline]
+    #[must_use]
+    pub fn current() -> Level {
+        if let Some(level) = FIXED {
+            return level;
+        }
+        match CURRENT.load(Ordering::Relaxed) {
+            0 => choose(),
+            place => LEVELS[usize::from(place) - 1],
         }
     }
 
-    /// The highest level that this processor has, which calls use unless
-    /// [`make_current`](Level::make_current) said another.
-    ///
-    /// # Panics
-    ///
-    /// Where the processor doesn't have x86-64-v2: there is no code for it.
-    pub fn best() -> Level {
-        Level::ALL
-            .into_iter()
-            .rfind(|level| level.is_available())
-            .expect("vb_bits needs a processor with x86-64-v2")
+    /// Whether there is code for the level here, and the processor has it.
+    #[must_use]
+    pub fn is_available(self) -> bool {
+        match self {
+            Level::Portable => true,
+            #[cfg(vortex_bits_native)]
+            Level::V2 => has_v2(),
+            #[cfg(vortex_bits_native)]
+            Level::V3 => has_v2() && has_v3(),
+            #[cfg(not(vortex_bits_native))]
+            Level::V2 | Level::V3 => false,
+        }
     }
 
     /// Makes all calls from now on, on any thread, use the code of this level, to measure or to
-    /// test it: answers don't depend on it. Answers whether the processor has the level, and
-    /// changes nothing where it doesn't.
+    /// test it. Answers whether it is available, and changes nothing where it isn't.
+    #[cfg(feature = "levels")]
+    #[must_use]
     pub fn make_current(self) -> bool {
         let available = self.is_available();
         if available {
-            CURRENT.store(ptr::from_ref(self.kernels()).cast_mut(), Ordering::Relaxed);
+            CURRENT.store(self.stored(), Ordering::Relaxed);
         }
         available
     }
 
-    fn kernels(self) -> &'static Kernels {
-        match self {
-            Level::V2 => &V2,
-            Level::V3 => &V3,
-        }
+    /// All levels that are available, the lowest first.
+    #[cfg(feature = "levels")]
+    pub fn available() -> impl Iterator<Item = Level> {
+        LEVELS.into_iter().filter(|level| level.is_available())
+    }
+
+    fn stored(self) -> u8 {
+        self as u8 + 1
     }
 }
 
-/// The functions that calls go to.
+/// The C functions that calls go to; None where they are done in Rust.
+#[cfg(vortex_bits_native)]
 #[inline]
-pub(crate) fn kernels() -> &'static Kernels {
-    let current = CURRENT.load(Ordering::Relaxed);
-    if current.is_null() {
-        return choose();
+pub(crate) fn kernels() -> Option<&'static Kernels> {
+    match Level::current() {
+        Level::Portable => None,
+        Level::V2 => Some(&V2),
+        Level::V3 => Some(&V3),
     }
-    // SAFETY: only statics are ever stored, and only those of a level that the processor has.
-    unsafe { &*current }
 }
 
 #[cold]
 #[inline(never)]
-fn choose() -> &'static Kernels {
-    let best = Level::best().kernels();
+fn choose() -> Level {
+    let mut levels = LEVELS.into_iter();
+    let best = levels
+        .rfind(|level| level.is_available())
+        .unwrap_or(Level::Portable);
     // Another thread may have made a level the current one meanwhile: that one stays.
-    let _ = CURRENT.compare_exchange(
-        ptr::null_mut(),
-        ptr::from_ref(best).cast_mut(),
-        Ordering::Relaxed,
-        Ordering::Relaxed,
-    );
-    best
+    match CURRENT.compare_exchange(0, best.stored(), Ordering::Relaxed, Ordering::Relaxed) {
+        Ok(_) => best,
+        Err(place) => LEVELS[usize::from(place) - 1],
+    }
 }
 
+#[cfg(vortex_bits_native)]
 fn has_v2() -> bool {
-    is_x86_feature_detected!("sse4.2")
-        && is_x86_feature_detected!("ssse3")
-        && is_x86_feature_detected!("popcnt")
-        && is_x86_feature_detected!("cmpxchg16b")
+    has!("sse4.2", "ssse3", "popcnt", "cmpxchg16b")
 }
 
+#[cfg(vortex_bits_native)]
 fn has_v3() -> bool {
-    is_x86_feature_detected!("avx2")
-        && is_x86_feature_detected!("bmi1")
-        && is_x86_feature_detected!("bmi2")
-        && is_x86_feature_detected!("f16c")
-        && is_x86_feature_detected!("fma")
-        && is_x86_feature_detected!("lzcnt")
-        && is_x86_feature_detected!("movbe")
+    has!("avx2", "bmi1", "bmi2", "f16c", "fma", "lzcnt", "movbe")
 }

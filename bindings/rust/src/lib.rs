@@ -1,47 +1,65 @@
 //! Windows of bits over byte slices, least significant bit first: counted, searched, compared,
-//! walked, filled, negated, copied and combined; and packed of truth values, or taken at indices.
+//! walked, filled, negated, copied and combined; packed of truth values, taken at indices, filtered
+//! by masks, and ranked over a table of counts.
 //!
 //! Bit `i` of some bytes is digit `i % 8` of byte `i / 8`. A window is the `len` bits from bit
-//! `offset` on: no call reads or changes a bit outside of the windows that it names, whatever else
-//! the bytes hold. Lengths, offsets and places are counted in bits.
+//! `offset` on: [`Bits`] reads one, [`BitsMut`] writes one. No call reads or changes a bit outside
+//! of its windows, whatever else the bytes hold. Lengths, offsets and places are counted in bits.
 //!
-//! The functions behind these calls are proved in Rattle to meet their definitions, for all
-//! inputs whose windows lie in their bytes. This crate tests that before each call: a call panics
-//! with the numbers of a window that doesn't fit, its `try_` form answers [`OutOfBounds`]. No call
-//! takes memory.
+//! That a window lies in its bytes is tested once, where it is made. After that a call panics only
+//! for what its windows can't know, and says so: that two of them are of one length, or that a
+//! place is one of theirs. Only calls that give a `Bitmap`, bits with their bytes, take memory.
 //!
-//! There is code for x86-64-v2 and for x86-64-v3; the first call chooses once by what the
-//! processor has ([`Level`]).
+//! # What is proved
+//!
+//! On x86-64 Linux the calls go to C functions that are proved in Rattle to meet their definitions
+//! at every offset and length, for x86-64-v2 or for x86-64-v3, by what the processor has. Three
+//! things are Rust of this crate alone, which is compared with loops over single bits and isn't
+//! proved: single bits and windows of at most 64 bits, which need no call;
+//! [`filter_into`](Bits::filter_into) and [`fill_with`](BitsMut::fill_with); and everything on
+//! other machines, under Miri, and where the archives of those functions aren't there when the
+//! crate is built. [`Level::current`] says which it is.
+//!
+//! # Features
+//!
+//! - `std` (default): the processor is tested when the program runs. Without it, what the compiler
+//!   was told counts (`-C target-cpu`).
+//! - `alloc` (with `std`): `Bitmap`, bits with their bytes, and `Ranked`, those with their ranks.
+//! - `levels`: `Level::make_current`, to measure and to test.
+#![no_std]
 
-mod ask;
-mod compare;
-mod edit;
+#[cfg(feature = "alloc")]
+extern crate alloc;
+#[cfg(feature = "std")]
+extern crate std;
+
+#[cfg(feature = "alloc")]
+mod bitmap;
+mod bits;
+mod bits_mut;
+mod error;
+pub mod iter;
+mod kernels;
 mod level;
+mod looks;
+#[cfg(vortex_bits_native)]
 mod native;
-mod pack;
+mod portable;
 mod rank;
 mod take;
-mod walk;
-mod window;
 
-pub use ask::{
-    bit_select, bit_select_unset, count_ones, get_bit, last_set_index, try_bit_select,
-    try_bit_select_unset, try_count_ones, try_get_bit, try_last_set_index,
-};
-pub use compare::{equal_bits, try_equal_bits};
-pub use edit::{
-    and_bits, and_not_bits, copy_bits, fill_bits, negate_bits, or_bits, try_and_bits,
-    try_and_not_bits, try_copy_bits, try_fill_bits, try_negate_bits, try_or_bits, try_xor_bits,
-    xor_bits,
-};
+#[cfg(feature = "alloc")]
+pub use bitmap::Bitmap;
+pub use bits::Bits;
+pub use bits_mut::BitsMut;
+pub use error::{OutOfBounds, ShortTable, TakeError};
 pub use level::Level;
-pub use pack::{pack_bools, pack_truthy, try_pack_bools, try_pack_truthy};
+#[cfg(feature = "alloc")]
+pub use rank::Ranked;
 pub use rank::{Ranks, blocks};
-pub use take::{Index, TakeError, take, take_valid, try_take, try_take_valid};
-pub use walk::{Run, set_indices, set_slices, try_set_indices, try_set_slices};
-pub use window::{OutOfBounds, window_fits};
+pub use take::BitIndex;
 
 /// The examples of the README.
-#[cfg(doctest)]
+#[cfg(all(doctest, feature = "std"))]
 #[doc = include_str!("../README.md")]
 struct Readme;

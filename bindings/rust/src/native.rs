@@ -1,10 +1,16 @@
 //! The C functions of the archives, a table for each processor level.
 //!
-//! Safety, of each function: a pointer is followed by the number of items that it points to, and
-//! isn't null; they may be read, and written where it is `*mut`; nothing else writes them during
-//! the call. Windows end within their bytes, and at a `usize`. The processor has the level.
+//! # Safety
+//!
+//! Of each function: a pointer is followed by the number of items that it points to, and isn't
+//! null; they may be read, and written where it is `*mut`; nothing else writes them during the
+//! call. Windows end within their bytes, and at a `usize`; those of takes and packs are the first
+//! bits of `out`, one for each item. A table has as many entries as the window has blocks of 512
+//! bits, whatever they are. The processor has the level.
+//!
+//! A function changes only the windows and the items that it is said to write.
 
-use crate::Run;
+use crate::kernels::Run;
 
 /// The place of a bit: `index` says something only where `found` is true.
 #[repr(C)]
@@ -15,10 +21,47 @@ pub struct Place {
 }
 
 impl From<Place> for Option<usize> {
+    #[inline]
     fn from(place: Place) -> Option<usize> {
         place.found.then_some(place.index)
     }
 }
+
+/// A take of the bits at indices of this type: `out`, the window, and the indices.
+pub type Take<I> =
+    unsafe extern "C" fn(*mut u8, usize, *const u8, usize, usize, usize, *const I, usize) -> Place;
+
+/// The same, and the bytes and the offset of a window with a bit for each index.
+pub type TakeValid<I> = unsafe extern "C" fn(
+    *mut u8,
+    usize,
+    *const u8,
+    usize,
+    usize,
+    usize,
+    *const I,
+    usize,
+    *const u8,
+    usize,
+    usize,
+) -> Place;
+
+/// An operator on one window and another of the same length.
+pub type Combine = unsafe extern "C" fn(*mut u8, usize, usize, *const u8, usize, usize, usize);
+
+/// An operator on two windows, into a third of the same length.
+pub type CombineInto = unsafe extern "C" fn(
+    *mut u8,
+    usize,
+    usize,
+    *const u8,
+    usize,
+    usize,
+    *const u8,
+    usize,
+    usize,
+    usize,
+);
 
 macro_rules! kernels {
     (@level $table:ident $prefix:literal
@@ -39,16 +82,16 @@ macro_rules! kernels {
             $(pub $name: unsafe extern "C" fn($($arg: $kind),*) $(-> $result)?,)*
         }
 
-        kernels!(@level V2 "vb_v2_" $($name($($arg: $kind),*) $(-> $result)?;)*);
-        kernels!(@level V3 "vb_v3_" $($name($($arg: $kind),*) $(-> $result)?;)*);
+        kernels!(@level V2 "vb_0_1_v2_" $($name($($arg: $kind),*) $(-> $result)?;)*);
+        kernels!(@level V3 "vb_0_1_v3_" $($name($($arg: $kind),*) $(-> $result)?;)*);
     };
 }
 
 kernels! {
-    get_bit(bytes: *const u8, size: usize, i: usize) -> bool;
     count_ones(bytes: *const u8, size: usize, offset: usize, len: usize) -> usize;
     bit_select(bytes: *const u8, size: usize, offset: usize, len: usize, n: usize) -> Place;
-    bit_select_unset(bytes: *const u8, size: usize, offset: usize, len: usize, n: usize) -> Place;
+    bit_select_unset(bytes: *const u8, size: usize, offset: usize, len: usize,
+        n: usize) -> Place;
     last_set_index(bytes: *const u8, size: usize, offset: usize, len: usize) -> Place;
     equal_bits(left: *const u8, left_size: usize, l: usize,
         right: *const u8, right_size: usize, r: usize, len: usize) -> bool;
@@ -68,6 +111,14 @@ kernels! {
         src: *const u8, src_size: usize, s: usize, len: usize);
     and_not_bits(dst: *mut u8, dst_size: usize, d: usize,
         src: *const u8, src_size: usize, s: usize, len: usize);
+    and_into(out: *mut u8, out_size: usize, o: usize, left: *const u8, left_size: usize, l: usize,
+        right: *const u8, right_size: usize, r: usize, len: usize);
+    or_into(out: *mut u8, out_size: usize, o: usize, left: *const u8, left_size: usize, l: usize,
+        right: *const u8, right_size: usize, r: usize, len: usize);
+    xor_into(out: *mut u8, out_size: usize, o: usize, left: *const u8, left_size: usize, l: usize,
+        right: *const u8, right_size: usize, r: usize, len: usize);
+    and_not_into(out: *mut u8, out_size: usize, o: usize, left: *const u8, left_size: usize,
+        l: usize, right: *const u8, right_size: usize, r: usize, len: usize);
     pack_bools(out: *mut u8, out_size: usize, bools: *const bool, n: usize);
     pack_truthy(out: *mut u8, out_size: usize, truthy: *const u8, n: usize);
     take_u32(out: *mut u8, out_size: usize, bytes: *const u8, size: usize, offset: usize,

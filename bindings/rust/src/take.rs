@@ -1,238 +1,204 @@
-//! Bits taken at indices.
+//! Bits taken at indices, and bits that a mask keeps.
 
-use std::error::Error;
-use std::fmt;
+use crate::bits_mut::alike;
+use crate::error::{TakeError, expect};
+use crate::{Bits, BitsMut, kernels, portable};
 
-use crate::OutOfBounds;
-use crate::level::kernels;
-use crate::native::{Kernels, Place};
-use crate::window::check;
+/// A type of indices: `u32`, `u64`, `usize`, and `i32` and `i64`, of which a negative one is no
+/// place of any window.
+pub trait BitIndex: sealed::Sealed {}
 
-/// Why bits aren't taken.
-#[derive(Clone, Copy, Debug, PartialEq, Eq, Hash)]
-pub enum TakeError {
-    /// A window doesn't fit, or `out` has no room for a bit an index; `out` is as it was.
-    OutOfBounds(OutOfBounds),
-    /// The index at this position isn't below the length of the window. It is the first one that
-    /// counts and isn't; the first bits of `out`, one for each index, are open.
-    Index {
-        /// The position among the indices.
-        position: usize,
-    },
-}
+impl BitIndex for u32 {}
+impl BitIndex for u64 {}
+impl BitIndex for usize {}
+impl BitIndex for i32 {}
+impl BitIndex for i64 {}
 
-impl fmt::Display for TakeError {
-    fn fmt(&self, f: &mut fmt::Formatter<'_>) -> fmt::Result {
-        match self {
-            TakeError::OutOfBounds(outside) => outside.fmt(f),
-            TakeError::Index { position } => {
-                write!(f, "the index at position {position} is out of range")
+pub(crate) mod sealed {
+    #[cfg(vortex_bits_native)]
+    use crate::native::{Kernels, Take, TakeValid};
+
+    /// What a type of indices answers.
+    pub trait Sealed: Copy {
+        /// The place that it names, if it is one.
+        fn place(self) -> Option<usize>;
+
+        /// The indices below this are its own numbers, and those that it reads as one at or above
+        /// it are no places.
+        #[cfg(vortex_bits_native)]
+        const END: usize;
+
+        /// The type that the C functions take, which is laid out as this one.
+        #[cfg(vortex_bits_native)]
+        type Laid;
+
+        #[cfg(vortex_bits_native)]
+        fn take(kernels: &Kernels) -> Take<Self::Laid>;
+
+        #[cfg(vortex_bits_native)]
+        fn take_valid(kernels: &Kernels) -> TakeValid<Self::Laid>;
+    }
+
+    macro_rules! index {
+        ($($index:ty, $end:expr, $laid:ty, $take:ident, $take_valid:ident;)*) => {$(
+            impl Sealed for $index {
+                #[inline]
+                fn place(self) -> Option<usize> {
+                    usize::try_from(self).ok()
+                }
+
+                #[cfg(vortex_bits_native)]
+                const END: usize = $end;
+                #[cfg(vortex_bits_native)]
+                type Laid = $laid;
+
+                #[cfg(vortex_bits_native)]
+                fn take(kernels: &Kernels) -> Take<$laid> {
+                    kernels.$take
+                }
+
+                #[cfg(vortex_bits_native)]
+                fn take_valid(kernels: &Kernels) -> TakeValid<$laid> {
+                    kernels.$take_valid
+                }
             }
-        }
+        )*};
+    }
+
+    index! {
+        u32, 1 << 32, u32, take_u32, take_valid_u32;
+        i32, 1 << 31, u32, take_u32, take_valid_u32;
+        u64, usize::MAX, u64, take_u64, take_valid_u64;
+        i64, 1 << 63, u64, take_u64, take_valid_u64;
+        usize, usize::MAX, u64, take_u64, take_valid_u64;
     }
 }
 
-impl Error for TakeError {
-    fn source(&self) -> Option<&(dyn Error + 'static)> {
-        match self {
-            TakeError::OutOfBounds(outside) => Some(outside),
-            TakeError::Index { .. } => None,
-        }
+impl Bits<'_> {
+    /// Writes the bits at the indices to `out`, in their order.
+    ///
+    /// # Panics
+    ///
+    /// Where [`try_take_into`](Bits::try_take_into) answers an error.
+    ///
+    /// ```
+    /// use vortex_bits::{Bits, BitsMut};
+    ///
+    /// let mut taken = [0];
+    /// let bits = Bits::new(&[0b0111_0110], 0, 7);
+    /// bits.take_into(&[6u32, 3, 1], BitsMut::new(&mut taken, 0, 3));
+    /// assert_eq!(taken, [0b101]);
+    /// ```
+    #[inline]
+    #[track_caller]
+    pub fn take_into<I: BitIndex>(self, indices: &[I], out: BitsMut<'_>) {
+        expect(self.try_take_into(indices, out));
+    }
+
+    /// Writes the bits at the indices to `out`, in their order.
+    ///
+    /// # Errors
+    ///
+    /// Where `out` hasn't a bit for each index, and at the first index that isn't a place of the
+    /// window.
+    #[inline]
+    pub fn try_take_into<I: BitIndex>(
+        self,
+        indices: &[I],
+        out: BitsMut<'_>,
+    ) -> Result<(), TakeError> {
+        take(self, indices, None, out)
+    }
+
+    /// [`take_into`](Bits::take_into) of the indices that are valid: at the others false is
+    /// written, whatever they are.
+    ///
+    /// # Panics
+    ///
+    /// Where [`try_take_valid_into`](Bits::try_take_valid_into) answers an error.
+    ///
+    /// ```
+    /// use vortex_bits::{Bits, BitsMut};
+    ///
+    /// let mut taken = [0];
+    /// let bits = Bits::new(&[0b0111_0110], 0, 7);
+    /// let valid = Bits::new(&[0b101], 0, 3);
+    /// bits.take_valid_into(&[6i64, -1, 1], valid, BitsMut::new(&mut taken, 0, 3));
+    /// assert_eq!(taken, [0b101]);
+    /// ```
+    #[inline]
+    #[track_caller]
+    pub fn take_valid_into<I: BitIndex>(self, indices: &[I], validity: Bits<'_>, out: BitsMut<'_>) {
+        expect(self.try_take_valid_into(indices, validity, out));
+    }
+
+    /// [`try_take_into`](Bits::try_take_into) of the indices that are valid: at the others false
+    /// is written, whatever they are.
+    ///
+    /// # Errors
+    ///
+    /// Where `out` or `validity` hasn't a bit for each index, and at the first index that is valid
+    /// and isn't a place of the window.
+    #[inline]
+    pub fn try_take_valid_into<I: BitIndex>(
+        self,
+        indices: &[I],
+        validity: Bits<'_>,
+        out: BitsMut<'_>,
+    ) -> Result<(), TakeError> {
+        take(self, indices, Some(validity), out)
+    }
+
+    /// Writes the bits at the places that are true in `mask` to `out`, in their order.
+    ///
+    /// Unlike the other calls it has the same code on each machine, which isn't proved.
+    ///
+    /// # Panics
+    ///
+    /// Where `mask` isn't as long as the window, or `out` hasn't a bit for each true one of it.
+    ///
+    /// ```
+    /// use vortex_bits::{Bits, BitsMut};
+    ///
+    /// let mut kept = [0];
+    /// let (bits, mask) = (Bits::new(&[0b0111_0110], 0, 7), Bits::new(&[0b0100_1011], 0, 7));
+    /// bits.filter_into(mask, BitsMut::new(&mut kept, 0, mask.count_ones()));
+    /// assert_eq!(kept, [0b1010]);
+    /// ```
+    #[track_caller]
+    pub fn filter_into(self, mask: Bits<'_>, mut out: BitsMut<'_>) {
+        assert!(
+            mask.len() == self.len(),
+            "a mask of {} bits for {}",
+            mask.len(),
+            self.len()
+        );
+        alike(out.len(), mask.count_ones());
+        portable::filter(&mut out, self, mask);
     }
 }
 
-impl From<OutOfBounds> for TakeError {
-    fn from(outside: OutOfBounds) -> TakeError {
-        TakeError::OutOfBounds(outside)
-    }
-}
-
-/// A type of indices: `u32` or `u64`.
-pub trait Index: sealed::Index {}
-
-impl Index for u32 {}
-impl Index for u64 {}
-
-mod sealed {
-    use super::{Kernels, Place};
-
-    type Take<I> = unsafe extern "C" fn(
-        *mut u8,
-        usize,
-        *const u8,
-        usize,
-        usize,
-        usize,
-        *const I,
-        usize,
-    ) -> Place;
-    type TakeValid<I> = unsafe extern "C" fn(
-        *mut u8,
-        usize,
-        *const u8,
-        usize,
-        usize,
-        usize,
-        *const I,
-        usize,
-        *const u8,
-        usize,
-        usize,
-    ) -> Place;
-
-    pub trait Index: Sized {
-        fn take(kernels: &Kernels) -> Take<Self>;
-        fn take_valid(kernels: &Kernels) -> TakeValid<Self>;
-    }
-
-    impl Index for u32 {
-        fn take(kernels: &Kernels) -> Take<u32> {
-            kernels.take_u32
-        }
-
-        fn take_valid(kernels: &Kernels) -> TakeValid<u32> {
-            kernels.take_valid_u32
-        }
-    }
-
-    impl Index for u64 {
-        fn take(kernels: &Kernels) -> Take<u64> {
-            kernels.take_u64
-        }
-
-        fn take_valid(kernels: &Kernels) -> TakeValid<u64> {
-            kernels.take_valid_u64
-        }
-    }
-}
-
-/// Writes the bits that the indices name among the `len` bits from bit `offset` on to the first
-/// bits of `out`, one for each index. The bits of `out` behind them stay.
-///
-/// # Panics
-///
-/// Where the window doesn't fit, `out` has no room, or an index isn't below `len`.
-///
-/// ```
-/// let mut out = [0u8];
-/// vb_bits::take(&mut out, &[0b0111_0110], 0, 7, &[6u32, 3, 1]);
-/// assert_eq!(out, [0b0000_0101]);
-/// ```
-#[inline]
-#[track_caller]
-pub fn take<I: Index>(out: &mut [u8], bytes: &[u8], offset: usize, len: usize, indices: &[I]) {
-    expect(try_take(out, bytes, offset, len, indices))
-}
-
-/// [`take`].
-///
-/// # Errors
-///
-/// As [`TakeError`] says.
-#[inline]
-pub fn try_take<I: Index>(
-    out: &mut [u8],
-    bytes: &[u8],
-    offset: usize,
-    len: usize,
+fn take<I: BitIndex>(
+    bits: Bits<'_>,
     indices: &[I],
+    validity: Option<Bits<'_>>,
+    mut out: BitsMut<'_>,
 ) -> Result<(), TakeError> {
-    check(out, 0, indices.len())?;
-    check(bytes, offset, len)?;
-    // SAFETY: the slices are what they say, the window lies in its bytes, and `out` has a bit for
-    // each index.
-    let past = unsafe {
-        I::take(kernels())(
-            out.as_mut_ptr(),
-            out.len(),
-            bytes.as_ptr(),
-            bytes.len(),
-            offset,
-            len,
-            indices.as_ptr(),
-            indices.len(),
-        )
-    };
-    refused(past)
-}
-
-/// [`take`] where a position counts only if the bit of `validity` from bit `v` on is true there: at
-/// the others false is written, and their indices aren't looked at.
-///
-/// # Panics
-///
-/// Where a window doesn't fit, `out` has no room, or an index that counts isn't below `len`.
-///
-/// ```
-/// let mut out = [0u8];
-/// vb_bits::take_valid(&mut out, &[0b0111_0110], 0, 7, &[6u64, 99, 1], &[0b101], 0);
-/// assert_eq!(out, [0b0000_0101]);
-/// ```
-#[inline]
-#[track_caller]
-pub fn take_valid<I: Index>(
-    out: &mut [u8],
-    bytes: &[u8],
-    offset: usize,
-    len: usize,
-    indices: &[I],
-    validity: &[u8],
-    v: usize,
-) {
-    expect(try_take_valid(
-        out, bytes, offset, len, indices, validity, v,
-    ))
-}
-
-/// [`take_valid`].
-///
-/// # Errors
-///
-/// As [`TakeError`] says.
-#[inline]
-pub fn try_take_valid<I: Index>(
-    out: &mut [u8],
-    bytes: &[u8],
-    offset: usize,
-    len: usize,
-    indices: &[I],
-    validity: &[u8],
-    v: usize,
-) -> Result<(), TakeError> {
-    check(out, 0, indices.len())?;
-    check(bytes, offset, len)?;
-    check(validity, v, indices.len())?;
-    // SAFETY: as of `try_take`, and the window of validity lies in its bytes.
-    let past = unsafe {
-        I::take_valid(kernels())(
-            out.as_mut_ptr(),
-            out.len(),
-            bytes.as_ptr(),
-            bytes.len(),
-            offset,
-            len,
-            indices.as_ptr(),
-            indices.len(),
-            validity.as_ptr(),
-            validity.len(),
-            v,
-        )
-    };
-    refused(past)
-}
-
-#[inline]
-fn refused(past: Place) -> Result<(), TakeError> {
-    match Option::<usize>::from(past) {
+    let (room, indices_len) = (out.len(), indices.len());
+    if room != indices_len {
+        return Err(TakeError::Room {
+            bits: room,
+            indices: indices_len,
+        });
+    }
+    if let Some(validity) = validity.filter(|validity| validity.len() != indices_len) {
+        return Err(TakeError::Validity {
+            bits: validity.len(),
+            indices: indices_len,
+        });
+    }
+    match kernels::take(&mut out, bits, indices, validity) {
         Some(position) => Err(TakeError::Index { position }),
         None => Ok(()),
-    }
-}
-
-#[inline]
-#[track_caller]
-fn expect(answer: Result<(), TakeError>) {
-    if let Err(refused) = answer {
-        panic!("{refused}")
     }
 }

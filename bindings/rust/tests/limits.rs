@@ -1,78 +1,28 @@
-//! Each call at the last window that fits, and at those that don't: what is refused, and that
-//! nothing is written then.
-use std::panic;
+//! The last window that fits and those that don't, what each call refuses, and that nothing is
+//! written then.
+use std::collections::HashSet;
+use std::error::Error;
+use std::panic::{self, AssertUnwindSafe};
 
-use vb_bits::*;
+use vortex_bits::*;
 
-/// A call by its window: the bytes are those of the one side that is asked or written.
-type Call = fn(&mut [u8], usize, usize) -> Result<(), OutOfBounds>;
-
-/// A call that writes one window by another.
-type Write = fn(&mut [u8], usize, &[u8], usize, usize) -> Result<(), OutOfBounds>;
-
-const WRITES: [(&str, Write); 5] = [
-    ("copy_bits", try_copy_bits),
-    ("and_bits", try_and_bits),
-    ("or_bits", try_or_bits),
-    ("xor_bits", try_xor_bits),
-    ("and_not_bits", try_and_not_bits),
-];
-
-/// Bytes in which any window of the tests lies.
-const ENOUGH: [u8; 4] = [0; 4];
-
-const CALLS: [(&str, Call); 13] = [
-    ("count_ones", |it, offset, len| {
-        try_count_ones(it, offset, len).map(drop)
-    }),
-    ("bit_select", |it, offset, len| {
-        try_bit_select(it, offset, len, 0).map(drop)
-    }),
-    ("bit_select_unset", |it, offset, len| {
-        try_bit_select_unset(it, offset, len, 0).map(drop)
-    }),
-    ("last_set_index", |it, offset, len| {
-        try_last_set_index(it, offset, len).map(drop)
-    }),
-    ("set_indices", |it, offset, len| {
-        try_set_indices(it, offset, len, &mut []).map(drop)
-    }),
-    ("set_slices", |it, offset, len| {
-        try_set_slices(it, offset, len, &mut []).map(drop)
-    }),
-    ("equal_bits", |it, offset, len| {
-        try_equal_bits(it, offset, &ENOUGH, 1, len).map(drop)
-    }),
-    ("negate_bits", try_negate_bits),
-    ("copy_bits", |it, offset, len| {
-        try_copy_bits(it, offset, &ENOUGH, 1, len)
-    }),
-    ("and_bits", |it, offset, len| {
-        try_and_bits(it, offset, &ENOUGH, 1, len)
-    }),
-    ("or_bits", |it, offset, len| {
-        try_or_bits(it, offset, &[0xFF; 4], 1, len)
-    }),
-    ("xor_bits", |it, offset, len| {
-        try_xor_bits(it, offset, &[0xFF; 4], 1, len)
-    }),
-    ("and_not_bits", |it, offset, len| {
-        try_and_not_bits(it, offset, &[0xFF; 4], 1, len)
-    }),
-];
+/// The text with which a call panics; None where it doesn't.
+fn panics(call: impl FnOnce()) -> Option<String> {
+    let refused = panic::catch_unwind(AssertUnwindSafe(call)).err()?;
+    let text = refused.downcast_ref::<String>().cloned();
+    text.or_else(|| refused.downcast_ref::<&str>().map(ToString::to_string))
+}
 
 #[test]
-fn windows_that_end_with_their_bytes_are_taken() {
-    for (name, call) in CALLS {
-        for (offset, len) in [(0, 16), (3, 13), (15, 1), (16, 0)] {
-            assert_eq!(
-                call(&mut [0x5A; 2], offset, len),
-                Ok(()),
-                "{name} of {offset}, {len}"
-            );
-        }
-        assert_eq!(call(&mut [], 0, 0), Ok(()), "{name} of no bytes");
+fn windows_that_end_with_their_bytes_are_made() {
+    for (offset, len) in [(0, 16), (3, 13), (15, 1), (16, 0)] {
+        let bits = Bits::new(&[0x5A; 2], offset, len);
+        assert_eq!((bits.offset(), bits.len()), (offset, len));
+        assert_eq!(BitsMut::new(&mut [0x5A; 2], offset, len), bits);
     }
+    assert!(Bits::new(&[], 0, 0).is_empty() && Bits::default().is_empty());
+    assert_eq!(Bits::from_bytes(&[0x5A; 2]).len(), 16);
+    assert_eq!(BitsMut::from_bytes(&mut [0x5A; 2]).len(), 16);
 }
 
 #[test]
@@ -85,153 +35,279 @@ fn windows_that_do_not_lie_in_their_bytes_are_refused() {
         (1, usize::MAX),
         (usize::MAX, 1),
     ];
-    for (name, call) in CALLS {
-        for (offset, len) in past {
-            let mut bytes = [0x5A; 2];
-            let refused = Err(OutOfBounds {
-                offset,
-                len,
-                size: 2,
-            });
-            assert_eq!(
-                call(&mut bytes, offset, len),
-                refused,
-                "{name} of {offset}, {len}"
+    for (offset, len) in past {
+        let refused = Bits::try_new(&[0x5A; 2], offset, len).unwrap_err();
+        assert_eq!(
+            (refused.offset, refused.len, refused.bits),
+            (offset, len, 16)
+        );
+        let mut bytes = [0x5A; 2];
+        assert_eq!(
+            BitsMut::try_new(&mut bytes, offset, len).err(),
+            Some(refused)
+        );
+        let text = refused.to_string();
+        assert_eq!(
+            panics(|| drop(Bits::new(&bytes, offset, len).iter())),
+            Some(text)
+        );
+    }
+}
+
+#[test]
+fn slices_are_ranges_of_places() {
+    let bytes = [0b1101_0110, 0b0000_0101];
+    let bits = Bits::new(&bytes, 1, 10);
+    assert_eq!(bits.slice(..), bits);
+    assert_eq!(bits.slice(2..=4), Bits::new(&bytes, 3, 3));
+    assert_eq!(bits.slice(3..).slice(..2), Bits::new(&bytes, 4, 2));
+    assert!(bits.slice(10..).is_empty());
+    let mut copy = bytes;
+    BitsMut::new(&mut copy, 1, 10).slice(2..4).negate();
+    assert_eq!(copy, [0b1100_1110, 0b0000_0101]);
+    for (start, end) in [(0, 11), (11, 11), (4, 3), (usize::MAX, 0)] {
+        let refused = bits.try_slice(start..end).unwrap_err();
+        assert_eq!((refused.offset, refused.bits), (start, 10));
+        assert_eq!(
+            BitsMut::new(&mut copy, 1, 10).try_slice(start..end).err(),
+            Some(refused)
+        );
+    }
+    assert!(bits.try_slice(..=usize::MAX).is_err());
+}
+
+#[test]
+fn single_bits_have_their_ends() {
+    let bits = Bits::new(&[0b1000_0001], 1, 7);
+    assert_eq!(
+        [bits.get(0), bits.get(6), bits.get(7)],
+        [Some(false), Some(true), None]
+    );
+    assert_eq!(bits.get(usize::MAX), None);
+    assert!(bits[6] && !bits[5]);
+    let past = Some("place 7 is not among 7 bits".to_string());
+    assert_eq!(panics(|| assert!(bits[7])), past);
+    let mut bytes = [0];
+    assert_eq!(panics(|| BitsMut::new(&mut bytes, 1, 7).set(7, true)), past);
+    assert_eq!(bytes, [0]);
+    BitsMut::new(&mut bytes, 1, 7).set(6, true);
+    assert_eq!(bytes, [0x80]);
+    BitsMut::new(&mut bytes, 1, 7).set(6, false);
+    assert_eq!(bytes, [0]);
+}
+
+#[test]
+fn windows_of_two_lengths_are_told_apart_and_not_combined() {
+    let mut bytes = [0x5A; 2];
+    let [seven, eight] = [7, 8].map(|len| Bits::new(&[0xFF], 0, len));
+    assert!(seven != eight);
+    let calls: [fn(&mut BitsMut<'_>, Bits<'_>); 10] = [
+        |out, bits| out.copy_from(bits),
+        |out, bits| out.and(bits),
+        |out, bits| out.or(bits),
+        |out, bits| out.xor(bits),
+        |out, bits| out.and_not(bits),
+        |out, bits| out.and_of(bits, Bits::new(&[0], 0, 8)),
+        |out, bits| out.or_of(Bits::new(&[0], 0, 8), bits),
+        |out, bits| out.xor_of(bits, bits),
+        |out, bits| out.copy_from_bools(&vec![true; bits.len()]),
+        |out, bits| out.copy_from_truthy(&vec![1; bits.len()]),
+    ];
+    for call in calls {
+        let text = panics(|| call(&mut BitsMut::new(&mut bytes, 3, 8), seven));
+        assert_eq!(text.as_deref(), Some("8 bits to write and 7 to read"));
+        assert_eq!(bytes, [0x5A; 2]);
+    }
+    let mask = panics(|| eight.filter_into(seven, BitsMut::new(&mut bytes, 0, 7)));
+    assert_eq!(mask.as_deref(), Some("a mask of 7 bits for 8"));
+    let room = panics(|| eight.filter_into(eight, BitsMut::new(&mut bytes, 0, 7)));
+    assert_eq!(room.as_deref(), Some("7 bits to write and 8 to read"));
+    assert_eq!(bytes, [0x5A; 2]);
+}
+
+#[test]
+fn takes_want_a_bit_for_each_index_and_name_the_first_bad_one() {
+    let mut bytes = [0x5A; 2];
+    let bits = Bits::new(&[0xFF; 2], 1, 15);
+    let mut take = |indices: &[i32], validity: Option<Bits<'_>>, room| {
+        let out = BitsMut::new(&mut bytes, 3, room);
+        let answer = match validity {
+            Some(validity) => bits.try_take_valid_into(indices, validity, out),
+            None => bits.try_take_into(indices, out),
+        };
+        (answer, bytes)
+    };
+    let (room, untouched) = take(&[1, 2], None, 3);
+    assert_eq!(
+        room,
+        Err(TakeError::Room {
+            bits: 3,
+            indices: 2
+        })
+    );
+    let valid = Bits::new(&[0b01], 0, 2);
+    let (validity, still) = take(&[1, 2, 3], Some(valid), 3);
+    assert_eq!(
+        validity,
+        Err(TakeError::Validity {
+            bits: 2,
+            indices: 3
+        })
+    );
+    assert_eq!([untouched, still], [[0x5A; 2]; 2]);
+    assert_eq!(
+        take(&[14, 15, 16], None, 3).0,
+        Err(TakeError::Index { position: 1 })
+    );
+    assert_eq!(
+        take(&[14, -1], None, 2).0,
+        Err(TakeError::Index { position: 1 })
+    );
+    let (taken, after) = take(&[14, -1], Some(valid), 2);
+    assert_eq!((taken, after[0] >> 3 & 0b11), (Ok(()), 0b01));
+    let text = panics(|| bits.take_into(&[15u64], BitsMut::new(&mut [0], 0, 1)));
+    assert_eq!(
+        text.as_deref(),
+        Some("the index at position 0 is out of range")
+    );
+}
+
+#[test]
+fn ranks_want_a_table_and_places_of_the_window() {
+    let bytes = [0xF0u8; 200];
+    let bits = Bits::new(&bytes, 3, 1597);
+    let mut table = [7; 5];
+    let short = Ranks::try_new(bits, &mut table[..3]).unwrap_err();
+    assert_eq!((short.blocks, short.entries), (4, 3));
+    assert_eq!(table, [7; 5]);
+    assert_eq!(Ranks::try_with_table(bits, &table[..3]).err(), Some(short));
+    let ranks = Ranks::new(bits, &mut table);
+    assert_eq!(
+        (ranks.len(), ranks.count(), ranks.rank(1597)),
+        (1597, 800, 800)
+    );
+    assert_eq!(ranks.try_rank(1598), None);
+    assert_eq!(
+        panics(|| assert_eq!(ranks.rank(1598), 0)).unwrap(),
+        "place 1598 is past 1597 bits"
+    );
+    assert_eq!([ranks.select(0), ranks.select(800)], [Some(1), None]);
+    assert_eq!(ranks.select_unset(usize::MAX), None);
+    assert_eq!((ranks.table().len(), table[4]), (4, 7));
+    assert_eq!(Ranks::new(Bits::default(), &mut []).count(), 0);
+}
+
+#[test]
+fn ranks_over_any_table_answer() {
+    let bytes = [0xF0u8; 200];
+    let bits = Bits::new(&bytes, 3, 1597);
+    for entry in [0, 1, 1000, usize::MAX - 100, usize::MAX] {
+        let table = [entry; 4];
+        let ranks = Ranks::with_table(bits, &table);
+        for n in [0, 1, 511, 512, 1597, usize::MAX] {
+            let _ = (
+                ranks.select(n),
+                ranks.select_unset(n),
+                ranks.try_rank(n),
+                ranks.count(),
             );
-            assert_eq!(bytes, [0x5A; 2], "{name} of {offset}, {len} wrote");
         }
     }
 }
 
 #[test]
-fn single_bits_and_fills_have_their_ends() {
-    let mut bytes = [0x5A; 2];
-    assert_eq!(try_get_bit(&bytes, 15), Ok(false));
-    assert_eq!(
-        try_get_bit(&bytes, 16),
-        Err(OutOfBounds {
-            offset: 16,
-            len: 1,
-            size: 2
-        })
-    );
-    assert_eq!(
-        try_get_bit(&bytes, usize::MAX),
-        Err(OutOfBounds {
-            offset: usize::MAX,
-            len: 1,
-            size: 2
-        })
-    );
-    let refused = Err(OutOfBounds {
-        offset: 0,
-        len: 17,
-        size: 2,
-    });
-    assert_eq!(try_fill_bits(&mut bytes, 3, 17, true), refused);
-    assert_eq!(bytes, [0x5A; 2]);
-    assert_eq!(try_fill_bits(&mut bytes, 9, 3, true), Ok(()));
-    assert_eq!(bytes, [0x5A; 2]);
-    assert_eq!(try_fill_bits(&mut bytes, 8, 16, true), Ok(()));
-    assert_eq!(bytes, [0x5A, 0xFF]);
+fn bitmaps_keep_their_window() {
+    let bits = Bits::new(&[0x0F; 100], 4, 796);
+    let map = Bitmap::new(vec![0x0F; 100], 4, 796);
+    assert_eq!(map.bits(), bits);
+    assert_eq!(map.slice(8..).bits(), bits.slice(8..));
+    assert_eq!(format!("{:?}", map.slice(..6)), "Bits(000011)");
+    assert_eq!(map, Bitmap::from(bits));
+    let ranked = map.ranked();
+    assert_eq!((ranked.bits(), ranked.ranks().select(5)), (bits, Some(13)));
+    assert_eq!(ranked.into_bitmap().into_inner(), [0x0F; 100]);
+    let refused = Bitmap::try_new([0x0F; 2], 1, 16).unwrap_err();
+    assert_eq!(refused, Bits::try_new(&[0; 2], 1, 16).unwrap_err());
+    assert!(panics(|| drop(Bitmap::new([0x0F; 2], 1, 16))).is_some());
 }
 
 #[test]
-fn the_other_side_is_tested_too() {
-    let mut bytes = [0x5A; 2];
-    let outside = OutOfBounds {
-        offset: 1,
-        len: 8,
-        size: 1,
-    };
-    for (name, write) in WRITES {
-        assert_eq!(write(&mut bytes, 0, &[0], 1, 8), Err(outside), "{name}");
-        assert_eq!(bytes, [0x5A; 2], "{name} wrote");
+fn calls_into_new_memory_give_what_the_others_write() {
+    let (left, right) = (
+        Bits::new(&[0b1010_0110], 1, 6),
+        Bits::new(&[0b0011_0100], 0, 6),
+    );
+    let shown = |map: Bitmap| format!("{map:?}");
+    assert_eq!(shown(left & right), "Bits(000010)");
+    assert_eq!(shown(left | right), "Bits(111011)");
+    assert_eq!(shown(left ^ right), "Bits(111001)");
+    assert_eq!(shown(left.and_not(right)), "Bits(110000)");
+    assert_eq!(shown(!left), "Bits(001101)");
+    assert_eq!(shown(left.filter(right)), "Bits(010)");
+    assert_eq!(shown(left.take(&[0usize, 5, 1])), "Bits(101)");
+    assert_eq!(
+        shown(left.take_valid(&[0, 9, 1], left.slice(1..4))),
+        "Bits(100)"
+    );
+    assert_eq!(
+        left.try_take(&[6u32]),
+        Err(TakeError::Index { position: 0 })
+    );
+    let short = left.try_take_valid(&[6u32], left);
+    assert_eq!(
+        short,
+        Err(TakeError::Validity {
+            bits: 6,
+            indices: 1
+        })
+    );
+    assert_eq!(shown(left.iter().collect()), "Bits(110010)");
+    assert!(panics(|| drop(left & right.slice(1..))).is_some());
+    assert!(panics(|| drop(left.take(&[-1i64]))).is_some());
+}
+
+#[test]
+fn equal_windows_look_and_hash_alike() {
+    let left = Bits::new(&[0b0001_0110], 1, 4);
+    let right = Bits::new(&[0b1011_0000, 0b1111_1110], 4, 4);
+    assert_eq!(left, right);
+    assert_eq!(
+        format!("{left:?} {:?}", BitsMut::new(&mut [2], 0, 3)),
+        "Bits(1101) BitsMut(010)"
+    );
+    assert_eq!(HashSet::from([left, right]).len(), 1);
+}
+
+#[test]
+fn errors_print_once() {
+    let errors: [&dyn Error; 3] = [
+        &Bits::try_new(&[0], 1, 8).unwrap_err(),
+        &TakeError::Index { position: 7 },
+        &Ranks::try_with_table(Bits::new(&[0], 0, 1), &[]).unwrap_err(),
+    ];
+    let texts = [
+        "the 8 bits from bit 1 on are not among 8 bits",
+        "the index at position 7 is out of range",
+        "a table of 0 entries for 1 blocks",
+    ];
+    for (error, text) in errors.into_iter().zip(texts) {
+        assert_eq!(error.to_string(), text);
+        assert!(error.source().is_none());
     }
-    assert_eq!(try_equal_bits(&bytes, 0, &[0], 1, 8), Err(outside));
 }
 
 #[test]
-fn packs_want_a_bit_for_each_value() {
-    let mut out = [0x5A; 2];
-    let refused = Err(OutOfBounds {
-        offset: 0,
-        len: 17,
-        size: 2,
-    });
-    assert_eq!(try_pack_bools(&mut out, &[true; 17]), refused);
-    assert_eq!(try_pack_truthy(&mut out, &[1; 17]), refused);
-    assert_eq!(out, [0x5A; 2]);
-    assert_eq!(try_pack_bools(&mut out, &[true; 16]), Ok(()));
-    assert_eq!(out, [0xFF; 2]);
-    assert_eq!(try_pack_truthy(&mut out, &[0; 16]), Ok(()));
-    assert_eq!(out, [0; 2]);
-    assert_eq!(try_pack_bools(&mut [], &[]), Ok(()));
+fn the_level_is_one_that_is_available() {
+    assert!(Level::Portable.is_available());
+    assert!(Level::current().is_available());
 }
 
+#[cfg(feature = "levels")]
 #[test]
-fn takes_want_windows_and_room_and_name_the_first_bad_index() {
-    let mut out = [0x5A; 1];
-    let refused = |offset, len, size| Err(OutOfBounds { offset, len, size }.into());
-    assert_eq!(try_take(&mut out, &[0; 2], 9, 8, &[0u32]), refused(9, 8, 2));
-    assert_eq!(
-        try_take(&mut out, &[0; 2], 0, 16, &[0u64; 9]),
-        refused(0, 9, 1)
-    );
-    assert_eq!(
-        try_take_valid(&mut out, &[0; 2], 0, 16, &[0u32; 8], &[0], 1),
-        refused(1, 8, 1)
-    );
-    assert_eq!(out, [0x5A]);
-    let past = Err(TakeError::Index { position: 1 });
-    assert_eq!(
-        try_take(&mut out, &[0xFF; 2], 1, 15, &[14u32, 15, 16]),
-        past
-    );
-    assert_eq!(try_take(&mut out, &[0xFF; 2], 1, 15, &[14, u64::MAX]), past);
-    assert_eq!(
-        try_take_valid(&mut out, &[0xFF; 2], 1, 15, &[14, 15u64], &[0b01], 0),
-        Ok(())
-    );
-    assert_eq!(out[0] & 0b11, 0b01);
-}
-
-#[test]
-fn ranks_want_a_window_and_places_of_it() {
-    let bytes = [0xF0u8; 200];
-    let mut table = [7; 5];
-    let outside = OutOfBounds {
-        offset: 1,
-        len: 1600,
-        size: 200,
-    };
-    assert_eq!(Ranks::new(&bytes, 1, 1600, &mut table).err(), Some(outside));
-    assert_eq!(table, [7; 5]);
-    let ranks = Ranks::new(&bytes, 3, 1597, &mut table).unwrap();
-    assert_eq!(ranks.rank(1597), 800);
-    assert_eq!(ranks.try_rank(1598), None);
-    assert_eq!(ranks.select(0), Some(1));
-    assert_eq!(ranks.select(800), None);
-    assert_eq!(ranks.select_unset(usize::MAX), None);
-    assert_eq!(table[4], 7);
-    assert_eq!(Ranks::new(&[], 0, 0, &mut []).unwrap().rank(0), 0);
-    let past = panic::catch_unwind(|| Ranks::new(&[0; 65], 0, 513, &mut [0]).is_ok());
-    assert!(past.is_err());
-}
-
-#[test]
-fn a_panic_tells_the_numbers() {
-    let panicked = panic::catch_unwind(|| count_ones(&[0], 1, 8)).unwrap_err();
-    let text = panicked.downcast_ref::<String>().map(String::as_str);
-    assert_eq!(text, Some("the 8 bits from bit 1 on do not lie in 1 bytes"));
-}
-
-#[test]
-fn levels_of_the_processor_can_be_named() {
-    assert!(Level::V2.is_available());
-    assert!(Level::best() >= Level::V2);
-    for level in Level::ALL {
-        assert_eq!(level.make_current(), level.is_available());
-        assert_eq!(count_ones(&[0xF0; 100], 3, 790), 395 + 1);
+fn levels_can_be_named() {
+    for level in Level::available() {
+        assert!(level.make_current());
+        assert_eq!(Level::current(), level);
+        assert_eq!(Bits::new(&[0xF0; 100], 3, 790).count_ones(), 396);
     }
 }

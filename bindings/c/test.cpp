@@ -1,0 +1,181 @@
+/*
+ * The classes of vortex_bits.hpp beside loops over single bits, over random windows, and what they
+ * refuse.
+ */
+#include "vortex_bits.hpp"
+
+#include <cstdio>
+#include <random>
+
+using vortex_bits::bits;
+using vortex_bits::bits_mut;
+using buffer = std::vector<std::uint8_t>;
+
+static int failures = 0;
+
+static void check(bool holds, const char *what)
+{
+    if (!holds) {
+        failures++;
+        std::fprintf(stderr, "failed: %s\n", what);
+    }
+}
+
+template <class Call> static void refused(Call call, const char *what)
+{
+    try {
+        call();
+        check(false, what);
+    } catch (const std::out_of_range &) {
+    }
+}
+
+static bool bit(const buffer &all, std::size_t i)
+{
+    return (all[i / 8] >> (i % 8) & 1) != 0;
+}
+
+/* The bits of a window, by a loop. */
+static std::vector<bool> list(const buffer &all, std::size_t offset, std::size_t len)
+{
+    std::vector<bool> found;
+    for (std::size_t i = 0; i < len; i++) {
+        found.push_back(bit(all, offset + i));
+    }
+    return found;
+}
+
+static void questions(const buffer &all, std::size_t offset, std::size_t len, std::size_t n)
+{
+    const bits window(all, offset, len);
+    const std::vector<bool> wanted = list(all, offset, len);
+    std::vector<std::size_t> trues, falses, walked;
+    for (std::size_t i = 0; i < len; i++) {
+        (wanted[i] ? trues : falses).push_back(i);
+        check(window[i] == wanted[i], "a place");
+    }
+    const auto nth = [&](const std::vector<std::size_t> &places) {
+        return n < places.size() ? std::optional(places[n]) : std::nullopt;
+    };
+    check(window.count_ones() == trues.size(), "count_ones");
+    check(window.count_zeros() == falses.size(), "count_zeros");
+    check(window.select(n) == nth(trues) && window.select_unset(n) == nth(falses), "select");
+    const auto last = trues.empty() ? std::nullopt : std::optional(trues.back());
+    check(window.last_set() == last, "last_set");
+    check(window.any() == !trues.empty() && window.all() == falses.empty(), "any and all");
+    check(window.set_indices() == trues, "set_indices");
+    window.for_each_set([&](std::size_t place) { walked.push_back(place); });
+    check(walked == trues, "for_each_set");
+    walked.clear();
+    std::size_t behind = 0;
+    window.for_each_run([&](std::size_t start, std::size_t end) {
+        check(start < end && (start == 0 || behind < start), "a run is as long as can be");
+        for (std::size_t i = start; i < end; i++) {
+            walked.push_back(i);
+        }
+        behind = end;
+    });
+    check(walked == trues, "for_each_run");
+    const vortex_bits::ranks ranks(window);
+    check(ranks.count() == trues.size() && ranks.size() == len, "count by ranks");
+    check(ranks.select(n) == nth(trues) && ranks.select_unset(n) == nth(falses), "by ranks");
+    check(ranks.rank(len / 2) == window.slice(0, len / 2).count_ones(), "rank");
+}
+
+template <class Call, class Of>
+static void write(const buffer &all, std::size_t offset, std::size_t len, Call call, Of of)
+{
+    buffer got = all, wanted = all;
+    call(bits_mut(got, offset, len));
+    for (std::size_t i = 0; i < len; i++) {
+        const std::uint8_t digit = static_cast<std::uint8_t>(1u << ((offset + i) % 8));
+        std::uint8_t &byte = wanted[(offset + i) / 8];
+        byte = static_cast<std::uint8_t>(of(i) ? byte | digit : byte & ~digit);
+    }
+    check(got == wanted, "a write");
+}
+
+static void writes(const buffer &all, std::size_t l, const buffer &other, std::size_t r,
+    std::size_t len)
+{
+    const bits left(all, l, len), right(other, r, len);
+    const auto a = [&](std::size_t i) { return bit(all, l + i); };
+    const auto b = [&](std::size_t i) { return bit(other, r + i); };
+    check((left == right) == (list(all, l, len) == list(other, r, len)), "==");
+    write(all, l, len, [&](bits_mut it) { it.fill(true); }, [](std::size_t) { return true; });
+    write(all, l, len, [&](bits_mut it) { it.negate(); }, [&](std::size_t i) { return !a(i); });
+    write(all, l, len, [&](bits_mut it) { it.copy_from(right); }, b);
+    write(all, l, len, [&](bits_mut it) { it &= right; },
+        [&](std::size_t i) { return a(i) && b(i); });
+    write(all, l, len, [&](bits_mut it) { it |= right; },
+        [&](std::size_t i) { return a(i) || b(i); });
+    write(all, l, len, [&](bits_mut it) { it ^= right; },
+        [&](std::size_t i) { return a(i) != b(i); });
+    write(all, l, len, [&](bits_mut it) { it.and_not(right); },
+        [&](std::size_t i) { return a(i) && !b(i); });
+    write(all, l, len, [&](bits_mut it) { it.and_of(left, right); },
+        [&](std::size_t i) { return a(i) && b(i); });
+    write(all, l, len, [&](bits_mut it) { it.or_of(left, right); },
+        [&](std::size_t i) { return a(i) || b(i); });
+    write(all, l, len, [&](bits_mut it) { it.xor_of(left, right); },
+        [&](std::size_t i) { return a(i) != b(i); });
+    write(all, l, len, [&](bits_mut it) { it.and_not_of(left, right); },
+        [&](std::size_t i) { return a(i) && !b(i); });
+}
+
+static void takes()
+{
+    const buffer all = {0xB6, 0x01};
+    const bits window(all, 1, 8), valid(all, 1, 3);
+    std::array<std::uint8_t, 1> out = {0xF0};
+    check(!window.take_into(std::array<std::uint32_t, 3>{7, 0, 2}, out), "a take");
+    check(out[0] == 0xF3, "the bits that are taken");
+    const std::vector<std::uint64_t> some = {7, 8, 99};
+    check(window.take_into(some, out) == std::optional<std::size_t>(1), "a bad index");
+    check(!window.take_into(std::vector<std::uint64_t>{0, 1, 99}, valid, out), "a valid take");
+    check((out[0] & 7) == 3, "the bits that are valid and taken");
+    vortex_bits::pack_truthy(std::array<std::uint8_t, 3>{9, 0, 1}, out);
+    check(out[0] == 5, "pack_truthy");
+    refused([&] { window.take_into(std::vector<std::uint32_t>(9), out); }, "no room");
+    refused([&] { window.take_into(some, window, out); }, "a long validity");
+    refused([&] { vortex_bits::pack_truthy(buffer(9), out); }, "no room");
+}
+
+static void refusals()
+{
+    buffer two(2), none;
+    check(bits(none, 0, 0).empty() && bits().count_ones() == 0, "no bytes");
+    check(bits(none, 0, 0) == bits() && bits(two, 16, 0) == bits(), "no bits");
+    refused([&] { bits(two, 0, 17); }, "a window past its bytes");
+    refused([&] { bits(two, 1, SIZE_MAX); }, "a window without an end");
+    refused([&] { bits_mut(two, 9, 8); }, "a window past its bytes");
+    refused([&] { bits(two, 0, 16).slice(9, 8); }, "a slice past its window");
+    refused([&] { (void)bits(two, 8, 8)[8]; }, "a place past the window");
+    refused([&] { bits_mut(two, 8, 8).set(8, true); }, "a place past the window");
+    refused([&] { bits_mut(two, 8, 8).copy_from(bits(two, 0, 7)); }, "two lengths");
+    refused([&] { bits_mut(two, 8, 8).or_of(bits(two, 0, 8), bits(two, 0, 7)); }, "two lengths");
+    refused([&] { (void)vortex_bits::ranks(bits(two, 8, 8)).rank(9); }, "a place past the window");
+    check(two == buffer(2), "a refused call left all as it was");
+#ifdef __cpp_lib_span
+    check(bits(std::span<const std::uint8_t>(two), 3, 9).bytes().size() == 2, "a span");
+#endif
+}
+
+int main()
+{
+    std::mt19937 random(1);
+    const auto below = [&](std::size_t n) { return static_cast<std::size_t>(random()) % n; };
+    for (int round = 0; round < 2000; round++) {
+        buffer all(1 + below(300)), other(1 + below(300));
+        const auto any = [&] { return static_cast<std::uint8_t>(round % 3 == 0 ? 255 : random()); };
+        std::generate(all.begin(), all.end(), any);
+        std::generate(other.begin(), other.end(), any);
+        const std::size_t len = below(8 * std::min(all.size(), other.size()) + 1);
+        const std::size_t l = below(8 * all.size() - len + 1);
+        questions(all, l, len, below(len + 2));
+        writes(all, l, other, below(8 * other.size() - len + 1), len);
+    }
+    takes();
+    refusals();
+    return failures == 0 ? 0 : 1;
+}

@@ -1,0 +1,114 @@
+/*
+ * The functions of vortex_bits.h before those of the processor levels, vb_v2_count_ones and the
+ * like: a null pointer to no items becomes one that these accept, and one level is chosen.
+ *
+ * With VB_LEVEL, 2, 3 or 4, that level alone is called; without, the higher one of v2 and v3 that
+ * the processor has.
+ */
+#include "vortex_bits.h"
+
+#include "functions.h"
+#include "processor.h"
+
+#include <stdatomic.h>
+
+/* What a null pointer becomes; since there are no items, it is neither read nor written. */
+static max_align_t nothing;
+#define ANY(items) ((items) != NULL ? (items) : (void *)&nothing)
+
+/* The functions of the levels. */
+#define F(type, name, parameters, arguments)                                                      \
+    type vb_v2_##name parameters;                                                                 \
+    type vb_v3_##name parameters;                                                                 \
+    type vb_v4_##name parameters;
+#define P(name, parameters, arguments) F(void, name, parameters, arguments)
+FUNCTIONS
+#undef F
+#undef P
+
+#ifdef VB_LEVEL
+
+#define JOIN(level, name) vb_v##level##_##name
+#define LEVEL(level, name) JOIN(level, name)
+#define CALL(name) LEVEL(VB_LEVEL, name)
+#define TEXT(level) "x86-64-v" #level
+#define NAME(level) TEXT(level)
+
+const char *vb_level(void)
+{
+    return NAME(VB_LEVEL);
+}
+
+#define HAS(level) has_v##level()
+#define HAS_LEVEL(level) HAS(level)
+
+bool vb_has_level(void)
+{
+    return HAS_LEVEL(VB_LEVEL);
+}
+
+#else
+
+/* The functions of one level. */
+struct level {
+    const char *text;
+#define F(type, name, parameters, arguments) type(*name) parameters;
+#define P(name, parameters, arguments) F(void, name, parameters, arguments)
+    FUNCTIONS
+#undef F
+#undef P
+};
+
+#define P(name, parameters, arguments) F(void, name, parameters, arguments)
+#define F(type, name, parameters, arguments) .name = vb_v2_##name,
+static const struct level v2 = {.text = "x86-64-v2", FUNCTIONS};
+#undef F
+#define F(type, name, parameters, arguments) .name = vb_v3_##name,
+static const struct level v3 = {.text = "x86-64-v3", FUNCTIONS};
+#undef F
+#undef P
+
+/*
+ * The level that calls use; null before the first one. Each thread that finds it null chooses the
+ * same, and a level is there before the program begins, so the order of these writes says nothing.
+ */
+static _Atomic(const struct level *) current;
+
+static const struct level *choose(void)
+{
+    const struct level *best = has_v3() ? &v3 : &v2;
+    atomic_store_explicit(&current, best, memory_order_relaxed);
+    return best;
+}
+
+static inline const struct level *level(void)
+{
+    const struct level *chosen = atomic_load_explicit(&current, memory_order_relaxed);
+    return chosen != NULL ? chosen : choose();
+}
+
+#define CALL(name) level()->name
+
+const char *vb_level(void)
+{
+    return level()->text;
+}
+
+bool vb_has_level(void)
+{
+    return has_v2();
+}
+
+#endif
+
+#define F(type, name, parameters, arguments)                                                      \
+    type vb_##name parameters                                                                     \
+    {                                                                                             \
+        return CALL(name) arguments;                                                              \
+    }
+#define P(name, parameters, arguments)                                                            \
+    void vb_##name parameters                                                                     \
+    {                                                                                             \
+        CALL(name) arguments;                                                                     \
+    }
+FUNCTIONS

@@ -1,0 +1,370 @@
+/*
+ * The windows of vortex_bits.h as C++ classes, of C++17 and later; this file is all of it.
+ *
+ *     c++ -std=c++17 -O2 app.cpp -I DIST/include DIST/lib/libvortex_bits.a
+ *
+ *     std::vector<std::uint8_t> valid = {0xE8, 0x06};
+ *     vortex_bits::bits rows(valid, 3, 10);             // ten rows, from bit 3 on
+ *     rows.count_ones();                                // 6
+ *     rows.for_each_set([&](std::size_t row) { .. });
+ *
+ * A window is tested once, where it is made; it lends its bytes, as a std::span does. What a window
+ * can't know is tested at the call: that two have one length, that a place is one of it, that there
+ * is room. Where a test fails, std::out_of_range is thrown, and nothing was written; without
+ * exceptions the program is aborted.
+ */
+#ifndef VORTEX_BITS_HPP
+#define VORTEX_BITS_HPP
+
+#include "vortex_bits.h"
+
+#include <algorithm>
+#include <array>
+#include <cstddef>
+#include <cstdint>
+#include <cstdlib>
+#include <optional>
+#include <stdexcept>
+#include <type_traits>
+#include <utility>
+#include <vector>
+#if __has_include(<version>)
+#include <version>
+#endif
+#ifdef __cpp_lib_span
+#include <span>
+#endif
+
+namespace vortex_bits {
+
+namespace detail {
+
+[[noreturn]] inline void refuse(const char *why)
+{
+#ifdef __cpp_exceptions
+    throw std::out_of_range(why);
+#else
+    (void)why;
+    std::abort();
+#endif
+}
+
+inline void expect(bool holds, const char *why)
+{
+    if (!holds) {
+        refuse(why);
+    }
+}
+
+inline std::optional<std::size_t> place(vb_place it)
+{
+    return it.found ? std::optional<std::size_t>(it.index) : std::nullopt;
+}
+
+/* Whether the window lies in so many bytes, and its end is a std::size_t. */
+constexpr bool fits(std::size_t size, std::size_t offset, std::size_t len)
+{
+    return len <= SIZE_MAX - offset && (offset + len) / 8 + ((offset + len) % 8 != 0) <= size;
+}
+
+/* What lends bytes: a std::vector, std::array, std::span, .. of std::uint8_t. */
+template <class Container, class Byte>
+using lends = std::enable_if_t<
+    std::is_convertible_v<decltype(std::declval<Container &>().data()), Byte *>
+    && std::is_convertible_v<decltype(std::declval<Container &>().size()), std::size_t>>;
+
+} // namespace detail
+
+/* Whether a window lies in so many bytes: then it can be made. */
+constexpr bool fits(std::size_t size, std::size_t offset, std::size_t len)
+{
+    return detail::fits(size, offset, len);
+}
+
+/* A window that is read: the `len` bits from bit `offset` on of some bytes. */
+class bits {
+public:
+    /* No bits. */
+    bits() = default;
+
+    bits(const std::uint8_t *bytes, std::size_t size, std::size_t offset, std::size_t len)
+        : bytes_(bytes), size_(size), offset_(offset), len_(len)
+    {
+        detail::expect(fits(size, offset, len), "a window does not lie in its bytes");
+    }
+
+    template <class Bytes, class = detail::lends<const Bytes, const std::uint8_t>>
+    bits(const Bytes &bytes, std::size_t offset, std::size_t len)
+        : bits(bytes.data(), bytes.size(), offset, len)
+    {
+    }
+
+    std::size_t size() const { return len_; }
+    bool empty() const { return len_ == 0; }
+
+    /* The first bit, as one of the bytes. */
+    std::size_t offset() const { return offset_; }
+
+#ifdef __cpp_lib_span
+    /* The bytes in which the window lies, those outside of it too. */
+    std::span<const std::uint8_t> bytes() const { return {bytes_, size_}; }
+#endif
+
+    /* The `len` bits from place `start` on. */
+    bits slice(std::size_t start, std::size_t len) const
+    {
+        detail::expect(start <= len_ && len <= len_ - start, "a slice is longer than its window");
+        return bits(bytes_, size_, offset_ + start, len);
+    }
+
+    bool operator[](std::size_t place) const
+    {
+        detail::expect(place < len_, "a place is not one of the window");
+        const std::size_t bit = offset_ + place;
+        return (bytes_[bit / 8] >> (bit % 8) & 1) != 0;
+    }
+
+    std::size_t count_ones() const { return vb_count_ones(bytes_, size_, offset_, len_); }
+    std::size_t count_zeros() const { return len_ - count_ones(); }
+
+    /* The place of the n-th true bit, counted from 0, if there is one. */
+    std::optional<std::size_t> select(std::size_t n) const
+    {
+        return detail::place(vb_bit_select(bytes_, size_, offset_, len_, n));
+    }
+
+    /* The place of the n-th false bit. */
+    std::optional<std::size_t> select_unset(std::size_t n) const
+    {
+        return detail::place(vb_bit_select_unset(bytes_, size_, offset_, len_, n));
+    }
+
+    /* The place of the last true bit, if there is one. */
+    std::optional<std::size_t> last_set() const
+    {
+        return detail::place(vb_last_set_index(bytes_, size_, offset_, len_));
+    }
+
+    bool any() const { return select(0).has_value(); }
+    bool all() const { return !select_unset(0).has_value(); }
+
+    /* The same bits, wherever these lie. */
+    friend bool operator==(const bits &left, const bits &right)
+    {
+        return left.len_ == right.len_
+            && vb_equal_bits(left.bytes_, left.size_, left.offset_, right.bytes_, right.size_,
+                right.offset_, right.len_);
+    }
+
+    friend bool operator!=(const bits &left, const bits &right) { return !(left == right); }
+
+    /* Calls `f` with each place of a true bit, in ascending order. */
+    template <class F> void for_each_set(F f) const
+    {
+        std::array<std::size_t, 64> places;
+        walk(places, vb_set_indices, [](std::size_t place) { return place + 1; },
+            [&](std::size_t from, std::size_t place) { f(from + place); });
+    }
+
+    /* Calls `f` with the start and the end of each run of true bits, as long as can be. */
+    template <class F> void for_each_run(F f) const
+    {
+        std::array<vb_run, 64> runs;
+        walk(runs, vb_set_slices, [](vb_run run) { return run.end; },
+            [&](std::size_t from, vb_run run) { f(from + run.start, from + run.end); });
+    }
+
+    /* The places of the true bits. */
+    std::vector<std::size_t> set_indices() const
+    {
+        std::vector<std::size_t> places(count_ones());
+        vb_set_indices(bytes_, size_, offset_, len_, places.data(), places.size());
+        return places;
+    }
+
+    /*
+     * Writes the bits at the indices, of std::uint32_t or std::uint64_t, to the first bits of
+     * `out`, one each; answers the first position whose index is not a place, if there is one, and
+     * these bits then hold anything.
+     */
+    template <class Indices, class Out>
+    std::optional<std::size_t> take_into(const Indices &indices, Out &&out) const
+    {
+        detail::expect(fits(out.size(), 0, indices.size()), "no room for a bit an index");
+        return detail::place(take(indices.data(), indices.size(), out.data(), out.size()));
+    }
+
+    /* The same where `valid` is true; at the other positions false is written. */
+    template <class Indices, class Out>
+    std::optional<std::size_t> take_into(const Indices &indices, bits valid, Out &&out) const
+    {
+        detail::expect(valid.len_ == indices.size(), "not a bit of validity for each index");
+        detail::expect(fits(out.size(), 0, indices.size()), "no room for a bit an index");
+        return detail::place(
+            take_valid(indices.data(), indices.size(), valid, out.data(), out.size()));
+    }
+
+private:
+    friend class bits_mut;
+    friend class ranks;
+
+    template <class Items, class Find, class End, class Each>
+    void walk(Items &items, Find find, End end, Each each) const
+    {
+        std::size_t from = 0, found = items.size();
+        while (found == items.size() && from < len_) {
+            found = find(bytes_, size_, offset_ + from, len_ - from, items.data(), items.size());
+            std::for_each_n(items.begin(), found, [&](auto item) { each(from, item); });
+            from += found == items.size() ? end(items.back()) : 0;
+        }
+    }
+
+    vb_place take(const std::uint32_t *indices, std::size_t n, std::uint8_t *out,
+        std::size_t size) const
+    {
+        return vb_take_u32(out, size, bytes_, size_, offset_, len_, indices, n);
+    }
+
+    vb_place take(const std::uint64_t *indices, std::size_t n, std::uint8_t *out,
+        std::size_t size) const
+    {
+        return vb_take_u64(out, size, bytes_, size_, offset_, len_, indices, n);
+    }
+
+    vb_place take_valid(const std::uint32_t *indices, std::size_t n, bits valid, std::uint8_t *out,
+        std::size_t size) const
+    {
+        return vb_take_valid_u32(out, size, bytes_, size_, offset_, len_, indices, n, valid.bytes_,
+            valid.size_, valid.offset_);
+    }
+
+    vb_place take_valid(const std::uint64_t *indices, std::size_t n, bits valid, std::uint8_t *out,
+        std::size_t size) const
+    {
+        return vb_take_valid_u64(out, size, bytes_, size_, offset_, len_, indices, n, valid.bytes_,
+            valid.size_, valid.offset_);
+    }
+
+    const std::uint8_t *bytes_ = nullptr;
+    std::size_t size_ = 0;
+    std::size_t offset_ = 0;
+    std::size_t len_ = 0;
+};
+
+/* A window that is written; every bit outside of it stays. */
+class bits_mut {
+public:
+    bits_mut(std::uint8_t *bytes, std::size_t size, std::size_t offset, std::size_t len)
+        : bytes_(bytes), size_(size), offset_(offset), len_(len)
+    {
+        detail::expect(fits(size, offset, len), "a window does not lie in its bytes");
+    }
+
+    template <class Bytes, class = detail::lends<Bytes, std::uint8_t>>
+    bits_mut(Bytes &bytes, std::size_t offset, std::size_t len)
+        : bits_mut(bytes.data(), bytes.size(), offset, len)
+    {
+    }
+
+    std::size_t size() const { return len_; }
+
+    /* The window to be read. */
+    operator bits() const { return bits(bytes_, size_, offset_, len_); }
+
+    /* The `len` bits from place `start` on. */
+    bits_mut slice(std::size_t start, std::size_t len) const
+    {
+        detail::expect(start <= len_ && len <= len_ - start, "a slice is longer than its window");
+        return bits_mut(bytes_, size_, offset_ + start, len);
+    }
+
+    void set(std::size_t place, bool value) { slice(place, 1).fill(value); }
+    void fill(bool value) { vb_fill_bits(bytes_, size_, offset_, offset_ + len_, value); }
+    void negate() { vb_negate_bits(bytes_, size_, offset_, len_); }
+
+    /* Of a window of the same length, whose bytes do not overlap these, as in all calls below. */
+    void copy_from(bits source) { by_another(vb_copy_bits, source); }
+    void operator&=(bits right) { by_another(vb_and_bits, right); }
+    void operator|=(bits right) { by_another(vb_or_bits, right); }
+    void operator^=(bits right) { by_another(vb_xor_bits, right); }
+    void and_not(bits right) { by_another(vb_and_not_bits, right); }
+
+    /* Of two windows, which may overlap each other. */
+    void and_of(bits left, bits right) { by_two(vb_and_into, left, right); }
+    void or_of(bits left, bits right) { by_two(vb_or_into, left, right); }
+    void xor_of(bits left, bits right) { by_two(vb_xor_into, left, right); }
+    void and_not_of(bits left, bits right) { by_two(vb_and_not_into, left, right); }
+
+private:
+    template <class Call> void by_another(Call call, bits right)
+    {
+        detail::expect(right.len_ == len_, "windows are of two lengths");
+        call(bytes_, size_, offset_, right.bytes_, right.size_, right.offset_, len_);
+    }
+
+    template <class Call> void by_two(Call call, bits left, bits right)
+    {
+        detail::expect(left.len_ == len_ && right.len_ == len_, "windows are of two lengths");
+        call(bytes_, size_, offset_, left.bytes_, left.size_, left.offset_, right.bytes_,
+            right.size_, right.offset_, len_);
+    }
+
+    std::uint8_t *bytes_;
+    std::size_t size_;
+    std::size_t offset_;
+    std::size_t len_;
+};
+
+/* Packs bytes, each of which is true where it is not 0, into the first bytes of `out`. */
+template <class Bytes, class Out> void pack_truthy(const Bytes &truthy, Out &&out)
+{
+    detail::expect(fits(out.size(), 0, truthy.size()), "no room for a bit a byte");
+    vb_pack_truthy(out.data(), out.size(), truthy.data(), truthy.size());
+}
+
+/* A window with the table of its true bits before each block of 512, which it keeps. */
+class ranks {
+public:
+    /* It counts the bits once. */
+    explicit ranks(bits window) : bits_(window), table_((window.len_ + 511) / 512)
+    {
+        vb_block_counts(bits_.bytes_, bits_.size_, bits_.offset_, bits_.len_, table_.data(),
+            table_.size());
+    }
+
+    std::size_t size() const { return bits_.len_; }
+
+    /* How many bits are true. */
+    std::size_t count() const { return rank(bits_.len_); }
+
+    /* How many of the first `place` bits are true, in constant time. */
+    std::size_t rank(std::size_t place) const
+    {
+        detail::expect(place <= bits_.len_, "a place is behind the window");
+        return vb_rank(bits_.bytes_, bits_.size_, bits_.offset_, bits_.len_, table_.data(),
+            table_.size(), place);
+    }
+
+    /* The place of the n-th true bit, counted from 0, if there is one. */
+    std::optional<std::size_t> select(std::size_t n) const { return by(vb_ranked_select, n); }
+
+    /* The place of the n-th false bit. */
+    std::optional<std::size_t> select_unset(std::size_t n) const
+    {
+        return by(vb_ranked_select_unset, n);
+    }
+
+private:
+    template <class Call> std::optional<std::size_t> by(Call call, std::size_t n) const
+    {
+        return detail::place(call(bits_.bytes_, bits_.size_, bits_.offset_, bits_.len_,
+            table_.data(), table_.size(), n));
+    }
+
+    bits bits_;
+    std::vector<std::size_t> table_;
+};
+
+} // namespace vortex_bits
+
+#endif

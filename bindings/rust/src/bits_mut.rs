@@ -1,0 +1,336 @@
+//! A window that is written.
+
+use core::ops::RangeBounds;
+
+use crate::Bits;
+use crate::bits::{fits, within};
+use crate::error::{OutOfBounds, expect};
+use crate::kernels::{self, Operator};
+use crate::portable;
+
+/// The `len` bits from bit `offset` on of some bytes, as [`Bits`] names them, to be written: every
+/// other bit of the bytes stays as it is.
+///
+/// ```
+/// use vortex_bits::{Bits, BitsMut};
+///
+/// let mut bytes = [0xFF, 0xFF];
+/// let mut bits = BitsMut::new(&mut bytes, 3, 7);
+/// bits.copy_from(Bits::new(&[0b0110_0000], 1, 7));
+/// bits.set(0, true);
+/// assert_eq!(bytes, [0b1000_1111, 0b1111_1101]);
+/// ```
+#[derive(Default)]
+pub struct BitsMut<'a> {
+    /// The window lies in them, and its end is a `usize`.
+    bytes: &'a mut [u8],
+    offset: usize,
+    len: usize,
+}
+
+impl<'a> BitsMut<'a> {
+    /// The window of these bits.
+    ///
+    /// # Panics
+    ///
+    /// Where it doesn't lie in the bytes: [`try_new`](BitsMut::try_new) answers that.
+    #[inline]
+    #[must_use]
+    #[track_caller]
+    pub fn new(bytes: &'a mut [u8], offset: usize, len: usize) -> BitsMut<'a> {
+        expect(BitsMut::try_new(bytes, offset, len))
+    }
+
+    /// The window of these bits.
+    ///
+    /// # Errors
+    ///
+    /// Where it doesn't lie in the bytes, or its end is no `usize`.
+    #[inline]
+    pub const fn try_new(
+        bytes: &'a mut [u8],
+        offset: usize,
+        len: usize,
+    ) -> Result<BitsMut<'a>, OutOfBounds> {
+        match fits(bytes.len(), offset, len) {
+            Ok(()) => Ok(BitsMut { bytes, offset, len }),
+            Err(outside) => Err(outside),
+        }
+    }
+
+    /// All bits of the bytes.
+    ///
+    /// # Panics
+    ///
+    /// Where these are more than a `usize` can tell, which takes an eighth of the address space.
+    #[inline]
+    #[must_use]
+    #[track_caller]
+    pub fn from_bytes(bytes: &'a mut [u8]) -> BitsMut<'a> {
+        let len = bytes.len().saturating_mul(8);
+        BitsMut::new(bytes, 0, len)
+    }
+
+    /// The window to be read.
+    #[inline]
+    #[must_use]
+    pub const fn as_bits(&self) -> Bits<'_> {
+        match Bits::try_new(self.bytes, self.offset, self.len) {
+            Ok(bits) => bits,
+            Err(_) => unreachable!(),
+        }
+    }
+
+    /// The window to be read, for as long as its bytes are lent.
+    #[inline]
+    #[must_use]
+    pub fn into_bits(self) -> Bits<'a> {
+        Bits::new(self.bytes, self.offset, self.len)
+    }
+
+    /// The bytes in which the window lies, those outside of it too.
+    #[inline]
+    pub const fn bytes_mut(&mut self) -> &mut [u8] {
+        self.bytes
+    }
+
+    /// How many bytes there are.
+    #[cfg(vortex_bits_native)]
+    pub(crate) const fn size(&self) -> usize {
+        self.bytes.len()
+    }
+
+    /// Which bit of the bytes is the first one of the window.
+    #[inline]
+    #[must_use]
+    pub const fn offset(&self) -> usize {
+        self.offset
+    }
+
+    /// How many bits the window has.
+    #[inline]
+    #[must_use]
+    pub const fn len(&self) -> usize {
+        self.len
+    }
+
+    /// Whether it has none.
+    #[inline]
+    #[must_use]
+    pub const fn is_empty(&self) -> bool {
+        self.len == 0
+    }
+
+    /// The bits of a range of places, to be written.
+    ///
+    /// # Panics
+    ///
+    /// Where the range begins behind its end, or ends behind the window.
+    #[inline]
+    #[must_use]
+    #[track_caller]
+    pub fn slice(&mut self, range: impl RangeBounds<usize>) -> BitsMut<'_> {
+        expect(self.try_slice(range))
+    }
+
+    /// The bits of a range of places, to be written.
+    ///
+    /// # Errors
+    ///
+    /// Where the range begins behind its end, or ends behind the window.
+    #[inline]
+    pub fn try_slice(
+        &mut self,
+        range: impl RangeBounds<usize>,
+    ) -> Result<BitsMut<'_>, OutOfBounds> {
+        let (start, len) = within(&range, self.len)?;
+        Ok(self.part(start, len))
+    }
+
+    /// The `len` bits from place `start` on, which has to be among the window's.
+    #[inline]
+    pub(crate) fn part(&mut self, start: usize, len: usize) -> BitsMut<'_> {
+        debug_assert!(start <= self.len && len <= self.len - start);
+        BitsMut {
+            bytes: self.bytes,
+            offset: self.offset + start,
+            len,
+        }
+    }
+
+    /// Makes the `len` bits from place `start` on, at most 64, the lowest digits of a word.
+    #[inline]
+    pub(crate) fn write(&mut self, start: usize, len: usize, word: u64) {
+        debug_assert!(start <= self.len && len <= self.len - start);
+        portable::write(self.bytes, self.offset + start, len, word);
+    }
+
+    /// Makes one bit `value`.
+    ///
+    /// # Panics
+    ///
+    /// Where the window has no such place.
+    #[inline]
+    #[track_caller]
+    pub fn set(&mut self, place: usize, value: bool) {
+        assert!(
+            place < self.len,
+            "place {place} is not among {} bits",
+            self.len
+        );
+        let bit = self.offset + place;
+        let digit = 1 << (bit % 8);
+        if value {
+            self.bytes[bit / 8] |= digit;
+        } else {
+            self.bytes[bit / 8] &= !digit;
+        }
+    }
+
+    /// Makes each bit `value`: of a part, `bits.slice(6..11).fill(true)`.
+    #[inline]
+    pub fn fill(&mut self, value: bool) {
+        kernels::fill(self, value);
+    }
+
+    /// Negates each bit.
+    #[inline]
+    pub fn negate(&mut self) {
+        kernels::negate(self);
+    }
+
+    /// Makes each bit what `bit` answers for its place; it is asked once a place, in their order.
+    ///
+    /// ```
+    /// use vortex_bits::BitsMut;
+    ///
+    /// let (values, mut above) = ([3, 8, 5, 9], [0]);
+    /// BitsMut::new(&mut above, 0, 4).fill_with(|place| values[place] > 4);
+    /// assert_eq!(above, [0b1110]);
+    /// ```
+    #[inline]
+    pub fn fill_with(&mut self, bit: impl FnMut(usize) -> bool) {
+        portable::pack(self, bit);
+    }
+
+    /// Copies the truth values.
+    ///
+    /// # Panics
+    ///
+    /// Where they aren't as many as the bits.
+    #[inline]
+    #[track_caller]
+    pub fn copy_from_bools(&mut self, bools: &[bool]) {
+        alike(self.len, bools.len());
+        kernels::pack_bools(self, bools);
+    }
+
+    /// Makes each bit true where its byte isn't 0.
+    ///
+    /// # Panics
+    ///
+    /// Where the bytes aren't as many as the bits.
+    #[inline]
+    #[track_caller]
+    pub fn copy_from_truthy(&mut self, truthy: &[u8]) {
+        alike(self.len, truthy.len());
+        kernels::pack_truthy(self, truthy);
+    }
+
+    /// Copies the bits, by words wherever the two windows lie.
+    ///
+    /// # Panics
+    ///
+    /// Where they aren't as many as these, as in all calls below.
+    #[inline]
+    #[track_caller]
+    pub fn copy_from(&mut self, source: Bits<'_>) {
+        alike(self.len, source.len());
+        kernels::copy(self, source);
+    }
+
+    #[inline]
+    #[track_caller]
+    fn combine(&mut self, right: Bits<'_>, operator: Operator) {
+        alike(self.len, right.len());
+        kernels::combine(self, right, operator);
+    }
+
+    #[inline]
+    #[track_caller]
+    fn combine_into(&mut self, left: Bits<'_>, right: Bits<'_>, operator: Operator) {
+        alike(self.len, left.len());
+        alike(self.len, right.len());
+        kernels::combine_into(self, left, right, operator);
+    }
+}
+
+/// The calls by an operator: of these bits and others, and of two others.
+macro_rules! operators {
+    ($($(#[$doc:meta])* $name:ident, $of:ident: $operator:ident;)*) => {
+        impl BitsMut<'_> {
+            $(
+                $(#[$doc])*
+                ///
+                /// # Panics
+                ///
+                /// Where the windows aren't of one length.
+                #[inline]
+                #[track_caller]
+                pub fn $name(&mut self, right: Bits<'_>) {
+                    self.combine(right, Operator::$operator);
+                }
+
+                /// Makes the bits those of `left`, and at the same time does
+                #[doc = concat!("[`", stringify!($name), "`](BitsMut::", stringify!($name), ")")]
+                /// of `right`.
+                ///
+                /// # Panics
+                ///
+                /// Where the windows aren't of one length.
+                #[inline]
+                #[track_caller]
+                pub fn $of(&mut self, left: Bits<'_>, right: Bits<'_>) {
+                    self.combine_into(left, right, Operator::$operator);
+                }
+            )*
+        }
+    };
+}
+
+operators! {
+    /// Leaves the bits true that are true on the right too.
+    ///
+    /// ```
+    /// use vortex_bits::{Bits, BitsMut};
+    ///
+    /// let mut both = [0b0000_1111];
+    /// BitsMut::new(&mut both, 0, 5).and(Bits::new(&[0b1010_1000], 3, 5));
+    /// assert_eq!(both, [0b0000_0101]);
+    /// ```
+    and, and_of: And;
+    /// Makes the bits true that are true on the right.
+    or, or_of: Or;
+    /// Negates the bits that are true on the right.
+    xor, xor_of: Xor;
+    /// Leaves the bits true that are false on the right.
+    and_not, and_not_of: AndNot;
+}
+
+/// # Panics
+///
+/// Where two lengths differ.
+#[inline]
+#[track_caller]
+pub(crate) fn alike(written: usize, read: usize) {
+    if written != read {
+        unlike(written, read);
+    }
+}
+
+#[cold]
+#[inline(never)]
+#[track_caller]
+fn unlike(written: usize, read: usize) -> ! {
+    panic!("{written} bits to write and {read} to read")
+}

@@ -1,0 +1,118 @@
+//! Why a window or a call is refused.
+
+use core::error::Error;
+use core::fmt;
+
+/// A window that doesn't lie in its bytes, or whose end is no `usize`.
+#[derive(Clone, Copy, Debug, PartialEq, Eq, Hash)]
+#[non_exhaustive]
+pub struct OutOfBounds {
+    /// The place of the first bit.
+    pub offset: usize,
+    /// The number of bits.
+    pub len: usize,
+    /// How many bits there are in all.
+    pub bits: usize,
+}
+
+impl OutOfBounds {
+    pub(crate) const fn new(offset: usize, len: usize, bits: usize) -> Self {
+        OutOfBounds { offset, len, bits }
+    }
+}
+
+impl fmt::Display for OutOfBounds {
+    fn fmt(&self, f: &mut fmt::Formatter<'_>) -> fmt::Result {
+        let OutOfBounds { offset, len, bits } = self;
+        write!(
+            f,
+            "the {len} bits from bit {offset} on are not among {bits} bits"
+        )
+    }
+}
+
+impl Error for OutOfBounds {}
+
+/// Why bits aren't taken at indices.
+#[derive(Clone, Copy, Debug, PartialEq, Eq, Hash)]
+#[non_exhaustive]
+pub enum TakeError {
+    /// The window that is written hasn't a bit for each index; it is as it was.
+    Room {
+        /// How many bits it has.
+        bits: usize,
+        /// How many indices there are.
+        indices: usize,
+    },
+    /// The window of validity hasn't a bit for each index; what is written is as it was.
+    Validity {
+        /// How many bits it has.
+        bits: usize,
+        /// How many indices there are.
+        indices: usize,
+    },
+    /// The index at this position is negative, or isn't below the length of the window that is
+    /// read. It is the first one that counts and is so; the window that is written holds any bits.
+    Index {
+        /// The position among the indices.
+        position: usize,
+    },
+}
+
+impl fmt::Display for TakeError {
+    fn fmt(&self, f: &mut fmt::Formatter<'_>) -> fmt::Result {
+        match self {
+            TakeError::Room { bits, indices } => {
+                write!(f, "{indices} indices and {bits} bits to write")
+            }
+            TakeError::Validity { bits, indices } => {
+                write!(f, "{indices} indices and {bits} bits of validity")
+            }
+            TakeError::Index { position } => {
+                write!(f, "the index at position {position} is out of range")
+            }
+        }
+    }
+}
+
+impl Error for TakeError {}
+
+/// A table of counts that is too short for its window.
+#[derive(Clone, Copy, Debug, PartialEq, Eq, Hash)]
+#[non_exhaustive]
+pub struct ShortTable {
+    /// How many blocks the window has.
+    pub blocks: usize,
+    /// How many entries the table has.
+    pub entries: usize,
+}
+
+impl fmt::Display for ShortTable {
+    fn fmt(&self, f: &mut fmt::Formatter<'_>) -> fmt::Result {
+        let ShortTable { blocks, entries } = self;
+        write!(f, "a table of {entries} entries for {blocks} blocks")
+    }
+}
+
+impl Error for ShortTable {}
+
+/// The answer of a call that isn't refused.
+///
+/// # Panics
+///
+/// With the text of the refusal.
+#[inline]
+#[track_caller]
+pub(crate) fn expect<T, E: fmt::Display>(answer: Result<T, E>) -> T {
+    match answer {
+        Ok(answer) => answer,
+        Err(refused) => refuse(&refused),
+    }
+}
+
+#[cold]
+#[inline(never)]
+#[track_caller]
+fn refuse(refused: &dyn fmt::Display) -> ! {
+    panic!("{refused}")
+}

@@ -1,0 +1,209 @@
+//! Each call at the level that is current. Windows of at most a word are done at once in Rust, so
+//! that no call by a pointer stands between.
+
+#[macro_use]
+mod call;
+mod gather;
+
+pub use gather::{pack_bools, pack_truthy, take};
+
+use crate::{Bits, BitsMut, portable};
+
+#[cfg(vortex_bits_native)]
+use crate::level::kernels;
+#[cfg(vortex_bits_native)]
+use crate::native::{Combine, CombineInto, Kernels};
+
+/// A run of true bits, laid out as C's: where it begins, and the place behind it.
+#[repr(C)]
+#[derive(Clone, Copy, Default)]
+pub struct Run {
+    pub start: usize,
+    pub end: usize,
+}
+
+/// How two bits are combined.
+#[derive(Clone, Copy)]
+pub enum Operator {
+    And,
+    Or,
+    Xor,
+    AndNot,
+}
+
+impl Operator {
+    /// Of each digit of two words.
+    #[inline]
+    pub fn of(self, left: u64, right: u64) -> u64 {
+        match self {
+            Operator::And => left & right,
+            Operator::Or => left | right,
+            Operator::Xor => left ^ right,
+            Operator::AndNot => left & !right,
+        }
+    }
+
+    #[cfg(vortex_bits_native)]
+    fn native(self, kernels: &Kernels) -> Combine {
+        match self {
+            Operator::And => kernels.and_bits,
+            Operator::Or => kernels.or_bits,
+            Operator::Xor => kernels.xor_bits,
+            Operator::AndNot => kernels.and_not_bits,
+        }
+    }
+
+    #[cfg(vortex_bits_native)]
+    fn native_into(self, kernels: &Kernels) -> CombineInto {
+        match self {
+            Operator::And => kernels.and_into,
+            Operator::Or => kernels.or_into,
+            Operator::Xor => kernels.xor_into,
+            Operator::AndNot => kernels.and_not_into,
+        }
+    }
+}
+
+#[inline]
+fn is_word(bits: Bits<'_>) -> bool {
+    bits.len() <= 64
+}
+
+#[inline]
+pub fn count_ones(bits: Bits<'_>) -> usize {
+    if is_word(bits) {
+        return portable::only_word(bits).count_ones() as usize;
+    }
+    native!(count_ones: window bits);
+    portable::count_ones(bits)
+}
+
+#[inline]
+pub fn select(bits: Bits<'_>, n: usize) -> Option<usize> {
+    if !is_word(bits) {
+        native!(bit_select: window bits, value n);
+    }
+    portable::select(bits, n)
+}
+
+#[inline]
+pub fn select_unset(bits: Bits<'_>, n: usize) -> Option<usize> {
+    if !is_word(bits) {
+        native!(bit_select_unset: window bits, value n);
+    }
+    portable::select_unset(bits, n)
+}
+
+#[inline]
+pub fn last_set(bits: Bits<'_>) -> Option<usize> {
+    if !is_word(bits) {
+        native!(last_set_index: window bits);
+    }
+    portable::last_set(bits)
+}
+
+/// Of windows of one length.
+#[inline]
+pub fn equal(left: Bits<'_>, right: Bits<'_>) -> bool {
+    if is_word(left) {
+        return portable::only_word(left) == portable::only_word(right);
+    }
+    native!(equal_bits: start left, window right);
+    portable::equal(left, right)
+}
+
+/// Writes the places of the true bits to the front of `out`, and answers how many have room.
+#[inline]
+pub fn set_indices(bits: Bits<'_>, out: &mut [usize]) -> usize {
+    if !is_word(bits) {
+        native!(set_indices: window bits, slice_mut out);
+    }
+    portable::set_indices(bits, out)
+}
+
+/// Writes the runs of true bits to the front of `out`, and answers how many have room.
+#[inline]
+pub fn set_slices(bits: Bits<'_>, out: &mut [Run]) -> usize {
+    if !is_word(bits) {
+        native!(set_slices: window bits, slice_mut out);
+    }
+    portable::set_slices(bits, out)
+}
+
+#[inline]
+pub fn fill(out: &mut BitsMut<'_>, value: bool) {
+    if !is_word(out.as_bits()) {
+        native!(fill_bits: start_mut out, value out.offset() + out.len(), value value);
+    }
+    portable::fill(out, value);
+}
+
+#[inline]
+pub fn negate(out: &mut BitsMut<'_>) {
+    if !is_word(out.as_bits()) {
+        native!(negate_bits: window_mut out);
+    }
+    portable::negate(out);
+}
+
+/// Of windows of one length.
+#[inline]
+pub fn copy(out: &mut BitsMut<'_>, source: Bits<'_>) {
+    if !is_word(source) {
+        native!(copy_bits: start_mut out, window source);
+    }
+    portable::copy(out, source);
+}
+
+/// Of windows of one length.
+#[inline]
+pub fn combine(out: &mut BitsMut<'_>, right: Bits<'_>, operator: Operator) {
+    if !is_word(right) {
+        #[cfg(vortex_bits_native)]
+        if let Some(kernels) = kernels() {
+            return native!(@call operator.native(kernels), [] start_mut out, window right);
+        }
+    }
+    portable::combine(out, right, operator);
+}
+
+/// Of windows of one length.
+#[inline]
+pub fn combine_into(out: &mut BitsMut<'_>, left: Bits<'_>, right: Bits<'_>, operator: Operator) {
+    if !is_word(right) {
+        #[cfg(vortex_bits_native)]
+        if let Some(kernels) = kernels() {
+            let function = operator.native_into(kernels);
+            return native!(@call function, [] start_mut out, start left, window right);
+        }
+    }
+    portable::combine_into(out, left, right, operator);
+}
+
+/// Writes how many bits before each block are true; the table has an entry for each. It answers
+/// how many there are.
+pub fn block_counts(bits: Bits<'_>, table: &mut [usize]) -> usize {
+    native!(block_counts: window bits, slice_mut table);
+    portable::block_counts(bits, table)
+}
+
+/// Of a place up to the length, and a table with an entry for each block.
+#[inline]
+pub fn rank(bits: Bits<'_>, table: &[usize], place: usize) -> usize {
+    native!(rank: window bits, slice table, value place);
+    portable::rank(bits, table, place)
+}
+
+/// Of a table with an entry for each block.
+#[inline]
+pub fn ranked_select(bits: Bits<'_>, table: &[usize], n: usize) -> Option<usize> {
+    native!(ranked_select: window bits, slice table, value n);
+    portable::ranked_select(bits, table, n)
+}
+
+/// Of a table with an entry for each block.
+#[inline]
+pub fn ranked_select_unset(bits: Bits<'_>, table: &[usize], n: usize) -> Option<usize> {
+    native!(ranked_select_unset: window bits, slice table, value n);
+    portable::ranked_select_unset(bits, table, n)
+}

@@ -1,0 +1,108 @@
+//! How windows compare, and how they look.
+
+use core::fmt;
+use core::hash::{Hash, Hasher};
+use core::ops::Index;
+
+use crate::iter::Iter;
+use crate::{Bits, BitsMut, kernels};
+
+/// The same bits, wherever these lie.
+impl PartialEq for Bits<'_> {
+    #[inline]
+    fn eq(&self, other: &Bits<'_>) -> bool {
+        self.len() == other.len() && kernels::equal(*self, *other)
+    }
+}
+
+impl Eq for Bits<'_> {}
+
+impl PartialEq for BitsMut<'_> {
+    #[inline]
+    fn eq(&self, other: &BitsMut<'_>) -> bool {
+        self.as_bits() == other.as_bits()
+    }
+}
+
+impl Eq for BitsMut<'_> {}
+
+impl PartialEq<Bits<'_>> for BitsMut<'_> {
+    #[inline]
+    fn eq(&self, other: &Bits<'_>) -> bool {
+        self.as_bits() == *other
+    }
+}
+
+impl PartialEq<BitsMut<'_>> for Bits<'_> {
+    #[inline]
+    fn eq(&self, other: &BitsMut<'_>) -> bool {
+        *self == other.as_bits()
+    }
+}
+
+impl Hash for Bits<'_> {
+    fn hash<H: Hasher>(&self, state: &mut H) {
+        self.len().hash(state);
+        self.words().for_each(|word| word.hash(state));
+    }
+}
+
+/// The digits, that of place 0 first: `Bits(1101)`.
+impl fmt::Debug for Bits<'_> {
+    fn fmt(&self, f: &mut fmt::Formatter<'_>) -> fmt::Result {
+        f.write_str("Bits(")?;
+        digits(*self, f)
+    }
+}
+
+/// The digits, that of place 0 first: `BitsMut(1101)`.
+impl fmt::Debug for BitsMut<'_> {
+    fn fmt(&self, f: &mut fmt::Formatter<'_>) -> fmt::Result {
+        f.write_str("BitsMut(")?;
+        digits(self.as_bits(), f)
+    }
+}
+
+fn digits(bits: Bits<'_>, f: &mut fmt::Formatter<'_>) -> fmt::Result {
+    for bit in bits {
+        f.write_str(if bit { "1" } else { "0" })?;
+    }
+    f.write_str(")")
+}
+
+/// # Panics
+///
+/// Where the window has no such place: [`get`](Bits::get) answers that.
+impl Index<usize> for Bits<'_> {
+    type Output = bool;
+
+    #[inline]
+    #[track_caller]
+    fn index(&self, place: usize) -> &bool {
+        match self.get(place) {
+            Some(true) => &true,
+            Some(false) => &false,
+            None => panic!("place {place} is not among {} bits", self.len()),
+        }
+    }
+}
+
+impl<'a> IntoIterator for Bits<'a> {
+    type Item = bool;
+    type IntoIter = Iter<'a>;
+
+    #[inline]
+    fn into_iter(self) -> Iter<'a> {
+        self.iter()
+    }
+}
+
+impl<'a> IntoIterator for &Bits<'a> {
+    type Item = bool;
+    type IntoIter = Iter<'a>;
+
+    #[inline]
+    fn into_iter(self) -> Iter<'a> {
+        self.iter()
+    }
+}

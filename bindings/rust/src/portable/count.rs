@@ -1,0 +1,76 @@
+//! Questions on windows.
+
+use super::word::{low, only_word, word_at, words};
+use crate::Bits;
+
+fn ones(word: u64) -> usize {
+    word.count_ones() as usize
+}
+
+/// It goes by whole bytes between the first one that the window begins and the last one that it
+/// ends.
+pub fn count_ones(bits: Bits<'_>) -> usize {
+    let head = bits.len().min(bits.offset().wrapping_neg() % 8);
+    let whole = (bits.len() - head) / 8;
+    let tail = head + 8 * whole;
+    let first = (bits.offset() + head) / 8;
+    let words = bits.bytes()[first..first + whole].chunks_exact(8);
+    let rest = words
+        .remainder()
+        .iter()
+        .map(|byte| byte.count_ones() as usize);
+    let [head, tail] = [bits.part(0, head), bits.part(tail, bits.len() - tail)].map(only_word);
+    ones(head)
+        + rest.sum::<usize>()
+        + ones(tail)
+        + words
+            .map(|eight| {
+                eight
+                    .iter()
+                    .rev()
+                    .fold(0, |word, &byte| word << 8 | u64::from(byte))
+            })
+            .map(ones)
+            .sum::<usize>()
+}
+
+pub fn select(bits: Bits<'_>, n: usize) -> Option<usize> {
+    nth(bits, n, |word| word)
+}
+
+pub fn select_unset(bits: Bits<'_>, n: usize) -> Option<usize> {
+    nth(bits, n, |word| !word)
+}
+
+/// The place of the `n`-th bit that is true in the words that `seen` makes of those of the window.
+fn nth(bits: Bits<'_>, n: usize, seen: impl Fn(u64) -> u64) -> Option<usize> {
+    let mut before = 0;
+    for i in 0..bits.len().div_ceil(64) {
+        let word = seen(word_at(bits, i)) & low(bits.len() - 64 * i);
+        if n - before < ones(word) {
+            return Some(64 * i + nth_one(word, n - before));
+        }
+        before += ones(word);
+    }
+    None
+}
+
+/// The place of the `n`-th digit 1, of which there are more.
+fn nth_one(word: u64, n: usize) -> usize {
+    (0..n)
+        .fold(word, |word, _| word & (word - 1))
+        .trailing_zeros() as usize
+}
+
+pub fn last_set(bits: Bits<'_>) -> Option<usize> {
+    words(bits)
+        .enumerate()
+        .rev()
+        .find(|&(_, word)| word != 0)
+        .map(|(i, word)| 64 * i + word.ilog2() as usize)
+}
+
+/// Of windows of one length.
+pub fn equal(left: Bits<'_>, right: Bits<'_>) -> bool {
+    words(left).eq(words(right))
+}

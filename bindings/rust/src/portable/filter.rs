@@ -1,0 +1,37 @@
+//! The bits of a window that another one keeps.
+
+use super::word::words;
+use crate::{Bits, BitsMut};
+
+/// Writes the bits of `source` at the places that are true in `mask`, which is as long, to the
+/// front of `out`, which has room for them.
+pub fn filter(out: &mut BitsMut<'_>, source: Bits<'_>, mask: Bits<'_>) {
+    let mut at = 0;
+    for (word, mask) in words(source).zip(words(mask)) {
+        let kept = mask.count_ones() as usize;
+        out.write(at, kept, compress(word, mask));
+        at += kept;
+    }
+}
+
+/// The digits of `word` at the places where `mask` has 1, moved together at the low end.
+///
+/// Each round moves the digits that have an odd number of gaps below them, counted in the power of
+/// two that the round stands for (Hacker's Delight, 7-4).
+fn compress(word: u64, mask: u64) -> u64 {
+    if mask == u64::MAX || mask == 0 {
+        return word & mask;
+    }
+    let (mut word, mut mask, mut gaps) = (word & mask, mask, !mask << 1);
+    for step in [1, 2, 4, 8, 16, 32] {
+        let odd = [1, 2, 4, 8, 16, 32]
+            .iter()
+            .fold(gaps, |odd, by| odd ^ odd << by);
+        let moved = odd & mask;
+        mask = mask ^ moved | moved >> step;
+        let digits = word & moved;
+        word = word ^ digits | digits >> step;
+        gaps &= !odd;
+    }
+    word
+}

@@ -1,0 +1,64 @@
+//! Words of up to 64 bits, read and written at any place.
+
+use crate::Bits;
+
+/// A word whose `len` lowest digits, at most 64, are 1.
+#[inline]
+pub fn low(len: usize) -> u64 {
+    if len < 64 { (1 << len) - 1 } else { u64::MAX }
+}
+
+/// The first eight bytes as a number, lowest first; those that are missing are 0.
+#[inline]
+fn first_eight(bytes: &[u8]) -> u64 {
+    if let Some(eight) = bytes.first_chunk() {
+        return u64::from_le_bytes(*eight);
+    }
+    bytes
+        .iter()
+        .rev()
+        .fold(0, |word, &byte| word << 8 | u64::from(byte))
+}
+
+/// The bits from place `64 * i` on, at most 64 of them, as the lowest digits of a word.
+#[inline]
+pub fn word_at(bits: Bits<'_>, i: usize) -> u64 {
+    only_word(bits.part(64 * i, (bits.len() - 64 * i).min(64)))
+}
+
+/// The bits of a window of at most 64, as the lowest digits of a word.
+#[inline]
+pub fn only_word(bits: Bits<'_>) -> u64 {
+    let (first, shift) = (bits.offset() / 8, bits.offset() % 8);
+    let bytes = &bits.bytes()[first..];
+    let mut word = first_eight(bytes) >> shift;
+    if shift + bits.len() > 64 {
+        word |= u64::from(bytes[8]) << (64 - shift);
+    }
+    word & low(bits.len())
+}
+
+/// The bits as words of 64, the last one filled up with false.
+#[inline]
+pub fn words(bits: Bits<'_>) -> impl DoubleEndedIterator<Item = u64> + ExactSizeIterator {
+    (0..bits.len().div_ceil(64)).map(move |i| word_at(bits, i))
+}
+
+/// Makes the `len` bits from bit `offset` on, at most 64, the lowest digits of the word.
+#[inline]
+pub fn write(bytes: &mut [u8], offset: usize, len: usize, word: u64) {
+    let (first, shift) = (offset / 8, offset % 8);
+    let (mask, word) = (low(len), word & low(len));
+    let bytes = &mut bytes[first..];
+    let merged = first_eight(bytes) & !(mask << shift) | word << shift;
+    let eight = merged.to_le_bytes();
+    if let Some(first) = bytes.first_chunk_mut() {
+        *first = eight;
+    } else {
+        bytes.copy_from_slice(&eight[..bytes.len()]);
+    }
+    if shift + len > 64 {
+        let [mask, word] = [mask, word].map(|it| (it >> (64 - shift)).to_le_bytes()[0]);
+        bytes[8] = bytes[8] & !mask | word;
+    }
+}
