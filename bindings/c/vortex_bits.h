@@ -10,7 +10,7 @@
  *
  * libvortex_bits.a has code for x86-64-v2 and for x86-64-v3, and takes the higher one that the
  * processor has. libvortex_bits_x86-64-v2.a and libvortex_bits_x86-64-v3.a have one of them. A
- * processor that doesn't have the level gets an illegal instruction (SIGILL); vb_has_level tells.
+ * processor that doesn't have the level gets an illegal instruction (SIGILL); vortex_bits_has_level tells.
  *
  * Bit i of some bytes is digit i % 8 of byte i / 8, least significant first. A window is the `len`
  * bits from bit `offset` on; no function reads or changes a bit outside of the windows that it
@@ -38,7 +38,7 @@
 #include <stddef.h>
 #include <stdint.h>
 
-#define VORTEX_BITS_VERSION "0.1.0"
+#define VORTEX_BITS_VERSION "0.91.0-r1"
 
 #ifdef __cplusplus
 extern "C" {
@@ -278,10 +278,10 @@ bool vb_try_ranked_select_unset(const uint8_t *bytes, size_t size, size_t offset
         const size_t *table, size_t entries, size_t n, vb_place *place);
 
 /* The processor level of the code that calls run: "x86-64-v2", say. */
-const char *vb_level(void);
+const char *vortex_bits_level(void);
 
 /* Whether the processor has that level. */
-bool vb_has_level(void);
+bool vortex_bits_has_level(void);
 
 #ifdef __cplusplus
 }

@@ -25,7 +25,7 @@ fn main() {
     println!("cargo::rustc-cfg=vortex_bits_native");
     println!("cargo::rustc-link-search=native={}", folder.display());
     for level in LEVELS {
-        println!("cargo::rustc-link-lib=static=vortex_bits_0_1_{level}");
+        println!("cargo::rustc-link-lib=static={}", library(level));
     }
 }
 
@@ -36,8 +36,15 @@ fn folder() -> PathBuf {
     )
 }
 
+/// The version is in the name, and in those of the functions, so that a program may have two.
+fn library(level: &str) -> String {
+    let [major, minor] = ["CARGO_PKG_VERSION_MAJOR", "CARGO_PKG_VERSION_MINOR"]
+        .map(|it| env::var(it).unwrap_or_default());
+    format!("vortex_bits_{major}_{minor}_{level}")
+}
+
 fn archive(folder: &Path, level: &str) -> PathBuf {
-    folder.join(format!("libvortex_bits_0_1_{level}.a"))
+    folder.join(format!("lib{}.a", library(level)))
 }
 
 /// Whether the archives have code for the target, which Miri can't run.

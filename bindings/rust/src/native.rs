@@ -64,12 +64,19 @@ pub type CombineInto = unsafe extern "C" fn(
 );
 
 macro_rules! kernels {
-    (@level $table:ident $prefix:literal
+    (@level $table:ident $level:literal
         $($name:ident($($arg:ident: $kind:ty),*) $(-> $result:ty)?;)*) => {
         pub static $table: Kernels = {
             unsafe extern "C" {
                 $(
-                    #[link_name = concat!($prefix, stringify!($name))]
+                    #[link_name = concat!(
+                        "vb_",
+                        env!("CARGO_PKG_VERSION_MAJOR"),
+                        "_",
+                        env!("CARGO_PKG_VERSION_MINOR"),
+                        $level,
+                        stringify!($name)
+                    )]
                     fn $name($($arg: $kind),*) $(-> $result)?;
                 )*
             }
@@ -82,8 +89,8 @@ macro_rules! kernels {
             $(pub $name: unsafe extern "C" fn($($arg: $kind),*) $(-> $result)?,)*
         }
 
-        kernels!(@level V2 "vb_0_1_v2_" $($name($($arg: $kind),*) $(-> $result)?;)*);
-        kernels!(@level V3 "vb_0_1_v3_" $($name($($arg: $kind),*) $(-> $result)?;)*);
+        kernels!(@level V2 "_v2_" $($name($($arg: $kind),*) $(-> $result)?;)*);
+        kernels!(@level V3 "_v3_" $($name($($arg: $kind),*) $(-> $result)?;)*);
     };
 }
 
