@@ -139,10 +139,9 @@ class ItemPages:
         return f"{item.name} {{ {fields} }}"
 
     def variants(self, page: Page, item: Item) -> None:
-        """The variants of an enumeration, or the public fields of a struct."""
-        members = [it for it in item.items if it.kind == "variant" or it.visibility == "pub"]
+        """The variants of an enumeration."""
         rows = []
-        for it in members:
+        for it in item.of_kind("variant"):
             fields = "".join(
                 f"<li><code>{escape(f.name)}</code>: {self.fragments.first(page, f)}</li>"
                 for f in it.items if f.docs
@@ -152,8 +151,7 @@ class ItemPages:
             rows.append(f'<tr id="{escape(self.urls.anchors[id(it)])}">'
                         + tag("th", name) + tag("td", says) + "</tr>")
         if rows:
-            title = "Variants" if item.kind == "enum" else "Fields"
-            page.add(tag("h2", title), tag("table", "".join(rows), class_="list"))
+            page.add(tag("h2", "Variants"), tag("table", "".join(rows), class_="list"))
 
     def implementations(self, page: Page, item: Item) -> None:
         """The traits that a type has, with what contracts say of each."""

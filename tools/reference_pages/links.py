@@ -7,7 +7,7 @@ from reference_pages.antt_text import Word, words_of
 from reference_pages.library import Library
 from reference_pages.scopes import BUILTINS, LOCAL, PRELUDE, Scope, Scopes, Shape, Target
 
-PASSED = {"now", "old", "new", "entry", "exit"}
+PASSED = {"now", "old", "new", "entry", "exit"}  # of what a reference lends, and of a parameter
 
 
 @dataclass
@@ -22,8 +22,11 @@ class Linked:
 
 @dataclass
 class Binding:
+    """A name that is bound until its brackets close, with the shapes of a value in `result`."""
+
     depth: int
     name: str
+    shapes: list[Shape] | None = None
 
 
 class Linker:
@@ -84,8 +87,8 @@ class Linker:
                 yield linked
                 i += 1
 
-    def bind(self, name: str, depth: int) -> None:
-        self.bound.append(Binding(depth, name))
+    def bind(self, name: str, depth: int, shapes: list[Shape] | None = None) -> None:
+        self.bound.append(Binding(depth, name, shapes))
 
     def next_name(self, i: int) -> str:
         while i < len(self.words) and self.words[i].kind == "space":
@@ -106,11 +109,28 @@ class Linker:
                 return
 
     def lambda_names(self, i: int, depth: int) -> None:
+        shapes = self.shapes_beside(i - 1)
         for word in self.words[i:]:
             if word.kind == "name":
-                self.bind(word.text, depth)
+                self.bind(word.text, depth, shapes)
             elif word.kind == "dot":
                 return
+
+    def shapes_beside(self, i: int) -> list[Shape] | None:
+        """The shapes of what the `λ` at `i` is of, as of `result` in `IfOk result (λ s. ..)`."""
+        words = [it for it in self.words[:i] if it.kind != "space"]
+        if not words or words[-1].text != "(":
+            return None
+        before = words[-2].text if len(words) > 1 else ""
+        if before == "result":
+            return self.scope.shapes.get("result")
+        depth, rest = 1, [it for it in self.words[i + 1 :] if it.kind != "space"]
+        for j, word in enumerate(rest):
+            depth += {"(": 1, ")": -1}.get(word.text, 0)
+            if depth == 0:
+                behind = rest[j + 1].text if j + 1 < len(rest) else ""
+                return self.scope.shapes.get("result") if behind == "result" else None
+        return None
 
     def drawn(self, i: int, depth: int) -> None:
         """Binds the names before `←` in a line of `do`."""
@@ -161,8 +181,9 @@ class Linker:
         found = []
         while self.is_field(i):
             dot, word = self.words[i], self.words[i + 1]
-            at = self.field(at, word, shapes)
-            found += [Linked(dot), Linked(word, at)]
+            is_passed = word.kind == "number" or word.text in PASSED
+            at = at if is_passed else self.field(at, word.text, shapes)
+            found += [Linked(dot), Linked(word, None if is_passed else at)]
             i += 2
         return found
 
@@ -266,8 +287,9 @@ class Linker:
 
     # ---- fields
     def shapes_of(self, name: str) -> list[Shape]:
-        if any(it.name == name for it in self.bound):
-            return self.all_shapes()
+        for it in reversed(self.bound):
+            if it.name == name:
+                return it.shapes or self.all_shapes()
         return self.scope.shapes.get(name) or self.all_shapes()
 
     def all_shapes(self) -> list[Shape]:
@@ -287,10 +309,7 @@ class Linker:
         found = {shape[name] for shape in shapes if name in shape}
         return found.pop() if len(found) == 1 else None
 
-    def field(self, at: Target | None, word: Word, shapes: list[Shape]) -> Target | None:
-        name = word.text
-        if word.kind == "number" or name in PASSED:
-            return at
+    def field(self, at: Target | None, name: str, shapes: list[Shape]) -> Target | None:
         if at is not None and at.kind == "module":
             return self.scopes.import_of(at.path, name)
         if at is not None and at.kind == "generic":
@@ -298,8 +317,9 @@ class Linker:
         if at is not None and at.item is not None and at.item.kind in ("enum", "trait"):
             member = at.item.member(name)
             return self.scopes.of_item(member) if member else Target("field")
-        found = self.unique_field(name, shapes) or self.unique_field(name, self.imported_shapes())
-        return found or Target("field")
+        if not any(name in it for it in shapes):
+            shapes = self.imported_shapes()
+        return self.unique_field(name, shapes) or Target("field")
 
     def of_generic(self, at: Target, name: str) -> Target:
         """What a bound of a generic type says: a ghost of a trait, or what std has."""

@@ -176,7 +176,7 @@ class Scopes:
         return scope
 
     def add_self(self, scope: Scope, block: Item) -> None:
-        """Within an implementation a value of its type is seen as its model, but for the model's."""
+        """In an implementation a value of its type is seen as its model, but in that of the model."""
         trait, kind = impl_parts(" ".join(block.head_text.split()))
         if trait != "Model":
             scope.shapes["Self"] = self.shapes_in(block, kind, None)

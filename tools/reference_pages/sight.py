@@ -4,7 +4,7 @@ from html import escape
 from reference_pages.antt_items import AnttFile, Declaration
 from reference_pages.antt_text import words_of
 from reference_pages.fragments import Fragments
-from reference_pages.html_text import linked_html, tag
+from reference_pages.html_text import linked_html, rust_html, tag
 from reference_pages.links import Linked
 from reference_pages.pages import Page
 from reference_pages.rust_items import Item
@@ -46,25 +46,35 @@ class Sight:
         model = self.library.model_of(item)
         asked = self.asked.get(id(item), [])
         ghosts = self.fragments.ghosts(page, item)
-        if model is None and not asked and not ghosts:
-            self.parts(page, item)
-            return
         page.add(tag("h2", "What a clause sees", id="sees"))
         if model is not None:
             self.model(page, model)
         if asked:
             self.questions(page, asked)
+        if model is None:
+            self.parts(page, item, bool(asked))
         page.add(ghosts)
 
-    def parts(self, page: Page, item: Item) -> None:
-        """A type without a model is seen as it is."""
+    def parts(self, page: Page, item: Item, is_folded: bool) -> None:
+        """A type without a model is seen as it is: by its variants, or by all of its fields."""
+        fields = item.of_kind("field")
         if item.kind == "enum":
-            text = "The variant, with its fields."
-        elif any(it.visibility == "pub" for it in item.of_kind("field")):
-            text = "Its fields."
+            page.add(tag("p", "The variant, with its fields."))
+        elif fields:
+            table = tag("table", "".join(self.part(page, it) for it in fields), class_="list")
+            summary = tag("summary", "Its fields")
+            folded = tag("details", summary + table, class_="glossary")
+            page.add(folded if is_folded else table)
         else:
-            text = "No part of it: what its calls say is all."
-        page.add(tag("h2", "What a clause sees", id="sees"), tag("p", text))
+            page.add(tag("p", "That there is one."))
+
+    def part(self, page: Page, field: Item) -> str:
+        """A field with its type, which a clause sees whoever may read it in code."""
+        kind = field.head_text.partition(":")[2].strip()
+        shown = tag("code", rust_html(kind, self.fragments.code_link(page, field)))
+        says = self.fragments.docs(page, field) if field.docs else ""
+        row = tag("th", tag("code", escape(field.name))) + tag("td", shown + says)
+        return f'<tr id="{escape(self.urls.anchors[id(field)])}">{row}</tr>'
 
     def model(self, page: Page, model: Item) -> None:
         """The value that stands for it in contracts, and what always holds of it."""

@@ -11,14 +11,6 @@ def source_page(path: str) -> str:
     return f"source/{path}.html"
 
 
-def has_entry(item: Item, owner: Item) -> bool:
-    """Whether the page of a type has an entry for one of its members."""
-    if item.kind in ("variant", "ghost") or owner.kind == "trait" or item.visibility == "pub":
-        return True
-    is_of_trait = owner.kind == "impl" and bool(impl_parts(owner.head_text)[0])
-    return is_of_trait and item.kind == "fn" and bool(item.docs or item.clauses)
-
-
 class Urls:
     """The address of an item or a declaration, from the top of the pages."""
 
@@ -35,10 +27,11 @@ class Urls:
         blocks = [impl for impl, _ in self.library.impls_of(item)]
         for block in [item, *blocks]:
             for member in block.items:
-                name, n = member.name, 1
+                first = f"{member.kind}." if member.kind in ("field", "ghost") else ""
+                name, n = first + member.name, 1
                 while name in taken:
                     n += 1
-                    name = f"{member.name}-{n}"
+                    name = f"{first}{member.name}-{n}"
                 taken.add(name)
                 self.anchors[id(member)] = name
 
@@ -47,11 +40,20 @@ class Urls:
         if self.library.is_public(item):
             return f"{item.crate}/{item.name}.html"
         owner = item.owner
-        if id(item) in self.anchors and owner is not None and has_entry(item, owner):
+        if id(item) in self.anchors and owner is not None and self.has_entry(item, owner):
             page = self.type_of(owner)
             if page is not None and self.library.is_public(page):
                 return f"{page.crate}/{page.name}.html#{quote(self.anchors[id(item)])}"
         return f"{source_page(item.source.path)}#L{item.line}"
+
+    def has_entry(self, item: Item, owner: Item) -> bool:
+        """Whether the page of a type has an entry for one of its members."""
+        if item.kind in ("variant", "ghost") or owner.kind == "trait" or item.visibility == "pub":
+            return True
+        if item.kind == "field":
+            return owner.kind == "struct" and self.library.model_of(owner) is None
+        is_of_trait = owner.kind == "impl" and bool(impl_parts(owner.head_text)[0])
+        return is_of_trait and item.kind == "fn" and bool(item.docs or item.clauses)
 
     def type_of(self, block: Item) -> Item | None:
         if block.kind != "impl":

@@ -11,7 +11,7 @@ FILES = {
 mod counter;
 mod step;
 
-pub use counter::{Counter, Place, fresh};
+pub use counter::{Counter, Pair, Place, fresh, of_pair};
 pub use step::Step;
 """,
     "crates/low/src/counter.rt": """//! Counters.
@@ -65,6 +65,18 @@ pub enum Place {
     At(usize),
     /// Nowhere.
     Nowhere,
+}
+
+/// Two counts.
+pub struct Pair {
+    count: usize,
+}
+
+/// A counter of one count of a pair.
+pub fn of_pair(pair: &Pair) -> Option<Counter>
+    ensures counted { IfSome result (λ c. c.count ≡ pair.now.count) }
+{
+    None
 }
 """,
     "crates/low/src/step.rt": """//! Steps.

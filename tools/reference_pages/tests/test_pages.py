@@ -57,6 +57,12 @@ class Pages(unittest.TestCase):
         self.assertIn('href="specs/Seen.html#Seen.count"', html)
         self.assertIn("A clause sees it as Seen: how many were counted.", text_of(html))
 
+    def test_a_value_in_the_result_is_seen_as_the_result_is(self):
+        html = self.html("low/of_pair.html")
+        self.assertIn('href="specs/Seen.html#Seen.count"', html)
+        self.assertIn('href="Pair.html#field.count"', html)
+        self.assertIn('<tr id="field.count">', self.html("low/Pair.html"))
+
     def test_a_contract_names_its_clauses(self):
         html = self.html("low/fresh.html")
         self.assertIn('<span class="kind">ensures</span><span class="name">zero</span>', html)
@@ -130,7 +136,7 @@ class Errors(unittest.TestCase):
         self.assertEqual(found, ["crates/low/specs/Seen.antt:12: `IsOne` has no sentence above it"])
 
     def test_an_export_that_is_not_there(self):
-        found = errors(("crates/low/src/lib.rt", "Place, fresh}", "Place, fresh, stale}"))
+        found = errors(("crates/low/src/lib.rt", "fresh, of_pair}", "fresh, of_pair, stale}"))
         self.assertEqual(found, ["crates/low/src/lib.rt: `stale` of a `pub use` has no entry"])
 
     def test_an_item_that_is_left_out(self):
