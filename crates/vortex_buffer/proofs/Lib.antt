@@ -1,3 +1,4 @@
+pub mod CountedItems
 pub mod Exponents
 pub use Rattle.vb_bits.proofs.BitsLemmas
 pub use Rattle.vb_bits.proofs.KeptLemmas

@@ -1,0 +1,79 @@
+//! Answers known from outside, with ample memory and with each request refused in turn.
+use crate::{count_metered, greater, halved, rest_halved, select_narrow, through_bytes};
+use std::alloc::Global;
+use std::process::Abort;
+use std::test::Fail;
+use vb_testing::{Refusing, answers_refusal, each_refused};
+use vortex_buffer::{Buffer, BufferError, Result};
+
+type Heap<'a> = &'a Refusing<Global>;
+
+/// One chunk of 64 bytes and one byte behind it.
+#[test]
+fn what_is_read_is_metered(rt: HostRuntime) {
+    let ones = [0xFFu8; 65];
+    assert_eq!(rt; count_metered(&ones, 0, 513), (513, 65));
+    assert_eq!(rt; count_metered(&ones, 0, 520), (520, 65));
+    assert_eq!(rt; count_metered(&ones, 7, 1), (1, 1));
+    assert_eq!(rt; count_metered(&[0b0111_0110], 0, 7), (5, 1));
+    assert_eq!(rt; count_metered(&[], 0, 0), (0, 0));
+}
+
+#[test]
+fn a_directory_of_narrow_counts_answers(rt: HostRuntime) {
+    let ones = [0xFFu8; 128];
+    assert_eq!(rt; select_narrow(&ones, 1024, &[0, 512], 0), Some(0));
+    assert_eq!(rt; select_narrow(&ones, 1024, &[0, 512], 700), Some(700));
+    assert_eq!(rt; select_narrow(&ones, 1024, &[0, 512], 1024), None);
+    assert_eq!(rt; select_narrow(&[0b0001_0100], 8, &[0], 1), Some(4));
+    assert_eq!(rt; select_narrow(&[], 0, &[], 0), None);
+}
+
+/// A call that makes a column.
+enum Call {
+    Halved,
+    RestHalved(usize),
+    Greater,
+    ThroughBytes,
+}
+
+impl Call {
+    fn make<'a>(&self, heap: Heap<'a>) -> Result<Buffer<u32, Heap<'a>>> {
+        let values = [7, 0, u32::MAX];
+        match self {
+            Call::Halved => halved(heap, &values),
+            Call::RestHalved(n) => rest_halved(heap, &values, *n),
+            Call::Greater => greater(heap, &values, &[8, 0, 1]),
+            Call::ThroughBytes => through_bytes(heap, &values),
+        }
+    }
+}
+
+/// The calls, and what they make.
+const ROWS: &[(Call, &[u32])] = &[
+    (Call::Halved, &[3, 0, 2_147_483_647]),
+    (Call::RestHalved(0), &[3, 0, 2_147_483_647]),
+    (Call::RestHalved(2), &[2_147_483_647]),
+    (Call::Greater, &[8, 0, u32::MAX]),
+    (Call::ThroughBytes, &[7, 0, u32::MAX]),
+];
+
+fn is_made(rt: &impl Abort, made: Result<Buffer<u32, Heap<'_>>>, wanted: &[u32]) -> Result<()> {
+    let column = made?;
+    assert_eq!(rt; column.as_slice(), wanted);
+    Ok(())
+}
+
+#[test]
+fn columns_are_made_or_refused(rt: HostRuntime) -> Result<(), Fail> {
+    for (call, wanted) in ROWS {
+        let requests = each_refused(rt.alloc(), |heap| {
+            let answer = is_made(&rt, call.make(heap), wanted);
+            answers_refusal(heap, answer, BufferError::OutOfMemory)
+        })?;
+        assert!(rt; requests >= Some(2));
+    }
+    let none = rest_halved(rt.alloc(), &[7, 0, 1], 4)?;
+    assert!(rt; none.is_empty());
+    Ok(())
+}
