@@ -4,9 +4,16 @@
 
 #[cfg(test)]
 mod compared;
+#[cfg(test)]
+mod compares;
 pub mod counted;
+pub mod feeds;
+#[cfg(test)]
+mod heaps;
 #[cfg(test)]
 mod made;
 pub mod reached;
+#[cfg(test)]
+mod readme;
 #[cfg(test)]
 mod rows;

@@ -83,7 +83,15 @@ fn text_clone<A: Allocator + Clone>(text: BufferString<A>) -> Result<ByteBuffer<
     Ok(text.clone()?.into_inner())
 }
 
-// The copy, after which seven bytes are left; refused, it leaves all twelve.
+// What is left of "hello, world" behind a copy of its first five bytes; refused, that leaves all.
+fn left<T>(copy: &Result<T, BufferError>) -> &'static [u8] {
+    if copy.is_ok() {
+        b", world"
+    } else {
+        b"hello, world"
+    }
+}
+
 fn copied<A: Allocator + Clone, B: AlignedBuf + Drop>(
     rt: &impl Abort,
     alloc: A,
@@ -94,14 +102,14 @@ fn copied<A: Allocator + Clone, B: AlignedBuf + Drop>(
         return Err(BufferError::NotAligned);
     }
     let copy = bytes.copy_to_aligned(alloc, 5, sixteen);
-    equal(rt, bytes.remaining(), if copy.is_ok() { 7 } else { 12 });
+    assert_eq!(rt; bytes.chunk(), left(&copy));
     copy
 }
 
 fn fixed_copied<'a>(rt: &impl Abort, alloc: Heap<'a>) -> Result<ByteBuffer<Heap<'a>>, BufferError> {
     let mut bytes: &[u8] = b"hello, world";
     let copy = copy_to_const_aligned::<1024, _, _>(&mut bytes, alloc, 5);
-    equal(rt, bytes.remaining(), if copy.is_ok() { 7 } else { 12 });
+    assert_eq!(rt; bytes.chunk(), left(&copy));
     Ok(copy?.into_inner())
 }
 

@@ -4,7 +4,7 @@ pub use vortex_buffer::{
     AlignedBuf, Alignment, BitBuffer, BitBufferMeta, BitBufferMut, BitBufferMutView, BitBufferView,
     BitChunkIterator, BitChunks, BitIndex, BitIndexIterator, BitIterator, BitOp, BitSliceIterator,
     BitStore, Buffer, BufferError, BufferIterator, BufferMut, BufferString, ByteBuffer,
-    ByteBufferMut, ConstBuffer, ConstByteBuffer, Element, ExtendError, Glance, Iter,
+    ByteBufferMut, ConstBuffer, ConstByteBuffer, Element, ExtendError, GhostCount, Glance, Iter,
     PaddedChunkIterator, Plain, PlainTable, Probe, Ranked, Result, Tally, TallyTable, ToBitBuffer,
     TrustedLen, TrustedLenAdapter, TryIntoMut, UnalignedBitChunk, UnalignedBitChunkIterator,
     bit_select, bit_select_by, bit_select_unset, bit_select_unset_by, collect_bool_bytes,

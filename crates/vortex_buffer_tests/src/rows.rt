@@ -1,9 +1,12 @@
 //! Worked rows: what calls answer, and when they are refused.
 use crate::compared::{equal, refusal};
+use std::alloc::Global;
+use std::process::Abort;
 use std::test::Fail;
 use vb_testing::Refusing;
 use vortex_buffer::{
     AlignedBuf, Alignment, Buffer, BufferError, BufferString, ByteBuffer, ConstBuffer,
+    copy_to_const_aligned,
 };
 
 #[test]
@@ -96,5 +99,37 @@ fn bytes_are_read_from_the_front(rt: HostRuntime) -> Result<(), Fail> {
         (copy.alignment().as_usize(), four.remaining()),
         (16, 1),
     );
+    Ok(())
+}
+
+/// What is left of bytes of alignment 4: these, which report 4 in a storage declared with 256, and
+/// whether they are aligned to 8 and to 16.
+fn is_left(rt: &impl Abort, rest: &ByteBuffer<Global>, bytes: &[u8], aligned: (bool, bool)) {
+    assert_eq!(rt; rest.as_slice(), bytes);
+    let alignments = (rest.alignment().as_usize(), rest.declared().as_usize());
+    equal(rt, alignments, (4, 256));
+    let (eight, sixteen) = (Alignment::new(8), Alignment::new(16));
+    equal(
+        rt,
+        (rest.is_aligned(eight), rest.is_aligned(sixteen)),
+        aligned,
+    );
+}
+
+/// A copy that gives the rest another alignment, or another storage, fails here.
+#[test]
+fn copies_leave_the_alignments_of_the_rest(rt: HostRuntime) -> Result<(), Fail> {
+    let bytes = [0u8, 1, 2, 3, 4, 5, 6, 7, 8, 9, 10, 11, 12, 13, 14, 15];
+    let mut rest = Buffer::copy_from_aligned(rt.alloc(), &bytes, Alignment::new(4))?;
+    is_left(&rt, &rest, &bytes, (true, true));
+    assert!(rt; rest.can_advance(4));
+    let copy = rest.copy_to_aligned(rt.alloc(), 4, Alignment::new(16))?;
+    assert_eq!(rt; copy.as_slice(), [0, 1, 2, 3].as_slice());
+    is_left(&rt, &rest, &bytes[4..], (false, false));
+    assert!(rt; rest.can_advance(4));
+    let fixed = copy_to_const_aligned::<512, _, _>(&mut rest, rt.alloc(), 4)?;
+    assert_eq!(rt; fixed.as_slice(), [4, 5, 6, 7].as_slice());
+    is_left(&rt, &rest, &bytes[8..], (true, false));
+    drop((copy, fixed, rest));
     Ok(())
 }
