@@ -155,7 +155,7 @@ class ItemPages:
 
     def implementations(self, page: Page, item: Item) -> None:
         """The traits that a type has, with what contracts say of each."""
-        found = [it for it in self.library.impls_of(item) if it[1] and it[1] != "Model"]
+        found = self.traits(item)
         derived = [a for a in item.attributes if a.startswith("#[derive")]
         if found or derived:
             page.add(tag("h2", "Traits", id="traits"))
@@ -165,10 +165,15 @@ class ItemPages:
         for impl, _ in found:
             self.implementation(page, impl)
 
+    def traits(self, item: Item) -> list[tuple[Item, str]]:
+        """The implementations of traits for a type, but for that of its model."""
+        return [it for it in self.library.impls_of(item) if it[1] and it[1] != "Model"]
+
     def implementation(self, page: Page, impl: Item) -> None:
         head = rust_html(impl.head_text, self.fragments.code_link(page, impl))
         where = self.fragments.source_link(page, impl.source.path, impl.line)
-        page.add('<section class="impl">', tag("h3", f"<code>{head}</code> {where}"))
+        page.add(f'<section class="impl" id="{escape(self.anchor(impl))}">')
+        page.add(tag("h3", f"<code>{head}</code> {where}"))
         page.add(tag("div", self.fragments.docs(page, impl), class_="docs") if impl.docs else "")
         page.add(self.fragments.ghosts(page, impl))
         for it in impl.of_kind("fn"):
@@ -212,5 +217,12 @@ class ItemPages:
         else:
             names = [(it.name, self.urls.of(it)) for it in self.library.own_items(
                 self.library.crates[item.crate])]
+        self.nav_list(page, names)
+        traits = self.traits(item)
+        if traits:
+            page.nav.append(tag("h2", "Traits"))
+            self.nav_list(page, [(name, f"{page.url}#{self.anchor(it)}") for it, name in traits])
+
+    def nav_list(self, page: Page, names: list[tuple[str, str]]) -> None:
         listed = "".join(tag("li", page.link(url, escape(name))) for name, url in names)
         page.nav.append(tag("ul", listed))

@@ -2,6 +2,7 @@
 (() => {
   "use strict";
   const MOST = 40;
+  const LATER = { variant: 2, field: 12, lemma: 8 };  // of equal names these come after calls
   const query = document.getElementById("query");
   const found = document.getElementById("found");
   const root = document.body.dataset.root;
@@ -9,8 +10,8 @@
 
   // How well a name answers what was typed; 0 where it doesn't.
   function rank(name, typed) {
-    const low = name.toLowerCase();
-    const last = low.slice(low.lastIndexOf(":") + 1);
+    const low = name.toLowerCase().split("<")[0];
+    const last = low.slice(Math.max(low.lastIndexOf(":"), low.lastIndexOf(".")) + 1).trim();
     if (name === typed) return 100;
     if (low === typed.toLowerCase() || last === typed.toLowerCase()) return 90;
     const want = typed.toLowerCase();
@@ -33,7 +34,7 @@
         if (!good) { sum = 0; break; }
         sum += good;
       }
-      if (sum) rows.push([sum, row]);
+      if (sum) rows.push([sum - (LATER[row[1]] ?? 0), row]);
     }
     rows.sort((a, b) => b[0] - a[0] || a[1][0].localeCompare(b[1][0]));
     return rows.slice(0, MOST).map((it) => it[1]);

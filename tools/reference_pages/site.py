@@ -14,6 +14,7 @@ from reference_pages.html_text import rust_lines, tag
 from reference_pages.item_pages import ItemPages, display, public_members
 from reference_pages.library import Library, sentence
 from reference_pages.pages import HERE, Page
+from reference_pages.rust_heads import impl_parts
 from reference_pages.rust_items import Item
 from reference_pages.rust_text import Source, SourceError
 from reference_pages.urls import Urls, source_page
@@ -159,6 +160,7 @@ class Site:
                 rows += [self.name_row(it, f"{item.name}::{it.name}") for it in members]
             variants = item.of_kind("variant")
             rows += [self.name_row(it, f"{item.name}::{it.name}") for it in variants]
+            rows += self.trait_rows(item)
         for file in self.antt_files():
             crate, folder = file.source.path.split("/")[1:3]
             kind = "word" if folder == "specs" else "lemma"
@@ -167,11 +169,34 @@ class Site:
                 for it in file.declarations
                 if it.is_public and it.kind != "ruleset"
             ]
+            rows += self.field_rows(file)
         return rows
 
+    def trait_rows(self, item: Item) -> list[list[str]]:
+        """The traits of a type, as `&BitBuffer: Not`."""
+        rows = []
+        for it, trait in self.item_pages.traits(item):
+            lent = "&" if impl_parts(it.head_text)[1].startswith("&") else ""
+            url = f"{self.urls.of(item)}#{self.urls.anchors[id(it)]}"
+            rows.append([f"{lent}{item.name}: {trait}", "trait", url, self.said(it), item.crate])
+        return rows
+
+    def field_rows(self, file: AnttFile) -> list[list[str]]:
+        """The fields of the records of a file, as `SharedBuffer.list`."""
+        crate = file.source.path.split("/")[1]
+        return [
+            [f"{it.name}.{name}", "field", self.urls.declaration(it, name), it.sentence, crate]
+            for it in file.declarations
+            if it.is_public and it.kind == "record"
+            for name in it.fields
+        ]
+
     def name_row(self, item: Item, name: str) -> list[str]:
-        said = re.sub(r"\[(`[^`]+`)\](\([^)]*\))?", r"\1", sentence(item.docs)).replace("`", "")
-        return [name, display(item), self.urls.of(item), said, item.crate]
+        return [name, display(item), self.urls.of(item), self.said(item), item.crate]
+
+    def said(self, item: Item) -> str:
+        """The first sentence of a docstring as plain text."""
+        return re.sub(r"\[(`[^`]+`)\](\([^)]*\))?", r"\1", sentence(item.docs)).replace("`", "")
 
     # ---- files
     def write(self, folder: Path) -> None:

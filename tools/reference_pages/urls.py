@@ -3,7 +3,7 @@ from urllib.parse import quote
 
 from reference_pages.antt_items import AnttFile, Declaration
 from reference_pages.library import Library
-from reference_pages.rust_heads import impl_parts
+from reference_pages.rust_heads import base_name, impl_parts
 from reference_pages.rust_items import Item
 
 
@@ -24,16 +24,23 @@ class Urls:
     def number_members(self, item: Item) -> None:
         """Gives each member of a type an anchor of its own: two of one name get numbers."""
         taken: set[str] = set()
-        blocks = [impl for impl, _ in self.library.impls_of(item)]
-        for block in [item, *blocks]:
+        impls = self.library.impls_of(item)
+        for block in [item, *(impl for impl, _ in impls)]:
             for member in block.items:
                 first = f"{member.kind}." if member.kind in ("field", "ghost") else ""
-                name, n = first + member.name, 1
-                while name in taken:
-                    n += 1
-                    name = f"{first}{member.name}-{n}"
-                taken.add(name)
-                self.anchors[id(member)] = name
+                self.take(member, first + member.name, taken)
+        for impl, trait in impls:
+            if trait:
+                self.take(impl, f"impl.{base_name(trait)}", taken)
+
+    def take(self, item: Item, name: str, taken: set[str]) -> None:
+        """An anchor that is free yet: the name, or with a number."""
+        n, free = 1, name
+        while free in taken:
+            n += 1
+            free = f"{name}-{n}"
+        taken.add(free)
+        self.anchors[id(item)] = free
 
     def of(self, item: Item) -> str:
         """The page of a public item, the anchor of its member, or the line of any other."""
