@@ -22,7 +22,8 @@ pub trait Sink {
         ensures fault { OnErr result (faults self.new ≡ faults self.old + 1) };
 }
 
-/// The [`Sink`] that writes to a writer of `std`. Each error of the writer is a fault.
+/// The [`Sink`] that writes to a writer of `std`. Each error of the writer is a fault, and so is a
+/// write that takes none of the bytes: no write is tried again, also not after `Interrupted`.
 #[derive(Drop)]
 pub struct ToWrite<T: Write> {
     inner: T,
@@ -66,12 +67,26 @@ impl<T: Write> Sink for ToWrite<T> {
     ghost faults = { λ s. s.faults.count };
 
     fn write(&mut self, bytes: &[u8]) -> Result<(), Fault> {
-        match self.inner.write_all(bytes) {
-            Ok(()) => Ok(()),
-            Err(_) => {
-                self.faults.add_one();
-                Err(Fault)
-            }
+        let written = write_all(&mut self.inner, bytes);
+        if written.is_err() {
+            self.faults.add_one();
+        }
+        written
+    }
+}
+
+/// Writes all bytes, in as many writes as the writer takes for them, up to its first error.
+///
+/// This is no `write_all` of `std`, which tries again after `Interrupted`.
+fn write_all<W: Write>(writer: &mut W, bytes: &[u8]) -> Result<(), Fault>
+    ensures { OnOk result (Appends (W.contents writer.old) (W.contents writer.new) bytes.now) }
+{
+    let mut start = 0;
+    while start < bytes.len() {
+        match writer.write(&bytes[start..]) {
+            Ok(0) | Err(_) => return Err(Fault),
+            Ok(count) => start += count,
         }
     }
+    Ok(())
 }

@@ -120,6 +120,51 @@ fn a_failed_write_ends_the_session(rt: HostRuntime) {
     write_fails(&rt, rt.alloc(), "\n", Ok(()));
 }
 
+/// Answers `Interrupted` to its first call, then ends as a reader, and takes all as a writer. Where
+/// it were called again after that error, no error would be seen.
+#[derive(Drop)]
+struct Interrupted {
+    calls: usize,
+}
+
+impl Interrupted {
+    fn call(&mut self, count: usize) -> io::Result<usize> {
+        if self.calls > 0 {
+            return Ok(count);
+        }
+        self.calls = 1;
+        Err(io::Error::from(io::ErrorKind::Interrupted))
+    }
+}
+
+impl Read for Interrupted {
+    fn read(&mut self, _buf: &mut [u8]) -> io::Result<usize> {
+        self.call(0)
+    }
+}
+
+impl Write for Interrupted {
+    fn write(&mut self, buf: &[u8]) -> io::Result<usize> {
+        self.call(buf.len())
+    }
+
+    fn flush(&mut self) -> io::Result<()> {
+        Ok(())
+    }
+}
+
+#[test]
+fn each_error_of_a_stream_is_a_fault(rt: HostRuntime) {
+    let mut lines = FromRead::new(b"len 0\n".as_slice());
+    let mut sink = ToWrite::new(Interrupted { calls: 0 });
+    let ended = drive(rt.alloc(), &mut lines, &mut sink);
+    equal(&rt, ended, Err(DriveError::Write));
+    let mut source = FromRead::new(Interrupted { calls: 0 });
+    let mut sink = ToWrite::new(Vec::new(rt.alloc()));
+    let ended = drive(rt.alloc(), &mut source, &mut sink);
+    equal(&rt, ended, Err(DriveError::Read));
+}
+
 /// What was written so far: how many bytes, in how many writes, and the widest of these.
 #[derive(Default, Drop)]
 struct Written {
