@@ -5,19 +5,20 @@ use std::alloc::Global;
 use vb_script::{DriveError, FromRead, ToWrite, drive};
 use vb_testing::Refusing;
 
-/// Lines whose commands take no memory, and what they are answered.
-const LINES: &[u8] = b"len 0\ncount 1\ndrop 2\n";
+/// Lines of which the first takes memory for its bytes too, and what they are answered.
+const LINES: &[u8] = b"import 0 0 8 14\ncount 0\nlen 1\n";
 
-const ANSWERED: &str = "refused BadSlot\nrefused BadSlot\nrefused BadSlot\n";
+const ANSWERED: &str = "ok\n2\nrefused BadSlot\n";
 
-/// The same lines, then one whose bytes take memory, and one more.
-const IMPORT: &[u8] = b"len 0\ncount 1\ndrop 2\nimport 0 0 8 14\ncount 0\n";
+/// The same lines, then one whose bytes take memory, and one more. The session may not end at the
+/// first `import`, whose memory is there.
+const IMPORT: &[u8] = b"import 0 0 8 14\ncount 0\nlen 1\nimport 1 0 8 14\ncount 0\n";
 
 /// The same lines, then one whose bytes can't be read, and one more.
-const NO_DIGIT: &[u8] = b"len 0\ncount 1\ndrop 2\nimport 0 0 8 1g\ncount 0\n";
+const NO_DIGIT: &[u8] = b"import 0 0 8 14\ncount 0\nlen 1\nimport 1 0 8 1g\ncount 0\n";
 
 /// The same lines, then one with a word too many, and one more.
-const LONG: &[u8] = b"len 0\ncount 1\ndrop 2\nimport 0 0 8 14 14\ncount 0\n";
+const LONG: &[u8] = b"import 0 0 8 14\ncount 0\nlen 1\nimport 1 0 8 14 14\ncount 0\n";
 
 /// How a session over these lines ends, and what it writes.
 fn session(
@@ -31,7 +32,7 @@ fn session(
     (ended, sink.into_inner())
 }
 
-/// How many requests a session makes for lines that take no memory.
+/// How many requests a session makes for the first lines.
 fn asked(global: Global) -> u64 {
     let heap = Refusing::new(global, 0);
     let _ = session(global, &heap, LINES);
