@@ -35,14 +35,28 @@ fn commands<A: Allocator + Clone>(
     Ok(commands)
 }
 
-/// Runs the commands on an empty machine, and writes the answers. A run that is refused as a whole
-/// leaves it empty, and so the same run after it answers all: then no answer tells of the refusal.
+/// The lines before each session: slots that it fills last, or not at all, hold a frozen set and an
+/// open one.
+const HELD: &str = "full 14 1 70\nfreeze 14\nimport 15 3 9 f8ff\n";
+
+/// Writes answers, one a line.
+fn write_lines<A: Allocator>(text: &mut String, answers: &[Answer<A>]) -> Result<(), Fail> {
+    for answer in answers {
+        writeln!(text, "{answer}")?;
+    }
+    Ok(())
+}
+
+/// Runs the first commands on an empty machine, then the others, and writes the answers. Where the
+/// run of the others is refused as a whole, the machine holds what it held, and so the same run
+/// after it answers all: then no answer tells of the refusal.
 fn write_answers<A: Allocator + Clone, M: Machine<A> + Drop>(
     text: &mut String,
     mut machine: M,
-    (first, second): (A, A),
-    commands: &[Command<A>],
+    (ample, first, second): (A, A, A),
+    (held, commands): (&[Command<A>], &[Command<A>]),
 ) -> Result<bool, Fail> {
+    write_lines(text, &machine.run(ample, held)?)?;
     let answers = machine.run(first, commands);
     let is_refused = answers.is_err();
     let answers = if is_refused {
@@ -50,38 +64,40 @@ fn write_answers<A: Allocator + Clone, M: Machine<A> + Drop>(
     } else {
         answers?
     };
-    for answer in &answers {
-        writeln!(text, "{answer}")?;
-    }
+    write_lines(text, &answers)?;
     Ok(is_refused)
 }
 
-/// A run of a session is that of the plain machine.
+/// A run of a session over slots of which two are held is that of the plain machine. The whole
+/// lines are those before the session and its own.
 fn run_is_plain<'a>(
     rt: &impl Abort,
     global: Global,
     (ample, heap): (&'a Refusing<Global>, &'a Refusing<Global>),
-    lines: &str,
+    (whole, lines): (&str, &str),
 ) -> Result<(), Fail> {
+    let held = commands(rt, global, Handle { inner: ample }, HELD)?;
     let commands = commands(rt, global, Handle { inner: ample }, lines)?;
-    let allocs = (Handle { inner: heap }, Handle { inner: heap });
+    let (ample, first) = (Handle { inner: ample }, Handle { inner: heap });
+    let allocs = (ample, first, Handle { inner: heap });
     let mut text = String::new(global);
-    let is_refused = write_answers(&mut text, Pool::new(), allocs, &commands)?;
+    let is_refused = write_answers(&mut text, Pool::new(), allocs, (&held, &commands))?;
     equal(rt, is_refused && !heap.has_refused(), false);
     let may_refuse = heap.has_refused() && !is_refused;
-    is_plain(rt, global, lines, may_refuse, (Ok(()), text.as_str()))
+    is_plain(rt, global, whole, may_refuse, (Ok(()), text.as_str()))
 }
 
 #[test]
 fn runs_are_plain_whatever_is_refused(rt: HostRuntime) -> Result<(), Fail> {
     let ample = Refusing::new(rt.alloc(), 0);
     for (lines, least) in SESSIONS {
-        let text = format!(in rt.alloc(); "{lines}{LOOKS}")?;
-        let lines = text.as_str();
+        let whole = format!(in rt.alloc(); "{HELD}{lines}{LOOKS}")?;
+        let lines = format!(in rt.alloc(); "{lines}{LOOKS}")?;
+        let texts = (whole.as_str(), lines.as_str());
         let requests = each_refused(rt.alloc(), |heap| {
-            run_is_plain(&rt, rt.alloc(), (&ample, heap), lines)
+            run_is_plain(&rt, rt.alloc(), (&ample, heap), texts)
         })?;
-        assert!(rt; requests >= Some(*least), "{requests:?}: {lines}");
+        assert!(rt; requests >= Some(*least), "{requests:?}: {whole}");
     }
     Ok(())
 }
