@@ -1,0 +1,1 @@
+"""The checks of documents, and the picture of the crates."""

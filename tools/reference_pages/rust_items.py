@@ -348,4 +348,7 @@ class Parser:
 
 
 def parse(source: Source) -> File:
-    return Parser(source).file()
+    try:
+        return Parser(source).file()
+    except IndexError:
+        raise SourceError(f"{source.path}: ends within brackets") from None

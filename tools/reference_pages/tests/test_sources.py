@@ -52,6 +52,10 @@ class Items(unittest.TestCase):
         with self.assertRaisesRegex(SourceError, "a.rt:2: expected an item"):
             items_of("fn f() {}\nbanana\n")
 
+    def test_brackets_that_do_not_close(self):
+        with self.assertRaisesRegex(SourceError, "a.rt: ends within brackets"):
+            items_of("fn f() { (\n")
+
     def test_heads(self):
         self.assertEqual(impl_parts("impl<T: A<u8>> From<X<T>> for Y<T>"), ("From<X<T>>", "Y<T>"))
         self.assertEqual(impl_parts("impl<'a> Y<&'a mut [u8]>"), ("", "Y<&'a mut [u8]>"))
