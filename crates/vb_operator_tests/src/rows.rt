@@ -12,7 +12,9 @@ fn offsets_differ(rt: HostRuntime) -> Result<(), Fail> {
     let left = window(ByteBuffer::full(rt.alloc(), 0xF8, 1)?, 3, 5).expect(&rt, "a set");
     let right = window(ByteBuffer::full(rt.alloc(), 0x1F, 1)?, 0, 5).expect(&rt, "a set");
     equal(&rt, left == right, true);
-    shows(&rt, left & right, &[true; 5])?;
+    let both = (left & right).expect(&rt, "a set");
+    equal(&rt, both.true_count(), 5);
+    shows(&rt, Ok(both), &[true; 5])?;
     Ok(())
 }
 
