@@ -1,5 +1,5 @@
 //! Tests of shared sets of bits: calls whose requests for memory are refused, what calls ask of the
-//! allocator, and walks over a set past words. Those of their operators are `vb_operator_tests`.
+//! allocator, and walks over sets. Those of their operators are `vb_operator_tests`.
 #![tactic(auto)]
 
 #[cfg(test)]

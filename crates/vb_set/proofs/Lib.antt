@@ -1,1 +1,1 @@
-pub mod PlacesLemmas
+pub mod IndicesLemmas

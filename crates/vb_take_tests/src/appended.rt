@@ -4,7 +4,7 @@ use crate::made::bits;
 use std::alloc::Allocator;
 use std::process::Abort;
 use std::test::Fail;
-use vb_set::{BitBuffer, BitBufferMut, BufferError};
+use vb_set::{BitBuffer, BitBufferMut, BufferError, ByteBufferMut};
 use vb_testing::{Handle, Refusing};
 
 #[test]
@@ -27,22 +27,30 @@ fn stale_bits_are_written_over(rt: HostRuntime) -> Result<(), Fail> {
     Ok(())
 }
 
-/// A set whose room is full of false bits.
+/// A set behind eleven bits, whose room is full of false bits, as all its bytes are.
 fn full_of_false<A: Allocator + Clone>(
     rt: &impl Abort,
     alloc: A,
 ) -> Result<BitBufferMut<A>, BufferError> {
-    let mut set = BitBufferMut::new_unset(alloc, 8)?;
+    let bytes = ByteBufferMut::full(alloc, 0, 3)?;
+    assert!(rt; bytes.len() == 3);
+    let mut set = BitBufferMut::from_buffer(bytes, 11, 9);
     set.append_n(false, set.capacity() - set.len())
         .expect(rt, "room");
     Ok(set)
 }
 
+/// Whether no bit of the bytes is true.
+fn is_clear(bytes: &[u8]) -> bool {
+    bytes.iter().all(|byte| *byte == 0)
+}
+
 /// Adds a set of a hundred true bits to one whose room is full of false ones. A refusal leaves the
-/// set and its room.
+/// set, its bytes and its room.
 fn add_to_full<A: Allocator + Clone>(rt: &impl Abort, alloc: A) -> Result<(), BufferError> {
     let mut set = full_of_false(rt, alloc.clone()?)?;
     let (len, room) = (set.len(), set.capacity());
+    let bytes = set.as_slice().len();
     let added = match BitBuffer::new_set(alloc, 100) {
         Ok(added) => added,
         Err(error) => {
@@ -57,7 +65,14 @@ fn add_to_full<A: Allocator + Clone>(rt: &impl Abort, alloc: A) -> Result<(), Bu
         (set.len(), set.as_view().true_count()),
         (len.saturating_add(longer), longer),
     );
-    equal(rt, answer.is_ok() || set.capacity() == room, true);
+    if answer.is_err() {
+        equal(rt, (set.offset(), set.capacity()), (11, room));
+        equal(
+            rt,
+            (set.as_slice().len(), is_clear(set.as_slice())),
+            (bytes, true),
+        );
+    }
     drop((set, added));
     answer
 }

@@ -42,16 +42,19 @@ fn places_make_sets_or_are_refused(rt: HostRuntime) {
     }
 }
 
-/// What a call that is given the numbers 2, 3, 4 and 5 as places below 4 answers, and how many of
-/// them it leaves to the iterator.
-fn numbers_left<A: Allocator + Clone>(alloc: A, is_shared: bool) -> (Option<BufferError>, usize) {
+/// What a call that is given the numbers 2, 3, 4 and 5 as places below 4 answers, and the next one
+/// that it leaves to the iterator.
+fn number_left<A: Allocator + Clone>(
+    alloc: A,
+    is_shared: bool,
+) -> (Option<BufferError>, Option<usize>) {
     let mut numbers = 2..6usize;
     let error = if is_shared {
         error_of(BitBuffer::from_indices(alloc, 4, numbers.by_ref()))
     } else {
         error_of(BitBufferMut::from_indices(alloc, 4, numbers.by_ref()))
     };
-    (error, numbers.count())
+    (error, numbers.next())
 }
 
 fn error_of<S: Drop>(made: Result<S, BufferError>) -> Option<BufferError> {
@@ -72,8 +75,8 @@ fn no_number_is_asked_for_in_vain(rt: HostRuntime) {
     let past = Some(BufferError::IndexOutOfRange { index: 4, len: 4 });
     for is_shared in [false, true] {
         for _ in heap.in_turn() {
-            let answer = numbers_left(Handle { inner: &heap }, is_shared);
-            let wanted = heap.wanted((past, 1), (Some(BufferError::OutOfMemory), 4));
+            let answer = number_left(Handle { inner: &heap }, is_shared);
+            let wanted = heap.wanted((past, Some(5)), (Some(BufferError::OutOfMemory), Some(2)));
             equal(&rt, answer, wanted);
         }
         equal(&rt, heap.has_refused(), false);

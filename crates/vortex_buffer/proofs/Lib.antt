@@ -12,4 +12,5 @@ pub use Rattle.vb_bytes.proofs.ReadForms
 pub use Rattle.vb_core.proofs.LengthSteps
 pub use Rattle.vb_core.proofs.Powers
 pub use Rattle.vb_pack.proofs.AnswersLemmas
+pub use Rattle.vb_set.proofs.IndicesLemmas
 pub use Rattle.vb_take.proofs.TakenLemmas
