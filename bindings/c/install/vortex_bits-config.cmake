@@ -1,0 +1,17 @@
+# vortex_bits::vortex_bits is the library that takes the processor level itself;
+# vortex_bits::x86-64-v2 and vortex_bits::x86-64-v3 have one level.
+get_filename_component(prefix "${CMAKE_CURRENT_LIST_DIR}/../../.." ABSOLUTE)
+
+function(_vortex_bits_library target file)
+  if(NOT TARGET "vortex_bits::${target}")
+    add_library("vortex_bits::${target}" STATIC IMPORTED)
+    set_target_properties("vortex_bits::${target}" PROPERTIES
+      IMPORTED_LOCATION "${prefix}/lib/${file}"
+      INTERFACE_INCLUDE_DIRECTORIES "${prefix}/include")
+  endif()
+endfunction()
+
+_vortex_bits_library(vortex_bits libvortex_bits.a)
+_vortex_bits_library(x86-64-v2 libvortex_bits_x86-64-v2.a)
+_vortex_bits_library(x86-64-v3 libvortex_bits_x86-64-v3.a)
+unset(prefix)
