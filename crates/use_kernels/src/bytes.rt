@@ -1,8 +1,8 @@
 //! Values by way of their bytes.
-ghost use Rattle.std.specs.Prelude.{◌≡◌, IfOk};
+ghost use Rattle.std.specs.Prelude.{◌≡◌, ◌*◌, IfOk, length};
 
 use std::alloc::Allocator;
-use vortex_buffer::{Buffer, Result};
+use vortex_buffer::{Buffer, ByteBuffer, Result};
 
 /// The values, written as bytes and read from them. Refused with `TooManyBytes` where the bytes
 /// pass `usize`, and else with `OutOfMemory`.
@@ -11,4 +11,12 @@ pub fn through_bytes<A: Allocator + Clone>(alloc: A, values: &[u32]) -> Result<B
 {
     let bytes = Buffer::copy_from(alloc, values)?.into_byte_buffer()?;
     Buffer::from_byte_buffer(bytes)
+}
+
+/// The values that the bytes of a file are, one for each four. Refused with `ByteLength` where four
+/// doesn't divide their number, and else with `OutOfMemory`.
+pub fn values_of<A: Allocator + Clone>(file: ByteBuffer<A>) -> Result<Buffer<u32, A>>
+    ensures { IfOk result (λ b. length b.list * 4 ≡ length file.list) }
+{
+    Buffer::from_byte_buffer(file)
 }

@@ -10,7 +10,7 @@ mod source;
 #[cfg(test)]
 mod tests;
 
-pub use bytes::through_bytes;
+pub use bytes::{through_bytes, values_of};
 pub use directory::{Narrow, select_narrow};
 pub use sequences::{greater, halved, rest_halved};
 pub use source::{Metered, count_metered};

@@ -1,10 +1,10 @@
 //! Answers known from outside, with ample memory and with each request refused in turn.
-use crate::{count_metered, greater, halved, rest_halved, select_narrow, through_bytes};
+use crate::{count_metered, greater, halved, rest_halved, select_narrow, through_bytes, values_of};
 use std::alloc::Global;
 use std::process::Abort;
 use std::test::Fail;
 use vb_testing::{Refusing, answers_refusal, each_refused};
-use vortex_buffer::{Buffer, BufferError, Result};
+use vortex_buffer::{Buffer, BufferError, Result, trusted_len};
 
 type Heap<'a> = &'a Refusing<Global>;
 
@@ -35,6 +35,7 @@ enum Call {
     RestHalved(usize),
     Greater,
     ThroughBytes,
+    ValuesOf,
 }
 
 impl Call {
@@ -45,6 +46,7 @@ impl Call {
             Call::RestHalved(n) => rest_halved(heap, &values, *n),
             Call::Greater => greater(heap, &values, &[8, 0, 1]),
             Call::ThroughBytes => through_bytes(heap, &values),
+            Call::ValuesOf => values_of(Buffer::copy_from(heap, &[1, 2, 0, 0, 255, 0, 0, 1])?),
         }
     }
 }
@@ -56,6 +58,7 @@ const ROWS: &[(Call, &[u32])] = &[
     (Call::RestHalved(2), &[2_147_483_647]),
     (Call::Greater, &[8, 0, u32::MAX]),
     (Call::ThroughBytes, &[7, 0, u32::MAX]),
+    (Call::ValuesOf, &[513, 16_777_471]),
 ];
 
 fn is_made(rt: &impl Abort, made: Result<Buffer<u32, Heap<'_>>>, wanted: &[u32]) -> Result<()> {
@@ -75,5 +78,16 @@ fn columns_are_made_or_refused(rt: HostRuntime) -> Result<(), Fail> {
     }
     let none = rest_halved(rt.alloc(), &[7, 0, 1], 4)?;
     assert!(rt; none.is_empty());
+    Ok(())
+}
+
+/// That a range counts its numbers is a fact that a proof names.
+#[test]
+#[tactic(auto, using(vortex_buffer::proofs::Hints::unsigned_range_counts))]
+fn numbers_of_a_range_are_mapped(rt: HostRuntime) -> Result<(), Fail> {
+    let halves = trusted_len((0..5u32).map(|number| number / 2), 5);
+    let column = Buffer::from_trusted_len_iter(rt.alloc(), halves)?;
+    assert_eq!(rt; column.as_slice(), [0, 0, 1, 1, 2].as_slice());
+    drop(column);
     Ok(())
 }

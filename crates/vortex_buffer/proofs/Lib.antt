@@ -1,5 +1,7 @@
+pub mod ByteLengths
 pub mod CountedItems
 pub mod Exponents
+pub mod Hints
 pub use Rattle.vb_bits.proofs.BitsLemmas
 pub use Rattle.vb_bits.proofs.KeptLemmas
 pub use Rattle.vb_bits.proofs.OperatorsLemmas
