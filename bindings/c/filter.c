@@ -1,6 +1,6 @@
 /*
  * A filter over a column with validity: the places and the sum of the values that are valid and
- * above a limit, by masks and by a plain loop over the column.
+ * above a limit, by masks and by a plain loop over the column. It wants C11, for its clock.
  */
 #include "vortex_bits.h"
 

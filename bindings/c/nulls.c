@@ -96,7 +96,7 @@ int main(void)
     walks();
     writes();
     takes();
-    check(vortex_bits_has_level() && strncmp(vortex_bits_level(), "x86-64-v", 8) == 0, "vortex_bits_level");
-    printf("%s\n", vortex_bits_level());
+    check(vb_has_level() && strncmp(vb_level(), "x86-64-v", 8) == 0, "vb_level");
+    printf("%s\n", vb_level());
     return failures == 0 ? 0 : 1;
 }

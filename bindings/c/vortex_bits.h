@@ -10,7 +10,7 @@
  *
  * libvortex_bits.a has code for x86-64-v2 and for x86-64-v3, and takes the higher one that the
  * processor has. libvortex_bits_x86-64-v2.a and libvortex_bits_x86-64-v3.a have one of them. A
- * processor that doesn't have the level gets an illegal instruction (SIGILL); vortex_bits_has_level tells.
+ * processor that doesn't have the level gets an illegal instruction (SIGILL); vb_has_level tells.
  *
  * Bit i of some bytes is digit i % 8 of byte i / 8, least significant first. A window is the `len`
  * bits from bit `offset` on; no function reads or changes a bit outside of the windows that it
@@ -40,6 +40,13 @@
 
 #define VORTEX_BITS_VERSION "0.91.0-r1"
 
+/* A compiler that can warns where nobody looks whether a checked form was refused. */
+#if defined(__GNUC__)
+#define VB_CHECKED __attribute__((warn_unused_result))
+#else
+#define VB_CHECKED
+#endif
+
 #ifdef __cplusplus
 extern "C" {
 #endif
@@ -58,32 +65,33 @@ typedef struct {
 
 /* Bit `place`, which lies in the bytes. */
 bool vb_get_bit(const uint8_t *bytes, size_t size, size_t place);
-bool vb_try_get_bit(const uint8_t *bytes, size_t size, size_t place, bool *bit);
+VB_CHECKED bool vb_try_get_bit(const uint8_t *bytes, size_t size, size_t place, bool *bit);
 
 /* How many bits of the window are true. It reads the bytes once, 64 at a time. */
 size_t vb_count_ones(const uint8_t *bytes, size_t size, size_t offset, size_t len);
-bool vb_try_count_ones(const uint8_t *bytes, size_t size, size_t offset, size_t len, size_t *ones);
+VB_CHECKED bool vb_try_count_ones(const uint8_t *bytes, size_t size, size_t offset, size_t len,
+        size_t *ones);
 
 /*
  * The place within the window of its n-th true bit, counted from 0; none where there are at most
  * n. It counts from the front, 64 bytes at a time, up to the bytes that have it.
  */
 vb_place vb_bit_select(const uint8_t *bytes, size_t size, size_t offset, size_t len, size_t n);
-bool vb_try_bit_select(const uint8_t *bytes, size_t size, size_t offset, size_t len, size_t n,
-        vb_place *place);
+VB_CHECKED bool vb_try_bit_select(const uint8_t *bytes, size_t size, size_t offset, size_t len,
+        size_t n, vb_place *place);
 
 /* The same of the n-th false bit. */
 vb_place vb_bit_select_unset(const uint8_t *bytes, size_t size, size_t offset, size_t len,
         size_t n);
-bool vb_try_bit_select_unset(const uint8_t *bytes, size_t size, size_t offset, size_t len, size_t n,
-        vb_place *place);
+VB_CHECKED bool vb_try_bit_select_unset(const uint8_t *bytes, size_t size, size_t offset,
+        size_t len, size_t n, vb_place *place);
 
 /*
  * The place within the window of its last true bit; none where all are false. It reads from the
  * end, eight bytes at a time.
  */
 vb_place vb_last_set_index(const uint8_t *bytes, size_t size, size_t offset, size_t len);
-bool vb_try_last_set_index(const uint8_t *bytes, size_t size, size_t offset, size_t len,
+VB_CHECKED bool vb_try_last_set_index(const uint8_t *bytes, size_t size, size_t offset, size_t len,
         vb_place *place);
 
 /*
@@ -92,7 +100,7 @@ bool vb_try_last_set_index(const uint8_t *bytes, size_t size, size_t offset, siz
  */
 bool vb_equal_bits(const uint8_t *left, size_t left_size, size_t left_offset, const uint8_t *right,
         size_t right_size, size_t right_offset, size_t len);
-bool vb_try_equal_bits(const uint8_t *left, size_t left_size, size_t left_offset,
+VB_CHECKED bool vb_try_equal_bits(const uint8_t *left, size_t left_size, size_t left_offset,
         const uint8_t *right, size_t right_size, size_t right_offset, size_t len, bool *equal);
 
 /*
@@ -101,8 +109,8 @@ bool vb_try_equal_bits(const uint8_t *left, size_t left_size, size_t left_offset
  */
 size_t vb_set_indices(const uint8_t *bytes, size_t size, size_t offset, size_t len, size_t *out,
         size_t room);
-bool vb_try_set_indices(const uint8_t *bytes, size_t size, size_t offset, size_t len, size_t *out,
-        size_t room, size_t *count);
+VB_CHECKED bool vb_try_set_indices(const uint8_t *bytes, size_t size, size_t offset, size_t len,
+        size_t *out, size_t room, size_t *count);
 
 /*
  * Writes the runs of true bits, from front to end, each as long as can be, to the front of `out`,
@@ -110,19 +118,20 @@ bool vb_try_set_indices(const uint8_t *bytes, size_t size, size_t offset, size_t
  */
 size_t vb_set_slices(const uint8_t *bytes, size_t size, size_t offset, size_t len, vb_run *out,
         size_t room);
-bool vb_try_set_slices(const uint8_t *bytes, size_t size, size_t offset, size_t len, vb_run *out,
-        size_t room, size_t *count);
+VB_CHECKED bool vb_try_set_slices(const uint8_t *bytes, size_t size, size_t offset, size_t len,
+        vb_run *out, size_t room, size_t *count);
 
 /*
  * Makes the bits from `start` up to `end`, end excluded, `value`; nothing where start >= end. `end`
- * is at most 8 * size. Whole bytes go by a block fill.
+ * is at most 8 * size. Whole bytes go by a block fill. One bit is made `value` by its place and
+ * that behind it.
  */
 void vb_fill_bits(uint8_t *bytes, size_t size, size_t start, size_t end, bool value);
-bool vb_try_fill_bits(uint8_t *bytes, size_t size, size_t start, size_t end, bool value);
+VB_CHECKED bool vb_try_fill_bits(uint8_t *bytes, size_t size, size_t start, size_t end, bool value);
 
 /* Negates each bit of the window, eight bytes at a time. */
 void vb_negate_bits(uint8_t *bytes, size_t size, size_t offset, size_t len);
-bool vb_try_negate_bits(uint8_t *bytes, size_t size, size_t offset, size_t len);
+VB_CHECKED bool vb_try_negate_bits(uint8_t *bytes, size_t size, size_t offset, size_t len);
 
 /*
  * Copies the `len` bits of `src` from bit `src_offset` on to the bits of `dst` from bit
@@ -131,8 +140,8 @@ bool vb_try_negate_bits(uint8_t *bytes, size_t size, size_t offset, size_t len);
  */
 void vb_copy_bits(uint8_t *dst, size_t dst_size, size_t dst_offset, const uint8_t *src,
         size_t src_size, size_t src_offset, size_t len);
-bool vb_try_copy_bits(uint8_t *dst, size_t dst_size, size_t dst_offset, const uint8_t *src,
-        size_t src_size, size_t src_offset, size_t len);
+VB_CHECKED bool vb_try_copy_bits(uint8_t *dst, size_t dst_size, size_t dst_offset,
+        const uint8_t *src, size_t src_size, size_t src_offset, size_t len);
 
 /*
  * Makes each of the `len` bits of `dst` from bit `dst_offset` on true where it is true and that of
@@ -140,26 +149,26 @@ bool vb_try_copy_bits(uint8_t *dst, size_t dst_size, size_t dst_offset, const ui
  */
 void vb_and_bits(uint8_t *dst, size_t dst_size, size_t dst_offset, const uint8_t *src,
         size_t src_size, size_t src_offset, size_t len);
-bool vb_try_and_bits(uint8_t *dst, size_t dst_size, size_t dst_offset, const uint8_t *src,
-        size_t src_size, size_t src_offset, size_t len);
+VB_CHECKED bool vb_try_and_bits(uint8_t *dst, size_t dst_size, size_t dst_offset,
+        const uint8_t *src, size_t src_size, size_t src_offset, size_t len);
 
 /* The same: true where one of them is true, or both are. */
 void vb_or_bits(uint8_t *dst, size_t dst_size, size_t dst_offset, const uint8_t *src,
         size_t src_size, size_t src_offset, size_t len);
-bool vb_try_or_bits(uint8_t *dst, size_t dst_size, size_t dst_offset, const uint8_t *src,
+VB_CHECKED bool vb_try_or_bits(uint8_t *dst, size_t dst_size, size_t dst_offset, const uint8_t *src,
         size_t src_size, size_t src_offset, size_t len);
 
 /* The same: true where one of them is true, and not both. */
 void vb_xor_bits(uint8_t *dst, size_t dst_size, size_t dst_offset, const uint8_t *src,
         size_t src_size, size_t src_offset, size_t len);
-bool vb_try_xor_bits(uint8_t *dst, size_t dst_size, size_t dst_offset, const uint8_t *src,
-        size_t src_size, size_t src_offset, size_t len);
+VB_CHECKED bool vb_try_xor_bits(uint8_t *dst, size_t dst_size, size_t dst_offset,
+        const uint8_t *src, size_t src_size, size_t src_offset, size_t len);
 
 /* The same: true where that of `dst` is true and that of `src` is not. */
 void vb_and_not_bits(uint8_t *dst, size_t dst_size, size_t dst_offset, const uint8_t *src,
         size_t src_size, size_t src_offset, size_t len);
-bool vb_try_and_not_bits(uint8_t *dst, size_t dst_size, size_t dst_offset, const uint8_t *src,
-        size_t src_size, size_t src_offset, size_t len);
+VB_CHECKED bool vb_try_and_not_bits(uint8_t *dst, size_t dst_size, size_t dst_offset,
+        const uint8_t *src, size_t src_size, size_t src_offset, size_t len);
 
 /*
  * Makes each of the `len` bits of `out` from bit `out_offset` on true where that of `left` from bit
@@ -169,33 +178,33 @@ bool vb_try_and_not_bits(uint8_t *dst, size_t dst_size, size_t dst_offset, const
 void vb_and_into(uint8_t *out, size_t out_size, size_t out_offset, const uint8_t *left,
         size_t left_size, size_t left_offset, const uint8_t *right, size_t right_size,
         size_t right_offset, size_t len);
-bool vb_try_and_into(uint8_t *out, size_t out_size, size_t out_offset, const uint8_t *left,
-        size_t left_size, size_t left_offset, const uint8_t *right, size_t right_size,
-        size_t right_offset, size_t len);
+VB_CHECKED bool vb_try_and_into(uint8_t *out, size_t out_size, size_t out_offset,
+        const uint8_t *left, size_t left_size, size_t left_offset, const uint8_t *right,
+        size_t right_size, size_t right_offset, size_t len);
 
 /* The same: true where one of the two is true, or both are. */
 void vb_or_into(uint8_t *out, size_t out_size, size_t out_offset, const uint8_t *left,
         size_t left_size, size_t left_offset, const uint8_t *right, size_t right_size,
         size_t right_offset, size_t len);
-bool vb_try_or_into(uint8_t *out, size_t out_size, size_t out_offset, const uint8_t *left,
-        size_t left_size, size_t left_offset, const uint8_t *right, size_t right_size,
-        size_t right_offset, size_t len);
+VB_CHECKED bool vb_try_or_into(uint8_t *out, size_t out_size, size_t out_offset,
+        const uint8_t *left, size_t left_size, size_t left_offset, const uint8_t *right,
+        size_t right_size, size_t right_offset, size_t len);
 
 /* The same: true where one of the two is true, and not both. */
 void vb_xor_into(uint8_t *out, size_t out_size, size_t out_offset, const uint8_t *left,
         size_t left_size, size_t left_offset, const uint8_t *right, size_t right_size,
         size_t right_offset, size_t len);
-bool vb_try_xor_into(uint8_t *out, size_t out_size, size_t out_offset, const uint8_t *left,
-        size_t left_size, size_t left_offset, const uint8_t *right, size_t right_size,
-        size_t right_offset, size_t len);
+VB_CHECKED bool vb_try_xor_into(uint8_t *out, size_t out_size, size_t out_offset,
+        const uint8_t *left, size_t left_size, size_t left_offset, const uint8_t *right,
+        size_t right_size, size_t right_offset, size_t len);
 
 /* The same: true where that of `left` is true and that of `right` is not. */
 void vb_and_not_into(uint8_t *out, size_t out_size, size_t out_offset, const uint8_t *left,
         size_t left_size, size_t left_offset, const uint8_t *right, size_t right_size,
         size_t right_offset, size_t len);
-bool vb_try_and_not_into(uint8_t *out, size_t out_size, size_t out_offset, const uint8_t *left,
-        size_t left_size, size_t left_offset, const uint8_t *right, size_t right_size,
-        size_t right_offset, size_t len);
+VB_CHECKED bool vb_try_and_not_into(uint8_t *out, size_t out_size, size_t out_offset,
+        const uint8_t *left, size_t left_size, size_t left_offset, const uint8_t *right,
+        size_t right_size, size_t right_offset, size_t len);
 
 /*
  * Packs `count` truth values into the first bytes of `out`, eight into each; the bits of the last
@@ -204,11 +213,12 @@ bool vb_try_and_not_into(uint8_t *out, size_t out_size, size_t out_offset, const
  * counts. vb_pack_truthy takes bytes that hold anything.
  */
 void vb_pack_bools(uint8_t *out, size_t out_size, const bool *bools, size_t count);
-bool vb_try_pack_bools(uint8_t *out, size_t out_size, const bool *bools, size_t count);
+VB_CHECKED bool vb_try_pack_bools(uint8_t *out, size_t out_size, const bool *bools, size_t count);
 
 /* The same of bytes, each of which is true where it is not 0. */
 void vb_pack_truthy(uint8_t *out, size_t out_size, const uint8_t *truthy, size_t count);
-bool vb_try_pack_truthy(uint8_t *out, size_t out_size, const uint8_t *truthy, size_t count);
+VB_CHECKED bool vb_try_pack_truthy(uint8_t *out, size_t out_size, const uint8_t *truthy,
+        size_t count);
 
 /*
  * Writes the bits that the indices name among those of the window to the first bits of `out`, which
@@ -218,11 +228,11 @@ bool vb_try_pack_truthy(uint8_t *out, size_t out_size, const uint8_t *truthy, si
  */
 vb_place vb_take_u32(uint8_t *out, size_t out_size, const uint8_t *bytes, size_t size,
         size_t offset, size_t len, const uint32_t *indices, size_t index_count);
-bool vb_try_take_u32(uint8_t *out, size_t out_size, const uint8_t *bytes, size_t size,
+VB_CHECKED bool vb_try_take_u32(uint8_t *out, size_t out_size, const uint8_t *bytes, size_t size,
         size_t offset, size_t len, const uint32_t *indices, size_t index_count, vb_place *past);
 vb_place vb_take_u64(uint8_t *out, size_t out_size, const uint8_t *bytes, size_t size,
         size_t offset, size_t len, const uint64_t *indices, size_t index_count);
-bool vb_try_take_u64(uint8_t *out, size_t out_size, const uint8_t *bytes, size_t size,
+VB_CHECKED bool vb_try_take_u64(uint8_t *out, size_t out_size, const uint8_t *bytes, size_t size,
         size_t offset, size_t len, const uint64_t *indices, size_t index_count, vb_place *past);
 
 /*
@@ -232,14 +242,14 @@ bool vb_try_take_u64(uint8_t *out, size_t out_size, const uint8_t *bytes, size_t
 vb_place vb_take_valid_u32(uint8_t *out, size_t out_size, const uint8_t *bytes, size_t size,
         size_t offset, size_t len, const uint32_t *indices, size_t index_count,
         const uint8_t *validity, size_t validity_size, size_t validity_offset);
-bool vb_try_take_valid_u32(uint8_t *out, size_t out_size, const uint8_t *bytes, size_t size,
-        size_t offset, size_t len, const uint32_t *indices, size_t index_count,
+VB_CHECKED bool vb_try_take_valid_u32(uint8_t *out, size_t out_size, const uint8_t *bytes,
+        size_t size, size_t offset, size_t len, const uint32_t *indices, size_t index_count,
         const uint8_t *validity, size_t validity_size, size_t validity_offset, vb_place *past);
 vb_place vb_take_valid_u64(uint8_t *out, size_t out_size, const uint8_t *bytes, size_t size,
         size_t offset, size_t len, const uint64_t *indices, size_t index_count,
         const uint8_t *validity, size_t validity_size, size_t validity_offset);
-bool vb_try_take_valid_u64(uint8_t *out, size_t out_size, const uint8_t *bytes, size_t size,
-        size_t offset, size_t len, const uint64_t *indices, size_t index_count,
+VB_CHECKED bool vb_try_take_valid_u64(uint8_t *out, size_t out_size, const uint8_t *bytes,
+        size_t size, size_t offset, size_t len, const uint64_t *indices, size_t index_count,
         const uint8_t *validity, size_t validity_size, size_t validity_offset, vb_place *past);
 
 /*
@@ -250,7 +260,7 @@ bool vb_try_take_valid_u64(uint8_t *out, size_t out_size, const uint8_t *bytes, 
  */
 size_t vb_block_counts(const uint8_t *bytes, size_t size, size_t offset, size_t len, size_t *table,
         size_t room);
-bool vb_try_block_counts(const uint8_t *bytes, size_t size, size_t offset, size_t len,
+VB_CHECKED bool vb_try_block_counts(const uint8_t *bytes, size_t size, size_t offset, size_t len,
         size_t *table, size_t room, size_t *written);
 
 /*
@@ -261,8 +271,8 @@ bool vb_try_block_counts(const uint8_t *bytes, size_t size, size_t offset, size_
  */
 size_t vb_rank(const uint8_t *bytes, size_t size, size_t offset, size_t len, const size_t *table,
         size_t entries, size_t place);
-bool vb_try_rank(const uint8_t *bytes, size_t size, size_t offset, size_t len, const size_t *table,
-        size_t entries, size_t place, size_t *rank);
+VB_CHECKED bool vb_try_rank(const uint8_t *bytes, size_t size, size_t offset, size_t len,
+        const size_t *table, size_t entries, size_t place, size_t *rank);
 
 /*
  * The place of the n-th true bit of the window, and of its n-th false bit, by halves of the table
@@ -270,18 +280,18 @@ bool vb_try_rank(const uint8_t *bytes, size_t size, size_t offset, size_t len, c
  */
 vb_place vb_ranked_select(const uint8_t *bytes, size_t size, size_t offset, size_t len,
         const size_t *table, size_t entries, size_t n);
-bool vb_try_ranked_select(const uint8_t *bytes, size_t size, size_t offset, size_t len,
+VB_CHECKED bool vb_try_ranked_select(const uint8_t *bytes, size_t size, size_t offset, size_t len,
         const size_t *table, size_t entries, size_t n, vb_place *place);
 vb_place vb_ranked_select_unset(const uint8_t *bytes, size_t size, size_t offset, size_t len,
         const size_t *table, size_t entries, size_t n);
-bool vb_try_ranked_select_unset(const uint8_t *bytes, size_t size, size_t offset, size_t len,
-        const size_t *table, size_t entries, size_t n, vb_place *place);
+VB_CHECKED bool vb_try_ranked_select_unset(const uint8_t *bytes, size_t size, size_t offset,
+        size_t len, const size_t *table, size_t entries, size_t n, vb_place *place);
 
 /* The processor level of the code that calls run: "x86-64-v2", say. */
-const char *vortex_bits_level(void);
+const char *vb_level(void);
 
 /* Whether the processor has that level. */
-bool vortex_bits_has_level(void);
+bool vb_has_level(void);
 
 #ifdef __cplusplus
 }

@@ -7,6 +7,10 @@ from documents.files import Repository
 from documents.picture import picture
 
 EXPORT = re.compile(r"^pub use [\w:]+?::(?:\{([^}]*)\}|(\w+));", re.MULTILINE)
+# What the C library says of itself, which no function of the crate does.
+OF_THE_LIBRARY = {"vb_level", "vb_has_level"}
+# What the Rust crate does without a call.
+INLINE = {"vb_get_bit"}
 NATIVE = re.compile(r"^    (\w+)\(", re.MULTILINE)
 
 
@@ -35,11 +39,11 @@ def c_functions(repository: Repository) -> list[str]:
     found = []
     for header in headers(repository):
         declared = set(re.findall(r"^\w[\w ]*?\W(vb_\w+)\(", repository.read(header), re.MULTILINE))
+        declared -= OF_THE_LIBRARY
         found += differ(crate, given, header, declared)
     _, _, listed = repository.read(table).partition("\nkernels! {")
     native = {f"vb_{it}" for it in NATIVE.findall(listed.partition("\n}")[0])}
-    # A single bit the Rust crate reads itself.
-    plain = {it for it in given if not it.startswith("vb_try_")} - {"vb_get_bit"}
+    plain = {it for it in given if not it.startswith("vb_try_")} - INLINE
     return found + differ(crate, plain, table, native)
 
 

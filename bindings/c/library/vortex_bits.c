@@ -34,7 +34,7 @@ FUNCTIONS
 #define TEXT(level) "x86-64-v" #level
 #define NAME(level) TEXT(level)
 
-const char *vortex_bits_level(void)
+const char *vb_level(void)
 {
     return NAME(VB_LEVEL);
 }
@@ -42,7 +42,7 @@ const char *vortex_bits_level(void)
 #define HAS(level) has_v##level()
 #define HAS_LEVEL(level) HAS(level)
 
-bool vortex_bits_has_level(void)
+bool vb_has_level(void)
 {
     return HAS_LEVEL(VB_LEVEL);
 }
@@ -89,12 +89,12 @@ static inline const struct level *level(void)
 
 #define CALL(name) level()->name
 
-const char *vortex_bits_level(void)
+const char *vb_level(void)
 {
     return level()->text;
 }
 
-bool vortex_bits_has_level(void)
+bool vb_has_level(void)
 {
     return has_v2();
 }

@@ -27,6 +27,7 @@
 //! - `alloc` (with `std`): `Bitmap`, bits with their bytes, and `Ranked`, those with their ranks.
 //! - `levels`: `Level::make_current`, to measure and to test.
 #![no_std]
+#![cfg_attr(not(vortex_bits_native), forbid(unsafe_code))]
 
 #[cfg(feature = "alloc")]
 extern crate alloc;

@@ -1,8 +1,9 @@
 //! The kernels over slices as C functions, for programs in other languages.
 //!
-//! A slice crosses as a pointer and the number of its bytes. During a call nothing else may write
+//! A slice crosses as a pointer and the number of its items. During a call nothing else may write
 //! what a function reads, and nothing else may touch what it writes: that, and pointers that are
-//! valid, is what a C caller owes. A window is the `len` bits from bit `offset` on, least
+//! valid and not null, is what a C caller owes. For a slice of no items the C library of bindings/c
+//! takes null too, which it replaces. A window is the `len` bits from bit `offset` on, least
 //! significant bit first.
 //!
 //! Each function has the clauses of the kernel that it calls, and requires that windows lie in

@@ -14,7 +14,7 @@ use vb_view::BitBufferView;
 /// Writes the bits that the indices name among the `len` bits from bit `offset` on to the first
 /// bits of `out`, one for each index, and answers no place; or answers the first position whose
 /// index isn't below `len`. The bits of `out` behind the first ones stay; where a position is
-/// answered, the first ones are open.
+/// answered, the first ones hold any bits.
 #[unsafe(no_mangle)]
 pub extern "C" fn vb_take_u32(
     out: &mut [u8],
