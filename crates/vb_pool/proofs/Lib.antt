@@ -1,3 +1,4 @@
 pub mod Runs
 pub mod Slots
 pub mod TakingLemmas
+pub mod WordDigits

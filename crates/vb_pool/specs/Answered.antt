@@ -5,9 +5,9 @@ use Rattle.vb_command.specs.Views.{reason, reply}
 use Rattle.vb_command.specs.declared.answer.Answer.{Answer}
 use Rattle.vb_command.specs.declared.answer.Refusal.{Refusal}
 use Rattle.vb_command.specs.declared.answer.Refusal.TheVariants.{BadSlot}
-use Rattle.vb_core.specs.declared.error.BufferError.{BufferError}
-use Rattle.vb_core.specs.declared.error.BufferError.TheVariants.{OutOfMemory, TakeOutOfRange}
-use Rattle.vb_core.specs.declared.error.BufferError.TheVariants.{TooManyBits}
+use Rattle.vb_set.specs.declared.BufferError.{BufferError}
+use Rattle.vb_set.specs.declared.BufferError.TheVariants.{OutOfMemory, TakeOutOfRange}
+use Rattle.vb_set.specs.declared.BufferError.TheVariants.{TooManyBits}
 
 -- the reply of an answer, or of a refusal
 abbrev pub answered : {A : Type 0} → Result (Answer A) Refusal → Reply

@@ -1,7 +1,7 @@
 -- What becomes of a set whose length is to grow.
 use Rattle.std.specs.Prelude.{ℕ, ◌-◌, ◌^◌, ◌<◌, Result, Ok, Err}
-use Rattle.vb_core.specs.declared.error.BufferError.{BufferError}
-use Rattle.vb_core.specs.declared.error.BufferError.TheVariants.{OutOfMemory, TooManyBits}
+use Rattle.vb_set.specs.declared.BufferError.{BufferError}
+use Rattle.vb_set.specs.declared.BufferError.TheVariants.{OutOfMemory, TooManyBits}
 
 -- a length of n bits is a number of 64 bits, unless it is refused for its bit numbers: then it
 -- passes 2 ^ 64 - 8

@@ -11,7 +11,7 @@ use crate::refused::refusal_of;
 use crate::slot::Slot;
 use std::alloc::Allocator;
 use vb_command::{Answer, Refusal};
-use vb_kernel::window_fits;
+use vb_set::window_fits;
 
 impl<A: Allocator + Clone> Pool<A> {
     /// Opens the window in a copy of the bytes in slot `k`, which has to be empty.

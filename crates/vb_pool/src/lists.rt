@@ -1,17 +1,14 @@
 //! What a set holds, as lists and as a text in memory of an allocator.
 ghost use Rattle.std.specs.Prelude.{◌≡◌, IfOk, IsOkUnless, string_bytes};
-ghost use Rattle.vb_kernel.specs.Shown.{shown};
-ghost use Rattle.vb_core.specs.declared.error.BufferError.TheVariants.{OutOfMemory};
-ghost use Rattle.vb_bits.specs.Digits.{digits};
-ghost use Rattle.vb_kernel.specs.Bits.{places};
-ghost use Rattle.vb_kernel.specs.Runs.{runs};
-ghost use Rattle.vb_view.specs.View.{bits_of};
+ghost use Rattle.vb_set.specs.Shown.{shown};
+ghost use Rattle.vb_set.specs.declared.BufferError.TheVariants.{OutOfMemory};
+ghost use Rattle.vb_set.specs.Digits.{digits};
+ghost use Rattle.vb_set.specs.Bits.{places};
+ghost use Rattle.vb_set.specs.Runs.{runs};
+ghost use Rattle.vb_set.specs.View.{bits_of};
 
 use std::alloc::Allocator;
-use vb_bits::read_bits;
-use vb_core::BufferError;
-use vb_set::BitBuffer;
-use vb_view::BitBufferView;
+use vb_set::{BitBuffer, BitBufferView, BufferError};
 
 /// The bits from place 0 on, by one request, a word of them at a time. Refused by `OutOfMemory`
 /// alone.
@@ -23,11 +20,12 @@ pub(crate) fn list_bits<A: Allocator + Clone>(
     ensures refused { IsOkUnless result OutOfMemory }
 {
     let mut list = Vec::with_capacity(alloc.clone()?, view.len())?;
-    while list.len() < view.len() {
-        let count = (view.len() - list.len()).min(64);
-        let word = read_bits(view.inner(), view.offset() + list.len(), count);
-        list.extend_from_slice(&list_digits(word)[..count])?;
+    let chunks = view.chunks();
+    for word in chunks.iter() {
+        list.extend_from_slice(&list_digits(word))?;
     }
+    let rest = list_digits(chunks.remainder_bits());
+    list.extend_from_slice(&rest[..chunks.remainder_len()])?;
     Ok(list)
 }
 

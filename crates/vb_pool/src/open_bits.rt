@@ -3,17 +3,15 @@ ghost use Rattle.std.specs.Prelude.{◌≡◌, ◌+◌, ◌*◌, ◌^◌, ◌<�
 ghost use Rattle.std.specs.Prelude.{replicate, slice_set, false, IsTrue, IfOk, IsOkUnless};
 ghost use Rattle.std.specs.Prelude.{OnOk, OnErr};
 ghost use Rattle.vb_command.specs.Machine.{all_below};
-ghost use Rattle.vb_core.specs.declared.error.BufferError.TheVariants.{OutOfMemory};
-ghost use Rattle.vb_kernel.specs.Bits.{bits, negated};
-ghost use Rattle.vb_kernel.specs.Edits.{filled};
+ghost use Rattle.vb_set.specs.declared.BufferError.TheVariants.{OutOfMemory};
+ghost use Rattle.vb_set.specs.Bits.{bits, negated};
+ghost use Rattle.vb_set.specs.Edits.{filled};
 ghost use Rattle.vb_pool.specs.OpenBits.{LimitsLength};
 ghost use Rattle.vb_set.specs.Takes.{with_true};
 
 use std::alloc::Allocator;
 use std::marker::Model;
-use vb_core::BufferError;
-use vb_mem::{Buffer, BufferMut};
-use vb_set::{BitBuffer, BitBufferMut, TryIntoMut};
+use vb_set::{BitBuffer, BitBufferMut, BufferError, ByteBuffer, ByteBufferMut, TryIntoMut};
 
 /// A set that commands edit. Contracts see the list of its bits.
 ///
@@ -57,7 +55,7 @@ impl<A: Allocator + Clone> OpenBits<A> {
         ensures bits { IfOk result (λ s. s ≡ bits bytes.now offset len) }
         ensures refused { IsOkUnless result OutOfMemory }
     {
-        let buffer = BufferMut::copy_from(alloc.clone()?, bytes)?;
+        let buffer = ByteBufferMut::copy_from(alloc.clone()?, bytes)?;
         Ok(OpenBits::new(BitBufferMut::from_buffer(buffer, offset, len)))
     }
 
@@ -79,7 +77,7 @@ impl<A: Allocator + Clone> OpenBits<A> {
             drop(bytes);
             return Err(BufferError::OutOfMemory);
         };
-        let buffer = Buffer::from_vec(alloc, bytes)?.into_mut()?;
+        let buffer = ByteBuffer::from_vec(alloc, bytes)?.into_mut()?;
         Ok(OpenBits::new(BitBufferMut::from_buffer(buffer, offset, len)))
     }
 

@@ -1,7 +1,7 @@
 //! Frozen sets that are combined or negated. By `own` the left slot gives its set away: where
 //! memory is refused it is empty afterwards.
 ghost use Rattle.std.specs.Prelude.{◌≡◌, true, false, IsSome, IfErr, OnOk};
-ghost use Rattle.vb_bit_buffer.specs.Gives.{GivesCombined};
+ghost use Rattle.vb_set.specs.Gives.{GivesCombined};
 ghost use Rattle.vb_command.specs.Machine.{Outcome, frozen_at, released, vacant_at};
 ghost use Rattle.vb_command.specs.Machine as machine;
 ghost use Rattle.vb_pool.specs.Answered.{GivesHeld, answered};
@@ -10,10 +10,8 @@ use crate::pool::Pool;
 use crate::refused::refusal_of;
 use crate::slot::Slot;
 use std::alloc::Allocator;
-use vb_bits::BitOp;
 use vb_command::{Answer, Mode, Refusal};
-use vb_core::BufferError;
-use vb_set::BitBuffer;
+use vb_set::{BitBuffer, BitOp, BufferError};
 
 #[tactic(auto, using(crate::proofs::Slots::slots))]
 impl<A: Allocator + Clone> Pool<A> {

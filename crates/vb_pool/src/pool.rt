@@ -10,7 +10,7 @@ ghost use Rattle.vb_pool.specs.Answered.{GivesHeld};
 ghost use Rattle.vb_pool.specs.Slot.{content};
 ghost use Rattle.vb_pool.specs.contracts.pool.Pool.{the_row};
 ghost use Rattle.vb_pool.specs.contracts.open_bits.OpenBits.{the_row as open_row};
-ghost use Rattle.vb_view.specs.View.{bits_of};
+ghost use Rattle.vb_set.specs.View.{bits_of};
 
 use crate::open_bits::OpenBits;
 use crate::sixteen::Sixteen;
@@ -19,8 +19,7 @@ use std::alloc::{Allocator, Global};
 use std::fmt;
 use std::marker::Model;
 use vb_command::{Answer, Refusal};
-use vb_set::BitBuffer;
-use vb_view::BitBufferView;
+use vb_set::{BitBuffer, BitBufferView};
 
 /// Sixteen slots for sets of bits, numbered from 0. Contracts see the list of what they hold.
 ///

@@ -3,7 +3,7 @@ ghost use Rattle.std.specs.Prelude.{◌≡◌, ℕ};
 ghost use Rattle.vb_pool.specs.Answered.{IsOfSet};
 
 use vb_command::Refusal;
-use vb_core::BufferError;
+use vb_set::BufferError;
 
 /// The refusal of a command where a set refused with this. Sets that are made or changed refuse by
 /// these three alone.

@@ -3,13 +3,12 @@ ghost use Rattle.std.specs.Prelude.{◌≡◌, map, IfOk, OnErr, IsOkUnless};
 ghost use Rattle.vb_command.specs.Machine.{Outcome, Run, order};
 ghost use Rattle.vb_command.specs.Views.{reply};
 ghost use Rattle.vb_pool.specs.Answered.{answered};
-ghost use Rattle.vb_core.specs.declared.error.BufferError.TheVariants.{OutOfMemory};
+ghost use Rattle.vb_set.specs.declared.BufferError.TheVariants.{OutOfMemory};
 
 use crate::pool::Pool;
 use std::alloc::Allocator;
-use vb_bits::BitOp;
 use vb_command::{Answer, Command, Refusal};
-use vb_core::BufferError;
+use vb_set::{BitOp, BufferError};
 
 impl<A: Allocator + Clone> Pool<A> {
     /// Carries out one command and answers it. A command that is refused changes nothing, except

@@ -9,8 +9,7 @@ ghost use Rattle.vb_pool.specs.contracts.slot.Slot.{the_row};
 use crate::open_bits::OpenBits;
 use std::alloc::Allocator;
 use std::mem;
-use vb_core::BufferError;
-use vb_set::BitBuffer;
+use vb_set::{BitBuffer, BufferError};
 
 /// A slot of the pool.
 #[derive(Drop)]

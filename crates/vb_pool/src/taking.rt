@@ -5,16 +5,14 @@ ghost use Rattle.vb_command.specs.Machine.{Outcome, is_as_long, validity_at};
 ghost use Rattle.vb_command.specs.Machine as machine;
 ghost use Rattle.vb_pool.specs.Answered.{GivesHeld, answered};
 ghost use Rattle.vb_set.specs.Takes.{IsTaken, TakeRefused};
-ghost use Rattle.vb_view.specs.View.{bits_of};
+ghost use Rattle.vb_set.specs.View.{bits_of};
 
 use crate::pool::Pool;
 use crate::refused::refusal_of;
 use crate::slot::Slot;
 use std::alloc::Allocator;
 use vb_command::{Answer, Refusal};
-use vb_core::BufferError;
-use vb_set::{BitBuffer, take_bits};
-use vb_view::BitBufferView;
+use vb_set::{BitBuffer, BitBufferView, BufferError, take_bits};
 
 impl<A: Allocator + Clone> Pool<A> {
     /// Puts the bits of the frozen set in slot `k` at these indices in slot `t`, which has to be

@@ -1,1 +1,3 @@
 pub mod IndicesLemmas
+pub use Rattle.vb_bits.proofs.DigitsLemmas
+pub use Rattle.vb_walk.proofs.WordsLemmas

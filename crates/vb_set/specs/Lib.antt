@@ -4,6 +4,7 @@ pub use Rattle.vb_bit_buffer.specs.Gives
 pub use Rattle.vb_bit_buffer.specs.SharedSet
 pub use Rattle.vb_bit_bytes.specs.Given
 pub use Rattle.vb_kernel.specs.Bits
+pub use Rattle.vb_kernel.specs.Digits
 pub use Rattle.vb_kernel.specs.Edits
 pub use Rattle.vb_kernel.specs.Operators
 pub use Rattle.vb_kernel.specs.Shown

@@ -17,6 +17,7 @@ pub use to_bit_buffer::ToBitBuffer;
 pub use try_into_mut::TryIntoMut;
 pub use vb_bit_buffer::BitBuffer;
 pub use vb_core::{BitIndex, BufferError};
+pub use vb_kernel::{BitOp, window_fits};
 pub use vb_mem::{ByteBuffer, ByteBufferMut};
 pub use vb_view::{BitBufferMeta, BitBufferMutView, BitBufferView, BitStore};
 pub use vb_walk::{

@@ -1,15 +1,10 @@
-use Rattle.std.proofs.Common.{◌≡◌, ◌-◌, ◌≤◌, length}
-use Rattle.vb_bits.specs.Bits.{bits}
-use Rattle.vb_view.specs.View.{bits_of, bytes_of, offset_of}
+use Rattle.std.proofs.Common.{◌≡◌, ◌++◌, flat_map}
+use Rattle.vb_set.specs.Digits.{digits}
+use Rattle.vb_set.specs.View.{bits_of}
+use Rattle.vb_set.specs.Words.{full_words}
 use Rattle.vb_pool.proofs.lists.list_bits.Given as goal
 
--- the bits that are still to come
-abbrev pub decreases-loop-view : goal.decreases-loop-view
-decreases-loop-view g l = length (bits_of l.fn.view) - length l.list.items
-
--- the first bits
-abbrev pub invariant-loop-view : goal.invariant-loop-view
-invariant-loop-view g l = record {
-  begun : length l.list.items ≤ length (bits_of l.fn.view);
-  bits : l.list.items ≡ bits (bytes_of l.fn.view) (offset_of l.fn.view) (length l.list.items);
-}
+-- the digits of the words so far, and those of the words that are still to come
+abbrev pub invariant-loop-word : goal.invariant-loop-word
+invariant-loop-word g l = l.list.items ++ flat_map (λ w. digits w 0 64) l.word-iterator
+    ≡ flat_map (λ w. digits w 0 64) (full_words (bits_of l.fn.view))

@@ -1,8 +1,8 @@
 use Rattle.std.proofs.Common.{rules, ◌≡◌, suc, ◌+◌, ◌/◌, ◌^◌, ◌++◌, ◌∷◌, [], nat_eq, bit_and, take, slice_set, refl, sym, ap, ◌∙◌, arith, zero-add}
 use Rattle.std.proofs.Math.Seq.{take-suc-set}
 use Rattle.std.proofs.lemmas.Nat.Bits.{shr_and_one}
-use Rattle.vb_bits.specs.Digits.{digits, has_bit}
-use Rattle.vb_bits.proofs.DigitsLemmas.{digits_none, digits-add}
+use Rattle.vb_set.specs.Digits.{digits, has_bit}
+use Rattle.vb_set.proofs.DigitsLemmas.{digits_none, digits-add}
 use Rattle.vb_pool.proofs.lists.list_digits.Goals as goal
 
 pub loop-k-init : goal.loop-k-init

@@ -1,6 +1,6 @@
 use Rattle.std.proofs.Common.{◌≡◌, ◌++◌}
-use Rattle.vb_kernel.specs.Bits.{places}
-use Rattle.vb_view.specs.View.{bits_of}
+use Rattle.vb_set.specs.Bits.{places}
+use Rattle.vb_set.specs.View.{bits_of}
 use Rattle.vb_pool.proofs.lists.list_places.Given as goal
 
 -- the places so far, and those that are still to come

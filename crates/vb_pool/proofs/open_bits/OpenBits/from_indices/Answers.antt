@@ -1,7 +1,7 @@
 use Rattle.std.proofs.Common.{rules, inl, inr, ◌≡◌, ◌∙◌, ap, replicate, false}
 use Rattle.std.proofs.lemmas.Iterator.{YieldsList-from_slice}
 use Rattle.std.proofs.lemmas.Iterator.Consumers.{YieldsList-at, YieldsList-from_copied}
-use Rattle.vb_core.specs.declared.error.BufferError.TheVariants.{OutOfMemory}
+use Rattle.vb_set.specs.declared.BufferError.TheVariants.{OutOfMemory}
 use Rattle.vb_set.proofs.IndicesLemmas.{items_are, none_past}
 use Rattle.vb_set.specs.Takes.{with_true}
 use Rattle.vb_pool.proofs.TakingLemmas.{below_all}
