@@ -209,8 +209,15 @@ impl<'a> BitsMut<'a> {
     /// assert_eq!(above, [0b1110]);
     /// ```
     #[inline]
-    pub fn fill_with(&mut self, bit: impl FnMut(usize) -> bool) {
-        portable::pack(self, bit);
+    pub fn fill_with(&mut self, mut bit: impl FnMut(usize) -> bool) {
+        let mut made = [false; 512];
+        for start in (0..self.len).step_by(made.len()) {
+            let len = (self.len - start).min(made.len());
+            for (place, made) in (start..).zip(&mut made[..len]) {
+                *made = bit(place);
+            }
+            kernels::pack_bools(&mut self.part(start, len), &made[..len]);
+        }
     }
 
     /// Copies the truth values.

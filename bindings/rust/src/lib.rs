@@ -16,9 +16,9 @@
 //! at every offset and length, for x86-64-v2 or for x86-64-v3, by what the processor has. Three
 //! things are Rust of this crate alone, which is compared with loops over single bits and isn't
 //! proved: single bits and windows of at most 64 bits, which need no call;
-//! [`filter_into`](Bits::filter_into) and [`fill_with`](BitsMut::fill_with); and everything on
-//! other machines, under Miri, and where the archives of those functions aren't there when the
-//! crate is built. [`Level::current`] says which it is.
+//! [`filter_into`](Bits::filter_into); and everything on other machines, under Miri, and where the
+//! archives of those functions aren't there when the crate is built. [`Level::current`] says which
+//! it is.
 //!
 //! # Features
 //!

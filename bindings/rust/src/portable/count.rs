@@ -1,6 +1,6 @@
 //! Questions on windows.
 
-use super::word::{low, only_word, word_at, words};
+use super::word::{first_eight, low, only_word, word_at, words};
 use crate::Bits;
 
 fn ones(word: u64) -> usize {
@@ -15,23 +15,10 @@ pub fn count_ones(bits: Bits<'_>) -> usize {
     let tail = head + 8 * whole;
     let first = (bits.offset() + head) / 8;
     let words = bits.bytes()[first..first + whole].chunks_exact(8);
-    let rest = words
-        .remainder()
-        .iter()
-        .map(|byte| byte.count_ones() as usize);
-    let [head, tail] = [bits.part(0, head), bits.part(tail, bits.len() - tail)].map(only_word);
-    ones(head)
-        + rest.sum::<usize>()
-        + ones(tail)
-        + words
-            .map(|eight| {
-                eight
-                    .iter()
-                    .rev()
-                    .fold(0, |word, &byte| word << 8 | u64::from(byte))
-            })
-            .map(ones)
-            .sum::<usize>()
+    let rest = first_eight(words.remainder());
+    let ends = [(0, head), (tail, bits.len() - tail)];
+    let ends = ends.map(|(start, len)| ones(only_word(bits.part(start, len))));
+    words.map(first_eight).map(ones).sum::<usize>() + ones(rest) + ends[0] + ends[1]
 }
 
 pub fn select(bits: Bits<'_>, n: usize) -> Option<usize> {

@@ -1,6 +1,5 @@
 //! Places and runs of true bits, written into a slice.
 
-use super::count::{select, select_unset};
 use super::word::words;
 use crate::Bits;
 use crate::kernels::Run;
@@ -20,19 +19,31 @@ pub fn set_indices(bits: Bits<'_>, out: &mut [usize]) -> usize {
     written
 }
 
+/// A run begins at each bit that differs from the one before it, and ends at the next one.
 pub fn set_slices(bits: Bits<'_>, out: &mut [Run]) -> usize {
-    let mut at = 0;
-    for (written, run) in out.iter_mut().enumerate() {
-        let rest = bits.part(at, bits.len() - at);
-        let Some(start) = select(rest, 0) else {
-            return written;
-        };
-        let rest = rest.part(start, rest.len() - start);
-        *run = Run {
-            start: at + start,
-            end: at + start + select_unset(rest, 0).unwrap_or(rest.len()),
-        };
-        at = run.end;
+    let (mut runs, mut written) = (out.iter_mut(), 0);
+    let (mut begun, mut last) = (None, 0);
+    for (i, word) in words(bits).enumerate() {
+        let mut edges = word ^ (word << 1 | last);
+        last = word >> 63;
+        while edges != 0 {
+            let place = 64 * i + edges.trailing_zeros() as usize;
+            edges &= edges - 1;
+            let Some(start) = begun.take() else {
+                begun = Some(place);
+                continue;
+            };
+            let Some(run) = runs.next() else {
+                return written;
+            };
+            *run = Run { start, end: place };
+            written += 1;
+        }
     }
-    out.len()
+    if let (Some(start), Some(run)) = (begun, runs.next()) {
+        let end = bits.len();
+        *run = Run { start, end };
+        written += 1;
+    }
+    written
 }

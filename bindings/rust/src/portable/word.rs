@@ -10,7 +10,7 @@ pub fn low(len: usize) -> u64 {
 
 /// The first eight bytes as a number, lowest first; those that are missing are 0.
 #[inline]
-fn first_eight(bytes: &[u8]) -> u64 {
+pub fn first_eight(bytes: &[u8]) -> u64 {
     if let Some(eight) = bytes.first_chunk() {
         return u64::from_le_bytes(*eight);
     }
@@ -31,10 +31,13 @@ pub fn word_at(bits: Bits<'_>, i: usize) -> u64 {
 pub fn only_word(bits: Bits<'_>) -> u64 {
     let (first, shift) = (bits.offset() / 8, bits.offset() % 8);
     let bytes = &bits.bytes()[first..];
-    let mut word = first_eight(bytes) >> shift;
-    if shift + bits.len() > 64 {
-        word |= u64::from(bytes[8]) << (64 - shift);
-    }
+    let word = match bytes.split_first_chunk() {
+        Some((eight, rest)) => {
+            let next = rest.first().copied().map_or(0, u64::from);
+            u64::from_le_bytes(*eight) >> shift | next << 1 << (63 - shift)
+        }
+        None => first_eight(bytes) >> shift,
+    };
     word & low(bits.len())
 }
 
