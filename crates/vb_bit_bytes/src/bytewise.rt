@@ -18,7 +18,8 @@ use vb_mem::ByteBufferMut;
 /// written to `room`, an empty buffer.
 ///
 /// Where the two windows begin at one bit, each byte is made of two others in one pass; else the
-/// bytes of `left` are copied and combined in place. Refused by `OutOfMemory` alone.
+/// bytes of `left` are copied and combined in place. Where `room` has not as many bytes, memory is
+/// taken for them. Refused by `OutOfMemory` alone; `room` is gone then.
 pub fn combine_into<A: Allocator + Clone>(
     room: ByteBufferMut<A>,
     left: &[u8],

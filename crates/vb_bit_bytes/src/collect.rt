@@ -14,7 +14,7 @@ use vb_pack::{collect_bool_bytes, map_bool_bytes, pack_bools, pack_truthy};
 /// Bytes whose first `len` bits are what `f` answers at the places from 0 up to `len`, as few as
 /// hold them.
 ///
-/// Refused by `OutOfMemory` alone, before the first question.
+/// It takes memory for these bytes. Refused by `OutOfMemory` alone, before the first question.
 pub fn collect_bool<A: Allocator + Clone, F: FnMut(usize) -> bool>(
     alloc: A,
     len: usize,
@@ -57,7 +57,8 @@ pub fn collect_bool_shared<A: Allocator + Clone, F: FnMut(usize) -> bool>(
 /// with the bit there, as the first bits of `bytes`, which can be shared then. What stood in the
 /// first bytes is written over.
 ///
-/// Refused by `OutOfMemory` alone, before the first question.
+/// It takes memory for the count of owners. Refused by `OutOfMemory` alone, before the first
+/// question; the bytes are gone then.
 pub fn map_bool_shared<A: Allocator + Clone, F: FnMut(usize, bool) -> bool>(
     bytes: ByteBufferMut<A>,
     src: &[u8],
@@ -83,7 +84,8 @@ pub fn map_bool_shared<A: Allocator + Clone, F: FnMut(usize, bool) -> bool>(
     Ok(answers)
 }
 
-/// Bytes whose first bits are truth values, as few as hold them. Refused by `OutOfMemory` alone.
+/// Bytes whose first bits are truth values, as few as hold them, for which it takes memory. Refused
+/// by `OutOfMemory` alone.
 pub fn from_bools<A: Allocator + Clone>(
     alloc: A,
     bools: &[bool],

@@ -15,8 +15,9 @@ use vb_take::set_bits_at;
 /// Bytes whose first `len` bits are true exactly at the places that an iterator gives, which may
 /// come more than once, as few as hold them.
 ///
-/// Refused by `OutOfMemory` before the iterator is asked, else by `IndexOutOfRange` with the first
-/// number that isn't below `len`, behind which it isn't asked.
+/// It takes memory for these bytes, and for no list of the places. Refused by `OutOfMemory` before
+/// the iterator is asked, else by `IndexOutOfRange` with the first number that isn't below `len`,
+/// behind which it isn't asked. The iterator is gone then.
 pub fn from_indices<A: Allocator + Clone, I: IntoIterator<Item = usize>>(
     alloc: A,
     len: usize,

@@ -8,7 +8,8 @@ use std::alloc::Allocator;
 use vb_core::{Alignment, BufferError};
 use vb_mem::{BufferMut, ByteBuffer, ByteBufferMut};
 
-/// Bytes whose first `n` bits are all `v`, as few as hold them. Refused by `OutOfMemory` alone.
+/// Bytes whose first `n` bits are all `v`, as few as hold them, for which it takes memory. Refused
+/// by `OutOfMemory` alone.
 #[tactic(auto, using(vb_bits::proofs::WindowLemmas::windows))]
 pub fn full<A: Allocator + Clone>(
     alloc: A,

@@ -59,7 +59,7 @@ module _ {S : Type 0} (steps : S → Option ℕ → S → Type 0) where
       × YieldsThen steps s places (Some index) t × AllBelow n places × (n ≤ index)
 
 -- why a set isn't made of what an iterator gives: want of memory, or the first number that isn't
--- below n, behind which nothing was asked
+-- below n
 abbrev pub IndexRefused : {U S : Type 0} → (U → S → Type 0) → (S → Option ℕ → S → Type 0)
     → ℕ → U → BufferError → Type 0
 IndexRefused {S = S} becomes steps n source e =
