@@ -1,7 +1,8 @@
 //! A source of bits that adds up what is read of it.
-ghost use Rattle.std.specs.Prelude.{◌≡◌, ◌+◌, ◌*◌, ◌^◌, ◌<◌, ◌≤◌, length, slice_range};
+ghost use Rattle.std.specs.Prelude.{◌≡◌, ◌+◌, ◌*◌, ◌^◌, ◌<◌, ◌≤◌, length, min, slice_range};
+ghost use Rattle.std.below.core.specs.declared.int.u64.TheConstants.{MAX};
 ghost use Rattle.vortex_buffer.specs.Bits.{bits, count};
-ghost use Rattle.vortex_buffer.specs.Looks.{CountedBytes, looks};
+ghost use Rattle.vortex_buffer.specs.Looks.{looks};
 
 use std::marker::Model;
 use vortex_buffer::{GhostCount, Glance, count_ones_by};
@@ -16,11 +17,11 @@ pub struct Metered<'a> {
 
 impl<'a> Model for Metered<'a> {
     ghost use Rattle.std.specs.Prelude.{◌*◌, ◌≤◌};
-    ghost use Rattle.vortex_buffer.specs.Looks.{CountedBytes};
+    ghost use Rattle.use_kernels.specs.Sources.{MeteredBytes};
 
-    ghost Value = { CountedBytes };
+    ghost Value = { MeteredBytes };
 
-    ghost view = { λ s. record { bytes = s.data.now; looks = s.count.count } };
+    ghost view = { λ s. record { bytes = s.data.now; looks = s.count.count; read = s.read } };
 
     ghost invariant = { λ s. s.read ≤ 64 * s.count.count };
 }
@@ -30,6 +31,7 @@ impl<'a> Metered<'a> {
     pub fn new(bytes: &'a [u8]) -> Self
         ensures bytes { result.bytes ≡ bytes.now }
         ensures unseen { result.looks ≡ 0 }
+        ensures unread { result.read ≡ 0 }
     {
         Metered {
             data: bytes,
@@ -41,7 +43,8 @@ impl<'a> Metered<'a> {
     /// How many bytes were read, those read twice counted twice, and `u64::MAX` where that passes
     /// it.
     pub fn bytes_read(&self) -> u64
-        ensures { result ≤ 64 * self.now.looks }
+        ensures value { result ≡ self.now.read }
+        ensures most { result ≤ 64 * self.now.looks }
     {
         self.read
     }
@@ -51,7 +54,9 @@ impl<'a> Metered<'a> {
         requires few { N ≤ 64 }
         requires inside { at + N ≤ length self.old.bytes }
         ensures value { result ≡ slice_range self.old.bytes at (at + N) }
-        ensures look { self.new ≡ record self.old { looks = self.old.looks + 1 } }
+        ensures bytes { self.new.bytes ≡ self.old.bytes }
+        ensures look { self.new.looks ≡ self.old.looks + 1 }
+        ensures read { self.new.read ≡ min (self.old.read + N) u64.MAX }
     {
         self.count.add_one();
         self.read = self.read.saturating_add(N as u64);
