@@ -1,6 +1,8 @@
 //! Lists of elements as bytes: the bytes of each, one element after the other.
 //!
 //! The bytes of an element are those that [`Element::put`] writes and [`Element::get`] reads.
+//!
+//! [`OwnedItems`] gives the items of a list one by one.
 #![tactic(auto)]
 
 ghost use Rattle.std.specs.Prelude.{◌≡◌, ◌≢◌, ◌+◌, ◌*◌, ◌%◌, ◌^◌, ◌<◌, ◌≤◌, [], ◌++◌};
@@ -8,6 +10,9 @@ ghost use Rattle.std.specs.Prelude.{length, vec_capacity, IfOk, IsOk, IsErrOf};
 ghost use Rattle.vb_bytes.specs.Answers.{MakesBytes, ReadsBytes};
 ghost use Rattle.vb_bytes.specs.ByteForm.{byteform, IsReadFrom, AreOnlyItems};
 
+mod owned;
+
+pub use owned::{HasItems, OwnedItems};
 use std::alloc::Allocator;
 use vb_core::{BufferError, Element};
 

@@ -24,7 +24,7 @@ pub trait TrustedLen: Iterator {
 }
 
 /// An iterator with the number of items that it has still to give, which its maker vouches for.
-#[derive(Drop)]
+#[derive(Debug, Drop)]
 pub struct TrustedLenAdapter<I> {
     iter: I,
     left: usize,

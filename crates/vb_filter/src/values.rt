@@ -49,7 +49,8 @@ impl<T: Element, A: Allocator + Clone> Filter for Buffer<T, A> {
             });
         }
         let count = mask.true_count();
-        let kept = self.with_room(count)?;
+        let alignment = self.alignment();
+        let kept = BufferMut::with_capacity_aligned(self.allocator().clone()?, count, alignment)?;
         if count > items.len() / 2 {
             push_runs(kept, items, mask).freeze()
         } else {

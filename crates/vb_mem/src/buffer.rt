@@ -16,10 +16,9 @@ mod make;
 
 /// A list of items whose storage other buffers may share, with an alignment.
 ///
-/// The reported alignment is the one that was asked for, or that of an item. Where the buffer isn't
-/// empty, the place of its first item in the storage, in bytes, is a multiple of it, and the
-/// storage is declared with it or with the one that it was over-aligned to, if that is greater.
-/// Equality, order and hash are those of the list.
+/// The reported alignment is at least that of an item. Where the buffer isn't empty, the place of
+/// its first item in the storage, in bytes, is a multiple of it, and the storage is declared with
+/// it or with a greater one. Equality, order and hash are those of the list.
 #[derive(Drop)]
 pub struct Buffer<T: Element, A: Allocator = Global> {
     content: Content<T, A>,
@@ -95,6 +94,11 @@ impl<T: Element, A: Allocator> Buffer<T, A> {
             Content::Nothing(alignment) => *alignment,
             Content::Stored(storage, _) => storage.as_ref().declared(),
         }
+    }
+
+    /// The allocator that copies ask.
+    pub fn allocator(&self) -> &A {
+        &self.alloc
     }
 
     /// Whether the buffer is aligned to an alignment: it is empty, or the place in bytes of its

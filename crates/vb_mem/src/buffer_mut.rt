@@ -13,14 +13,18 @@ mod convert;
 mod grow;
 mod make;
 
+// What storage is over-aligned to where nothing else is preferred.
+pub(crate) const DEFAULT: Option<Alignment> = Some(Alignment::DEFAULT_ALIGNMENT);
+
 /// A list of items that grows, with an alignment.
 ///
-/// The reported alignment is the one that was asked for, or that of an item; a
-/// [`Buffer`](crate::Buffer) made of the list reports it too. The declared alignment is that of the
-/// storage: the greater of the reported one and the one that it was over-aligned to, which is 256
-/// bytes or the preferred one, where one may be given (`None` prefers none). Growth keeps both.
+/// The reported alignment is at least that of an item, and a [`Buffer`](crate::Buffer) made of the
+/// list reports it too. The declared alignment is that of the storage, and at least the reported
+/// one. Growth keeps both.
 ///
-/// An alignment that is asked for is at least that of an item.
+/// A constructor reports the alignment that is asked for, which is at least that of an item, or
+/// that of an item. The storage is declared with it or with the one that it is over-aligned to, if
+/// that is greater: 256 bytes, or the preferred one, where one may be given (`None` prefers none).
 #[derive(Drop)]
 pub struct BufferMut<T: Element, A: Allocator = Global> {
     pub(crate) items: Vec<T, A>,
@@ -77,6 +81,11 @@ impl<T: Element, A: Allocator> BufferMut<T, A> {
         ensures { result ≡ (length self.now.list == 0) }
     {
         self.items.is_empty()
+    }
+
+    /// The allocator of the storage, which growth and copies ask.
+    pub fn allocator(&self) -> &A {
+        self.items.allocator()
     }
 
     /// The number of items up to which the buffer grows without more memory; at least the length.

@@ -23,7 +23,6 @@ enum Growing {
     FromTrustedLenIter,
     TryFromTrustedLenIter,
     IntoMut,
-    WithRoom,
 }
 
 impl Growing {
@@ -52,7 +51,6 @@ impl Growing {
             Growing::FromTrustedLenIter => BufferMut::from_trusted_len_iter(alloc, 3..6u32),
             Growing::TryFromTrustedLenIter => try_collected(alloc),
             Growing::IntoMut => Buffer::copy_from(alloc, &[1, 2])?.into_mut(),
-            Growing::WithRoom => room_of(Buffer::copy_from_aligned(alloc, &[1, 2], wide)),
         }
     }
 }
@@ -65,16 +63,6 @@ pub fn cloned<A: Allocator + Clone>(
     let clone = buffer.clone();
     drop(buffer);
     clone
-}
-
-/// Room from the allocator of a buffer that was made.
-fn room_of<A: Allocator + Clone>(
-    made: Result<Buffer<u32, A>, BufferError>,
-) -> Result<BufferMut<u32, A>, BufferError> {
-    let buffer = made?;
-    let room = buffer.with_room(3);
-    drop(buffer);
-    room
 }
 
 fn try_collected<A: Allocator>(alloc: A) -> Result<BufferMut<u32, A>, BufferError> {
@@ -101,6 +89,7 @@ enum Shared {
     FromIter,
     FromTrustedLenIter,
     FromVec,
+    FromMut,
     SliceUnaligned,
     Slice,
     SliceWithAlignment,
@@ -126,6 +115,7 @@ impl Shared {
             Shared::FromIter => Buffer::from_iter(alloc, (3..6u32).filter(each)),
             Shared::FromTrustedLenIter => Buffer::from_trusted_len_iter(alloc, 3..6u32),
             Shared::FromVec => of_vector(alloc),
+            Shared::FromMut => Buffer::from_mut(BufferMut::copy_from(alloc, &[1, 2])?),
             Shared::SliceUnaligned => unaligned_part(Buffer::copy_from(alloc, &[1, 2, 3])),
             Shared::Slice => sliced(Buffer::copy_from(alloc, &[1, 2, 3, 4]), 2, 4),
             Shared::SliceWithAlignment => aligned_part(Buffer::copy_from(alloc, &[1, 2, 3, 4])),
@@ -245,7 +235,6 @@ const ROWS: &[(Shared, &[u32], (usize, usize))] = &[
         (4, 256),
     ),
     (Shared::Frozen(Growing::IntoMut), &[1, 2], (4, 256)),
-    (Shared::Frozen(Growing::WithRoom), &[], (512, 512)),
     (Shared::Clone, &[1, 2], (4, 256)),
     (Shared::Aligned, &[1, 2], (512, 512)),
     (Shared::CopyFromAligned, &[1, 2], (512, 512)),
@@ -257,6 +246,7 @@ const ROWS: &[(Shared, &[u32], (usize, usize))] = &[
     (Shared::FromIter, &[3, 4, 5], (4, 256)),
     (Shared::FromTrustedLenIter, &[3, 4, 5], (4, 256)),
     (Shared::FromVec, &[1, 2], (4, 4)),
+    (Shared::FromMut, &[1, 2], (4, 256)),
     (Shared::SliceUnaligned, &[2], (4, 256)),
     (Shared::Slice, &[3, 4], (4, 256)),
     (Shared::SliceWithAlignment, &[4], (4, 256)),

@@ -4,7 +4,9 @@
 //! written over in place, and memory is taken for the count of owners alone; else they are copied,
 //! those of the window alone, which takes memory for these too. All of it is asked of the left
 //! value's allocator. Lengths are compared before memory is asked for.
-ghost use Rattle.std.specs.Prelude.{◌≡◌, ◌≢◌, length, IsOk, IsErrOf};
+ghost use Rattle.std.specs.Prelude.{◌≡◌, ◌≢◌, ◌≤◌, [], length, IsOk, IsErrOf};
+ghost use Rattle.vb_mem.specs.Answers.{Makes};
+ghost use Rattle.vb_mem.specs.OpenBuffer.{HoldsMade};
 ghost use Rattle.vb_bit_buffer.specs.Gives.{GivesCombined, GivesNegated};
 
 use super::BitBuffer;
@@ -13,6 +15,7 @@ use std::ops::{BitAnd, BitOr, BitXor, Not};
 use vb_bit_bytes::{combine, combine_into, negate};
 use vb_bits::BitOp;
 use vb_core::BufferError;
+use vb_mem::{BufferMut, ByteBufferMut};
 
 #[tactic(auto, using(crate::proofs::SetLemmas::sets))]
 impl<A: Allocator + Clone> BitBuffer<A> {
@@ -67,13 +70,20 @@ impl<A: Allocator + Clone> BitBuffer<A> {
         })
     }
 
+    // Room for so many bytes, from the allocator of the bits.
+    fn room(&self, bytes: usize) -> Result<ByteBufferMut<A>, BufferError>
+        ensures { Makes (λ b. HoldsMade [] 0 b × (bytes ≤ b.room)) result }
+    {
+        BufferMut::with_capacity(self.buffer.allocator().clone()?, bytes)
+    }
+
     // The bits combined with those of a set of as many, in bytes of their own.
     fn combine_apart(&self, right: &Self, op: BitOp) -> Result<Self, BufferError>
         requires { length self.now.bits ≡ length right.now.bits }
         ensures { GivesCombined op self.now right.now result }
     {
         let (offset, len) = (self.offset, self.len);
-        let room = self.buffer.with_room((offset + len).div_ceil(8))?;
+        let room = self.room((offset + len).div_ceil(8))?;
         let (left, other) = (self.buffer.as_slice(), right.buffer.as_slice());
         let bytes = combine_into(room, left, offset, other, right.offset, len, op)?;
         let buffer = bytes.freeze()?;
@@ -108,7 +118,7 @@ impl<A: Allocator + Clone> BitBuffer<A> {
     {
         let (offset, len) = (self.offset, self.len);
         let count = (offset + len).div_ceil(8);
-        let mut bytes = self.buffer.with_room(count)?;
+        let mut bytes = self.room(count)?;
         bytes.extend_from_slice(&self.buffer.as_slice()[..count])?;
         negate(&mut bytes, offset, len);
         let buffer = bytes.freeze()?;

@@ -6,23 +6,26 @@ ghost use Rattle.vb_mem.specs.SharedBuffer.{ShowsMade, ShowsRead};
 
 use super::Buffer;
 use crate::Result;
-use crate::buffer_mut::BufferMut;
+use crate::buffer_mut::{BufferMut, DEFAULT};
 use bytes::Bytes;
 use std::alloc::Allocator;
 use vb_bytes::{bytes_of, items_of};
 use vb_core::{Alignment, Element};
 
 impl<T: Element, A: Allocator + Clone> Buffer<T, A> {
-    /// The bytes of the items, of alignment 1, copied. Refused as [`Buffer::into_bytes`] is.
+    /// The bytes of the items, of alignment 1, copied and over-aligned to 256 bytes. The buffer
+    /// stays. Refused with `TooManyBytes` where the number of bytes passes `usize`, and else with
+    /// `OutOfMemory`.
     pub fn as_bytes(&self) -> Result<Buffer<u8, A>>
         ensures { MakesBytes (length self.now.list * T.SIZE)
             (ShowsMade (byteform T.form self.now.list) 0) result }
     {
         let bytes = bytes_of(&self.alloc, self.as_slice())?;
-        BufferMut::of_made(bytes, Alignment::none()).freeze()
+        BufferMut::of_vec(bytes, Alignment::none(), DEFAULT).freeze()
     }
 
-    /// The bytes of the items, of the same alignment, copied. Refused as [`Buffer::into_bytes`] is.
+    /// The bytes of the items, of the same alignment, copied and over-aligned to 256 bytes. Refused
+    /// as [`Buffer::as_bytes`] is; the buffer is gone then.
     pub fn into_byte_buffer(self) -> Result<Buffer<u8, A>>
         ensures { MakesBytes (length self.list * T.SIZE)
             (ShowsMade (byteform T.form self.list) self.exponent) result }
@@ -30,11 +33,11 @@ impl<T: Element, A: Allocator + Clone> Buffer<T, A> {
         let alignment = self.alignment();
         let bytes = bytes_of(&self.alloc, self.as_slice());
         drop(self);
-        BufferMut::of_made(bytes?, alignment).freeze()
+        BufferMut::of_vec(bytes?, alignment, DEFAULT).freeze()
     }
 
-    /// The bytes of the items as `Bytes`, copied. Refused with `TooManyBytes` where their number
-    /// passes `usize`, and else with `OutOfMemory`; the buffer is gone then.
+    /// The bytes of the items as `Bytes`, copied. Refused as [`Buffer::as_bytes`] is; the buffer is
+    /// gone then.
     pub fn into_bytes(self) -> Result<Bytes<A>>
         ensures { MakesBytes (length self.list * T.SIZE)
             (λ bytes. bytes ≡ byteform T.form self.list) result }
@@ -44,9 +47,9 @@ impl<T: Element, A: Allocator + Clone> Buffer<T, A> {
         Ok(Bytes::from_vec(bytes?)?)
     }
 
-    /// The items whose bytes a buffer has, of the alignment of an item, copied. Refused with
-    /// `ByteLength` exactly where the size of an item doesn't divide the number of bytes, and else
-    /// with `OutOfMemory`.
+    /// The items whose bytes a buffer has, of the alignment of an item, copied and over-aligned to
+    /// 256 bytes. Refused with `ByteLength` exactly where the size of an item doesn't divide the
+    /// number of bytes, and else with `OutOfMemory`; the bytes are gone then.
     pub fn from_byte_buffer(bytes: Buffer<u8, A>) -> Result<Self>
         ensures { ReadsBytes (length bytes.list) T.SIZE
             (ShowsRead T.form T.is_in_type bytes.list T.align_exponent) result }
@@ -54,8 +57,8 @@ impl<T: Element, A: Allocator + Clone> Buffer<T, A> {
         Buffer::from_byte_buffer_aligned(bytes, Alignment::of::<T>())
     }
 
-    /// The items whose bytes a buffer has, with an alignment, copied. Refused as
-    /// [`Buffer::from_byte_buffer`] is.
+    /// The items whose bytes a buffer has, with an alignment, copied and over-aligned to 256 bytes.
+    /// Refused as [`Buffer::from_byte_buffer`] is.
     pub fn from_byte_buffer_aligned(bytes: Buffer<u8, A>, alignment: Alignment) -> Result<Self>
         requires { T.align_exponent ≤ alignment }
         ensures { ReadsBytes (length bytes.list) T.SIZE
@@ -63,26 +66,31 @@ impl<T: Element, A: Allocator + Clone> Buffer<T, A> {
     {
         let items = items_of(&bytes.alloc, bytes.as_slice());
         drop(bytes);
-        BufferMut::of_made(items?, alignment).freeze()
+        BufferMut::of_vec(items?, alignment, DEFAULT).freeze()
     }
 
-    /// The items whose bytes `Bytes` has, of the alignment of an item, copied. Refused as
-    /// [`Buffer::from_byte_buffer`] is.
-    pub fn from_bytes(alloc: A, bytes: Bytes<A>) -> Result<Self>
+    /// The items whose bytes `Bytes` of any allocator has, of the alignment of an item, copied and
+    /// over-aligned to 256 bytes. Refused as [`Buffer::from_byte_buffer`] is.
+    pub fn from_bytes<B: Allocator>(alloc: A, bytes: Bytes<B>) -> Result<Self>
         ensures { ReadsBytes (length bytes) T.SIZE
             (ShowsRead T.form T.is_in_type bytes T.align_exponent) result }
     {
         Buffer::from_bytes_aligned(alloc, bytes, Alignment::of::<T>())
     }
 
-    /// The items whose bytes `Bytes` has, with an alignment, copied. Refused as
-    /// [`Buffer::from_byte_buffer`] is.
-    pub fn from_bytes_aligned(alloc: A, bytes: Bytes<A>, alignment: Alignment) -> Result<Self>
+    /// The items whose bytes `Bytes` of any allocator has, with an alignment, copied and
+    /// over-aligned to 256 bytes. Refused as [`Buffer::from_byte_buffer`] is.
+    pub fn from_bytes_aligned<B: Allocator>(
+        alloc: A,
+        bytes: Bytes<B>,
+        alignment: Alignment,
+    ) -> Result<Self>
         requires { T.align_exponent ≤ alignment }
         ensures { ReadsBytes (length bytes) T.SIZE
             (ShowsRead T.form T.is_in_type bytes alignment) result }
     {
-        let items = items_of(&alloc, bytes.as_slice())?;
-        BufferMut::of_made(items, alignment).freeze()
+        let items = items_of(&alloc, bytes.as_slice());
+        drop(bytes);
+        BufferMut::of_vec(items?, alignment, DEFAULT).freeze()
     }
 }

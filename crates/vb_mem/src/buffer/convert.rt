@@ -1,9 +1,9 @@
 //! More owners of a buffer, other alignments, and items to be written.
-ghost use Rattle.std.specs.Prelude.{◌≡◌, ◌≤◌, []};
+ghost use Rattle.std.specs.Prelude.{◌≡◌, ◌≤◌};
 ghost use Rattle.std.specs.Prelude.{IfOk, IfErr, IsOk, IsOkAnd, IsErrOf, IsOkUnless};
 ghost use Rattle.std.specs.Borrow.{sem};
 ghost use Rattle.vb_mem.specs.Answers.{Makes};
-ghost use Rattle.vb_mem.specs.OpenBuffer.{Holds, HoldsMade};
+ghost use Rattle.vb_mem.specs.OpenBuffer.{Holds};
 ghost use Rattle.vb_mem.specs.SharedBuffer.{Shows, ShowsMade, IsAlignedTo, KeepsItems, shown};
 ghost use Rattle.vb_mem.specs.Loans.{LendsAll};
 
@@ -11,7 +11,7 @@ use super::Buffer;
 use crate::Result;
 use crate::buffer_mut::BufferMut;
 use crate::content::Content;
-use std::alloc::Allocator;
+use std::alloc::{AllocError, Allocator};
 use std::mem;
 use std::rc::Rc;
 use vb_core::{Alignment, BufferError, Element};
@@ -65,12 +65,11 @@ impl<T: Element, A: Allocator> Buffer<T, A> {
     }
 }
 
-impl<T: Element, A: Allocator + Clone> Buffer<T, A> {
-    /// One more owner of the same items, in constant time and without memory for the storage.
-    /// Refused with `OutOfMemory` where a copy of the allocator finds no memory.
-    pub fn clone(&self) -> Result<Self>
-        ensures { Makes (λ b. b ≡ self.now) result }
-    {
+/// One more owner, as [`Buffer::clone`] makes it, for code over std's trait.
+impl<T: Element, A: Allocator + Clone> Clone for Buffer<T, A> {
+    ghost is_clone = { λ b copy. copy ≡ b };
+
+    fn clone(&self) -> Result<Self, AllocError> {
         let alloc = self.alloc.clone()?;
         let content = match &self.content {
             Content::Nothing(alignment) => Content::Nothing(*alignment),
@@ -78,25 +77,28 @@ impl<T: Element, A: Allocator + Clone> Buffer<T, A> {
         };
         Ok(Buffer { content, alloc })
     }
+}
 
-    /// Room for `capacity` items, of the same alignment and from the same allocator, over-aligned
-    /// to 256 bytes. Refused with `OutOfMemory`.
-    pub fn with_room(&self, capacity: usize) -> Result<BufferMut<T, A>>
-        ensures { Makes (λ b. HoldsMade [] self.now.exponent b × (capacity ≤ b.room)) result }
+impl<T: Element, A: Allocator + Clone> Buffer<T, A> {
+    /// One more owner of the same items, in constant time and without memory for the storage.
+    /// Refused with `OutOfMemory` where a copy of the allocator finds no memory.
+    pub fn clone(&self) -> Result<Self>
+        ensures { Makes (λ b. b ≡ self.now) result }
     {
-        BufferMut::with_capacity_aligned(self.alloc.clone()?, capacity, self.alignment())
+        Ok(Clone::clone(self)?)
     }
 
     /// The same items, to be changed; all other owners keep theirs. A lone owner's stay in their
-    /// storage, as in [`Buffer::try_into_mut`]; where there are others, the items are copied.
-    /// Refused with `OutOfMemory`; the buffer is gone then.
+    /// storage, as in [`Buffer::try_into_mut`]; where there are others, the items are copied and
+    /// over-aligned to 256 bytes. Refused with `OutOfMemory`; the buffer is gone then.
     pub fn into_mut(self) -> Result<BufferMut<T, A>>
         ensures { Makes (λ b. KeepsItems self (shown b)) result }
     {
         match self.try_into_mut() {
             Ok(growing) => Ok(growing),
             Err(shared) => {
-                let copy = shared.copy(shared.alignment());
+                let alignment = shared.alignment();
+                let copy = BufferMut::copy_in(&shared.alloc, shared.as_slice(), alignment);
                 drop(shared);
                 copy
             }
@@ -105,7 +107,8 @@ impl<T: Element, A: Allocator + Clone> Buffer<T, A> {
 
     /// The same items with another alignment, which is at least that of an item. Where
     /// [`Buffer::is_aligned`] holds of it, the buffer keeps its storage, takes no memory and isn't
-    /// refused; else the items are copied. Refused with `OutOfMemory`; the buffer is gone then.
+    /// refused; else the items are copied, over-aligned to 256 bytes. Refused with `OutOfMemory`;
+    /// the buffer is gone then.
     pub fn aligned(self, alignment: Alignment) -> Result<Self>
         requires { T.align_exponent ≤ alignment }
         ensures ok { IfOk result (λ b. (b.list ≡ self.list) × (b.exponent ≡ alignment)) }
@@ -118,7 +121,7 @@ impl<T: Element, A: Allocator + Clone> Buffer<T, A> {
         if self.is_aligned(alignment) {
             return self.ensure_aligned(alignment);
         }
-        let copy = self.copy(alignment);
+        let copy = BufferMut::copy_in(&self.alloc, self.as_slice(), alignment);
         drop(self);
         copy?.freeze()
     }
@@ -128,8 +131,8 @@ impl<T: Element, A: Allocator + Clone> Buffer<T, A> {
     /// Where there are other owners the items are copied, over-aligned to 256 bytes.
     ///
     /// What is lent is the growing buffer that holds the items. In the end the buffer shows all
-    /// that is left there, from the front of its storage on. Refused with `OutOfMemory`: the items
-    /// and the reported alignment stay then, and the declared one is the storage's or a copy's.
+    /// that is left there, from the front of its storage on. Refused with `OutOfMemory`, before
+    /// anything is changed; the contract says so of the items and the reported alignment alone.
     pub fn items_mut(&mut self) -> Result<&mut BufferMut<T, A>>
         ensures* writes_back { sem 𝓛 (LendsAll T.row A.row T.Element A.Allocator
             self.entry result) }
@@ -138,18 +141,9 @@ impl<T: Element, A: Allocator + Clone> Buffer<T, A> {
         if self.content.narrow_lone() {
             return self.content.whole_mut();
         }
-        let alloc = self.alloc.clone()?;
-        let storage = Rc::new(alloc, self.copy(self.alignment())?)?;
+        let copy = BufferMut::copy_in(&self.alloc, self.as_slice(), self.alignment())?;
+        let storage = Rc::new(self.alloc.clone()?, copy)?;
         drop(mem::replace(&mut self.content, Content::Stored(storage, None)));
         self.content.whole_mut()
-    }
-
-    /// The items with an alignment that is at least that of an item, in a copy that is
-    /// over-aligned to 256 bytes. Refused with `OutOfMemory`.
-    fn copy(&self, alignment: Alignment) -> Result<BufferMut<T, A>>
-        requires { T.align_exponent ≤ alignment }
-        ensures { Makes (HoldsMade self.now.list alignment) result }
-    {
-        BufferMut::copy_from_aligned(self.alloc.clone()?, self.as_slice(), alignment)
     }
 }

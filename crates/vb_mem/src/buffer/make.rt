@@ -125,29 +125,24 @@ impl<T: Element, A: Allocator + Clone> Buffer<T, A> {
     }
 
     /// The items of a vector, of the alignment of an item, with which its storage is declared.
-    /// Nothing is copied. Refused with `OutOfMemory`; the vector is gone then.
+    /// Nothing is copied. The block that counts owners is asked of `alloc`, and so are copies; where
+    /// a lone owner opens the buffer, the storage grows from the vector's allocator. Refused with
+    /// `OutOfMemory`; the vector is gone then.
     pub fn from_vec(alloc: A, items: Vec<T, A>) -> Result<Self>
         ensures { Makes (Shows items.items T.align_exponent 0 T.align_exponent) result }
     {
-        let alignment = Alignment::of::<T>();
-        let mut buffer = Buffer::from_mut(BufferMut {
-            items,
-            alignment,
-            declared: alignment,
-        })?;
-        buffer.alloc = alloc;
-        Ok(buffer)
+        let growing = BufferMut::of_vec(items, Alignment::of::<T>(), None);
+        let content = Content::Stored(Rc::new(alloc.clone()?, growing)?, None);
+        Ok(Buffer { content, alloc })
     }
 
-    /// A growing buffer, to be shared, as [`BufferMut::freeze`] does.
+    /// A growing buffer, to be shared, as [`BufferMut::freeze`] does. Refused with `OutOfMemory`;
+    /// the buffer is gone then.
     pub fn from_mut(growing: BufferMut<T, A>) -> Result<Self>
         ensures { Makes (Shows growing.list growing.exponent 0 growing.declared_exponent) result }
     {
-        let alloc = growing.items.allocator().clone()?;
-        let storage = Rc::new(alloc.clone()?, growing)?;
-        Ok(Buffer {
-            content: Content::Stored(storage, None),
-            alloc,
-        })
+        let alloc = growing.allocator().clone()?;
+        let content = Content::Stored(Rc::new(alloc.clone()?, growing)?, None);
+        Ok(Buffer { content, alloc })
     }
 }

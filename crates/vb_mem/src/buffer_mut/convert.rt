@@ -6,22 +6,32 @@ ghost use Rattle.vb_mem.specs.Answers.{Makes, MakesBytes};
 ghost use Rattle.vb_mem.specs.OpenBuffer.{HoldsMade};
 ghost use Rattle.vb_mem.specs.SharedBuffer.{Shows};
 
-use super::BufferMut;
+use super::{BufferMut, DEFAULT};
 use crate::Result;
 use crate::buffer::Buffer;
-use std::alloc::Allocator;
+use std::alloc::{AllocError, Allocator};
 use vb_bytes::bytes_of;
 use vb_core::{Alignment, BufferError, Element};
 
+/// A copy, as [`BufferMut::clone`] makes it, for code over std's trait.
+impl<T: Element, A: Allocator + Clone> Clone for BufferMut<T, A> {
+    ghost is_clone = { λ b copy. HoldsMade b.list b.exponent copy };
+
+    fn clone(&self) -> Result<Self, AllocError> {
+        BufferMut::clone(self).or(Err(AllocError))
+    }
+}
+
 impl<T: Element, A: Allocator + Clone> BufferMut<T, A> {
-    /// Hands out the buffer, and leaves an empty one of the same alignment. Refused with
-    /// `OutOfMemory` where a copy of the allocator finds no memory; the buffer is unchanged then.
+    /// Hands out the buffer, and leaves an empty one of the same alignment, over-aligned to 256
+    /// bytes. Refused with `OutOfMemory` where a copy of the allocator finds no memory; the buffer
+    /// is unchanged then.
     pub fn take(&mut self) -> Result<Self>
         ensures taken { Makes (λ b. b ≡ self.old) result }
         ensures left { OnOk result (HoldsMade [] self.old.exponent self.new) }
         ensures err { OnErr result (self.new ≡ self.old) }
     {
-        let alloc = self.items.allocator().clone()?;
+        let alloc = self.allocator().clone()?;
         let empty = BufferMut::empty_aligned(alloc, self.alignment);
         Ok(std::mem::replace(self, empty))
     }
@@ -30,21 +40,13 @@ impl<T: Element, A: Allocator + Clone> BufferMut<T, A> {
     pub fn clone(&self) -> Result<Self>
         ensures { Makes (HoldsMade self.now.list self.now.exponent) result }
     {
-        self.copy(self.alignment)
-    }
-
-    /// A copy with an alignment that is at least that of an item, over-aligned to 256 bytes.
-    /// Refused with `OutOfMemory`.
-    fn copy(&self, alignment: Alignment) -> Result<Self>
-        requires { T.align_exponent ≤ alignment }
-        ensures { Makes (HoldsMade self.now.list alignment) result }
-    {
-        BufferMut::copy_from_aligned(self.items.allocator().clone()?, self.as_slice(), alignment)
+        BufferMut::copy_in(self.allocator(), self.as_slice(), self.alignment)
     }
 
     /// The same items with another alignment, which is at least that of an item. An empty buffer,
     /// and one that is declared with it or more, keeps its storage, takes no memory and isn't
-    /// refused; else the items are copied. Refused with `OutOfMemory`; the buffer is gone then.
+    /// refused; else the items are copied, over-aligned to 256 bytes. Refused with `OutOfMemory`;
+    /// the buffer is gone then.
     pub fn aligned(self, alignment: Alignment) -> Result<Self>
         requires { T.align_exponent ≤ alignment }
         ensures ok { IfOk result (λ b. (b.list ≡ self.list) × (b.exponent ≡ alignment)) }
@@ -58,7 +60,7 @@ impl<T: Element, A: Allocator + Clone> BufferMut<T, A> {
         ensures refused { IsOkUnless result BufferError.OutOfMemory }
     {
         if !self.items.is_empty() && self.declared < alignment {
-            let copy = self.copy(alignment);
+            let copy = BufferMut::copy_in(self.allocator(), self.as_slice(), alignment);
             drop(self);
             return copy;
         }
@@ -76,15 +78,15 @@ impl<T: Element, A: Allocator + Clone> BufferMut<T, A> {
         Buffer::from_mut(self)
     }
 
-    /// The bytes of the items, of the same alignment, copied. Refused with `TooManyBytes` where
-    /// their number passes `usize`, and else with `OutOfMemory`; the buffer is gone then.
+    /// The bytes of the items, of the same alignment, copied and over-aligned to 256 bytes. Refused
+    /// as [`Buffer::as_bytes`] is; the buffer is gone then.
     pub fn into_byte_buffer(self) -> Result<BufferMut<u8, A>>
         ensures { MakesBytes (length self.list * T.SIZE)
             (HoldsMade (byteform T.form self.list) self.exponent) result }
     {
         let alignment = self.alignment;
-        let bytes = bytes_of(self.items.allocator(), self.as_slice());
+        let bytes = bytes_of(self.allocator(), self.as_slice());
         drop(self);
-        Ok(BufferMut::of_made(bytes?, alignment))
+        Ok(BufferMut::of_vec(bytes?, alignment, DEFAULT))
     }
 }

@@ -6,13 +6,10 @@ ghost use Rattle.vb_mem.specs.Collected.{OfItems, OfRun};
 ghost use Rattle.vb_mem.specs.Collected.{GivesValues, GivesError, IfStopped};
 ghost use Rattle.vb_mem.specs.OpenBuffer.{Holds, HoldsMade, preferred_over};
 
-use super::BufferMut;
+use super::{BufferMut, DEFAULT};
 use crate::Result;
 use std::alloc::Allocator;
 use vb_core::{Alignment, Element, ExtendError, TrustedLen};
-
-// What storage is over-aligned to where nothing else is preferred.
-const DEFAULT: Option<Alignment> = Some(Alignment::DEFAULT_ALIGNMENT);
 
 impl<T: Element, A: Allocator> BufferMut<T, A> {
     /// Room for `capacity` items, over-aligned to 256 bytes. Refused with `OutOfMemory`.
@@ -22,7 +19,7 @@ impl<T: Element, A: Allocator> BufferMut<T, A> {
         BufferMut::with_capacity_aligned(alloc, capacity, Alignment::of::<T>())
     }
 
-    /// Room for `capacity` items, with an alignment. Refused as [`BufferMut::with_capacity`] is.
+    /// Room for `capacity` items with an alignment, over-aligned to 256 bytes. Refused likewise.
     pub fn with_capacity_aligned(alloc: A, capacity: usize, alignment: Alignment) -> Result<Self>
         requires { T.align_exponent ≤ alignment }
         ensures { Makes (λ b. HoldsMade [] alignment b × (capacity ≤ b.room)) result }
@@ -101,23 +98,22 @@ impl<T: Element, A: Allocator> BufferMut<T, A> {
         requires { T.align_exponent ≤ alignment }
         ensures { Holds [] alignment (preferred_over alignment preferred) result }
     {
-        BufferMut {
-            items: Vec::new(alloc),
-            alignment,
-            declared: alignment.max(preferred.unwrap_or(Alignment::none())),
-        }
+        BufferMut::of_vec(Vec::new(alloc), alignment, preferred)
     }
 
-    // Items in a vector made for them, over-aligned to 256 bytes.
-    pub(crate) fn of_made(items: Vec<T, A>, alignment: Alignment) -> Self
+    // The items of a vector, over-aligned to the preferred alignment.
+    pub(crate) fn of_vec(
+        items: Vec<T, A>,
+        alignment: Alignment,
+        preferred: Option<Alignment>,
+    ) -> Self
         requires { T.align_exponent ≤ alignment }
-        ensures { HoldsMade items.items alignment result }
+        ensures { Holds items.items alignment (preferred_over alignment preferred) result }
     {
-        let declared = alignment.max(Alignment::DEFAULT_ALIGNMENT);
         BufferMut {
             items,
             alignment,
-            declared,
+            declared: alignment.max(preferred.unwrap_or(Alignment::none())),
         }
     }
 
@@ -158,6 +154,16 @@ impl<T: Element, A: Allocator> BufferMut<T, A> {
         let mut buffer = BufferMut::empty_preferred_aligned(alloc, alignment, preferred);
         buffer.extend_from_slice(items)?;
         Ok(buffer)
+    }
+
+    // The same from a copy of an allocator, and so the caller has no `?` before what it gives up.
+    pub(crate) fn copy_in(alloc: &A, items: &[T], alignment: Alignment) -> Result<Self>
+    where
+        A: Clone,
+        requires { T.align_exponent ≤ alignment }
+        ensures { Makes (HoldsMade items.now alignment) result }
+    {
+        BufferMut::copy_from_aligned(alloc.clone()?, items, alignment)
     }
 
     /// The items that an iterator gives, over-aligned to 256 bytes. Refused with `OutOfMemory`.
