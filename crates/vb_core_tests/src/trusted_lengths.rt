@@ -2,6 +2,7 @@
 ghost use Rattle.std.specs.Prelude.{◌≡◌};
 
 use crate::compared::equal;
+use std::alloc::AllocError;
 use std::process::Abort;
 use vb_core::{TrustedLen, trusted_len};
 
@@ -46,6 +47,17 @@ fn slices_and_adapters_count_down(rt: HostRuntime) {
     assert_counts_down(&rt, trusted_len(tens.iter(), 3), 3);
     assert_counts_down(&rt, trusted_len(tens.iter().skip(1), 2), 2);
     equal(&rt, trusted_len(tens.iter(), 3).size_hint(), (3, Some(3)));
+}
+
+#[test]
+fn an_adapter_is_printed(rt: HostRuntime) -> Result<(), AllocError> {
+    let text = format!(in rt.alloc(); "{:?}", trusted_len(0..3u8, 3))?;
+    equal(
+        &rt,
+        text.as_str(),
+        "TrustedLenAdapter { iter: 0..3, left: 3 }",
+    );
+    Ok(())
 }
 
 #[test]

@@ -3,6 +3,7 @@ ghost use Rattle.std.specs.Prelude.{◌≡◌, IfOk, length};
 
 use crate::compared::equal;
 use std::alloc::{Allocator, Global};
+use std::fmt::Debug;
 use std::process::Abort;
 use std::test::Fail;
 use vb_core::{Alignment, BufferError};
@@ -47,11 +48,11 @@ fn a_front_is_sliced_after_a_look_at_the_length(rt: HostRuntime) -> Result<(), F
     Ok(())
 }
 
-/// The bytes are printed so.
-fn prints(rt: &impl Abort, alloc: Global, bytes: ByteBuffer<Global>, wanted: &str) {
-    let text = format!(in alloc; "{:?}", bytes).expect(rt, "a text");
+/// A value is printed so.
+fn prints<T: Debug + Drop>(rt: &impl Abort, alloc: Global, value: T, wanted: &str) {
+    let text = format!(in alloc; "{:?}", value).expect(rt, "a text");
     assert_eq!(rt; text.as_str(), wanted);
-    drop(bytes);
+    drop(value);
 }
 
 #[test]
@@ -59,6 +60,9 @@ fn buffers_are_compared_and_printed(rt: HostRuntime) {
     let bytes: ByteBuffer<_> = Buffer::copy_from(rt.alloc(), &[1u8, 2, 3]).expect(&rt, "bytes");
     let twin = bytes.clone().expect(&rt, "bytes");
     assert!(rt; bytes == twin);
+    let third = bytes.clone().expect(&rt, "bytes");
+    let wanted = "OwnedItems { owner: [1, 2, 3], start: 0, end: 3 }";
+    prints(&rt, rt.alloc(), third.into_iter(), wanted);
     prints(&rt, rt.alloc(), twin, "[1, 2, 3]");
     if let Ok(growing) = bytes.try_into_mut() {
         let copy = BufferMut::copy_from(rt.alloc(), &[1u8, 2, 3]).expect(&rt, "bytes");

@@ -27,6 +27,36 @@ fn gives_the_first<A: Allocator>(
     items
 }
 
+/// Gives 10, 20 and 30 from either end, and then no more.
+fn gives_from_both_ends<A: Allocator>(rt: &impl Abort, mut items: BufferIterator<u32, A>) {
+    equal(rt, items.next_back(), Some(30));
+    equal(rt, (items.len(), items.exact_len()), (2, 2));
+    equal(rt, items.next(), Some(10));
+    equal(rt, items.next_back(), Some(20));
+    equal(rt, (items.next_back(), items.next()), (None, None));
+    drop(items);
+}
+
+/// A `for` goes over 10, 20 and 30.
+fn is_gone_over<A: Allocator>(rt: &impl Abort, buffer: &Buffer<u32, A>) {
+    let mut wanted = 10;
+    for item in buffer {
+        equal(rt, *item, wanted);
+        wanted = wanted.wrapping_add(10);
+    }
+    equal(rt, wanted, 40);
+}
+
+/// The same of a growing buffer.
+fn is_gone_over_open<A: Allocator>(rt: &impl Abort, buffer: &BufferMut<u32, A>) {
+    let mut wanted = 10;
+    for item in buffer {
+        equal(rt, *item, wanted);
+        wanted = wanted.wrapping_add(10);
+    }
+    equal(rt, wanted, 40);
+}
+
 /// The items 10, 20 and 30 are lent, and then handed out.
 fn gives_in_turn<A: Allocator + Clone>(
     rt: &impl Abort,
@@ -37,6 +67,8 @@ fn gives_in_turn<A: Allocator + Clone>(
     lends_in_turn(rt, buffer.iter());
     let ends = (buffer.iter().last().copied(), buffer.iter().count());
     equal(rt, ends, (Some(30), 3));
+    is_gone_over(rt, &buffer);
+    gives_from_both_ends(rt, copied(rt, &buffer).into_iter());
     let rest = gives_the_first(rt, buffer.into_iter());
     let rest = Buffer::from_trusted_len_iter(alloc, rest).expect(rt, "a buffer");
     equal_lists(rt, rest.as_slice(), &[20, 30]);
@@ -47,6 +79,15 @@ fn gives_in_turn<A: Allocator + Clone>(
 fn items_are_given_in_turn(rt: HostRuntime) {
     let made = Buffer::copy_from(rt.alloc(), &[10, 20, 30]);
     gives_in_turn(&rt, made, rt.alloc());
+    let open = BufferMut::copy_from(rt.alloc(), &[10, 20, 30]).expect(&rt, "a buffer");
+    is_gone_over_open(&rt, &open);
+    is_gone_over_open(&rt, &copied(&rt, &open));
+    drop(open);
+}
+
+/// A copy by std's trait.
+fn copied<T: Clone>(rt: &impl Abort, value: &T) -> T {
+    value.clone().expect(rt, "a copy")
 }
 
 /// How two buffers compare.

@@ -14,6 +14,7 @@ fn tail_of<A: Allocator + Clone>(
     assert!(rt; buffer.len() == 3);
     equal(rt, buffer.alignment().as_usize(), 4);
     equal(rt, buffer.is_aligned(Alignment::DEFAULT_ALIGNMENT), true);
+    is_nothing(rt, buffer.slice_unaligned(0..0), 4);
     let tail = buffer.slice_unaligned(1..3).expect(rt, "a part");
     drop(buffer);
     tail
@@ -55,9 +56,9 @@ fn a_slice_keeps_its_place(rt: HostRuntime) {
 }
 
 /// What was sliced has no items, and is aligned to so many bytes.
-fn is_nothing<A: Allocator>(
+fn is_nothing<T: Element, A: Allocator>(
     rt: &impl Abort,
-    made: Result<Buffer<u64, A>, BufferError>,
+    made: Result<Buffer<T, A>, BufferError>,
     alignment: usize,
 ) {
     let nothing = made.expect(rt, "a part");
@@ -114,6 +115,9 @@ fn tail_of_bytes<A: Allocator + Clone>(
     let bytes = numbers.into_byte_buffer().expect(rt, "bytes");
     equal(rt, bytes.can_slice(1..2, Alignment::of::<i32>()), false);
     assert!(rt; bytes.len() == 20);
+    let second = bytes.slice_unaligned(1..2).expect(rt, "a part");
+    equal_lists(rt, second.as_slice(), &[0]);
+    drop(second);
     let tail = bytes.slice_unaligned(1..20).expect(rt, "a part");
     drop(bytes);
     tail
