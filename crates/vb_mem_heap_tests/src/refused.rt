@@ -1,0 +1,86 @@
+//! What a refused `items_mut` leaves of a part of a storage that has another owner: everything.
+use crate::compared::equal;
+use std::alloc::Allocator;
+use std::process::Abort;
+use vb_core::{Alignment, BufferError};
+use vb_mem::{Buffer, BufferMut};
+use vb_testing::{Handle, Refusing};
+
+/// The numbers below 256, of which the storage is declared with 1024 bytes.
+fn numbers<A: Allocator + Clone>(alloc: A) -> Result<Buffer<u32, A>, BufferError> {
+    let (four, wide) = (Alignment::of::<u32>(), Alignment::from_exponent(10));
+    let made = BufferMut::with_capacity_preferred_aligned(alloc, 256, four, Some(wide));
+    filled(made?)?.freeze()
+}
+
+fn filled<A: Allocator>(mut open: BufferMut<u32, A>) -> Result<BufferMut<u32, A>, BufferError> {
+    open.extend_trusted(0..256)?;
+    Ok(open)
+}
+
+/// The upper half of the numbers stands 512 bytes behind the start of its storage.
+fn is_upper_half<A: Allocator>(rt: &impl Abort, part: &Buffer<u32, A>) {
+    equal(rt, part.as_slice().iter().copied().eq(128..256), true);
+    let alignments = (part.alignment().as_usize(), part.declared().as_usize());
+    equal(rt, alignments, (4, 1024));
+    let (half, whole) = (Alignment::from_exponent(9), Alignment::from_exponent(10));
+    equal(
+        rt,
+        (part.is_aligned(half), part.is_aligned(whole)),
+        (true, false),
+    );
+    equal(rt, part.can_slice(0..1, half), true);
+    equal(rt, part.can_slice(128..129, half), false);
+    equal(rt, part.can_slice(0..1, whole), false);
+}
+
+/// Writes sevens over a part. A refusal leaves the part as it is.
+fn write_part<A: Allocator + Clone>(
+    rt: &impl Abort,
+    made: Result<Buffer<u32, A>, BufferError>,
+) -> Result<(), BufferError> {
+    let mut part = made?;
+    is_upper_half(rt, &part);
+    let answer = match part.items_mut() {
+        Ok(items) => {
+            items.as_mut_slice().fill(7);
+            Ok(())
+        }
+        Err(refused) => Err(refused),
+    };
+    if answer.is_err() {
+        is_upper_half(rt, &part);
+    } else {
+        equal(rt, part.as_slice().iter().all(|item| *item == 7), true);
+        equal(rt, part.declared().as_usize(), 256);
+    }
+    drop(part);
+    answer
+}
+
+/// Writes the upper half of numbers that another buffer owns too, which keeps them.
+fn write_half<A: Allocator + Clone>(
+    rt: &impl Abort,
+    made: Result<Buffer<u32, A>, BufferError>,
+) -> Result<(), BufferError> {
+    let whole = made?;
+    assert!(rt; whole.len() == 256);
+    let answer = write_part(rt, whole.slice_unaligned(128..256));
+    equal(rt, whole.as_slice().iter().copied().eq(0..256), true);
+    equal(rt, whole.declared().as_usize(), 1024);
+    drop(whole);
+    answer
+}
+
+#[test]
+fn a_refused_write_leaves_the_part(rt: HostRuntime) {
+    let heap = Refusing::new(rt.alloc(), 0);
+    for _ in heap.in_turn() {
+        let answer = write_half(&rt, numbers(Handle { inner: &heap }));
+        let wanted = heap.wanted(Ok(()), Err(BufferError::OutOfMemory));
+        equal(&rt, answer, wanted);
+    }
+    // The storage and its owner, and the copy and its own, are asked for, beside copies of the
+    // allocator.
+    assert!(rt; !heap.has_refused() && heap.asked() >= 4);
+}
