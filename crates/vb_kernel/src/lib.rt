@@ -28,7 +28,7 @@ pub use glance::{Glance, Plain, Tally};
 pub use looks::most_looks;
 pub use select::{bit_select, bit_select_by, bit_select_unset, bit_select_unset_by};
 pub use vb_bits::{
-    BitOp, copy_bits, equal_bits, fill_bits, get_bit, get_bit_unchecked, last_set_index, map_words,
-    read_bits, read_u64_le, set_bit_to, set_bit_unchecked, unset_bit_unchecked, window_fits,
-    zip_words,
+    BitOp, copy_bits, equal_bits, fill_bits, full_word, get_bit, get_bit_unchecked, last_set_index,
+    map_words, read_bits, read_u64_le, set_bit_to, set_bit_unchecked, unset_bit_unchecked,
+    window_fits, zip_words,
 };

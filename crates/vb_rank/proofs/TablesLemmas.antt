@@ -7,7 +7,7 @@ use Rattle.std.proofs.lemmas.Int.Digits.{length-digits_of_step}
 use Rattle.vb_kernel.specs.Bits.{bits, count, Selects}
 use Rattle.vb_kernel.specs.Looks.{looks}
 use Rattle.vb_kernel.specs.Searches.{matching}
-use Rattle.vb_bits.proofs.BitsLemmas.{length-bits, take-bits, count-bits-le}
+use Rattle.vb_kernel.proofs.BitsLemmas.{length-bits, take-bits, count-bits-le}
 use Rattle.vb_kernel.proofs.SearchesLemmas.{count-matching-bits_split, count-matching-bits_false, Searched_after, Searched_longer}
 use Rattle.vb_rank.specs.Tables.{blocks, block_counts, binary_digits, passed, BeginsBefore, Rises}
 

@@ -3,8 +3,7 @@ ghost use Rattle.std.specs.Prelude.{◌≡◌, ◌+◌, ◌-◌, ◌*◌, ◌^�
 ghost use Rattle.vb_kernel.specs.Bits.{bits, count};
 ghost use Rattle.vb_kernel.specs.Digits.{digits};
 
-use vb_bits::full_word;
-use vb_kernel::{Glance, count_ones_by};
+use vb_kernel::{Glance, count_ones_by, full_word};
 
 /// How many of the `len` bits from bit `at` on are true, which are no more than a block.
 ///

@@ -13,9 +13,8 @@ use crate::select::{select_by, select_unset_by};
 use crate::table::{move_entries, table_of};
 use std::alloc::{Allocator, Global};
 use std::marker::Model;
-use vb_core::BufferError;
 use vb_kernel::Plain;
-use vb_set::{BitBufferMut, BitBufferView};
+use vb_set::{BitBufferMut, BitBufferView, BufferError};
 
 /// A set of bits that one owner edits, with the table of the true bits before each block of 512.
 /// Every edit keeps the table exact, so each question is answered as by a table made anew.

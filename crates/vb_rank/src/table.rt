@@ -5,8 +5,7 @@ ghost use Rattle.vb_rank.specs.Tables.{block_counts, blocks, moved};
 ghost use Rattle.vb_set.specs.View.{bits_of};
 
 use std::alloc::Allocator;
-use vb_core::BufferError;
-use vb_set::BitBufferView;
+use vb_set::{BitBufferView, BufferError};
 
 /// For each block of 512 bits, how many true bits are before it.
 ///

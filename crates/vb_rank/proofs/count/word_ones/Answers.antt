@@ -2,10 +2,10 @@ use Rattle.std.proofs.Common.{◌≡◌, ℕ, List, ◌-◌, ◌*◌, ◌+◌, �
 use Rattle.std.specs.Prelude.{bit_and}
 use Rattle.std.proofs.Math.Nat.{mod-lt}
 use Rattle.std.proofs.lemmas.Nat.{and_mask, one_shl, pow_pos}
-use Rattle.vb_bits.specs.Bits.{bits, count}
-use Rattle.vb_bits.specs.Digits.{digits}
-use Rattle.vb_bits.proofs.DigitsLemmas.{count-digits_below}
-use Rattle.vb_bits.proofs.ReadLemmas.{digits_cut, digits-bits, has_bit-bits}
+use Rattle.vb_kernel.specs.Bits.{bits, count}
+use Rattle.vb_kernel.specs.Digits.{digits}
+use Rattle.vb_kernel.proofs.DigitsLemmas.{count-digits_below}
+use Rattle.vb_kernel.proofs.ReadLemmas.{digits_cut, digits-bits, has_bit-bits}
 use Rattle.vb_rank.proofs.count.word_ones.Goals as goal
 use Rattle.vb_rank.proofs.count.word_ones.Goals.{then-n-eq64, else-n-eq64}
 
