@@ -290,7 +290,19 @@ macro_rules! operators {
 
                 /// Makes the bits those of `left`, and at the same time does
                 #[doc = concat!("[`", stringify!($name), "`](BitsMut::", stringify!($name), ")")]
-                /// of `right`.
+                /// of `right`: neither of the two is changed.
+                ///
+                /// ```
+                /// use vortex_bits::{Bits, BitsMut};
+                ///
+                /// let (left, right) = (Bits::new(&[0b1100], 0, 4), Bits::new(&[0b1010], 0, 4));
+                /// let (mut made, mut copied) = ([0xFF], [0xFF]);
+                #[doc = concat!("BitsMut::new(&mut made, 2, 4).", stringify!($of), "(left, right);")]
+                /// let mut copy = BitsMut::new(&mut copied, 2, 4);
+                /// copy.copy_from(left);
+                #[doc = concat!("copy.", stringify!($name), "(right);")]
+                /// assert_eq!(made, copied);
+                /// ```
                 ///
                 /// # Panics
                 ///
@@ -311,16 +323,40 @@ operators! {
     /// ```
     /// use vortex_bits::{Bits, BitsMut};
     ///
-    /// let mut both = [0b0000_1111];
-    /// BitsMut::new(&mut both, 0, 5).and(Bits::new(&[0b1010_1000], 3, 5));
-    /// assert_eq!(both, [0b0000_0101]);
+    /// let mut bits = [0b1111_1100];
+    /// BitsMut::new(&mut bits, 0, 4).and(Bits::new(&[0b1010], 0, 4));
+    /// assert_eq!(bits, [0b1111_1000]);
     /// ```
     and, and_of: And;
     /// Makes the bits true that are true on the right.
+    ///
+    /// ```
+    /// use vortex_bits::{Bits, BitsMut};
+    ///
+    /// let mut bits = [0b0000_1100];
+    /// BitsMut::new(&mut bits, 0, 4).or(Bits::new(&[0b1010], 0, 4));
+    /// assert_eq!(bits, [0b0000_1110]);
+    /// ```
     or, or_of: Or;
     /// Negates the bits that are true on the right.
+    ///
+    /// ```
+    /// use vortex_bits::{Bits, BitsMut};
+    ///
+    /// let mut bits = [0b0000_1100];
+    /// BitsMut::new(&mut bits, 0, 4).xor(Bits::new(&[0b1010], 0, 4));
+    /// assert_eq!(bits, [0b0000_0110]);
+    /// ```
     xor, xor_of: Xor;
     /// Leaves the bits true that are false on the right.
+    ///
+    /// ```
+    /// use vortex_bits::{Bits, BitsMut};
+    ///
+    /// let mut bits = [0b1111_1100];
+    /// BitsMut::new(&mut bits, 0, 4).and_not(Bits::new(&[0b1010], 0, 4));
+    /// assert_eq!(bits, [0b1111_0100]);
+    /// ```
     and_not, and_not_of: AndNot;
 }
 
