@@ -1,4 +1,6 @@
 //! Streams that fail, and what is written before a read.
+ghost use Rattle.std.specs.Prelude.{◌≡◌, IfOk};
+
 use crate::compared::equal;
 use std::alloc::Global;
 use std::cell::Cell;
@@ -128,7 +130,9 @@ struct Interrupted {
 }
 
 impl Interrupted {
-    fn call(&mut self, count: usize) -> io::Result<usize> {
+    fn call(&mut self, count: usize) -> io::Result<usize>
+        ensures { IfOk result (λ n. n ≡ count) }
+    {
         if self.calls > 0 {
             return Ok(count);
         }
