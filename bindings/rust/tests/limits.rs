@@ -297,6 +297,12 @@ fn errors_print_once() {
 }
 
 #[test]
+fn windows_and_bitmaps_may_cross_threads() {
+    fn crosses<T: Send + Sync>() {}
+    crosses::<(Bits<'_>, BitsMut<'_>, Ranks<'_>, Bitmap, Ranked<Vec<u8>>)>();
+}
+
+#[test]
 fn the_level_is_one_that_is_available() {
     assert!(Level::Portable.is_available());
     assert!(Level::current().is_available());
