@@ -5,7 +5,8 @@ use std::process::Abort;
 use std::test::Fail;
 use vb_testing::Refusing;
 use vortex_buffer::{
-    AlignedBuf, Alignment, Buffer, BufferError, ByteBuffer, Result, copy_to_const_aligned,
+    AlignedBuf, Alignment, Buffer, BufferError, BufferString, ByteBuffer, Result,
+    copy_to_const_aligned,
 };
 
 type Heap<'a> = &'a Refusing<Global>;
@@ -40,6 +41,37 @@ fn grow(rt: &impl Abort, bytes: ByteBuffer<Heap<'_>>) -> Result<()> {
     growing.push_n(b'!', 1000)?;
     equal(rt, growing.len(), before + 1000);
     drop(growing);
+    Ok(())
+}
+
+fn text<'a>(heaps: Heaps<'a>) -> Result<BufferString<Heap<'a>>> {
+    let text = String::from_str(heaps.first, "hello")?;
+    heaps.asked();
+    BufferString::from_string(heaps.second, text)
+}
+
+fn from_string_asks(rt: &impl Abort, heaps: Heaps<'_>) -> Result<()> {
+    let text = text(heaps)?;
+    equal(rt, heaps.asked(), (0, 1));
+    drop(text.clone()?);
+    equal(rt, heaps.asked(), (0, 0));
+    // Shared, the text is copied where what made its buffer says; alone, its storage grows where it
+    // came from.
+    grow(rt, text.clone()?.into_inner())?;
+    equal(rt, heaps.were_asked(), (false, true));
+    grow(rt, text.into_inner())?;
+    equal(rt, heaps.were_asked(), (true, false));
+    Ok(())
+}
+
+#[test]
+fn a_text_made_of_a_string_asks_the_heap_that_is_handed_in(rt: HostRuntime) -> Result<(), Fail> {
+    let (first, second) = (Refusing::new(rt.alloc(), 0), Refusing::new(rt.alloc(), 0));
+    let heaps = Heaps {
+        first: &first,
+        second: &second,
+    };
+    from_string_asks(&rt, heaps)?;
     Ok(())
 }
 
