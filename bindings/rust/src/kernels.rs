@@ -7,7 +7,7 @@ mod gather;
 
 pub use gather::{pack_bools, pack_truthy, take};
 
-use crate::{Bits, BitsMut, portable};
+use crate::{Bits, BitsMut, blocks, portable};
 
 #[cfg(vortex_bits_native)]
 use crate::level::kernels;
@@ -105,6 +105,7 @@ pub fn last_set(bits: Bits<'_>) -> Option<usize> {
 /// Of windows of one length.
 #[inline]
 pub fn equal(left: Bits<'_>, right: Bits<'_>) -> bool {
+    debug_assert_eq!(left.len(), right.len());
     if is_word(left) {
         return portable::only_word(left) == portable::only_word(right);
     }
@@ -141,7 +142,7 @@ pub fn fill(out: &mut BitsMut<'_>, value: bool) {
 #[inline]
 pub fn negate(out: &mut BitsMut<'_>) {
     if !is_word(out.as_bits()) {
-        native!(negate_bits: window_mut out);
+        native!(negate_bits: start_mut out, value out.len());
     }
     portable::negate(out);
 }
@@ -149,6 +150,7 @@ pub fn negate(out: &mut BitsMut<'_>) {
 /// Of windows of one length.
 #[inline]
 pub fn copy(out: &mut BitsMut<'_>, source: Bits<'_>) {
+    debug_assert_eq!(out.len(), source.len());
     if !is_word(source) {
         native!(copy_bits: start_mut out, window source);
     }
@@ -158,6 +160,7 @@ pub fn copy(out: &mut BitsMut<'_>, source: Bits<'_>) {
 /// Of windows of one length.
 #[inline]
 pub fn combine(out: &mut BitsMut<'_>, right: Bits<'_>, operator: Operator) {
+    debug_assert_eq!(out.len(), right.len());
     if !is_word(right) {
         #[cfg(vortex_bits_native)]
         if let Some(kernels) = kernels() {
@@ -170,6 +173,7 @@ pub fn combine(out: &mut BitsMut<'_>, right: Bits<'_>, operator: Operator) {
 /// Of windows of one length.
 #[inline]
 pub fn combine_into(out: &mut BitsMut<'_>, left: Bits<'_>, right: Bits<'_>, operator: Operator) {
+    debug_assert!(out.len() == left.len() && out.len() == right.len());
     if !is_word(right) {
         #[cfg(vortex_bits_native)]
         if let Some(kernels) = kernels() {
@@ -183,6 +187,7 @@ pub fn combine_into(out: &mut BitsMut<'_>, left: Bits<'_>, right: Bits<'_>, oper
 /// Writes how many bits before each block are true; the table has an entry for each. It answers
 /// how many there are.
 pub fn block_counts(bits: Bits<'_>, table: &mut [usize]) -> usize {
+    debug_assert_eq!(table.len(), blocks(bits.len()));
     native!(block_counts: window bits, slice_mut table);
     portable::block_counts(bits, table)
 }
@@ -190,6 +195,7 @@ pub fn block_counts(bits: Bits<'_>, table: &mut [usize]) -> usize {
 /// Of a place up to the length, and a table with an entry for each block.
 #[inline]
 pub fn rank(bits: Bits<'_>, table: &[usize], place: usize) -> usize {
+    debug_assert!(table.len() == blocks(bits.len()) && place <= bits.len());
     native!(rank: window bits, slice table, value place);
     portable::rank(bits, table, place)
 }
@@ -197,6 +203,7 @@ pub fn rank(bits: Bits<'_>, table: &[usize], place: usize) -> usize {
 /// Of a table with an entry for each block.
 #[inline]
 pub fn ranked_select(bits: Bits<'_>, table: &[usize], n: usize) -> Option<usize> {
+    debug_assert_eq!(table.len(), blocks(bits.len()));
     native!(ranked_select: window bits, slice table, value n);
     portable::ranked_select(bits, table, n)
 }
@@ -204,6 +211,7 @@ pub fn ranked_select(bits: Bits<'_>, table: &[usize], n: usize) -> Option<usize>
 /// Of a table with an entry for each block.
 #[inline]
 pub fn ranked_select_unset(bits: Bits<'_>, table: &[usize], n: usize) -> Option<usize> {
+    debug_assert_eq!(table.len(), blocks(bits.len()));
     native!(ranked_select_unset: window bits, slice table, value n);
     portable::ranked_select_unset(bits, table, n)
 }

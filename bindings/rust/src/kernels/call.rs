@@ -7,11 +7,12 @@
 /// - `start bits`, the same without the length, since the other window is as long;
 /// - `slice items`, the items and their number;
 /// - `value n`, the number itself;
-/// - and `start_mut`, `window_mut` and `slice_mut`, which are written.
+/// - and `start_mut` and `slice_mut`, which are written.
 ///
 /// What the function wants ([`crate::native`]) is so: a [`Bits`] and a [`BitsMut`] lie in their
 /// bytes and end at a `usize`, references may be read and written, a `&mut` overlaps nothing, and
-/// only a level that the processor has is current. What else a function wants is said at the call.
+/// only a level that the processor has is current. What else a function wants, its callers here have
+/// tested, as is said before each, and asserted where the crate is tested.
 #[cfg(vortex_bits_native)]
 macro_rules! native {
     ($name:ident: $($args:tt)*) => {
@@ -28,10 +29,6 @@ macro_rules! native {
     (@call $function:expr, [$($done:expr,)*] start $bits:expr $(, $($rest:tt)*)?) => {
         native!(@call $function, [$($done,)* $bits.bytes().as_ptr(), $bits.bytes().len(),
             $bits.offset(),] $($($rest)*)?)
-    };
-    (@call $function:expr, [$($done:expr,)*] window_mut $bits:expr $(, $($rest:tt)*)?) => {
-        native!(@call $function, [$($done,)* $bits.bytes_mut().as_mut_ptr(), $bits.size(),
-            $bits.offset(), $bits.len(),] $($($rest)*)?)
     };
     (@call $function:expr, [$($done:expr,)*] start_mut $bits:expr $(, $($rest:tt)*)?) => {
         native!(@call $function, [$($done,)* $bits.bytes_mut().as_mut_ptr(), $bits.size(),

@@ -18,6 +18,7 @@ const BLOCK: usize = 4096;
 /// Of as many values as bits.
 #[inline]
 pub fn pack_bools(out: &mut BitsMut<'_>, bools: &[bool]) {
+    debug_assert_eq!(out.len(), bools.len());
     #[cfg(vortex_bits_native)]
     if let Some(kernels) = kernels() {
         return pack(out, bools, |bytes, bools| {
@@ -33,6 +34,7 @@ pub fn pack_bools(out: &mut BitsMut<'_>, bools: &[bool]) {
 /// Of as many bytes as bits.
 #[inline]
 pub fn pack_truthy(out: &mut BitsMut<'_>, truthy: &[u8]) {
+    debug_assert_eq!(out.len(), truthy.len());
     #[cfg(vortex_bits_native)]
     if let Some(kernels) = kernels() {
         return pack(out, truthy, |bytes, truthy| {
@@ -75,6 +77,8 @@ pub fn take<I: BitIndex>(
     indices: &[I],
     validity: Option<Bits<'_>>,
 ) -> Option<usize> {
+    debug_assert!(validity.is_none_or(|validity| validity.len() == indices.len()));
+    debug_assert_eq!(out.len(), indices.len());
     #[cfg(vortex_bits_native)]
     if let Some(kernels) = kernels() {
         let bits = bits.part(0, bits.len().min(I::END));
