@@ -60,7 +60,7 @@ digits-words l (suc n) h =
     let at : 64 * n + 64 ≡ 64 * suc n = omega arith in
     let left : length (drop (64 * n) l) ≡ length l - 64 * n = length-drop (64 * n) l in
     let full : length (take 64 (drop (64 * n) l)) ≡ 64 =
-        length-take 64 (drop (64 * n) l) ∙ omega (arith, left, h) in
+    length-take 64 (drop (64 * n) l) ∙ omega (arith, left, h) in
     ap (λ m. flat_map (λ w. digits w 0 64) (words l m)) next
     ∙ ap (flat_map (λ w. digits w 0 64)) (words_push l n)
     ∙ flat_map-append (λ w. digits w 0 64) (words l n) (word l n ∷ [])
@@ -76,9 +76,9 @@ digits-rest : (l : List Bool) → take (length l % 64) (digits (word l (length l
 digits-rest l =
     let k = length l / 64 in
     let left : length (drop (64 * k) l) ≡ length l % 64 =
-        length-drop (64 * k) l ∙ omega arith in
+    length-drop (64 * k) l ∙ omega arith in
     let all : take 64 (drop (64 * k) l) ≡ drop (64 * k) l =
-        take_all 64 (drop (64 * k) l) (omega (arith, left)) in
+    take_all 64 (drop (64 * k) l) (omega (arith, left)) in
     take-digits (word l k) (length l % 64) (omega arith)
     ∙ digits-word l k (length l % 64) (ap length all ∙ left) ∙ all
 
