@@ -1,5 +1,5 @@
 -- The values that a mask keeps are those at its true places.
-use Rattle.std.proofs.Common.{◌≡◌, ℕ, suc, ◌+◌, ◌*◌, ◌≤◌, Bool, true, false, List, [], ◌∷◌, length, map, get_or, slice_index, refl, ap, sym, ◌∙◌, arith}
+use Rattle.std.proofs.Common.{◌≡◌, ℕ, suc, ◌+◌, ◌*◌, ◌≤◌, Bool, true, false, List, [], ◌∷◌, ◌++◌, length, map, get_or, slice_index, refl, ap, sym, ◌∙◌, arith}
 use Rattle.std.specs.List.{All, sum, sum_by}
 use Rattle.std.proofs.lemmas.List.{length-map}
 use Rattle.std.proofs.lemmas.List.Elements.{All-head, All-tail}
@@ -28,6 +28,16 @@ module _ {T : Type 0} (d : T) where
   -- as many as there are true bits
   pub length-kept : (bits : List Bool) (xs : List T) → length bits ≡ length xs → length (kept bits xs) ≡ count bits
   length-kept bits xs same = ap length (sym (map-places bits xs same)) ∙ length-map (places bits) (λ i. get_or xs i d) ∙ length-places bits
+
+-- of two lists, one after the other
+pub kept-append : {T : Type 0} (k l : List Bool) (xs ys : List T) → length k ≡ length xs
+    → kept (k ++ l) (xs ++ ys) ≡ kept k xs ++ kept l ys
+kept-append [] l [] ys same = refl
+kept-append [] l (x ∷ xs) ys same = absurd (omega arith)
+kept-append (b ∷ k) l [] ys same = absurd (omega arith)
+kept-append (true ∷ k) l (x ∷ xs) ys same =
+    ap (λ zs. x ∷ zs) (kept-append k l xs ys (omega arith))
+kept-append (false ∷ k) l (x ∷ xs) ys same = kept-append k l xs ys (omega arith)
 
 -- the sum of the numbers at the true places
 pub sum_by-places : (bits : List Bool) (xs : List ℕ) → length bits ≡ length xs → sum_by (slice_index xs) (places bits) ≡ sum (kept bits xs)

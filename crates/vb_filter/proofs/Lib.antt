@@ -1,1 +1,4 @@
+mod FilteredBits
 mod KeptRuns
+mod PackedDigits
+mod PendingLemmas

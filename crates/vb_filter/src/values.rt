@@ -1,36 +1,15 @@
 //! The values of a buffer that a mask keeps.
-ghost use Rattle.std.specs.Prelude.{◌≡◌, ℕ, Bool, List, length};
+ghost use Rattle.std.specs.Prelude.{◌≡◌, length};
 ghost use Rattle.vb_bits.specs.Bits.{count};
 ghost use Rattle.vb_bits.specs.Kept.{kept};
-ghost use Rattle.vb_filter.specs.Filtered.{GivesFiltered};
 ghost use Rattle.vb_mem.specs.OpenBuffer.{Lengthens, HasRoom};
 ghost use Rattle.vb_view.specs.View.{bits_of};
 
+use crate::filter::Filter;
 use std::alloc::Allocator;
 use vb_core::{BufferError, Element};
 use vb_mem::{Buffer, BufferMut};
 use vb_view::BitBufferView;
-
-/// Values of which a mask can keep some.
-pub trait Filter: Sized {
-    // how many there are
-    ghost len: { Self → ℕ };
-
-    // the last are those of the first whose bit in the mask is true
-    ghost keeps: { Self → List Bool → Self → Type 0 };
-
-    /// The values whose bit in the mask is true, in order, in memory of their own.
-    ///
-    /// Refused by `LengthMismatch`, with both lengths, where the mask isn't as long as the values,
-    /// before memory is asked; else by `OutOfMemory` alone. It asks for the memory of the values
-    /// that are kept by one request, and for the count of their owners.
-    ///
-    /// It takes time for each 64 bits of the mask and for each value that is kept; where most are,
-    /// they are copied by runs.
-    fn filtered(&self, mask: BitBufferView<'_>) -> Result<Self, BufferError>
-        ensures { GivesFiltered (len self.now) (length (bits_of mask.entry))
-            (keeps self.now (bits_of mask.entry)) result };
-}
 
 impl<T: Element, A: Allocator + Clone> Filter for Buffer<T, A> {
     ghost use Rattle.std.specs.Prelude.{◌≡◌, length};

@@ -1,0 +1,87 @@
+-- A word of a mask, and what it keeps.
+use Rattle.std.proofs.Common.{◌≡◌, ℕ, zero, suc, ◌+◌, ◌-◌, ◌*◌, ◌^◌, ◌<◌, ◌≤◌, Bool, false, List, []}
+use Rattle.std.proofs.Common.{◌∷◌, ◌++◌, inl, inr, min, length, take, drop, replicate, refl, sym, ap, ◌∙◌, arith}
+use Rattle.std.specs.Prelude.{count_ones, slice_range}
+use Rattle.std.proofs.Math.Seq.{take-add}
+use Rattle.std.proofs.lemmas.List.{append-nil, take_all}
+use Rattle.std.proofs.lemmas.Bool.{cases_lt}
+use Rattle.vb_bits.specs.Bits.{count}
+use Rattle.vb_bits.specs.Digits.{digits}
+use Rattle.vb_bits.specs.Kept.{kept}
+use Rattle.vb_bits.proofs.DigitsLemmas.{digits-add, length-digits, count-digits_below}
+use Rattle.vb_bits.proofs.BitsLemmas.{count-append, count-take-le}
+use Rattle.vb_bits.proofs.KeptLemmas.{kept-append}
+use Rattle.vb_pack.proofs.WordsLemmas.{digits_above}
+
+-- a mask that is false keeps nothing
+kept_none : {T : Type 0} (n : ℕ) (xs : List T) → kept (replicate n false) xs ≡ []
+kept_none zero xs = refl
+kept_none (suc n) [] = refl
+kept_none (suc n) (x ∷ xs) = kept_none n xs
+
+-- a mask of n digits keeps none behind them
+pub kept-narrow : (keep w n : ℕ) → keep < 2 ^ n → n ≤ 64
+    → kept (digits keep 0 64) (digits w 0 64) ≡ kept (digits keep 0 n) (digits w 0 n)
+kept-narrow keep w n clear few =
+    let all : 64 ≡ n + (64 - n) = omega arith in
+    let front = kept (digits keep 0 n) (digits w 0 n) in
+    let behind = digits w (0 + n) (64 - n) in
+    ap (λ l. kept l (digits w 0 64)) (digits_above keep n 64 clear few)
+    ∙ ap (λ l. kept (digits keep 0 n ++ replicate (64 - n) false) l)
+    (ap (digits w 0) all ∙ digits-add w 0 n (64 - n))
+    ∙ kept-append (digits keep 0 n) (replicate (64 - n) false) (digits w 0 n) behind
+    (length-digits keep 0 n ∙ sym (length-digits w 0 n))
+    ∙ ap (λ l. front ++ l) (kept_none (64 - n) behind) ∙ append-nil front
+
+-- a front, and n values more
+front-add : {T : Type 0} (xs : List T) (a n : ℕ)
+    → take (a + n) xs ≡ take a xs ++ slice_range xs a (a + n)
+front-add xs a n =
+    let len : a + n - a ≡ n = omega arith in
+    take-add a n xs ∙ ap (λ k. take a xs ++ take k (drop a xs)) (sym len)
+
+-- what n bits more of a mask keep
+pub kept-add : (mask values : List Bool) (a n : ℕ) → length values ≡ length mask
+    → kept (take (a + n) mask) (take (a + n) values)
+    ≡ kept (take a mask) (take a values)
+    ++ kept (slice_range mask a (a + n)) (slice_range values a (a + n))
+kept-add mask values a n same =
+    ap (λ l. kept l (take (a + n) values)) (front-add mask a n)
+    ∙ ap (λ l. kept (take a mask ++ slice_range mask a (a + n)) l) (front-add values a n)
+    ∙ kept-append (take a mask) (slice_range mask a (a + n)) (take a values)
+    (slice_range values a (a + n)) (same_fronts mask values a same)
+  where
+    same_fronts : (k l : List Bool) (i : ℕ) → length l ≡ length k
+        → length (take i k) ≡ length (take i l)
+    same_fronts k l zero e = refl
+    same_fronts [] [] (suc i) e = refl
+    same_fronts [] (y ∷ l) (suc i) e = absurd (omega arith)
+    same_fronts (x ∷ k) [] (suc i) e = absurd (omega arith)
+    same_fronts (x ∷ k) (y ∷ l) (suc i) e = ap suc (same_fronts k l i (omega arith))
+
+-- the end of a word, or of the list
+pub word_end : {T : Type 0} (l : List T) (t n : ℕ) → n ≡ min (length l - 64 * t) 64
+    → take (64 * (t + 1)) l ≡ take (64 * t + n) l
+word_end l t n e = elim (cases_lt (length l) (64 * (t + 1))) [
+  | inl last ↦ take_all (64 * (t + 1)) l (omega arith) ∙ sym (take_all (64 * t + n) l (omega arith))
+  | inr full ↦ ap (λ k. take k l) (omega arith)
+]
+
+-- how many a word of the mask keeps, with those before it
+pub count-word : (mask : List Bool) (keep t n : ℕ) → n ≡ min (length mask - 64 * t) 64
+    → keep < 2 ^ n → digits keep 0 n ≡ slice_range mask (64 * t) (64 * t + n)
+    → count (take (64 * t) mask) + count_ones keep ≡ count (take (64 * (t + 1)) mask)
+count-word mask keep t n e clear same =
+    let ones : count (slice_range mask (64 * t) (64 * t + n)) ≡ count_ones keep =
+    ap count (sym same) ∙ count-digits_below keep n clear in
+    let more : count (take (64 * t + n) mask)
+    ≡ count (take (64 * t) mask) + count (slice_range mask (64 * t) (64 * t + n)) =
+    ap count (front-add mask (64 * t) n) ∙ count-append (take (64 * t) mask) _ in
+    omega (arith, ones, more, ap count (word_end mask t n e))
+
+-- no more than the whole mask keeps
+pub count-word-le : (mask : List Bool) (keep t n : ℕ) → n ≡ min (length mask - 64 * t) 64
+    → keep < 2 ^ n → digits keep 0 n ≡ slice_range mask (64 * t) (64 * t + n)
+    → count (take (64 * t) mask) + count_ones keep ≤ count mask
+count-word-le mask keep t n e clear same =
+    omega (arith, count-word mask keep t n e clear same, count-take-le (64 * (t + 1)) mask)

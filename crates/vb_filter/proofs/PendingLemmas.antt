@@ -1,0 +1,144 @@
+-- Digits behind digits, in a word and across its end.
+use Rattle.std.proofs.Common.{◌≡◌, inl, inr, ℕ, ◌+◌, ◌-◌, ◌*◌, ◌/◌, ◌%◌, ◌^◌, ◌<◌, ◌≤◌, Bool}
+use Rattle.std.proofs.Common.{true, false, ◌||◌, List, ◌++◌, length, eqb, refl, sym, ap, subst}
+use Rattle.std.proofs.Common.{◌∙◌, arith, zero-add, append_assoc}
+use Rattle.std.specs.Int.{bit_at}
+use Rattle.std.specs.Int.Bits.{bit_or}
+use Rattle.std.proofs.Math.Pow.{pow_mono, shl_lt, shr_lt}
+use Rattle.std.proofs.lemmas.Nat.{or_lt, shl_whole}
+use Rattle.vb_bits.specs.Bits.{bits, bit_of}
+use Rattle.vb_bits.specs.Digits.{has_bit, digits}
+use Rattle.vb_bits.specs.Writes.{Writes}
+use Rattle.vb_bits.proofs.BitsLemmas.{bits-add, same_bits, length-bits}
+use Rattle.vb_bits.proofs.DigitsLemmas.{digits-add, same_digits, has_bit-or, length-digits}
+use Rattle.vb_bits.proofs.ShiftLemmas.{shl_low, shl_high, bit_at_cut, digits_shr}
+use Rattle.vb_pack.proofs.WordsLemmas.{has_bit_above}
+use Rattle.vb_filter.specs.Pending.{written}
+
+or_none : (b : Bool) → (b || false) ≡ b
+or_none true = refl
+or_none false = refl
+
+-- a word with the digits of another one from digit s on
+abbrev pub joined : ℕ → ℕ → ℕ → ℕ
+joined p w s = bit_or p (w * 2 ^ s % 2 ^ 64)
+
+module _ (p w s : ℕ) (clear : p < 2 ^ s) where
+  low_digit : (i : ℕ) → i < s → s ≤ 64 → has_bit (joined p w s) i ≡ has_bit p i
+  low_digit i below within =
+      let none : has_bit (w * 2 ^ s % 2 ^ 64) i ≡ false =
+      ap (λ y. eqb y 1) (bit_at_cut (w * 2 ^ s) 64 i (omega arith) ∙ shl_low w s i below) in
+      has_bit-or p (w * 2 ^ s % 2 ^ 64) i ∙ ap (λ b. has_bit p i || b) none
+      ∙ or_none (has_bit p i)
+
+  high_digit : (i : ℕ) → s + i < 64 → has_bit (joined p w s) (s + i) ≡ has_bit w i
+  high_digit i within =
+      let place : s + i - s ≡ i = omega arith in
+      let there : has_bit (w * 2 ^ s % 2 ^ 64) (s + i) ≡ has_bit w i =
+      ap (λ y. eqb y 1) (bit_at_cut (w * 2 ^ s) 64 (s + i) within
+      ∙ shl_high w s (s + i) (omega arith) ∙ ap (bit_at w) place) in
+      has_bit-or p (w * 2 ^ s % 2 ^ 64) (s + i)
+      ∙ ap (λ b. b || has_bit (w * 2 ^ s % 2 ^ 64) (s + i))
+      (has_bit_above p s (s + i) clear (omega arith))
+      ∙ there
+
+  pub joined-digits : (m : ℕ) → s + m ≤ 64
+      → digits (joined p w s) 0 (s + m) ≡ digits p 0 s ++ digits w 0 m
+  joined-digits m within =
+      digits-add (joined p w s) 0 s m
+      ∙ ap (λ l. l ++ digits (joined p w s) (0 + s) m)
+      (same_digits (joined p w s) p 0 0 s (λ i h.
+      ap (has_bit (joined p w s)) (zero-add i) ∙ low_digit i h (omega arith)
+      ∙ ap (has_bit p) (sym (zero-add i))))
+      ∙ ap (λ l. digits p 0 s ++ l)
+      (same_digits (joined p w s) w (0 + s) 0 m (λ i h.
+      let place : 0 + s + i ≡ s + i = omega arith in
+      ap (has_bit (joined p w s)) place ∙ high_digit i (omega arith)
+      ∙ ap (has_bit w) (sym (zero-add i))))
+
+  -- where the word isn't full yet
+  pub joined-lt : (n : ℕ) → w < 2 ^ n → s + n ≤ 64 → joined p w s < 2 ^ (s + n)
+  joined-lt n small within =
+      let more : 2 ^ s ≤ 2 ^ (s + n) = pow_mono (omega arith) in
+      let whole : w * 2 ^ s % 2 ^ 64 ≡ w * 2 ^ s = shl_whole w n s 64 small (omega arith) in
+      let turned : n + s ≡ s + n = omega arith in
+      let high : w * 2 ^ s < 2 ^ (s + n) =
+      subst (λ k. w * 2 ^ s < 2 ^ k) turned (shl_lt n s small) in
+      or_lt (s + n) p (w * 2 ^ s % 2 ^ 64) (omega arith) (omega arith)
+
+-- digits that are added within the pending word
+pub written-in_word : (b : List ℕ) (p w len n : ℕ) → p < 2 ^ (len % 64) → len % 64 + n < 64
+    → written b (joined p w (len % 64)) (len + n) ≡ written b p len ++ digits w 0 n
+written-in_word b p w len n clear within =
+    let s = len % 64 in
+    let word : (len + n) / 64 ≡ len / 64 = omega arith in
+    let place : (len + n) % 64 ≡ s + n = omega arith in
+    let x = joined p w s in
+    ap (λ q. bits b 0 (64 * q) ++ digits x 0 ((len + n) % 64)) word
+    ∙ ap (λ k. bits b 0 (64 * (len / 64)) ++ digits x 0 k) place
+    ∙ ap (λ l. bits b 0 (64 * (len / 64)) ++ l) (joined-digits p w s clear n (omega arith))
+    ∙ sym (append_assoc (bits b 0 (64 * (len / 64))) (digits p 0 s) (digits w 0 n))
+
+-- the bytes up to the end of a word that was written behind q others
+pub bits-word : (b c : List ℕ) (x q : ℕ) → Writes b c (64 * q) (digits x 0 64)
+    → bits c 0 (64 * (q + 1)) ≡ bits b 0 (64 * q) ++ digits x 0 64
+bits-word b c x q w =
+    let next : 64 * (q + 1) ≡ 64 * q + 64 = omega arith in
+    let len = length-digits x 0 64 in
+    let place : 0 + 64 * q ≡ 64 * q = omega arith in
+    ap (bits c 0) next ∙ bits-add c 0 (64 * q) 64
+    ∙ ap (λ l. l ++ bits c (0 + 64 * q) 64)
+    (same_bits c b 0 0 (64 * q) (λ i h. w.others (0 + i) (inl (omega arith))))
+    ∙ ap (λ k. bits b 0 (64 * q) ++ bits c k 64) place
+    ∙ ap (λ l. bits b 0 (64 * q) ++ l)
+    (ap (bits c (64 * q)) (sym len) ∙ w.window)
+
+-- digits that are added across the end of the pending word
+pub written-past_word : (b c : List ℕ) (p w len n : ℕ) → p < 2 ^ (len % 64)
+    → 64 ≤ len % 64 + n → n ≤ 64
+    → Writes b c (64 * (len / 64)) (digits (joined p w (len % 64)) 0 64)
+    → written c (w / 2 ^ (64 - len % 64)) (len + n) ≡ written b p len ++ digits w 0 n
+written-past_word b c p w len n clear past few write =
+    let s = len % 64 in
+    let q = len / 64 in
+    let x = joined p w s in
+    let front = bits b 0 (64 * q) in
+    let word : (len + n) / 64 ≡ q + 1 = omega arith in
+    let place : (len + n) % 64 ≡ s + n - 64 = omega arith in
+    let full : s + (64 - s) ≡ 64 = omega arith in
+    let rest : 64 - s + (s + n - 64) ≡ n = omega arith in
+    let from : 0 + (64 - s) ≡ 64 - s = omega arith in
+    let low = digits w 0 (64 - s) in
+    let high = digits w (64 - s) (s + n - 64) in
+    let cut : digits w 0 n ≡ low ++ high =
+    ap (digits w 0) (sym rest) ∙ digits-add w 0 (64 - s) (s + n - 64)
+    ∙ ap (λ k. low ++ digits w k (s + n - 64)) from in
+    let filled : digits x 0 64 ≡ digits p 0 s ++ low =
+    ap (digits x 0) (sym full) ∙ joined-digits p w s clear (64 - s) (omega arith) in
+    ap (λ k. bits c 0 (64 * k) ++ digits (w / 2 ^ (64 - s)) 0 ((len + n) % 64)) word
+    ∙ ap (λ k. bits c 0 (64 * (q + 1)) ++ digits (w / 2 ^ (64 - s)) 0 k) place
+    ∙ ap (λ l. bits c 0 (64 * (q + 1)) ++ l) (digits_shr w (64 - s) (s + n - 64))
+    ∙ ap (λ l. l ++ high) (bits-word b c x q write)
+    ∙ ap (λ l. (front ++ l) ++ high) filled
+    ∙ append_assoc front (digits p 0 s ++ low) high
+    ∙ ap (λ l. front ++ l) (append_assoc (digits p 0 s) low high)
+    ∙ ap (λ l. front ++ (digits p 0 s ++ l)) (sym cut)
+    ∙ sym (append_assoc front (digits p 0 s) (digits w 0 n))
+
+-- what is left of a word has no other digits
+pub rest-lt : (w s n : ℕ) → w < 2 ^ n → s < 64 → 64 ≤ s + n → w / 2 ^ (64 - s) < 2 ^ (s + n - 64)
+rest-lt w s n small inside past =
+    let all : n ≡ s + n - 64 + (64 - s) = omega arith in
+    shr_lt (s + n - 64) (64 - s) (subst (λ k. w < 2 ^ k) all small)
+
+-- bytes up to bit n are written over, whatever they are then
+pub Writes_up_to : (b c : List ℕ) (n : ℕ) → length c ≡ length b
+    → ((i : ℕ) → n ≤ i → bit_of c i ≡ bit_of b i) → Writes b c 0 (bits c 0 n)
+Writes_up_to b c n same behind = record {
+  same_len = same;
+  window = ap (bits c 0) (length-bits c 0 n);
+  others = λ i h. elim h [
+    | inl none ↦ absurd (omega arith)
+    | inr past ↦ behind i (omega (arith, length-bits c 0 n))
+  ];
+}

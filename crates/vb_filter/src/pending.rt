@@ -1,0 +1,39 @@
+//! Bits written one behind the other, by words.
+ghost use Rattle.std.specs.Prelude.{◌≡◌, ◌+◌, ◌*◌, ◌/◌, ◌%◌, ◌^◌, ◌<◌, ◌≤◌, ◌++◌, length};
+ghost use Rattle.vb_bits.specs.Bits.{bits};
+ghost use Rattle.vb_bits.specs.Digits.{digits};
+ghost use Rattle.vb_bits.specs.Writes.{Writes};
+ghost use Rattle.vb_filter.specs.Pending.{written};
+
+use vb_bits::{copy_bits, write_word};
+
+/// Adds the `n` lowest digits of `word` to the `len` bits that were written so far, and answers the
+/// word that is pending then: it is written once it is full.
+pub(crate) fn push_digits(out: &mut [u8], pending: u64, len: usize, word: u64, n: usize) -> u64
+    requires few { n ≤ 64 }
+    requires clear { word < 2 ^ n }
+    requires pending { pending < 2 ^ (len % 64) }
+    requires room { len + n ≤ 8 * length out.old }
+    requires fits { len + n < 2 ^ 64 }
+    ensures written { written out.new result (len + n)
+        ≡ written out.old pending len ++ digits word 0 n }
+    ensures clear { result < 2 ^ ((len + n) % 64) }
+    ensures others { Writes out.old out.new 0 (bits out.new 0 (64 * ((len + n) / 64))) }
+{
+    let shift = len % 64;
+    let joined = pending | (word << shift);
+    if shift + n < 64 {
+        return joined;
+    }
+    write_word(out, 8 * (len / 64), joined);
+    // By two shifts, since the sum of them may be 64.
+    (word >> 1) >> (63 - shift)
+}
+
+/// Writes the digits that are pending after `len` bits.
+pub(crate) fn write_pending(out: &mut [u8], pending: u64, len: usize)
+    requires room { len ≤ 8 * length out.old }
+    ensures { Writes out.old out.new (64 * (len / 64)) (digits pending 0 (len % 64)) }
+{
+    copy_bits(out, 64 * (len / 64), &pending.to_le_bytes(), 0, len % 64);
+}
