@@ -14,6 +14,7 @@ use std::alloc::Allocator;
 use vb_bit_buffer::BitBuffer;
 use vb_bits::read_bits;
 use vb_core::BufferError;
+use vb_mem::BufferMut;
 use vb_view::BitBufferView;
 
 #[tactic(auto, using(vb_bits::proofs::WindowLemmas::windows))]
@@ -34,7 +35,7 @@ impl<A: Allocator + Clone> Filter for BitBuffer<A> {
         }
         let count = mask.true_count();
         let byte_len = count.div_ceil(8);
-        let mut bytes = self.inner().with_room(byte_len)?;
+        let mut bytes = BufferMut::with_capacity(self.inner().allocator().clone()?, byte_len)?;
         bytes.push_n_unchecked(0, byte_len);
         filter_into(bytes.as_mut_slice(), self.as_view(), mask);
         Ok(BitBuffer::new(bytes.freeze()?, count))
