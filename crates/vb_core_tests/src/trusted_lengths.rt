@@ -51,12 +51,11 @@ fn slices_and_adapters_count_down(rt: HostRuntime) {
 
 #[test]
 fn an_adapter_is_printed(rt: HostRuntime) -> Result<(), AllocError> {
-    let text = format!(in rt.alloc(); "{:?}", trusted_len(0..3u8, 3))?;
-    equal(
-        &rt,
-        text.as_str(),
-        "TrustedLenAdapter { iter: 0..3, left: 3 }",
-    );
+    let tens = [10u8, 20, 30];
+    let adapter = trusted_len(tens.iter(), 3);
+    let text = format!(in rt.alloc(); "{:?}", adapter)?;
+    let wanted = "TrustedLenAdapter { iter: Iter([10, 20, 30]), left: 3 }";
+    equal(&rt, text.as_str(), wanted);
     Ok(())
 }
 
