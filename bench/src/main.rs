@@ -9,7 +9,6 @@ mod input;
 mod json;
 mod loops;
 mod measure;
-mod notes;
 mod parts;
 mod row;
 #[cfg(feature = "upstream")]

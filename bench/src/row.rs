@@ -4,7 +4,6 @@ use std::fmt::Write;
 
 use crate::json::Object;
 use crate::measure::Contender;
-use crate::notes;
 
 /// The names of the contenders that have columns of their own.
 pub const UPSTREAM: &str = "upstream";
@@ -273,13 +272,12 @@ impl Measured {
         )
     }
 
-    /// A line on each aim that is missed, with its cause where that is known.
+    /// A line on each aim that is missed.
     pub fn misses(&self) -> String {
         let mut lines = String::new();
         for aim in self.aims.iter().filter(|aim| !aim.is_met()) {
-            let note = notes::of(&self.call).map_or(String::new(), |note| format!(". {note}"));
             let (call, input, text) = (&self.call, &self.input, aim.text());
-            writeln!(lines, "- {call}, {input}: {text}{note}").expect("a string takes all");
+            writeln!(lines, "- {call}, {input}: {text}").expect("a string takes all");
         }
         lines
     }
