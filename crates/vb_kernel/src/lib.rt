@@ -6,6 +6,8 @@
 //!
 //! A write changes the bits of its window and no other bit, whichever bytes these share.
 //!
+//! Truth values that a closure answers are packed into words by the calls of `vb_pack`.
+//!
 //! Counting and selecting read a [`Glance`], a source of bytes that counts its reads: see
 //! [`count_ones_by`] for the exact number, and [`most_looks`] for a bound on it.
 #![tactic(auto)]
@@ -31,4 +33,9 @@ pub use vb_bits::{
     BitOp, copy_bits, equal_bits, fill_bits, full_word, get_bit, get_bit_unchecked, last_set_index,
     map_words, read_bits, read_u64_le, set_bit_to, set_bit_unchecked, unset_bit_unchecked,
     window_fits, zip_words,
+};
+pub use vb_pack::{
+    collect_bool_word, collect_bool_word_scalar, collect_bool_words,
+    collect_bool_words_multiversioned, pack_bool_word_lanes, pack_bool_word_swar,
+    pack_bools_into_words, splice_word_at_bit,
 };

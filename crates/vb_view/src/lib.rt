@@ -1,4 +1,4 @@
-//! Views of bits over borrowed bytes.
+//! Views of bits over borrowed bytes, and the walks over them.
 //!
 //! A window is the `len` bits from bit `offset` on, least significant first. It has to lie in the
 //! bytes, and its end has to be a `usize`; `vb_kernel::window_fits` is the test. Lengths, offsets
@@ -13,3 +13,7 @@ mod view;
 pub use meta::BitBufferMeta;
 pub use mut_view::{BitBufferMutView, BitStore};
 pub use view::BitBufferView;
+pub use vb_walk::{
+    BitChunkIterator, BitChunks, BitIndexIterator, BitIterator, BitSliceIterator,
+    PaddedChunkIterator, UnalignedBitChunk, UnalignedBitChunkIterator,
+};
