@@ -82,11 +82,11 @@ pub run_gives_rest : {S A B : Type 0} {steps : S → Option A → S → Type 0} 
 run_gives_rest p v xs n front left =
     elim (cases_eq (length xs - n) 0) [
       | inl none ↦
-        nil_from_length (map v (drop n p.items))
-        (length-map (drop n p.items) v ∙ length-drop n p.items
-        ∙ ap (λ k. k - n) (sym p.long) ∙ left ∙ none)
-        ∙ sym (nil_from_length (drop n xs) (length-drop n xs ∙ none))
+          nil_from_length (map v (drop n p.items))
+          (length-map (drop n p.items) v ∙ length-drop n p.items
+          ∙ ap (λ k. k - n) (sym p.long) ∙ left ∙ none)
+          ∙ sym (nil_from_length (drop n xs) (length-drop n xs ∙ none))
       | inr some ↦
-        sym (drop-map v n p.items)
-        ∙ ap (drop n) (run_gives_all p v xs front (omega (arith, left, some)))
+          sym (drop-map v n p.items)
+          ∙ ap (drop n) (run_gives_all p v xs front (omega (arith, left, some)))
     ]
