@@ -5,9 +5,8 @@ ghost use Rattle.vortex_buffer.specs.Answers.{Makes};
 ghost use Rattle.vortex_buffer.specs.Kept.{kept};
 
 use crate::condition::Condition;
-use crate::gather::gather_values;
 use std::alloc::Allocator;
-use vortex_buffer::{BitBuffer, Buffer, Result};
+use vortex_buffer::{BitBuffer, Buffer, Filter, Result};
 
 /// The mask of the rows whose value meets the condition. Refused with `OutOfMemory`.
 pub fn rows_where<A: Allocator + Clone>(
@@ -51,6 +50,8 @@ pub fn filtered<A: Allocator + Clone>(
     ensures { Makes (λ found. found.list
         ≡ filter (is_met condition) (kept valid.now.bits values.now.list)) result }
 {
-    let rows = matching_rows(alloc.clone()?, values, valid, condition)?;
-    gather_values(alloc, values, &rows)
+    let rows = matching_rows(alloc, values, valid, condition)?;
+    let found = values.filtered(rows.as_view());
+    drop(rows);
+    found
 }

@@ -4,10 +4,8 @@
 
 mod condition;
 mod filter;
-mod gather;
 #[cfg(test)]
 mod tests;
 
 pub use condition::Condition;
 pub use filter::{filtered, matching_rows, rows_where};
-pub use gather::{gather_bits, gather_values};

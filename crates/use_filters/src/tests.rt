@@ -1,10 +1,10 @@
 //! Answers known from outside, with ample memory and with each request refused in turn.
-use crate::{Condition, filtered, gather_bits, rows_where};
+use crate::{Condition, filtered, rows_where};
 use std::alloc::Global;
 use std::process::Abort;
 use std::test::Fail;
 use vb_testing::{Refusing, answers_refusal, each_refused};
-use vortex_buffer::{BitBuffer, Buffer, BufferError, Result};
+use vortex_buffer::{BitBuffer, Buffer, BufferError, Filter, Result};
 
 type Heap<'a> = &'a Refusing<Global>;
 
@@ -28,7 +28,9 @@ fn ages<'a>(heap: Heap<'a>, condition: Condition) -> Result<Buffer<u32, Heap<'a>
 fn members<'a>(heap: Heap<'a>, condition: Condition) -> Result<BitBuffer<Heap<'a>>> {
     let rows = rows_where(heap, &Buffer::copy_from(heap, AGES)?, condition)?;
     let member = BitBuffer::from_bools(heap, &[true, false, true, false, true])?;
-    gather_bits(heap, &member, &rows)
+    let found = member.filtered(rows.as_view());
+    drop((member, rows));
+    found
 }
 
 fn answers(rt: &impl Abort, heap: Heap<'_>, row: &(Condition, &[u32], &[bool])) -> Result<()> {
