@@ -54,7 +54,10 @@ class Urls:
         return f"{source_page(item.source.path)}#L{item.line}"
 
     def has_entry(self, item: Item, owner: Item) -> bool:
-        """Whether the page of a type has an entry for one of its members."""
+        """Whether the page of a type has an entry for one of its members; associated types have
+        none, and are shown where they stand in the source."""
+        if item.kind == "type":
+            return False
         if item.kind in ("variant", "ghost") or owner.kind == "trait" or item.visibility == "pub":
             return True
         if item.kind == "field":
