@@ -52,14 +52,16 @@ class Command(unittest.TestCase):
         for name in names:
             self.write(f"crates/demo/edits/{name}.edit", EDIT)
         said = (
+            "fn below::one: proved\n"
             "rt: must-fail demo/bad.edit: BAD EDIT: x\n"
+            "src/lib.rt:1:1: error\n"
             "rt: must-fail demo/kept.edit: NOT REFUSED: x\n"
             "rt: must-fail demo/plain.edit: refused, as it must be\n"
             "rt: must-fail demo/weak.edit: refused, as it must be (only because of a name)\n"
         )
         status, lines = self.run_it("demo", said=said)
         found = [it.split(":")[0] for it in lines[4:-1]]
-        self.assertEqual(found, ["demo/bad.edit", "demo/kept.edit", "demo/left.edit", "demo/weak.edit"])
+        self.assertEqual(found, ["demo/bad.edit", "src/lib.rt", "demo/kept.edit", "demo/left.edit", "demo/weak.edit"])
         self.assertEqual((status, lines[-1]), (1, "5 edits, 3 not refused"))
 
     def test_takes_crates_with_edits_alone(self):
