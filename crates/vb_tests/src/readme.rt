@@ -1,5 +1,4 @@
-//! The example of the README on commands. Those on bits, buffers and sets are tests of
-//! `vortex_buffer_tests`.
+//! An example of commands. Those of the README are tests of `vortex_buffer_tests`.
 use std::test::Fail;
 use vb_script::{Answer, Command, Pool, run};
 
