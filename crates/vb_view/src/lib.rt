@@ -8,12 +8,13 @@
 mod compare;
 mod meta;
 mod mut_view;
+mod shown;
 mod view;
 
 pub use meta::BitBufferMeta;
 pub use mut_view::{BitBufferMutView, BitStore};
-pub use view::BitBufferView;
 pub use vb_walk::{
     BitChunkIterator, BitChunks, BitIndexIterator, BitIterator, BitSliceIterator,
     PaddedChunkIterator, UnalignedBitChunk, UnalignedBitChunkIterator,
 };
+pub use view::BitBufferView;
