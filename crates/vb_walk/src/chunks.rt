@@ -73,12 +73,7 @@ impl<'a> BitChunks<'a> {
     pub fn iter(&self) -> BitChunkIterator<'a>
         ensures { result ≡ full_words self.now }
     {
-        BitChunkIterator {
-            bytes: self.bytes,
-            byte: self.offset / 8,
-            shift: self.offset % 8,
-            left: self.len / 64,
-        }
+        BitChunkIterator::new(self.bytes, self.offset, self.len)
     }
 
     /// The full words, and then always one more, the remainder.
@@ -118,7 +113,23 @@ impl<'a> Model for BitChunkIterator<'a> {
 }
 
 #[tactic(auto, using(crate::proofs::WordsLemmas::chunks))]
-impl BitChunkIterator<'_> {
+impl<'a> BitChunkIterator<'a> {
+    /// The full words of the `len` bits from bit `offset` on. The bits have to lie in the bytes,
+    /// and `offset + len` has to be a `usize`. Fewer than 64 bits behind the full words aren't
+    /// given.
+    pub fn new(bytes: &'a [u8], offset: usize, len: usize) -> Self
+        requires inside { offset + len ≤ 8 * length bytes.now }
+        requires fits { offset + len < 2 ^ 64 }
+        ensures { result ≡ full_words (bits bytes.now offset len) }
+    {
+        BitChunkIterator {
+            bytes,
+            byte: offset / 8,
+            shift: offset % 8,
+            left: len / 64,
+        }
+    }
+
     /// The number of words still to come.
     pub fn len(&self) -> usize
         ensures value { result ≡ length self.now }

@@ -6,7 +6,7 @@ ghost use Rattle.std.specs.Iterator.{YieldsFirst, UpTo, at_most, item_count};
 ghost use Rattle.std.specs.Iterator.SizeHint.{IsWithinCount};
 ghost use Rattle.vb_bits.specs.Bits.{bits};
 ghost use Rattle.vb_core.specs.ExactCounts.{list_counts};
-ghost use Rattle.vb_walk.specs.Cut.{word_of, all_words, IsCut};
+ghost use Rattle.vb_walk.specs.Cut.{word_of, all_words, cut, IsCut};
 ghost use Rattle.vb_walk.specs.Words.{words, item_of};
 
 use std::marker::Model;
@@ -168,7 +168,18 @@ impl<'a> Model for UnalignedBitChunkIterator<'a> {
 }
 
 #[tactic(auto, using(crate::proofs::CutLemmas::cuts))]
-impl UnalignedBitChunkIterator<'_> {
+impl<'a> UnalignedBitChunkIterator<'a> {
+    /// The words of the `len` bits from bit `offset` on, as [`UnalignedBitChunk`] cuts them: from
+    /// the byte of the first bit on, eight bytes each, and bits outside of the window 0. The bits
+    /// have to lie in the bytes, and `offset + len` has to be a `usize`.
+    pub fn new(bytes: &'a [u8], offset: usize, len: usize) -> Self
+        requires inside { offset + len ≤ 8 * length bytes.now }
+        requires fits { offset + len < 2 ^ 64 }
+        ensures { result ≡ cut (offset % 8) (bits bytes.now offset len) }
+    {
+        UnalignedBitChunk::new(bytes, offset, len).iter()
+    }
+
     /// The number of words still to come.
     pub fn len(&self) -> usize
         ensures { result ≡ length self.now }

@@ -6,6 +6,7 @@ use std::process::Abort;
 use vb_core::TrustedLen;
 use vb_kernel::window_fits;
 use vb_view::{BitBufferMeta, BitBufferMutView, BitBufferView};
+use vb_walk::{BitChunkIterator, UnalignedBitChunkIterator};
 
 fn view<'a>(rt: &impl Abort, bytes: &'a [u8], offset: usize, len: usize) -> BitBufferView<'a> {
     let fits = window_fits(bytes, offset, len);
@@ -174,6 +175,21 @@ fn words_are_plain(rt: HostRuntime) -> Result<(), AllocError> {
         }
     }
     Ok(())
+}
+
+/// Words of a window, asked for with no chunks in hand.
+#[test]
+fn words_of_a_window(rt: HostRuntime) {
+    let ones = [0xFF; 9];
+    let mut full = BitChunkIterator::new(&ones, 3, 66);
+    equal(&rt, (full.next(), full.next()), (Some(u64::MAX), None));
+    let mut words = UnalignedBitChunkIterator::new(&ones, 3, 66);
+    equal(&rt, words.len(), 2);
+    let pair = (words.next(), words.next());
+    equal(&rt, pair, (Some(18446744073709551608), Some(31)));
+    equal(&rt, words.next(), None);
+    equal(&rt, BitChunkIterator::new(&ones, 8, 63).next(), None);
+    equal(&rt, UnalignedBitChunkIterator::new(&[], 0, 0).next(), None);
 }
 
 /// Nine bytes of true bits, from bit 3 on.
