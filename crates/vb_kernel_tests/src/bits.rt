@@ -1,6 +1,9 @@
 //! Single bits and windows.
 use crate::compared::{equal, equal_at};
-use vb_kernel::{get_bit, get_bit_unchecked, set_bit_unchecked, unset_bit_unchecked, window_fits};
+use vb_kernel::{
+    get_bit, get_bit_unchecked, last_set_index, read_u64_le, set_bit_unchecked,
+    unset_bit_unchecked, window_fits,
+};
 
 #[test]
 fn single_bits(rt: HostRuntime) {
@@ -35,4 +38,17 @@ fn windows(rt: HostRuntime) {
         equal_at(&rt, window_fits(&[0], offset, len), fits, (offset, len));
     }
     equal(&rt, window_fits(&[], 0, 0), true);
+}
+
+/// Bytes that are not there are 0.
+#[test]
+fn a_word_of_two_bytes(rt: HostRuntime) {
+    equal(&rt, read_u64_le(&[0x34, 0x12]), 4660);
+}
+
+#[test]
+fn the_last_true_bit(rt: HostRuntime) {
+    equal(&rt, last_set_index(&[0x76], 0, 7), Some(6));
+    equal(&rt, last_set_index(&[0x76], 0, 4), Some(2));
+    equal(&rt, last_set_index(&[0x76], 3, 1), None);
 }

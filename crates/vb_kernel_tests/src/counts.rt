@@ -70,3 +70,13 @@ fn looks(rt: HostRuntime) -> Result<(), AllocError> {
     equal(&rt, (most_looks(506), most_looks(8000)), (16, 31));
     Ok(())
 }
+
+/// A chunk and a byte of which one bit counts, and a byte with false bits.
+#[test]
+fn worked_counts(rt: HostRuntime) {
+    let bytes = [0xFFu8; 65];
+    let mut src = Tally::new(&bytes);
+    let counted = count_ones_by(&mut src, 0, 513);
+    equal(&rt, (counted, src.looks()), (513, 2));
+    equal(&rt, count_ones(&[0x76], 0, 7), 5);
+}
