@@ -45,24 +45,24 @@ fn shows(rt: &impl Abort, view: BitBufferView<'_>, bits: &str) {
 fn a_slice_of_a_view(rt: HostRuntime) {
     let bytes = [0x49, 0x92, 0x04];
     let part = view(&rt, &bytes, 0, 20);
-    if part.len() >= 17 {
-        let part = part.slice(5..17);
-        equal(
-            &rt,
-            (part.offset(), part.true_count(), part.false_count()),
-            (5, 4, 8),
-        );
-        equal(&rt, (part.select(3), part.select(4)), (Some(10), None));
-        equal(
-            &rt,
-            (part.select_unset(7), part.inner().len()),
-            (Some(11), 3),
-        );
-        shows(&rt, part, "010010010010");
-        equal(&rt, part == view(&rt, &[0xAA, 0xA4, 0xA4], 8, 0), false);
-        equal(&rt, part == view(&rt, &[0x92, 0xF4], 0, 12), true);
-        equal(&rt, part == view(&rt, &[0x92, 0x00], 0, 12), false);
-    }
+    let fits = part.len() >= 17;
+    assert!(rt; fits);
+    let part = part.slice(5..17);
+    equal(
+        &rt,
+        (part.offset(), part.true_count(), part.false_count()),
+        (5, 4, 8),
+    );
+    equal(&rt, (part.select(3), part.select(4)), (Some(10), None));
+    equal(
+        &rt,
+        (part.select_unset(7), part.inner().len()),
+        (Some(11), 3),
+    );
+    shows(&rt, part, "010010010010");
+    equal(&rt, part == view(&rt, &[0xAA, 0xA4, 0xA4], 8, 0), false);
+    equal(&rt, part == view(&rt, &[0x92, 0xF4], 0, 12), true);
+    equal(&rt, part == view(&rt, &[0x92, 0x00], 0, 12), false);
     let far = view(&rt, &bytes, 13, 10);
     equal(
         &rt,
@@ -78,7 +78,8 @@ fn a_slice_of_a_view(rt: HostRuntime) {
 
 #[test]
 fn a_view_of_nothing(rt: HostRuntime) {
-    let none = view(&rt, &[], 0, 0);
+    let none = BitBufferView::new(&[], 0);
+    equal(&rt, none.set_slices().next(), None);
     equal(
         &rt,
         (none.is_empty(), none.true_count(), none.select(0)),
@@ -154,6 +155,21 @@ fn unaligned_is_plain(rt: &impl Abort, view: BitBufferView<'_>) {
     equal(rt, ones, view.true_count());
 }
 
+/// A count is that of the truth values one by one.
+fn count_is_plain(rt: &impl Abort, view: BitBufferView<'_>) {
+    equal(
+        rt,
+        view.true_count(),
+        view.iter().filter(|bit| *bit).count(),
+    );
+}
+
+#[test]
+fn the_last_true_bit(rt: HostRuntime) {
+    let few = BitBufferView::new(&[0x76], 8);
+    equal(&rt, (few.last_set_index(), few.true_count()), (Some(6), 5));
+}
+
 #[test]
 fn words_are_plain(rt: HostRuntime) -> Result<(), AllocError> {
     let bytes = sample::mixed_bytes(rt.alloc(), 8200)?;
@@ -165,6 +181,7 @@ fn words_are_plain(rt: HostRuntime) -> Result<(), AllocError> {
             let window = view(&rt, &bytes, offset, len);
             chunks_are_plain(&rt, window);
             unaligned_is_plain(&rt, window);
+            count_is_plain(&rt, window);
         }
     }
     for offset in [0, 5] {
@@ -172,6 +189,7 @@ fn words_are_plain(rt: HostRuntime) -> Result<(), AllocError> {
             let window = view(&rt, &bytes, offset, len);
             chunks_are_plain(&rt, window);
             unaligned_is_plain(&rt, window);
+            count_is_plain(&rt, window);
         }
     }
     Ok(())
@@ -216,17 +234,35 @@ fn bytes_are_edited_through_a_view(rt: HostRuntime) {
         (half.offset(), half.len(), half.is_empty()),
         (5, 10, false),
     );
-    if half.len() == 10 {
-        half.fill_range(0, 5, true);
-        half.set_to(2, false);
-        half.unset(9);
-        half.set(8);
-        equal(&rt, (half.true_count(), half.false_count()), (8, 2));
-        equal(
-            &rt,
-            (half.value(2), half.value(9), half.as_slice().len()),
-            (false, false, 3),
-        );
-    }
+    let fits = half.len() == 10;
+    assert!(rt; fits);
+    half.fill_range(0, 5, true);
+    half.set_to(2, false);
+    half.unset(9);
+    half.set(8);
+    equal(&rt, (half.true_count(), half.false_count()), (8, 2));
+    equal(
+        &rt,
+        (half.value(2), half.value(9), half.as_slice().len()),
+        (false, false, 3),
+    );
     equal(&rt, bytes, [0, 0x60, 0xBF, 0xFF]);
+}
+
+/// The bits of the window from the front, and no others.
+#[test]
+fn views_are_printed(rt: HostRuntime) -> Result<(), AllocError> {
+    let mut bytes = [0x49, 0xFF];
+    let text = format!(in rt.alloc(); "{:?}", view(&rt, &bytes, 3, 5))?;
+    equal(&rt, text.as_str(), "BitBufferView(10010)");
+    drop(text);
+    let view = BitBufferMutView::new_with_offset(&mut bytes, 5, 3);
+    let text = format!(in rt.alloc(); "{:?}", view)?;
+    equal(&rt, text.as_str(), "BitBufferMutView(10010)");
+    drop(text);
+    let long = BitBufferView::new(&[0xFF; 9], 65);
+    let text = format!(in rt.alloc(); "{:?}", long)?;
+    equal(&rt, text.as_str().len(), 14 + 64 + 3);
+    drop(text);
+    Ok(())
 }
