@@ -21,6 +21,10 @@ use crate::{BitIndex, Bits, BitsMut};
 /// assert_eq!(part.bits().count_zeros(), 6);
 /// assert_eq!(part.bits().filter(part.bits()).bits().count_ones(), 31);
 ///
+/// // Operators of three.
+/// let (a, b, c) = (part.bits(), valid.slice(0..37), valid.slice(1..38));
+/// assert_eq!((a & b.bits() & c.bits()).bits().count_ones(), 20);
+///
 /// // Over bytes of another's.
 /// let lent = Bitmap::new(vec![0b1110_1000u8, 0b0000_0110], 3, 10);
 /// assert_eq!(lent.bits().select(1), Some(2));
@@ -135,6 +139,25 @@ impl Bitmap {
         expect(made)
     }
 
+    /// `len` bits, all true, as the validity of a column that has none.
+    ///
+    /// ```
+    /// use vortex_bits::Bitmap;
+    ///
+    /// assert!(Bitmap::new_set(13).bits().all());
+    /// assert!(!Bitmap::new_unset(13).bits().any());
+    /// ```
+    #[must_use]
+    pub fn new_set(len: usize) -> Bitmap {
+        Bitmap::make(len, |mut out| out.fill(true))
+    }
+
+    /// `len` bits, all false.
+    #[must_use]
+    pub fn new_unset(len: usize) -> Bitmap {
+        Bitmap::make(len, |_| ())
+    }
+
     fn try_make<E>(
         len: usize,
         write: impl FnOnce(BitsMut<'_>) -> Result<(), E>,
@@ -197,6 +220,7 @@ impl Bits<'_> {
     #[must_use]
     #[track_caller]
     pub fn filter(self, mask: Bits<'_>) -> Bitmap {
+        same_len(self, mask);
         Bitmap::make(mask.count_ones(), |out| self.filter_into(mask, out))
     }
 
@@ -256,8 +280,20 @@ impl Bits<'_> {
     #[must_use]
     #[track_caller]
     pub fn and_not(self, right: Bits<'_>) -> Bitmap {
+        same_len(self, right);
         Bitmap::make(self.len(), |mut out| out.and_not_of(self, right))
     }
+}
+
+/// Panics, at the line of the caller, where the windows aren't of one length.
+#[track_caller]
+fn same_len(left: Bits<'_>, right: Bits<'_>) {
+    assert!(
+        left.len() == right.len(),
+        "windows of {} and {} bits",
+        left.len(),
+        right.len()
+    );
 }
 
 macro_rules! operators {
@@ -270,7 +306,34 @@ macro_rules! operators {
 
             #[track_caller]
             fn $name(self, right: Bits<'_>) -> Bitmap {
+                same_len(self, right);
                 Bitmap::make(self.len(), |mut out| out.$of(self, right))
+            }
+        }
+
+        /// As of two windows, so that operators follow each other: `a & b & c`.
+        ///
+        /// # Panics
+        ///
+        /// Where the windows aren't of one length.
+        impl<B: AsRef<[u8]>> $operator<Bits<'_>> for Bitmap<B> {
+            type Output = Bitmap;
+
+            #[track_caller]
+            fn $name(self, right: Bits<'_>) -> Bitmap {
+                self.bits().$name(right)
+            }
+        }
+
+        /// # Panics
+        ///
+        /// Where the windows aren't of one length.
+        impl<B: AsRef<[u8]>, C: AsRef<[u8]>> $operator<&Bitmap<C>> for &Bitmap<B> {
+            type Output = Bitmap;
+
+            #[track_caller]
+            fn $name(self, right: &Bitmap<C>) -> Bitmap {
+                self.bits().$name(right.bits())
             }
         }
     )*};
