@@ -1,5 +1,5 @@
 //! Bits of sets.
-use crate::masks::{Kept, ROWS, mask};
+use crate::masks::{ROWS, Row, mask};
 use std::alloc::Allocator;
 use vb_bit_buffer::BitBuffer;
 use vb_core::BufferError;
@@ -12,23 +12,20 @@ fn value(place: usize) -> bool {
 }
 
 /// Whether these are the bits that a plain loop keeps of a row's.
-fn is_plain<A: Allocator + Clone>(given: &BitBuffer<A>, row: &(usize, usize, Kept)) -> bool {
-    let places = (0..row.0).filter(|place| row.2.has(row.1.saturating_add(*place)));
+fn is_plain<A: Allocator + Clone>(given: &BitBuffer<A>, row: &Row) -> bool {
+    let places = (0..row.0).filter(|place| row.has(*place));
     given.iter().eq(places.map(value))
 }
 
 /// The bits of a row, which begin with the bit of their bytes that its mask doesn't.
-fn filtered<A: Allocator + Clone>(
-    alloc: A,
-    row: &(usize, usize, Kept),
-) -> Result<BitBuffer<A>, BufferError> {
+fn filtered<A: Allocator + Clone>(alloc: A, row: &Row) -> Result<BitBuffer<A>, BufferError> {
     let whole = BitBuffer::from_iter(
         alloc.clone()?,
         (0..row.0.saturating_add(2)).map(|bit| value(bit.saturating_add(1))),
     )?;
     let values = whole.slice(whole.len().min(2)..whole.len())?;
     drop(whole);
-    let mask = mask(alloc, row.0, row.1, row.2)?;
+    let mask = mask(alloc, row)?;
     let kept = values.filtered(mask.as_view());
     drop((values, mask));
     kept

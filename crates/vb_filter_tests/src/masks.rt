@@ -3,22 +3,32 @@ use std::alloc::Allocator;
 use vb_bit_buffer::BitBuffer;
 use vb_core::BufferError;
 
-/// How many values there are, the bit at which their mask begins in its bytes, and which bits of it
-/// are true: one in so many, or all but one in so many.
-pub(crate) const ROWS: &[(usize, usize, Kept)] = &[
-    (0, 0, Kept::OneIn(1)),
-    (1, 7, Kept::OneIn(1)),
-    (64, 0, Kept::OneIn(1)),
-    (200, 3, Kept::OneIn(1)),
-    (200, 0, Kept::OneIn(2)),
-    (200, 5, Kept::OneIn(3)),
-    (1000, 1, Kept::OneIn(64)),
-    (1000, 0, Kept::OneIn(999)),
-    (1000, 3, Kept::OneIn(5000)),
-    (1000, 0, Kept::AllButOneIn(7)),
-    (1000, 6, Kept::AllButOneIn(64)),
-    (1000, 3, Kept::AllButOneIn(5000)),
-    (129, 0, Kept::AllButOneIn(1)),
+/// A mask: how many bits it has, the bit of its bytes with which it begins, and which bits of the
+/// bytes are true.
+pub(crate) struct Row(pub(crate) usize, usize, Kept);
+
+impl Row {
+    /// Whether the bit at a place of the mask is true.
+    pub(crate) fn has(&self, place: usize) -> bool {
+        self.2.has(self.1.saturating_add(place))
+    }
+}
+
+/// Masks that keep none, few, some and all of their values.
+pub(crate) const ROWS: &[Row] = &[
+    Row(0, 0, Kept::OneIn(1)),
+    Row(1, 7, Kept::OneIn(1)),
+    Row(64, 0, Kept::OneIn(1)),
+    Row(200, 3, Kept::OneIn(1)),
+    Row(200, 0, Kept::OneIn(2)),
+    Row(200, 5, Kept::OneIn(3)),
+    Row(1000, 1, Kept::OneIn(64)),
+    Row(1000, 0, Kept::OneIn(999)),
+    Row(1000, 3, Kept::OneIn(5000)),
+    Row(1000, 0, Kept::AllButOneIn(7)),
+    Row(1000, 6, Kept::AllButOneIn(64)),
+    Row(1000, 3, Kept::AllButOneIn(5000)),
+    Row(129, 0, Kept::AllButOneIn(1)),
 ];
 
 /// Which bits of the bytes of a mask are true, from bit 1 on.
@@ -29,7 +39,7 @@ pub(crate) enum Kept {
 }
 
 impl Kept {
-    pub(crate) fn has(self, bit: usize) -> bool {
+    fn has(self, bit: usize) -> bool {
         match self {
             Kept::OneIn(n) => n > 0 && bit % n == 1 % n,
             Kept::AllButOneIn(n) => n > 0 && bit % n != 1 % n,
@@ -37,16 +47,11 @@ impl Kept {
     }
 }
 
-/// The mask of `len` bits, which begins with bit `offset` of its bytes.
-pub(crate) fn mask<A: Allocator + Clone>(
-    alloc: A,
-    len: usize,
-    offset: usize,
-    kept: Kept,
-) -> Result<BitBuffer<A>, BufferError> {
-    let end = offset.saturating_add(len);
-    let whole = BitBuffer::from_iter(alloc, (0..end).map(|bit| kept.has(bit)))?;
-    let part = whole.slice(offset.min(whole.len())..whole.len());
+/// The mask of a row.
+pub(crate) fn mask<A: Allocator + Clone>(alloc: A, row: &Row) -> Result<BitBuffer<A>, BufferError> {
+    let end = row.1.saturating_add(row.0);
+    let whole = BitBuffer::from_iter(alloc, (0..end).map(|bit| row.2.has(bit)))?;
+    let part = whole.slice(row.1.min(whole.len())..whole.len());
     drop(whole);
     part
 }

@@ -1,5 +1,5 @@
 //! Values of buffers.
-use crate::masks::{Kept, ROWS, mask};
+use crate::masks::{ROWS, Row, mask};
 use std::alloc::Allocator;
 use vb_bit_buffer::BitBuffer;
 use vb_core::BufferError;
@@ -8,20 +8,17 @@ use vb_mem::Buffer;
 use vb_testing::{Handle, Refusing};
 
 /// Whether these are the places that a plain loop keeps of a row's.
-fn is_plain(given: &[u32], row: &(usize, usize, Kept)) -> bool {
-    let places = (0..row.0).filter(|place| row.2.has(row.1.saturating_add(*place)));
+fn is_plain(given: &[u32], row: &Row) -> bool {
+    let places = (0..row.0).filter(|place| row.has(*place));
     given.iter().map(|value| *value as usize).eq(places)
 }
 
-fn filtered<A: Allocator + Clone>(
-    alloc: A,
-    row: &(usize, usize, Kept),
-) -> Result<Buffer<u32, A>, BufferError> {
+fn filtered<A: Allocator + Clone>(alloc: A, row: &Row) -> Result<Buffer<u32, A>, BufferError> {
     let values = Buffer::from_trusted_len_iter(
         alloc.clone()?,
         0..u32::try_from(row.0).unwrap_or(0),
     )?;
-    let mask = mask(alloc, row.0, row.1, row.2)?;
+    let mask = mask(alloc, row)?;
     let kept = values.filtered(mask.as_view());
     drop((values, mask));
     kept
