@@ -64,9 +64,8 @@ fn buffers_are_compared_and_printed(rt: HostRuntime) {
     let wanted = "OwnedItems { owner: [1, 2, 3], start: 0, end: 3 }";
     prints(&rt, rt.alloc(), third.into_iter(), wanted);
     prints(&rt, rt.alloc(), twin, "[1, 2, 3]");
-    if let Ok(growing) = bytes.try_into_mut() {
-        let copy = BufferMut::copy_from(rt.alloc(), &[1u8, 2, 3]).expect(&rt, "bytes");
-        assert!(rt; growing.len() == 3 && growing == copy);
-        drop((growing, copy));
-    }
+    let growing = bytes.try_into_mut().ok().expect(&rt, "no other owner");
+    let copy = BufferMut::copy_from(rt.alloc(), &[1u8, 2, 3]).expect(&rt, "bytes");
+    assert!(rt; growing.len() == 3 && growing == copy);
+    drop((growing, copy));
 }
