@@ -13,3 +13,6 @@ pub use element::Element;
 pub use error::{BufferError, ExtendError};
 pub use index::BitIndex;
 pub use trusted::{TrustedLen, TrustedLenAdapter, trusted_len};
+
+/// What a call answers that can be refused.
+pub type Result<T, E = BufferError> = std::result::Result<T, E>;

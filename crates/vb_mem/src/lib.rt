@@ -14,11 +14,9 @@ mod iter;
 pub use buffer::Buffer;
 pub use buffer_mut::BufferMut;
 pub use iter::{BufferIterator, Iter};
-use std::alloc::Global;
-use vb_core::BufferError;
+pub use vb_core::Result;
 
-/// What a call of this crate answers that can be refused.
-pub type Result<T, E = BufferError> = std::result::Result<T, E>;
+use std::alloc::Global;
 
 /// A buffer of bytes.
 pub type ByteBuffer<A = Global> = Buffer<u8, A>;
