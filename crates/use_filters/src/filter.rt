@@ -8,7 +8,7 @@ use crate::condition::Condition;
 use std::alloc::Allocator;
 use vortex_buffer::{BitBuffer, Buffer, Filter, Result};
 
-/// The mask of the rows whose value meets the condition. Refused with `OutOfMemory`.
+/// The mask of the rows whose value meets the condition. Refused by `OutOfMemory` alone.
 pub fn rows_where<A: Allocator + Clone>(
     alloc: A,
     values: &Buffer<u32, A>,
@@ -24,8 +24,8 @@ pub fn rows_where<A: Allocator + Clone>(
     )
 }
 
-/// The mask of the rows that are valid and whose value meets the condition. Refused with
-/// `OutOfMemory`.
+/// The mask of the rows that are valid and whose value meets the condition. Refused by
+/// `OutOfMemory` alone.
 pub fn matching_rows<A: Allocator + Clone>(
     alloc: A,
     values: &Buffer<u32, A>,
@@ -39,7 +39,7 @@ pub fn matching_rows<A: Allocator + Clone>(
     rows_where(alloc, values, condition)? & valid
 }
 
-/// The values that are valid and meet the condition, in order. Refused with `OutOfMemory`.
+/// The values that are valid and meet the condition, in order. Refused by `OutOfMemory` alone.
 pub fn filtered<A: Allocator + Clone>(
     alloc: A,
     values: &Buffer<u32, A>,

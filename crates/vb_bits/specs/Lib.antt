@@ -1,6 +1,7 @@
 pub mod Bits
 pub mod Digits
 pub mod Edits
+pub mod InBytes
 pub mod Kept
 pub mod Operators
 pub mod Runs

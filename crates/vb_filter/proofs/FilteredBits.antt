@@ -1,6 +1,8 @@
 -- A word of a mask, and what it keeps.
-use Rattle.std.proofs.Common.{◌≡◌, ℕ, zero, suc, ◌+◌, ◌-◌, ◌*◌, ◌^◌, ◌<◌, ◌≤◌, Bool, false, List, []}
-use Rattle.std.proofs.Common.{◌∷◌, ◌++◌, inl, inr, min, length, take, drop, replicate, refl, sym, ap, ◌∙◌, arith}
+use Rattle.std.proofs.Common.{◌≡◌, ℕ, zero, suc, ◌+◌, ◌-◌, ◌*◌, ◌^◌, ◌<◌, ◌≤◌, Bool, false, List}
+use Rattle.std.proofs.Common.{[]}
+use Rattle.std.proofs.Common.{◌∷◌, ◌++◌, inl, inr, min, length, take, drop, replicate, refl, sym}
+use Rattle.std.proofs.Common.{ap, ◌∙◌, arith}
 use Rattle.std.specs.Prelude.{count_ones, slice_range}
 use Rattle.std.proofs.Math.Seq.{take-add}
 use Rattle.std.proofs.lemmas.List.{append-nil, take_all}
@@ -14,7 +16,7 @@ use Rattle.vb_bits.proofs.KeptLemmas.{kept-append}
 use Rattle.vb_pack.proofs.WordsLemmas.{digits_above}
 
 -- a mask that is false keeps nothing
-kept_none : {T : Type 0} (n : ℕ) (xs : List T) → kept (replicate n false) xs ≡ []
+pub kept_none : {T : Type 0} (n : ℕ) (xs : List T) → kept (replicate n false) xs ≡ []
 kept_none zero xs = refl
 kept_none (suc n) [] = refl
 kept_none (suc n) (x ∷ xs) = kept_none n xs
@@ -40,8 +42,18 @@ front-add xs a n =
     let len : a + n - a ≡ n = omega arith in
     take-add a n xs ∙ ap (λ k. take a xs ++ take k (drop a xs)) (sym len)
 
+-- fronts of lists of one length
+pub same_fronts : {T : Type 0} (k : List Bool) (l : List T) (i : ℕ) → length l ≡ length k
+    → length (take i k) ≡ length (take i l)
+same_fronts k l zero e = refl
+same_fronts [] [] (suc i) e = refl
+same_fronts [] (y ∷ l) (suc i) e = absurd (omega arith)
+same_fronts (x ∷ k) [] (suc i) e = absurd (omega arith)
+same_fronts (x ∷ k) (y ∷ l) (suc i) e = ap suc (same_fronts k l i (omega arith))
+
 -- what n bits more of a mask keep
-pub kept-add : (mask values : List Bool) (a n : ℕ) → length values ≡ length mask
+pub kept-add : {T : Type 0} (mask : List Bool) (values : List T) (a n : ℕ)
+    → length values ≡ length mask
     → kept (take (a + n) mask) (take (a + n) values)
     ≡ kept (take a mask) (take a values)
     ++ kept (slice_range mask a (a + n)) (slice_range values a (a + n))
@@ -50,14 +62,6 @@ kept-add mask values a n same =
     ∙ ap (λ l. kept (take a mask ++ slice_range mask a (a + n)) l) (front-add values a n)
     ∙ kept-append (take a mask) (slice_range mask a (a + n)) (take a values)
     (slice_range values a (a + n)) (same_fronts mask values a same)
-  where
-    same_fronts : (k l : List Bool) (i : ℕ) → length l ≡ length k
-        → length (take i k) ≡ length (take i l)
-    same_fronts k l zero e = refl
-    same_fronts [] [] (suc i) e = refl
-    same_fronts [] (y ∷ l) (suc i) e = absurd (omega arith)
-    same_fronts (x ∷ k) [] (suc i) e = absurd (omega arith)
-    same_fronts (x ∷ k) (y ∷ l) (suc i) e = ap suc (same_fronts k l i (omega arith))
 
 -- the end of a word, or of the list
 pub word_end : {T : Type 0} (l : List T) (t n : ℕ) → n ≡ min (length l - 64 * t) 64

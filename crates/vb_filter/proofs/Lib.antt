@@ -1,4 +1,5 @@
 mod FilteredBits
-mod KeptRuns
+mod GatherLemmas
+mod ItemsLemmas
 mod PackedDigits
 mod PendingLemmas

@@ -1,2 +1,4 @@
 pub mod Filtered
+pub mod Gathered
+pub mod ItemsTaken
 pub mod Pending

@@ -13,20 +13,20 @@ use crate::pending::{push_digits, write_pending};
 use std::alloc::Allocator;
 use vb_bit_buffer::BitBuffer;
 use vb_bits::read_bits;
-use vb_core::BufferError;
+use vb_core::{BufferError, Result};
 use vb_mem::BufferMut;
 use vb_view::BitBufferView;
 
 #[tactic(auto, using(vb_bits::proofs::WindowLemmas::windows))]
 impl<A: Allocator + Clone> Filter for BitBuffer<A> {
-    ghost use Rattle.std.specs.Prelude.{◌≡◌, length};
-    ghost use Rattle.vb_bits.specs.Kept.{kept};
+    ghost use Rattle.std.specs.Prelude.{length};
+    ghost use Rattle.vb_filter.specs.Filtered.{KeepsBits};
 
     ghost len = { λ s. length s.bits };
 
-    ghost keeps = { λ s mask k. k.bits ≡ kept mask s.bits };
+    ghost keeps = { λ s mask k. KeepsBits mask s.bits k };
 
-    fn filtered(&self, mask: BitBufferView<'_>) -> Result<Self, BufferError> {
+    fn filtered(&self, mask: BitBufferView<'_>) -> Result<Self> {
         if self.len() != mask.len() {
             return Err(BufferError::LengthMismatch {
                 left: self.len(),
@@ -70,7 +70,7 @@ pub fn filter_into(out: &mut [u8], values: BitBufferView<'_>, mask: BitBufferVie
 /// The `n` bits from place `start` on, as digits of a word.
 #[inline(always)]
 #[tactic(auto, using(vb_bits::proofs::WindowLemmas::windows))]
-fn view_digits(view: BitBufferView<'_>, start: usize, n: usize) -> u64
+pub(crate) fn view_digits(view: BitBufferView<'_>, start: usize, n: usize) -> u64
     requires few { n ≤ 64 }
     requires inside { start + n ≤ length (bits_of view) }
     ensures digits { digits result 0 n ≡ slice_range (bits_of view.entry) start (start + n) }

@@ -6,13 +6,16 @@ ghost use Rattle.vb_bits.specs.Kept.{kept};
 
 /// The digits of `word` where `mask` has a 1, packed to the lowest ones; 0 behind them.
 ///
-/// It goes by four digits, with a table. The processor has an instruction for it from x86-64-v3 on
-/// (`pext`), which the language doesn't name.
+/// Where the mask has no 1 that is one test; else it goes by four digits, with a table. The
+/// processor has an instruction for it from x86-64-v3 on (`pext`), which the language doesn't name.
 pub(crate) fn pack_digits(word: u64, mask: u64) -> u64
     ensures kept { digits result 0 (count (digits mask 0 64))
         ≡ kept (digits mask 0 64) (digits word 0 64) }
     ensures clear { result < 2 ^ count (digits mask 0 64) }
 {
+    if mask == 0 {
+        return 0;
+    }
     let mut packed = 0;
     let mut n = 0;
     for k in 0..16u32 {

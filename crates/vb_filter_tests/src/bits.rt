@@ -55,6 +55,17 @@ fn a_mask_of_another_length_is_refused_before_memory(rt: HostRuntime) -> Result<
 }
 
 #[test]
+fn bytes_and_owners_are_one_request_each(rt: HostRuntime) -> Result<(), BufferError> {
+    let heap = Refusing::new(rt.alloc(), 0);
+    let values = BitBuffer::new_set(&heap, 9)?;
+    heap.refuse(0);
+    let kept = values.filtered(values.as_view())?;
+    assert_eq!(rt; (kept.true_count(), kept.offset(), heap.asked()), (9, 0, 2));
+    drop((values, kept));
+    Ok(())
+}
+
+#[test]
 fn each_request_is_refused(rt: HostRuntime) {
     let heap = Refusing::new(rt.alloc(), 0);
     for row in ROWS {

@@ -3,9 +3,10 @@ use crate::masks::{ROWS, Row, mask};
 use std::alloc::Allocator;
 use vb_bit_buffer::BitBuffer;
 use vb_core::BufferError;
-use vb_filter::Filter;
+use vb_filter::{Filter, filter_values_into};
 use vb_mem::Buffer;
 use vb_testing::{Handle, Refusing};
+use vb_view::BitBufferView;
 
 /// Whether these are the places that a plain loop keeps of a row's.
 fn is_plain(given: &[u32], row: &Row) -> bool {
@@ -13,11 +14,24 @@ fn is_plain(given: &[u32], row: &Row) -> bool {
     given.iter().map(|value| *value as usize).eq(places)
 }
 
+/// As many numbers as a row's mask has bits, from 0 on.
+fn numbers<A: Allocator + Clone>(alloc: A, row: &Row) -> Result<Buffer<u32, A>, BufferError> {
+    Buffer::from_trusted_len_iter(alloc, 0..u32::try_from(row.0).unwrap_or(0))
+}
+
+/// Whether the values that a row's mask keeps are written to the front of a slice, and its other
+/// items stay.
+fn writes_in_front(values: &[u32], mask: BitBufferView<'_>, row: &Row) -> bool {
+    let mut out = [u32::MAX; 1001];
+    if values.len() != mask.len() || mask.true_count() > out.len() {
+        return false;
+    }
+    let len = filter_values_into(&mut out, values, mask);
+    is_plain(&out[..len], row) && out[len..].iter().all(|item| *item == u32::MAX)
+}
+
 fn filtered<A: Allocator + Clone>(alloc: A, row: &Row) -> Result<Buffer<u32, A>, BufferError> {
-    let values = Buffer::from_trusted_len_iter(
-        alloc.clone()?,
-        0..u32::try_from(row.0).unwrap_or(0),
-    )?;
+    let values = numbers(alloc.clone()?, row)?;
     let mask = mask(alloc, row)?;
     let kept = values.filtered(mask.as_view());
     drop((values, mask));
@@ -44,6 +58,32 @@ fn a_mask_of_another_length_is_refused_before_memory(rt: HostRuntime) -> Result<
     let wanted = BufferError::LengthMismatch { left: 3, right: 4 };
     assert_eq!(rt; (refused, heap.asked()), (Err(wanted), asked));
     drop((values, mask));
+    Ok(())
+}
+
+#[test]
+fn values_and_owners_are_one_request_each(rt: HostRuntime) -> Result<(), BufferError> {
+    let heap = Refusing::new(rt.alloc(), 0);
+    let values = Buffer::copy_from(&heap, &[7u8, 8, 9])?;
+    let mask = BitBuffer::from_iter(&heap, [true, false, true])?;
+    heap.refuse(0);
+    let kept = values.filtered(mask.as_view())?;
+    assert_eq!(rt;
+        (kept.as_slice() == [7, 9].as_slice(), heap.asked()),
+        (true, 2)
+    );
+    drop((values, mask, kept));
+    Ok(())
+}
+
+#[test]
+fn kept_values_are_written_in_front(rt: HostRuntime) -> Result<(), BufferError> {
+    for row in ROWS {
+        let values = numbers(rt.alloc(), row)?;
+        let mask = mask(rt.alloc(), row)?;
+        assert!(rt; writes_in_front(values.as_slice(), mask.as_view(), row));
+        drop((values, mask));
+    }
     Ok(())
 }
 

@@ -13,6 +13,7 @@ pub use Rattle.vb_core.specs.Indices
 pub use Rattle.vb_core.specs.Lengths
 pub use Rattle.vb_core.specs.LittleEndian
 pub use Rattle.vb_filter.specs.Filtered
+pub use Rattle.vb_filter.specs.ItemsTaken
 pub use Rattle.vb_kernel.specs.Bits
 pub use Rattle.vb_kernel.specs.Digits
 pub use Rattle.vb_kernel.specs.Edits

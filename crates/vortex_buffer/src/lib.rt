@@ -19,7 +19,7 @@ pub use vb_core::{
     Alignment, BitIndex, BufferError, Element, ExtendError, TrustedLen, TrustedLenAdapter,
     trusted_len,
 };
-pub use vb_filter::{Filter, filter_into};
+pub use vb_filter::{Filter, Take, filter_into, filter_values_into, take_values_into};
 pub use vb_kernel::{
     BitOp, Glance, Plain, Tally, bit_select, bit_select_by, bit_select_unset, bit_select_unset_by,
     copy_bits, count_ones, count_ones_by, equal_bits, fill_bits, get_bit, get_bit_unchecked,

@@ -16,7 +16,7 @@ returns g c =
     ∙ length-matched test valid values c.requires in
     record {
       ok = IfOk-weaker c.filtered-found.result _ _
-          (λ found e. e ∙ ap (λ l. kept l values) (c.as_view.ensures.bits ∙ rows)
+          (λ found e. e.list ∙ ap (λ l. kept l values) (c.as_view.ensures.bits ∙ rows)
           ∙ kept_matched test valid values) c.filtered-found.ensures.ok;
       refused = c.filtered-found.ensures.same_len (sym same);
     }

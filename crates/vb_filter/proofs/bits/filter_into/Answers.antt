@@ -11,7 +11,8 @@ use Rattle.vb_bits.proofs.DigitsLemmas.{digits_none, count-digits_below}
 use Rattle.vb_bits.proofs.WritesLemmas.{Writes-add}
 use Rattle.vb_view.specs.View.{bits_of}
 use Rattle.vb_filter.specs.Pending.{written}
-use Rattle.vb_filter.proofs.FilteredBits.{kept-narrow, kept-add, word_end, count-word, count-word-le}
+use Rattle.vb_filter.proofs.FilteredBits.{kept-narrow, kept-add, word_end, count-word}
+use Rattle.vb_filter.proofs.FilteredBits.{count-word-le}
 use Rattle.vb_filter.proofs.PendingLemmas.{Writes_up_to}
 use Rattle.vb_filter.proofs.bits.filter_into.Goals as goal
 

@@ -1,6 +1,8 @@
-use Rattle.std.proofs.Common.{rules, false, ◌≡◌, ◌++◌, ℕ, List, length, take, sym, ap, ◌∙◌, arith}
+use Rattle.std.proofs.Common.{rules, false, ◌≡◌, ◌+◌, ◌++◌, ℕ, List, length, replicate, take, sym}
+use Rattle.std.proofs.Common.{ap, zero, zero-add, length-append, ◌∙◌, arith}
+use Rattle.std.specs.Int.{div_ceil}
 use Rattle.std.specs.List.{refill}
-use Rattle.std.proofs.lemmas.List.{append-nil, drop_all, take_all}
+use Rattle.std.proofs.lemmas.List.{append-nil, drop_all, length-replicate, take_all}
 use Rattle.vb_bits.specs.Bits.{bits}
 use Rattle.vb_bits.specs.Kept.{kept}
 use Rattle.vb_bits.proofs.KeptLemmas.{length-kept}
@@ -30,8 +32,23 @@ returns g c =
     let first : bits out 0 count ≡ kept mask values =
     ap (bits out 0) (sym many ∙ ap length (sym seen)) ∙ c.filter_into.ensures.kept.window
     ∙ seen in
+    let size : ℕ = c.div_ceil-byte_len.result in
+    let zeros : List ℕ = replicate size 0 in
+    let none : length c.in_ok-bytes.bytes.list ≡ 0 = ap length c.in_ok-bytes.ensures.ok.0.list in
+    let sized : length room ≡ div_ceil count 8 =
+    ap length c.push_n_unchecked.ensures.list
+    ∙ length-append c.in_ok-bytes.bytes.list zeros
+    ∙ ap (λ k. k + length zeros) none
+    ∙ zero-add (length zeros) ∙ length-replicate size zero
+    ∙ c.div_ceil-byte_len.ensures in
     record {
-      ok = ap (λ s. s.bits) c.new.ensures.value ∙ ap (λ b. bits b 0 count) frozen ∙ first;
+      ok = record {
+        bits = ap (λ s. s.bits) c.new.ensures.value ∙ ap (λ b. bits b 0 count) frozen ∙ first;
+        offset = ap (λ s. s.offset) c.new.ensures.value;
+        byte_len = ap (λ s. length s.bytes) c.new.ensures.value ∙ ap length frozen
+            ∙ c.filter_into.ensures.kept.same_len ∙ ap length c.as_mut_slice.ensures.value
+            ∙ sized ∙ ap (λ n. div_ceil n 8) (sym c.new.ensures.len);
+      };
       same_len = search rules;
       other_len = λ other. absurd (other same);
     }

@@ -1,0 +1,162 @@
+-- The values at the digits of a word, and items that are put behind others.
+use Rattle.std.proofs.Common.{◌≡◌, ℕ, ◌+◌, ◌-◌, ◌<◌, ◌≤◌, ◌^◌, inl, inr, Bool, true, false, List}
+use Rattle.std.proofs.Common.{[], ◌∷◌, ◌++◌, eqb, filter, length, map, get_or, take, drop, refl}
+use Rattle.std.proofs.Common.{sym}
+use Rattle.std.proofs.Common.{ap, subst, ◌∙◌, arith, zero-add, append_assoc, length-append}
+use Rattle.std.proofs.Math.Pow.{pow_mono}
+use Rattle.std.proofs.lemmas.Bool.{cases_lt}
+use Rattle.std.proofs.lemmas.List.{nil_from_length, append-nil, drop-drop, take-append-drop}
+use Rattle.std.proofs.lemmas.Nat.Bits.{bit_at-zero, bit_at_above, bit_at-trailing_zeros}
+use Rattle.std.specs.Int.{bit_at, trailing_zeros, w64}
+use Rattle.std.specs.Prelude.{count_ones}
+use Rattle.std.specs.Int.Bits.{bit_and}
+use Rattle.std.specs.List.{range_with_len}
+use Rattle.vb_bits.specs.Bits.{at, count, places}
+use Rattle.vb_bits.specs.Digits.{has_bit, digits}
+use Rattle.vb_bits.specs.Kept.{kept}
+use Rattle.vb_bits.proofs.BitsLemmas.{count-le, count-append}
+use Rattle.vb_bits.proofs.DigitsLemmas.{length-digits, at-digits, count-digits_below}
+use Rattle.vb_bits.proofs.KeptLemmas.{map-places, length-kept}
+use Rattle.vb_bits.proofs.PlacesLemmas.{length-places}
+use Rattle.vb_bits.proofs.RangeLemmas.{same_filter-range_with_len}
+use Rattle.vb_filter.specs.Gathered.{PutsAt}
+use Rattle.vb_walk.specs.Walks.{places_in}
+use Rattle.vb_walk.proofs.OnesLemmas.{lowest_off}
+use Rattle.vb_walk.proofs.PlacesLemmas.{places_in_first, places_in_empty}
+
+-- the places of the digits that are 1, of the first n of a word
+abbrev pub ones : ℕ → ℕ → List ℕ
+ones n w = places_in (has_bit w) 0 n
+
+-- none of 0
+pub ones_none : (n : ℕ) → ones n 0 ≡ []
+ones_none n =
+    places_in_empty (has_bit 0) 0 n (λ i lo hi. ap (λ x. eqb x 1) (bit_at-zero i))
+
+module _ (n w : ℕ) (some : 0 < w) (clear : w < 2 ^ n) (few : n ≤ 64) where
+  word_fits : w < 2 ^ 64
+  word_fits = let more : 2 ^ n ≤ 2 ^ 64 = pow_mono few in omega arith
+
+  -- the place of the lowest one
+  pub lowest_below : trailing_zeros w64 w < n
+  lowest_below =
+      let z = bit_at-trailing_zeros w64 w some word_fits in
+      elim (cases_lt (trailing_zeros w64 w) n) [
+        | inl below ↦ below
+        | inr above ↦
+            let none : bit_at w (trailing_zeros w64 w) ≡ 0 =
+            bit_at_above w n (trailing_zeros w64 w) clear above in
+            absurd (omega (arith, z.1))
+      ]
+
+  -- it, and those of the word without it
+  pub ones_first : ones n w ≡ trailing_zeros w64 w ∷ ones n (bit_and w (w - 1))
+  ones_first =
+      let low : ℕ = trailing_zeros w64 w in
+      let z = bit_at-trailing_zeros w64 w some word_fits in
+      let off = lowest_off w low z.1 z.2 in
+      places_in_first (has_bit w) (has_bit (bit_and w (w - 1))) 0 n low (omega arith)
+      (omega (arith, lowest_below)) (λ i lo hi. ap (λ x. eqb x 1) (z.2 i hi))
+      (ap (λ x. eqb x 1) z.1) (λ i lo hi. ap (λ x. eqb x 1) (off.0 i hi))
+      (λ i lo hi. ap (λ x. eqb x 1) (off.1 i lo))
+
+-- the true places of the first n digits
+pub places-digits : (w n : ℕ) → places (digits w 0 n) ≡ ones n w
+unfolding places places_in
+places-digits w n =
+    ap (λ k. filter (at (digits w 0 n)) (range_with_len 0 k)) (length-digits w 0 n)
+    ∙ same_filter-range_with_len (at (digits w 0 n)) (has_bit w) 0 n
+    (λ i lo hi. at-digits w 0 n i false (omega arith) ∙ ap (has_bit w) (zero-add i))
+
+-- the values at them
+pub map-ones : {T : Type 0} (d : T) (w : ℕ) (xs : List T)
+    → map (λ i. get_or xs i d) (ones (length xs) w) ≡ kept (digits w 0 (length xs)) xs
+map-ones d w xs =
+    ap (map (λ i. get_or xs i d)) (sym (places-digits w (length xs)))
+    ∙ map-places d (digits w 0 (length xs)) xs (length-digits w 0 (length xs))
+
+-- as many as the word has ones
+pub length-ones : (n w : ℕ) → w < 2 ^ n → length (ones n w) ≡ count_ones w
+length-ones n w clear =
+    ap length (sym (places-digits w n)) ∙ length-places (digits w 0 n)
+    ∙ count-digits_below w n clear
+
+-- as many as the mask has true bits
+pub length-kept_any : {T : Type 0} (bits : List Bool) (xs : List T) → length bits ≡ length xs
+    → length (kept bits xs) ≡ count bits
+length-kept_any [] [] same = refl
+length-kept_any [] (x ∷ xs) same = refl
+length-kept_any (b ∷ bits) [] same = absurd (omega arith)
+length-kept_any (b ∷ bits) (x ∷ xs) same = length-kept x (b ∷ bits) (x ∷ xs) same
+
+-- as many values as the word has ones
+pub length-kept_ones : {T : Type 0} (xs : List T) (w : ℕ) → w < 2 ^ length xs
+    → length (kept (digits w 0 (length xs)) xs) ≡ count_ones w
+length-kept_ones xs w clear =
+    length-kept_any (digits w 0 (length xs)) xs (length-digits w 0 (length xs))
+    ∙ count-digits_below w (length xs) clear
+
+-- a mask that is true keeps all
+pub kept_all : {T : Type 0} (bits : List Bool) (xs : List T) → length bits ≡ length xs
+    → count bits ≡ length bits → kept bits xs ≡ xs
+kept_all [] [] same full = refl
+kept_all [] (x ∷ xs) same full = absurd (omega arith)
+kept_all (b ∷ bits) [] same full = absurd (omega arith)
+kept_all (true ∷ bits) (x ∷ xs) same full =
+    let one : count (true ∷ bits) ≡ 1 + count bits = count-append (true ∷ []) bits in
+    ap (λ ys. x ∷ ys) (kept_all bits xs (omega arith) (omega (arith, one)))
+kept_all (false ∷ bits) (x ∷ xs) same full =
+    let none : count (false ∷ bits) ≡ 0 + count bits = count-append (false ∷ []) bits in
+    absurd (omega (arith, none, count-le bits))
+
+-- items put behind items
+pub puts-add : {T : Type 0} (s : ℕ) (xs ys old mid new : List T) → PutsAt s xs old mid
+    → PutsAt (s + length xs) ys mid new → PutsAt s (xs ++ ys) old new
+puts-add s xs ys old mid new before more =
+    let n : ℕ = s + length xs in
+    let end : s + length (xs ++ ys) ≡ n + length ys = omega (arith, length-append xs ys) in
+    record {
+      front = ap (λ k. take k new) end ∙ more.front ∙ ap (λ l. l ++ ys) before.front
+          ∙ append_assoc (take s old) xs ys;
+      behind = ap (λ k. drop k new) end ∙ more.behind ∙ sym (drop-drop (length ys) n mid)
+          ∙ ap (drop (length ys)) before.behind ∙ drop-drop (length ys) n old
+          ∙ sym (ap (λ k. drop k old) end);
+    }
+
+-- nothing put
+pub puts_none : {T : Type 0} (s : ℕ) (xs : List T) → PutsAt s [] xs xs
+puts_none s xs =
+    let end : s + 0 ≡ s = omega arith in
+    record { front = ap (λ k. take k xs) end ∙ sym (append-nil (take s xs)); behind = refl }
+
+-- items put in front
+pub puts_front : {T : Type 0} (xs old new : List T) (n : ℕ) → n ≡ length xs → PutsAt 0 xs old new
+    → new ≡ xs ++ drop n old
+puts_front xs old new n same put =
+    let end : 0 + length xs ≡ n = omega arith in
+    sym (take-append-drop n new) ∙ ap (λ l. l ++ drop n new)
+    (ap (λ k. take k new) (sym end) ∙ put.front)
+    ∙ ap (λ l. xs ++ l) (ap (λ k. drop k new) (sym end) ∙ put.behind
+    ∙ ap (λ k. drop k old) end)
+
+-- the values at the ones of a word, put behind others; an item of either list is any other one's
+-- stand-in past the end
+pub puts_ones : {T : Type 0} (xs old new : List T) (w s end : ℕ) → length new ≡ length old
+    → w < 2 ^ length xs → s + count_ones w ≤ length old → end ≡ s + count_ones w
+    → ((d : T) → take end new ≡ take s old ++ map (λ i. get_or xs i d) (ones (length xs) w))
+    → drop end new ≡ drop end old → PutsAt s (kept (digits w 0 (length xs)) xs) old new
+puts_ones xs [] new w s end same clear room place front behind =
+    let many = length-kept_ones xs w clear in
+    let nothing : kept (digits w 0 (length xs)) xs ≡ [] =
+    nil_from_length (kept (digits w 0 (length xs)) xs) (omega (arith, many, room)) in
+    let empty : new ≡ [] = nil_from_length new same in
+    subst (λ l. PutsAt s l [] new) (sym nothing)
+    (subst (λ l. PutsAt s [] [] l) (sym empty) (puts_none s []))
+puts_ones xs (y ∷ old) new w s end same clear room place front behind =
+    let at : end ≡ s + length (kept (digits w 0 (length xs)) xs) =
+    place ∙ ap (λ k. s + k) (sym (length-kept_ones xs w clear)) in
+    record {
+      front = ap (λ k. take k new) (sym at) ∙ front y
+          ∙ ap (λ l. take s (y ∷ old) ++ l) (map-ones y w xs);
+      behind = subst (λ k. drop k new ≡ drop k (y ∷ old)) at behind;
+    }

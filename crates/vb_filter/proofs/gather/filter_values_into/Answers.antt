@@ -1,0 +1,107 @@
+use Rattle.std.proofs.Common.{◌≡◌, ℕ, ◌+◌, ◌-◌, ◌*◌, ◌≤◌, ◌++◌, length, take}
+use Rattle.std.proofs.Common.{min}
+use Rattle.std.proofs.Common.{refl, sym, ap, subst, ◌∙◌, arith}
+use Rattle.std.specs.Prelude.{slice_range}
+use Rattle.std.proofs.lemmas.List.{take_all, length-take, length-drop}
+use Rattle.vb_bits.specs.Bits.{count}
+use Rattle.vb_bits.specs.Digits.{digits}
+use Rattle.vb_bits.specs.Kept.{kept}
+use Rattle.vb_bits.proofs.BitsLemmas.{count-le}
+use Rattle.vb_view.specs.View.{bits_of}
+use Rattle.vb_filter.specs.Gathered.{PutsAt}
+use Rattle.vb_filter.proofs.FilteredBits.{kept-add, same_fronts, word_end, count-word}
+use Rattle.vb_filter.proofs.FilteredBits.{count-word-le}
+use Rattle.vb_filter.proofs.GatherLemmas.{length-kept_any, puts-add, puts_none, puts_front}
+use Rattle.vb_filter.proofs.gather.filter_values_into.Goals as goal
+
+pub loop-t-init : goal.loop-t-init
+loop-t-init g c = record { number = refl; put = puts_none 0 c.args.out.now }
+
+pub loop-t-preserved : goal.loop-t-preserved
+loop-t-preserved g c =
+    let mask = bits_of c.args.mask in
+    let values = c.args.values.now in
+    let t = c.loop-t.t in
+    let n : ℕ = c.min-n.result in
+    let keep : ℕ = c.view_digits-keep.result in
+    let old = c.args.out.now in
+    let mid = c.loop-t.out in
+    let new = c.put_word-len.new.out in
+    let front = kept (take (64 * t) mask) (take (64 * t) values) in
+    let chunk = slice_range values (64 * t) (64 * t + n) in
+    let same = c.requires.same_len in
+    let here : n ≡ min (length mask - 64 * t) 64 =
+    c.min-n.ensures ∙ ap (λ k. min (k - 64 * t) 64) c.len-in-loop-t.ensures in
+    let there : n ≡ min (length values - 64 * t) 64 =
+    here ∙ ap (λ k. min (k - 64 * t) 64) (sym same) in
+    let of_mask = c.view_digits-keep.ensures.digits in
+    let many : length chunk ≡ n = simp (length-take, length-drop) (omega arith) in
+    let added : kept (digits keep 0 (length chunk)) chunk
+    ≡ kept (slice_range mask (64 * t) (64 * t + n)) chunk =
+    ap (λ k. kept (digits keep 0 k) chunk) many ∙ ap (λ l. kept l chunk) of_mask in
+    let number = c.loop-t.invariant.number in
+    let place : c.loop-t.len ≡ 0 + length front = omega (
+      arith,
+      number,
+      length-kept_any (take (64 * t) mask) (take (64 * t) values)
+          (same_fronts mask values (64 * t) same),
+    ) in
+    let whole : kept (take (64 * (t + 1)) mask) (take (64 * (t + 1)) values)
+    ≡ front ++ kept (slice_range mask (64 * t) (64 * t + n)) chunk =
+    ap (λ l. kept l (take (64 * (t + 1)) values)) (word_end mask t n here)
+    ∙ ap (kept (take (64 * t + n) mask)) (word_end values t n there)
+    ∙ kept-add mask values (64 * t) n same in
+    let more = subst (λ l. PutsAt (0 + length front) l mid new) added
+    (subst (λ k. PutsAt k (kept (digits keep 0 (length chunk)) chunk) mid new) place
+    c.put_word-len.ensures.kept) in
+    record {
+      number = ap (λ k. k + c.put_word-len.result) number
+          ∙ ap (λ k. count (take (64 * t) mask) + k) c.put_word-len.ensures.count
+          ∙ count-word mask keep t n here c.view_digits-keep.ensures.clear of_mask;
+      put = subst (λ l. PutsAt 0 l old new) (sym whole)
+          (puts-add 0 front _ old mid new c.loop-t.invariant.put more);
+    }
+
+pub returns-clause-kept : goal.returns-clause-kept
+returns-clause-kept g c =
+    let mask = bits_of c.args.mask in
+    let values = c.args.values.now in
+    let t = c.loop-t.t in
+    let end : length mask ≤ 64 * t = omega (arith, c.len.ensures, c.div_ceil-t-end.ensures) in
+    let all_mask = take_all (64 * t) mask end in
+    let all_values = take_all (64 * t) values (omega (arith, c.requires.same_len)) in
+    let all : kept (take (64 * t) mask) (take (64 * t) values) ≡ kept mask values =
+    ap (λ l. kept l (take (64 * t) values)) all_mask ∙ ap (kept mask) all_values in
+    let number : c.loop-t.len ≡ length (kept mask values) =
+    c.loop-t.invariant.number ∙ ap count all_mask
+    ∙ sym (length-kept_any mask values (sym c.requires.same_len)) in
+    puts_front (kept mask values) c.args.out.now c.loop-t.out c.loop-t.len number
+    (subst (λ l. PutsAt 0 l c.args.out.now c.loop-t.out) all c.loop-t.invariant.put)
+
+pub put_word-len-requires-clause-room : goal.put_word-len-requires-clause-room
+put_word-len-requires-clause-room g c =
+    let here = c.min-n.ensures ∙ ap (λ k. min (k - 64 * c.loop-t.t) 64) c.len-in-loop-t.ensures in
+    omega (
+      arith,
+      c.loop-t.invariant.number,
+      count-word-le (bits_of c.args.mask) _ c.loop-t.t
+          c.min-n.result here c.view_digits-keep.ensures.clear c.view_digits-keep.ensures.digits,
+      c.requires.room,
+      c.loop-t.auto.out,
+    )
+
+pub overflow_add-len : goal.overflow_add-len
+overflow_add-len g c =
+    let here = c.min-n.ensures ∙ ap (λ k. min (k - 64 * c.loop-t.t) 64) c.len-in-loop-t.ensures in
+    omega (
+      arith,
+      c.loop-t.invariant.number,
+      count-word-le (bits_of c.args.mask) _ c.loop-t.t
+          c.min-n.result here c.view_digits-keep.ensures.clear c.view_digits-keep.ensures.digits,
+      c.requires.room,
+      c.loop-t.auto.out,
+      c.put_word-len.ensures.count,
+      count-le (bits_of c.args.mask),
+      c.len-in-loop-t.ensures,
+      c.len-in-loop-t.type_inv,
+    )

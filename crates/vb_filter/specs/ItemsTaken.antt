@@ -1,0 +1,44 @@
+-- Items taken at indices.
+use Rattle.std.specs.Prelude.{◌≡◌, ℕ, ℤ, negsuc, ◌<◌, ◌⊎◌, Bool, List, length, slice_get}
+use Rattle.std.specs.Prelude.{slice_index_or, Option, Some, None, IsSome, if◌then◌else◌}
+use Rattle.std.specs.Prelude.{Result, IfOk, IfErr}
+use Rattle.std.specs.Option.{option_and_then}
+use Rattle.vb_core.specs.Indices.{place_of}
+use Rattle.vb_core.specs.declared.error.BufferError.{BufferError}
+use Rattle.vb_core.specs.declared.error.BufferError.TheVariants.{OutOfMemory, TakeOutOfRange}
+use Rattle.vb_mem.specs.SharedBuffer.{SharedBuffer, ShowsMade}
+use Rattle.vb_take.specs.Takes.{is_valid}
+
+-- the item at the place that a number names, if it names one of the list
+abbrev pub item_named : {T : Type 0} → List T → ℤ → Option T
+item_named items index = option_and_then (slice_get items) (place_of index)
+
+module _ {T : Type 0} (zero : T) (items : List T) (indices : List ℤ)
+    (validity : Option (List Bool)) where
+  -- what position i takes: the item that its index names, if it names one; zero where the position
+  -- doesn't count, whatever its index
+  abbrev pub item_taken : ℕ → Option T
+  item_taken i =
+      if is_valid validity i then item_named items (slice_index_or indices i (negsuc 0))
+      else Some zero
+
+  -- these are the items taken, one for each index
+  pub record AreTaken (taken : List T) : Type 0 where
+    pub same_len : length taken ≡ length indices
+    pub each : (i : ℕ) → i < length indices → item_taken i ≡ slice_get taken i
+
+  -- position p is the first that takes nothing: it counts, and its index names no place of the list
+  pub record IsFirstUntaken (p : ℕ) : Type 0 where
+    pub within : p < length indices
+    pub past : item_taken p ≡ None
+    pub before : (i : ℕ) → i < p → IsSome (item_taken i)
+
+-- the items of a buffer were taken into one of the same alignment, in storage made for them; or
+-- memory was refused, or the first position that takes nothing
+pub record GivesTaken {T : Type 0} (zero : T) (b : SharedBuffer T) (indices : List ℤ)
+    (validity : Option (List Bool)) (result : Result (SharedBuffer T) BufferError) : Type 0 where
+  pub ok : IfOk result (λ k. AreTaken zero b.list indices validity k.list
+      × ShowsMade k.list b.exponent k)
+  pub refused : IfErr result (λ e. (e ≡ OutOfMemory)
+      ⊎ ((position : ℕ) × (e ≡ TakeOutOfRange position)
+      × IsFirstUntaken zero b.list indices validity position))
