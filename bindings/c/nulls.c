@@ -90,12 +90,31 @@ static void takes(void)
     check(out[0] == 0x5A, "no bits are taken");
 }
 
+static void filters(void)
+{
+    const uint8_t ones[1] = {0xFF};
+    uint32_t out[1] = {7};
+    size_t number = 77;
+    check(vb_filter_bits(NULL, 0, NULL, 0, 0, NULL, 0, 0, 0) == 0, "vb_filter_bits");
+    check(vb_filter_u8(NULL, 0, NULL, 0, NULL, 0, 0) == 0, "vb_filter_u8");
+    check(vb_filter_u16(NULL, 0, NULL, 0, ones, 1, 8) == 0, "vb_filter_u16");
+    check(vb_filter_u32(out, 1, NULL, 0, ones, 1, 0) == 0 && out[0] == 7, "vb_filter_u32");
+    check(vb_filter_u64(NULL, 0, NULL, 0, NULL, 0, 0) == 0, "vb_filter_u64");
+    check(vb_filter_u128(NULL, 0, NULL, 0, NULL, 0, 0) == 0, "vb_filter_u128");
+    check(vb_try_filter_bits(NULL, 0, NULL, 0, 0, NULL, 0, 0, 0, &number) && number == 0,
+        "vb_try_filter_bits");
+    check(vb_try_filter_u128(NULL, 0, NULL, 0, NULL, 0, 0, &number), "vb_try_filter_u128");
+    check(!vb_try_filter_u32(NULL, 0, out, 1, ones, 1, 0, &number), "a value without room");
+    check(!vb_try_filter_u32(out, 1, out, 1, NULL, 0, 0, &number), "a bit of null");
+}
+
 int main(void)
 {
     questions();
     walks();
     writes();
     takes();
+    filters();
     check(vb_has_level() && strncmp(vb_level(), "x86-64-v", 8) == 0, "vb_level");
     printf("%s\n", vb_level());
     return failures == 0 ? 0 : 1;

@@ -141,6 +141,24 @@ static void takes()
     refused([&] { vortex_bits::pack_truthy(buffer(9), out); }, "no room");
 }
 
+static void filters()
+{
+    const buffer all = {0xB6, 0x01};
+    const bits window(all, 1, 8), mask(all, 0, 8);
+    std::array<std::uint8_t, 1> out = {0xE0};
+    check(window.filter_into(mask, out) == 5 && out[0] == 0xF5, "the bits that are kept");
+    const std::array<std::uint16_t, 8> values = {10, 11, 12, 13, 14, 15, 16, 17};
+    std::vector<std::uint16_t> some(6, 99);
+    check(mask.keep_into(values, some) == 5, "how many values are kept");
+    check(some == std::vector<std::uint16_t>({11, 12, 14, 15, 17, 99}), "the values that are kept");
+    const std::array<vb_u128, 1> one = {{{1, 2}}};
+    std::array<vb_u128, 1> wide = {{{3, 4}}};
+    check(bits(all, 1, 1).keep_into(one, wide) == 1 && wide[0].high == 2, "a wide value");
+    refused([&] { (void)window.filter_into(bits(all, 0, 7), out); }, "two lengths");
+    refused([&] { (void)mask.keep_into(some, some); }, "two lengths");
+    refused([&] { (void)mask.keep_into(values, std::vector<std::uint16_t>(4)); }, "no room");
+}
+
 static void refusals()
 {
     buffer two(2), none;
@@ -176,6 +194,7 @@ int main()
         writes(all, l, other, below(8 * other.size() - len + 1), len);
     }
     takes();
+    filters();
     refusals();
     return failures == 0 ? 0 : 1;
 }

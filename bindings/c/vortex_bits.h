@@ -1,6 +1,6 @@
 /*
  * Windows of bits over the caller's bytes: counted, searched, compared, filled, copied, combined,
- * packed, taken, walked and ranked by functions that are proved to meet their definitions.
+ * packed, taken, filtered, walked and ranked by functions that are proved to meet their definitions.
  *
  *     cc -O2 app.c -I DIST/include DIST/lib/libvortex_bits.a
  *     cc -O2 app.c $(pkg-config --cflags --libs --static vortex_bits)
@@ -62,6 +62,12 @@ typedef struct {
     size_t start;
     size_t end;
 } vb_run;
+
+/* A value of 16 bytes. */
+typedef struct {
+    uint64_t low;
+    uint64_t high;
+} vb_u128;
 
 /* Bit `place`, which lies in the bytes. */
 bool vb_get_bit(const uint8_t *bytes, size_t size, size_t place);
@@ -251,6 +257,44 @@ vb_place vb_take_valid_u64(uint8_t *out, size_t out_size, const uint8_t *bytes, 
 VB_CHECKED bool vb_try_take_valid_u64(uint8_t *out, size_t out_size, const uint8_t *bytes,
         size_t size, size_t offset, size_t len, const uint64_t *indices, size_t index_count,
         const uint8_t *validity, size_t validity_size, size_t validity_offset, vb_place *past);
+
+/*
+ * Writes those of the `len` bits of `values` from bit `values_offset` on whose bit of `mask` from
+ * bit `mask_offset` on is true, in order, to the first bits of `out`, which has room for them, and
+ * answers (`written`) how many these are. The bits of `out` behind them stay. The checked form
+ * tests the room too. 64 bits go at a time.
+ */
+size_t vb_filter_bits(uint8_t *out, size_t out_size, const uint8_t *values, size_t values_size,
+        size_t values_offset, const uint8_t *mask, size_t mask_size, size_t mask_offset,
+        size_t len);
+VB_CHECKED bool vb_try_filter_bits(uint8_t *out, size_t out_size, const uint8_t *values,
+        size_t values_size, size_t values_offset, const uint8_t *mask, size_t mask_size,
+        size_t mask_offset, size_t len, size_t *written);
+
+/*
+ * The same of `count` values of 1, 2, 4, 8 or 16 bytes each, with a bit of `mask` for each; `room`
+ * is how many of them `out` has room for.
+ */
+size_t vb_filter_u8(uint8_t *out, size_t room, const uint8_t *values, size_t count,
+        const uint8_t *mask, size_t mask_size, size_t mask_offset);
+VB_CHECKED bool vb_try_filter_u8(uint8_t *out, size_t room, const uint8_t *values,
+        size_t count, const uint8_t *mask, size_t mask_size, size_t mask_offset, size_t *written);
+size_t vb_filter_u16(uint16_t *out, size_t room, const uint16_t *values, size_t count,
+        const uint8_t *mask, size_t mask_size, size_t mask_offset);
+VB_CHECKED bool vb_try_filter_u16(uint16_t *out, size_t room, const uint16_t *values,
+        size_t count, const uint8_t *mask, size_t mask_size, size_t mask_offset, size_t *written);
+size_t vb_filter_u32(uint32_t *out, size_t room, const uint32_t *values, size_t count,
+        const uint8_t *mask, size_t mask_size, size_t mask_offset);
+VB_CHECKED bool vb_try_filter_u32(uint32_t *out, size_t room, const uint32_t *values,
+        size_t count, const uint8_t *mask, size_t mask_size, size_t mask_offset, size_t *written);
+size_t vb_filter_u64(uint64_t *out, size_t room, const uint64_t *values, size_t count,
+        const uint8_t *mask, size_t mask_size, size_t mask_offset);
+VB_CHECKED bool vb_try_filter_u64(uint64_t *out, size_t room, const uint64_t *values,
+        size_t count, const uint8_t *mask, size_t mask_size, size_t mask_offset, size_t *written);
+size_t vb_filter_u128(vb_u128 *out, size_t room, const vb_u128 *values, size_t count,
+        const uint8_t *mask, size_t mask_size, size_t mask_offset);
+VB_CHECKED bool vb_try_filter_u128(vb_u128 *out, size_t room, const vb_u128 *values,
+        size_t count, const uint8_t *mask, size_t mask_size, size_t mask_offset, size_t *written);
 
 /*
  * Ranks over a table that the caller keeps: it has, for each block of 512 bits of the window, how

@@ -204,6 +204,30 @@ public:
             take_valid(indices.data(), indices.size(), valid, out.data(), out.size()));
     }
 
+    /*
+     * Writes the bits that are true in `mask`, which is as long, in order, to the first bits of
+     * `out`, and answers how many these are.
+     */
+    template <class Out> std::size_t filter_into(bits mask, Out &&out) const
+    {
+        detail::expect(mask.len_ == len_, "windows are of two lengths");
+        detail::expect(fits(out.size(), 0, mask.count_ones()), "no room for the bits to keep");
+        return vb_filter_bits(out.data(), out.size(), bytes_, size_, offset_, mask.bytes_,
+            mask.size_, mask.offset_, len_);
+    }
+
+    /*
+     * Writes those of as many values as there are bits whose bit is true, in order, to the front of
+     * `out`, and answers how many these are. They are unsigned, of 8, 16, 32 or 64 bits, or vb_u128.
+     */
+    template <class Values, class Out>
+    std::size_t keep_into(const Values &values, Out &&out) const
+    {
+        detail::expect(values.size() == len_, "not a bit for each value");
+        detail::expect(count_ones() <= out.size(), "no room for the values to keep");
+        return keep(out.data(), out.size(), values.data());
+    }
+
 private:
     friend class bits_mut;
     friend class ranks;
@@ -243,6 +267,31 @@ private:
     {
         return vb_take_valid_u64(out, size, bytes_, size_, offset_, len_, indices, n, valid.bytes_,
             valid.size_, valid.offset_);
+    }
+
+    std::size_t keep(std::uint8_t *out, std::size_t room, const std::uint8_t *values) const
+    {
+        return vb_filter_u8(out, room, values, len_, bytes_, size_, offset_);
+    }
+
+    std::size_t keep(std::uint16_t *out, std::size_t room, const std::uint16_t *values) const
+    {
+        return vb_filter_u16(out, room, values, len_, bytes_, size_, offset_);
+    }
+
+    std::size_t keep(std::uint32_t *out, std::size_t room, const std::uint32_t *values) const
+    {
+        return vb_filter_u32(out, room, values, len_, bytes_, size_, offset_);
+    }
+
+    std::size_t keep(std::uint64_t *out, std::size_t room, const std::uint64_t *values) const
+    {
+        return vb_filter_u64(out, room, values, len_, bytes_, size_, offset_);
+    }
+
+    std::size_t keep(vb_u128 *out, std::size_t room, const vb_u128 *values) const
+    {
+        return vb_filter_u128(out, room, values, len_, bytes_, size_, offset_);
     }
 
     const std::uint8_t *bytes_ = nullptr;

@@ -17,6 +17,10 @@
 #define TABLE ANY(table), entries
 #define IN_VALIDITY const uint8_t *validity, size_t validity_size, size_t validity_offset
 #define VALIDITY ANY(validity), validity_size, validity_offset
+#define IN_MASK const uint8_t *mask, size_t mask_size, size_t mask_offset
+#define MASK ANY(mask), mask_size, mask_offset
+#define IN_VALUES const uint8_t *values, size_t values_size, size_t values_offset
+#define VALUES ANY(values), values_size, values_offset
 #define TO_BYTES uint8_t *bytes, size_t size
 #define TO_DST uint8_t *dst, size_t dst_size, size_t dst_offset
 #define DST ANY(dst), dst_size, dst_offset
@@ -53,6 +57,14 @@
     F(bool, try_take_valid_##name,                                                                \
         (TO_OUT, IN_WINDOW, const type *indices, size_t index_count, IN_VALIDITY, vb_place *past), \
         (OUT, WINDOW, ANY(indices), index_count, VALIDITY, past))
+
+#define FILTER(name, type)                                                                        \
+    F(size_t, filter_##name,                                                                      \
+        (type *out, size_t room, const type *values, size_t count, IN_MASK),                      \
+        (ANY(out), room, ANY(values), count, MASK))                                               \
+    F(bool, try_filter_##name,                                                                    \
+        (type *out, size_t room, const type *values, size_t count, IN_MASK, size_t *written),     \
+        (ANY(out), room, ANY(values), count, MASK, written))
 
 #define SELECT(name)                                                                              \
     F(vb_place, bit_##name, (IN_WINDOW, size_t n), (WINDOW, n))                                   \
@@ -93,6 +105,14 @@
     PACK(pack_truthy, uint8_t)                                                                    \
     TAKE(u32, uint32_t)                                                                           \
     TAKE(u64, uint64_t)                                                                           \
+    F(size_t, filter_bits, (TO_OUT, IN_VALUES, IN_MASK, size_t len), (OUT, VALUES, MASK, len))    \
+    F(bool, try_filter_bits, (TO_OUT, IN_VALUES, IN_MASK, size_t len, size_t *written),           \
+        (OUT, VALUES, MASK, len, written))                                                        \
+    FILTER(u8, uint8_t)                                                                           \
+    FILTER(u16, uint16_t)                                                                         \
+    FILTER(u32, uint32_t)                                                                         \
+    FILTER(u64, uint64_t)                                                                         \
+    FILTER(u128, vb_u128)                                                                         \
     F(size_t, rank, (IN_WINDOW, IN_TABLE, size_t place), (WINDOW, TABLE, place))                  \
     F(bool, try_rank, (IN_WINDOW, IN_TABLE, size_t place, size_t *rank),                          \
         (WINDOW, TABLE, place, rank))

@@ -2,7 +2,7 @@
 
 use std::fmt::Debug;
 
-use vortex_bits::{BitIndex, Bits, BitsMut, TakeError};
+use vortex_bits::{BitIndex, Bits, BitsMut, TakeError, Value};
 
 use crate::ask::same;
 use crate::case::{Case, bit, put};
@@ -82,6 +82,23 @@ fn filters(case: &Case) -> Result<u64, String> {
     same("filter_into", Ok(bytes), taken(case, &kept, |_| true))
 }
 
+/// Values of one width, of which the mask keeps some.
+fn keeps<T: Value + Copy + PartialEq + Debug>(
+    case: &Case,
+    value: impl Fn(usize) -> T,
+) -> Result<u64, String> {
+    let values: Vec<T> = (0..case.len).map(&value).collect();
+    let mut out: Vec<T> = (0..case.len + 1).map(|_| value(case.len)).collect();
+    let mut wanted = out.clone();
+    let kept: Vec<T> = (0..case.len)
+        .filter(|&i| bit(&case.right, case.r + i))
+        .map(&value)
+        .collect();
+    wanted[..kept.len()].copy_from_slice(&kept);
+    let count = case.right().keep_into(&values, &mut out);
+    same("keep_into", (count, out), (kept.len(), wanted))
+}
+
 /// Of two cases one has indices past the window among its own.
 pub fn compare(case: &Case, random: &mut Random) -> Result<u64, String> {
     let most = case.len + random.below(2);
@@ -92,6 +109,11 @@ pub fn compare(case: &Case, random: &mut Random) -> Result<u64, String> {
     };
     let places: Vec<usize> = (0..count).map(|_| random.below(most)).collect();
     Ok(filters(case)?
+        + keeps(case, |i| i as u8)?
+        + keeps(case, |i| i as i16)?
+        + keeps(case, |i| i as f32)?
+        + keeps(case, |i| i as u64)?
+        + keeps(case, |i| i as u128)?
         + takes(case, &places, u32::MAX)?
         + takes(case, &places, case.len as u64)?
         + takes(case, &places, case.len)?

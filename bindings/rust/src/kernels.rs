@@ -3,8 +3,10 @@
 
 #[macro_use]
 mod call;
+mod filter;
 mod gather;
 
+pub use filter::{filter, keep};
 pub use gather::{pack_bools, pack_truthy, take};
 
 use crate::{Bits, BitsMut, blocks, portable};

@@ -1,6 +1,6 @@
 //! Windows of bits over byte slices, least significant bit first: counted, searched, compared,
 //! walked, filled, negated, copied and combined; packed of truth values, taken at indices, filtered
-//! by masks, and ranked over a table of counts.
+//! by masks, which filter values too, and ranked over a table of counts.
 //!
 //! Bit `i` of some bytes is digit `i % 8` of byte `i / 8`. A window is the `len` bits from bit
 //! `offset` on: [`Bits`] reads one, [`BitsMut`] writes one. No call reads or changes a bit outside
@@ -13,12 +13,11 @@
 //! # What is proved
 //!
 //! On x86-64 Linux the calls go to C functions that are proved in Rattle to meet their definitions
-//! at every offset and length, for x86-64-v2 or for x86-64-v3, by what the processor has. Three
+//! at every offset and length, for x86-64-v2 or for x86-64-v3, by what the processor has. Two
 //! things are Rust of this crate alone, which is compared with loops over single bits and isn't
-//! proved: single bits and windows of at most 64 bits, which need no call;
-//! [`filter_into`](Bits::filter_into); and everything on other machines, under Miri, and where the
-//! archives of those functions aren't there when the crate is built. [`Level::current`] says which
-//! it is.
+//! proved: single bits and windows of at most 64 bits, which need no call; and everything on other
+//! machines, under Miri, and where the archives of those functions aren't there when the crate is
+//! built. [`Level::current`] says which it is.
 //!
 //! # Features
 //!
@@ -39,6 +38,7 @@ mod bitmap;
 mod bits;
 mod bits_mut;
 mod error;
+mod filter;
 pub mod iter;
 mod kernels;
 mod level;
@@ -54,6 +54,7 @@ pub use bitmap::Bitmap;
 pub use bits::Bits;
 pub use bits_mut::BitsMut;
 pub use error::{OutOfBounds, ShortTable, TakeError};
+pub use filter::Value;
 pub use level::Level;
 #[cfg(feature = "alloc")]
 pub use rank::Ranked;

@@ -4,8 +4,8 @@
 //!
 //! Of each function: a pointer is followed by the number of items that it points to, and isn't
 //! null; they may be read, and written where it is `*mut`; nothing else writes them during the
-//! call. Windows end within their bytes, and at a `usize`; those of takes and packs are the first
-//! bits of `out`, one for each item. A table has as many entries as the window has blocks of 512
+//! call. Windows end within their bytes, and at a `usize`; those of takes, packs and filters are the
+//! first bits of `out`, one for each item, or for each that is kept. A table has as many entries as the window has blocks of 512
 //! bits, whatever they are. The processor has the level.
 //!
 //! A function changes only the windows and the items that it is said to write.
@@ -62,6 +62,18 @@ pub type CombineInto = unsafe extern "C" fn(
     usize,
     usize,
 );
+
+/// A filter of values of this type: `out`, the values, and the bytes and the offset of a window with
+/// a bit for each value. It answers how many it writes, for which `out` has room.
+pub type Filter<T> =
+    unsafe extern "C" fn(*mut T, usize, *const T, usize, *const u8, usize, usize) -> usize;
+
+/// A value of 16 bytes.
+#[repr(C)]
+pub struct Wide {
+    low: u64,
+    high: u64,
+}
 
 macro_rules! kernels {
     (@level $table:ident $level:literal
@@ -138,6 +150,18 @@ kernels! {
     take_valid_u64(out: *mut u8, out_size: usize, bytes: *const u8, size: usize, offset: usize,
         len: usize, indices: *const u64, n: usize, validity: *const u8, validity_size: usize,
         v: usize) -> Place;
+    filter_bits(out: *mut u8, out_size: usize, values: *const u8, values_size: usize, v: usize,
+        mask: *const u8, mask_size: usize, m: usize, len: usize) -> usize;
+    filter_u8(out: *mut u8, room: usize, values: *const u8, n: usize,
+        mask: *const u8, mask_size: usize, m: usize) -> usize;
+    filter_u16(out: *mut u16, room: usize, values: *const u16, n: usize,
+        mask: *const u8, mask_size: usize, m: usize) -> usize;
+    filter_u32(out: *mut u32, room: usize, values: *const u32, n: usize,
+        mask: *const u8, mask_size: usize, m: usize) -> usize;
+    filter_u64(out: *mut u64, room: usize, values: *const u64, n: usize,
+        mask: *const u8, mask_size: usize, m: usize) -> usize;
+    filter_u128(out: *mut Wide, room: usize, values: *const Wide, n: usize,
+        mask: *const u8, mask_size: usize, m: usize) -> usize;
     block_counts(bytes: *const u8, size: usize, offset: usize, len: usize,
         table: *mut usize, room: usize) -> usize;
     rank(bytes: *const u8, size: usize, offset: usize, len: usize,

@@ -11,7 +11,7 @@ mod word;
 mod write;
 
 pub use count::{count_ones, equal, last_set, select, select_unset};
-pub use filter::filter;
+pub use filter::{filter, keep};
 pub use rank::{block_counts, rank, ranked_select, ranked_select_unset};
 pub use take::take;
 pub use walk::{set_indices, set_slices};

@@ -1,8 +1,7 @@
-//! Bits taken at indices, and bits that a mask keeps.
+//! Bits taken at indices.
 
-use crate::bits_mut::alike;
 use crate::error::{TakeError, expect};
-use crate::{Bits, BitsMut, kernels, portable};
+use crate::{Bits, BitsMut, kernels};
 
 /// A type of indices: `u32`, `u64`, `usize`, and `i32` and `i64`, of which a negative one is no
 /// place of any window.
@@ -147,34 +146,6 @@ impl Bits<'_> {
         out: BitsMut<'_>,
     ) -> Result<(), TakeError> {
         take(self, indices, Some(validity), out)
-    }
-
-    /// Writes the bits at the places that are true in `mask` to `out`, in their order.
-    ///
-    /// Unlike the other calls it has the same code on each machine, which isn't proved.
-    ///
-    /// # Panics
-    ///
-    /// Where `mask` isn't as long as the window, or `out` hasn't a bit for each true one of it.
-    ///
-    /// ```
-    /// use vortex_bits::{Bits, BitsMut};
-    ///
-    /// let mut kept = [0];
-    /// let (bits, mask) = (Bits::new(&[0b0111_0110], 0, 7), Bits::new(&[0b0100_1011], 0, 7));
-    /// bits.filter_into(mask, BitsMut::new(&mut kept, 0, mask.count_ones()));
-    /// assert_eq!(kept, [0b1010]);
-    /// ```
-    #[track_caller]
-    pub fn filter_into(self, mask: Bits<'_>, mut out: BitsMut<'_>) {
-        assert!(
-            mask.len() == self.len(),
-            "a mask of {} bits for {}",
-            mask.len(),
-            self.len()
-        );
-        alike(out.len(), mask.count_ones());
-        portable::filter(&mut out, self, mask);
     }
 }
 

@@ -123,6 +123,12 @@ fn windows_of_two_lengths_are_told_apart_and_not_combined() {
     let room = panics(|| eight.filter_into(eight, BitsMut::new(&mut bytes, 0, 7)));
     assert_eq!(room.as_deref(), Some("7 bits to write and 8 to read"));
     assert_eq!(bytes, [0x5A; 2]);
+    let mut out = [9u16; 7];
+    let mask = panics(|| _ = eight.keep_into(&[1; 7], &mut out));
+    assert_eq!(mask.as_deref(), Some("a mask of 8 bits for 7"));
+    let room = panics(|| _ = eight.keep_into(&[1; 8], &mut out));
+    assert_eq!(room.as_deref(), Some("room for 7 values and 8 to keep"));
+    assert_eq!(out, [9; 7]);
 }
 
 #[test]

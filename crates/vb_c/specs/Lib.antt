@@ -2,6 +2,8 @@ pub mod Filled
 pub mod Fits
 pub mod Place
 pub mod Taken
+pub use Rattle.vb_bits.specs.InBytes
+pub use Rattle.vb_bits.specs.Kept
 pub use Rattle.vb_kernel.specs.Bits
 pub use Rattle.vb_kernel.specs.Operators
 pub use Rattle.vb_kernel.specs.Runs

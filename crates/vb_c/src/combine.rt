@@ -1,6 +1,7 @@
 //! Windows combined by an operator.
 ghost use Rattle.std.specs.Prelude.{◌≡◌, ◌+◌, ◌*◌, ◌^◌, ◌<◌, ◌≤◌, length};
-ghost use Rattle.vb_c.specs.Fits.{Checks, InBytes};
+ghost use Rattle.vb_bits.specs.InBytes.{InBytes};
+ghost use Rattle.vb_c.specs.Fits.{Checks};
 ghost use Rattle.vb_kernel.specs.Bits.{bits};
 ghost use Rattle.vb_kernel.specs.Operators.{combined};
 ghost use Rattle.vb_kernel.specs.Writes.{Writes};
@@ -11,10 +12,8 @@ use vb_kernel::{BitOp, window_fits, zip_words};
 /// `src` from bit `s` on is, and leaves every other bit of `dst`. The two may not overlap.
 #[unsafe(no_mangle)]
 pub extern "C" fn vb_and_bits(dst: &mut [u8], d: usize, src: &[u8], s: usize, len: usize)
-    requires into { d + len ≤ 8 * length dst.old }
-    requires into_fits { d + len < 2 ^ 64 }
-    requires from { s + len ≤ 8 * length src.now }
-    requires from_fits { s + len < 2 ^ 64 }
+    requires into { InBytes dst.old d len }
+    requires from { InBytes src.now s len }
     ensures { Writes dst.old dst.new d
         (combined BitOp.And (bits dst.old d len) (bits src.now s len)) }
 {
@@ -25,10 +24,8 @@ pub extern "C" fn vb_and_bits(dst: &mut [u8], d: usize, src: &[u8], s: usize, le
 /// `src` from bit `s` on is, and leaves every other bit of `dst`. The two may not overlap.
 #[unsafe(no_mangle)]
 pub extern "C" fn vb_or_bits(dst: &mut [u8], d: usize, src: &[u8], s: usize, len: usize)
-    requires into { d + len ≤ 8 * length dst.old }
-    requires into_fits { d + len < 2 ^ 64 }
-    requires from { s + len ≤ 8 * length src.now }
-    requires from_fits { s + len < 2 ^ 64 }
+    requires into { InBytes dst.old d len }
+    requires from { InBytes src.now s len }
     ensures { Writes dst.old dst.new d
         (combined BitOp.Or (bits dst.old d len) (bits src.now s len)) }
 {
@@ -39,10 +36,8 @@ pub extern "C" fn vb_or_bits(dst: &mut [u8], d: usize, src: &[u8], s: usize, len
 /// `src` from bit `s` on is, and leaves every other bit of `dst`. The two may not overlap.
 #[unsafe(no_mangle)]
 pub extern "C" fn vb_xor_bits(dst: &mut [u8], d: usize, src: &[u8], s: usize, len: usize)
-    requires into { d + len ≤ 8 * length dst.old }
-    requires into_fits { d + len < 2 ^ 64 }
-    requires from { s + len ≤ 8 * length src.now }
-    requires from_fits { s + len < 2 ^ 64 }
+    requires into { InBytes dst.old d len }
+    requires from { InBytes src.now s len }
     ensures { Writes dst.old dst.new d
         (combined BitOp.Xor (bits dst.old d len) (bits src.now s len)) }
 {
@@ -53,10 +48,8 @@ pub extern "C" fn vb_xor_bits(dst: &mut [u8], d: usize, src: &[u8], s: usize, le
 /// `src` from bit `s` on isn't, and leaves every other bit of `dst`. The two may not overlap.
 #[unsafe(no_mangle)]
 pub extern "C" fn vb_and_not_bits(dst: &mut [u8], d: usize, src: &[u8], s: usize, len: usize)
-    requires into { d + len ≤ 8 * length dst.old }
-    requires into_fits { d + len < 2 ^ 64 }
-    requires from { s + len ≤ 8 * length src.now }
-    requires from_fits { s + len < 2 ^ 64 }
+    requires into { InBytes dst.old d len }
+    requires from { InBytes src.now s len }
     ensures { Writes dst.old dst.new d
         (combined BitOp.AndNot (bits dst.old d len) (bits src.now s len)) }
 {

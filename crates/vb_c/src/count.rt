@@ -1,14 +1,14 @@
 //! How many bits are true.
 ghost use Rattle.std.specs.Prelude.{◌≡◌, ◌+◌, ◌*◌, ◌^◌, ◌<◌, ◌≤◌, length};
-ghost use Rattle.vb_c.specs.Fits.{Checks, InBytes};
+ghost use Rattle.vb_bits.specs.InBytes.{InBytes};
+ghost use Rattle.vb_c.specs.Fits.{Checks};
 ghost use Rattle.vb_kernel.specs.Bits.{bits, count};
 
 /// How many of the `len` bits from bit `offset` on are true. The window is read once, 64 bytes at a
 /// time.
 #[unsafe(no_mangle)]
 pub extern "C" fn vb_count_ones(bytes: &[u8], offset: usize, len: usize) -> usize
-    requires inside { offset + len ≤ 8 * length bytes.now }
-    requires fits { offset + len < 2 ^ 64 }
+    requires window { InBytes bytes.now offset len }
     ensures { result ≡ count (bits bytes.now offset len) }
 {
     vb_kernel::count_ones(bytes, offset, len)

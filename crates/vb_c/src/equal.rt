@@ -1,16 +1,15 @@
 //! Windows compared.
 ghost use Rattle.std.specs.Prelude.{◌≡◌, ◌+◌, ◌*◌, ◌^◌, ◌<◌, ◌≤◌, ◌↔◌, length, IsTrue};
-ghost use Rattle.vb_c.specs.Fits.{Checks, InBytes};
+ghost use Rattle.vb_bits.specs.InBytes.{InBytes};
+ghost use Rattle.vb_c.specs.Fits.{Checks};
 ghost use Rattle.vb_kernel.specs.Bits.{bits};
 
 /// Whether the `len` bits of `left` from bit `l` on are those of `right` from bit `r` on. No block
 /// of 512 bytes behind the first difference is read.
 #[unsafe(no_mangle)]
 pub extern "C" fn vb_equal_bits(left: &[u8], l: usize, right: &[u8], r: usize, len: usize) -> bool
-    requires left_inside { l + len ≤ 8 * length left.now }
-    requires left_fits { l + len < 2 ^ 64 }
-    requires right_inside { r + len ≤ 8 * length right.now }
-    requires right_fits { r + len < 2 ^ 64 }
+    requires left { InBytes left.now l len }
+    requires right { InBytes right.now r len }
     ensures { IsTrue result ↔ (bits left.now l len ≡ bits right.now r len) }
 {
     vb_kernel::equal_bits(left, l, right, r, len)

@@ -1,6 +1,7 @@
 //! Windows combined by an operator into a third one.
 ghost use Rattle.std.specs.Prelude.{◌≡◌, ◌+◌, ◌*◌, ◌^◌, ◌<◌, ◌≤◌, length};
-ghost use Rattle.vb_c.specs.Fits.{Checks, InBytes};
+ghost use Rattle.vb_bits.specs.InBytes.{InBytes};
+ghost use Rattle.vb_c.specs.Fits.{Checks};
 ghost use Rattle.vb_kernel.specs.Bits.{bits};
 ghost use Rattle.vb_kernel.specs.Operators.{combined};
 ghost use Rattle.vb_kernel.specs.Writes.{Writes};
@@ -24,12 +25,9 @@ pub extern "C" fn vb_and_into(
     r: usize,
     len: usize,
 )
-    requires into { o + len ≤ 8 * length out.old }
-    requires into_fits { o + len < 2 ^ 64 }
-    requires left_inside { l + len ≤ 8 * length left.now }
-    requires left_fits { l + len < 2 ^ 64 }
-    requires right_inside { r + len ≤ 8 * length right.now }
-    requires right_fits { r + len < 2 ^ 64 }
+    requires into { InBytes out.old o len }
+    requires left { InBytes left.now l len }
+    requires right { InBytes right.now r len }
     ensures { Writes out.old out.new o
         (combined BitOp.And (bits left.now l len) (bits right.now r len)) }
 {
@@ -47,12 +45,9 @@ pub extern "C" fn vb_or_into(
     r: usize,
     len: usize,
 )
-    requires into { o + len ≤ 8 * length out.old }
-    requires into_fits { o + len < 2 ^ 64 }
-    requires left_inside { l + len ≤ 8 * length left.now }
-    requires left_fits { l + len < 2 ^ 64 }
-    requires right_inside { r + len ≤ 8 * length right.now }
-    requires right_fits { r + len < 2 ^ 64 }
+    requires into { InBytes out.old o len }
+    requires left { InBytes left.now l len }
+    requires right { InBytes right.now r len }
     ensures { Writes out.old out.new o
         (combined BitOp.Or (bits left.now l len) (bits right.now r len)) }
 {
@@ -70,12 +65,9 @@ pub extern "C" fn vb_xor_into(
     r: usize,
     len: usize,
 )
-    requires into { o + len ≤ 8 * length out.old }
-    requires into_fits { o + len < 2 ^ 64 }
-    requires left_inside { l + len ≤ 8 * length left.now }
-    requires left_fits { l + len < 2 ^ 64 }
-    requires right_inside { r + len ≤ 8 * length right.now }
-    requires right_fits { r + len < 2 ^ 64 }
+    requires into { InBytes out.old o len }
+    requires left { InBytes left.now l len }
+    requires right { InBytes right.now r len }
     ensures { Writes out.old out.new o
         (combined BitOp.Xor (bits left.now l len) (bits right.now r len)) }
 {
@@ -93,12 +85,9 @@ pub extern "C" fn vb_and_not_into(
     r: usize,
     len: usize,
 )
-    requires into { o + len ≤ 8 * length out.old }
-    requires into_fits { o + len < 2 ^ 64 }
-    requires left_inside { l + len ≤ 8 * length left.now }
-    requires left_fits { l + len < 2 ^ 64 }
-    requires right_inside { r + len ≤ 8 * length right.now }
-    requires right_fits { r + len < 2 ^ 64 }
+    requires into { InBytes out.old o len }
+    requires left { InBytes left.now l len }
+    requires right { InBytes right.now r len }
     ensures { Writes out.old out.new o
         (combined BitOp.AndNot (bits left.now l len) (bits right.now r len)) }
 {
@@ -180,8 +169,8 @@ pub extern "C" fn vb_try_xor_into(
     true
 }
 
-/// Whether the three windows lie in their bytes; then [`vb_and_not_into`] is done, and else `out` is as
-/// it was.
+/// Whether the three windows lie in their bytes; then [`vb_and_not_into`] is done, and else `out`
+/// is as it was.
 #[unsafe(no_mangle)]
 pub extern "C" fn vb_try_and_not_into(
     out: &mut [u8],
@@ -216,12 +205,9 @@ fn combine_into(
     len: usize,
     op: BitOp,
 )
-    requires into { o + len ≤ 8 * length out.old }
-    requires into_fits { o + len < 2 ^ 64 }
-    requires left_inside { l + len ≤ 8 * length left.now }
-    requires left_fits { l + len < 2 ^ 64 }
-    requires right_inside { r + len ≤ 8 * length right.now }
-    requires right_fits { r + len < 2 ^ 64 }
+    requires into { InBytes out.old o len }
+    requires left { InBytes left.now l len }
+    requires right { InBytes right.now r len }
     ensures { Writes out.old out.new o
         (combined op (bits left.now l len) (bits right.now r len)) }
 {

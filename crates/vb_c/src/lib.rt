@@ -16,6 +16,7 @@ mod bit;
 mod combine;
 mod count;
 mod equal;
+mod filter;
 mod into;
 mod pack;
 mod place;
@@ -32,6 +33,11 @@ pub use combine::{
 };
 pub use count::{vb_count_ones, vb_try_count_ones};
 pub use equal::{vb_equal_bits, vb_try_equal_bits};
+pub use filter::{
+    Wide, vb_filter_bits, vb_filter_u8, vb_filter_u16, vb_filter_u32, vb_filter_u64,
+    vb_filter_u128, vb_try_filter_bits, vb_try_filter_u8, vb_try_filter_u16, vb_try_filter_u32,
+    vb_try_filter_u64, vb_try_filter_u128,
+};
 pub use into::{
     vb_and_into, vb_and_not_into, vb_or_into, vb_try_and_into, vb_try_and_not_into, vb_try_or_into,
     vb_try_xor_into, vb_xor_into,

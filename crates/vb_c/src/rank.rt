@@ -1,7 +1,8 @@
 //! Ranks, and places of ranks, over a table of counts that the caller keeps.
 ghost use Rattle.std.specs.Prelude.{◌≡◌, ◌+◌, ◌*◌, ◌^◌, ◌<◌, ◌≤◌, ◌↔◌, IsTrue, length, take};
 ghost use Rattle.vb_c.specs.Filled.{Fills};
-ghost use Rattle.vb_c.specs.Fits.{Checks, InBytes};
+ghost use Rattle.vb_bits.specs.InBytes.{InBytes};
+ghost use Rattle.vb_c.specs.Fits.{Checks};
 ghost use Rattle.vb_c.specs.Place.{answered_place};
 ghost use Rattle.vb_kernel.specs.Bits.{bits, count, negated, Selects};
 ghost use Rattle.vb_rank.specs.Tables.{block_counts, blocks};

@@ -1,6 +1,7 @@
 //! The places of bits.
 ghost use Rattle.std.specs.Prelude.{◌≡◌, ◌+◌, ◌*◌, ◌^◌, ◌<◌, ◌≤◌, length};
-ghost use Rattle.vb_c.specs.Fits.{Checks, InBytes};
+ghost use Rattle.vb_bits.specs.InBytes.{InBytes};
+ghost use Rattle.vb_c.specs.Fits.{Checks};
 ghost use Rattle.vb_c.specs.Place.{answered_place};
 ghost use Rattle.vb_kernel.specs.Bits.{bits, negated, Selects, AnswersEach};
 ghost use Rattle.vb_kernel.specs.Runs.{last_place};
@@ -12,8 +13,7 @@ use crate::place::Place;
 /// time, up to the bytes that have it.
 #[unsafe(no_mangle)]
 pub extern "C" fn vb_bit_select(bytes: &[u8], offset: usize, len: usize, n: usize) -> Place
-    requires inside { offset + len ≤ 8 * length bytes.now }
-    requires fits { offset + len < 2 ^ 64 }
+    requires window { InBytes bytes.now offset len }
     ensures place { Selects (bits bytes.now offset len) n (answered_place result) }
     ensures each { AnswersEach (bits bytes.now offset len) n (answered_place result) }
 {
@@ -24,8 +24,7 @@ pub extern "C" fn vb_bit_select(bytes: &[u8], offset: usize, len: usize, n: usiz
 /// counted from 0; none where the window has at most `n`. It costs what [`vb_bit_select`] does.
 #[unsafe(no_mangle)]
 pub extern "C" fn vb_bit_select_unset(bytes: &[u8], offset: usize, len: usize, n: usize) -> Place
-    requires inside { offset + len ≤ 8 * length bytes.now }
-    requires fits { offset + len < 2 ^ 64 }
+    requires window { InBytes bytes.now offset len }
     ensures place { Selects (negated (bits bytes.now offset len)) n (answered_place result) }
     ensures each { AnswersEach (negated (bits bytes.now offset len)) n (answered_place result) }
 {
@@ -36,8 +35,7 @@ pub extern "C" fn vb_bit_select_unset(bytes: &[u8], offset: usize, len: usize, n
 /// where all are false. It reads from the end, eight bytes at a time.
 #[unsafe(no_mangle)]
 pub extern "C" fn vb_last_set_index(bytes: &[u8], offset: usize, len: usize) -> Place
-    requires inside { offset + len ≤ 8 * length bytes.now }
-    requires fits { offset + len < 2 ^ 64 }
+    requires window { InBytes bytes.now offset len }
     ensures { answered_place result ≡ last_place (bits bytes.now offset len) }
 {
     vb_kernel::last_set_index(bytes, offset, len).into()

@@ -1,7 +1,8 @@
 //! Bits taken at indices.
 ghost use Rattle.std.specs.Prelude.{◌≡◌, ◌+◌, ◌*◌, ◌^◌, ◌<◌, ◌≤◌, Some, None, length, map, pos};
 ghost use Rattle.std.specs.Option.{ForSome, option_map};
-ghost use Rattle.vb_c.specs.Fits.{Checks, InBytes};
+ghost use Rattle.vb_bits.specs.InBytes.{InBytes};
+ghost use Rattle.vb_c.specs.Fits.{Checks};
 ghost use Rattle.vb_c.specs.Taken.{Takes};
 ghost use Rattle.vb_kernel.specs.Bits.{bits};
 ghost use Rattle.vb_kernel.specs.Writes.{Writes};
@@ -24,8 +25,7 @@ pub extern "C" fn vb_take_u32(
     indices: &[u32],
 ) -> Place
     requires room { length indices.now ≤ 8 * length out.old }
-    requires inside { offset + len ≤ 8 * length bytes.now }
-    requires fits { offset + len < 2 ^ 64 }
+    requires window { InBytes bytes.now offset len }
     ensures taken { Takes (bits bytes.now offset len) (map pos indices.now) None
         (bits out.new 0 (length indices.now)) result }
     ensures others { Writes out.old out.new 0 (bits out.new 0 (length indices.now)) }
@@ -78,10 +78,8 @@ pub extern "C" fn vb_take_valid_u32(
     v: usize,
 ) -> Place
     requires room { length indices.now ≤ 8 * length out.old }
-    requires inside { offset + len ≤ 8 * length bytes.now }
-    requires fits { offset + len < 2 ^ 64 }
-    requires validity_inside { v + length indices.now ≤ 8 * length validity.now }
-    requires validity_fits { v + length indices.now < 2 ^ 64 }
+    requires window { InBytes bytes.now offset len }
+    requires validity { InBytes validity.now v (length indices.now) }
     ensures taken { Takes (bits bytes.now offset len) (map pos indices.now)
         (Some (bits validity.now v (length indices.now)))
         (bits out.new 0 (length indices.now)) result }
@@ -134,8 +132,7 @@ pub extern "C" fn vb_take_u64(
     indices: &[u64],
 ) -> Place
     requires room { length indices.now ≤ 8 * length out.old }
-    requires inside { offset + len ≤ 8 * length bytes.now }
-    requires fits { offset + len < 2 ^ 64 }
+    requires window { InBytes bytes.now offset len }
     ensures taken { Takes (bits bytes.now offset len) (map pos indices.now) None
         (bits out.new 0 (length indices.now)) result }
     ensures others { Writes out.old out.new 0 (bits out.new 0 (length indices.now)) }
@@ -187,10 +184,8 @@ pub extern "C" fn vb_take_valid_u64(
     v: usize,
 ) -> Place
     requires room { length indices.now ≤ 8 * length out.old }
-    requires inside { offset + len ≤ 8 * length bytes.now }
-    requires fits { offset + len < 2 ^ 64 }
-    requires validity_inside { v + length indices.now ≤ 8 * length validity.now }
-    requires validity_fits { v + length indices.now < 2 ^ 64 }
+    requires window { InBytes bytes.now offset len }
+    requires validity { InBytes validity.now v (length indices.now) }
     ensures taken { Takes (bits bytes.now offset len) (map pos indices.now)
         (Some (bits validity.now v (length indices.now)))
         (bits out.new 0 (length indices.now)) result }

@@ -1,7 +1,8 @@
 //! Places and runs of true bits, written into the caller's memory.
 ghost use Rattle.std.specs.Prelude.{◌≡◌, ◌+◌, ◌*◌, ◌^◌, ◌<◌, ◌≤◌, length, map};
 ghost use Rattle.vb_c.specs.Filled.{Fills, run_of};
-ghost use Rattle.vb_c.specs.Fits.{Checks, InBytes};
+ghost use Rattle.vb_bits.specs.InBytes.{InBytes};
+ghost use Rattle.vb_c.specs.Fits.{Checks};
 ghost use Rattle.vb_kernel.specs.Bits.{bits, places};
 ghost use Rattle.vb_kernel.specs.Runs.{runs};
 
@@ -26,8 +27,7 @@ pub extern "C" fn vb_set_indices(
     len: usize,
     out: &mut [usize],
 ) -> usize
-    requires inside { offset + len ≤ 8 * length bytes.now }
-    requires fits { offset + len < 2 ^ 64 }
+    requires window { InBytes bytes.now offset len }
     ensures { Fills (places (bits bytes.now offset len)) out.old out.new result }
 {
     let mut written = 0;
@@ -45,8 +45,7 @@ pub extern "C" fn vb_set_indices(
 /// the front of `out`, as many as have room there, and answers how many these are.
 #[unsafe(no_mangle)]
 pub extern "C" fn vb_set_slices(bytes: &[u8], offset: usize, len: usize, out: &mut [Run]) -> usize
-    requires inside { offset + len ≤ 8 * length bytes.now }
-    requires fits { offset + len < 2 ^ 64 }
+    requires window { InBytes bytes.now offset len }
     ensures { Fills (map run_of (runs (bits bytes.now offset len))) out.old out.new result }
 {
     let mut written = 0;

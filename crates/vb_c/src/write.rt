@@ -1,6 +1,7 @@
 //! Bits filled, negated and copied.
 ghost use Rattle.std.specs.Prelude.{◌≡◌, ◌+◌, ◌-◌, ◌*◌, ◌^◌, ◌<◌, ◌≤◌, length, replicate};
-ghost use Rattle.vb_c.specs.Fits.{Checks, InBytes};
+ghost use Rattle.vb_bits.specs.InBytes.{InBytes};
+ghost use Rattle.vb_c.specs.Fits.{Checks};
 ghost use Rattle.vb_kernel.specs.Bits.{bits, negated};
 ghost use Rattle.vb_kernel.specs.Writes.{Writes};
 
@@ -32,8 +33,7 @@ pub extern "C" fn vb_try_fill_bits(bytes: &mut [u8], start: usize, end: usize, v
 /// Negates each of the `len` bits from bit `offset` on, and leaves every other bit.
 #[unsafe(no_mangle)]
 pub extern "C" fn vb_negate_bits(bytes: &mut [u8], offset: usize, len: usize)
-    requires inside { offset + len ≤ 8 * length bytes.old }
-    requires fits { offset + len < 2 ^ 64 }
+    requires window { InBytes bytes.old offset len }
     ensures { Writes bytes.old bytes.new offset (negated (bits bytes.old offset len)) }
 {
     vb_kernel::map_words(bytes, offset, len);
@@ -58,10 +58,8 @@ pub extern "C" fn vb_try_negate_bits(bytes: &mut [u8], offset: usize, len: usize
 /// every other bit of `dst`. The two may not overlap.
 #[unsafe(no_mangle)]
 pub extern "C" fn vb_copy_bits(dst: &mut [u8], d: usize, src: &[u8], s: usize, len: usize)
-    requires into { d + len ≤ 8 * length dst.old }
-    requires into_fits { d + len < 2 ^ 64 }
-    requires from { s + len ≤ 8 * length src.now }
-    requires from_fits { s + len < 2 ^ 64 }
+    requires into { InBytes dst.old d len }
+    requires from { InBytes src.now s len }
     ensures { Writes dst.old dst.new d (bits src.now s len) }
 {
     vb_kernel::copy_bits(dst, d, src, s, len);

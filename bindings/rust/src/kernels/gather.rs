@@ -13,7 +13,7 @@ use crate::native::Kernels;
 
 /// How many bits a block has.
 #[cfg(vortex_bits_native)]
-const BLOCK: usize = 4096;
+pub(super) const BLOCK: usize = 4096;
 
 /// Of as many values as bits.
 #[inline]

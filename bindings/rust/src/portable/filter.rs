@@ -1,4 +1,4 @@
-//! The bits of a window that another one keeps.
+//! The bits and values that a mask keeps.
 
 use super::word::words;
 use crate::{Bits, BitsMut};
@@ -12,6 +12,22 @@ pub fn filter(out: &mut BitsMut<'_>, source: Bits<'_>, mask: Bits<'_>) {
         out.write(at, kept, compress(word, mask));
         at += kept;
     }
+}
+
+/// Writes the values at the true places of `mask`, which is as long, to the front of `out`, which has
+/// room for them, and answers how many they are.
+#[inline]
+pub fn keep<T: Copy>(out: &mut [T], values: &[T], mask: Bits<'_>) -> usize {
+    let mut at = 0;
+    for (mask, values) in words(mask).zip(values.chunks(64)) {
+        let mut left = mask;
+        while left != 0 {
+            out[at] = values[left.trailing_zeros() as usize];
+            at += 1;
+            left &= left - 1;
+        }
+    }
+    at
 }
 
 /// The digits of `word` at the places where `mask` has 1, moved together at the low end.

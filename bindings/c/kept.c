@@ -1,0 +1,165 @@
+/*
+ * The filters of vortex_bits.h beside a loop over single bits, over random windows, and each checked
+ * form with numbers past every limit. It is C and C++ alike.
+ */
+#include "vortex_bits.h"
+
+#include <stdio.h>
+#include <string.h>
+
+enum { BYTES = 96, BITS = 8 * BYTES, ROUNDS = 5000 };
+
+static uint64_t state = 88172645463325252u;
+static int failures = 0;
+
+static size_t random_below(size_t n)
+{
+    state ^= state << 13;
+    state ^= state >> 7;
+    state ^= state << 17;
+    return (size_t)(state % n);
+}
+
+static void check(bool holds, const char *what)
+{
+    if (!holds) {
+        failures++;
+        fprintf(stderr, "failed: %s\n", what);
+    }
+}
+
+static bool bit(const uint8_t *bytes, size_t i)
+{
+    return (bytes[i / 8] >> (i % 8) & 1) != 0;
+}
+
+static void put(uint8_t *bytes, size_t i, bool v)
+{
+    const uint8_t mask = (uint8_t)(1u << (i % 8));
+    bytes[i / 8] = (uint8_t)(v ? bytes[i / 8] | mask : bytes[i / 8] & ~mask);
+}
+
+static void randomize(uint8_t *bytes)
+{
+    const size_t kind = random_below(4);
+    for (size_t i = 0; i < BYTES; i++) {
+        const uint8_t some = (uint8_t)random_below(256);
+        bytes[i] = kind == 0 ? 0 : kind == 1 ? 255 : kind == 2 ? some : (uint8_t)(some & random_below(256));
+    }
+}
+
+/* A value of each width for place i. */
+static uint64_t number_at(size_t i)
+{
+    return (i + 1) * 0x9E3779B97F4A7C15u;
+}
+
+/* Of bits and of values the ones that a mask keeps, with what stood in memory behind them. */
+static void filters(const uint8_t *bytes, size_t v, const uint8_t *mask, size_t m, size_t len)
+{
+    static uint8_t u8[2][BITS], from8[BITS], kept[BYTES], got[2][BYTES];
+    static uint16_t u16[2][BITS], from16[BITS];
+    static uint32_t u32[2][BITS], from32[BITS];
+    static uint64_t u64[2][BITS], from64[BITS];
+    static vb_u128 u128[2][BITS], from128[BITS];
+    size_t ones = 0, written[6] = {0};
+    memset(kept, 0xA5, BYTES);
+    memset(got, 0xA5, sizeof got);
+    memset(u8, 0xA5, sizeof u8);
+    memset(u16, 0xA5, sizeof u16);
+    memset(u32, 0xA5, sizeof u32);
+    memset(u64, 0xA5, sizeof u64);
+    memset(u128, 0xA5, sizeof u128);
+    for (size_t i = 0; i < len; i++) {
+        const uint64_t number = number_at(i);
+        from8[i] = (uint8_t)number;
+        from16[i] = (uint16_t)number;
+        from32[i] = (uint32_t)number;
+        from64[i] = number;
+        from128[i].low = number;
+        from128[i].high = ~number;
+        ones += bit(mask, m + i);
+    }
+    check(vb_filter_bits(got[0], BYTES, bytes, BYTES, v, mask, BYTES, m, len) == ones, "filter_bits");
+    check(vb_filter_u8(u8[0], ones, from8, len, mask, BYTES, m) == ones, "vb_filter_u8");
+    check(vb_filter_u16(u16[0], ones, from16, len, mask, BYTES, m) == ones, "vb_filter_u16");
+    check(vb_filter_u32(u32[0], ones, from32, len, mask, BYTES, m) == ones, "vb_filter_u32");
+    check(vb_filter_u64(u64[0], ones, from64, len, mask, BYTES, m) == ones, "vb_filter_u64");
+    check(vb_filter_u128(u128[0], ones, from128, len, mask, BYTES, m) == ones, "vb_filter_u128");
+    const bool all = vb_try_filter_bits(got[1], BYTES, bytes, BYTES, v, mask, BYTES, m, len, &written[0])
+        & vb_try_filter_u8(u8[1], BITS, from8, len, mask, BYTES, m, &written[1])
+        & vb_try_filter_u16(u16[1], BITS, from16, len, mask, BYTES, m, &written[2])
+        & vb_try_filter_u32(u32[1], BITS, from32, len, mask, BYTES, m, &written[3])
+        & vb_try_filter_u64(u64[1], BITS, from64, len, mask, BYTES, m, &written[4])
+        & vb_try_filter_u128(u128[1], BITS, from128, len, mask, BYTES, m, &written[5]);
+    check(all, "the checked filters");
+    for (size_t k = 0; k < 6; k++) {
+        check(written[k] == ones, "how many the checked filters keep");
+    }
+    for (size_t i = 0, n = 0; i < len; i++) {
+        if (bit(mask, m + i)) {
+            put(kept, n, bit(bytes, v + i));
+            for (size_t k = 0; k < 2; k++) {
+                check(u8[k][n] == from8[i] && u16[k][n] == from16[i] && u32[k][n] == from32[i]
+                        && u64[k][n] == from64[i] && u128[k][n].low == from128[i].low
+                        && u128[k][n].high == from128[i].high, "a value that is kept");
+            }
+            n++;
+        }
+    }
+    check(memcmp(got[0], kept, BYTES) == 0 && memcmp(got[1], kept, BYTES) == 0, "bits that are kept");
+    for (size_t k = 0; k < 2 && ones < BITS; k++) {
+        check(u8[k][ones] == 0xA5 && u16[k][ones] == 0xA5A5 && u32[k][ones] == 0xA5A5A5A5u
+                && u64[k][ones] == 0xA5A5A5A5A5A5A5A5u
+                && u128[k][ones].low == 0xA5A5A5A5A5A5A5A5u, "memory behind what is kept");
+    }
+}
+
+/* Checked filters over a window that doesn't fit, and without room. */
+static void bad_filters(const uint8_t *bytes, size_t offset, size_t len)
+{
+    static const uint8_t ones[2] = {0xFF, 0xFF};
+    static uint8_t u8[9];
+    static uint16_t u16[9];
+    static uint32_t u32[9];
+    static uint64_t u64[9];
+    static vb_u128 u128[9];
+    uint8_t got[1] = {0x5A};
+    size_t number = 77;
+    check(!vb_try_filter_bits(got, 1, bytes, BYTES, offset, bytes, BYTES, 0, len, &number),
+        "a bad window of values");
+    check(!vb_try_filter_bits(got, 1, bytes, BYTES, 0, bytes, BYTES, offset, len, &number),
+        "a bad mask");
+    check(!vb_try_filter_bits(got, 1, ones, 2, 7, ones, 2, 7, 9, &number), "no room");
+    for (size_t m = 7; m < 9; m++) {
+        const size_t room = m == 7 ? 8 : 9;
+        check(!vb_try_filter_u8(u8, room, u8, 9, ones, 2, m, &number), "no room, or a bad mask");
+        check(!vb_try_filter_u16(u16, room, u16, 9, ones, 2, m, &number), "no room, or a bad mask");
+        check(!vb_try_filter_u32(u32, room, u32, 9, ones, 2, m, &number), "no room, or a bad mask");
+        check(!vb_try_filter_u64(u64, room, u64, 9, ones, 2, m, &number), "no room, or a bad mask");
+        check(!vb_try_filter_u128(u128, room, u128, 9, ones, 2, m, &number),
+            "no room, or a bad mask");
+    }
+    check(got[0] == 0x5A && number == 77, "a refused filter left all as it was");
+}
+
+/* Windows of BYTES bytes that don't fit: past the end by a bit or by much, and past SIZE_MAX. */
+static const size_t bad[][2] = {
+    {0, BITS + 1}, {1, BITS}, {BITS, 1}, {BITS + 1, 0}, {SIZE_MAX, 1}, {1, SIZE_MAX},
+    {SIZE_MAX - 7, 8}, {SIZE_MAX, 0}, {0, SIZE_MAX},
+};
+
+int main(void)
+{
+    uint8_t bytes[BYTES], mask[BYTES];
+    for (int round = 0; round < ROUNDS; round++) {
+        randomize(bytes);
+        randomize(mask);
+        const size_t len = random_below(BITS + 1);
+        filters(bytes, random_below(BITS - len + 1), mask, random_below(BITS - len + 1), len);
+    }
+    for (size_t k = 0; k < sizeof bad / sizeof bad[0]; k++) {
+        bad_filters(bytes, bad[k][0], bad[k][1]);
+    }
+    return failures == 0 ? 0 : 1;
+}

@@ -1,0 +1,98 @@
+//! Bits and values that a mask keeps.
+
+use crate::bits_mut::alike;
+use crate::{Bits, BitsMut, kernels};
+
+/// A type of values that are filtered: whole numbers of any width, and floats.
+pub trait Value: sealed::Sealed {}
+
+pub(crate) mod sealed {
+    #[cfg(vortex_bits_native)]
+    use crate::native::{Filter, Kernels, Wide};
+
+    /// What a type of values answers.
+    pub trait Sealed: Copy {
+        /// The type that the C function takes, which is as wide, and aligned no more than this one.
+        #[cfg(vortex_bits_native)]
+        type Laid;
+
+        #[cfg(vortex_bits_native)]
+        fn filter(kernels: &Kernels) -> Filter<Self::Laid>;
+    }
+
+    macro_rules! values {
+        ($($laid:ty, $filter:ident: $($value:ty)*;)*) => {$($(
+            impl super::Value for $value {}
+
+            impl Sealed for $value {
+                #[cfg(vortex_bits_native)]
+                type Laid = $laid;
+
+                #[cfg(vortex_bits_native)]
+                fn filter(kernels: &Kernels) -> Filter<$laid> {
+                    kernels.$filter
+                }
+            }
+        )*)*};
+    }
+
+    values! {
+        u8, filter_u8: u8 i8;
+        u16, filter_u16: u16 i16;
+        u32, filter_u32: u32 i32 f32;
+        u64, filter_u64: u64 i64 f64 usize isize;
+        Wide, filter_u128: u128 i128;
+    }
+}
+
+impl Bits<'_> {
+    /// Writes the bits at the places that are true in `mask` to `out`, in their order.
+    ///
+    /// # Panics
+    ///
+    /// Where `mask` isn't as long as the window, or `out` hasn't a bit for each true one of it.
+    ///
+    /// ```
+    /// use vortex_bits::{Bits, BitsMut};
+    ///
+    /// let mut kept = [0];
+    /// let (bits, mask) = (Bits::new(&[0b0111_0110], 0, 7), Bits::new(&[0b0100_1011], 0, 7));
+    /// bits.filter_into(mask, BitsMut::new(&mut kept, 0, mask.count_ones()));
+    /// assert_eq!(kept, [0b1010]);
+    /// ```
+    #[track_caller]
+    pub fn filter_into(self, mask: Bits<'_>, mut out: BitsMut<'_>) {
+        masks(mask, self.len());
+        alike(out.len(), mask.count_ones());
+        kernels::filter(&mut out, self, mask);
+    }
+
+    /// Writes the values whose bit is true, in their order, to the front of `out`, and answers how
+    /// many they are. The items of `out` behind them stay.
+    ///
+    /// # Panics
+    ///
+    /// Where there isn't a value for each bit, or `out` hasn't room for each whose bit is true.
+    ///
+    /// ```
+    /// use vortex_bits::Bits;
+    ///
+    /// let mut kept = [0.0; 4];
+    /// let mask = Bits::new(&[0b1011], 0, 4);
+    /// assert_eq!(mask.keep_into(&[0.5, 1.5, 2.5, 3.5], &mut kept), 3);
+    /// assert_eq!(kept, [0.5, 1.5, 3.5, 0.0]);
+    /// ```
+    #[track_caller]
+    pub fn keep_into<T: Value>(self, values: &[T], out: &mut [T]) -> usize {
+        masks(self, values.len());
+        let (kept, room) = (self.count_ones(), out.len());
+        assert!(kept <= room, "room for {room} values and {kept} to keep");
+        kernels::keep(out, values, self)
+    }
+}
+
+/// Refuses a mask that hasn't a bit for each of `len` bits or values.
+#[track_caller]
+fn masks(mask: Bits<'_>, len: usize) {
+    assert!(mask.len() == len, "a mask of {} bits for {len}", mask.len());
+}

@@ -1,0 +1,296 @@
+//! Bits and values that a mask keeps.
+ghost use Rattle.std.specs.Prelude.{◌≡◌, ◌*◌, ◌≤◌, ◌↔◌, ◌++◌, IsTrue, length, drop};
+ghost use Rattle.vb_bits.specs.InBytes.{InBytes};
+ghost use Rattle.vb_bits.specs.Kept.{kept};
+ghost use Rattle.vb_c.specs.Fits.{Checks};
+ghost use Rattle.vb_kernel.specs.Bits.{bits, count};
+ghost use Rattle.vb_kernel.specs.Writes.{Writes};
+
+use vb_filter::{filter_into, filter_values_into};
+use vb_kernel::{count_ones, window_fits};
+use vb_view::BitBufferView;
+
+/// A value of 16 bytes, as it crosses to C.
+#[repr(C)]
+#[derive(Clone, Copy)]
+pub struct Wide {
+    /// Its first eight bytes, as a number whose lowest digits are those of the first.
+    pub low: u64,
+    /// Its last eight bytes.
+    pub high: u64,
+}
+
+/// Writes those of the `len` bits of `values` from bit `v` on that `mask` keeps, whose bit of it
+/// from bit `m` on is true, in order, to the first bits of `out`, which has to have room for them.
+/// Answers how many they are. The bits of `out` behind them stay.
+#[unsafe(no_mangle)]
+pub extern "C" fn vb_filter_bits(
+    out: &mut [u8],
+    values: &[u8],
+    v: usize,
+    mask: &[u8],
+    m: usize,
+    len: usize,
+) -> usize
+    requires values { InBytes values.now v len }
+    requires mask { InBytes mask.now m len }
+    requires room { count (bits mask.now m len) ≤ 8 * length out.old }
+    ensures count { result ≡ count (bits mask.now m len) }
+    ensures kept { Writes out.old out.new 0 (kept (bits mask.now m len) (bits values.now v len)) }
+{
+    filter_into(
+        out,
+        BitBufferView::new_with_offset(values, len, v),
+        BitBufferView::new_with_offset(mask, len, m),
+    )
+}
+
+/// Whether both windows lie in their bytes, and `out` has room for the bits that are kept;
+/// `written` is then what [`vb_filter_bits`] answers, and else all is as it was.
+#[unsafe(no_mangle)]
+pub extern "C" fn vb_try_filter_bits(
+    out: &mut [u8],
+    values: &[u8],
+    v: usize,
+    mask: &[u8],
+    m: usize,
+    len: usize,
+    written: &mut usize,
+) -> bool
+    ensures { Checks
+        (InBytes values.now v len × InBytes mask.now m len
+        × (count (bits mask.now m len) ≤ 8 * length out.old))
+        ((written.new ≡ count (bits mask.now m len))
+        × Writes out.old out.new 0 (kept (bits mask.now m len) (bits values.now v len)))
+        ((out.new ≡ out.old) × (written.new ≡ written.old)) result }
+{
+    if !window_fits(values, v, len)
+        || !window_fits(mask, m, len)
+        || !window_fits(out, 0, count_ones(mask, m, len))
+    {
+        return false;
+    }
+    *written = vb_filter_bits(out, values, v, mask, m, len);
+    true
+}
+
+/// Writes those of the values whose bit of `mask` from bit `m` on is true, in order, to the front
+/// of `out`, which has to have room for them, and answers how many they are. The items of `out`
+/// behind them stay.
+#[unsafe(no_mangle)]
+pub extern "C" fn vb_filter_u8(out: &mut [u8], values: &[u8], mask: &[u8], m: usize) -> usize
+    requires mask { InBytes mask.now m (length values.now) }
+    requires room { count (bits mask.now m (length values.now)) ≤ length out.old }
+    ensures count { result ≡ count (bits mask.now m (length values.now)) }
+    ensures kept { out.new ≡ kept (bits mask.now m (length values.now)) values.now
+        ++ drop result out.old }
+{
+    filter_values(out, values, mask, m)
+}
+
+/// Whether a mask of as many bits as there are values lies in its bytes, and `out` has room for the
+/// values that are kept; `written` is then what [`vb_filter_u8`] answers, and else all is as it
+/// was.
+#[unsafe(no_mangle)]
+pub extern "C" fn vb_try_filter_u8(
+    out: &mut [u8],
+    values: &[u8],
+    mask: &[u8],
+    m: usize,
+    written: &mut usize,
+) -> bool
+    ensures { Checks
+        (InBytes mask.now m (length values.now)
+        × (count (bits mask.now m (length values.now)) ≤ length out.old))
+        ((written.new ≡ count (bits mask.now m (length values.now)))
+        × (out.new ≡ kept (bits mask.now m (length values.now)) values.now
+        ++ drop written.new out.old))
+        ((out.new ≡ out.old) × (written.new ≡ written.old)) result }
+{
+    if !can_filter(mask, m, values.len(), out.len()) {
+        return false;
+    }
+    *written = vb_filter_u8(out, values, mask, m);
+    true
+}
+
+/// Writes those of the values, of two bytes each, whose bit of `mask` from bit `m` on is true, in
+/// order, to the front of `out`, which has to have room for them, and answers how many they are.
+/// The items of `out` behind them stay.
+#[unsafe(no_mangle)]
+pub extern "C" fn vb_filter_u16(out: &mut [u16], values: &[u16], mask: &[u8], m: usize) -> usize
+    requires mask { InBytes mask.now m (length values.now) }
+    requires room { count (bits mask.now m (length values.now)) ≤ length out.old }
+    ensures count { result ≡ count (bits mask.now m (length values.now)) }
+    ensures kept { out.new ≡ kept (bits mask.now m (length values.now)) values.now
+        ++ drop result out.old }
+{
+    filter_values(out, values, mask, m)
+}
+
+/// Whether a mask of as many bits as there are values lies in its bytes, and `out` has room for the
+/// values that are kept; `written` is then what [`vb_filter_u16`] answers, and else all is as it
+/// was.
+#[unsafe(no_mangle)]
+pub extern "C" fn vb_try_filter_u16(
+    out: &mut [u16],
+    values: &[u16],
+    mask: &[u8],
+    m: usize,
+    written: &mut usize,
+) -> bool
+    ensures { Checks
+        (InBytes mask.now m (length values.now)
+        × (count (bits mask.now m (length values.now)) ≤ length out.old))
+        ((written.new ≡ count (bits mask.now m (length values.now)))
+        × (out.new ≡ kept (bits mask.now m (length values.now)) values.now
+        ++ drop written.new out.old))
+        ((out.new ≡ out.old) × (written.new ≡ written.old)) result }
+{
+    if !can_filter(mask, m, values.len(), out.len()) {
+        return false;
+    }
+    *written = vb_filter_u16(out, values, mask, m);
+    true
+}
+
+/// Writes those of the values, of four bytes each, whose bit of `mask` from bit `m` on is true, in
+/// order, to the front of `out`, which has to have room for them, and answers how many they are.
+/// The items of `out` behind them stay.
+#[unsafe(no_mangle)]
+pub extern "C" fn vb_filter_u32(out: &mut [u32], values: &[u32], mask: &[u8], m: usize) -> usize
+    requires mask { InBytes mask.now m (length values.now) }
+    requires room { count (bits mask.now m (length values.now)) ≤ length out.old }
+    ensures count { result ≡ count (bits mask.now m (length values.now)) }
+    ensures kept { out.new ≡ kept (bits mask.now m (length values.now)) values.now
+        ++ drop result out.old }
+{
+    filter_values(out, values, mask, m)
+}
+
+/// Whether a mask of as many bits as there are values lies in its bytes, and `out` has room for the
+/// values that are kept; `written` is then what [`vb_filter_u32`] answers, and else all is as it
+/// was.
+#[unsafe(no_mangle)]
+pub extern "C" fn vb_try_filter_u32(
+    out: &mut [u32],
+    values: &[u32],
+    mask: &[u8],
+    m: usize,
+    written: &mut usize,
+) -> bool
+    ensures { Checks
+        (InBytes mask.now m (length values.now)
+        × (count (bits mask.now m (length values.now)) ≤ length out.old))
+        ((written.new ≡ count (bits mask.now m (length values.now)))
+        × (out.new ≡ kept (bits mask.now m (length values.now)) values.now
+        ++ drop written.new out.old))
+        ((out.new ≡ out.old) × (written.new ≡ written.old)) result }
+{
+    if !can_filter(mask, m, values.len(), out.len()) {
+        return false;
+    }
+    *written = vb_filter_u32(out, values, mask, m);
+    true
+}
+
+/// Writes those of the values, of eight bytes each, whose bit of `mask` from bit `m` on is true, in
+/// order, to the front of `out`, which has to have room for them, and answers how many they are.
+/// The items of `out` behind them stay.
+#[unsafe(no_mangle)]
+pub extern "C" fn vb_filter_u64(out: &mut [u64], values: &[u64], mask: &[u8], m: usize) -> usize
+    requires mask { InBytes mask.now m (length values.now) }
+    requires room { count (bits mask.now m (length values.now)) ≤ length out.old }
+    ensures count { result ≡ count (bits mask.now m (length values.now)) }
+    ensures kept { out.new ≡ kept (bits mask.now m (length values.now)) values.now
+        ++ drop result out.old }
+{
+    filter_values(out, values, mask, m)
+}
+
+/// Whether a mask of as many bits as there are values lies in its bytes, and `out` has room for the
+/// values that are kept; `written` is then what [`vb_filter_u64`] answers, and else all is as it
+/// was.
+#[unsafe(no_mangle)]
+pub extern "C" fn vb_try_filter_u64(
+    out: &mut [u64],
+    values: &[u64],
+    mask: &[u8],
+    m: usize,
+    written: &mut usize,
+) -> bool
+    ensures { Checks
+        (InBytes mask.now m (length values.now)
+        × (count (bits mask.now m (length values.now)) ≤ length out.old))
+        ((written.new ≡ count (bits mask.now m (length values.now)))
+        × (out.new ≡ kept (bits mask.now m (length values.now)) values.now
+        ++ drop written.new out.old))
+        ((out.new ≡ out.old) × (written.new ≡ written.old)) result }
+{
+    if !can_filter(mask, m, values.len(), out.len()) {
+        return false;
+    }
+    *written = vb_filter_u64(out, values, mask, m);
+    true
+}
+
+/// Writes those of the values, of 16 bytes each, whose bit of `mask` from bit `m` on is true, in
+/// order, to the front of `out`, which has to have room for them, and answers how many they are.
+/// The items of `out` behind them stay.
+#[unsafe(no_mangle)]
+pub extern "C" fn vb_filter_u128(out: &mut [Wide], values: &[Wide], mask: &[u8], m: usize) -> usize
+    requires mask { InBytes mask.now m (length values.now) }
+    requires room { count (bits mask.now m (length values.now)) ≤ length out.old }
+    ensures count { result ≡ count (bits mask.now m (length values.now)) }
+    ensures kept { out.new ≡ kept (bits mask.now m (length values.now)) values.now
+        ++ drop result out.old }
+{
+    filter_values(out, values, mask, m)
+}
+
+/// Whether a mask of as many bits as there are values lies in its bytes, and `out` has room for the
+/// values that are kept; `written` is then what [`vb_filter_u128`] answers, and else all is as it
+/// was.
+#[unsafe(no_mangle)]
+pub extern "C" fn vb_try_filter_u128(
+    out: &mut [Wide],
+    values: &[Wide],
+    mask: &[u8],
+    m: usize,
+    written: &mut usize,
+) -> bool
+    ensures { Checks
+        (InBytes mask.now m (length values.now)
+        × (count (bits mask.now m (length values.now)) ≤ length out.old))
+        ((written.new ≡ count (bits mask.now m (length values.now)))
+        × (out.new ≡ kept (bits mask.now m (length values.now)) values.now
+        ++ drop written.new out.old))
+        ((out.new ≡ out.old) × (written.new ≡ written.old)) result }
+{
+    if !can_filter(mask, m, values.len(), out.len()) {
+        return false;
+    }
+    *written = vb_filter_u128(out, values, mask, m);
+    true
+}
+
+/// Writes those of the values whose bit of `mask` from bit `m` on is true to the front of `out`,
+/// and answers how many they are.
+fn filter_values<T: Copy>(out: &mut [T], values: &[T], mask: &[u8], m: usize) -> usize
+    requires mask { InBytes mask.now m (length values.now) }
+    requires room { count (bits mask.now m (length values.now)) ≤ length out.old }
+    ensures count { result ≡ count (bits mask.now m (length values.now)) }
+    ensures kept { out.new ≡ kept (bits mask.now m (length values.now)) values.now
+        ++ drop result out.old }
+{
+    let mask = BitBufferView::new_with_offset(mask, values.len(), m);
+    filter_values_into(out, values, mask)
+}
+
+/// Whether the `len` bits of `mask` from bit `m` on lie in their bytes, and no more of them are
+/// true than there is `room` for.
+fn can_filter(mask: &[u8], m: usize, len: usize, room: usize) -> bool
+    ensures { IsTrue result ↔ (InBytes mask.now m len × (count (bits mask.now m len) ≤ room)) }
+{
+    window_fits(mask, m, len) && count_ones(mask, m, len) <= room
+}
