@@ -98,6 +98,26 @@ unsafe extern "C" {
     );
     pub fn vb_fill_bits(bytes: *mut u8, size: usize, start: usize, end: usize, value: bool);
     pub fn vb_negate_bits(bytes: *mut u8, size: usize, offset: usize, len: usize);
+    pub fn vb_filter_bits(
+        out: *mut u8,
+        out_size: usize,
+        values: Bytes,
+        values_size: usize,
+        v: usize,
+        mask: Bytes,
+        mask_size: usize,
+        m: usize,
+        len: usize,
+    ) -> usize;
+    pub fn vb_filter_u32(
+        out: *mut u32,
+        room: usize,
+        values: *const u32,
+        many: usize,
+        mask: Bytes,
+        mask_size: usize,
+        m: usize,
+    ) -> usize;
 }
 
 // The kit's functions for memory stand behind the library that calls them.
@@ -297,6 +317,13 @@ unsafe extern "C" {
     ) -> usize;
     pub fn bench_ranked_set_to(len: usize, rounds: usize) -> usize;
     pub fn bench_ranked_append(bytes: Bytes, many: usize) -> usize;
+    pub fn bench_filtered(
+        items: *const u32,
+        many: usize,
+        mask: Bytes,
+        size: usize,
+        rounds: usize,
+    ) -> usize;
     pub fn bench_buffer_copy_from(items: *const u32, many: usize) -> usize;
     pub fn bench_buffer_from_iter(n: u32) -> usize;
     pub fn bench_buffer_push(items: *const u32, many: usize) -> usize;

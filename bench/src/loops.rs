@@ -276,3 +276,31 @@ pub fn move_entries(entries: &mut [usize], by: usize) {
         *entry = entry.wrapping_add(by);
     }
 }
+
+/// The values whose bit is set, of a mask that begins with its words.
+#[inline(never)]
+pub fn filtered(values: &[u32], mask: &Input) -> Vec<u32> {
+    let words = mask.words();
+    let is_set = |place: usize| words[place / 64] >> (place % 64) & 1 == 1;
+    let mut kept = Vec::new();
+    for (place, &value) in values.iter().enumerate() {
+        if is_set(place) {
+            kept.push(value);
+        }
+    }
+    kept
+}
+
+/// The bits at the set places of a mask written one by one; both begin with their words.
+#[inline(never)]
+pub fn filter_bits(out: &mut [u64], bits: &Input, mask: &Input, len: usize) -> usize {
+    let words = bits.words();
+    let mut at = 0;
+    for_each_set_bit(mask, 0, len, |place| {
+        let bit = words[place / 64] >> (place % 64) & 1;
+        let word = &mut out[at / 64];
+        *word = *word & !(1 << (at % 64)) | bit << (at % 64);
+        at += 1;
+    });
+    at
+}

@@ -5,6 +5,7 @@ mod closures;
 mod copies;
 mod count;
 mod directory;
+mod filters;
 mod growth;
 mod made;
 mod operators;
@@ -46,6 +47,7 @@ pub fn measure(bench: &mut Bench) {
     copies::measure(bench);
     made::measure(bench);
     taking::measure(bench);
+    filters::measure(bench);
     directory::measure(bench);
     small::measure(bench);
     buffers::measure(bench);

@@ -316,3 +316,23 @@ pub fn buffer_push(items: &[u32]) -> usize {
 pub fn buffer_slice(buffer: &Buffer<u32>, start: usize) -> usize {
     black_box(&buffer.slice(start..buffer.len())).len()
 }
+
+/// By the runs of a mask, as an engine over it copies them.
+#[inline(never)]
+pub fn filtered(values: &Buffer<u32>, mask: &BitBuffer) -> usize {
+    let mut kept = BufferMut::<u32>::with_capacity(mask.true_count());
+    for (start, end) in mask.set_slices() {
+        kept.extend_from_slice(&values[start..end]);
+    }
+    black_box(&kept.freeze()).len()
+}
+
+/// The places of a mask, and a bit appended for each.
+#[inline(never)]
+pub fn filter_bits(bits: &BitBuffer, mask: &BitBuffer) -> usize {
+    let mut kept = BitBufferMut::with_capacity(mask.true_count());
+    for place in mask.set_indices() {
+        kept.append(bits.value(place));
+    }
+    used(kept.freeze())
+}

@@ -1,0 +1,110 @@
+//! Values and bits that a mask keeps.
+
+use std::cell::RefCell;
+use std::hint::black_box;
+
+use super::{MILLION, upstream};
+use crate::bench::Bench;
+use crate::calls;
+use crate::input::Input;
+use crate::loops;
+use crate::measure::Contender;
+use crate::row::{LOOP, Row};
+
+const MEMCPY: &str = "memcpy";
+
+pub fn measure(bench: &mut Bench) {
+    bench.begin("Filters");
+    let values: &Vec<u32> = &(0..MILLION as u32).collect();
+    for share in [0.5, 0.1, 0.001, 0.9, 1.0] {
+        let mask = &Input::with_set(share, MILLION / 8);
+        for row in [owned(values, mask), into(values, mask)] {
+            let row = row.set(share);
+            bench.row(match share {
+                1.0 => row.at_most(1.3, MEMCPY),
+                0.9 => row,
+                _ => row.at_most(0.8, LOOP),
+            });
+        }
+    }
+    for share in [0.5, 0.1, 0.001] {
+        let mask = &Input::with_set(share, MILLION / 8);
+        bench.row(bits(&Input::random(MILLION / 8), mask).set(share));
+    }
+}
+
+fn plain<'a>(values: &'a [u32], mask: &'a Input) -> Contender<'a> {
+    Contender::of(move || black_box(&loops::filtered(values, mask)).len())
+}
+
+fn memcpy(values: &[u32]) -> Contender<'_> {
+    let over = RefCell::new(vec![0; values.len()]);
+    Contender::of(move || {
+        over.borrow_mut().copy_from_slice(values);
+        0
+    })
+}
+
+/// Into a buffer of its own.
+fn owned<'a>(values: &'a [u32], mask: &'a Input) -> Row<'a> {
+    let bytes = mask.bytes(MILLION / 8);
+    let ours = move |rounds| unsafe {
+        let (items, many) = (values.as_ptr(), values.len());
+        calls::bench_filtered(items, many, bytes.as_ptr(), bytes.len(), rounds)
+    };
+    Row::new("`Buffer::filtered`", Contender::in_rounds(ours))
+        .items(values.len())
+        .upstream(upstream!({
+            let set = crate::upstream::set(mask.bits(0, values.len()));
+            let buffer = vortex_buffer::Buffer::<u32>::copy_from(values);
+            Contender::of(move || crate::upstream::filtered(&buffer, &set))
+        }))
+        .plain(plain(values, mask))
+        .beside(MEMCPY, memcpy(values))
+}
+
+/// Into memory that is there.
+fn into<'a>(values: &'a [u32], mask: &'a Input) -> Row<'a> {
+    let bytes = mask.bytes(MILLION / 8);
+    let over = RefCell::new(vec![0; values.len()]);
+    let ours = move || {
+        let out = &mut *over.borrow_mut();
+        let (to, room) = (out.as_mut_ptr(), out.len());
+        let (from, many) = (values.as_ptr(), values.len());
+        unsafe { calls::vb_filter_u32(to, room, from, many, bytes.as_ptr(), bytes.len(), 0) }
+    };
+    Row::new("`filter_values_into`", Contender::of(ours))
+        .items(values.len())
+        .plain(plain(values, mask))
+        .beside(MEMCPY, memcpy(values))
+}
+
+fn bits<'a>(values: &Input, mask: &'a Input) -> Row<'a> {
+    let (values, by) = (
+        Input::copied(values.bytes(MILLION / 8)),
+        mask.bytes(MILLION / 8),
+    );
+    let (from, to) = (values, RefCell::new(vec![0u64; MILLION / 64]));
+    let again = Input::copied(from.bytes(MILLION / 8));
+    #[cfg(feature = "upstream")]
+    let sets = [&from, mask].map(|it| crate::upstream::set(it.bits(0, MILLION)));
+    let ours = move || {
+        let out = &mut *to.borrow_mut();
+        let (bytes, size) = (from.bytes(MILLION / 8), MILLION / 8);
+        let (out, room) = (out.as_mut_ptr().cast(), 8 * out.len());
+        unsafe {
+            let (from, mask) = (bytes.as_ptr(), by.as_ptr());
+            calls::vb_filter_bits(out, room, from, size, 0, mask, by.len(), 0, MILLION)
+        }
+    };
+    let over = RefCell::new(vec![0u64; MILLION / 64]);
+    let plain = move || loops::filter_bits(&mut over.borrow_mut(), &again, mask, MILLION);
+    Row::new("`filter_into`, of bits", Contender::of(ours))
+        .bits(MILLION)
+        .upstream(upstream!({
+            let [bits, mask] = sets;
+            Contender::of(move || crate::upstream::filter_bits(&bits, &mask))
+        }))
+        .plain(Contender::of(plain))
+        .at_most(0.25, LOOP)
+}
