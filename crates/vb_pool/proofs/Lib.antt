@@ -1,4 +1,4 @@
 pub mod Runs
 pub mod Slots
-pub mod TakingLemmas
+pub mod Takes
 pub mod WordDigits

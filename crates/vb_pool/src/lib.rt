@@ -5,20 +5,21 @@
 //! its slots hold, and of nothing behind it.
 #![tactic(auto)]
 
-mod edits;
+mod edit;
 mod import;
 mod kinds;
 mod lists;
-mod makes;
+mod make;
 mod open_bits;
-mod operators;
+mod operator;
 mod pool;
-mod questions;
+mod question;
+mod range;
 mod refused;
 mod serve;
 mod sixteen;
 mod slot;
-mod taking;
+mod take;
 
 pub use pool::Pool;
 pub use serve::run;

@@ -215,7 +215,7 @@ impl<A: Allocator + Clone> OpenBits<A> {
     }
 
     /// Each bit negated, in place.
-    pub fn flipped(self) -> Self
+    pub fn flip(self) -> Self
         ensures { result ≡ negated self }
     {
         OpenBits::new(!self.set)

@@ -84,7 +84,7 @@ impl<A: Allocator + Clone> Pool<A> {
     }
 
     /// Slot `k`. Refused by `BadSlot`, where it isn't there or is empty.
-    pub(crate) fn kept(&self, k: usize) -> Result<&Slot<A>, Refusal>
+    pub(crate) fn kept_at(&self, k: usize) -> Result<&Slot<A>, Refusal>
         ensures { GivesHeld (λ slot. content slot.now) (kept_at self.now k) result }
     {
         match self.slots.get(k) {
@@ -126,8 +126,8 @@ impl<A: Allocator + Clone> Pool<A> {
         matches!(self.slots.get(k), Some(Slot::Empty))
     }
 
-    /// Nothing. Refused by `BadSlot`, where slot `k` isn't there or isn't empty.
-    pub(crate) fn vacant(&self, k: usize) -> Result<(), Refusal>
+    /// Refused by `BadSlot`, where slot `k` isn't there or isn't empty.
+    pub(crate) fn need_vacant(&self, k: usize) -> Result<(), Refusal>
         ensures ok { OnOk result (vacant_at self.now k ≡ true) }
         ensures err { IfErr result (λ why.
             (why ≡ Refusal.BadSlot) × (vacant_at self.now k ≡ false)) }

@@ -71,30 +71,37 @@ impl<A: Allocator + Clone> Sixteen<Slot<A>> {
     }
 }
 
+/// Value `$k` of the sixteen, lent in this way; `None` from 16 on.
+macro_rules! lend_at {
+    ($self:ident, $k:ident, $($lend:tt)+) => {
+        match $k {
+            0 => Some($($lend)+ $self.s0),
+            1 => Some($($lend)+ $self.s1),
+            2 => Some($($lend)+ $self.s2),
+            3 => Some($($lend)+ $self.s3),
+            4 => Some($($lend)+ $self.s4),
+            5 => Some($($lend)+ $self.s5),
+            6 => Some($($lend)+ $self.s6),
+            7 => Some($($lend)+ $self.s7),
+            8 => Some($($lend)+ $self.s8),
+            9 => Some($($lend)+ $self.s9),
+            10 => Some($($lend)+ $self.s10),
+            11 => Some($($lend)+ $self.s11),
+            12 => Some($($lend)+ $self.s12),
+            13 => Some($($lend)+ $self.s13),
+            14 => Some($($lend)+ $self.s14),
+            15 => Some($($lend)+ $self.s15),
+            _ => None,
+        }
+    };
+}
+
 impl<T> Sixteen<T> {
     /// Value `k`; `None` from 16 on.
     pub fn get(&self, k: usize) -> Option<&T>
         ensures { option_copied result ≡ slice_get self.now k }
     {
-        match k {
-            0 => Some(&self.s0),
-            1 => Some(&self.s1),
-            2 => Some(&self.s2),
-            3 => Some(&self.s3),
-            4 => Some(&self.s4),
-            5 => Some(&self.s5),
-            6 => Some(&self.s6),
-            7 => Some(&self.s7),
-            8 => Some(&self.s8),
-            9 => Some(&self.s9),
-            10 => Some(&self.s10),
-            11 => Some(&self.s11),
-            12 => Some(&self.s12),
-            13 => Some(&self.s13),
-            14 => Some(&self.s14),
-            15 => Some(&self.s15),
-            _ => None,
-        }
+        lend_at!(self, k, &)
     }
 
     /// Value `k` for writing; `None` from 16 on.
@@ -103,25 +110,7 @@ impl<T> Sixteen<T> {
             self.entry result (slice_set self.old k) self.old) }
         ensures value { option_copied_mut result ≡ slice_get self.old k }
     {
-        match k {
-            0 => Some(&mut self.s0),
-            1 => Some(&mut self.s1),
-            2 => Some(&mut self.s2),
-            3 => Some(&mut self.s3),
-            4 => Some(&mut self.s4),
-            5 => Some(&mut self.s5),
-            6 => Some(&mut self.s6),
-            7 => Some(&mut self.s7),
-            8 => Some(&mut self.s8),
-            9 => Some(&mut self.s9),
-            10 => Some(&mut self.s10),
-            11 => Some(&mut self.s11),
-            12 => Some(&mut self.s12),
-            13 => Some(&mut self.s13),
-            14 => Some(&mut self.s14),
-            15 => Some(&mut self.s15),
-            _ => None,
-        }
+        lend_at!(self, k, &mut)
     }
 }
 

@@ -1,4 +1,5 @@
-use Rattle.std.proofs.Common.{rules, ◌≡◌, suc, ◌+◌, ◌/◌, ◌^◌, ◌++◌, ◌∷◌, [], nat_eq, bit_and, take, slice_set, refl, sym, ap, ◌∙◌, arith, zero-add}
+use Rattle.std.proofs.Common.{rules, ◌≡◌, suc, ◌+◌, ◌/◌, ◌^◌, ◌++◌, ◌∷◌, [], nat_eq, bit_and, take}
+use Rattle.std.proofs.Common.{slice_set, refl, sym, ap, ◌∙◌, arith, zero-add}
 use Rattle.std.proofs.Math.Seq.{take-suc-set}
 use Rattle.std.proofs.lemmas.Nat.Bits.{shr_and_one}
 use Rattle.vb_set.specs.Digits.{digits, has_bit}
@@ -15,7 +16,8 @@ loop-k-preserved c =
     let w = c.args.word in
     let read = nat_eq (bit_and (w / 2 ^ l.k) 1) 1 in
     let turn : l.k + 1 ≡ suc l.k = omega arith in
-    let next : digits w 0 (l.k + 1) ≡ digits w 0 l.k ++ has_bit w l.k ∷ [] = digits-add w 0 l.k 1 ∙ ap (λ i. digits w 0 l.k ++ has_bit w i ∷ []) (zero-add l.k) in
+    let next : digits w 0 (l.k + 1) ≡ digits w 0 l.k ++ has_bit w l.k ∷ [] = digits-add w 0 l.k 1
+    ∙ ap (λ i. digits w 0 l.k ++ has_bit w i ∷ []) (zero-add l.k) in
     let bit : read ≡ has_bit w l.k = ap (λ b. nat_eq b 1) (shr_and_one w l.k) in
     record {
       digits = ap (λ n. take n (slice_set l.list l.k read)) turn

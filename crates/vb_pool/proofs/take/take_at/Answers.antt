@@ -1,5 +1,5 @@
 use Rattle.std.proofs.lemmas.List.{map-id}
-use Rattle.vb_pool.proofs.taking.taken.Goals as goal
+use Rattle.vb_pool.proofs.take.take_at.Goals as goal
 
 pub returns-clause-taken : goal.returns-clause-taken
 returns-clause-taken g c = simp map-id at c.take_bits.ensures.taken

@@ -30,19 +30,19 @@ impl<A: Allocator + Clone> Pool<A> {
     {
         let len = self.frozen_at(l)?.len();
         let right_len = self.frozen_beside(mode, l, r)?.len();
-        self.vacant_beside(mode, l, t)?;
+        self.need_vacant_beside(mode, l, t)?;
         if len != right_len {
             return Err(Refusal::LengthMismatch);
         }
         let set = match mode {
-            Mode::Ref => combined(self.frozen_at(l)?, self.frozen_at(r)?, op),
+            Mode::Ref => combine_sets(self.frozen_at(l)?, self.frozen_at(r)?, op),
             Mode::Own => {
                 let left = self.take_frozen(l)?;
                 let Ok(right) = self.frozen_at(r) else {
                     drop(left);
                     return Err(Refusal::BadSlot);
                 };
-                into_combined(left, right, op)
+                combine_into_left(left, right, op)
             }
         };
         Ok(self.put(t, Slot::Frozen(set.map_err(refusal_of)?)))
@@ -54,7 +54,7 @@ impl<A: Allocator + Clone> Pool<A> {
         ensures { Outcome self.old (machine.Not mode l t) (answered result) self.new }
     {
         self.frozen_at(l)?;
-        self.vacant_beside(mode, l, t)?;
+        self.need_vacant_beside(mode, l, t)?;
         let set = match mode {
             Mode::Ref => !self.frozen_at(l)?,
             Mode::Own => !self.take_frozen(l)?,
@@ -74,10 +74,10 @@ impl<A: Allocator + Clone> Pool<A> {
         }
     }
 
-    /// Nothing. Refused by `BadSlot`, where slot `t` isn't there or isn't empty; by `own` it may be
-    /// slot `l`, whose set is given away.
+    /// Refused by `BadSlot`, where slot `t` isn't there or isn't empty; by `own` it may be slot
+    /// `l`, whose set is given away.
     #[tactic(auto, using(crate::proofs::Slots::given))]
-    fn vacant_beside(&self, mode: Mode, l: usize, t: usize) -> Result<(), Refusal>
+    fn need_vacant_beside(&self, mode: Mode, l: usize, t: usize) -> Result<(), Refusal>
         requires { IsSome (frozen_at self.now l) }
         ensures ok { OnOk result (vacant_at (released mode l self.now) t ≡ true) }
         ensures err { IfErr result (λ why.
@@ -85,13 +85,13 @@ impl<A: Allocator + Clone> Pool<A> {
     {
         match mode {
             Mode::Own if l == t => Ok(()),
-            _ => self.vacant(t),
+            _ => self.need_vacant(t),
         }
     }
 }
 
-/// Two sets combined, in bytes of their own.
-fn combined<A: Allocator + Clone>(
+/// Two sets combined, in bytes of their own. Refused by `OutOfMemory` alone.
+fn combine_sets<A: Allocator + Clone>(
     left: &BitBuffer<A>,
     right: &BitBuffer<A>,
     op: BitOp,
@@ -106,8 +106,9 @@ fn combined<A: Allocator + Clone>(
     }
 }
 
-/// Two sets combined, in the left one's storage where no other owner has it.
-fn into_combined<A: Allocator + Clone>(
+/// Two sets combined, in the left one's storage where no other owner has it. Refused by
+/// `OutOfMemory` alone; then the left set is gone.
+fn combine_into_left<A: Allocator + Clone>(
     left: BitBuffer<A>,
     right: &BitBuffer<A>,
     op: BitOp,

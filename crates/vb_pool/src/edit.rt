@@ -4,6 +4,7 @@ ghost use Rattle.vb_command.specs.Machine as machine;
 ghost use Rattle.vb_pool.specs.Answered.{answered};
 
 use crate::pool::Pool;
+use crate::range::is_range;
 use crate::refused::refusal_of;
 use crate::slot::Slot;
 use std::alloc::Allocator;
@@ -70,7 +71,7 @@ impl<A: Allocator + Clone> Pool<A> {
         ensures { Step self.old (machine.Fill k a b v) (answered result) self.new }
     {
         let set = self.open_mut(k).ok_or(Refusal::BadSlot)?;
-        if a > b || b > set.len() {
+        if !is_range(a, b, set.len()) {
             return Err(Refusal::OutOfRange);
         }
         set.fill_range(a, b, v);
@@ -98,6 +99,6 @@ impl<A: Allocator + Clone> Pool<A> {
         ensures { Step self.old (machine.Flip k) (answered result) self.new }
     {
         let set = self.take_open(k)?;
-        Ok(self.put(k, Slot::Open(set.flipped())))
+        Ok(self.put(k, Slot::Open(set.flip())))
     }
 }

@@ -28,14 +28,14 @@ impl<A: Allocator + Clone> Pool<A> {
     ) -> Result<Answer<A>, Refusal>
         ensures { Outcome self.old (machine.Take k t m indices.now) (answered result) self.new }
     {
-        let bits = self.frozen_at(k)?.as_view();
-        self.vacant(t)?;
+        let source = self.frozen_at(k)?.as_view();
+        self.need_vacant(t)?;
         let validity = self.validity(m)?;
         if !is_as_long(indices.len(), validity) {
             return Err(Refusal::LengthMismatch);
         }
-        let taken = taken(alloc, bits, indices, validity).map_err(refusal_of)?;
-        Ok(self.put(t, Slot::Frozen(taken)))
+        let bits = take_at(alloc, source, indices, validity).map_err(refusal_of)?;
+        Ok(self.put(t, Slot::Frozen(bits)))
     }
 
     /// The frozen set in slot `m`, if one is named. Refused by `BadSlot`, where the slot isn't
@@ -62,8 +62,8 @@ fn is_as_long(n: usize, validity: Option<BitBufferView<'_>>) -> bool
 
 /// The bits at these indices. Refused by `TakeOutOfRange` with the first position that counts and
 /// whose index names no place, else by `OutOfMemory` alone.
-#[tactic(auto, using(crate::proofs::TakingLemmas::validities))]
-fn taken<A: Allocator + Clone>(
+#[tactic(auto, using(crate::proofs::Takes::validities))]
+fn take_at<A: Allocator + Clone>(
     alloc: &A,
     bits: BitBufferView<'_>,
     indices: &[i64],

@@ -5,6 +5,7 @@ ghost use Rattle.vb_pool.specs.Answered.{answered};
 
 use crate::lists::{list_bits, list_places, list_runs, text};
 use crate::pool::Pool;
+use crate::range::is_range;
 use crate::refused::refusal_of;
 use std::alloc::Allocator;
 use vb_command::{Answer, Refusal};
@@ -40,7 +41,7 @@ impl<A: Allocator + Clone> Pool<A> {
         ensures { Step self.now (machine.Countrange k a b) (answered result) self.now }
     {
         let set = self.set_at(k)?;
-        if a > b || b > set.len() {
+        if !is_range(a, b, set.len()) {
             return Err(Refusal::OutOfRange);
         }
         Ok(Answer::Number(set.slice(a..b).true_count()))

@@ -6,6 +6,7 @@ ghost use Rattle.vb_pool.specs.Answered.{answered};
 
 use crate::open_bits::OpenBits;
 use crate::pool::Pool;
+use crate::range::is_range;
 use crate::refused::refusal_of;
 use crate::slot::Slot;
 use std::alloc::Allocator;
@@ -23,7 +24,7 @@ impl<A: Allocator + Clone> Pool<A> {
     ) -> Result<Answer<A>, Refusal>
         ensures { Outcome self.old (machine.Full k v n) (answered result) self.new }
     {
-        self.vacant(k)?;
+        self.need_vacant(k)?;
         let set = OpenBits::full(alloc, v, n).map_err(refusal_of)?;
         Ok(self.put(k, Slot::Open(set)))
     }
@@ -39,7 +40,7 @@ impl<A: Allocator + Clone> Pool<A> {
     ) -> Result<Answer<A>, Refusal>
         ensures { Outcome self.old (machine.Indices k n places.now) (answered result) self.new }
     {
-        self.vacant(k)?;
+        self.need_vacant(k)?;
         if !all_below(n, places) {
             return Err(Refusal::OutOfRange);
         }
@@ -52,8 +53,8 @@ impl<A: Allocator + Clone> Pool<A> {
     pub(crate) fn clone(&mut self, k: usize, t: usize) -> Result<Answer<A>, Refusal>
         ensures { Outcome self.old (machine.Clone k t) (answered result) self.new }
     {
-        let slot = self.kept(k)?;
-        self.vacant(t)?;
+        let slot = self.kept_at(k)?;
+        self.need_vacant(t)?;
         let copy = slot.clone().map_err(refusal_of)?;
         Ok(self.put(t, copy))
     }
@@ -70,8 +71,8 @@ impl<A: Allocator + Clone> Pool<A> {
         ensures { Outcome self.old (machine.Slice k a b t) (answered result) self.new }
     {
         let set = self.frozen_at(k)?;
-        self.vacant(t)?;
-        if a > b || b > set.len() {
+        self.need_vacant(t)?;
+        if !is_range(a, b, set.len()) {
             return Err(Refusal::OutOfRange);
         }
         let part = set.slice(a..b).map_err(refusal_of)?;
@@ -84,7 +85,7 @@ impl<A: Allocator + Clone> Pool<A> {
         ensures { Outcome self.old (machine.Sliced k t) (answered result) self.new }
     {
         let set = self.frozen_at(k)?;
-        self.vacant(t)?;
+        self.need_vacant(t)?;
         let same = set.sliced().map_err(refusal_of)?;
         Ok(self.put(t, Slot::Frozen(same)))
     }
@@ -93,7 +94,7 @@ impl<A: Allocator + Clone> Pool<A> {
     pub(crate) fn drop(&mut self, k: usize) -> Result<Answer<A>, Refusal>
         ensures { Step self.old (machine.Drop k) (answered result) self.new }
     {
-        self.kept(k)?;
+        self.kept_at(k)?;
         Ok(self.put(k, Slot::Empty))
     }
 }
