@@ -1,5 +1,7 @@
 -- The lines of an input, one line feed after the other.
-use Rattle.std.proofs.Common.{◌≡◌, ℕ, suc, ◌+◌, ◌<◌, ◌≤◌, false, cond, List, [], ◌∷◌, ◌++◌, length, get_or, take, drop, refl, sym, ap, ◌∙◌, Some, None, arith, eqb, add-one}
+use Rattle.std.proofs.Common.{◌≡◌, ℕ, suc, ◌+◌, ◌<◌, ◌≤◌, false, cond, List, [], ◌∷◌, ◌++◌, length}
+use Rattle.std.proofs.Common.{get_or, take, drop, refl, sym, ap, ◌∙◌, Some, None, arith, eqb}
+use Rattle.std.proofs.Common.{add-one}
 use Rattle.std.specs.Prelude.{position, count_by}
 use Rattle.std.specs.List.{All, slice_split, position_or_len}
 use Rattle.std.specs.Str.Lines.{lines, lines_of_parts, strip_carriage_return}
@@ -19,32 +21,40 @@ IsWithinLine bytes = All (λ b. eqb b 10 ≡ false) bytes
 abbrev pub line_feeds : List ℕ → ℕ
 line_feeds bytes = count_by (λ b. eqb b 10) bytes
 
-lines_of_parts-cons : (x : List ℕ) (parts : List (List ℕ)) → 0 < length parts → lines_of_parts (x ∷ parts) ≡ strip_carriage_return x ∷ lines_of_parts parts
+lines_of_parts-cons : (x : List ℕ) (parts : List (List ℕ)) → 0 < length parts
+    → lines_of_parts (x ∷ parts) ≡ strip_carriage_return x ∷ lines_of_parts parts
 lines_of_parts-cons x [] l = absurd (omega arith)
 lines_of_parts-cons x (y ∷ more) l = refl
 
 -- the line at the front, which a line feed ends
-pub lines-line_feed : (line more : List ℕ) → IsWithinLine line → lines (line ++ 10 ∷ more) ≡ strip_carriage_return line ∷ lines more
+pub lines-line_feed : (line more : List ℕ) → IsWithinLine line
+    → lines (line ++ 10 ∷ more) ≡ strip_carriage_return line ∷ lines more
 lines-line_feed line more h =
     ap lines_of_parts (slice_split_at (λ b. eqb b 10) line 10 more h refl)
-    ∙ lines_of_parts-cons line (slice_split (λ b. eqb b 10) more) (omega (arith, length-slice_split (λ b. eqb b 10) more))
+    ∙ lines_of_parts-cons line (slice_split (λ b. eqb b 10) more)
+    (omega (arith, length-slice_split (λ b. eqb b 10) more))
 
 -- a line that no line feed ends is the only one
 pub lines-last : (line : List ℕ) → IsWithinLine line → 0 < length line → lines line ≡ line ∷ []
-lines-last line h some = ap lines_of_parts (slice_split_none (λ b. eqb b 10) line h) ∙ ap (λ b. cond b [] (line ∷ [])) (ne_eqb (length line) 0 (λ e. omega arith))
+lines-last line h some = ap lines_of_parts (slice_split_none (λ b. eqb b 10) line h)
+    ∙ ap (λ b. cond b [] (line ∷ [])) (ne_eqb (length line) 0 (λ e. omega arith))
 
 -- before the first line feed there is none
-pub within_first : (bytes : List ℕ) (at : ℕ) → position (λ b. eqb b 10) bytes ≡ Some at → IsWithinLine (take at bytes)
+pub within_first : (bytes : List ℕ) (at : ℕ) → position (λ b. eqb b 10) bytes ≡ Some at
+    → IsWithinLine (take at bytes)
 within_first bytes at e = λ k d lt.
     let within : k < at = grind (arith, common_steps) in
-    ap (λ b. eqb b 10) (get_or-take at bytes k d within) ∙ (position-Some (λ b. eqb b 10) bytes at d e).2 k within
+    ap (λ b. eqb b 10) (get_or-take at bytes k d within)
+    ∙ (position-Some (λ b. eqb b 10) bytes at d e).2 k within
 
 -- bytes, cut at the first line feed
-pub cut_at_line_feed : (bytes : List ℕ) (at : ℕ) → position (λ b. eqb b 10) bytes ≡ Some at → bytes ≡ take at bytes ++ 10 ∷ drop (at + 1) bytes
+pub cut_at_line_feed : (bytes : List ℕ) (at : ℕ) → position (λ b. eqb b 10) bytes ≡ Some at
+    → bytes ≡ take at bytes ++ 10 ∷ drop (at + 1) bytes
 cut_at_line_feed bytes at e =
     let found = position-Some (λ b. eqb b 10) bytes at 0 e in
     split_at bytes at 0 found.0
-    ∙ (ap (λ x. take at bytes ++ x ∷ drop (suc at) bytes) (eqb-true (get_or bytes at 0) 10 found.1) ∙ ap (λ k. take at bytes ++ 10 ∷ drop k bytes) (sym (add-one at)))
+    ∙ (ap (λ x. take at bytes ++ x ∷ drop (suc at) bytes) (eqb-true (get_or bytes at 0) 10 found.1)
+    ∙ ap (λ k. take at bytes ++ 10 ∷ drop k bytes) (sym (add-one at)))
 
 -- where no line feed is found there is none
 pub within_all : (bytes : List ℕ) → position (λ b. eqb b 10) bytes ≡ None → IsWithinLine bytes
@@ -61,5 +71,6 @@ pub line_feeds-within : (bytes : List ℕ) → IsWithinLine bytes → line_feeds
 line_feeds-within [] h = refl
 line_feeds-within (x ∷ xs) h =
     let here : line_feeds (x ∷ []) ≡ 0 = ap (λ b. 0 + cond b 1 0) (h 0 x (omega arith)) in
-    let rest : line_feeds xs ≡ 0 = line_feeds-within xs (λ k d lt. h (suc k) d (omega (arith, lt))) in
+    let rest : line_feeds xs ≡ 0 = line_feeds-within xs (λ k d lt. h (suc k) d (omega (arith, lt)))
+    in
     omega (arith, line_feeds-append (x ∷ []) xs, here, rest)

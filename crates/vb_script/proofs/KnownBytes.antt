@@ -1,6 +1,7 @@
 -- The bytes that a stream tells.
-use Rattle.std.proofs.Common.{◌≡◌, ℕ, List, [], ◌++◌, refl, sym, ap, ◌∙◌, Option, Some, None, append_assoc, subst}
-use Rattle.std.specs.Prelude.{IfSome}
+use Rattle.std.proofs.Common.{◌≡◌, ℕ, List, [], ◌++◌, refl, sym, ap, ◌∙◌, Option, Some, None}
+use Rattle.std.proofs.Common.{append_assoc, subst, true, is_ok, Result, Ok, Err}
+use Rattle.std.specs.Prelude.{IfSome, OnOk}
 use Rattle.std.specs.Io.KnownBytes.{prepend_known, append_known, Keeps, Appends, Consumes, IsAtEnd}
 use mathlib.Core.List.{append-nil}
 
@@ -17,21 +18,26 @@ Keeps-trans (Some xs) (Some ys) None h k = absurd k
 Keeps-trans (Some xs) (Some ys) (Some zs) h k = k ∙ h
 
 -- bytes are added twice
-pub Appends-trans : (a b c : Option (List ℕ)) (xs ys : List ℕ) → Appends a b xs → Appends b c ys → Appends a c (xs ++ ys)
+pub Appends-trans : (a b c : Option (List ℕ)) (xs ys : List ℕ) → Appends a b xs → Appends b c ys
+    → Appends a c (xs ++ ys)
 Appends-trans None b c xs ys h k = tt
 Appends-trans (Some x) None c xs ys h k = absurd h
 Appends-trans (Some x) (Some y) None xs ys h k = absurd k
-Appends-trans (Some x) (Some y) (Some z) xs ys h k = k ∙ (ap (λ l. l ++ ys) h ∙ append_assoc x xs ys)
+Appends-trans (Some x) (Some y) (Some z) xs ys h k = k ∙ (ap (λ l. l ++ ys) h
+    ∙ append_assoc x xs ys)
 
 -- bytes are added, and then kept
-pub Appends-Keeps : (a b c : Option (List ℕ)) (xs : List ℕ) → Appends a b xs → Keeps b c → Appends a c xs
+pub Appends-Keeps : (a b c : Option (List ℕ)) (xs : List ℕ) → Appends a b xs → Keeps b c
+    → Appends a c xs
 Appends-Keeps None b c xs h k = tt
 Appends-Keeps (Some x) None c xs h k = absurd h
 Appends-Keeps (Some x) (Some y) None xs h k = absurd k
 Appends-Keeps (Some x) (Some y) (Some z) xs h k = k ∙ h
 
 -- the bytes that waited are written
-pub Appends-written : (first written written' : Option (List ℕ)) (out text : List ℕ) → Appends first (append_known written out) text → Appends written written' out → Appends first written' text
+pub Appends-written : (first written written' : Option (List ℕ)) (out text : List ℕ)
+    → Appends first (append_known written out) text → Appends written written' out
+    → Appends first written' text
 Appends-written None written written' out text h k = tt
 Appends-written (Some f) None written' out text h k = absurd h
 Appends-written (Some f) (Some w) None out text h k = absurd k
@@ -43,18 +49,23 @@ Appends-wait-nil None = tt
 Appends-wait-nil (Some xs) = refl
 
 -- bytes wait behind others
-pub Appends-wait : (written : Option (List ℕ)) (out text : List ℕ) → Appends (append_known written out) (append_known written (out ++ text)) text
+pub Appends-wait : (written : Option (List ℕ)) (out text : List ℕ)
+    → Appends (append_known written out) (append_known written (out ++ text)) text
 Appends-wait None out text = tt
 Appends-wait (Some w) out text = sym (append_assoc w out text)
 
 -- bytes wait where those before them were written
-pub Appends-flushed : (written written' : Option (List ℕ)) (out text : List ℕ) → Appends written written' out → Appends (append_known written out) (append_known written' text) text
+pub Appends-flushed : (written written' : Option (List ℕ)) (out text : List ℕ)
+    → Appends written written' out → Appends (append_known written out) (append_known written' text)
+    text
 Appends-flushed None written' out text h = tt
 Appends-flushed (Some w) None out text h = absurd h
 Appends-flushed (Some w) (Some z) out text h = ap (λ l. l ++ text) h
 
 -- bytes are written behind those that waited
-pub Appends-past : (written written' written'' : Option (List ℕ)) (out text : List ℕ) → Appends written written' out → Appends written' written'' text → Appends (append_known written out) (append_known written'' []) text
+pub Appends-past : (written written' written'' : Option (List ℕ)) (out text : List ℕ)
+    → Appends written written' out → Appends written' written'' text
+    → Appends (append_known written out) (append_known written'' []) text
 Appends-past None written' written'' out text h k = tt
 Appends-past (Some w) None written'' out text h k = absurd h
 Appends-past (Some w) (Some z) None out text h k = absurd k
@@ -66,24 +77,35 @@ Appends-nil None = tt
 Appends-nil (Some xs) = sym (append-nil xs)
 
 -- of known bytes those behind the ones that were read are still to come
-pub known_rest : (xs bytes : List ℕ) (remaining : Option (List ℕ)) → Keeps (Some xs) (prepend_known bytes remaining) → (rest : List ℕ) × (remaining ≡ Some rest) × (bytes ++ rest ≡ xs)
+pub known_rest : (xs bytes : List ℕ) (remaining : Option (List ℕ))
+    → Keeps (Some xs) (prepend_known bytes remaining) → (rest : List ℕ) × (remaining ≡ Some rest) ×
+    (bytes ++ rest ≡ xs)
 known_rest xs bytes None k = absurd k
 known_rest xs bytes (Some rest) k = (rest, refl, k)
 
 -- at the end none is to come
-pub nil_at_end : (remaining : Option (List ℕ)) (rest : List ℕ) → remaining ≡ Some rest → IsAtEnd remaining → rest ≡ []
+pub nil_at_end : (remaining : Option (List ℕ)) (rest : List ℕ) → remaining ≡ Some rest
+    → IsAtEnd remaining → rest ≡ []
 nil_at_end remaining rest e h = let P : Option (List ℕ) → Type 0 = IsAtEnd in subst P e h
 
 -- what holds of the bytes, if they are known
-pub IfSome-known : (known : Option (List ℕ)) (P : List ℕ → Type 0) → ((bytes : List ℕ) → known ≡ Some bytes → P bytes) → IfSome known P
+pub IfSome-known : (known : Option (List ℕ)) (P : List ℕ → Type 0)
+    → ((bytes : List ℕ) → known ≡ Some bytes → P bytes) → IfSome known P
 IfSome-known None P h = tt
 IfSome-known (Some bytes) P h = h bytes refl
 
+-- what holds at `Ok`, where that was given
+pub OnOk-is_ok : {T E : Type 0} (r : Result T E) (P : Type 0) → is_ok r ≡ true → OnOk r P → P
+OnOk-is_ok (Ok x) P ok h = h
+OnOk-is_ok (Err e) P ok h = absurd (cc)
+
 -- bytes that were read stand behind those before them
-pub Keeps-read : (front bytes : List ℕ) (old new : Option (List ℕ)) → Consumes old new bytes → Keeps (prepend_known front old) (prepend_known (front ++ bytes) new)
+pub Keeps-read : (front bytes : List ℕ) (old new : Option (List ℕ)) → Consumes old new bytes
+    → Keeps (prepend_known front old) (prepend_known (front ++ bytes) new)
 Keeps-read front bytes None new h = tt
 Keeps-read front bytes (Some xs) None h = absurd h
-Keeps-read front bytes (Some xs) (Some ys) h = append_assoc front bytes ys ∙ ap (λ l. front ++ l) (sym h)
+Keeps-read front bytes (Some xs) (Some ys) h = append_assoc front bytes ys
+    ∙ ap (λ l. front ++ l) (sym h)
 
 -- for `#[tactic(auto, using(..))]`: bytes that wait and bytes that are written
 pub ruleset known_bytes = (Appends-wait, Appends-flushed, Appends-past)

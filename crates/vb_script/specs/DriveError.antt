@@ -1,23 +1,13 @@
 -- What the errors of a session say.
 use Rattle.std.specs.Prelude.{◌≡◌, ℕ, ◌+◌, Result, Ok, Err}
+use Rattle.vb_command.specs.declared.unread.Unread.{Unread}
+use Rattle.vb_command.specs.declared.unread.Unread.TheVariants as unread
 use Rattle.vb_script.specs.declared.error.DriveError.{DriveError}
 use Rattle.vb_script.specs.declared.error.DriveError.TheVariants.{Unreadable, Read, Write, Memory}
-
--- P of the line, where a line can't be read
-abbrev pub IfUnreadable : {X : Type 0} → Result X DriveError → (ℕ → Type 0) → Type 0
-IfUnreadable (Ok x) P = Unit {0}
-IfUnreadable (Err (Unreadable line)) P = P line
-IfUnreadable (Err Read) P = Unit {0}
-IfUnreadable (Err Write) P = Unit {0}
-IfUnreadable (Err Memory) P = Unit {0}
-
--- P, where memory was refused
-abbrev pub IfMemory : {X : Type 0} → Result X DriveError → Type 0 → Type 0
-IfMemory (Ok x) P = Unit {0}
-IfMemory (Err (Unreadable line)) P = Unit {0}
-IfMemory (Err Read) P = Unit {0}
-IfMemory (Err Write) P = Unit {0}
-IfMemory (Err Memory) P = P
+use Rattle.vb_script.specs.declared.feed.FillError.{FillError}
+use Rattle.vb_script.specs.declared.feed.FillError.TheVariants as fill
+use Rattle.vb_script.specs.declared.lines.Unready.{Unready}
+use Rattle.vb_script.specs.declared.lines.Unready.TheVariants as unready
 
 -- P, unless a write failed
 abbrev pub UnlessWrite : {X : Type 0} → Result X DriveError → Type 0 → Type 0
@@ -27,56 +17,39 @@ UnlessWrite (Err Read) P = P
 UnlessWrite (Err Write) P = Unit {0}
 UnlessWrite (Err Memory) P = P
 
--- P, where a read failed or memory was refused
-abbrev pub IfReadOrMemory : {X : Type 0} → Result X DriveError → Type 0 → Type 0
-IfReadOrMemory (Ok x) P = Unit {0}
-IfReadOrMemory (Err (Unreadable line)) P = Unit {0}
-IfReadOrMemory (Err Read) P = P
-IfReadOrMemory (Err Write) P = Unit {0}
-IfReadOrMemory (Err Memory) P = P
+-- the failed reads, before and after: one more where a read failed
+abbrev pub FailsReads : {X : Type 0} → Result X DriveError → ℕ → ℕ → Type 0
+FailsReads (Ok x) faults faults' = faults' ≡ faults
+FailsReads (Err (Unreadable line)) faults faults' = faults' ≡ faults
+FailsReads (Err Read) faults faults' = faults' ≡ faults + 1
+FailsReads (Err Write) faults faults' = faults' ≡ faults
+FailsReads (Err Memory) faults faults' = faults' ≡ faults
 
--- P, where a line gives no command
-abbrev pub IfOfLine : {X : Type 0} → Result X DriveError → Type 0 → Type 0
-IfOfLine (Ok x) P = Unit {0}
-IfOfLine (Err (Unreadable line)) P = P
-IfOfLine (Err Read) P = Unit {0}
-IfOfLine (Err Write) P = Unit {0}
-IfOfLine (Err Memory) P = P
+-- the failed writes, before and after: one more where a write failed
+abbrev pub FailsWrites : {X : Type 0} → Result X DriveError → ℕ → ℕ → Type 0
+FailsWrites (Ok x) faults faults' = faults' ≡ faults
+FailsWrites (Err (Unreadable line)) faults faults' = faults' ≡ faults
+FailsWrites (Err Read) faults faults' = faults' ≡ faults
+FailsWrites (Err Write) faults faults' = faults' ≡ faults + 1
+FailsWrites (Err Memory) faults faults' = faults' ≡ faults
 
--- the failed reads and writes, before and after: the one that the error names is one more, and no
--- other
-abbrev pub CountsFaults : {X : Type 0} → Result X DriveError → ℕ → ℕ → ℕ → ℕ → Type 0
-CountsFaults (Ok x) reads writes reads' writes' = (reads' ≡ reads) × (writes' ≡ writes)
-CountsFaults (Err (Unreadable line)) reads writes reads' writes' =
-    (reads' ≡ reads) × (writes' ≡ writes)
-CountsFaults (Err Read) reads writes reads' writes' = (reads' ≡ reads + 1) × (writes' ≡ writes)
-CountsFaults (Err Write) reads writes reads' writes' = (reads' ≡ reads) × (writes' ≡ writes + 1)
-CountsFaults (Err Memory) reads writes reads' writes' = (reads' ≡ reads) × (writes' ≡ writes)
+-- the error of a session where a line gives no command
+abbrev pub line_error : ℕ → Unread → DriveError
+line_error line unread.Unreadable = Unreadable line
+line_error line unread.Memory = Memory
 
--- a stream or memory failed, and no line
-abbrev pub IsOutside : DriveError → Type 0
-IsOutside (Unreadable line) = ⊥
-IsOutside Read = Unit {0}
-IsOutside Write = Unit {0}
-IsOutside Memory = Unit {0}
+-- the error of a session where no bytes were read
+abbrev pub fill_error : FillError → DriveError
+fill_error fill.Read = Read
+fill_error fill.Memory = Memory
 
--- a line gives no command
-abbrev pub IsOfLine : DriveError → Type 0
-IsOfLine (Unreadable line) = Unit {0}
-IsOfLine Read = ⊥
-IsOfLine Write = ⊥
-IsOfLine Memory = Unit {0}
+-- the error of a session where no line came
+abbrev pub stream_error : Unready → DriveError
+stream_error unready.Read = Read
+stream_error unready.Write = Write
+stream_error unready.Memory = Memory
 
--- any but a failed read
-abbrev pub IsNoRead : DriveError → Type 0
-IsNoRead (Unreadable line) = Unit {0}
-IsNoRead Read = ⊥
-IsNoRead Write = Unit {0}
-IsNoRead Memory = Unit {0}
-
--- the sink failed
-abbrev pub IsWrite : DriveError → Type 0
-IsWrite (Unreadable line) = ⊥
-IsWrite Read = ⊥
-IsWrite Write = Unit {0}
-IsWrite Memory = ⊥
+-- what a call gives, its error told as one of a session
+abbrev pub told_as : {X E : Type 0} → (E → DriveError) → Result X E → Result X DriveError
+told_as error (Ok x) = Ok x
+told_as error (Err e) = Err (error e)

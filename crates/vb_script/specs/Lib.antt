@@ -1,4 +1,5 @@
 pub mod DriveError
+pub mod Fault
 pub mod Feed
 pub mod FromRead
 pub mod Outbox

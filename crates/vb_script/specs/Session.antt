@@ -1,7 +1,7 @@
 -- What a session answers to the lines of its input.
 use Rattle.std.specs.Prelude.{◌≡◌, ℕ, ◌+◌, ◌-◌, ◌^◌, ◌<◌, ◌≤◌, ◌⊎◌, ◌==◌, List, [], ◌∷◌, ◌++◌}
 use Rattle.std.specs.Prelude.{length, take, slice_get, count_by, Option, Some, None, Result, Ok}
-use Rattle.std.specs.Prelude.{Err, IsTrue, IsSomeAnd}
+use Rattle.std.specs.Prelude.{Err, IsTrue, IfSome, IsSomeAnd}
 use Rattle.std.specs.List.{flat_map}
 use Rattle.std.specs.Str.Lines.{lines}
 use Rattle.std.specs.Io.KnownBytes.{Appends}
@@ -11,23 +11,22 @@ use Rattle.vb_command.specs.Reading.{asks_memory, reading, script}
 use Rattle.vb_script.specs.declared.error.DriveError.{DriveError}
 use Rattle.vb_script.specs.declared.error.DriveError.TheVariants.{Unreadable, Read, Write, Memory}
 
--- what a line does to the slots, and what it is answered: nothing, or what its command does
-abbrev pub Serves : Option (Option Order) → List Slot → Option Reply → List Slot → Type 0
-Serves None s r t = ⊥
-Serves (Some None) s r t = (r ≡ None) × (t ≡ s)
-Serves (Some (Some c)) s r t = IsSomeAnd r (λ answer. Outcome s c answer t)
+-- what a line asks for, if there is one: nothing, where there is none
+abbrev pub reading_any : Option (List ℕ) → Option (Option Order)
+reading_any None = Some None
+reading_any (Some line) = reading line
+
+-- what a line that asks for this does to the slots, and what it is answered: nothing, or what its
+-- command does
+abbrev pub Answers : Option (Option Order) → List Slot → Option Reply → List Slot → Type 0
+Answers None s r t = ⊥
+Answers (Some None) s r t = (r ≡ None) × (t ≡ s)
+Answers (Some (Some c)) s r t = IsSomeAnd r (λ answer. Outcome s c answer t)
 
 -- the line of an answer, if there is one
 abbrev pub line_of_any : Option Reply → List ℕ
 line_of_any None = []
 line_of_any (Some r) = line_of r
-
--- what a line, if there is one, does to the slots and to the text of the answers
-abbrev pub ServesNext : Option (List ℕ) → List Slot → Option (List ℕ) → List Slot
-    → Option (List ℕ) → Type 0
-ServesNext None s old t new = (t ≡ s) × Appends old new []
-ServesNext (Some line) s old t new =
-    (r : Option Reply) × Serves (reading line) s r t × Appends old new (line_of_any r)
 
 -- the answers, one a line
 abbrev pub printed : List Reply → List ℕ
@@ -98,3 +97,9 @@ SessionEnds (Err (Unreadable line)) input rest old new = StopsAt input rest line
 SessionEnds (Err Read) input rest old new = AnswersEnded input rest old new
 SessionEnds (Err Write) input rest old new = Unit {0}
 SessionEnds (Err Memory) input rest old new = AnswersSome input rest old new
+
+-- how a session ended, of an input and an output that tell their bytes
+abbrev pub EndsAsTold : {X : Type 0} → Result X DriveError → Option (List ℕ) → Option (List ℕ)
+    → Option (List ℕ) → Option (List ℕ) → Type 0
+EndsAsTold r remaining remaining' old new = IfSome remaining (λ input.
+    IsSomeAnd remaining' (λ rest. SessionEnds r input rest old new))

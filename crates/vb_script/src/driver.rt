@@ -1,14 +1,8 @@
 //! The whole of an input, line by line.
-ghost use Rattle.std.specs.Prelude.{◌≡◌, ◌+◌, ◌-◌, ◌^◌, ◌⊎◌, ◌<◌, [], None, Some, drop, length};
-ghost use Rattle.std.specs.Prelude.{IfErr, IfOk, IfSome, IsSomeAnd, IsTrue, MatchOption, OnOk};
-ghost use Rattle.std.specs.Io.KnownBytes.{append_known, Appends};
-ghost use Rattle.std.specs.Option.{ForSome};
+ghost use Rattle.std.specs.Prelude.{◌≡◌, [], IfOk};
 ghost use Rattle.vb_command.specs.Machine.{empty_slots};
-ghost use Rattle.vb_command.specs.Reading.{asks_memory, reading};
-ghost use Rattle.vb_script.specs.DriveError.{CountsFaults, IfMemory, IfOfLine, IfUnreadable};
-ghost use Rattle.vb_script.specs.DriveError.{IsNoRead, UnlessWrite};
-ghost use Rattle.vb_script.specs.Feed.{next_line};
-ghost use Rattle.vb_script.specs.Session.{AnswersRun, ServesNext, SessionEnds};
+ghost use Rattle.vb_script.specs.DriveError.{FailsReads, FailsWrites, UnlessWrite, line_error};
+ghost use Rattle.vb_script.specs.Session.{AnswersRun, EndsAsTold};
 
 use crate::error::DriveError;
 use crate::feed::Feed;
@@ -18,6 +12,7 @@ use crate::session::Session;
 use crate::sink::Sink;
 use crate::source::Source;
 use std::alloc::{AllocError, Allocator};
+use vb_command::Unread;
 
 /// Reads lines to the end of the input, carries out the command of each and writes the answers,
 /// one a line. The slots are empty at first and gone at the end.
@@ -41,15 +36,14 @@ pub fn drive<A: Allocator + Clone, R: Source, W: Sink>(
     input: &mut R,
     output: &mut W,
 ) -> Result<(), DriveError>
-    ensures ends { IfSome (R.remaining input.old) (λ bytes.
-        IsSomeAnd (R.remaining input.new) (λ rest.
-        SessionEnds result bytes rest (W.contents output.old) (W.contents output.new))) }
+    ensures ends { EndsAsTold result (R.remaining input.old) (R.remaining input.new)
+        (W.contents output.old) (W.contents output.new) }
     ensures ran { UnlessWrite result (AnswersRun (W.contents output.old) (W.contents output.new)) }
-    ensures counts { CountsFaults result
-        (R.faults input.old) (W.faults output.old) (R.faults input.new) (W.faults output.new) }
+    ensures reads { FailsReads result (R.faults input.old) (R.faults input.new) }
+    ensures writes { FailsWrites result (W.faults output.old) (W.faults output.new) }
 {
     let (mut session, mut feed, mut out) = begin(alloc).map_err(|_| DriveError::Memory)?;
-    let ended = serve_all(&mut session, &mut feed, &mut out, input, output);
+    let ended = answer_all(&mut session, &mut feed, &mut out, input, output);
     // By a call, since the end of a block takes ten times as long to prove.
     drop((session, feed, out));
     ended
@@ -66,8 +60,8 @@ fn begin<A: Allocator + Clone>(alloc: A) -> Result<(Session<A>, Feed<A>, Outbox<
     Ok((Session::new(alloc), feed, out))
 }
 
-/// Serves all lines of an input, from the first one on.
-fn serve_all<A: Allocator + Clone, R: Source, W: Sink>(
+/// Answers all lines of an input, from the first one on.
+fn answer_all<A: Allocator + Clone, R: Source, W: Sink>(
     session: &mut Session<A>,
     feed: &mut Feed<A>,
     out: &mut Outbox<A>,
@@ -77,87 +71,40 @@ fn serve_all<A: Allocator + Clone, R: Source, W: Sink>(
     requires slots { session.old.pool ≡ empty_slots }
     requires feed { feed.old ≡ [] }
     requires out { out.old ≡ [] }
-    ensures ends { IfSome (R.remaining input.old) (λ bytes.
-        IsSomeAnd (R.remaining input.new) (λ rest.
-        SessionEnds result bytes rest (W.contents output.old) (W.contents output.new))) }
+    ensures ends { EndsAsTold result (R.remaining input.old) (R.remaining input.new)
+        (W.contents output.old) (W.contents output.new) }
     ensures ran { UnlessWrite result (AnswersRun (W.contents output.old) (W.contents output.new)) }
-    ensures counts { CountsFaults result
-        (R.faults input.old) (W.faults output.old) (R.faults input.new) (W.faults output.new) }
+    ensures reads { FailsReads result (R.faults input.old) (R.faults input.new) }
+    ensures writes { FailsWrites result (W.faults output.old) (W.faults output.new) }
 {
     let mut number = 1;
     loop {
         let at = line_ready(feed, out, input, output)?;
-        serve_next(session, feed, out, at, number, output)?;
-        if at.is_none() {
-            return out.flush(output);
-        }
+        let answer = match session.answer(next_line(feed.as_slice(), at), number) {
+            Ok(answer) => answer,
+            Err(unread) => {
+                out.flush(output).map_err(|_| DriveError::Write)?;
+                return Err(line_error(number, unread));
+            }
+        };
+        let pushed = out.push_any(answer.as_ref(), output);
+        drop(answer);
+        pushed.map_err(|_| DriveError::Write)?;
+        let Some(at) = at else {
+            out.flush(output).map_err(|_| DriveError::Write)?;
+            return Ok(());
+        };
+        feed.consume(at + 1);
         number += 1;
     }
 }
 
-/// Serves the line that ends at the line feed at this place, and lets it go; at `None` the last
-/// line, which no line feed ends, if any byte of it is there.
-fn serve_next<A: Allocator + Clone, W: Sink>(
-    session: &mut Session<A>,
-    feed: &mut Feed<A>,
-    out: &mut Outbox<A>,
-    at: Option<usize>,
-    number: u64,
-    output: &mut W,
-) -> Result<(), DriveError>
-    requires { ForSome at (λ k. k < length feed.old) }
-    ensures ok { OnOk result (ServesNext (next_line at feed.old)
-        session.old.pool (append_known (W.contents output.old) out.old)
-        session.new.pool (append_known (W.contents output.new) out.new)) }
-    ensures numbered { OnOk result (IfSome (next_line at feed.old) (λ _. number < 2 ^ 64 - 1)) }
-    ensures rest { OnOk result (MatchOption at
-        (feed.new ≡ feed.old)
-        (λ k. feed.new ≡ drop (k + 1) feed.old)) }
-    ensures unreadable { IfUnreadable result (λ n. (n ≡ number)
-        × IsSomeAnd (next_line at feed.old)
-        (λ line. (number ≡ 2 ^ 64 - 1) ⊎ (reading line ≡ None))) }
-    ensures memory { IfMemory result
-        (IsSomeAnd (next_line at feed.old) (λ line. IsTrue (asks_memory (reading line)))) }
-    ensures written { IfOfLine result
-        (Appends (W.contents output.old) (W.contents output.new) out.old) }
-    ensures no_read { IfErr result IsNoRead }
-    ensures counts { CountsFaults result 0 (W.faults output.old) 0 (W.faults output.new) }
+/// The error where the line of this number gives no command.
+fn line_error(line: u64, unread: Unread) -> DriveError
+    ensures { result ≡ line_error line unread }
 {
-    if let Some(line) = next_line(feed.as_slice(), at) {
-        serve_line(session, out, line, number, output)?;
-    }
-    if let Some(at) = at {
-        feed.consume(at + 1);
-    }
-    Ok(())
-}
-
-/// Serves a line and adds its answer; where it gives no command all answers are written.
-fn serve_line<A: Allocator + Clone, W: Sink>(
-    session: &mut Session<A>,
-    out: &mut Outbox<A>,
-    line: &[u8],
-    number: u64,
-    output: &mut W,
-) -> Result<(), DriveError>
-    ensures ok { OnOk result (ServesNext (Some line.now)
-        session.old.pool (append_known (W.contents output.old) out.old)
-        session.new.pool (append_known (W.contents output.new) out.new)) }
-    ensures numbered { OnOk result (number < 2 ^ 64 - 1) }
-    ensures unreadable { IfUnreadable result (λ n. (n ≡ number)
-        × ((number ≡ 2 ^ 64 - 1) ⊎ (reading line.now ≡ None))) }
-    ensures memory { IfMemory result (IsTrue (asks_memory (reading line.now))) }
-    ensures written { IfOfLine result
-        (Appends (W.contents output.old) (W.contents output.new) out.old) }
-    ensures no_read { IfErr result IsNoRead }
-    ensures counts { CountsFaults result 0 (W.faults output.old) 0 (W.faults output.new) }
-{
-    match session.serve(line, number) {
-        Ok(Some(answer)) => out.push(&answer, output),
-        Ok(None) => Ok(()),
-        Err(error) => {
-            out.flush(output)?;
-            Err(error)
-        }
+    match unread {
+        Unread::Unreadable => DriveError::Unreadable { line },
+        Unread::Memory => DriveError::Memory,
     }
 }

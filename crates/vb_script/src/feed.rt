@@ -1,12 +1,12 @@
 //! Bytes that were read and aren't used yet.
 ghost use Rattle.std.specs.Prelude.{◌≡◌, ℕ, ◌+◌, ◌-◌, ◌^◌, ◌<◌, ◌≤◌, ◌==◌, List, [], length, take};
-ghost use Rattle.std.specs.Prelude.{drop, position, slice_range, OnErr, OnOk, IfOk, IfErr};
+ghost use Rattle.std.specs.Prelude.{drop, position, slice_range, OnErr, OnOk, IfOk};
 ghost use Rattle.std.specs.Io.KnownBytes.{prepend_known, IsAtEnd, Keeps};
 ghost use Rattle.std.specs.List.{position_or_len};
-ghost use Rattle.vb_script.specs.DriveError.{CountsFaults, IsOutside};
+ghost use Rattle.vb_script.specs.DriveError.{FailsReads, fill_error, told_as};
+ghost use Rattle.vb_script.specs.Fault.{CountsFault};
 ghost use Rattle.vb_script.specs.Feed.{Fills};
 
-use crate::error::DriveError;
 use crate::fault::Fault;
 use crate::source::Source;
 use memchr::memchr;
@@ -15,6 +15,35 @@ use std::marker::Model;
 
 /// How many bytes there is room for at first.
 const CHUNK: usize = 65536;
+
+/// Why no bytes were read.
+#[derive(Clone, Copy)]
+pub enum FillError {
+    /// The source failed.
+    Read,
+    /// A request for memory was refused.
+    Memory,
+}
+
+impl From<Fault> for FillError {
+    ghost use Rattle.vb_script.specs.declared.feed.FillError.TheVariants.{Read};
+
+    ghost from_gives = { λ _ error. error ≡ Read };
+
+    fn from(_: Fault) -> FillError {
+        FillError::Read
+    }
+}
+
+impl From<AllocError> for FillError {
+    ghost use Rattle.vb_script.specs.declared.feed.FillError.TheVariants.{Memory};
+
+    ghost from_gives = { λ _ error. error ≡ Memory };
+
+    fn from(_: AllocError) -> FillError {
+        FillError::Memory
+    }
+}
 
 /// The bytes that were read and aren't used yet. Contracts see the list of them.
 #[derive(Drop)]
@@ -94,19 +123,19 @@ impl<A: Allocator> Feed<A> {
     /// Bytes that were let go give up their room first. Where none is left it is doubled before the
     /// read, so that no byte is lost where memory is refused.
     #[tactic(auto, using(crate::proofs::Parts::filled))]
-    pub fn fill<R: Source>(&mut self, input: &mut R) -> Result<bool, DriveError>
+    pub fn fill<R: Source>(&mut self, input: &mut R) -> Result<bool, FillError>
         ensures kept { Keeps
             (prepend_known self.old (R.remaining input.old))
             (prepend_known self.new (R.remaining input.new)) }
         ensures fills { IfOk result (λ more. Fills self.old self.new (R.remaining input.new) more) }
         ensures err { OnErr result (self.new ≡ self.old) }
-        ensures outside { IfErr result IsOutside }
-        ensures counts { CountsFaults result (R.faults input.old) 0 (R.faults input.new) 0 }
+        ensures reads { FailsReads (told_as fill_error result)
+            (R.faults input.old) (R.faults input.new) }
     {
         move_to_front(&mut self.room, self.start, self.end);
         self.end -= self.start;
         self.start = 0;
-        leave_room(&mut self.room, self.end).map_err(|_| DriveError::Memory)?;
+        leave_room(&mut self.room, self.end)?;
         let count = read_behind(&mut self.room, self.end, input)?;
         self.end += count;
         Ok(count > 0)
@@ -162,7 +191,7 @@ fn leave_room<A: Allocator>(room: &mut Vec<u8, A>, end: usize) -> Result<(), All
 }
 
 /// Reads once behind the first `end` bytes, and answers how many bytes came.
-fn read_behind<R: Source>(room: &mut [u8], end: usize, input: &mut R) -> Result<usize, DriveError>
+fn read_behind<R: Source>(room: &mut [u8], end: usize, input: &mut R) -> Result<usize, Fault>
     requires { end < length room.old }
     ensures front { take end room.new ≡ take end room.old }
     ensures len { length room.new ≡ length room.old }
@@ -172,11 +201,7 @@ fn read_behind<R: Source>(room: &mut [u8], end: usize, input: &mut R) -> Result<
         (prepend_known (take (end + count) room.new) (R.remaining input.new))) }
     ensures end { IfOk result (λ count. count ≡ 0 → IsAtEnd (R.remaining input.new)) }
     ensures err { OnErr result (Keeps (R.remaining input.old) (R.remaining input.new)) }
-    ensures outside { IfErr result IsOutside }
-    ensures counts { CountsFaults result (R.faults input.old) 0 (R.faults input.new) 0 }
+    ensures reads { CountsFault result (R.faults input.old) (R.faults input.new) }
 {
-    match input.read(&mut room[end..]) {
-        Ok(count) => Ok(count),
-        Err(Fault) => Err(DriveError::Read),
-    }
+    input.read(&mut room[end..])
 }

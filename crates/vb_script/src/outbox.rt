@@ -1,15 +1,17 @@
 //! Answers that wait to be written.
 ghost use Rattle.std.specs.Prelude.{◌≡◌, ◌+◌, ◌≤◌, [], ◌∷◌, ◌++◌, length, vec_capacity, decimal};
-ghost use Rattle.std.specs.Prelude.{IfOk, IfErr, OnOk};
+ghost use Rattle.std.specs.Prelude.{option_map, IfOk, OnOk};
 ghost use Rattle.std.specs.Io.KnownBytes.{Appends};
 ghost use Rattle.std.specs.List.{flat_map};
+ghost use Rattle.std.specs.Option.{option_copied};
 ghost use Rattle.vb_command.specs.Printed.{digit_of, digits_of, line_of, places_text, run_text};
 ghost use Rattle.vb_command.specs.Printed.{runs_text};
 ghost use Rattle.vb_command.specs.Views.{reply};
-ghost use Rattle.vb_script.specs.DriveError.{CountsFaults, IsWrite};
+ghost use Rattle.vb_script.specs.Fault.{CountsFault};
 ghost use Rattle.vb_script.specs.Outbox.{Adds};
+ghost use Rattle.vb_script.specs.Session.{line_of_any};
 
-use crate::error::DriveError;
+use crate::fault::Fault;
 use crate::sink::Sink;
 use itoa::Buffer;
 use std::alloc::{AllocError, Allocator};
@@ -47,8 +49,24 @@ impl<A: Allocator> Outbox<A> {
         })
     }
 
+    /// Adds the line of an answer, if there is one.
+    pub fn push_any<W: Sink>(
+        &mut self,
+        answer: Option<&Answer<A>>,
+        output: &mut W,
+    ) -> Result<(), Fault>
+        ensures { Adds (line_of_any (option_map reply (option_copied answer.entry))) result
+            (W.contents output.old) self.old (W.contents output.new) self.new
+            (W.faults output.old) (W.faults output.new) }
+    {
+        match answer {
+            Some(answer) => self.push(answer, output),
+            None => Ok(()),
+        }
+    }
+
     /// Adds the line of an answer.
-    pub fn push<W: Sink>(&mut self, answer: &Answer<A>, output: &mut W) -> Result<(), DriveError>
+    fn push<W: Sink>(&mut self, answer: &Answer<A>, output: &mut W) -> Result<(), Fault>
         ensures { Adds (line_of (reply answer.now)) result
             (W.contents output.old) self.old (W.contents output.new) self.new
             (W.faults output.old) (W.faults output.new) }
@@ -68,7 +86,7 @@ impl<A: Allocator> Outbox<A> {
     }
 
     /// Adds a number in decimal.
-    fn put_number<W: Sink>(&mut self, n: usize, output: &mut W) -> Result<(), DriveError>
+    fn put_number<W: Sink>(&mut self, n: usize, output: &mut W) -> Result<(), Fault>
         ensures { Adds (decimal n) result
             (W.contents output.old) self.old (W.contents output.new) self.new
             (W.faults output.old) (W.faults output.new) }
@@ -78,7 +96,7 @@ impl<A: Allocator> Outbox<A> {
     }
 
     /// Adds places with commas between two.
-    fn put_places<W: Sink>(&mut self, places: &[usize], output: &mut W) -> Result<(), DriveError>
+    fn put_places<W: Sink>(&mut self, places: &[usize], output: &mut W) -> Result<(), Fault>
         ensures { Adds (places_text places.now) result
             (W.contents output.old) self.old (W.contents output.new) self.new
             (W.faults output.old) (W.faults output.new) }
@@ -95,11 +113,7 @@ impl<A: Allocator> Outbox<A> {
     }
 
     /// Adds runs with commas between two.
-    fn put_runs<W: Sink>(
-        &mut self,
-        runs: &[(usize, usize)],
-        output: &mut W,
-    ) -> Result<(), DriveError>
+    fn put_runs<W: Sink>(&mut self, runs: &[(usize, usize)], output: &mut W) -> Result<(), Fault>
         ensures { Adds (runs_text runs.now) result
             (W.contents output.old) self.old (W.contents output.new) self.new
             (W.faults output.old) (W.faults output.new) }
@@ -116,7 +130,7 @@ impl<A: Allocator> Outbox<A> {
     }
 
     /// Adds a run: where it begins, and the place behind it.
-    fn put_run<W: Sink>(&mut self, run: (usize, usize), output: &mut W) -> Result<(), DriveError>
+    fn put_run<W: Sink>(&mut self, run: (usize, usize), output: &mut W) -> Result<(), Fault>
         ensures { Adds (run_text run) result
             (W.contents output.old) self.old (W.contents output.new) self.new
             (W.faults output.old) (W.faults output.new) }
@@ -128,7 +142,7 @@ impl<A: Allocator> Outbox<A> {
     }
 
     /// Adds truth values as binary digits.
-    fn put_bits<W: Sink>(&mut self, bits: &[bool], output: &mut W) -> Result<(), DriveError>
+    fn put_bits<W: Sink>(&mut self, bits: &[bool], output: &mut W) -> Result<(), Fault>
         ensures { Adds (digits_of bits.now) result
             (W.contents output.old) self.old (W.contents output.new) self.new
             (W.faults output.old) (W.faults output.new) }
@@ -148,7 +162,7 @@ impl<A: Allocator> Outbox<A> {
     /// Adds truth values as binary digits, no more than there is room for. What waits is written
     /// first where there is no room for both.
     #[tactic(auto, using(crate::proofs::KnownBytes::known_bytes))]
-    fn put_block<W: Sink>(&mut self, bits: &[bool], output: &mut W) -> Result<(), DriveError>
+    fn put_block<W: Sink>(&mut self, bits: &[bool], output: &mut W) -> Result<(), Fault>
         requires { length bits.now ≤ 65536 }
         ensures { Adds (flat_map digit_of bits.now) result
             (W.contents output.old) self.old (W.contents output.new) self.new
@@ -163,7 +177,7 @@ impl<A: Allocator> Outbox<A> {
 
     /// Adds bytes. What waits is written first where there is no room for both.
     #[tactic(auto, using(crate::proofs::KnownBytes::known_bytes))]
-    fn put<W: Sink>(&mut self, bytes: &[u8], output: &mut W) -> Result<(), DriveError>
+    fn put<W: Sink>(&mut self, bytes: &[u8], output: &mut W) -> Result<(), Fault>
         ensures { Adds bytes.now result
             (W.contents output.old) self.old (W.contents output.new) self.new
             (W.faults output.old) (W.faults output.new) }
@@ -172,24 +186,23 @@ impl<A: Allocator> Outbox<A> {
             self.flush(output)?;
         }
         if bytes.len() > ROOM {
-            return output.write(bytes).map_err(|_| DriveError::Write);
+            return output.write(bytes);
         }
         self.bytes.extend_from_slice(bytes).unwrap();
         Ok(())
     }
 
     /// Writes all that waits.
-    pub fn flush<W: Sink>(&mut self, output: &mut W) -> Result<(), DriveError>
+    pub fn flush<W: Sink>(&mut self, output: &mut W) -> Result<(), Fault>
         ensures written { OnOk result
             (Appends (W.contents output.old) (W.contents output.new) self.old) }
         ensures empty { OnOk result (self.new ≡ []) }
-        ensures write { IfErr result IsWrite }
-        ensures counts { CountsFaults result 0 (W.faults output.old) 0 (W.faults output.new) }
+        ensures writes { CountsFault result (W.faults output.old) (W.faults output.new) }
     {
         if self.bytes.is_empty() {
             return Ok(());
         }
-        output.write(&self.bytes).map_err(|_| DriveError::Write)?;
+        output.write(&self.bytes)?;
         self.bytes.clear();
         Ok(())
     }

@@ -1,12 +1,12 @@
 //! What the lines of an input are run on.
-ghost use Rattle.std.specs.Prelude.{◌≡◌, ◌<◌, ◌-◌, ◌^◌, ◌⊎◌, None, option_map, IfOk, IfErr, IsTrue};
+ghost use Rattle.std.specs.Prelude.{◌≡◌, ◌<◌, ◌-◌, ◌^◌, ◌⊎◌, None, option_map, IfOk, IfSome};
+ghost use Rattle.std.specs.Prelude.{IsErrOf, IsSomeAnd, IsTrue};
+ghost use Rattle.std.specs.Option.{option_copied};
 ghost use Rattle.vb_command.specs.Machine.{empty_slots};
 ghost use Rattle.vb_command.specs.Reading.{asks_memory, reading};
 ghost use Rattle.vb_command.specs.Views.{reply};
-ghost use Rattle.vb_script.specs.DriveError.{IfMemory, IfUnreadable, IsOfLine};
-ghost use Rattle.vb_script.specs.Session.{Serves};
+ghost use Rattle.vb_script.specs.Session.{Answers, reading_any};
 
-use crate::error::DriveError;
 use std::alloc::Allocator;
 use vb_command::{Answer, Unread, command_of};
 use vb_pool::Pool;
@@ -29,25 +29,31 @@ impl<A: Allocator + Clone> Session<A> {
         }
     }
 
-    /// Reads the line of this number, carries out its command and answers it; a line that asks for
-    /// nothing has no answer. The line comes without its line feed.
-    pub fn serve(&mut self, line: &[u8], number: u64) -> Result<Option<Answer<A>>, DriveError>
-        ensures ok { IfOk result (λ answer. Serves (reading line.now)
+    /// Reads the line of this number, if there is one, carries out its command and answers it; a
+    /// line that asks for nothing has no answer. The line comes without its line feed.
+    ///
+    /// Refused by `Unreadable`, where the line is no command or its number is 18446744073709551615,
+    /// and by `Memory`, where that is refused to read it. Then nothing changes.
+    pub fn answer(&mut self, line: Option<&[u8]>, number: u64) -> Result<Option<Answer<A>>, Unread>
+        ensures ok { IfOk result (λ answer. Answers (reading_any (option_copied line.entry))
             self.old.pool (option_map reply answer) self.new.pool) }
-        ensures numbered { IfOk result (λ _. number < 2 ^ 64 - 1) }
-        ensures unreadable { IfUnreadable result (λ n. (n ≡ number)
-            × ((number ≡ 2 ^ 64 - 1) ⊎ (reading line.now ≡ None))) }
-        ensures memory { IfMemory result (IsTrue (asks_memory (reading line.now))) }
-        ensures of_line { IfErr result IsOfLine }
+        ensures numbered { IfOk result (λ _.
+            IfSome (option_copied line.entry) (λ _. number < 2 ^ 64 - 1)) }
+        ensures unreadable { IsErrOf result Unread.Unreadable →
+            IsSomeAnd (option_copied line.entry)
+            (λ bytes. (number ≡ 2 ^ 64 - 1) ⊎ (reading bytes ≡ None)) }
+        ensures memory { IsErrOf result Unread.Memory →
+            IsSomeAnd (option_copied line.entry) (λ bytes. IsTrue (asks_memory (reading bytes))) }
     {
+        let Some(line) = line else {
+            return Ok(None);
+        };
         if number == u64::MAX {
-            return Err(DriveError::Unreadable { line: number });
+            return Err(Unread::Unreadable);
         }
-        match command_of(&self.alloc, line) {
-            Ok(Some(command)) => Ok(Some(self.pool.serve_owned(&self.alloc, command))),
-            Ok(None) => Ok(None),
-            Err(Unread::Unreadable) => Err(DriveError::Unreadable { line: number }),
-            Err(Unread::Memory) => Err(DriveError::Memory),
+        match command_of(&self.alloc, line)? {
+            Some(command) => Ok(Some(self.pool.serve_owned(&self.alloc, command))),
+            None => Ok(None),
         }
     }
 }

@@ -9,7 +9,10 @@ pub returns-in_err-session-clause-ends : goal.returns-in_err-session-clause-ends
 returns-in_err-session-clause-ends g c =
     let memory : c.in_err-session.field-0.0 ≡ Memory = search rules in
     let p = err_from_is_err_and c.from_residual.result c.from_residual.ensures.1 in
-    rw (p.1, p.2, memory) (IfSome-known _ _ (λ input e. SessionEnds-none input (g.R.Source.remaining c.args.input.now) (g.W.Sink.contents c.args.output.now) e))
+    rw (p.1, p.2, memory) (IfSome-known _ _ (λ input e.
+    SessionEnds-none input (g.R.Source.remaining c.args.input.now)
+    (g.W.Sink.contents c.args.output.now) e))
 
 pub returns-in_err-session-clause-ran : goal.returns-in_err-session-clause-ran
-returns-in_err-session-clause-ran g c = UnlessWrite-anyway c.from_residual.result _ (AnswersRun-none (g.W.Sink.contents c.args.output.now))
+returns-in_err-session-clause-ran g c = UnlessWrite-anyway c.from_residual.result _
+    (AnswersRun-none (g.W.Sink.contents c.args.output.now))

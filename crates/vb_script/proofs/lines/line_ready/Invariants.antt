@@ -5,8 +5,10 @@ use Rattle.vb_script.proofs.lines.line_ready.Given as goal
 -- no byte is lost on the way in or out, and no call has failed
 abbrev pub invariant-loop-at : goal.invariant-loop-at
 invariant-loop-at g l = record {
-  kept : Keeps (prepend_known l.fn.feed (g.R.Source.remaining l.fn.input)) (prepend_known l.feed (g.R.Source.remaining l.input));
-  told : Keeps (append_known (g.W.Sink.contents l.fn.output) l.fn.out) (append_known (g.W.Sink.contents l.output) l.out);
+  kept : Keeps (prepend_known l.fn.feed (g.R.Source.remaining l.fn.input))
+      (prepend_known l.feed (g.R.Source.remaining l.input));
+  told : Keeps (append_known (g.W.Sink.contents l.fn.output) l.fn.out)
+      (append_known (g.W.Sink.contents l.output) l.out);
   reads : g.R.Source.faults l.input ≡ g.R.Source.faults l.fn.input;
   writes : g.W.Sink.faults l.output ≡ g.W.Sink.faults l.fn.output;
 }

@@ -11,11 +11,14 @@ loop-start-preserved g c =
     let l = c.loop-start in
     let n = c.min.result in
     let bits = c.args.bits.now in
-    let text : flat_map digit_of (take (l.start + n) bits) ≡ flat_map digit_of (take l.start bits) ++ flat_map digit_of (take n (drop l.start bits)) =
-    ap (flat_map digit_of) (take-add l.start n bits) ∙ flat_map-append digit_of (take l.start bits) (take n (drop l.start bits)) in
+    let text : flat_map digit_of (take (l.start + n) bits) ≡ flat_map digit_of
+    (take l.start bits) ++ flat_map digit_of (take n (drop l.start bits)) =
+    ap (flat_map digit_of) (take-add l.start n bits) ∙ flat_map-append digit_of (take l.start bits)
+    (take n (drop l.start bits)) in
     let size : l.start + n - l.start ≡ n = omega arith in
     record {
       within = omega arith;
-      told = rw text (Appends-trans _ _ _ _ _ l.invariant.told (rw size at c.in_ok-put_block.ensures.told));
+      told = rw text (Appends-trans _ _ _ _ _ l.invariant.told
+          (rw size at c.in_ok-put_block.ensures.told));
       writes = search rules;
     }

@@ -8,7 +8,8 @@ use Rattle.vb_script.proofs.outbox.Outbox.put_bits.Given as goal
 abbrev pub invariant-loop-start : goal.invariant-loop-start
 invariant-loop-start g l = record {
   within : l.start ≤ length l.bits;
-  told : Appends (append_known (g.W.Sink.contents l.fn.output) l.fn.self) (append_known (g.W.Sink.contents l.output) l.self) (flat_map digit_of (take l.start l.bits));
+  told : Appends (append_known (g.W.Sink.contents l.fn.output) l.fn.self)
+      (append_known (g.W.Sink.contents l.output) l.self) (flat_map digit_of (take l.start l.bits));
   writes : g.W.Sink.faults l.output ≡ g.W.Sink.faults l.fn.output;
 }
 

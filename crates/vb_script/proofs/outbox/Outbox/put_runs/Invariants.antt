@@ -7,6 +7,8 @@ use Rattle.vb_script.proofs.outbox.Outbox.put_runs.Given as goal
 -- the runs behind the first one so far were added, each after a comma, and no write has failed
 abbrev pub invariant-loop-run : goal.invariant-loop-run
 invariant-loop-run g l = record {
-  told : Appends (append_known (g.W.Sink.contents l.initial.output) l.initial.self) (append_known (g.W.Sink.contents l.output) l.self) (flat_map (λ x. codes "," ++ run_text x) (take l.run-index l.rest));
+  told : Appends (append_known (g.W.Sink.contents l.initial.output) l.initial.self)
+      (append_known (g.W.Sink.contents l.output) l.self)
+      (flat_map (λ x. codes "," ++ run_text x) (take l.run-index l.rest));
   writes : g.W.Sink.faults l.output ≡ g.W.Sink.faults l.initial.output;
 }
