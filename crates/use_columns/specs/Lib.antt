@@ -1,2 +1,4 @@
 pub mod Columns
 pub mod Decoded
+pub mod Page
+pub mod Rows

@@ -1,5 +1,5 @@
 //! Answers known from outside, with ample memory and with each request refused in turn.
-use crate::{Run, decode_dictionary, decode_runs, masked_sum};
+use crate::{PageError, Run, decode_dictionary, decode_runs, masked_sum, read_page};
 use std::alloc::Allocator;
 use std::process::Abort;
 use std::test::Fail;
@@ -45,4 +45,36 @@ fn the_first_unknown_code_is_told(rt: HostRuntime) {
         answer.err(),
         Some(BufferError::IndexOutOfRange { index: 3, len: 2 })
     );
+}
+
+/// A page of three rows, of which the second is null.
+const PAGE: &[u8] = b"\x03\xFD\x09\0\0\0\x07\0\0\0\0\x01\0\0";
+
+/// Reads the page, and asks for its nulls, its sum and its ends.
+fn page_is_answered<A: Allocator + Clone>(rt: &impl Abort, alloc: A) -> Result<(), PageError> {
+    let column = read_page(&Buffer::copy_from(alloc, PAGE)?)?;
+    assert_eq!(rt; (column.len(), column.null_count()), (3, 1));
+    let few = column.len() < 4_294_967_296;
+    assert!(rt; few);
+    assert_eq!(rt; (column.sum(), column.min_max()), (265, Some((9, 256))));
+    Ok(())
+}
+
+#[test]
+fn a_page_is_read_or_refused(rt: HostRuntime) -> Result<(), Fail> {
+    let refused = PageError::Buffer(BufferError::OutOfMemory);
+    let requests = each_refused(rt.alloc(), |heap| {
+        answers_refusal(heap, page_is_answered(&rt, Handle { inner: heap }), refused)
+    })?;
+    assert!(rt; requests >= Some(2));
+    Ok(())
+}
+
+#[test]
+fn a_page_of_another_length_is_refused(rt: HostRuntime) -> Result<(), Fail> {
+    for end in 0..PAGE.len() {
+        let page = Buffer::copy_from(rt.alloc(), &PAGE[..end])?;
+        assert_eq!(rt; read_page(&page).err(), Some(PageError::Length));
+    }
+    Ok(())
 }

@@ -1,0 +1,48 @@
+//! A column, read from a page of a file.
+ghost use Rattle.std.specs.Prelude.{◌≡◌, IfOk, IfErr};
+ghost use Rattle.use_columns.specs.Page.{IsPage, IsNoPageOrMemory};
+
+use crate::column::Column;
+use std::alloc::Allocator;
+use vortex_buffer::{BitBuffer, Buffer, BufferError, ByteBuffer};
+
+/// Why a page can't be read.
+#[derive(Clone, Copy, Debug, PartialEq, Eq)]
+pub enum PageError {
+    /// The page hasn't the bytes that its number of rows asks for.
+    Length,
+    /// Memory was refused.
+    Buffer(BufferError),
+}
+
+impl From<BufferError> for PageError {
+    ghost use Rattle.use_columns.specs.declared.page.PageError.TheVariants.{Buffer};
+
+    ghost from_gives = { λ error read. read ≡ Buffer error };
+
+    fn from(error: BufferError) -> PageError {
+        PageError::Buffer(error)
+    }
+}
+
+/// The column of a page: the number of rows in one byte, then the mask, then the values in four
+/// bytes each. The mask shares the page's storage, and the values are copied. Refused with `Length`
+/// exactly where the page has too few or too many bytes, and else with `Buffer` of `OutOfMemory`.
+pub fn read_page<A: Allocator + Clone>(page: &ByteBuffer<A>) -> Result<Column<A>, PageError>
+    ensures ok { IfOk result (IsPage page.now.list) }
+    ensures err { IfErr result (IsNoPageOrMemory page.now.list) }
+{
+    let Some(first) = page.as_slice().first() else {
+        return Err(PageError::Length);
+    };
+    let rows = usize::from(*first);
+    let start = 1 + rows.div_ceil(8);
+    if page.len() != start + 4 * rows {
+        return Err(PageError::Length);
+    }
+    let bytes = page.slice_unaligned(start..page.len())?;
+    let mask = page.clone()?;
+    let valid = BitBuffer::new_with_offset(mask, rows, 8);
+    let values = Buffer::from_byte_buffer(bytes)?;
+    Ok(Column::new(values, valid))
+}
