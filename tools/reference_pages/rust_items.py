@@ -195,6 +195,7 @@ class Parser:
             "type": self.to_semicolon,
             "const": self.to_semicolon,
             "static": self.to_semicolon,
+            "macro_rules": self.macro,
         }
         self.modifiers()
         item.kind = self.peek()
@@ -217,6 +218,12 @@ class Parser:
         self.skip_to(";")
         item.head = (item.start, self.end_of_last())
         self.i += 1
+
+    def macro(self, item: Item) -> None:
+        self.expect("!")
+        item.name = self.take_word()
+        item.head = (item.start, self.end_of_last())
+        self.i = skip_group(self.all, self.i)
 
     def module(self, item: Item) -> None:
         item.name = self.take_word()

@@ -8,6 +8,7 @@ from documents.files import Repository
 from documents.lists import lists
 from documents.picture import dependencies, levels, picture, reduced
 from documents.texts import links, names, stale
+from documents.widths import widths
 
 CRATES = "# NAME:\nlow:\nmiddle: low thiserror\nvortex_buffer: low middle\nlow_tests: low\n"
 FILES = {
@@ -128,6 +129,15 @@ class Checked(unittest.TestCase):
                            ("2026-05-03", "a date"), ("751 edits", "a count of edits")):
             found = stale(self.repository(LOW_dot_md=("It takes", f"It {text} takes")))
             self.assertEqual([it.split(": ")[1] for it in found], [what], text)
+
+    def test_lines_that_are_too_wide(self):
+        wide = "-- " + "≡" * 98
+        just = wide[:-1]
+        repository = self.repository(F_dot_antt=("-- f", just))
+        self.assertEqual(widths(repository), [])
+        found = widths(self.repository(F_dot_antt=("-- f", wide)))
+        wanted = "crates/use_low/specs/F.antt:1: 101 columns, where 100 are the most"
+        self.assertEqual(found, [wanted])
 
 
 if __name__ == "__main__":

@@ -48,6 +48,11 @@ class Items(unittest.TestCase):
         self.assertEqual([it.name for it in enum.items], ["A", "B", "C"])
         self.assertEqual(enum.items[2].items[0].docs, "N.")
 
+    def test_a_macro_is_an_item(self):
+        macro, it = items_of("/// Lends.\nmacro_rules! lend {\n    ($a:expr) => { &$a };\n}\nfn f() {}\n")
+        self.assertEqual((macro.kind, macro.name, macro.docs), ("macro_rules", "lend", "Lends."))
+        self.assertEqual(it.name, "f")
+
     def test_what_is_no_item_is_told_with_its_line(self):
         with self.assertRaisesRegex(SourceError, "a.rt:2: expected an item"):
             items_of("fn f() {}\nbanana\n")

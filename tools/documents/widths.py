@@ -1,0 +1,20 @@
+"""Lines of the crates that are too wide to be read beside another file."""
+from documents.files import Repository
+
+WIDEST = 100
+FOLDERS = {"src", "specs", "proofs"}
+
+
+def widths(repository: Repository) -> list[str]:
+    """The lines of src/, specs/ and proofs/ of the crates that have more than 100 columns."""
+    found = []
+    for path, text in sorted(repository.code.items()):
+        top, _, below = path.partition("/")
+        folder = below.split("/")[1] if below.count("/") > 1 else ""
+        if top == "crates" and folder in FOLDERS:
+            found += [
+                f"{path}:{n}: {len(line)} columns, where {WIDEST} are the most"
+                for n, line in enumerate(text.split("\n"), 1)
+                if len(line) > WIDEST
+            ]
+    return found
