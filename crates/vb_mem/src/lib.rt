@@ -14,9 +14,8 @@ mod iter;
 pub use buffer::Buffer;
 pub use buffer_mut::BufferMut;
 pub use iter::{BufferIterator, Iter};
-pub use vb_core::Result;
-
 use std::alloc::Global;
+pub use vb_core::Result;
 
 /// A buffer of bytes.
 pub type ByteBuffer<A = Global> = Buffer<u8, A>;
