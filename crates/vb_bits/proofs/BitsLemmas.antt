@@ -1,8 +1,12 @@
 -- Windows of bits, counts of them, and the place that a rank selects.
-use Rattle.std.proofs.Common.{◌≡◌, ℕ, ◌+◌, ◌<◌, ◌≤◌, Bool, true, false, not, cond, List, [], ◌∷◌, ◌++◌, length, get_or, take, drop, Option, Some, None, refl, sym, ap, ◌∙◌, arith, ⊎_elim}
+use Rattle.std.proofs.Common.{◌≡◌, ℕ, ◌+◌, ◌<◌, ◌≤◌, Bool, true, false, not, cond, List, [], ◌∷◌}
+use Rattle.std.proofs.Common.{◌++◌, length, get_or, take, drop, Option, Some, None, refl, sym, ap}
+use Rattle.std.proofs.Common.{◌∙◌, arith, ⊎_elim}
 use Rattle.std.proofs.lemmas.List.{length-map, same_lists, take-take, take-map, get_or-map, drop_at}
-use Rattle.std.proofs.lemmas.List.FromFn.{length-map-range_with_len, get_or-map-range_with_len, take-map-range_with_len, map-range_with_len_more}
-use Rattle.std.proofs.lemmas.List.Sums.{sum_by-append, sum_by_push, sum_by-cons, sum_by-take-le, count_by-le-length, count_by_more_yes}
+use Rattle.std.proofs.lemmas.List.FromFn.{length-map-range_with_len, get_or-map-range_with_len}
+use Rattle.std.proofs.lemmas.List.FromFn.{take-map-range_with_len, map-range_with_len_more}
+use Rattle.std.proofs.lemmas.List.Sums.{sum_by-append, sum_by_push, sum_by-cons, sum_by-take-le}
+use Rattle.std.proofs.lemmas.List.Sums.{count_by-le-length, count_by_more_yes}
 use Rattle.std.proofs.lemmas.Bool.{cases_order, cond_both, cond-true, cond-false}
 use Rattle.vb_bits.specs.Bits.{bit_of, bits, at, count, negated, Selects, AnswersEach}
 use Rattle.vb_bits.proofs.RangeLemmas.{map-range_with_len-add, same_map-range_with_len}
@@ -14,7 +18,8 @@ unfolding bits
 length-bits b o n = length-map-range_with_len (bit_of b) o n
 
 -- a bit of a window is a bit of its bytes
-pub at-bits : (b : List ℕ) (o n i : ℕ) (d : Bool) → i < n → get_or (bits b o n) i d ≡ bit_of b (o + i)
+pub at-bits : (b : List ℕ) (o n i : ℕ) (d : Bool)
+    → i < n → get_or (bits b o n) i d ≡ bit_of b (o + i)
 unfolding bits
 at-bits b o n i d h = get_or-map-range_with_len (bit_of b) o n i (o + i) d h refl
 
@@ -40,10 +45,12 @@ bits-add b o m n = map-range_with_len-add (bit_of b) o m n
 
 -- the end of a window
 pub drop-bits : (b : List ℕ) (o m n : ℕ) → drop m (bits b o (m + n)) ≡ bits b (o + m) n
-drop-bits b o m n = ap (drop m) (bits-add b o m n) ∙ drop_at (bits b o m) (bits b (o + m) n) m (length-bits b o m)
+drop-bits b o m n =
+    ap (drop m) (bits-add b o m n) ∙ drop_at (bits b o m) (bits b (o + m) n) m (length-bits b o m)
 
 -- two windows with the same bits are the same list, wherever they lie
-pub same_bits : (b c : List ℕ) (o p n : ℕ) → ((i : ℕ) → i < n → bit_of b (o + i) ≡ bit_of c (p + i)) → bits b o n ≡ bits c p n
+pub same_bits : (b c : List ℕ) (o p n : ℕ)
+    → ((i : ℕ) → i < n → bit_of b (o + i) ≡ bit_of c (p + i)) → bits b o n ≡ bits c p n
 unfolding bits
 same_bits b c o p n h = same_map-range_with_len (bit_of b) (bit_of c) o p n h
 
@@ -69,11 +76,13 @@ pub count-take-mono : (l : List Bool) (i j : ℕ) → i ≤ j → count (take i 
 count-take-mono l i j h = rw (← take-take i j l h) (count-take-le i (take j l))
 
 -- a front that is lengthened by a true value
-pub count-take_more : (l : List Bool) (i : ℕ) → i < length l → at l i ≡ true → count (take (i + 1) l) ≡ count (take i l) + 1
+pub count-take_more : (l : List Bool) (i : ℕ)
+    → i < length l → at l i ≡ true → count (take (i + 1) l) ≡ count (take i l) + 1
 count-take_more l i h t = count_by_more_yes (λ b. b) l i false h t
 
 -- the rank of a true place is below the count
-pub count-take-lt : (l : List Bool) (i : ℕ) → i < length l → at l i ≡ true → count (take i l) < count l
+pub count-take-lt : (l : List Bool) (i : ℕ)
+    → i < length l → at l i ≡ true → count (take i l) < count l
 count-take-lt l i h t = omega (arith, count-take_more l i h t, count-take-le (i + 1) l)
 
 -- ---- values negated
@@ -88,8 +97,10 @@ take-negated l i = take-map not i l
 -- the true and the false values are all values
 pub count-negated : (l : List Bool) → count (negated l) + count l ≡ length l
 count-negated [] = refl
-count-negated (true ∷ l) = rw (count-cons true l, count-cons false (negated l)) (omega (arith, count-negated l))
-count-negated (false ∷ l) = rw (count-cons false l, count-cons true (negated l)) (omega (arith, count-negated l))
+count-negated (true ∷ l) =
+    rw (count-cons true l, count-cons false (negated l)) (omega (arith, count-negated l))
+count-negated (false ∷ l) =
+    rw (count-cons false l, count-cons true (negated l)) (omega (arith, count-negated l))
 
 -- ---- counts of windows
 -- the count of a window of no bits
@@ -97,11 +108,14 @@ pub count-bits_none : (b : List ℕ) (o : ℕ) → count (bits b o 0) ≡ 0
 count-bits_none b o = ap count (bits_none b o)
 
 -- the count of a window that is longer by one bit
-pub count-bits_more : (b : List ℕ) (o n : ℕ) → count (bits b o (n + 1)) ≡ count (bits b o n) + cond (bit_of b (o + n)) 1 0
-count-bits_more b o n = ap count (bits_more b o n) ∙ sum_by_push (λ b. cond b 1 0) (bits b o n) (bit_of b (o + n))
+pub count-bits_more : (b : List ℕ) (o n : ℕ)
+    → count (bits b o (n + 1)) ≡ count (bits b o n) + cond (bit_of b (o + n)) 1 0
+count-bits_more b o n =
+    ap count (bits_more b o n) ∙ sum_by_push (λ b. cond b 1 0) (bits b o n) (bit_of b (o + n))
 
 -- the count of a window cut in two
-pub count-bits-add : (b : List ℕ) (o m n : ℕ) → count (bits b o (m + n)) ≡ count (bits b o m) + count (bits b (o + m) n)
+pub count-bits-add : (b : List ℕ) (o m n : ℕ)
+    → count (bits b o (m + n)) ≡ count (bits b o m) + count (bits b (o + m) n)
 count-bits-add b o m n = ap count (bits-add b o m n) ∙ count-append (bits b o m) (bits b (o + m) n)
 
 -- no window counts more than its length
@@ -113,21 +127,29 @@ pub count-negated_none : (b : List ℕ) (o : ℕ) → count (negated (bits b o 0
 count-negated_none b o = ap (λ l. count (negated l)) (bits_none b o)
 
 -- the false bits of a window that is longer by one bit
-pub count-negated_more : (b : List ℕ) (o n : ℕ) → count (negated (bits b o (n + 1))) ≡ count (negated (bits b o n)) + cond (bit_of b (o + n)) 0 1
+pub count-negated_more : (b : List ℕ) (o n : ℕ) → count (negated (bits b o (n + 1)))
+    ≡ count (negated (bits b o n)) + cond (bit_of b (o + n)) 0 1
 count-negated_more b o n =
-    let longer = count-negated (bits b o (n + 1)) in let shorter = count-negated (bits b o n) in let more = count-bits_more b o n in
+    let longer = count-negated (bits b o (n + 1)) in
+    let shorter = count-negated (bits b o n) in
+    let more = count-bits_more b o n in
     let m = length-bits b o (n + 1) in let k = length-bits b o n in
-    cond_both (bit_of b (o + n)) 0 1 (λ x. count (negated (bits b o (n + 1))) ≡ count (negated (bits b o n)) + x)
-    (λ t. let one : cond (bit_of b (o + n)) 1 0 ≡ 1 = cond-true {A = ℕ} (bit_of b (o + n)) 1 0 t in omega arith)
-    (λ t. let none : cond (bit_of b (o + n)) 1 0 ≡ 0 = cond-false {A = ℕ} (bit_of b (o + n)) 1 0 t in omega arith)
+    cond_both (bit_of b (o + n)) 0 1
+    (λ x. count (negated (bits b o (n + 1))) ≡ count (negated (bits b o n)) + x)
+    (λ t. let one : cond (bit_of b (o + n)) 1 0 ≡ 1 =
+    cond-true {A = ℕ} (bit_of b (o + n)) 1 0 t in omega arith)
+    (λ t. let none : cond (bit_of b (o + n)) 1 0 ≡ 0 =
+    cond-false {A = ℕ} (bit_of b (o + n)) 1 0 t in omega arith)
 
 -- ---- the place that a rank selects
 -- two true places of one rank are one place
-pub same_place : (l : List Bool) (i j : ℕ) → i < length l → at l i ≡ true → j < length l → at l j ≡ true → count (take i l) ≡ count (take j l) → i ≡ j
+pub same_place : (l : List Bool) (i j : ℕ) → i < length l
+    → at l i ≡ true → j < length l → at l j ≡ true → count (take i l) ≡ count (take j l) → i ≡ j
 same_place l i j hi ti hj tj e =
     ⊎_elim (λ same. same) (λ other. absurd (⊎_elim
     (λ less. omega (arith, count-take_more l i hi ti, count-take-mono l (i + 1) j (omega arith)))
-    (λ more. omega (arith, count-take_more l j hj tj, count-take-mono l (j + 1) i (omega arith))) other)) (cases_order i j)
+    (λ more. omega (arith, count-take_more l j hj tj, count-take-mono l (j + 1) i (omega arith)))
+    other)) (cases_order i j)
 
 -- what selects a rank is the answer at each place of that rank
 pub Selects-AnswersEach : (l : List Bool) (n : ℕ) (r : Option ℕ) → Selects l n r → AnswersEach l n r
@@ -136,4 +158,16 @@ Selects-AnswersEach l n (Some p) s i h t e = ap Some (same_place l p i s.0 s.1 h
 
 -- ---- for `#[tactic(auto, using(..))]`
 -- loops over the bits of a window
-pub ruleset windows = (count-bits_none, count-bits_more, count-bits-le, length-bits, at-bits, take-bits, count-negated_more, count-negated_none, at-negated, take-negated, length-map)
+pub ruleset windows = (
+  count-bits_none,
+  count-bits_more,
+  count-bits-le,
+  length-bits,
+  at-bits,
+  take-bits,
+  count-negated_more,
+  count-negated_none,
+  at-negated,
+  take-negated,
+  length-map,
+)

@@ -1,5 +1,6 @@
 -- The bits of bytes that were read.
-use Rattle.std.proofs.Common.{◌≡◌, ℕ, zero, suc, ◌+◌, ◌-◌, ◌*◌, ◌/◌, ◌%◌, ◌^◌, ◌<◌, ◌≤◌, List, [], ◌∷◌, get_or, take, drop, refl, sym, ap, ◌∙◌, arith, zero-add}
+use Rattle.std.proofs.Common.{◌≡◌, ℕ, zero, suc, ◌+◌, ◌-◌, ◌*◌, ◌/◌, ◌%◌, ◌^◌, ◌<◌, ◌≤◌, List, []}
+use Rattle.std.proofs.Common.{◌∷◌, get_or, take, drop, refl, sym, ap, ◌∙◌, arith, zero-add}
 use Rattle.std.specs.Prelude.{slice_range}
 use Rattle.std.specs.Int.{to_le_bytes, w64, bytes_low_first, byte_at}
 use Rattle.std.proofs.lemmas.List.{get_or-drop, get_or-take}
@@ -12,7 +13,8 @@ use Rattle.vb_bits.proofs.RangeLemmas.{same_map-range_with_len}
 use Rattle.vb_bits.proofs.DigitsLemmas.{has_bit_part}
 
 -- a window whose bits are the digits of a number
-pub bits-digits : (b : List ℕ) (o w a n : ℕ) → ((i : ℕ) → i < n → bit_of b (o + i) ≡ has_bit w (a + i)) → bits b o n ≡ digits w a n
+pub bits-digits : (b : List ℕ) (o w a n : ℕ)
+    → ((i : ℕ) → i < n → bit_of b (o + i) ≡ has_bit w (a + i)) → bits b o n ≡ digits w a n
 unfolding bits digits
 bits-digits b o w a n h = same_map-range_with_len (bit_of b) (has_bit w) o a n h
 
@@ -26,18 +28,22 @@ bits_of_byte x a n within =
     ap (λ j. has_bit (get_or (x ∷ []) j 0) ((a + i) % 8)) byte ∙ ap (has_bit x) place)
 
 -- bits of a byte that was read
-pub bits_of_read_byte : (b : List ℕ) (x o n : ℕ) → x ≡ get_or b (o / 8) 0 → o % 8 + n ≤ 8 → bits (x ∷ []) (o % 8) n ≡ bits b o n
+pub bits_of_read_byte : (b : List ℕ) (x o n : ℕ)
+    → x ≡ get_or b (o / 8) 0 → o % 8 + n ≤ 8 → bits (x ∷ []) (o % 8) n ≡ bits b o n
 bits_of_read_byte b x o n read within =
     same_bits (x ∷ []) b (o % 8) o n
     (λ i h.
     let alone : (o % 8 + i) / 8 ≡ 0 = omega arith in
     let byte : (o + i) / 8 ≡ o / 8 = omega arith in
     let place : (o + i) % 8 ≡ (o % 8 + i) % 8 = omega arith in
-    ap (λ j. has_bit (get_or (x ∷ []) j 0) ((o % 8 + i) % 8)) alone ∙ ap (λ y. has_bit y ((o % 8 + i) % 8)) read
-    ∙ sym (ap (λ j. has_bit (get_or b j 0) ((o + i) % 8)) byte ∙ ap (has_bit (get_or b (o / 8) 0)) place))
+    ap (λ j. has_bit (get_or (x ∷ []) j 0) ((o % 8 + i) % 8)) alone
+    ∙ ap (λ y. has_bit y ((o % 8 + i) % 8)) read
+    ∙ sym (ap (λ j. has_bit (get_or b j 0) ((o + i) % 8)) byte
+    ∙ ap (has_bit (get_or b (o / 8) 0)) place))
 
 -- a run of bytes as a list of its own
-pub bits-slice_range : (b : List ℕ) (a m : ℕ) → bits (slice_range b a (a + m)) 0 (8 * m) ≡ bits b (8 * a) (8 * m)
+pub bits-slice_range : (b : List ℕ) (a m : ℕ)
+    → bits (slice_range b a (a + m)) 0 (8 * m) ≡ bits b (8 * a) (8 * m)
 bits-slice_range b a m =
     let long : a + m - a ≡ m = omega arith in
     ap (λ n. bits (take n (drop a b)) 0 (8 * m)) long
@@ -45,21 +51,28 @@ bits-slice_range b a m =
     (λ i h.
     let byte : (8 * a + i) / 8 ≡ a + i / 8 = omega arith in
     let place : (8 * a + i) % 8 ≡ i % 8 = omega arith in
-    ap (bit_of (take m (drop a b))) (zero-add i) ∙ ap (λ x. has_bit x (i % 8)) (get_or-take m (drop a b) (i / 8) 0 (omega arith) ∙ get_or-drop a b (i / 8) 0)
-    ∙ sym (ap (λ j. has_bit (get_or b j 0) ((8 * a + i) % 8)) byte ∙ ap (has_bit (get_or b (a + i / 8) 0)) place))
+    ap (bit_of (take m (drop a b))) (zero-add i) ∙ ap (λ x. has_bit x (i % 8))
+    (get_or-take m (drop a b) (i / 8) 0 (omega arith) ∙ get_or-drop a b (i / 8) 0)
+    ∙ sym (ap (λ j. has_bit (get_or b j 0) ((8 * a + i) % 8)) byte
+    ∙ ap (has_bit (get_or b (a + i / 8) 0)) place))
 
 -- bits of bytes that were read, from a source that stayed as it was
-pub bits_of_read : (b c xs : List ℕ) (a m o : ℕ) → c ≡ b → xs ≡ slice_range c a (a + m) → o ≡ 8 * a → bits xs 0 (8 * m) ≡ bits b o (8 * m)
+pub bits_of_read : (b c xs : List ℕ) (a m o : ℕ)
+    → c ≡ b → xs ≡ slice_range c a (a + m) → o ≡ 8 * a → bits xs 0 (8 * m) ≡ bits b o (8 * m)
 bits_of_read b c xs a m o same read at =
-    ap (λ l. bits l 0 (8 * m)) read ∙ bits-slice_range c a m ∙ ap (λ l. bits l (8 * a) (8 * m)) same ∙ ap (λ x. bits b x (8 * m)) (sym at)
+    ap (λ l. bits l 0 (8 * m)) read ∙ bits-slice_range c a m
+    ∙ ap (λ l. bits l (8 * a) (8 * m)) same ∙ ap (λ x. bits b x (8 * m)) (sym at)
 
 -- ---- the bytes of a word
 -- byte j of those that begin at byte a of a number
-get_or-bytes_low_first : (a k n j : ℕ) → j < k → get_or (bytes_low_first a k n) j 0 ≡ byte_at (a + j) n
+get_or-bytes_low_first : (a k n j : ℕ)
+    → j < k → get_or (bytes_low_first a k n) j 0 ≡ byte_at (a + j) n
 get_or-bytes_low_first a zero n j h = absurd (omega arith)
-get_or-bytes_low_first a (suc k) n zero h = let z : a + 0 ≡ a = omega arith in ap (λ x. byte_at x n) (sym z)
+get_or-bytes_low_first a (suc k) n zero h = let z : a + 0 ≡ a = omega arith in
+    ap (λ x. byte_at x n) (sym z)
 get_or-bytes_low_first a (suc k) n (suc j) h =
-    let z : suc a + j ≡ a + suc j = omega arith in get_or-bytes_low_first (suc a) k n j (omega arith) ∙ ap (λ x. byte_at x n) z
+    let z : suc a + j ≡ a + suc j = omega arith in
+    get_or-bytes_low_first (suc a) k n j (omega arith) ∙ ap (λ x. byte_at x n) z
 
 -- a power of 256 is one of 2
 pow_256 : (k : ℕ) → 256 ^ k ≡ 2 ^ (8 * k)
@@ -73,15 +86,19 @@ byte_at_part zero n = ap (λ x. x % 256) (sym (div-one n))
 byte_at_part (suc j) n = ap (λ x. n / x % 256) (pow_256 (suc j))
 
 -- byte j of a word
-pub get_or-to_le_bytes : (w j : ℕ) → j < 8 → get_or (to_le_bytes w64 w) j 0 ≡ w / 2 ^ (8 * j) % 2 ^ 8
-get_or-to_le_bytes w j h = get_or-bytes_low_first 0 8 w j h ∙ ap (λ x. byte_at x w) (zero-add j) ∙ byte_at_part j w
+pub get_or-to_le_bytes : (w j : ℕ)
+    → j < 8 → get_or (to_le_bytes w64 w) j 0 ≡ w / 2 ^ (8 * j) % 2 ^ 8
+get_or-to_le_bytes w j h =
+    get_or-bytes_low_first 0 8 w j h ∙ ap (λ x. byte_at x w) (zero-add j) ∙ byte_at_part j w
 
 -- a bit of a word's bytes is a digit of the word
 pub bit_of-to_le_bytes : (w i : ℕ) → i < 64 → bit_of (to_le_bytes w64 w) i ≡ has_bit w i
 bit_of-to_le_bytes w i h =
     let e : 8 * (i / 8) + i % 8 ≡ i = omega arith in
-    ap (λ x. has_bit x (i % 8)) (get_or-to_le_bytes w (i / 8) (omega arith)) ∙ has_bit_part w (8 * (i / 8)) 8 (i % 8) (omega arith) ∙ ap (has_bit w) e
+    ap (λ x. has_bit x (i % 8)) (get_or-to_le_bytes w (i / 8) (omega arith))
+    ∙ has_bit_part w (8 * (i / 8)) 8 (i % 8) (omega arith) ∙ ap (has_bit w) e
 
 -- the bits of a word's bytes are its digits
 pub bits-to_le_bytes : (w a n : ℕ) → a + n ≤ 64 → bits (to_le_bytes w64 w) a n ≡ digits w a n
-bits-to_le_bytes w a n within = bits-digits (to_le_bytes w64 w) a w a n (λ i h. bit_of-to_le_bytes w (a + i) (omega arith))
+bits-to_le_bytes w a n within =
+    bits-digits (to_le_bytes w64 w) a w a n (λ i h. bit_of-to_le_bytes w (a + i) (omega arith))

@@ -1,13 +1,17 @@
 -- The digits of a number, and how many of them are set.
-use Rattle.std.proofs.Common.{◌≡◌, ℕ, zero, suc, ◌+◌, ◌-◌, ◌*◌, ◌/◌, ◌%◌, ◌^◌, ◌<◌, ◌≤◌, Bool, not, ◌&&◌, ◌||◌, cond, eqb, max, min, [], ◌∷◌, ◌++◌, length, get_or, refl, sym, ap, ◌∙◌, arith, zero-add}
+use Rattle.std.proofs.Common.{◌≡◌, ℕ, zero, suc, ◌+◌, ◌-◌, ◌*◌, ◌/◌, ◌%◌, ◌^◌, ◌<◌, ◌≤◌, Bool, not}
+use Rattle.std.proofs.Common.{◌&&◌, ◌||◌, cond, eqb, max, min, [], ◌∷◌, ◌++◌, length, get_or, refl}
+use Rattle.std.proofs.Common.{sym, ap, ◌∙◌, arith, zero-add}
 use Rattle.std.specs.Prelude.{count_ones, bit_and, bit_or, bit_xor}
 use Rattle.std.specs.Int.{bit_at, bit_not, Width}
 use mir.Val.{bits as width}
 use Rattle.std.specs.Int.Count.{ones_step}
 use Rattle.std.proofs.lemmas.List.{same_lists, length-map, get_or-map}
 use Rattle.std.proofs.lemmas.List.FromFn.{length-map-range_with_len, get_or-map-range_with_len}
-use Rattle.std.proofs.lemmas.Nat.Bits.{bit_at-suc, bit_at_lowest, bit_at_cat_low, bit_at_and, bit_at_or, bit_at_xor, bit_at_not, bit_at-lt}
-use Rattle.std.proofs.lemmas.Nat.{ones_le_self, shr_split, shr-shr, mod_below, pow_pos, and_mask, one_shl}
+use Rattle.std.proofs.lemmas.Nat.Bits.{bit_at-suc, bit_at_lowest, bit_at_cat_low, bit_at_and}
+use Rattle.std.proofs.lemmas.Nat.Bits.{bit_at_or, bit_at_xor, bit_at_not, bit_at-lt}
+use Rattle.std.proofs.lemmas.Nat.{ones_le_self, shr_split, shr-shr, mod_below, pow_pos, and_mask}
+use Rattle.std.proofs.lemmas.Nat.{one_shl}
 use Rattle.std.proofs.Math.Nat.{pow-suc}
 use Rattle.std.proofs.lemmas.Bool.{cond_both, eqb-true, eqb-false}
 use Rattle.vb_bits.specs.Bits.{count, negated}
@@ -36,7 +40,8 @@ unfolding digits
 digits-add w a m n = map-range_with_len-add (has_bit w) a m n
 
 -- two numbers with the same digits
-pub same_digits : (v w a b k : ℕ) → ((i : ℕ) → i < k → has_bit v (a + i) ≡ has_bit w (b + i)) → digits v a k ≡ digits w b k
+pub same_digits : (v w a b k : ℕ)
+    → ((i : ℕ) → i < k → has_bit v (a + i) ≡ has_bit w (b + i)) → digits v a k ≡ digits w b k
 unfolding digits
 same_digits v w a b k h = same_map-range_with_len (has_bit v) (has_bit w) a b k h
 
@@ -54,21 +59,25 @@ digits-suc w k =
 pub lowest : (w : ℕ) → cond (has_bit w 0) 1 0 ≡ w % 2
 lowest w =
     ap (λ x. cond (eqb x 1) 1 0) (bit_at_lowest w)
-    ∙ cond_both (eqb (w % 2) 1) 1 0 (λ x. x ≡ w % 2) (λ t. omega (arith, eqb-true (w % 2) 1 t)) (λ f. let ne = eqb-false (w % 2) 1 f in omega (arith, ne))
+    ∙ cond_both (eqb (w % 2) 1) 1 0 (λ x. x ≡ w % 2) (λ t. omega (arith, eqb-true (w % 2) 1 t))
+    (λ f. let ne = eqb-false (w % 2) 1 f in omega (arith, ne))
 
 -- all digits of a number
 pub count-digits_below : (w k : ℕ) → w < 2 ^ k → count (digits w 0 k) ≡ count_ones w
-count-digits_below w zero h = let z : w ≡ 0 = omega arith in ap count (digits_none w 0) ∙ omega (arith, ones_le_self w)
+count-digits_below w zero h = let z : w ≡ 0 = omega arith in
+    ap count (digits_none w 0) ∙ omega (arith, ones_le_self w)
 count-digits_below w (suc k) h =
     let small : w / 2 < 2 ^ k = omega (arith, pow-suc 2 k) in
     let rest = count-digits_below (w / 2) k small in
-    ap count (digits-suc w k) ∙ count-cons (has_bit w 0) (digits (w / 2) 0 k) ∙ omega (arith, lowest w, rest, ones_step w)
+    ap count (digits-suc w k)
+    ∙ count-cons (has_bit w 0) (digits (w / 2) 0 k) ∙ omega (arith, lowest w, rest, ones_step w)
 
 -- a digit of a number's part
 pub has_bit_part : (w a k i : ℕ) → i < k → has_bit (w / 2 ^ a % 2 ^ k) i ≡ has_bit w (a + i)
 has_bit_part w a k i h =
     let y : ℕ = w / 2 ^ a in
-    ap (λ z. eqb z 1) (sym (bit_at_cat_low (y / 2 ^ k) k (y % 2 ^ k) i h) ∙ ap (λ z. bit_at z i) (shr_split y k) ∙ ap (λ z. z % 2) (shr-shr w a i))
+    ap (λ z. eqb z 1) (sym (bit_at_cat_low (y / 2 ^ k) k (y % 2 ^ k) i h)
+    ∙ ap (λ z. bit_at z i) (shr_split y k) ∙ ap (λ z. z % 2) (shr-shr w a i))
 
 -- a mask cuts a part out
 pub masked : (w a k : ℕ) → k < 64 → bit_and (w / 2 ^ a) (1 * 2 ^ k % 2 ^ 64 - 1) ≡ w / 2 ^ a % 2 ^ k
@@ -77,31 +86,38 @@ masked w a k h = ap (λ m. bit_and (w / 2 ^ a) (m - 1)) (one_shl k 64 h) ∙ and
 -- some digits of a number are those of its part
 pub digits_part : (w a k : ℕ) → digits (w / 2 ^ a % 2 ^ k) 0 k ≡ digits w a k
 digits_part w a k =
-    same_digits (w / 2 ^ a % 2 ^ k) w 0 a k (λ i h. ap (has_bit (w / 2 ^ a % 2 ^ k)) (zero-add i) ∙ has_bit_part w a k i h)
+    same_digits (w / 2 ^ a % 2 ^ k) w 0 a k
+    (λ i h. ap (has_bit (w / 2 ^ a % 2 ^ k)) (zero-add i) ∙ has_bit_part w a k i h)
 
 -- some digits of a number
 pub count-digits : (w a k : ℕ) → count (digits w a k) ≡ count_ones (w / 2 ^ a % 2 ^ k)
-count-digits w a k = ap count (sym (digits_part w a k)) ∙ count-digits_below (w / 2 ^ a % 2 ^ k) k (mod_below (w / 2 ^ a) (2 ^ k) (pow_pos k))
+count-digits w a k = ap count (sym (digits_part w a k))
+    ∙ count-digits_below (w / 2 ^ a % 2 ^ k) k (mod_below (w / 2 ^ a) (2 ^ k) (pow_pos k))
 
 -- how many are set in digits cut in two
-pub count-digits-add : (w a m n : ℕ) → count (digits w a (m + n)) ≡ count (digits w a m) + count (digits w (a + m) n)
-count-digits-add w a m n = ap count (digits-add w a m n) ∙ count-append (digits w a m) (digits w (a + m) n)
+pub count-digits-add : (w a m n : ℕ)
+    → count (digits w a (m + n)) ≡ count (digits w a m) + count (digits w (a + m) n)
+count-digits-add w a m n =
+    ap count (digits-add w a m n) ∙ count-append (digits w a m) (digits w (a + m) n)
 
 -- how many are set of no digits
 pub count-digits_none : (w a : ℕ) → count (digits w a 0) ≡ 0
 count-digits_none w a = ap count (digits_none w a)
 
 -- a number's digits from a on, with the others masked
-pub digits_masked : (w a k : ℕ) → k < 64 → digits (bit_and (w / 2 ^ a) (1 * 2 ^ k % 2 ^ 64 - 1)) 0 k ≡ digits w a k
+pub digits_masked : (w a k : ℕ)
+    → k < 64 → digits (bit_and (w / 2 ^ a) (1 * 2 ^ k % 2 ^ 64 - 1)) 0 k ≡ digits w a k
 digits_masked w a k h = ap (λ x. digits x 0 k) (masked w a k h) ∙ digits_part w a k
 
 -- how many they are
-pub ones_masked : (w a k : ℕ) → k < 64 → count_ones (bit_and (w / 2 ^ a) (1 * 2 ^ k % 2 ^ 64 - 1)) ≡ count (digits w a k)
+pub ones_masked : (w a k : ℕ)
+    → k < 64 → count_ones (bit_and (w / 2 ^ a) (1 * 2 ^ k % 2 ^ 64 - 1)) ≡ count (digits w a k)
 ones_masked w a k h = ap count_ones (masked w a k h) ∙ sym (count-digits w a k)
 
 -- ---- a number negated
 -- a digit of a number negated
-pub has_bit-bit_not : (v : Width) (w i : ℕ) → w < 2 ^ width v → i < width v → has_bit (bit_not v w) i ≡ not (has_bit w i)
+pub has_bit-bit_not : (v : Width) (w i : ℕ) → w < 2 ^ width v → i < width v
+    → has_bit (bit_not v w) i ≡ not (has_bit w i)
 has_bit-bit_not v w i small h =
     ap (λ x. eqb x 1) (bit_at_not v w i small h) ∙ negated_digit (bit_at w i) (bit_at-lt w i)
   where
@@ -111,18 +127,22 @@ has_bit-bit_not v w i small h =
     negated_digit (suc (suc x)) h = absurd (omega arith)
 
 -- the digits of a number negated
-pub digits-bit_not : (v : Width) (w a k : ℕ) → w < 2 ^ width v → a + k ≤ width v → digits (bit_not v w) a k ≡ negated (digits w a k)
+pub digits-bit_not : (v : Width) (w a k : ℕ)
+    → w < 2 ^ width v → a + k ≤ width v → digits (bit_not v w) a k ≡ negated (digits w a k)
 digits-bit_not v w a k small within =
-    same_lists _ _ (length-digits (bit_not v w) a k ∙ sym (length-map (digits w a k) not ∙ length-digits w a k))
+    same_lists _ _ (length-digits (bit_not v w) a k
+    ∙ sym (length-map (digits w a k) not ∙ length-digits w a k))
     (λ i d h.
     let lt : i < k = omega (arith, length-digits (bit_not v w) a k) in
     at-digits (bit_not v w) a k i d lt ∙ has_bit-bit_not v w (a + i) small (omega arith)
-    ∙ sym (get_or-map not (digits w a k) i d d (omega (arith, length-digits w a k)) ∙ ap not (at-digits w a k i d lt)))
+    ∙ sym (get_or-map not (digits w a k) i d d (omega (arith, length-digits w a k))
+    ∙ ap not (at-digits w a k i d lt)))
 
 -- ---- two numbers combined
 -- a digit of both
 pub has_bit-and : (v w i : ℕ) → has_bit (bit_and v w) i ≡ (has_bit v i && has_bit w i)
-has_bit-and v w i = ap (λ x. eqb x 1) (bit_at_and v w i) ∙ both (bit_at v i) (bit_at w i) (bit_at-lt v i) (bit_at-lt w i)
+has_bit-and v w i = ap (λ x. eqb x 1) (bit_at_and v w i)
+    ∙ both (bit_at v i) (bit_at w i) (bit_at-lt v i) (bit_at-lt w i)
   where
     both : (x y : ℕ) → x < 2 → y < 2 → eqb (min x y) 1 ≡ (eqb x 1 && eqb y 1)
     both zero zero g h = refl
@@ -135,7 +155,8 @@ has_bit-and v w i = ap (λ x. eqb x 1) (bit_at_and v w i) ∙ both (bit_at v i) 
 
 -- a digit of either
 pub has_bit-or : (v w i : ℕ) → has_bit (bit_or v w) i ≡ (has_bit v i || has_bit w i)
-has_bit-or v w i = ap (λ x. eqb x 1) (bit_at_or v w i) ∙ either (bit_at v i) (bit_at w i) (bit_at-lt v i) (bit_at-lt w i)
+has_bit-or v w i = ap (λ x. eqb x 1) (bit_at_or v w i)
+    ∙ either (bit_at v i) (bit_at w i) (bit_at-lt v i) (bit_at-lt w i)
   where
     either : (x y : ℕ) → x < 2 → y < 2 → eqb (max x y) 1 ≡ (eqb x 1 || eqb y 1)
     either zero zero g h = refl
@@ -147,8 +168,10 @@ has_bit-or v w i = ap (λ x. eqb x 1) (bit_at_or v w i) ∙ either (bit_at v i) 
     either (suc zero) (suc (suc y)) g h = absurd (omega arith)
 
 -- a digit of one of the two
-pub has_bit-xor : (v w i : ℕ) → has_bit (bit_xor v w) i ≡ cond (has_bit v i) (not (has_bit w i)) (has_bit w i)
-has_bit-xor v w i = ap (λ x. eqb x 1) (bit_at_xor v w i) ∙ one (bit_at v i) (bit_at w i) (bit_at-lt v i) (bit_at-lt w i)
+pub has_bit-xor : (v w i : ℕ)
+    → has_bit (bit_xor v w) i ≡ cond (has_bit v i) (not (has_bit w i)) (has_bit w i)
+has_bit-xor v w i = ap (λ x. eqb x 1) (bit_at_xor v w i)
+    ∙ one (bit_at v i) (bit_at w i) (bit_at-lt v i) (bit_at-lt w i)
   where
     one : (x y : ℕ) → x < 2 → y < 2 → eqb ((x + y) % 2) 1 ≡ cond (eqb x 1) (not (eqb y 1)) (eqb y 1)
     one zero zero g h = refl

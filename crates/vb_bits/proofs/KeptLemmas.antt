@@ -1,5 +1,6 @@
 -- The values that a mask keeps are those at its true places.
-use Rattle.std.proofs.Common.{◌≡◌, ℕ, suc, ◌+◌, ◌*◌, ◌≤◌, Bool, true, false, List, [], ◌∷◌, ◌++◌, length, map, get_or, slice_index, refl, ap, sym, ◌∙◌, arith}
+use Rattle.std.proofs.Common.{◌≡◌, ℕ, suc, ◌+◌, ◌*◌, ◌≤◌, Bool, true, false, List, [], ◌∷◌, ◌++◌}
+use Rattle.std.proofs.Common.{length, map, get_or, slice_index, refl, ap, sym, ◌∙◌, arith}
 use Rattle.std.specs.List.{All, sum, sum_by}
 use Rattle.std.proofs.lemmas.List.{length-map}
 use Rattle.std.proofs.lemmas.List.Elements.{All-head, All-tail}
@@ -10,7 +11,8 @@ use Rattle.vb_bits.proofs.PlacesLemmas.{places_none, places_cons, length-places}
 
 module _ {T : Type 0} (d : T) where
   -- the values one place on, behind another value
-  shifted : (x : T) (xs : List T) (ps : List ℕ) → map (λ i. get_or (x ∷ xs) i d) (map (λ i. 1 + i) ps) ≡ map (λ i. get_or xs i d) ps
+  shifted : (x : T) (xs : List T) (ps : List ℕ)
+      → map (λ i. get_or (x ∷ xs) i d) (map (λ i. 1 + i) ps) ≡ map (λ i. get_or xs i d) ps
   shifted x xs [] = refl
   shifted x xs (p ∷ ps) =
       let e : 1 + p ≡ suc p = omega arith in
@@ -19,15 +21,20 @@ module _ {T : Type 0} (d : T) where
       cc
 
   -- the values at the true places
-  pub map-places : (bits : List Bool) (xs : List T) → length bits ≡ length xs → map (λ i. get_or xs i d) (places bits) ≡ kept bits xs
+  pub map-places : (bits : List Bool) (xs : List T)
+      → length bits ≡ length xs → map (λ i. get_or xs i d) (places bits) ≡ kept bits xs
   map-places [] xs same = rw places_none refl
   map-places (b ∷ bits) [] same = absurd (omega arith)
-  map-places (true ∷ bits) (x ∷ xs) same = rw places_cons (ap (λ l. x ∷ l) (shifted x xs (places bits) ∙ map-places bits xs (omega arith)))
-  map-places (false ∷ bits) (x ∷ xs) same = rw places_cons (shifted x xs (places bits) ∙ map-places bits xs (omega arith))
+  map-places (true ∷ bits) (x ∷ xs) same = rw places_cons
+      (ap (λ l. x ∷ l) (shifted x xs (places bits) ∙ map-places bits xs (omega arith)))
+  map-places (false ∷ bits) (x ∷ xs) same =
+      rw places_cons (shifted x xs (places bits) ∙ map-places bits xs (omega arith))
 
   -- as many as there are true bits
-  pub length-kept : (bits : List Bool) (xs : List T) → length bits ≡ length xs → length (kept bits xs) ≡ count bits
-  length-kept bits xs same = ap length (sym (map-places bits xs same)) ∙ length-map (places bits) (λ i. get_or xs i d) ∙ length-places bits
+  pub length-kept : (bits : List Bool) (xs : List T)
+      → length bits ≡ length xs → length (kept bits xs) ≡ count bits
+  length-kept bits xs same = ap length (sym (map-places bits xs same))
+      ∙ length-map (places bits) (λ i. get_or xs i d) ∙ length-places bits
 
 -- of two lists, one after the other
 pub kept-append : {T : Type 0} (k l : List Bool) (xs ys : List T) → length k ≡ length xs
@@ -40,17 +47,21 @@ kept-append (true ∷ k) l (x ∷ xs) ys same =
 kept-append (false ∷ k) l (x ∷ xs) ys same = kept-append k l xs ys (omega arith)
 
 -- the sum of the numbers at the true places
-pub sum_by-places : (bits : List Bool) (xs : List ℕ) → length bits ≡ length xs → sum_by (slice_index xs) (places bits) ≡ sum (kept bits xs)
-sum_by-places bits xs same = sym (sum-map (slice_index xs) (places bits)) ∙ ap (λ (l : List ℕ). sum l) (map-places 0 bits xs same)
+pub sum_by-places : (bits : List Bool) (xs : List ℕ)
+    → length bits ≡ length xs → sum_by (slice_index xs) (places bits) ≡ sum (kept bits xs)
+sum_by-places bits xs same = sym (sum-map (slice_index xs) (places bits))
+    ∙ ap (λ (l : List ℕ). sum l) (map-places 0 bits xs same)
 
 -- a sum of numbers of which none is above m
-pub sum-kept-le : (m : ℕ) (bits : List Bool) (xs : List ℕ) → All (λ x. x ≤ m) xs → sum (kept bits xs) ≤ length xs * m
+pub sum-kept-le : (m : ℕ) (bits : List Bool) (xs : List ℕ)
+    → All (λ x. x ≤ m) xs → sum (kept bits xs) ≤ length xs * m
 sum-kept-le m [] xs small = omega arith
 sum-kept-le m (b ∷ bits) [] small = omega arith
 sum-kept-le m (true ∷ bits) (x ∷ xs) small =
     let rest = sum-kept-le m bits xs (All-tail (λ y. y ≤ m) x xs small) in
     let here : x ≤ m = All-head (λ y. y ≤ m) x xs small in
-    let first : sum (x ∷ kept bits xs) ≡ x + sum (kept bits xs) = sum_by-cons (λ y. y) x (kept bits xs) in
+    let first : sum (x ∷ kept bits xs) ≡ x + sum (kept bits xs) =
+    sum_by-cons (λ y. y) x (kept bits xs) in
     omega arith
 sum-kept-le m (false ∷ bits) (x ∷ xs) small =
     let rest = sum-kept-le m bits xs (All-tail (λ y. y ≤ m) x xs small) in

@@ -13,3 +13,5 @@ pub mod OperatorsLemmas
 pub mod RunsLemmas
 pub mod LastLemmas
 pub mod EqualLemmas
+pub mod KeepsLemmas
+pub mod MarksLemmas

@@ -3,6 +3,7 @@ pub mod Digits
 pub mod Edits
 pub mod InBytes
 pub mod Kept
+pub mod Marks
 pub mod Operators
 pub mod Runs
 pub mod Shown

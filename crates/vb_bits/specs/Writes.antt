@@ -9,6 +9,11 @@ pub record Writes (old new : List ℕ) (o : ℕ) (m : List Bool) : Type 0 where
   pub window : bits new o (length m) ≡ m
   pub others : (i : ℕ) → (i < o) ⊎ (o + length m ≤ i) → bit_of new i ≡ bit_of old i
 
+-- as many bytes, and the bits from bit n on are as before
+pub record KeepsBehind (n : ℕ) (old new : List ℕ) : Type 0 where
+  pub same_len : length new ≡ length old
+  pub others : (i : ℕ) → n ≤ i → bit_of new i ≡ bit_of old i
+
 -- the old bytes, and behind them those that the new bytes have more
 abbrev pub lengthened : List ℕ → List ℕ → List ℕ
 lengthened old new = old ++ drop (length old) new

@@ -1,24 +1,13 @@
 //! A window of bits combined with one of other bytes.
-ghost use Rattle.std.specs.Prelude.{◌≡◌, ℕ, ◌+◌, ◌*◌, ◌%◌, ◌^◌, ◌<◌, ◌≤◌, Bool, length};
+ghost use Rattle.std.specs.Prelude.{◌≡◌, ◌+◌, ◌*◌, ◌%◌, ◌^◌, ◌<◌, ◌≤◌, length};
 ghost use Rattle.vb_bits.specs.Bits.{bits};
-ghost use Rattle.vb_bits.specs.Digits.{has_bit};
 ghost use Rattle.vb_bits.specs.Operators.{merged};
 ghost use Rattle.vb_bits.specs.Writes.{Writes};
 
 use crate::bytes::{word_at, write_word};
+use crate::operator::Merge;
 use crate::read::{read_bits, shifted_word};
 use crate::write::{write_few, write_in_byte};
-
-/// What two bits are combined to, 64 at a time.
-///
-/// It is a type, so that each operator has loops of its own, which the compiler makes vectors of.
-pub(crate) trait Merge {
-    ghost bit: { Bool → Bool → Bool };
-
-    /// Each digit of `left` combined with that of `right`.
-    fn merge(left: u64, right: u64) -> u64
-        ensures { (i : ℕ) → i < 64 → has_bit result i ≡ bit (has_bit left i) (has_bit right i) };
-}
 
 /// Combines each of the `len` bits of `dst` from bit `d` on with that of `src` from bit `s` on, and
 /// leaves every other bit of `dst`.
@@ -51,7 +40,7 @@ fn merge_in_byte<M: Merge>(dst: &mut [u8], d: usize, src: &[u8], s: usize, len: 
 {
     let left = read_bits(dst, d, len);
     let right = read_bits(src, s, len);
-    write_in_byte(dst, d, len, M::merge(left, right));
+    write_in_byte(dst, d, len, M::word(left, right));
 }
 
 /// [`merge_bits`] of `n` words of `dst`, which begin with a byte.
@@ -81,7 +70,7 @@ fn merge_whole_words<M: Merge>(dst: &mut [u8], d: usize, src: &[u8], s: usize, n
     for k in 0..n {
         let left = word_at(dst, d / 8 + 8 * k);
         let right = word_at(src, s / 8 + 8 * k);
-        write_word(dst, d / 8 + 8 * k, M::merge(left, right));
+        write_word(dst, d / 8 + 8 * k, M::word(left, right));
     }
 }
 
@@ -97,7 +86,7 @@ fn merge_shifted_words<M: Merge>(dst: &mut [u8], d: usize, src: &[u8], s: usize,
     for k in 0..n {
         let left = word_at(dst, d / 8 + 8 * k);
         let right = shifted_word(src, s / 8 + 8 * k, s % 8);
-        write_word(dst, d / 8 + 8 * k, M::merge(left, right));
+        write_word(dst, d / 8 + 8 * k, M::word(left, right));
     }
 }
 
@@ -113,5 +102,5 @@ fn merge_rest<M: Merge>(dst: &mut [u8], d: usize, src: &[u8], s: usize, len: usi
 {
     let left = read_bits(dst, d, len);
     let right = read_bits(src, s, len);
-    write_few(dst, d, len, M::merge(left, right));
+    write_few(dst, d, len, M::word(left, right));
 }

@@ -4,6 +4,7 @@ ghost use Rattle.vb_bits.specs.Bits.{bits};
 ghost use Rattle.vb_bits.specs.Digits.{digits};
 
 use crate::bytes::word_at;
+use crate::word::low_digits;
 
 /// The bytes, at most eight, as one number: its lowest digits are those of the first byte, and its
 /// digits past the last byte are 0.
@@ -26,12 +27,7 @@ pub fn read_bits(bytes: &[u8], at: usize, count: usize) -> u64
     ensures digits { digits result 0 count ≡ bits bytes.now at count }
     ensures clear { result < 2 ^ count }
 {
-    let word = realigned(bytes, at, count);
-    if count == 64 {
-        word
-    } else {
-        word & ((1 << count) - 1)
-    }
+    low_digits(realigned(bytes, at, count), count)
 }
 
 /// [`read_bits`], with any digits from `count` on.

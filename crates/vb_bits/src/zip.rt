@@ -4,7 +4,8 @@ ghost use Rattle.vb_bits.specs.Bits.{bits};
 ghost use Rattle.vb_bits.specs.Operators.{combined};
 ghost use Rattle.vb_bits.specs.Writes.{Writes};
 
-use crate::merge::{Merge, merge_bits};
+use crate::merge::merge_bits;
+use crate::operator::{And, AndNot, Or, Right, Xor};
 
 /// How two bits are combined.
 #[derive(Clone, Copy, Debug, PartialEq, Eq)]
@@ -51,67 +52,4 @@ pub fn copy_bits(dst: &mut [u8], d: usize, src: &[u8], s: usize, len: usize)
     ensures { Writes dst.old dst.new d (bits src.now s len) }
 {
     merge_bits::<Right>(dst, d, src, s, len);
-}
-
-/// Both bits.
-struct And;
-
-/// Either bit.
-struct Or;
-
-/// One bit of two.
-struct Xor;
-
-/// The left bit without the right one.
-struct AndNot;
-
-/// The right bit.
-struct Right;
-
-impl Merge for And {
-    ghost use Rattle.std.specs.Prelude.{◌&&◌};
-
-    ghost bit = { λ a b. a && b };
-
-    fn merge(left: u64, right: u64) -> u64 {
-        left & right
-    }
-}
-
-impl Merge for Or {
-    ghost use Rattle.std.specs.Prelude.{◌||◌};
-
-    ghost bit = { λ a b. a || b };
-
-    fn merge(left: u64, right: u64) -> u64 {
-        left | right
-    }
-}
-
-impl Merge for Xor {
-    ghost use Rattle.std.specs.Prelude.{cond, not};
-
-    ghost bit = { λ a b. cond a (not b) b };
-
-    fn merge(left: u64, right: u64) -> u64 {
-        left ^ right
-    }
-}
-
-impl Merge for AndNot {
-    ghost use Rattle.std.specs.Prelude.{◌&&◌, not};
-
-    ghost bit = { λ a b. a && not b };
-
-    fn merge(left: u64, right: u64) -> u64 {
-        left & !right
-    }
-}
-
-impl Merge for Right {
-    ghost bit = { λ a b. b };
-
-    fn merge(left: u64, right: u64) -> u64 {
-        right
-    }
 }

@@ -22,7 +22,8 @@ Writes-more b c d o p m n k l from long whole first second =
 -- a window, and the digits of a number behind it, of which those from r on are 0
 pub Writes-ended : (b c d : List ℕ) (o p m r n k w : ℕ) → p ≡ o + m → n ≡ m + r → r ≤ k
     → w < 2 ^ r → Writes b c o (bits c o m) → Writes c d p (digits w 0 k)
-    → (bits d o n ≡ bits c o m ++ digits w 0 r) × Writes b d o (bits d o n ++ replicate (k - r) false)
+    → (bits d o n ≡ bits c o m ++ digits w 0 r)
+    × Writes b d o (bits d o n ++ replicate (k - r) false)
 Writes-ended b c d o p m r n k w from whole few small first second =
     let part : List Bool = digits w 0 r in let zeros : List Bool = replicate (k - r) false in
     let last : Writes c d p (part ++ zeros) =

@@ -1,7 +1,11 @@
 -- Digits of words.
-use Rattle.std.proofs.Common.{◌≡◌, ◌≢◌, inl, inr, ℕ, ◌+◌, ◌-◌, ◌*◌, ◌/◌, ◌%◌, ◌^◌, ◌<◌, ◌≤◌, ◌⊎◌, Bool, false, List, [], ◌++◌, length, get_or, set, replicate, eqb, refl, sym, ap, subst, ◌∙◌, arith, zero-add, length-set, get_or-set_same, get_or-set_other}
+use Rattle.std.proofs.Common.{◌≡◌, ◌≢◌, inl, inr, ℕ, ◌+◌, ◌-◌, ◌*◌, ◌/◌, ◌%◌, ◌^◌, ◌<◌, ◌≤◌, ◌⊎◌}
+use Rattle.std.proofs.Common.{Bool, false, List, [], ◌++◌, length, get_or, set, replicate, eqb}
+use Rattle.std.proofs.Common.{refl, sym, ap, subst, ◌∙◌, arith, zero-add, length-set}
+use Rattle.std.proofs.Common.{get_or-set_same, get_or-set_other}
 use Rattle.std.proofs.lemmas.Bool.{cases_lt}
-use Rattle.std.proofs.lemmas.List.{same_lists, length-append, length-replicate, get_or-replicate, get_or_append_left, get_or-append_right}
+use Rattle.std.proofs.lemmas.List.{same_lists, length-append, length-replicate, get_or-replicate}
+use Rattle.std.proofs.lemmas.List.{get_or_append_left, get_or-append_right}
 use Rattle.std.proofs.lemmas.List.FromFn.{length-map-range_with_len, get_or-map-range_with_len}
 use Rattle.std.proofs.lemmas.Nat.Bits.{bit_at_above}
 use Rattle.vb_bits.specs.Digits.{has_bit, digits}
@@ -17,7 +21,8 @@ unfolding word_bits
 length-word_bits w o n = length-map-range_with_len (word_bit w) o n
 
 -- one of the digits
-pub at-word_bits : (w : List ℕ) (o n i : ℕ) (d : Bool) → i < n → get_or (word_bits w o n) i d ≡ word_bit w (o + i)
+pub at-word_bits : (w : List ℕ) (o n i : ℕ) (d : Bool)
+    → i < n → get_or (word_bits w o n) i d ≡ word_bit w (o + i)
 unfolding word_bits
 at-word_bits w o n i d h = get_or-map-range_with_len (word_bit w) o n i (o + i) d h refl
 
@@ -27,17 +32,20 @@ unfolding word_bits
 word_bits_none w o = refl
 
 -- digits cut in two
-pub word_bits-add : (w : List ℕ) (o m n : ℕ) → word_bits w o (m + n) ≡ word_bits w o m ++ word_bits w (o + m) n
+pub word_bits-add : (w : List ℕ) (o m n : ℕ)
+    → word_bits w o (m + n) ≡ word_bits w o m ++ word_bits w (o + m) n
 unfolding word_bits
 word_bits-add w o m n = map-range_with_len-add (word_bit w) o m n
 
 -- two lists of words with the same digits
-pub same_word_bits : (v w : List ℕ) (o p n : ℕ) → ((i : ℕ) → i < n → word_bit v (o + i) ≡ word_bit w (p + i)) → word_bits v o n ≡ word_bits w p n
+pub same_word_bits : (v w : List ℕ) (o p n : ℕ) → ((i : ℕ)
+    → i < n → word_bit v (o + i) ≡ word_bit w (p + i)) → word_bits v o n ≡ word_bits w p n
 unfolding word_bits
 same_word_bits v w o p n h = same_map-range_with_len (word_bit v) (word_bit w) o p n h
 
 -- digits that are those of a number
-pub word_bits-digits : (v : List ℕ) (w o a n : ℕ) → ((i : ℕ) → i < n → word_bit v (o + i) ≡ has_bit w (a + i)) → word_bits v o n ≡ digits w a n
+pub word_bits-digits : (v : List ℕ) (w o a n : ℕ)
+    → ((i : ℕ) → i < n → word_bit v (o + i) ≡ has_bit w (a + i)) → word_bits v o n ≡ digits w a n
 unfolding word_bits digits
 word_bits-digits v w o a n h = same_map-range_with_len (word_bit v) (has_bit w) o a n h
 
@@ -47,14 +55,16 @@ pub has_bit_above : (w n i : ℕ) → w < 2 ^ n → n ≤ i → has_bit w i ≡ 
 has_bit_above w n i small h = ap (λ x. eqb x 1) (bit_at_above w n i small h)
 
 -- a number's digits, and those past its last one
-pub digits_above : (w n k : ℕ) → w < 2 ^ n → n ≤ k → digits w 0 k ≡ digits w 0 n ++ replicate (k - n) false
+pub digits_above : (w n k : ℕ)
+    → w < 2 ^ n → n ≤ k → digits w 0 k ≡ digits w 0 n ++ replicate (k - n) false
 digits_above w n k small h =
     let whole : k ≡ n + (k - n) = omega arith in
     ap (digits w 0) whole ∙ digits-add w 0 n (k - n) ∙ ap (λ l. digits w 0 n ++ l)
     (same_lists _ _ (length-digits w (0 + n) (k - n) ∙ sym (length-replicate (k - n) false))
     (λ i d l.
     let inside : i < k - n = omega (arith, length-digits w (0 + n) (k - n)) in
-    at-digits w (0 + n) (k - n) i d inside ∙ has_bit_above w n (0 + n + i) small (omega arith) ∙ sym (get_or-replicate (k - n) i false d inside)))
+    at-digits w (0 + n) (k - n) i d inside ∙ has_bit_above w n (0 + n + i) small (omega arith)
+    ∙ sym (get_or-replicate (k - n) i false d inside)))
 
 -- ---- writes
 -- digits stand one behind the other in words
@@ -93,8 +103,10 @@ WritesWords_set b k w h =
     let inside : i < 64 = omega arith in
     let word : (64 * k + i) / 64 ≡ k = omega arith in
     let place : (64 * k + i) % 64 ≡ i = omega arith in
-    ap (λ j. has_bit (get_or (set b k w) j 0) ((64 * k + i) % 64)) word ∙ ap (has_bit (get_or (set b k w) k 0)) place
-    ∙ ap (λ x. has_bit x i) (get_or-set_same b k w 0 h) ∙ sym (at-digits w 0 64 i d inside ∙ ap (has_bit w) (zero-add i)))
+    ap (λ j. has_bit (get_or (set b k w) j 0) ((64 * k + i) % 64)) word
+    ∙ ap (has_bit (get_or (set b k w) k 0)) place
+    ∙ ap (λ x. has_bit x i) (get_or-set_same b k w 0 h)
+    ∙ sym (at-digits w 0 64 i d inside ∙ ap (has_bit w) (zero-add i)))
     (λ i l.
     let other : i / 64 ≢ k = elim l [ inl low ↦ omega arith | inr high ↦ omega arith ] in
     ap (λ x. has_bit x (i % 64)) (get_or-set_other b k (i / 64) w 0 other))

@@ -2,13 +2,13 @@
 ghost use Rattle.std.specs.Prelude.{◌≡◌, ◌+◌, ◌*◌, ◌^◌, ◌<◌, ◌≤◌, length};
 ghost use Rattle.vb_pack.specs.Asked.{Answers, CanAsk, span};
 ghost use Rattle.vb_pack.specs.Bits.{at, bit_of, bits};
-ghost use Rattle.vb_pack.specs.Digits.{digits, has_bit};
+ghost use Rattle.vb_pack.specs.Digits.{digits};
 ghost use Rattle.vb_pack.specs.WordBits.{filled_up};
 ghost use Rattle.vb_pack.specs.Writes.{Writes};
 
 use crate::bytes::write_front;
 use crate::pack::pack_bool_word_lanes;
-use vb_bits::read_bits;
+use vb_bits::{digit, read_bits};
 
 /// Asks `f` at each place of the window of `len` bits of `src` from bit `offset` on, with the bit
 /// there, and packs its answers into the first bytes of `dst`, eight into each; the bits of the
@@ -84,13 +84,4 @@ fn map_part<F: FnMut(usize, bool) -> bool>(
         packed |= u64::from(f(base + i, digit(word, i))) << i;
     }
     packed
-}
-
-/// Digit `i` of a word.
-#[inline(always)]
-fn digit(word: u64, i: usize) -> bool
-    requires { i < 64 }
-    ensures { result ≡ has_bit word i }
-{
-    (word >> i) & 1 == 1
 }

@@ -1,9 +1,13 @@
 -- The lowest ones of a number.
-use Rattle.std.proofs.Common.{◌≡◌, inl, inr, ℕ, suc, ◌+◌, ◌-◌, ◌*◌, ◌/◌, ◌%◌, ◌^◌, ◌<◌, ◌≤◌, eqb, refl, sym, ap, ◌∙◌, arith}
+use Rattle.std.proofs.Common.{◌≡◌, inl, inr, ℕ, suc, ◌+◌, ◌-◌, ◌*◌, ◌/◌, ◌%◌, ◌^◌, ◌<◌, ◌≤◌, eqb}
+use Rattle.std.proofs.Common.{refl, sym, ap, ◌∙◌, arith}
 use Rattle.std.proofs.Math.Nat.{pow-suc}
 use Rattle.std.proofs.lemmas.Bool.{cases_lt}
 use Rattle.std.proofs.lemmas.Nat.{pow_pos, mod_below, shr_split, and_le_l, and_le_r, or_lt}
-use Rattle.std.proofs.lemmas.Nat.Bits.{bit_at_and, bit_at_or, bit_at_ones, bit_at-zero, bit_at-lt, bit_at_above, bit_at_cat_low, bit_at_cat_high, bit_at-pow_same, bit_at-pow_other, bit_at-trailing_zeros, bit_at-trailing_ones, same_from_bits_below}
+use Rattle.std.proofs.lemmas.Nat.Bits.{bit_at_and, bit_at_or, bit_at_ones, bit_at-zero, bit_at-lt}
+use Rattle.std.proofs.lemmas.Nat.Bits.{bit_at_above, bit_at_cat_low, bit_at_cat_high}
+use Rattle.std.proofs.lemmas.Nat.Bits.{bit_at-pow_same, bit_at-pow_other, bit_at-trailing_zeros}
+use Rattle.std.proofs.lemmas.Nat.Bits.{bit_at-trailing_ones, same_from_bits_below}
 use Rattle.std.specs.Int.{bit_at, trailing_zeros, trailing_ones, w64}
 use Rattle.std.specs.Int.Bits.{bit_and, bit_or}
 use lib.Count.{count_trailing_zeros}
@@ -11,10 +15,12 @@ use Rattle.vb_bits.proofs.ShiftLemmas.{bit_at_cut}
 use Rattle.vb_walk.specs.Ones.{CutsOnes}
 
 -- a number whose lowest digits are those of r
-cut_at : (w r k : ℕ) → r < 2 ^ k → ((i : ℕ) → i < k → bit_at w i ≡ bit_at r i) → w ≡ w / 2 ^ k * 2 ^ k + r
+cut_at : (w r k : ℕ)
+    → r < 2 ^ k → ((i : ℕ) → i < k → bit_at w i ≡ bit_at r i) → w ≡ w / 2 ^ k * 2 ^ k + r
 cut_at w r k small same =
     sym (shr_split w k)
-    ∙ ap (λ x. w / 2 ^ k * 2 ^ k + x) (same_from_bits_below k (w % 2 ^ k) r (mod_below w (2 ^ k) (pow_pos k)) small (λ i l. bit_at_cut w k i l ∙ same i l))
+    ∙ ap (λ x. w / 2 ^ k * 2 ^ k + x) (same_from_bits_below k (w % 2 ^ k) r
+    (mod_below w (2 ^ k) (pow_pos k)) small (λ i l. bit_at_cut w k i l ∙ same i l))
 
 -- ---- one less, and one more
 module _ (w t : ℕ) (on : bit_at w t ≡ 1) (off : (i : ℕ) → i < t → bit_at w i ≡ 0) where
@@ -25,7 +31,8 @@ module _ (w t : ℕ) (on : bit_at w t ≡ 1) (off : (i : ℕ) → i < t → bit_
       let some : 0 < 2 ^ t = pow_pos t in
       cut_at w (2 ^ t) (suc t) (omega arith) (λ i l. elim (cases_lt i t) [
         | inl below ↦ off i below ∙ sym (bit_at-pow_other t i (λ e. absurd (omega arith)))
-        | inr here ↦ let e : i ≡ t = omega arith in ap (bit_at w) e ∙ on ∙ sym (ap (bit_at (2 ^ t)) e ∙ bit_at-pow_same t)
+        | inr here ↦ let e : i ≡ t = omega arith in
+            ap (bit_at w) e ∙ on ∙ sym (ap (bit_at (2 ^ t)) e ∙ bit_at-pow_same t)
       ])
 
   less_split : w - 1 ≡ w / 2 ^ suc t * 2 ^ suc t + (2 ^ t - 1)
@@ -33,20 +40,26 @@ module _ (w t : ℕ) (on : bit_at w t ≡ 1) (off : (i : ℕ) → i < t → bit_
 
   -- the digits of one less: ones below t, 0 at t, and those of w behind it
   less_below : (i : ℕ) → i < t → bit_at (w - 1) i ≡ 1
-  less_below i l = ap (λ x. bit_at x i) less_split ∙ bit_at_cat_low (w / 2 ^ suc t) (suc t) (2 ^ t - 1) i (omega arith) ∙ bit_at_ones t i l
+  less_below i l = ap (λ x. bit_at x i) less_split
+      ∙ bit_at_cat_low (w / 2 ^ suc t) (suc t) (2 ^ t - 1) i (omega arith) ∙ bit_at_ones t i l
 
   less_here : bit_at (w - 1) t ≡ 0
-  less_here = ap (λ x. bit_at x t) less_split ∙ bit_at_cat_low (w / 2 ^ suc t) (suc t) (2 ^ t - 1) t (omega arith) ∙ bit_at_above (2 ^ t - 1) t t (let some : 0 < 2 ^ t = pow_pos t in omega arith) (omega arith)
+  less_here = ap (λ x. bit_at x t) less_split
+      ∙ bit_at_cat_low (w / 2 ^ suc t) (suc t) (2 ^ t - 1) t (omega arith)
+      ∙ bit_at_above (2 ^ t - 1) t t (let some : 0 < 2 ^ t = pow_pos t in omega arith) (omega arith)
 
   less_above : (i : ℕ) → t < i → bit_at (w - 1) i ≡ bit_at w i
   less_above i l =
       let double : 2 ^ suc t ≡ 2 ^ t * 2 = pow-suc 2 t in
       let some : 0 < 2 ^ t = pow_pos t in
-      ap (λ x. bit_at x i) less_split ∙ bit_at_cat_high (w / 2 ^ suc t) (suc t) (2 ^ t - 1) i (omega arith) (omega arith)
-      ∙ sym (ap (λ x. bit_at x i) lowest_split ∙ bit_at_cat_high (w / 2 ^ suc t) (suc t) (2 ^ t) i (omega arith) (omega arith))
+      ap (λ x. bit_at x i) less_split
+      ∙ bit_at_cat_high (w / 2 ^ suc t) (suc t) (2 ^ t - 1) i (omega arith) (omega arith)
+      ∙ sym (ap (λ x. bit_at x i) lowest_split
+      ∙ bit_at_cat_high (w / 2 ^ suc t) (suc t) (2 ^ t) i (omega arith) (omega arith))
 
   -- `w & (w - 1)` has no digit up to the lowest 1, and those of w behind it
-  pub lowest_off : ((i : ℕ) → i ≤ t → bit_at (bit_and w (w - 1)) i ≡ 0) × ((i : ℕ) → t < i → bit_at (bit_and w (w - 1)) i ≡ bit_at w i)
+  pub lowest_off : ((i : ℕ) → i ≤ t → bit_at (bit_and w (w - 1)) i ≡ 0)
+      × ((i : ℕ) → t < i → bit_at (bit_and w (w - 1)) i ≡ bit_at w i)
   lowest_off = (
     λ i l. bit_at_and w (w - 1) i ∙ elim (cases_lt i t) [
       | inl below ↦ omega (arith, off i below)
@@ -59,7 +72,8 @@ module _ (w t : ℕ) (on : bit_at w t ≡ 1) (off : (i : ℕ) → i < t → bit_
   filled_low : (i : ℕ) → i ≤ t → bit_at (bit_or w (w - 1)) i ≡ 1
   filled_low i l = bit_at_or w (w - 1) i ∙ elim (cases_lt i t) [
     | inl below ↦ omega (arith, less_below i below, bit_at-lt w i)
-    | inr here ↦ let e : i ≡ t = omega arith in omega (arith, ap (bit_at w) e, on, bit_at-lt (w - 1) i)
+    | inr here ↦ let e : i ≡ t = omega arith in
+        omega (arith, ap (bit_at w) e, on, bit_at-lt (w - 1) i)
   ]
 
   filled_high : (i : ℕ) → t < i → bit_at (bit_or w (w - 1)) i ≡ bit_at w i
@@ -73,7 +87,9 @@ module _ (f z : ℕ) (ones : (i : ℕ) → i < z → bit_at f i ≡ 1) (off : bi
       let some : 0 < 2 ^ z = pow_pos z in
       cut_at f (2 ^ z - 1) (suc z) (omega arith) (λ i l. elim (cases_lt i z) [
         | inl below ↦ ones i below ∙ sym (bit_at_ones z i below)
-        | inr here ↦ let e : i ≡ z = omega arith in ap (bit_at f) e ∙ off ∙ sym (ap (bit_at (2 ^ z - 1)) e ∙ bit_at_above (2 ^ z - 1) z z (omega arith) (omega arith))
+        | inr here ↦ let e : i ≡ z = omega arith in
+            ap (bit_at f) e ∙ off ∙ sym (ap (bit_at (2 ^ z - 1)) e
+            ∙ bit_at_above (2 ^ z - 1) z z (omega arith) (omega arith))
       ])
 
   more_split : f + 1 ≡ f / 2 ^ suc z * 2 ^ suc z + 2 ^ z
@@ -81,17 +97,22 @@ module _ (f z : ℕ) (ones : (i : ℕ) → i < z → bit_at f i ≡ 1) (off : bi
 
   -- the digits of one more: zeros below z, and those of f behind it
   more_below : (i : ℕ) → i < z → bit_at (f + 1) i ≡ 0
-  more_below i l = ap (λ x. bit_at x i) more_split ∙ bit_at_cat_low (f / 2 ^ suc z) (suc z) (2 ^ z) i (omega arith) ∙ bit_at-pow_other z i (λ e. absurd (omega arith))
+  more_below i l = ap (λ x. bit_at x i) more_split ∙ bit_at_cat_low (f / 2 ^ suc z)
+      (suc z) (2 ^ z) i (omega arith) ∙ bit_at-pow_other z i (λ e. absurd (omega arith))
 
   more_above : (i : ℕ) → z < i → bit_at (f + 1) i ≡ bit_at f i
   more_above i l =
       let double : 2 ^ suc z ≡ 2 ^ z * 2 = pow-suc 2 z in
       let some : 0 < 2 ^ z = pow_pos z in
-      ap (λ x. bit_at x i) more_split ∙ bit_at_cat_high (f / 2 ^ suc z) (suc z) (2 ^ z) i (omega arith) (omega arith)
-      ∙ sym (ap (λ x. bit_at x i) ones_split ∙ bit_at_cat_high (f / 2 ^ suc z) (suc z) (2 ^ z - 1) i (omega arith) (omega arith))
+      ap (λ x. bit_at x i) more_split
+      ∙ bit_at_cat_high (f / 2 ^ suc z) (suc z) (2 ^ z) i (omega arith) (omega arith)
+      ∙ sym (ap (λ x. bit_at x i) ones_split
+      ∙ bit_at_cat_high (f / 2 ^ suc z) (suc z) (2 ^ z - 1) i (omega arith) (omega arith))
 
   -- `w & (f + 1)`, where w has the digits of f from z on, is w without those below z
-  without_ones : (w : ℕ) → ((i : ℕ) → z ≤ i → bit_at f i ≡ bit_at w i) → ((i : ℕ) → i < z → bit_at (bit_and w (f + 1)) i ≡ 0) × ((i : ℕ) → z ≤ i → bit_at (bit_and w (f + 1)) i ≡ bit_at w i)
+  without_ones : (w : ℕ) → ((i : ℕ) → z ≤ i → bit_at f i ≡ bit_at w i)
+      → ((i : ℕ) → i < z → bit_at (bit_and w (f + 1)) i ≡ 0)
+      × ((i : ℕ) → z ≤ i → bit_at (bit_and w (f + 1)) i ≡ bit_at w i)
   without_ones w same = (
     λ i l. bit_at_and w (f + 1) i ∙ omega (arith, more_below i l),
     λ i l. bit_at_and w (f + 1) i ∙ elim (cases_lt z i) [
@@ -117,15 +138,19 @@ CutsOnes-low w fits =
     }
 
 -- the lowest run, where another digit is 0 above it
-run_inside : (w : ℕ) → 0 < w → w < 2 ^ 64 → bit_or w (w - 1) + 1 < 2 ^ 64 → CutsOnes w (trailing_zeros w64 w) (trailing_ones w64 (bit_or w (w - 1))) (bit_and w (bit_or w (w - 1) + 1)) × (trailing_zeros w64 w < trailing_ones w64 (bit_or w (w - 1)))
+run_inside : (w : ℕ) → 0 < w → w < 2 ^ 64 → bit_or w (w - 1) + 1 < 2 ^ 64 → CutsOnes w
+    (trailing_zeros w64 w) (trailing_ones w64 (bit_or w (w - 1))) (bit_and w (bit_or w (w - 1) + 1))
+    × (trailing_zeros w64 w < trailing_ones w64 (bit_or w (w - 1)))
 run_inside w some fits inside =
     let t : ℕ = trailing_zeros w64 w in
     let f : ℕ = bit_or w (w - 1) in
     let z : ℕ = trailing_ones w64 f in
     let low = bit_at-trailing_zeros w64 w some fits in
     let high = bit_at-trailing_ones w64 f inside in
-    let order : t < z = elim (cases_lt t z) [ inl l ↦ l | inr g ↦ absurd (omega (arith, filled_low w t low.1 low.2 z g, high.1)) ] in
-    let without = without_ones f z high.2 high.1 w (λ i l. filled_high w t low.1 low.2 i (omega arith)) in (
+    let order : t < z = elim (cases_lt t z)
+    [ inl l ↦ l | inr g ↦ absurd (omega (arith, filled_low w t low.1 low.2 z g, high.1)) ] in
+    let without =
+    without_ones f z high.2 high.1 w (λ i l. filled_high w t low.1 low.2 i (omega arith)) in (
       record {
         within = omega (arith, high.0);
         ones = λ i lo hi. ap (λ x. eqb x 1) (elim (cases_lt t i) [
@@ -146,7 +171,8 @@ unfolding count_trailing_zeros
 ones_of_full = refl
 
 -- the lowest run, where it goes up to the last digit
-run_to_end : (w : ℕ) → 0 < w → w < 2 ^ 64 → bit_or w (w - 1) ≡ 2 ^ 64 - 1 → CutsOnes w (trailing_zeros w64 w) 64 0 × (trailing_zeros w64 w < 64)
+run_to_end : (w : ℕ) → 0 < w → w < 2 ^ 64 → bit_or w (w - 1) ≡ 2 ^ 64 - 1
+    → CutsOnes w (trailing_zeros w64 w) 64 0 × (trailing_zeros w64 w < 64)
 run_to_end w some fits full =
     let t : ℕ = trailing_zeros w64 w in
     let f : ℕ = bit_or w (w - 1) in
@@ -154,7 +180,8 @@ run_to_end w some fits full =
       record {
         within = omega arith;
         ones = λ i lo hi. ap (λ x. eqb x 1) (elim (cases_lt t i) [
-          | inl above ↦ sym (filled_high w t low.1 low.2 i above) ∙ ap (λ x. bit_at x i) full ∙ bit_at_ones 64 i hi
+          | inl above ↦ sym (filled_high w t low.1 low.2 i above)
+              ∙ ap (λ x. bit_at x i) full ∙ bit_at_ones 64 i hi
           | inr here ↦ let e : i ≡ t = omega arith in ap (bit_at w) e ∙ low.1
         ]);
         stop = λ l. absurd (omega arith);
@@ -166,7 +193,9 @@ run_to_end w some fits full =
     )
 
 -- the lowest run of a word
-pub CutsOnes-run : (w z : ℕ) → 0 < w → w < 2 ^ 64 → z ≡ trailing_ones w64 (bit_or w (w - 1)) → CutsOnes w (trailing_zeros w64 w) z (bit_and w ((bit_or w (w - 1) + 1) % 2 ^ 64)) × (trailing_zeros w64 w < z)
+pub CutsOnes-run : (w z : ℕ) → 0 < w → w < 2 ^ 64 → z ≡ trailing_ones w64 (bit_or w (w - 1))
+    → CutsOnes w (trailing_zeros w64 w) z (bit_and w ((bit_or w (w - 1) + 1) % 2 ^ 64))
+    × (trailing_zeros w64 w < z)
 CutsOnes-run w z some fits e =
     let f : ℕ = bit_or w (w - 1) in
     let small : f < 2 ^ 64 = or_lt 64 w (w - 1) fits (omega arith) in
@@ -176,7 +205,9 @@ CutsOnes-run w z some fits e =
           rw (same, e) (run_inside w some fits inside)
       | inr past ↦
           let full : f ≡ 2 ^ 64 - 1 = omega arith in
-          let none : bit_and w ((f + 1) % 2 ^ 64) ≡ 0 = let z : (f + 1) % 2 ^ 64 ≡ 0 = omega arith in omega (arith, ap (bit_and w) z, and_le_r w 0) in
+          let none : bit_and w ((f + 1) % 2 ^ 64) ≡ 0 =
+          let z : (f + 1) % 2 ^ 64 ≡ 0 = omega arith in
+          omega (arith, ap (bit_and w) z, and_le_r w 0) in
           let all : z ≡ 64 = e ∙ ap (trailing_ones w64) full ∙ ones_of_full in
           rw (none, all) (run_to_end w some fits full)
     ]

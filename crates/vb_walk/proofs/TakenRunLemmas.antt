@@ -1,5 +1,6 @@
 -- The first run that a walk takes.
-use Rattle.std.proofs.Common.{◌≡◌, ◌⊎◌, inl, inr, ℕ, ◌+◌, ◌-◌, ◌^◌, ◌<◌, ◌≤◌, Bool, true, false, eqb, List, [], ◌∷◌, sym, ap, ◌∙◌, arith}
+use Rattle.std.proofs.Common.{◌≡◌, ◌⊎◌, inl, inr, ℕ, ◌+◌, ◌-◌, ◌^◌, ◌<◌, ◌≤◌, Bool, true, false}
+use Rattle.std.proofs.Common.{eqb, List, [], ◌∷◌, sym, ap, ◌∙◌, arith}
 use Rattle.std.proofs.lemmas.Bool.{cases_lt}
 use Rattle.std.proofs.lemmas.Nat.Bits.{bit_at_above}
 use Rattle.vb_bits.specs.Bits.{bit_of, bits}
@@ -8,7 +9,8 @@ use Rattle.vb_bits.specs.Runs.{runs}
 use Rattle.vb_walk.specs.declared.cursor.Cursor.{Cursor}
 use Rattle.vb_walk.specs.declared.slices.TakenRun.{TakenRun}
 use Rattle.vb_walk.specs.Ones.{CutsOnes}
-use Rattle.vb_walk.specs.Walks.{ahead, stop, pending, runs_in, runs_left, IsCursor, IsRefilled, IsSkipped, TakesRun}
+use Rattle.vb_walk.specs.Walks.{ahead, stop, pending, runs_in, runs_left, IsCursor, IsRefilled}
+use Rattle.vb_walk.specs.Walks.{IsSkipped, TakesRun}
 use Rattle.vb_walk.proofs.RunsInLemmas.{runs_in_none, runs_in_first, runs_in_skip, runs_in-bits}
 use Rattle.vb_walk.proofs.WalkLemmas.{pending_below, pending_ahead, pending_zero}
 
@@ -18,12 +20,14 @@ clash b p q = cc
 -- ones don't go past the digits that a number has
 pub ones_within : (w a z rest k : ℕ) → CutsOnes w a z rest → a < z → w < 2 ^ k → z ≤ k
 ones_within w a z rest k cut some small = elim (cases_lt k z) [
-  | inl past ↦ absurd (clash (has_bit w (z - 1)) (cut.ones (z - 1) (omega arith) (omega arith)) (ap (λ x. eqb x 1) (bit_at_above w k (z - 1) small (omega arith))))
+  | inl past ↦ absurd (clash (has_bit w (z - 1)) (cut.ones (z - 1) (omega arith) (omega arith))
+      (ap (λ x. eqb x 1) (bit_at_above w k (z - 1) small (omega arith))))
   | inr within ↦ within
 ]
 
 -- a walk whose word lost digits
-pub IsCursor-fewer : (b : List ℕ) (c : Cursor) (w : ℕ) → IsCursor b c → w ≤ c.word → IsCursor b (record c { word = w })
+pub IsCursor-fewer : (b : List ℕ) (c : Cursor) (w : ℕ)
+    → IsCursor b c → w ≤ c.word → IsCursor b (record c { word = w })
 IsCursor-fewer b c w v fewer = record {
   room = v.room;
   fits = v.fits;
@@ -38,24 +42,31 @@ IsCursor-fewer b c w v fewer = record {
 }
 
 -- the lowest ones of the word in hand
-pub ones_in_hand : (b : List ℕ) (c : Cursor) (n rest : ℕ) → IsCursor b c → CutsOnes c.word 0 n rest → c.base + n ≤ c.next
+pub ones_in_hand : (b : List ℕ) (c : Cursor) (n rest : ℕ)
+    → IsCursor b c → CutsOnes c.word 0 n rest → c.base + n ≤ c.next
 ones_in_hand b c n rest v cut = elim (cases_lt 0 n) [
-  | inl more ↦ let w = ones_within c.word 0 n rest (c.next - c.base) cut more v.clear in omega (arith, v.walked)
+  | inl more ↦ let w = ones_within c.word 0 n rest (c.next - c.base) cut more v.clear in
+      omega (arith, v.walked)
   | inr none ↦ omega (arith, v.walked)
 ]
 
 -- ---- the run ends in the word in hand, or with the window
-module _ (b : List ℕ) (c : Cursor) (s z rest : ℕ) (v : IsCursor b c) (some : s < z) (below : (i : ℕ) → i < s → has_bit c.word i ≡ false) (cut : CutsOnes c.word s z rest) where
+module _ (b : List ℕ) (c : Cursor) (s z rest : ℕ) (v : IsCursor b c) (some : s < z) (below : (i : ℕ)
+    → i < s → has_bit c.word i ≡ false) (cut : CutsOnes c.word s z rest) where
   pub end_within : c.base + z ≤ c.next
-  end_within = omega (arith, ones_within c.word s z rest (c.next - c.base) cut some v.clear, v.walked)
+  end_within =
+      omega (arith, ones_within c.word s z rest (c.next - c.base) cut some v.clear, v.walked)
 
   front_off : (i : ℕ) → c.base ≤ i → i < c.base + s → pending b c i ≡ false
-  front_off i lo hi = pending_below b c i (omega (arith, end_within)) ∙ below (i - c.base) (omega arith)
+  front_off i lo hi =
+      pending_below b c i (omega (arith, end_within)) ∙ below (i - c.base) (omega arith)
 
   front_on : (i : ℕ) → c.base + s ≤ i → i < c.base + z → pending b c i ≡ true
-  front_on i lo hi = pending_below b c i (omega (arith, end_within)) ∙ cut.ones (i - c.base) (omega arith) (omega arith)
+  front_on i lo hi = pending_below b c i (omega (arith, end_within))
+      ∙ cut.ones (i - c.base) (omega arith) (omega arith)
 
-  pub TakesRun-here : (c.base + z < c.next) ⊎ (ahead c ≡ 0) → TakesRun b c (record { cursor = record c { word = rest }; start = c.base + s; end = c.base + z })
+  pub TakesRun-here : (c.base + z < c.next) ⊎ (ahead c ≡ 0) → TakesRun b c
+      (record { cursor = record c { word = rest }; start = c.base + s; end = c.base + z })
   TakesRun-here last = record {
     valid = IsCursor-fewer b c rest v cut.fewer;
     ends = cc;
@@ -68,19 +79,27 @@ module _ (b : List ℕ) (c : Cursor) (s z rest : ℕ) (v : IsCursor b c) (some :
     over = elim (cases_lt (c.base + z) c.next) [
       | inl inside ↦ inr (
           let place : c.base + z - c.base ≡ z = omega arith in
-          pending_below b c (c.base + z) inside ∙ ap (has_bit c.word) place ∙ cut.stop (omega (arith, v.near)))
-      | inr all ↦ inl (elim last [ inl l ↦ absurd (omega arith) | inr none ↦ omega (arith, end_within) ])
+          pending_below b c (c.base + z) inside
+          ∙ ap (has_bit c.word) place ∙ cut.stop (omega (arith, v.near)))
+      | inr all ↦
+          inl (elim last [ inl l ↦ absurd (omega arith) | inr none ↦ omega (arith, end_within) ])
     ];
-    gone = λ i lo hi. pending_below b (record c { word = rest }) i (omega (arith, end_within)) ∙ cut.gone (i - c.base) (omega arith);
+    gone = λ i lo hi. pending_below b (record c { word = rest }) i (omega (arith, end_within))
+        ∙ cut.gone (i - c.base) (omega arith);
     same = λ i lo hi. elim (cases_lt i c.next) [
-      | inl inside ↦ pending_below b (record c { word = rest }) i inside ∙ cut.kept (i - c.base) (omega arith) (omega (arith, v.near)) ∙ sym (pending_below b c i inside)
-      | inr past ↦ pending_ahead b (record c { word = rest }) i past ∙ sym (pending_ahead b c i past)
+      | inl inside ↦ pending_below b (record c { word = rest }) i inside
+          ∙ cut.kept (i - c.base) (omega arith) (omega (arith, v.near))
+          ∙ sym (pending_below b c i inside)
+      | inr past ↦ pending_ahead b (record c { word = rest }) i past
+          ∙ sym (pending_ahead b c i past)
     ];
   }
 
   -- ---- the run goes on behind the word in hand
-  module _ (f : Cursor) (n far_rest : ℕ) (all : c.next ≤ c.base + z) (r : IsRefilled b (record c { word = rest }) true f) (few : n < 64) (far : CutsOnes f.word 0 n far_rest) where
-    pub TakesRun-far : TakesRun b c (record { cursor = record f { word = far_rest }; start = c.base + s; end = f.base + n })
+  module _ (f : Cursor) (n far_rest : ℕ) (all : c.next ≤ c.base + z) (r : IsRefilled b
+      (record c { word = rest }) true f) (few : n < 64) (far : CutsOnes f.word 0 n far_rest) where
+    pub TakesRun-far : TakesRun b c
+        (record { cursor = record f { word = far_rest }; start = c.base + s; end = f.base + n })
     TakesRun-far =
         let g : Cursor = record f { word = far_rest } in
         let fw = r.valid.walked in
@@ -97,46 +116,66 @@ module _ (b : List ℕ) (c : Cursor) (s z rest : ℕ) (v : IsCursor b c) (some :
             | inl here ↦ front_on i lo (omega arith)
             | inr past ↦ pending_ahead b c i past ∙ elim (cases_lt i f.base) [
               | inl between ↦ r.passed i past between
-              | inr there ↦ sym (r.read i there (omega (arith, far_within))) ∙ far.ones (i - f.base) (omega arith) (omega arith)
+              | inr there ↦ sym (r.read i there (omega (arith, far_within)))
+                  ∙ far.ones (i - f.base) (omega arith) (omega arith)
             ]
           ];
           over = elim (cases_lt (f.base + n) f.next) [
             | inl inside ↦ inr (
                 let place : f.base + n - f.base ≡ n = omega arith in
-                pending_ahead b c (f.base + n) (omega (arith, r.later)) ∙ sym (r.read (f.base + n) (omega arith) inside) ∙ ap (has_bit f.word) place ∙ far.stop few)
-            | inr end ↦ inl (elim r.other [ inl o ↦ absurd (omega (arith, o.1)) | inr o ↦ omega (arith, o.0, r.ends, far_within) ])
+                pending_ahead b c (f.base + n) (omega (arith, r.later))
+                ∙ sym (r.read (f.base + n) (omega arith) inside)
+                ∙ ap (has_bit f.word) place ∙ far.stop few)
+            | inr end ↦ inl (elim r.other [
+              | inl o ↦ absurd (omega (arith, o.1))
+              | inr o ↦ omega (arith, o.0, r.ends, far_within)
+            ])
           ];
-          gone = λ i lo hi. pending_below b g i (omega (arith, far_within)) ∙ far.gone (i - f.base) (omega arith);
+          gone = λ i lo hi. pending_below b g i (omega (arith, far_within))
+              ∙ far.gone (i - f.base) (omega arith);
           same = λ i lo hi. elim (cases_lt i f.next) [
             | inl inside ↦
-                pending_below b g i inside ∙ far.kept (i - f.base) (omega arith) (omega (arith, r.valid.near)) ∙ r.read i (omega arith) inside
+                pending_below b g i inside ∙ far.kept (i - f.base) (omega arith)
+                (omega (arith, r.valid.near)) ∙ r.read i (omega arith) inside
                 ∙ sym (pending_ahead b c i (omega (arith, r.later)))
-            | inr past ↦ pending_ahead b g i past ∙ ap (λ o. bit_of b (o + i)) r.offset ∙ sym (pending_ahead b c i (omega (arith, r.later, fw)))
+            | inr past ↦ pending_ahead b g i past ∙ ap (λ o. bit_of b (o + i)) r.offset
+                ∙ sym (pending_ahead b c i (omega (arith, r.later, fw)))
           ];
         }
 
 -- ---- what is left
 -- the runs of the front of a window
-pub runs_left_front : (b : List ℕ) (c : Cursor) (o n : ℕ) → c.base ≡ 0 → stop c ≡ n → ((i : ℕ) → i < n → pending b c i ≡ bit_of b (o + i)) → runs_left b c ≡ runs (bits b o n)
+pub runs_left_front : (b : List ℕ) (c : Cursor) (o n : ℕ) → c.base ≡ 0 → stop c
+    ≡ n → ((i : ℕ) → i < n → pending b c i ≡ bit_of b (o + i)) → runs_left b c ≡ runs (bits b o n)
 runs_left_front b c o n front all h =
     let size : stop c - c.base ≡ n = omega arith in
-    ap (runs_in (pending b c) c.base) size ∙ ap (λ a. runs_in (pending b c) a n) front ∙ runs_in-bits (pending b c) b o n h
+    ap (runs_in (pending b c) c.base) size
+    ∙ ap (λ a. runs_in (pending b c) a n) front ∙ runs_in-bits (pending b c) b o n h
 
 -- zeros that were passed over
 pub runs_left-skip : (b : List ℕ) (c d : Cursor) → IsSkipped b c d → runs_left b c ≡ runs_left b d
 runs_left-skip b c d s =
-    runs_in_skip (pending b c) (pending b d) c.base d.base (stop c) s.later (omega (arith, s.ends, s.valid.walked)) s.passed (λ i l r. sym (s.same i l (omega (arith, s.ends))))
+    runs_in_skip (pending b c) (pending b d) c.base d.base (stop c) s.later (omega (
+      arith,
+      s.ends,
+      s.valid.walked,
+    )) s.passed (λ i l r. sym (s.same i l (omega (arith, s.ends))))
     ∙ ap (λ e. runs_in (pending b d) d.base (e - d.base)) (sym s.ends)
 
 -- nothing is left where the word in hand is 0 and nothing is ahead
-pub runs_left_none : (b : List ℕ) (c : Cursor) → IsCursor b c → c.word ≡ 0 → ahead c ≡ 0 → runs_left b c ≡ []
-runs_left_none b c v z none = runs_in_none (pending b c) c.base (stop c - c.base) (λ i l r. pending_zero b c i z (omega (arith, v.walked)))
+pub runs_left_none : (b : List ℕ) (c : Cursor)
+    → IsCursor b c → c.word ≡ 0 → ahead c ≡ 0 → runs_left b c ≡ []
+runs_left_none b c v z none = runs_in_none (pending b c) c.base
+    (stop c - c.base) (λ i l r. pending_zero b c i z (omega (arith, v.walked)))
 
 -- a run that is taken
-pub runs_left-step : (b : List ℕ) (c : Cursor) (r : TakenRun) → TakesRun b c r → runs_left b c ≡ (r.start, r.end) ∷ runs_left b r.cursor
+pub runs_left-step : (b : List ℕ) (c : Cursor) (r : TakenRun)
+    → TakesRun b c r → runs_left b c ≡ (r.start, r.end) ∷ runs_left b r.cursor
 runs_left-step b c r t =
     let d : Cursor = r.cursor in
-    runs_in_first (pending b c) c.base (stop c) r.start r.end t.from t.some t.within t.off t.on t.over
+    runs_in_first (pending b c) c.base
+    (stop c) r.start r.end t.from t.some t.within t.off t.on t.over
     ∙ ap (λ x. (r.start, r.end) ∷ x)
-    (sym (runs_in_skip (pending b d) (pending b c) d.base r.end (stop c) t.later t.within t.gone t.same)
+    (sym (runs_in_skip (pending b d)
+    (pending b c) d.base r.end (stop c) t.later t.within t.gone t.same)
     ∙ ap (λ e. runs_in (pending b d) d.base (e - d.base)) (sym t.ends))

@@ -1,5 +1,7 @@
 -- Words of lists of truth values, and of windows.
-use Rattle.std.proofs.Common.{◌≡◌, ◌≢◌, ℕ, zero, suc, ◌+◌, ◌-◌, ◌*◌, ◌/◌, ◌%◌, ◌^◌, ◌<◌, ◌≤◌, Bool, min, List, [], ◌∷◌, ◌++◌, length, take, drop, refl, sym, ap, ◌∙◌, arith, zero-add, inl, inr}
+use Rattle.std.proofs.Common.{◌≡◌, ◌≢◌, ℕ, zero, suc, ◌+◌, ◌-◌, ◌*◌, ◌/◌, ◌%◌, ◌^◌, ◌<◌, ◌≤◌, Bool}
+use Rattle.std.proofs.Common.{min, List, [], ◌∷◌, ◌++◌, length, take, drop, refl, sym, ap, ◌∙◌}
+use Rattle.std.proofs.Common.{arith, zero-add, inl, inr}
 use Rattle.std.proofs.lemmas.List.{take_all}
 use Rattle.std.proofs.lemmas.List.FromFn.{length-map-range_with_len, map-range_with_len_more}
 use Rattle.std.proofs.lemmas.Bool.{cases_lt}
@@ -35,7 +37,8 @@ unfolding words
 words_none l = refl
 
 -- the first of them and the others, which are words of another list
-pub words_cons : (l m : List Bool) (n : ℕ) → ((k : ℕ) → k < n → word l (suc k) ≡ word m k) → words l (suc n) ≡ word l 0 ∷ words m n
+pub words_cons : (l m : List Bool) (n : ℕ)
+    → ((k : ℕ) → k < n → word l (suc k) ≡ word m k) → words l (suc n) ≡ word l 0 ∷ words m n
 unfolding words
 words_cons l m n h =
     ap (λ ws. word l 0 ∷ ws) (same_map-range_with_len (word l) (word m) 1 0 n
@@ -45,7 +48,8 @@ words_cons l m n h =
     ap (word l) e ∙ h k lt ∙ ap (word m) (sym z)))
 
 -- two lists with the same words
-pub same_words : (l m : List Bool) (n : ℕ) → ((k : ℕ) → k < n → word l k ≡ word m k) → words l n ≡ words m n
+pub same_words : (l m : List Bool) (n : ℕ)
+    → ((k : ℕ) → k < n → word l k ≡ word m k) → words l n ≡ words m n
 unfolding words
 same_words l m n h =
     same_map-range_with_len (word l) (word m) 0 0 n
@@ -64,7 +68,8 @@ take-window b o n k = elim (cases_lt k n) [
 ]
 
 -- a word of a window
-pub word-bits : (b : List ℕ) (o n k : ℕ) → 64 * k ≤ n → word (bits b o n) k ≡ number (bits b (o + 64 * k) (min 64 (n - 64 * k)))
+pub word-bits : (b : List ℕ) (o n k : ℕ)
+    → 64 * k ≤ n → word (bits b o n) k ≡ number (bits b (o + 64 * k) (min 64 (n - 64 * k)))
 word-bits b o n k h =
     let e : n ≡ 64 * k + (n - 64 * k) = omega arith in
     ap (λ x. number (take 64 (drop (64 * k) (bits b o x)))) e
@@ -72,29 +77,37 @@ word-bits b o n k h =
     ∙ ap number (take-window b (o + 64 * k) (n - 64 * k) 64)
 
 -- a word of a window, as a number that was read
-pub word_read : (b : List ℕ) (o n k w p m : ℕ) → digits w 0 m ≡ bits b p m → w < 2 ^ m → 64 * k ≤ n → p ≡ o + 64 * k → m ≡ min 64 (n - 64 * k) → word (bits b o n) k ≡ w
+pub word_read : (b : List ℕ) (o n k w p m : ℕ) → digits w 0 m ≡ bits b p m
+    → w < 2 ^ m → 64 * k ≤ n → p ≡ o + 64 * k → m ≡ min 64 (n - 64 * k) → word (bits b o n) k ≡ w
 word_read b o n k w p m read clear h at size =
-    word-bits b o n k h ∙ ap (λ x. number (bits b x (min 64 (n - 64 * k)))) (sym at) ∙ ap (λ x. number (bits b p x)) (sym size)
+    word-bits b o n k h ∙ ap (λ x. number (bits b x (min 64 (n - 64 * k)))) (sym at)
+    ∙ ap (λ x. number (bits b p x)) (sym size)
     ∙ number_is w m (bits b p m) read clear
 
 -- the first word of full words, and those behind it
-pub words_step : (b : List ℕ) (o n w : ℕ) → digits w 0 64 ≡ bits b o 64 → w < 2 ^ 64 → words (bits b o (64 * suc n)) (suc n) ≡ w ∷ words (bits b (o + 64) (64 * n)) n
+pub words_step : (b : List ℕ) (o n w : ℕ) → digits w 0 64 ≡ bits b o 64
+    → w < 2 ^ 64 → words (bits b o (64 * suc n)) (suc n) ≡ w ∷ words (bits b (o + 64) (64 * n)) n
 words_step b o n w read clear =
     words_cons (bits b o (64 * suc n)) (bits b (o + 64) (64 * n)) n
     (λ k lt.
     let at : o + 64 * suc k ≡ o + 64 + 64 * k = omega arith in
     let size : min 64 (64 * suc n - 64 * suc k) ≡ min 64 (64 * n - 64 * k) = omega arith in
-    word-bits b o (64 * suc n) (suc k) (omega arith) ∙ ap (λ x. number (bits b x (min 64 (64 * suc n - 64 * suc k)))) at
-    ∙ ap (λ x. number (bits b (o + 64 + 64 * k) x)) size ∙ sym (word-bits b (o + 64) (64 * n) k (omega arith)))
-    ∙ ap (λ x. x ∷ words (bits b (o + 64) (64 * n)) n) (word_read b o (64 * suc n) 0 w o 64 read clear (omega arith) (omega arith) (omega arith))
+    word-bits b o (64 * suc n) (suc k) (omega arith)
+    ∙ ap (λ x. number (bits b x (min 64 (64 * suc n - 64 * suc k)))) at
+    ∙ ap (λ x. number (bits b (o + 64 + 64 * k) x)) size
+    ∙ sym (word-bits b (o + 64) (64 * n) k (omega arith)))
+    ∙ ap (λ x. x ∷ words (bits b (o + 64) (64 * n)) n)
+    (word_read b o (64 * suc n) 0 w o 64 read clear (omega arith) (omega arith) (omega arith))
 
 -- full words don't look past their window
-pub words_front : (b : List ℕ) (o n k : ℕ) → 64 * k ≤ n → words (bits b o n) k ≡ words (bits b o (64 * k)) k
+pub words_front : (b : List ℕ) (o n k : ℕ)
+    → 64 * k ≤ n → words (bits b o n) k ≡ words (bits b o (64 * k)) k
 words_front b o n k h =
     same_words (bits b o n) (bits b o (64 * k)) k
     (λ i lt.
     let size : min 64 (n - 64 * i) ≡ min 64 (64 * k - 64 * i) = omega arith in
-    word-bits b o n i (omega arith) ∙ ap (λ x. number (bits b (o + 64 * i) x)) size ∙ sym (word-bits b o (64 * k) i (omega arith)))
+    word-bits b o n i (omega arith) ∙ ap (λ x. number (bits b (o + 64 * i) x)) size
+    ∙ sym (word-bits b o (64 * k) i (omega arith)))
 
 -- the full words, and the word behind them
 pub words_push : (l : List Bool) (n : ℕ) → words l (n + 1) ≡ words l n ++ word l n ∷ []
@@ -103,29 +116,38 @@ words_push l n = map-range_with_len_more (word l) 0 n n (zero-add n)
 
 -- ---- chunks
 -- what is left of the full words after the first
-pub next_chunk : (b : List ℕ) (byte shift left w : ℕ) (l : List ℕ) → words (bits b (8 * byte + shift) (64 * left)) left ≡ l → left ≢ 0 → digits w 0 64 ≡ bits b (8 * byte + shift) 64 → w < 2 ^ 64
+pub next_chunk : (b : List ℕ) (byte shift left w : ℕ) (l : List ℕ)
+    → words (bits b (8 * byte + shift) (64 * left)) left
+    ≡ l → left ≢ 0 → digits w 0 64 ≡ bits b (8 * byte + shift) 64 → w < 2 ^ 64
     → l ≡ w ∷ words (bits b (8 * (byte + 8) + shift) (64 * (left - 1))) (left - 1)
 next_chunk b byte shift left w l e some read clear =
     let more : left ≡ suc (left - 1) = omega arith in
     let at : 8 * byte + shift + 64 ≡ 8 * (byte + 8) + shift = omega arith in
-    sym e ∙ ap (λ n. words (bits b (8 * byte + shift) (64 * n)) n) more ∙ words_step b (8 * byte + shift) (left - 1) w read clear
+    sym e ∙ ap (λ n. words (bits b (8 * byte + shift) (64 * n)) n) more
+    ∙ words_step b (8 * byte + shift) (left - 1) w read clear
     ∙ ap (λ o. w ∷ words (bits b o (64 * (left - 1))) (left - 1)) at
 
 -- the full words of a window
-pub full_words_of : (b : List ℕ) (o n : ℕ) (l : List Bool) → bits b o n ≡ l → words (bits b (8 * (o / 8) + o % 8) (64 * (n / 64))) (n / 64) ≡ full_words l
+pub full_words_of : (b : List ℕ) (o n : ℕ) (l : List Bool)
+    → bits b o n ≡ l → words (bits b (8 * (o / 8) + o % 8) (64 * (n / 64))) (n / 64) ≡ full_words l
 full_words_of b o n l e =
     let at : 8 * (o / 8) + o % 8 ≡ o = omega arith in
     let len : n ≡ length l = sym (length-bits b o n) ∙ ap length e in
-    ap (λ p. words (bits b p (64 * (n / 64))) (n / 64)) at ∙ sym (words_front b o n (n / 64) (omega arith))
+    ap (λ p. words (bits b p (64 * (n / 64))) (n / 64)) at
+    ∙ sym (words_front b o n (n / 64) (omega arith))
     ∙ ap (λ m. words m (n / 64)) e ∙ ap (λ m. words l (m / 64)) len
 
 -- the word behind them
-pub remainder_of : (b : List ℕ) (o n w : ℕ) (l : List Bool) → bits b o n ≡ l → digits w 0 (n - n / 64 * 64) ≡ bits b (o + n / 64 * 64) (n - n / 64 * 64) → w < 2 ^ (n - n / 64 * 64) → w ≡ word l (length l / 64)
+pub remainder_of : (b : List ℕ) (o n w : ℕ) (l : List Bool)
+    → bits b o n ≡ l → digits w 0 (n - n / 64 * 64) ≡ bits b (o + n / 64 * 64) (n - n / 64 * 64)
+    → w < 2 ^ (n - n / 64 * 64) → w ≡ word l (length l / 64)
 remainder_of b o n w l e read clear =
     let len : n ≡ length l = sym (length-bits b o n) ∙ ap length e in
-    sym (word_read b o n (n / 64) w (o + n / 64 * 64) (n - n / 64 * 64) read clear (omega arith) (omega arith) (omega arith))
+    sym (word_read b o n (n / 64) w (o + n / 64 * 64) (n - n / 64 * 64) read clear (omega arith)
+    (omega arith) (omega arith))
     ∙ ap (λ m. word m (n / 64)) e ∙ ap (λ m. word l (m / 64)) len
 
 -- ---- for `#[tactic(auto, using(..))]`
 -- chunks of windows
-pub ruleset chunks = (length-bits, length-words, words_none, words_push, full_words_of, remainder_of)
+pub ruleset chunks =
+    (length-bits, length-words, words_none, words_push, full_words_of, remainder_of)

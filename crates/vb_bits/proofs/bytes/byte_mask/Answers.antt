@@ -10,7 +10,12 @@ overflow_sub-result c =
     omega (arith, one_shl c.args.from 16 (omega arith), one_shl c.args.to 16 (omega arith))
 
 pub overflow_cast-result : goal.overflow_cast-result
-overflow_cast-result c = omega (arith, one_shl c.args.from 16 (omega arith), one_shl c.args.to 16 (omega arith), mask_fits c.args.from c.args.to c.requires.in_byte)
+overflow_cast-result c = omega (
+  arith,
+  one_shl c.args.from 16 (omega arith),
+  one_shl c.args.to 16 (omega arith),
+  mask_fits c.args.from c.args.to c.requires.in_byte,
+)
 
 pub returns : goal.returns
 returns c = omega (arith, one_shl c.args.from 16 (omega arith), one_shl c.args.to 16 (omega arith))

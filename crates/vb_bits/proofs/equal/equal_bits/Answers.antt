@@ -5,12 +5,23 @@ use Rattle.vb_bits.proofs.equal.equal_bits.Goals.{then-equal_few, else-equal_few
 
 pub returns-then-equal_words : goal.returns-then-equal_words
 returns-then-equal_words c =
-    let l = c.args.l in let r = c.args.r in let k = c.args.len in let h = 64 - l % 64 in let m = (k - h) / 64 in
-    let parts = same-three c.args.left.now c.args.right.now l r h (64 * m) 64 k (8 * ((l + h) / 8)) (r + h) (l + (k - 64)) (r + (k - 64))
-    (omega arith) (omega arith) (omega arith) (omega arith) (omega arith) (omega arith) (omega arith) in
+    let l = c.args.l in
+    let r = c.args.r in
+    let k = c.args.len in
+    let h = 64 - l % 64 in
+    let m = (k - h) / 64 in
+    let parts = same-three c.args.left.now c.args.right.now l r h
+    (64 * m) 64 k (8 * ((l + h) / 8)) (r + h) (l + (k - 64)) (r + (k - 64))
+    (omega arith) (omega arith) (omega arith) (omega arith) (omega arith)
+    (omega arith) (omega arith) in
     elim c.if-equal_few.branch [
       | then-equal_few w ↦ (
-        λ t. parts.1 (c.equal_few-2.ensures.0 w.if-equal_few.true, w.equal_words.ensures.0 (sym w.value-is ∙ c.if-equal_words.true), c.equal_few-then-equal_words.ensures.0 t),
+        λ t. parts.1 (
+          c.equal_few-2.ensures.0 w.if-equal_few.true,
+          w.equal_words.ensures.0
+              (sym w.value-is ∙ c.if-equal_words.true),
+          c.equal_few-then-equal_words.ensures.0 t,
+        ),
         λ e. c.equal_few-then-equal_words.ensures.1 (parts.0 e).2,
       )
       | else-equal_few w ↦ absurd cc
@@ -18,9 +29,15 @@ returns-then-equal_words c =
 
 pub returns-else-equal_words : goal.returns-else-equal_words
 returns-else-equal_words c =
-    let l = c.args.l in let r = c.args.r in let k = c.args.len in let h = 64 - l % 64 in let m = (k - h) / 64 in
-    let parts = same-three c.args.left.now c.args.right.now l r h (64 * m) 64 k (8 * ((l + h) / 8)) (r + h) (l + (k - 64)) (r + (k - 64))
-    (omega arith) (omega arith) (omega arith) (omega arith) (omega arith) (omega arith) (omega arith) in (
+    let l = c.args.l in
+    let r = c.args.r in
+    let k = c.args.len in
+    let h = 64 - l % 64 in
+    let m = (k - h) / 64 in
+    let parts = same-three c.args.left.now c.args.right.now l r h
+    (64 * m) 64 k (8 * ((l + h) / 8)) (r + h) (l + (k - 64)) (r + (k - 64))
+    (omega arith) (omega arith) (omega arith) (omega arith) (omega arith)
+    (omega arith) (omega arith) in (
       λ t. absurd cc,
       λ e. elim c.if-equal_few.branch [
         | then-equal_few w ↦ w.value-is ∙ w.equal_words.ensures.1 (parts.0 e).1

@@ -4,4 +4,5 @@ use Rattle.vb_bits.specs.declared.equal.TheConstants.{BLOCK}
 use Rattle.vb_bits.proofs.equal.equal_blocks.Given as goal
 
 abbrev pub invariant-loop-k : goal.invariant-loop-k
-invariant-loop-k l = bits l.left (8 * l.a) (64 * (BLOCK * l.k)) ≡ bits l.right l.r (64 * (BLOCK * l.k))
+invariant-loop-k l =
+    bits l.left (8 * l.a) (64 * (BLOCK * l.k)) ≡ bits l.right l.r (64 * (BLOCK * l.k))

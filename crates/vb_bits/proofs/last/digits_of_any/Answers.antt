@@ -9,12 +9,16 @@ use Rattle.vb_bits.proofs.last.digits_of_any.Goals as goal
 
 pub loop-k-preserved : goal.loop-k-preserved
 loop-k-preserved c = λ none i l.
-    let b = c.args.bytes.now in let k = c.loop-k.k in let w = c.word_at-digits in let a = c.args.at + 8 * k in
+    let b = c.args.bytes.now in
+    let k = c.loop-k.k in
+    let w = c.word_at-digits in
+    let a = c.args.at + 8 * k in
     let both = (or-zero c.loop-k.digits w.result).0 none in
     elim (cases_lt i (64 * k)) [
       | inl before ↦ c.loop-k.invariant both.0 i before
       | inr here ↦
           let place : 8 * c.args.at + i ≡ 8 * a + (i - 64 * k) = omega arith in
-          ap (bit_of b) place ∙ sym (has_bit-bits b w.result (8 * a) 64 (i - 64 * k) (digits_of_word b w.result a w.ensures) (omega arith))
+          ap (bit_of b) place ∙ sym (has_bit-bits b w.result (8 * a) 64
+          (i - 64 * k) (digits_of_word b w.result a w.ensures) (omega arith))
           ∙ ap (λ x. has_bit x (i - 64 * k)) both.1 ∙ digits-clear (i - 64 * k)
     ]

@@ -10,16 +10,23 @@ use Rattle.vb_bits.proofs.last.last_set_index.Goals as goal
 pub returns-then-word-ne0 : goal.returns-then-word-ne0
 returns-then-word-ne0 c =
     let b = c.args.bytes.now in let w = c.read_bits-word in let n = c.min-count.result in
-    last_place-bits b c.args.offset c.args.len (c.loop-left.left - n) n w.result (omega (arith, c.if-word-ne0.true)) w.ensures.clear (omega (arith, c.min-count.ensures)) (omega (arith, c.min-count.ensures, c.loop-left.invariant.within))
+    last_place-bits b c.args.offset c.args.len (c.loop-left.left - n) n w.result
+    (omega (arith, c.if-word-ne0.true)) w.ensures.clear (omega (arith, c.min-count.ensures))
+    (omega (arith, c.min-count.ensures, c.loop-left.invariant.within))
     w.ensures.digits
     (λ i lo hi. c.loop-left.invariant.passed i (omega (arith, c.min-count.ensures)) hi)
 
 pub loop-left-preserved : goal.loop-left-preserved
 loop-left-preserved c =
-    let b = c.args.bytes.now in let o = c.args.offset in let w = c.read_bits-word in let n = c.min-count.result in let a = c.loop-left.left - n in
+    let b = c.args.bytes.now in
+    let o = c.args.offset in
+    let w = c.read_bits-word in
+    let n = c.min-count.result in
+    let a = c.loop-left.left - n in
     let blocks = c.pass_words-left in let words = c.pass_words-left-in-loop-left in
     record {
-      within = omega (arith, blocks.ensures.within, words.ensures.within, c.loop-left.invariant.within);
+      within =
+          omega (arith, blocks.ensures.within, words.ensures.within, c.loop-left.invariant.within);
       passed = λ i lo hi. elim (cases_lt i blocks.result) [
         | inl here ↦ words.ensures.passed i lo here
         | inr past ↦ elim (cases_lt i a) [
@@ -27,7 +34,8 @@ loop-left-preserved c =
           | inr behind ↦ elim (cases_lt i c.loop-left.left) [
             | inl here ↦
                 let place : o + i ≡ o + a + (i - a) = omega arith in
-                ap (bit_of b) place ∙ sym (has_bit-bits b w.result (o + a) n (i - a) w.ensures.digits (omega arith))
+                ap (bit_of b) place
+                ∙ sym (has_bit-bits b w.result (o + a) n (i - a) w.ensures.digits (omega arith))
                 ∙ ap (λ x. has_bit x (i - a)) c.if-word-ne0.false ∙ digits-clear (i - a)
             | inr last ↦ c.loop-left.invariant.passed i last hi
           ]
@@ -36,4 +44,5 @@ loop-left-preserved c =
     }
 
 pub returns : goal.returns
-returns c = last_place-bits_none c.args.bytes.now c.args.offset c.args.len (λ i l. c.loop-left.invariant.passed i (omega (arith, c.loop-left-test.false)) l)
+returns c = last_place-bits_none c.args.bytes.now c.args.offset c.args.len
+    (λ i l. c.loop-left.invariant.passed i (omega (arith, c.loop-left-test.false)) l)

@@ -9,6 +9,7 @@ returns-then-last-first c =
 
 pub returns : goal.returns
 returns c =
-    let words = Writes-negated _ _ _ _ _ _ _ _ c.negate_in_byte-2.ensures c.negate_words.ensures (omega arith) refl in
+    let words = Writes-negated _ _ _ _ _ _ _ _ c.negate_in_byte-2.ensures c.negate_words.ensures
+    (omega arith) refl in
     let bytes = Writes-negated _ _ _ _ _ _ _ _ words c.negate_bytes.ensures (omega arith) refl in
     Writes-negated _ _ _ _ _ _ _ _ bytes c.negate_in_byte-3.ensures (omega arith) (omega arith)

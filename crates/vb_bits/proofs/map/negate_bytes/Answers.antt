@@ -6,4 +6,5 @@ pub loop-k-init : goal.loop-k-init
 loop-k-init c = Writes_negated_none _ _ _ (omega arith)
 
 pub loop-k-preserved : goal.loop-k-preserved
-loop-k-preserved c = Writes-negated _ _ _ _ _ _ _ _ c.loop-k.invariant c.negate_in_byte.ensures (omega arith) (omega arith)
+loop-k-preserved c = Writes-negated _ _ _ _ _ _ _ _ c.loop-k.invariant c.negate_in_byte.ensures
+    (omega arith) (omega arith)

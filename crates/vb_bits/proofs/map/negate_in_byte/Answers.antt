@@ -6,4 +6,5 @@ pub returns-then-start-end : goal.returns-then-start-end
 returns-then-start-end c = Writes_negated_none _ _ _ (omega arith)
 
 pub returns : goal.returns
-returns c = rw c.byte_mask.ensures (Writes_xor_mask c.args.bytes.now c.args.start _ c.requires.in_byte (omega arith))
+returns c = rw c.byte_mask.ensures
+    (Writes_xor_mask c.args.bytes.now c.args.start _ c.requires.in_byte (omega arith))

@@ -7,5 +7,6 @@ loop-k-init c = Writes_negated_none _ _ _ (omega arith)
 
 pub loop-k-preserved : goal.loop-k-preserved
 loop-k-preserved c =
-    let word = Writes_not_word c.loop-k.bytes c.write_word.new.bytes (c.args.at + 8 * c.loop-k.k) c.word_at-word.result c.word_at-word.type_inv c.word_at-word.ensures c.write_word.ensures in
+    let word = Writes_not_word c.loop-k.bytes c.write_word.new.bytes (c.args.at + 8 * c.loop-k.k)
+    c.word_at-word.result c.word_at-word.type_inv c.word_at-word.ensures c.write_word.ensures in
     Writes-negated _ _ _ _ _ _ _ _ c.loop-k.invariant word (omega arith) (omega arith)

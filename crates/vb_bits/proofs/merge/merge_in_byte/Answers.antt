@@ -4,5 +4,7 @@ use Rattle.vb_bits.proofs.merge.merge_in_byte.Goals as goal
 
 pub returns : goal.returns
 returns g c =
-    Writes_merged_digits g.M.Merge.bit c.args.dst.now _ c.args.src.now _ _ _ c.args.len _ _ _ (omega (arith, c.requires.in_byte))
-    c.read_bits-left.ensures.digits c.read_bits-right.ensures.digits c.merge.ensures c.write_in_byte.ensures refl
+    Writes_merged_digits g.M.Merge.bit c.args.dst.now _ c.args.src.now _ _ _ c.args.len _ _ _
+    (omega (arith, c.requires.in_byte))
+    c.read_bits-left.ensures.digits
+    c.read_bits-right.ensures.digits c.word.ensures c.write_in_byte.ensures refl

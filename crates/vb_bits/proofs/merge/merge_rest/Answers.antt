@@ -4,5 +4,7 @@ use Rattle.vb_bits.proofs.merge.merge_rest.Goals as goal
 
 pub returns : goal.returns
 returns g c =
-    Writes_merged_digits g.M.Merge.bit c.args.dst.now _ c.args.src.now _ _ _ c.args.len _ _ _ (c.requires.in_word)
-    c.read_bits-left.ensures.digits c.read_bits-right.ensures.digits c.merge.ensures c.write_few.ensures refl
+    Writes_merged_digits g.M.Merge.bit c.args.dst.now _ c.args.src.now _ _ _ c.args.len _ _ _
+    (c.requires.in_word)
+    c.read_bits-left.ensures.digits c.read_bits-right.ensures.digits
+    c.word.ensures c.write_few.ensures refl

@@ -4,8 +4,11 @@ use Rattle.vb_bits.proofs.read.realigned.Goals as goal
 
 pub returns-then-shift-count-gt64 : goal.returns-then-shift-count-gt64
 returns-then-shift-count-gt64 c =
-    rw c.from.ensures (digits_joined c.args.bytes.now (c.args.at / 8) (c.args.at % 8) c.args.count c.word_from.result c.args.at c.word_from.ensures (omega arith) c.word_from.type_inv (omega arith) c.requires.in_word)
+    rw c.from.ensures (digits_joined c.args.bytes.now
+    (c.args.at / 8) (c.args.at % 8) c.args.count c.word_from.result c.args.at
+    c.word_from.ensures (omega arith) c.word_from.type_inv (omega arith) c.requires.in_word)
 
 pub returns-else-shift-count-gt64 : goal.returns-else-shift-count-gt64
 returns-else-shift-count-gt64 c =
-    digits_shifted c.args.bytes.now (c.args.at / 8) (c.args.at % 8) c.args.count c.word_from.result c.args.at c.word_from.ensures (omega arith) c.if-shift-count-gt64.false
+    digits_shifted c.args.bytes.now (c.args.at / 8) (c.args.at % 8) c.args.count
+    c.word_from.result c.args.at c.word_from.ensures (omega arith) c.if-shift-count-gt64.false

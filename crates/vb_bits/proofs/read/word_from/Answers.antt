@@ -5,10 +5,12 @@ use Rattle.vb_bits.proofs.ReadLemmas.{digits_of_word, bits_of_rest}
 use Rattle.vb_bits.proofs.read.word_from.Goals as goal
 
 pub returns-then-bytes-first-ge8 : goal.returns-then-bytes-first-ge8
-returns-then-bytes-first-ge8 c = digits_of_word c.args.bytes.now c.word_at.result c.args.first c.word_at.ensures
+returns-then-bytes-first-ge8 c =
+    digits_of_word c.args.bytes.now c.word_at.result c.args.first c.word_at.ensures
 
 pub returns-else-bytes-first-ge8 : goal.returns-else-bytes-first-ge8
 returns-else-bytes-first-ge8 c =
     let b = c.args.bytes.now in let a = c.args.first in
-    let rest : take (length b - a) (drop a b) ≡ drop a b = take_all (length b - a) (drop a b) (omega (arith, length-drop a b)) in
+    let rest : take (length b - a) (drop a b) ≡ drop a b =
+    take_all (length b - a) (drop a b) (omega (arith, length-drop a b)) in
     c.read_u64_le.ensures ∙ ap (λ l. bits l 0 64) rest ∙ bits_of_rest b a 64

@@ -4,7 +4,9 @@ use Rattle.vb_bits.proofs.WritesLemmas.{Writes_none, Writes_masked}
 use Rattle.vb_bits.proofs.write.write_in_byte.Goals as goal
 
 pub returns-then-count-eq0 : goal.returns-then-count-eq0
-returns-then-count-eq0 c = Writes_none _ _ _ (omega (arith, length-digits c.args.word 0 c.args.count))
+returns-then-count-eq0 c =
+    Writes_none _ _ _ (omega (arith, length-digits c.args.word 0 c.args.count))
 
 pub returns : goal.returns
-returns c = rw c.byte_mask-mask.ensures (Writes_masked c.args.bytes.now c.args.at c.args.count c.args.word c.requires.in_byte (omega arith))
+returns c = rw c.byte_mask-mask.ensures (Writes_masked c.args.bytes.now
+    c.args.at c.args.count c.args.word c.requires.in_byte (omega arith))

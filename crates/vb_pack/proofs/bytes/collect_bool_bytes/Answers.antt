@@ -1,4 +1,5 @@
-use Rattle.std.proofs.Common.{arith, ◌≡◌, ℕ, ◌+◌, ◌-◌, ◌*◌, ◌/◌, ◌%◌, ◌++◌, false, length, replicate, subst, sym, zero-add}
+use Rattle.std.proofs.Common.{arith, ◌≡◌, ℕ, ◌+◌, ◌-◌, ◌*◌, ◌/◌, ◌%◌, ◌++◌, false, length}
+use Rattle.std.proofs.Common.{replicate, subst, sym, zero-add}
 use Rattle.vb_bits.proofs.BitsLemmas.{length-bits, bits_none}
 use Rattle.vb_bits.proofs.DigitsLemmas.{length-digits}
 use Rattle.vb_bits.proofs.WritesLemmas.{Writes_none}
@@ -21,7 +22,8 @@ loop-k-init g c =
 
 pub collect_full-word-requires-clause-callable : goal.collect_full-word-requires-clause-callable
 collect_full-word-requires-clause-callable g c =
-    CanAsk-first (goal.F-step g) (goal.F-pre g) (64 * c.loop-k.k) 64 (c.args.len - 64 * c.loop-k.k) (c.args.len - 64 * c.loop-k.k - 64) c.loop-k.f (omega arith) c.loop-k.invariant.callable
+    CanAsk-first (goal.F-step g) (goal.F-pre g) (64 * c.loop-k.k) 64 (c.args.len - 64 * c.loop-k.k)
+    (c.args.len - 64 * c.loop-k.k - 64) c.loop-k.f (omega arith) c.loop-k.invariant.callable
 
 pub loop-k-preserved : goal.loop-k-preserved
 loop-k-preserved g c =
@@ -29,11 +31,18 @@ loop-k-preserved g c =
     let inv = c.loop-k.invariant in
     let next : 64 * (k + 1) ≡ 64 * k + 64 = omega arith in
     let from : 8 * (8 * k) ≡ 0 + 64 * k = omega arith in
-    let more = Writes-more _ c.loop-k.bytes c.write_front.new.bytes 0 (8 * (8 * k)) (64 * k) 64 (64 * (k + 1)) (digits w 0 64) from (length-digits w 0 64) next inv.written c.write_front.ensures in
+    let more = Writes-more _ c.loop-k.bytes c.write_front.new.bytes 0 (8 * (8 * k)) (64 * k) 64
+    (64 * (k + 1)) (digits w 0 64) from
+    (length-digits w 0 64) next inv.written c.write_front.ensures in
     record {
-      callable = CanAsk-rest (goal.F-step g) (goal.F-pre g) (64 * k) (64 * (k + 1)) 64 (c.args.len - 64 * k) (c.args.len - 64 * (k + 1)) c.loop-k.f (digits w 0 64) c.collect_full-word.new.f (omega arith) next inv.callable c.collect_full-word.ensures;
-      answered = subst (λ l. Answers (goal.F-step g) c.args.f.now (span 0 (64 * (k + 1))) l c.collect_full-word.new.f) (sym more.0)
-          (Answers-add (goal.F-step g) 0 (64 * k) (64 * k) 64 (64 * (k + 1)) _ _ c.loop-k.f (digits w 0 64) c.collect_full-word.new.f (sym (zero-add (64 * k))) next inv.answered c.collect_full-word.ensures);
+      callable = CanAsk-rest (goal.F-step g) (goal.F-pre g) (64 * k) (64 * (k + 1)) 64
+          (c.args.len - 64 * k) (c.args.len - 64 * (k + 1)) c.loop-k.f (digits w 0 64)
+          c.collect_full-word.new.f (omega arith) next inv.callable c.collect_full-word.ensures;
+      answered = subst (λ l. Answers (goal.F-step g) c.args.f.now
+          (span 0 (64 * (k + 1))) l c.collect_full-word.new.f) (sym more.0)
+          (Answers-add (goal.F-step g) 0 (64 * k) (64 * k) 64
+          (64 * (k + 1)) _ _ c.loop-k.f (digits w 0 64) c.collect_full-word.new.f
+          (sym (zero-add (64 * k))) next inv.answered c.collect_full-word.ensures);
       written = more.1;
     }
 
@@ -42,21 +51,33 @@ collect_part-last-requires-clause-callable g c =
     let from : 64 * c.loop-k.k ≡ 64 * (c.args.len / 64) = omega arith in
     let rest : c.args.len - 64 * c.loop-k.k ≡ c.args.len % 64 = omega arith in
     subst (λ a. CanAsk (goal.F-pre g) (goal.F-step g) c.loop-k.f (span a (c.args.len % 64))) from
-    (subst (λ n. CanAsk (goal.F-pre g) (goal.F-step g) c.loop-k.f (span (64 * c.loop-k.k) n)) rest c.loop-k.invariant.callable)
+    (subst (λ n. CanAsk (goal.F-pre g) (goal.F-step g) c.loop-k.f (span (64 * c.loop-k.k) n))
+    rest c.loop-k.invariant.callable)
 
 pub returns : goal.returns
 returns g c =
-    let n : ℕ = c.args.len in let full : ℕ = n / 64 in let rest : ℕ = n % 64 in let w = c.collect_part-last.result in
+    let n : ℕ = c.args.len in
+    let full : ℕ = n / 64 in
+    let rest : ℕ = n % 64 in
+    let w = c.collect_part-last.result in
     let b = c.loop-k.bytes in let d = c.write_front-2.new.bytes in
     let end : c.loop-k.k ≡ full = omega arith in
     let inv = c.loop-k.invariant in
     let before = subst (λ k. Writes c.args.bytes.now b 0 (bits b 0 (64 * k))) end inv.written in
-    let told = subst (λ k. Answers (goal.F-step g) c.args.f.now (span 0 (64 * k)) (bits b 0 (64 * k)) c.loop-k.f) end inv.answered in
+    let told = subst (λ k. Answers (goal.F-step g) c.args.f.now
+    (span 0 (64 * k)) (bits b 0 (64 * k)) c.loop-k.f) end inv.answered in
     let up = c.div_ceil.result in
-    let ended = Writes-ended c.args.bytes.now b d 0 (8 * (8 * full)) (64 * full) rest n (8 * up) w (omega arith) (omega arith) (omega arith) c.collect_part-last.ensures.clear before c.write_front-2.ensures in
+    let ended = Writes-ended c.args.bytes.now b d 0
+    (8 * (8 * full)) (64 * full) rest n (8 * up) w (omega arith) (omega arith)
+    (omega arith) c.collect_part-last.ensures.clear before c.write_front-2.ensures in
     let filled : 8 * up - rest ≡ (8 - length (bits d 0 n) % 8) % 8 = rw length-bits (omega arith) in
     record {
-      answered = subst (λ l. Answers (goal.F-step g) c.args.f.now (span 0 n) l c.collect_part-last.new.f) (sym ended.0)
-          (Answers-add (goal.F-step g) 0 (64 * full) (64 * full) rest n _ _ c.loop-k.f (digits w 0 rest) _ (sym (zero-add (64 * full))) (omega arith) told c.collect_part-last.ensures.answered);
-      written = subst (λ k. Writes c.args.bytes.now d 0 (bits d 0 n ++ replicate k false)) filled ended.1;
+      answered =
+          subst (λ l. Answers (goal.F-step g) c.args.f.now (span 0 n) l c.collect_part-last.new.f)
+          (sym ended.0)
+          (Answers-add
+          (goal.F-step g) 0 (64 * full) (64 * full) rest n _ _ c.loop-k.f (digits w 0 rest) _
+          (sym (zero-add (64 * full))) (omega arith) told c.collect_part-last.ensures.answered);
+      written =
+          subst (λ k. Writes c.args.bytes.now d 0 (bits d 0 n ++ replicate k false)) filled ended.1;
     }

@@ -22,5 +22,7 @@ returns c =
     let all = told.0 ∙ map-span _ l (length l) refl (λ k h. refl) in
     record {
       packed = all;
-      written = subst (λ m. Writes c.args.bytes.now c.collect_bool_bytes.new.bytes 0 (filled_up 8 m)) all c.collect_bool_bytes.ensures.written;
+      written =
+          subst (λ m. Writes c.args.bytes.now c.collect_bool_bytes.new.bytes 0 (filled_up 8 m))
+          all c.collect_bool_bytes.ensures.written;
     }

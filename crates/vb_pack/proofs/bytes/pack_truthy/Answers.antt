@@ -1,4 +1,5 @@
-use Rattle.std.proofs.Common.{rules, arith, ◌≡◌, ◌<◌, ◌==◌, not, false, length, map, get_or, subst, refl, sym, ap, ◌∙◌}
+use Rattle.std.proofs.Common.{rules, arith, ◌≡◌, ◌<◌, ◌==◌, not, false, length, map, get_or, subst}
+use Rattle.std.proofs.Common.{refl, sym, ap, ◌∙◌}
 use Rattle.std.proofs.lemmas.List.{length-map, get_or-map}
 use Rattle.vb_pack.specs.WordBits.{filled_up}
 use Rattle.vb_pack.specs.Writes.{Writes}
@@ -20,8 +21,11 @@ returns c =
     let kept : q.0.now ≡ p.0.now = search rules in
     (value ∙ ap (λ xs. not (get_or xs k 0 == 0)) same, kept ∙ same))
     _ _ _ refl c.collect_bool_bytes.ensures.answered in
-    let all = told.0 ∙ map-span _ (map (λ x. not (x == 0)) l) (length l) (sym (length-map l (λ x. not (x == 0)))) (λ k h. sym (get_or-map (λ x. not (x == 0)) l k 0 false h)) in
+    let all = told.0 ∙ map-span _ (map (λ x. not (x == 0)) l) (length l) (sym (length-map l
+    (λ x. not (x == 0)))) (λ k h. sym (get_or-map (λ x. not (x == 0)) l k 0 false h)) in
     record {
       packed = all;
-      written = subst (λ m. Writes c.args.bytes.now c.collect_bool_bytes.new.bytes 0 (filled_up 8 m)) all c.collect_bool_bytes.ensures.written;
+      written =
+          subst (λ m. Writes c.args.bytes.now c.collect_bool_bytes.new.bytes 0 (filled_up 8 m))
+          all c.collect_bool_bytes.ensures.written;
     }

@@ -19,7 +19,8 @@ loop-i-init g c =
 
 pub f-requires : goal.f-requires
 f-requires g c =
-    let may : goal.F-pre g c.loop-i.f (c.args.base + c.loop-i.i) = CanAsk_next (goal.F-step g) (goal.F-pre g) _ (c.args.len - c.loop-i.i) _ (omega arith) c.loop-i.invariant.callable in
+    let may : goal.F-pre g c.loop-i.f (c.args.base + c.loop-i.i) = CanAsk_next (goal.F-step g)
+    (goal.F-pre g) _ (c.args.len - c.loop-i.i) _ (omega arith) c.loop-i.invariant.callable in
     search of_calls
 
 pub loop-i-preserved : goal.loop-i-preserved
@@ -29,13 +30,16 @@ loop-i-preserved g c =
     let within : i < 64 = omega arith in
     let bit : c.from.result ≡ bool_byte c.f.result = c.from.ensures in
     record {
-      callable = CanAsk_after (goal.F-step g) (goal.F-pre g) (c.args.base + i) _ (c.args.len - i) _ _ c.f.result _ (omega arith) (omega arith) inv.callable c.f.ensures;
+      callable = CanAsk_after (goal.F-step g) (goal.F-pre g) (c.args.base + i) _
+          (c.args.len - i) _ _ c.f.result _ (omega arith) (omega arith) inv.callable c.f.ensures;
       answered = rw (bit, digits_packed c.loop-i.packed i c.f.result within inv.clear)
-          (Answers-push (goal.F-step g) c.args.base i _ _ _ _ c.f.result _ (omega arith) inv.answered c.f.ensures);
+          (Answers-push (goal.F-step g) c.args.base i _ _ _ _ c.f.result _
+          (omega arith) inv.answered c.f.ensures);
       clear = rw bit (packed_below c.loop-i.packed i c.f.result within inv.clear);
     }
 
 pub returns-clause-answered : goal.returns-clause-answered
 returns-clause-answered g c =
     let end : c.loop-i.i ≡ c.args.len = omega arith in
-    subst (λ n. Answers (goal.F-step g) c.args.f.now (span c.args.base n) (digits c.loop-i.packed 0 n) c.loop-i.f) end c.loop-i.invariant.answered
+    subst (λ n. Answers (goal.F-step g) c.args.f.now (span c.args.base n)
+    (digits c.loop-i.packed 0 n) c.loop-i.f) end c.loop-i.invariant.answered

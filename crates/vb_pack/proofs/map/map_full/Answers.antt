@@ -1,4 +1,5 @@
-use Rattle.std.proofs.Common.{arith, of_calls, ◌≡◌, ℕ, ◌+◌, ◌-◌, [], ◌∷◌, ◌++◌, take, set, length-set, subst, refl, sym, ap, ◌∙◌}
+use Rattle.std.proofs.Common.{arith, of_calls, ◌≡◌, ℕ, ◌+◌, ◌-◌, [], ◌∷◌, ◌++◌, take, set}
+use Rattle.std.proofs.Common.{length-set, subst, refl, sym, ap, ◌∙◌}
 use Rattle.std.proofs.Math.Seq.{take-length}
 use Rattle.std.proofs.lemmas.Grind.{take-set_at}
 use Rattle.vb_pack.specs.Asked.{Answers, span}
@@ -14,7 +15,8 @@ loop-i-init g c =
     record {
       long = refl;
       callable = rw here c.requires.callable;
-      answered = Answers_none (λ p i b q. goal.F-step g p i (bit_of c.args.src.now (c.args.offset + i)) b q) c.args.base c.args.f.now;
+      answered = Answers_none (λ p i b q. goal.F-step g p i
+          (bit_of c.args.src.now (c.args.offset + i)) b q) c.args.base c.args.f.now;
     }
 
 pub f-requires : goal.f-requires
@@ -22,9 +24,14 @@ f-requires g c =
     let i : ℕ = c.loop-i.i in let place : ℕ = c.args.base + i in
     let from : c.args.offset + c.args.base + i ≡ c.args.offset + place = omega arith in
     let bit : c.digit.result ≡ bit_of c.args.src.now (c.args.offset + place) =
-    c.digit.ensures ∙ has_bit-bits c.args.src.now c.read_bits-word.result (c.args.offset + c.args.base) 64 i c.read_bits-word.ensures.digits (omega arith) ∙ ap (bit_of c.args.src.now) from in
-    let may : goal.F-pre g c.loop-i.f place c.digit.result = subst (goal.F-pre g c.loop-i.f place) (sym bit)
-    (CanAsk_next (λ p i b q. goal.F-step g p i (bit_of c.args.src.now (c.args.offset + i)) b q) (λ p i. goal.F-pre g p i (bit_of c.args.src.now (c.args.offset + i))) place (64 - i) c.loop-i.f (omega arith) c.loop-i.invariant.callable) in
+    c.digit.ensures ∙ has_bit-bits c.args.src.now c.read_bits-word.result
+    (c.args.offset + c.args.base) 64 i c.read_bits-word.ensures.digits (omega arith)
+    ∙ ap (bit_of c.args.src.now) from in
+    let may : goal.F-pre g c.loop-i.f place c.digit.result =
+    subst (goal.F-pre g c.loop-i.f place) (sym bit)
+    (CanAsk_next (λ p i b q. goal.F-step g p i (bit_of c.args.src.now (c.args.offset + i)) b q)
+    (λ p i. goal.F-pre g p i (bit_of c.args.src.now (c.args.offset + i))) place
+    (64 - i) c.loop-i.f (omega arith) c.loop-i.invariant.callable) in
     search of_calls
 
 pub loop-i-preserved : goal.loop-i-preserved
@@ -32,14 +39,24 @@ loop-i-preserved g c =
     let i : ℕ = c.loop-i.i in let place : ℕ = c.args.base + i in
     let from : c.args.offset + c.args.base + i ≡ c.args.offset + place = omega arith in
     let lit : c.digit.result ≡ bit_of c.args.src.now (c.args.offset + place) =
-    c.digit.ensures ∙ has_bit-bits c.args.src.now c.read_bits-word.result (c.args.offset + c.args.base) 64 i c.read_bits-word.ensures.digits (omega arith) ∙ ap (bit_of c.args.src.now) from in
-    let said = subst (λ x. goal.F-step g c.loop-i.f place x c.f.result c.f.new.self) lit c.f.ensures in
+    c.digit.ensures ∙ has_bit-bits c.args.src.now c.read_bits-word.result
+    (c.args.offset + c.args.base) 64 i c.read_bits-word.ensures.digits (omega arith)
+    ∙ ap (bit_of c.args.src.now) from in
+    let said =
+    subst (λ x. goal.F-step g c.loop-i.f place x c.f.result c.f.new.self) lit c.f.ensures in
     let inv = c.loop-i.invariant in
-    let one_more : take (i + 1) (set c.loop-i.bools i c.f.result) ≡ take i c.loop-i.bools ++ c.f.result ∷ [] = take-set_at c.loop-i.bools i (i + 1) c.f.result refl (omega (arith, inv.long)) in
+    let one_more : take (i + 1) (set c.loop-i.bools i c.f.result)
+    ≡ take i c.loop-i.bools ++ c.f.result ∷ [] =
+    take-set_at c.loop-i.bools i (i + 1) c.f.result refl (omega (arith, inv.long)) in
     record {
       long = simp length-set inv.long;
-      callable = CanAsk_after (λ p i b q. goal.F-step g p i (bit_of c.args.src.now (c.args.offset + i)) b q) (λ p i. goal.F-pre g p i (bit_of c.args.src.now (c.args.offset + i))) (c.args.base + i) _ (64 - i) _ _ c.f.result _ (omega arith) (omega arith) inv.callable said;
-      answered = rw one_more (Answers-push (λ p i b q. goal.F-step g p i (bit_of c.args.src.now (c.args.offset + i)) b q) c.args.base i _ _ _ _ c.f.result _ (omega arith) inv.answered said);
+      callable =
+          CanAsk_after (λ p i b q. goal.F-step g p i (bit_of c.args.src.now (c.args.offset + i)) b
+          q) (λ p i. goal.F-pre g p i (bit_of c.args.src.now (c.args.offset + i))) (c.args.base + i)
+          _ (64 - i) _ _ c.f.result _ (omega arith) (omega arith) inv.callable said;
+      answered = rw one_more (Answers-push
+          (λ p i b q. goal.F-step g p i (bit_of c.args.src.now (c.args.offset + i)) b q) c.args.base
+          i _ _ _ _ c.f.result _ (omega arith) inv.answered said);
     }
 
 pub returns : goal.returns
@@ -47,6 +64,10 @@ returns g c =
     let inv = c.loop-i.invariant in
     let end : c.loop-i.i ≡ 64 = omega arith in
     let all : take c.loop-i.i c.loop-i.bools ≡ digits c.pack_bool_word_lanes.result 0 64 =
-    ap (λ n. take n c.loop-i.bools) (end ∙ sym inv.long) ∙ take-length c.loop-i.bools ∙ sym c.pack_bool_word_lanes.ensures in
-    subst (λ n. Answers (λ p i b q. goal.F-step g p i (bit_of c.args.src.now (c.args.offset + i)) b q) c.args.f.now (span c.args.base n) (digits c.pack_bool_word_lanes.result 0 64) c.loop-i.f) end
-    (subst (λ l. Answers (λ p i b q. goal.F-step g p i (bit_of c.args.src.now (c.args.offset + i)) b q) c.args.f.now (span c.args.base c.loop-i.i) l c.loop-i.f) all inv.answered)
+    ap (λ n. take n c.loop-i.bools) (end ∙ sym inv.long) ∙ take-length c.loop-i.bools
+    ∙ sym c.pack_bool_word_lanes.ensures in
+    subst (λ n. Answers
+    (λ p i b q. goal.F-step g p i (bit_of c.args.src.now (c.args.offset + i)) b q) c.args.f.now
+    (span c.args.base n) (digits c.pack_bool_word_lanes.result 0 64) c.loop-i.f) end
+    (subst (λ l. Answers (λ p i b q. goal.F-step g p i (bit_of c.args.src.now (c.args.offset + i)) b
+    q) c.args.f.now (span c.args.base c.loop-i.i) l c.loop-i.f) all inv.answered)

@@ -16,5 +16,7 @@ loop-i-preserved c = record {
 pub returns : goal.returns
 returns c =
     let long = c.loop-i.invariant.long in
-    let back : map (λ x. eqb x 1) c.loop-i.bytes ≡ c.args.bools.now = compared_back c.loop-i.bytes c.args.bools.now long c.told-bools (λ i h. c.loop-i.invariant.written i (omega arith)) in
-    ap (λ w. digits w 0 64) (bitmask_splat w8 eqb c.loop-i.bytes 64 1 long (omega arith) ∙ ap mask_l back) ∙ digits-mask_l c.args.bools.now 64 c.told-bools
+    let back : map (λ x. eqb x 1) c.loop-i.bytes ≡ c.args.bools.now = compared_back c.loop-i.bytes
+    c.args.bools.now long c.told-bools (λ i h. c.loop-i.invariant.written i (omega arith)) in
+    ap (λ w. digits w 0 64) (bitmask_splat w8 eqb c.loop-i.bytes 64 1 long (omega arith)
+    ∙ ap mask_l back) ∙ digits-mask_l c.args.bools.now 64 c.told-bools

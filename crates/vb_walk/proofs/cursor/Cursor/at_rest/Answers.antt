@@ -5,7 +5,10 @@ use Rattle.vb_walk.proofs.cursor.Cursor.at_rest.Goals as goal
 
 pub returns : goal.returns
 returns c =
-    let b = c.args.bytes.now in let s = c.args.self in let v = c.requires.valid in let w = c.read_rest.result in
+    let b = c.args.bytes.now in
+    let s = c.args.self in
+    let v = c.requires.valid in
+    let w = c.read_rest.result in
     let here = v.here c.requires.more in
     let size : 8 * s.end - s.offset + s.left - (8 * s.end - s.offset) ≡ s.left = omega arith in
     record {
@@ -25,8 +28,10 @@ returns c =
       ends = omega (arith, v.order);
       base = omega arith;
       read = λ i lo hi.
-          let place : 8 * s.end + (i - (8 * s.end - s.offset)) ≡ s.offset + i = omega (arith, v.order) in
-          has_bit-bits b w (8 * s.end) s.left (i - (8 * s.end - s.offset)) c.read_rest.ensures.digits (omega (arith, v.order)) ∙ ap (bit_of b) place;
+          let place : 8 * s.end + (i - (8 * s.end - s.offset)) ≡ s.offset + i =
+          omega (arith, v.order) in
+          has_bit-bits b w (8 * s.end) s.left (i - (8 * s.end - s.offset))
+          c.read_rest.ensures.digits (omega (arith, v.order)) ∙ ap (bit_of b) place;
       last = omega arith;
       short = omega (arith, v.short);
     }

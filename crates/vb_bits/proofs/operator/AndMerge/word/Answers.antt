@@ -1,0 +1,5 @@
+use Rattle.vb_bits.proofs.DigitsLemmas.{has_bit-and}
+use Rattle.vb_bits.proofs.operator.AndMerge.word.Goals as goal
+
+pub returns : goal.returns
+returns c = λ i h. has_bit-and c.args.left c.args.right i

@@ -1,0 +1,5 @@
+use Rattle.vb_bits.proofs.DigitsLemmas.{has_bit-xor}
+use Rattle.vb_bits.proofs.operator.XorMerge.word.Goals as goal
+
+pub returns : goal.returns
+returns c = λ i h. has_bit-xor c.args.left c.args.right i

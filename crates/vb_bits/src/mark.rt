@@ -1,0 +1,35 @@
+//! Bits made true at places.
+ghost use Rattle.std.specs.Prelude.{◌≡◌, ◌*◌, ◌≤◌, length, IfErr, OnOk};
+ghost use Rattle.std.specs.Iterator.{IsFinite};
+ghost use Rattle.vb_bits.specs.Bits.{bits};
+ghost use Rattle.vb_bits.specs.Marks.{with_true, GivesBelow, FirstNotBelow};
+ghost use Rattle.vb_bits.specs.Writes.{Writes};
+
+use crate::bit::set_bit_unchecked;
+
+/// Makes the bits true at the places that an iterator gives, which may come more than once; or
+/// answers the first number that is not below `len`, and asks for none behind it.
+///
+/// The bits from bit `len` on stay in either case. Where a number is refused, those before bit
+/// `len` are open.
+pub fn set_bits_at<I: Iterator<Item = usize>>(
+    bytes: &mut [u8],
+    len: usize,
+    places: I,
+) -> Result<(), usize>
+    requires room { len ≤ 8 * length bytes.old }
+    requires can { I.can_next places }
+    requires finite { IsFinite (I.remaining places) }
+    ensures bits { OnOk result (GivesBelow I.next_gives len places
+        (λ given. bits bytes.new 0 len ≡ with_true (bits bytes.old 0 len) given)) }
+    ensures past { IfErr result (FirstNotBelow I.next_gives len places) }
+    ensures others { Writes bytes.old bytes.new 0 (bits bytes.new 0 len) }
+{
+    for place in places {
+        if place >= len {
+            return Err(place);
+        }
+        set_bit_unchecked(bytes, place);
+    }
+    Ok(())
+}
