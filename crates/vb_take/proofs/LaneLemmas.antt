@@ -1,5 +1,6 @@
 -- A digit for each lane of a vector, and a bit tested by a mask.
-use Rattle.std.proofs.Common.{◌≡◌, ℕ, zero, suc, ◌-◌, ◌*◌, ◌%◌, ◌^◌, ◌<◌, Bool, true, false, not, cond, eqb, List, map, replicate, length, get_or, refl, ap, ◌∙◌, arith}
+use Rattle.std.proofs.Common.{◌≡◌, ℕ, zero, suc, ◌-◌, ◌*◌, ◌%◌, ◌^◌, ◌<◌, Bool, true, false, not}
+use Rattle.std.proofs.Common.{cond, eqb, List, map, replicate, length, get_or, refl, ap, ◌∙◌, arith}
 use Rattle.std.proofs.lemmas.Bool.Decides.{nat_tests}
 use Rattle.std.proofs.lemmas.List.{get_or-map}
 use Rattle.std.proofs.lemmas.Nat.{pow_pos}
@@ -29,7 +30,8 @@ digit_shifted (suc (suc d)) i h = absurd (omega arith)
 -- a digit of a number under a mask of one
 pub digit_masked : (x m b i : ℕ) → x ≡ b → m ≡ 2 ^ i → not (eqb (bit_and x m) 0) ≡ has_bit b i
 digit_masked x m b i e f =
-    ap (λ z. not (eqb (bit_and z m) 0)) e ∙ ap (λ z. not (eqb (bit_and b z) 0)) f ∙ ap (λ z. not (eqb z 0)) (and_pow b i) ∙ digit_shifted (bit_at b i) i (bit_at-lt b i)
+    ap (λ z. not (eqb (bit_and z m) 0)) e ∙ ap (λ z. not (eqb (bit_and b z) 0)) f
+    ∙ ap (λ z. not (eqb z 0)) (and_pow b i) ∙ digit_shifted (bit_at b i) i (bit_at-lt b i)
 
 -- a truth value as a digit
 cond_one : (b : Bool) → eqb (cond b 1 0) 1 ≡ b
@@ -42,16 +44,20 @@ has_bit-mask_l ms i = ap (λ z. eqb z 1) (bit_mask_l ms i) ∙ cond_one (get_or 
 
 -- a digit of the word that a comparison of all lanes with one number makes
 pub lane_digit : (t : ℕ → ℕ → Bool) (xs : List ℕ) (a k : ℕ) → length xs ≡ 64 → k < 64
-    → has_bit (mask_l (map (top (hbits w32)) (zip2 (λ x y. cond (t x y) (2 ^ width w32 - 1) 0) xs (replicate 64 a))) % 2 ^ 64) k ≡ t (get_or xs k 0) a
+    → has_bit (mask_l (map (top (hbits w32)) (zip2 (λ x y. cond (t x y) (2 ^ width w32 - 1) 0) xs
+    (replicate 64 a))) % 2 ^ 64) k ≡ t (get_or xs k 0) a
 lane_digit t xs a k long h =
     let p = λ (x : ℕ). t x a in
-    ap (λ n. has_bit n k) (bitmask_splat w32 t xs 64 a long (omega arith)) ∙ has_bit-mask_l (map p xs) k ∙ get_or-map p xs k 0 false (omega arith)
+    ap (λ n. has_bit n k) (bitmask_splat w32 t xs 64 a long (omega arith))
+    ∙ has_bit-mask_l (map p xs) k ∙ get_or-map p xs k 0 false (omega arith)
 
 -- a digit of the word that says of which lanes two numbers have a digit in common
 pub common_digit : (xs ys : List ℕ) (k : ℕ) → length xs ≡ 64 → length ys ≡ 64 → k < 64
-    → has_bit (mask_l (map (top (hbits w32)) (zip2 (λ x y. cond (not (eqb x y)) (2 ^ width w32 - 1) 0) (zip2 bit_and xs ys) (replicate 64 0))) % 2 ^ 64) k
+    → has_bit (mask_l (map (top (hbits w32)) (zip2 (λ x y. cond (not (eqb x y))
+    (2 ^ width w32 - 1) 0) (zip2 bit_and xs ys) (replicate 64 0))) % 2 ^ 64) k
     ≡ not (eqb (bit_and (get_or xs k 0) (get_or ys k 0)) 0)
 common_digit xs ys k lx ly h =
     let zs : List ℕ = zip2 bit_and xs ys in
     let long : length zs ≡ 64 = length-zip2 bit_and xs ys (omega arith) ∙ lx in
-    lane_digit (λ x y. not (eqb x y)) zs 0 k long h ∙ ap (λ z. not (eqb z 0)) (get_or-zip2 bit_and xs ys k 0 0 0 (omega arith) (omega arith))
+    lane_digit (λ x y. not (eqb x y)) zs 0 k long h
+    ∙ ap (λ z. not (eqb z 0)) (get_or-zip2 bit_and xs ys k 0 0 0 (omega arith) (omega arith))

@@ -1,5 +1,6 @@
 -- What is taken at places that all lie in the list, where each position counts.
-use Rattle.std.proofs.Common.{◌≡◌, ℕ, pos, negsuc, ◌^◌, ◌<◌, Bool, false, cond, List, length, map, get_or, slice_get, Some, None, sym, ap, ◌∙◌, arith}
+use Rattle.std.proofs.Common.{◌≡◌, ℕ, pos, negsuc, ◌^◌, ◌<◌, Bool, false, cond, List, length, map}
+use Rattle.std.proofs.Common.{get_or, slice_get, Some, None, sym, ap, ◌∙◌, arith}
 use Rattle.std.specs.List.{All}
 use Rattle.std.specs.Option.{option_and_then}
 use Rattle.std.proofs.lemmas.Bool.{lt-ltb}
@@ -9,27 +10,34 @@ use Rattle.vb_bits.specs.Bits.{at}
 use Rattle.vb_take.specs.Takes.{value_at, taken_at, IsTaken, IsFirstPast}
 
 -- the value at a place of 64 bits
-value_there : (l : List Bool) (p : ℕ) → p < length l → p < 2 ^ 64 → value_at l (pos p) ≡ Some (at l p)
+value_there : (l : List Bool) (p : ℕ)
+    → p < length l → p < 2 ^ 64 → value_at l (pos p) ≡ Some (at l p)
 value_there l p within fits =
-    ap (λ b. option_and_then (slice_get l) (cond b (Some p) None)) (lt-ltb p (2 ^ 64) fits) ∙ slice_get-get_or l p false within
+    ap (λ b. option_and_then (slice_get l) (cond b (Some p) None)) (lt-ltb p (2 ^ 64) fits)
+    ∙ slice_get-get_or l p false within
 
 same_value : (a b : Bool) → Some a ≡ Some b → a ≡ b
 same_value a b e = cc
 
-module _ (l : List Bool) (ps : List ℕ) (within : All (λ p. p < length l) ps) (fits : All (λ p. p < 2 ^ 64) ps) where
+module _ (l : List Bool)
+    (ps : List ℕ) (within : All (λ p. p < length l) ps) (fits : All (λ p. p < 2 ^ 64) ps) where
   -- each position takes the value at its place
-  pub taken_at-places : (i : ℕ) → i < length ps → taken_at l (map pos ps) None i ≡ Some (at l (get_or ps i 0))
+  pub taken_at-places : (i : ℕ)
+      → i < length ps → taken_at l (map pos ps) None i ≡ Some (at l (get_or ps i 0))
   taken_at-places i h =
-      ap (value_at l) (get_or-map pos ps i 0 (negsuc 0) h) ∙ value_there l (get_or ps i 0) (within i 0 h) (fits i 0 h)
+      ap (value_at l) (get_or-map pos ps i 0 (negsuc 0) h)
+      ∙ value_there l (get_or ps i 0) (within i 0 h) (fits i 0 h)
 
   -- they are the values at these places
-  pub IsTaken-places : (taken : List Bool) → IsTaken l (map pos ps) None taken → taken ≡ map (at l) ps
+  pub IsTaken-places : (taken : List Bool)
+      → IsTaken l (map pos ps) None taken → taken ≡ map (at l) ps
   IsTaken-places taken h =
       let len : length (map pos ps) ≡ length ps = length-map ps pos in
       same_lists _ _ (h.same_len ∙ len ∙ sym (length-map ps (at l))) (λ i d below.
       let here : i < length ps = omega (arith, h.same_len) in
       let read : get_or taken i d ≡ at taken i = get_or_default taken i d false below in
-      read ∙ same_value _ _ (sym (h.each i (omega arith)) ∙ taken_at-places i here) ∙ sym (get_or-map (at l) ps i 0 d here))
+      read ∙ same_value _ _ (sym (h.each i (omega arith)) ∙ taken_at-places i here)
+      ∙ sym (get_or-map (at l) ps i 0 d here))
 
   -- there is no position that takes nothing
   pub IsFirstPast-places : (p : ℕ) → IsFirstPast l (map pos ps) None p → ⊥

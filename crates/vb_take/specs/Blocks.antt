@@ -2,7 +2,6 @@
 use Rattle.std.specs.Prelude.{◌≡◌, ℕ, ℤ, ◌-◌, ◌^◌, ◌<◌, ◌≤◌, ◌||◌, ◌==◌, Bool, false, List, length}
 use Rattle.std.specs.Prelude.{min, slice_get, slice_index, Option, Some, Result, Ok, Err}
 use Rattle.std.specs.Prelude.{IsTrue, if◌then◌else◌}
-use Rattle.std.specs.List.{list_any}
 use Rattle.std.specs.Option.{unwrap_or}
 use Rattle.vb_bits.specs.Bits.{bit_of}
 use Rattle.vb_bits.specs.Digits.{has_bit}
@@ -28,13 +27,3 @@ TakesBlock l block valid (Err p) =
 abbrev pub TakenTo : ℕ → List Bool → List ℤ → Option (List Bool) → List ℕ → Type 0
 TakenTo n l indices validity bytes = (i : ℕ) → i < n
     → taken_at l indices validity i ≡ Some (bit_of bytes i)
-
--- as many bytes, and the bits from bit n on are as before
-pub record KeepsBehind (n : ℕ) (old new : List ℕ) : Type 0 where
-  pub same_len : length new ≡ length old
-  pub others : (i : ℕ) → n ≤ i → bit_of new i ≡ bit_of old i
-
--- of the first n bits those at the places are true, and the others are as before
-abbrev pub MarkedAt : ℕ → List ℕ → List ℕ → List ℕ → Type 0
-MarkedAt n places old new = (i : ℕ) → i < n
-    → bit_of new i ≡ (bit_of old i || list_any (λ p. p == i) places)

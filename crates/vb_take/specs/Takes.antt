@@ -1,11 +1,10 @@
 -- Bits taken at indices, and bits made true at places.
-use Rattle.std.specs.Prelude.{◌≡◌, ℕ, ℤ, negsuc, ◌<◌, ◌≤◌, ◌⊎◌, ◌||◌, ◌==◌, Bool, true, false, List}
-use Rattle.std.specs.Prelude.{length, map, slice_get, slice_index, slice_index_or, Option, Some}
-use Rattle.std.specs.Prelude.{None, IsSome, if◌then◌else◌}
-use Rattle.std.specs.Iterator.{Drains, YieldsThen}
-use Rattle.std.specs.List.{range_with_len, list_any}
+use Rattle.std.specs.Prelude.{◌≡◌, ℕ, ℤ, negsuc, ◌<◌, ◌⊎◌, Bool, true, false, List, length}
+use Rattle.std.specs.Prelude.{slice_get, slice_index_or, Option, Some, None, IsSome}
+use Rattle.std.specs.Prelude.{if◌then◌else◌}
 use Rattle.std.specs.Option.{option_and_then}
 use Rattle.vb_bits.specs.Bits.{at}
+pub use Rattle.vb_bits.specs.Marks.{with_true, AllBelow, GivesBelow, FirstNotBelow}
 use Rattle.vb_core.specs.Indices.{place_of}
 use Rattle.vb_core.specs.declared.error.BufferError.{BufferError}
 use Rattle.vb_core.specs.declared.error.BufferError.TheVariants.{OutOfMemory, IndexOutOfRange}
@@ -38,25 +37,6 @@ pub record IsFirstPast (l : List Bool) (indices : List ℤ) (validity : Option (
   pub within : p < length indices
   pub past : taken_at l indices validity p ≡ None
   pub before : (i : ℕ) → i < p → IsSome (taken_at l indices validity i)
-
--- the list with true at these places
-abbrev pub with_true : List Bool → List ℕ → List Bool
-with_true l places =
-    map (λ i. at l i || list_any (λ p. p == i) places) (range_with_len 0 (length l))
-
--- each number is below n
-abbrev pub AllBelow : ℕ → List ℕ → Type 0
-AllBelow n places = (i : ℕ) → i < length places → slice_index places i < n
-
-module _ {S : Type 0} (steps : S → Option ℕ → S → Type 0) where
-  -- calls from s gave numbers below n alone and came to an end, and P holds of the numbers
-  abbrev pub GivesBelow : ℕ → S → (List ℕ → Type 0) → Type 0
-  GivesBelow n s P = (places : List ℕ) × Drains steps s places × AllBelow n places × P places
-
-  -- calls from s gave numbers below n, and then this one, which isn't
-  abbrev pub FirstNotBelow : ℕ → S → ℕ → Type 0
-  FirstNotBelow n s index = (places : List ℕ) × (t : S)
-      × YieldsThen steps s places (Some index) t × AllBelow n places × (n ≤ index)
 
 -- why a set isn't made of what an iterator gives: want of memory, or the first number that isn't
 -- below n

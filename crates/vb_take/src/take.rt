@@ -4,9 +4,9 @@ ghost use Rattle.std.specs.Prelude.{IfOk, IfErr, if◌then◌else◌};
 ghost use Rattle.std.specs.Option.{ForSome, option_map};
 ghost use Rattle.vb_bits.specs.Bits.{at, bits as window};
 ghost use Rattle.vb_bits.specs.Digits.{has_bit};
-ghost use Rattle.vb_bits.specs.Writes.{Writes};
+ghost use Rattle.vb_bits.specs.Writes.{Writes, KeepsBehind};
 ghost use Rattle.vb_view.specs.View.{bits_of};
-ghost use Rattle.vb_take.specs.Blocks.{TakenTo, KeepsBehind};
+ghost use Rattle.vb_take.specs.Blocks.{TakenTo};
 ghost use Rattle.vb_take.specs.Takes.{is_valid, value_at, IsTaken, IsFirstPast};
 
 use crate::block::{narrow_block, take_block};

@@ -1,7 +1,13 @@
 -- What contracts see of a `BitBufferMutView`.
-use Rattle.std.specs.Prelude.{◌≡◌, ℕ, Bool, List}
+use Rattle.std.specs.Prelude.{◌≡◌, ℕ, Bool, List, length}
+use Rattle.std.specs.Borrow.{MutBor}
 use Rattle.vb_view.specs.declared.mut_view.BitStore.{Ghosts}
 use Rattle.vb_view.specs.declared.mut_view.BitBufferMutView.{BitBufferMutView}
+
+-- what is written to is this reference, with the value that it has
+pub record IsThisLoan {T : Type 0} (store reference : MutBor T) : Type 0 where
+  pub same_reference : store.ghost_name ≡ reference.ghost_name
+  pub value : store.now ≡ reference.now
 
 module _ {S : Type 0} {g : Ghosts S} where
   -- its bits
@@ -23,6 +29,12 @@ module _ {S : Type 0} {g : Ghosts S} where
   -- how many bits there are
   abbrev pub mut_len_of : BitBufferMutView S g → ℕ
   mut_len_of v = v.len
+
+  -- it shows these bits, of which the first lies at this place
+  pub record ShowsWindow (first : ℕ) (shown : List Bool) (v : BitBufferMutView S g) : Type 0 where
+    pub bits : mut_bits_of v ≡ shown
+    pub place : place_of v ≡ first
+    pub len : mut_len_of v ≡ length shown
 
   -- nothing but bits changed
   pub record KeepsWindow (old new : BitBufferMutView S g) : Type 0 where

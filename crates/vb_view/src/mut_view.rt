@@ -249,17 +249,16 @@ impl<'a> BitStore for &'a mut [u8] {
 
 #[tactic(auto, using(vb_bits::proofs::WindowLemmas::windows))]
 impl<'a> BitBufferMutView<&'a mut [u8]> {
-    ghost use Rattle.vb_view.specs.MutView.{mut_bits_of, store_of, place_of, mut_len_of};
+    ghost use Rattle.vb_view.specs.MutView.{mut_bits_of, store_of, mut_len_of};
+    ghost use Rattle.vb_view.specs.MutView.{IsThisLoan, ShowsWindow};
 
     /// The first `len` bits of the bytes, in which they have to lie.
     pub fn new(bytes: &'a mut [u8], len: usize) -> Self
         requires { len ≤ 8 * length bytes.old }
-        ensures bits { mut_bits_of result ≡ window bytes.old 0 len }
-        ensures place { place_of result ≡ 0 }
+        ensures lends { IsThisLoan (store_of result) bytes.entry }
+        ensures window { ShowsWindow 0 (window bytes.old 0 len) result }
         ensures len { mut_len_of result ≡ len }
         ensures bit_len { length (mut_bits_of result) ≡ len }
-        ensures bytes { (store_of result).now ≡ bytes.old }
-        ensures same_reference { (store_of result).ghost_name ≡ bytes.entry.ghost_name }
     {
         BitBufferMutView::new_with_offset(bytes, len, 0)
     }
@@ -269,12 +268,10 @@ impl<'a> BitBufferMutView<&'a mut [u8]> {
     pub fn new_with_offset(bytes: &'a mut [u8], len: usize, offset: usize) -> Self
         requires inside { offset + len ≤ 8 * length bytes.old }
         requires fits { offset + len < 2 ^ 64 }
-        ensures bits { mut_bits_of result ≡ window bytes.old offset len }
-        ensures place { place_of result ≡ offset }
+        ensures lends { IsThisLoan (store_of result) bytes.entry }
+        ensures window { ShowsWindow offset (window bytes.old offset len) result }
         ensures len { mut_len_of result ≡ len }
         ensures bit_len { length (mut_bits_of result) ≡ len }
-        ensures bytes { (store_of result).now ≡ bytes.old }
-        ensures same_reference { (store_of result).ghost_name ≡ bytes.entry.ghost_name }
     {
         BitBufferMutView::over(bytes, offset, len)
     }

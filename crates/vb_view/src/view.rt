@@ -1,6 +1,6 @@
 //! Bits over borrowed bytes.
 ghost use Rattle.std.specs.Prelude.{◌≡◌, ◌+◌, ◌-◌, ◌*◌, ◌/◌, ◌%◌, ◌^◌, ◌<◌, ◌≤◌, ◌==◌};
-ghost use Rattle.std.specs.Prelude.{length, drop, slice_get, slice_range, Some, All};
+ghost use Rattle.std.specs.Prelude.{ℕ, length, drop, slice_get, slice_range, Some, All};
 ghost use Rattle.vb_bits.specs.Bits.{bits, count, negated, places, Selects, AnswersEach};
 ghost use Rattle.vb_bits.specs.Runs.{runs, last_place};
 ghost use Rattle.vb_walk.specs.Cut.{IsCut};
@@ -187,6 +187,19 @@ impl<'a> BitBufferView<'a> {
         ensures { result ≡ count (negated (bits_of self.now)) }
     {
         self.len() - self.true_count()
+    }
+
+    /// How many of the bits from `start` up to `end`, `end` excluded, are true. It reads the bytes
+    /// of these bits once, 64 at a time.
+    pub fn count_range(&self, start: usize, end: usize) -> usize
+        requires order { start ≤ end }
+        requires within { end ≤ length (bits_of self.now) }
+        ensures value { result ≡ count (slice_range (bits_of self.now) start end) }
+        ensures adds { (b : ℕ) → start ≤ b → b ≤ end → result
+            ≡ count (slice_range (bits_of self.now) start b)
+            + count (slice_range (bits_of self.now) b end) }
+    {
+        count_ones(self.bytes, self.offset + start, end - start)
     }
 
     /// The place of the `n`-th true bit, counted from 0; `None` where at most `n` bits are true. It

@@ -5,5 +5,6 @@ use Rattle.vb_take.proofs.block.narrow_block.Given as goal
 abbrev pub invariant-loop-k : goal.invariant-loop-k
 invariant-loop-k g l = record {
   long : length l.block ≡ 64;
-  each : (i : ℕ) → i < l.k → slice_index l.block i ≡ narrowed (slice_index_or (map g.I.BitIndex.number l.indices) (l.at + i) (negsuc 0));
+  each : (i : ℕ) → i < l.k → slice_index l.block i
+      ≡ narrowed (slice_index_or (map g.I.BitIndex.number l.indices) (l.at + i) (negsuc 0));
 }

@@ -6,4 +6,6 @@ pub returns : goal.returns
 returns c = λ k h.
     let place : ℕ = slice_index c.args.places.now k in
     c.common_bits.ensures k h
-    ∙ digit_masked (slice_index c.bytes.taken k) (slice_index c.masks.masks k) (slice_index c.args.bytes.now (place / 8)) (place % 8) (c.bytes.invariant.each k (omega arith)) (c.masks.invariant.each k (omega arith))
+    ∙ digit_masked (slice_index c.bytes.taken k)
+    (slice_index c.masks.masks k) (slice_index c.args.bytes.now (place / 8)) (place % 8)
+    (c.bytes.invariant.each k (omega arith)) (c.masks.invariant.each k (omega arith))

@@ -4,7 +4,8 @@ use Rattle.vb_take.proofs.block.take_word.Given as goal
 abbrev pub invariant-bytes : goal.invariant-bytes
 invariant-bytes l = record {
   long : length l.taken ≡ 64;
-  each : (i : ℕ) → i < l.k → slice_index l.taken i ≡ slice_index l.bytes (slice_index l.places i / 8);
+  each : (i : ℕ)
+      → i < l.k → slice_index l.taken i ≡ slice_index l.bytes (slice_index l.places i / 8);
 }
 
 abbrev pub invariant-masks : goal.invariant-masks

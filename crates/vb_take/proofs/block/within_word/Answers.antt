@@ -5,4 +5,5 @@ use Rattle.vb_take.proofs.block.within_word.Goals as goal
 
 pub returns-then-greatest-len : goal.returns-then-greatest-len
 returns-then-greatest-len c = λ k h.
-    digit_of_all k h ∙ sym (lt-ltb (slice_index c.args.block.now k) c.args.len (omega (arith, c.greatest.ensures k h)))
+    digit_of_all k h ∙ sym
+    (lt-ltb (slice_index c.args.block.now k) c.args.len (omega (arith, c.greatest.ensures k h)))

@@ -12,4 +12,5 @@ returns c = λ k h.
     let place : from + k ≡ v.offset + (c.args.start + k) = omega (arith, c.offset.ensures.value) in
     has_bit-bits c.inner.result.now c.full_word.result from 64 k c.full_word.ensures h
     ∙ ap (λ b. bit_of b (from + k)) c.inner.ensures.bytes ∙ ap (bit_of v.bytes.now) place
-    ∙ sym (at-bits v.bytes.now v.offset v.len (c.args.start + k) false (omega (arith, length-bits v.bytes.now v.offset v.len)))
+    ∙ sym (at-bits v.bytes.now v.offset v.len
+    (c.args.start + k) false (omega (arith, length-bits v.bytes.now v.offset v.len)))
