@@ -1,20 +1,26 @@
 -- Searches that go from list to list.
-use Rattle.std.proofs.Common.{◌≡◌, ℕ, ◌+◌, ◌-◌, ◌^◌, ◌<◌, ◌≤◌, Bool, true, false, not, List, ◌++◌, length, take, Option, None, Some, IsSome, refl, sym, ap, ◌∙◌, arith, subst, ⊎_elim, pow_mono}
+use Rattle.std.proofs.Common.{◌≡◌, ℕ, ◌+◌, ◌-◌, ◌^◌, ◌<◌, ◌≤◌, Bool, true, false, not, List, ◌++◌}
+use Rattle.std.proofs.Common.{length, take, Option, None, Some, IsSome, refl, sym, ap, ◌∙◌, arith}
+use Rattle.std.proofs.Common.{subst, ⊎_elim, pow_mono}
 use Rattle.std.below.core.specs.declared.ops.ControlFlow.{ControlFlow}
 use Rattle.std.below.core.specs.declared.ops.ControlFlow.TheVariants.{Continue, Break}
 use Rattle.std.specs.ControlFlow.{break_value}
-use Rattle.std.proofs.lemmas.List.{length-map, map-append, length-append, get_or_append_left, get_or-append-add, take-append-le}
+use Rattle.std.proofs.lemmas.List.{length-map, map-append, length-append, get_or_append_left}
+use Rattle.std.proofs.lemmas.List.{get_or-append-add, take-append-le}
 use Rattle.std.proofs.Math.Seq.{take-append_seam, take-append-add}
 use Rattle.std.proofs.lemmas.Bool.{cases_lt}
 use Rattle.vb_bits.specs.Bits.{bits, count, negated, Selects}
 use Rattle.vb_bits.specs.Digits.{digits}
 use Rattle.vb_kernel.specs.Searches.{matching, Searched}
-use Rattle.vb_bits.proofs.BitsLemmas.{bits-add, length-bits, count-append, count-le, count-take-lt, count-take-mono, count-bits_none, count-negated, count-negated_none}
+use Rattle.vb_bits.proofs.BitsLemmas.{bits-add, length-bits, count-append, count-le, count-take-lt}
+use Rattle.vb_bits.proofs.BitsLemmas.{count-take-mono, count-bits_none, count-negated}
+use Rattle.vb_bits.proofs.BitsLemmas.{count-negated_none}
 use Rattle.vb_bits.proofs.DigitsLemmas.{digits-add, count-digits_below}
 
 -- ---- a place in two lists, one after the other
 -- found in the first
-pub Selects-append_left : (k l : List Bool) (n p : ℕ) → Selects k n (Some p) → Selects (k ++ l) n (Some p)
+pub Selects-append_left : (k l : List Bool) (n p : ℕ)
+    → Selects k n (Some p) → Selects (k ++ l) n (Some p)
 Selects-append_left k l n p s = (
   omega (arith, s.0, length-append k l),
   get_or_append_left k l false p s.0 ∙ s.1,
@@ -22,7 +28,8 @@ Selects-append_left k l n p s = (
 )
 
 -- found in the second
-pub Selects-append_right : (k l : List Bool) (n left p : ℕ) → n ≡ left + count k → Selects l left (Some p) → Selects (k ++ l) n (Some (length k + p))
+pub Selects-append_right : (k l : List Bool) (n left p : ℕ)
+    → n ≡ left + count k → Selects l left (Some p) → Selects (k ++ l) n (Some (length k + p))
 Selects-append_right k l n left p passed s = (
   omega (arith, s.0, length-append k l),
   get_or-append-add k l p false ∙ s.1,
@@ -30,10 +37,16 @@ Selects-append_right k l n left p passed s = (
 )
 
 -- a rank below the first one's count is found there
-Selects-left : (k l : List Bool) (n p : ℕ) → n < count k → Selects (k ++ l) n (Some p) → Selects k n (Some p)
+Selects-left : (k l : List Bool) (n p : ℕ)
+    → n < count k → Selects (k ++ l) n (Some p) → Selects k n (Some p)
 Selects-left k l n p low s =
     let inside : p < length k = ⊎_elim (λ h. h)
-    (λ (past : length k ≤ p). absurd (omega (arith, s.2, count-take-mono (k ++ l) (length k) p past, ap count (take-append_seam k l))))
+    (λ (past : length k ≤ p). absurd (omega (
+      arith,
+      s.2,
+      count-take-mono (k ++ l) (length k) p past,
+      ap count (take-append_seam k l),
+    )))
     (cases_lt p (length k)) in (
       inside,
       sym (get_or_append_left k l false p inside) ∙ s.1,
@@ -52,17 +65,24 @@ matching-append true k l = refl
 matching-append false k l = map-append not k l
 
 -- in a window cut in two
-matching-bits-add : (v : Bool) (b : List ℕ) (o m n : ℕ) → matching v (bits b o (m + n)) ≡ matching v (bits b o m) ++ matching v (bits b (o + m) n)
-matching-bits-add v b o m n = ap (matching v) (bits-add b o m n) ∙ matching-append v (bits b o m) (bits b (o + m) n)
+matching-bits-add : (v : Bool) (b : List ℕ) (o m n : ℕ)
+    → matching v (bits b o (m + n)) ≡ matching v (bits b o m) ++ matching v (bits b (o + m) n)
+matching-bits-add v b o m n =
+    ap (matching v) (bits-add b o m n) ∙ matching-append v (bits b o m) (bits b (o + m) n)
 
 -- how many they are in a window cut in two
-pub count-matching-bits-add : (v : Bool) (b : List ℕ) (o m n : ℕ) → count (matching v (bits b o (m + n))) ≡ count (matching v (bits b o m)) + count (matching v (bits b (o + m) n))
-count-matching-bits-add v b o m n = ap count (matching-bits-add v b o m n) ∙ count-append (matching v (bits b o m)) (matching v (bits b (o + m) n))
+pub count-matching-bits-add : (v : Bool) (b : List ℕ) (o m n : ℕ) → count (matching v
+    (bits b o (m + n))) ≡ count (matching v (bits b o m)) + count (matching v (bits b (o + m) n))
+count-matching-bits-add v b o m n = ap count (matching-bits-add v b o m n)
+    ∙ count-append (matching v (bits b o m)) (matching v (bits b (o + m) n))
 
 -- the same, with the place and the length of the second part as the code has them
-pub count-matching-bits_split : (v : Bool) (b : List ℕ) (o m z p k : ℕ) → p ≡ o + m → z ≡ m + k → count (matching v (bits b o z)) ≡ count (matching v (bits b o m)) + count (matching v (bits b p k))
+pub count-matching-bits_split : (v : Bool) (b : List ℕ) (o m z p k : ℕ)
+    → p ≡ o + m → z ≡ m + k → count (matching v (bits b o z))
+    ≡ count (matching v (bits b o m)) + count (matching v (bits b p k))
 count-matching-bits_split v b o m z p k place end =
-    ap (λ n. count (matching v (bits b o n))) end ∙ count-matching-bits-add v b o m k ∙ ap (λ x. count (matching v (bits b o m)) + count (matching v (bits b x k))) (sym place)
+    ap (λ n. count (matching v (bits b o n))) end ∙ count-matching-bits-add v b o m k
+    ∙ ap (λ x. count (matching v (bits b o m)) + count (matching v (bits b x k))) (sym place)
 
 -- none in a window of no bits
 pub count-matching-bits_none : (v : Bool) (b : List ℕ) (o : ℕ) → count (matching v (bits b o 0)) ≡ 0
@@ -81,44 +101,75 @@ matching_false false l e = refl
 
 -- no more than the window has bits
 pub count-matching-bits-le : (v : Bool) (b : List ℕ) (o n : ℕ) → count (matching v (bits b o n)) ≤ n
-count-matching-bits-le v b o n = omega (arith, count-le (matching v (bits b o n)), length-matching v (bits b o n), length-bits b o n)
+count-matching-bits-le v b o n = omega (
+  arith,
+  count-le (matching v (bits b o n)),
+  length-matching v (bits b o n),
+  length-bits b o n,
+)
 
 -- how many they are in a window, where true is sought
-pub count-matching-bits_true : (v : Bool) (b : List ℕ) (o n : ℕ) → v ≡ true → count (matching v (bits b o n)) ≡ count (bits b o n)
+pub count-matching-bits_true : (v : Bool) (b : List ℕ) (o n : ℕ)
+    → v ≡ true → count (matching v (bits b o n)) ≡ count (bits b o n)
 count-matching-bits_true v b o n e = ap count (matching_true v (bits b o n) e)
 
 -- how many they are in a window, where false is sought
-pub count-matching-bits_false : (v : Bool) (b : List ℕ) (o n : ℕ) → v ≡ false → count (matching v (bits b o n)) ≡ n - count (bits b o n)
-count-matching-bits_false v b o n e = omega (arith, ap count (matching_false v (bits b o n) e), count-negated (bits b o n), length-bits b o n)
+pub count-matching-bits_false : (v : Bool) (b : List ℕ) (o n : ℕ)
+    → v ≡ false → count (matching v (bits b o n)) ≡ n - count (bits b o n)
+count-matching-bits_false v b o n e = omega (
+  arith,
+  ap count (matching_false v (bits b o n) e),
+  count-negated (bits b o n),
+  length-bits b o n,
+)
 
 -- ---- searches of windows
 -- a place that was found is one of the window
-pub Searched_inside : (v : Bool) (b : List ℕ) (o z n p : ℕ) → Searched (matching v (bits b o z)) n (Break p) → p < z
-Searched_inside v b o z n p s = omega (arith, s.0, length-matching v (bits b o z), length-bits b o z)
+pub Searched_inside : (v : Bool) (b : List ℕ) (o z n p : ℕ)
+    → Searched (matching v (bits b o z)) n (Break p) → p < z
+Searched_inside v b o z n p s =
+    omega (arith, s.0, length-matching v (bits b o z), length-bits b o z)
 
 -- found in a front of the window
-pub Searched_longer : (v : Bool) (b : List ℕ) (o m z n p : ℕ) → m ≤ z → Searched (matching v (bits b o m)) n (Break p) → Searched (matching v (bits b o z)) n (Break p)
+pub Searched_longer : (v : Bool) (b : List ℕ) (o m z n p : ℕ)
+    → m ≤ z → Searched (matching v (bits b o m)) n (Break p)
+    → Searched (matching v (bits b o z)) n (Break p)
 Searched_longer v b o m z n p within s =
     let e : m + (z - m) ≡ z = omega arith in
-    let t = Selects-append_left (matching v (bits b o m)) (matching v (bits b (o + m) (z - m))) n p s in
-    subst (λ x. Searched (matching v (bits b o x)) n (Break p)) e (subst (λ l. Searched l n (Break p)) (sym (matching-bits-add v b o m (z - m))) t)
+    let t =
+    Selects-append_left (matching v (bits b o m)) (matching v (bits b (o + m) (z - m))) n p s in
+    subst (λ x. Searched (matching v (bits b o x)) n (Break p)) e
+    (subst (λ l. Searched l n (Break p)) (sym (matching-bits-add v b o m (z - m))) t)
 
 -- a window whose front was passed by is searched in what comes after it
-pub Searched_after : (v : Bool) (b : List ℕ) (o m k n left p : ℕ) → n ≡ left + count (matching v (bits b o m)) → Searched (matching v (bits b (o + m) k)) left (Break p) → Searched (matching v (bits b o (m + k))) n (Break (m + p))
+pub Searched_after : (v : Bool) (b : List ℕ) (o m k n left p : ℕ)
+    → n ≡ left + count (matching v (bits b o m)) → Searched (matching v (bits b (o + m) k)) left
+    (Break p) → Searched (matching v (bits b o (m + k))) n (Break (m + p))
 Searched_after v b o m k n left p passed s =
-    let long : length (matching v (bits b o m)) ≡ m = length-matching v (bits b o m) ∙ length-bits b o m in
-    let t = Selects-append_right (matching v (bits b o m)) (matching v (bits b (o + m) k)) n left p passed s in
-    subst (λ x. Searched (matching v (bits b o (m + k))) n (Break (x + p))) long (subst (λ l. Searched l n (Break (length (matching v (bits b o m)) + p))) (sym (matching-bits-add v b o m k)) t)
+    let long : length (matching v (bits b o m)) ≡ m =
+    length-matching v (bits b o m) ∙ length-bits b o m in
+    let t = Selects-append_right (matching v (bits b o m))
+    (matching v (bits b (o + m) k)) n left p passed s in
+    subst (λ x. Searched (matching v (bits b o (m + k))) n (Break (x + p))) long
+    (subst (λ l. Searched l n (Break (length (matching v (bits b o m)) + p)))
+    (sym (matching-bits-add v b o m k)) t)
 
--- a search of the part from place a to place y, of a source that stayed as it was, goes on with the search of the window
-pub Searched_on : (v : Bool) (b c : List ℕ) (o a y z n left : ℕ) (r : ControlFlow ℕ ℕ) → c ≡ b → y ≡ z → n ≡ left + count (matching v (bits b o a))
-    → Searched (matching v (bits c o y)) (left + count (matching v (bits c o a))) r → Searched (matching v (bits b o z)) n r
+-- a search of the part from place a to place y, of a source that stayed as it was, goes on with the
+-- search of the window
+pub Searched_on : (v : Bool) (b c : List ℕ) (o a y z n left : ℕ) (r : ControlFlow ℕ ℕ)
+    → c ≡ b → y ≡ z → n ≡ left + count (matching v (bits b o a))
+    → Searched (matching v (bits c o y)) (left + count (matching v (bits c o a))) r
+    → Searched (matching v (bits b o z)) n r
 Searched_on v b c o a y z n left r same end passed s =
-    let here = subst (λ x. Searched (matching v (bits x o y)) (left + count (matching v (bits x o a))) r) same s in
-    subst (λ x. Searched (matching v (bits b o x)) n r) end (subst (λ m. Searched (matching v (bits b o y)) m r) (sym passed) here)
+    let here =
+    subst (λ x. Searched (matching v (bits x o y)) (left + count (matching v (bits x o a))) r)
+    same s in
+    subst (λ x. Searched (matching v (bits b o x)) n r) end
+    (subst (λ m. Searched (matching v (bits b o y)) m r) (sym passed) here)
 
 -- the place that a whole search gives
-pub Searched-Selects : (l : List Bool) (n : ℕ) (r : ControlFlow ℕ ℕ) → Searched l n r → Selects l n (break_value r)
+pub Searched-Selects : (l : List Bool) (n : ℕ) (r : ControlFlow ℕ ℕ)
+    → Searched l n r → Selects l n (break_value r)
 Searched-Selects l n (Break p) s = s
 Searched-Selects l n (Continue left) s = omega (arith, s)
 
@@ -129,11 +180,15 @@ IsSome-Selects l n (Some p) low s = refl
 
 -- ---- searches of words
 -- a digit above those that a number has is no answer
-pub Selects-digits_below : (w k n p : ℕ) → k ≤ 64 → w < 2 ^ k → Selects (digits w 0 64) n (Some p) → Selects (digits w 0 k) n (Some p)
-Selects-digits_below w k n p within small s =
-    let e : k + (64 - k) ≡ 64 = omega arith in
-    let cut : digits w 0 64 ≡ digits w 0 k ++ digits w (0 + k) (64 - k) = ap (digits w 0) (sym e) ∙ digits-add w 0 k (64 - k) in
-    let wide : 2 ^ k ≤ 2 ^ 64 = pow_mono within in
-    let same : count (digits w 0 64) ≡ count (digits w 0 k) = count-digits_below w 64 (omega (arith, wide)) ∙ sym (count-digits_below w k small) in
-    let low = count-take-lt (digits w 0 64) p s.0 s.1 in
-    Selects-left (digits w 0 k) (digits w (0 + k) (64 - k)) n p (omega (arith, low, s.2, same)) (subst (λ l. Selects l n (Some p)) cut s)
+pub Selects-digits_below : (w k m n p : ℕ)
+    → k ≤ m → w < 2 ^ k → Selects (digits w 0 m) n (Some p) → Selects (digits w 0 k) n (Some p)
+Selects-digits_below w k m n p within small s =
+    let e : k + (m - k) ≡ m = omega arith in
+    let cut : digits w 0 m ≡ digits w 0 k ++ digits w (0 + k) (m - k) =
+    ap (digits w 0) (sym e) ∙ digits-add w 0 k (m - k) in
+    let wide : 2 ^ k ≤ 2 ^ m = pow_mono within in
+    let same : count (digits w 0 m) ≡ count (digits w 0 k) =
+    count-digits_below w m (omega (arith, wide)) ∙ sym (count-digits_below w k small) in
+    let low = count-take-lt (digits w 0 m) p s.0 s.1 in
+    Selects-left (digits w 0 k) (digits w (0 + k) (m - k)) n p (omega (arith, low, s.2, same))
+    (subst (λ l. Selects l n (Some p)) cut s)

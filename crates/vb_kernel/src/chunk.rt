@@ -139,6 +139,6 @@ impl Unit for [u8; 64] {
     }
 
     fn select(self, n: usize, value: bool) -> usize {
-        select_in_chunk(u8x64::from_array(self), n, value)
+        select_in_chunk(u8x64::from_slice(&self), n, value)
     }
 }

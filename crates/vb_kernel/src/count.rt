@@ -3,9 +3,9 @@
 //! The window is read as Mula, Kurz and Lemire's "Faster Population Counts Using AVX2 Instructions"
 //! does: whole vectors first, many of them by carry-save adders, and what is left by words and
 //! bytes. The compiler chooses the count of a word or vector.
-ghost use Rattle.std.specs.Prelude.{◌≡◌, ℕ, ◌+◌, ◌-◌, ◌*◌, ◌/◌, ◌%◌, ◌^◌, ◌<◌, ◌≤◌, length, min};
+ghost use Rattle.std.specs.Prelude.{◌≡◌, ◌+◌, ◌-◌, ◌*◌, ◌/◌, ◌%◌, ◌^◌, ◌<◌, ◌≤◌, length, min};
 ghost use Rattle.vb_bits.specs.Bits.{bits, count};
-ghost use Rattle.vb_kernel.specs.Looks.{looks};
+ghost use Rattle.vb_kernel.specs.Looks.{looks, LooksExactly};
 
 use crate::chunk::{LaneSum, chunk_ones};
 use crate::counter::Counter;
@@ -49,11 +49,10 @@ fn count_of_many(bytes: &[u8], offset: usize, len: usize) -> usize
 /// It looks once at a partial first byte, once at each 64 whole bytes, once at each eight of those
 /// left, once at each byte then left, and once at a partial last byte.
 pub fn count_ones_by<G: Glance>(src: &mut G, offset: usize, len: usize) -> usize
-    requires inside { offset + len ≤ 8 * length (G.bytes src.old) }
+    requires inside { offset + len ≤ 8 * length (G.seen src.old).bytes }
     requires fits { offset + len < 2 ^ 64 }
-    ensures value { result ≡ count (bits (G.bytes src.old) offset len) }
-    ensures same { G.bytes src.new ≡ G.bytes src.old }
-    ensures looks { G.looks src.new ≡ G.looks src.old + looks offset len }
+    ensures value { result ≡ count (bits (G.seen src.old).bytes offset len) }
+    ensures looks { LooksExactly (looks offset len) (G.seen src.old) (G.seen src.new) }
 {
     if len <= 512 {
         count_short(src, offset, len)
@@ -67,11 +66,10 @@ pub fn count_ones_by<G: Glance>(src: &mut G, offset: usize, len: usize) -> usize
 #[inline(always)]
 fn count_short<G: Glance>(src: &mut G, offset: usize, len: usize) -> usize
     requires short { len ≤ 512 }
-    requires inside { offset + len ≤ 8 * length (G.bytes src.old) }
+    requires inside { offset + len ≤ 8 * length (G.seen src.old).bytes }
     requires fits { offset + len < 2 ^ 64 }
-    ensures value { result ≡ count (bits (G.bytes src.old) offset len) }
-    ensures same { G.bytes src.new ≡ G.bytes src.old }
-    ensures looks { G.looks src.new ≡ G.looks src.old + looks offset len }
+    ensures value { result ≡ count (bits (G.seen src.old).bytes offset len) }
+    ensures looks { LooksExactly (looks offset len) (G.seen src.old) (G.seen src.new) }
 {
     let head = (8 - offset % 8) % 8;
     if len <= head {
@@ -91,11 +89,10 @@ fn count_short<G: Glance>(src: &mut G, offset: usize, len: usize) -> usize
 #[inline(never)]
 fn count_long<G: Glance>(src: &mut G, offset: usize, len: usize) -> usize
     requires long { 512 < len }
-    requires inside { offset + len ≤ 8 * length (G.bytes src.old) }
+    requires inside { offset + len ≤ 8 * length (G.seen src.old).bytes }
     requires fits { offset + len < 2 ^ 64 }
-    ensures value { result ≡ count (bits (G.bytes src.old) offset len) }
-    ensures same { G.bytes src.new ≡ G.bytes src.old }
-    ensures looks { G.looks src.new ≡ G.looks src.old + looks offset len }
+    ensures value { result ≡ count (bits (G.seen src.old).bytes offset len) }
+    ensures looks { LooksExactly (looks offset len) (G.seen src.old) (G.seen src.new) }
 {
     let head = (8 - offset % 8) % 8;
     let at = (offset + head) / 8;
@@ -114,11 +111,10 @@ fn count_long<G: Glance>(src: &mut G, offset: usize, len: usize) -> usize
 
 /// Counts the bits from bit `offset` on up to the first whole byte, which are the rest of a byte.
 fn count_head<G: Glance>(src: &mut G, offset: usize) -> usize
-    requires inside { 0 < offset % 8 → offset / 8 < length (G.bytes src.old) }
-    ensures value { result ≡ count (bits (G.bytes src.old) offset ((8 - offset % 8) % 8)) }
+    requires inside { 0 < offset % 8 → offset / 8 < length (G.seen src.old).bytes }
+    ensures value { result ≡ count (bits (G.seen src.old).bytes offset ((8 - offset % 8) % 8)) }
     ensures few { result ≤ (8 - offset % 8) % 8 }
-    ensures same { G.bytes src.new ≡ G.bytes src.old }
-    ensures looks { G.looks src.new ≡ G.looks src.old + min (offset % 8) 1 }
+    ensures looks { LooksExactly (min (offset % 8) 1) (G.seen src.old) (G.seen src.new) }
 {
     let before = offset % 8;
     if before == 0 {
@@ -131,10 +127,9 @@ fn count_head<G: Glance>(src: &mut G, offset: usize) -> usize
 #[tactic(auto, using(vb_bits::proofs::BitsLemmas::windows))]
 fn count_part<G: Glance>(src: &mut G, at: usize, len: usize) -> usize
     requires in_byte { 0 < len → at % 8 + len ≤ 8 }
-    requires inside { at + len ≤ 8 * length (G.bytes src.old) }
-    ensures value { result ≡ count (bits (G.bytes src.old) at len) }
-    ensures same { G.bytes src.new ≡ G.bytes src.old }
-    ensures looks { G.looks src.new ≡ G.looks src.old + min len 1 }
+    requires inside { at + len ≤ 8 * length (G.seen src.old).bytes }
+    ensures value { result ≡ count (bits (G.seen src.old).bytes at len) }
+    ensures looks { LooksExactly (min len 1) (G.seen src.old) (G.seen src.new) }
 {
     if len == 0 {
         return 0;
@@ -149,12 +144,11 @@ fn count_part<G: Glance>(src: &mut G, at: usize, len: usize) -> usize
 #[tactic(auto, using(vb_bits::proofs::BitsLemmas::windows))]
 #[inline(never)]
 pub(crate) fn add_chunks<G: Glance>(src: &mut G, at: usize, n: usize, ones: usize) -> usize
-    requires inside { at + 64 * n ≤ length (G.bytes src.old) }
+    requires inside { at + 64 * n ≤ length (G.seen src.old).bytes }
     requires fits { 8 * at + 512 * n < 2 ^ 64 }
     requires room { ones + 512 * n < 2 ^ 64 }
-    ensures value { result ≡ ones + count (bits (G.bytes src.old) (8 * at) (512 * n)) }
-    ensures same { G.bytes src.new ≡ G.bytes src.old }
-    ensures looks { G.looks src.new ≡ G.looks src.old + n }
+    ensures value { result ≡ ones + count (bits (G.seen src.old).bytes (8 * at) (512 * n)) }
+    ensures looks { LooksExactly n (G.seen src.old) (G.seen src.new) }
 {
     if n < MANY {
         return add_few(src, at, n, ones);
@@ -173,12 +167,11 @@ pub(crate) fn add_chunks<G: Glance>(src: &mut G, at: usize, n: usize, ones: usiz
 #[tactic(auto, using(vb_bits::proofs::BitsLemmas::windows))]
 #[inline(never)]
 fn add_few<G: Glance>(src: &mut G, at: usize, n: usize, ones: usize) -> usize
-    requires inside { at + 64 * n ≤ length (G.bytes src.old) }
+    requires inside { at + 64 * n ≤ length (G.seen src.old).bytes }
     requires fits { 8 * at + 512 * n < 2 ^ 64 }
     requires room { ones + 512 * n < 2 ^ 64 }
-    ensures value { result ≡ ones + count (bits (G.bytes src.old) (8 * at) (512 * n)) }
-    ensures same { G.bytes src.new ≡ G.bytes src.old }
-    ensures looks { G.looks src.new ≡ G.looks src.old + n }
+    ensures value { result ≡ ones + count (bits (G.seen src.old).bytes (8 * at) (512 * n)) }
+    ensures looks { LooksExactly n (G.seen src.old) (G.seen src.new) }
 {
     let mut sum = LaneSum::of(ones);
     for k in 0..n / 2 {
@@ -192,11 +185,10 @@ fn add_few<G: Glance>(src: &mut G, at: usize, n: usize, ones: usize) -> usize
 #[tactic(auto, using(vb_bits::proofs::BitsLemmas::windows))]
 #[inline(never)]
 fn count_quarters<G: Glance>(src: &mut G, at: usize, turns: usize) -> usize
-    requires inside { at + 1024 * turns ≤ length (G.bytes src.old) }
+    requires inside { at + 1024 * turns ≤ length (G.seen src.old).bytes }
     requires fits { 8 * at + 8192 * turns < 2 ^ 64 }
-    ensures value { result ≡ count (bits (G.bytes src.old) (8 * at) (8192 * turns)) }
-    ensures same { G.bytes src.new ≡ G.bytes src.old }
-    ensures looks { G.looks src.new ≡ G.looks src.old + 16 * turns }
+    ensures value { result ≡ count (bits (G.seen src.old).bytes (8 * at) (8192 * turns)) }
+    ensures looks { LooksExactly (16 * turns) (G.seen src.old) (G.seen src.new) }
 {
     let mut sum = Counter::zero();
     for k in 0..turns {
@@ -211,11 +203,10 @@ fn count_quarters<G: Glance>(src: &mut G, at: usize, turns: usize) -> usize
 #[tactic(auto, using(vb_bits::proofs::BitsLemmas::windows))]
 #[inline(always)]
 fn sum_chunks<G: Glance>(src: &mut G, at: usize, n: usize) -> LaneSum
-    requires inside { at + 64 * n ≤ length (G.bytes src.old) }
+    requires inside { at + 64 * n ≤ length (G.seen src.old).bytes }
     requires fits { 8 * at + 512 * n < 2 ^ 64 }
-    ensures value { result ≡ count (bits (G.bytes src.old) (8 * at) (512 * n)) }
-    ensures same { G.bytes src.new ≡ G.bytes src.old }
-    ensures looks { G.looks src.new ≡ G.looks src.old + n }
+    ensures value { result ≡ count (bits (G.seen src.old).bytes (8 * at) (512 * n)) }
+    ensures looks { LooksExactly n (G.seen src.old) (G.seen src.new) }
 {
     let mut sum = LaneSum::of(0);
     for k in 0..n {

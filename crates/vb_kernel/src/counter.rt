@@ -5,6 +5,7 @@
 //! counted in the place of sixteen.
 ghost use Rattle.std.specs.Prelude.{◌≡◌, ℕ, ◌+◌, ◌*◌, ◌^◌, ◌<◌, ◌≤◌, length};
 ghost use Rattle.vb_bits.specs.Bits.{bits, count};
+ghost use Rattle.vb_kernel.specs.Looks.{LooksExactly};
 
 use crate::glance::Glance;
 use crate::lanes::{Ones, Sums, full_add};
@@ -43,15 +44,14 @@ impl Counter {
     /// Adds the true bits of four chunks from each of four bytes on, which lie `apart` bytes apart.
     #[inline(always)]
     pub(crate) fn add<G: Glance>(self, src: &mut G, at: usize, apart: usize) -> Counter
-        requires inside { at + 3 * apart + 256 ≤ length (G.bytes src.old) }
+        requires inside { at + 3 * apart + 256 ≤ length (G.seen src.old).bytes }
         requires fits { at + 3 * apart + 256 < 2 ^ 64 }
         requires room { self + 8192 < 2 ^ 64 }
-        ensures value { result ≡ self + count (bits (G.bytes src.old) (8 * at) 2048)
-            + count (bits (G.bytes src.old) (8 * (at + apart)) 2048)
-            + count (bits (G.bytes src.old) (8 * (at + 2 * apart)) 2048)
-            + count (bits (G.bytes src.old) (8 * (at + 3 * apart)) 2048) }
-        ensures same { G.bytes src.new ≡ G.bytes src.old }
-        ensures looks { G.looks src.new ≡ G.looks src.old + 16 }
+        ensures value { result ≡ self + count (bits (G.seen src.old).bytes (8 * at) 2048)
+            + count (bits (G.seen src.old).bytes (8 * (at + apart)) 2048)
+            + count (bits (G.seen src.old).bytes (8 * (at + 2 * apart)) 2048)
+            + count (bits (G.seen src.old).bytes (8 * (at + 3 * apart)) 2048) }
+        ensures looks { LooksExactly 16 (G.seen src.old) (G.seen src.new) }
     {
         let (ones, twos, one) = add_four(self.ones, self.twos, src, at);
         let (ones, twos, other) = add_four(ones, twos, src, at + apart);
@@ -84,10 +84,9 @@ impl Counter {
 /// The bits of the chunk from byte `at` on.
 #[inline(always)]
 fn ones_at<G: Glance>(src: &mut G, at: usize) -> Ones
-    requires { at + 64 ≤ length (G.bytes src.old) }
-    ensures value { result ≡ count (bits (G.bytes src.old) (8 * at) 512) }
-    ensures same { G.bytes src.new ≡ G.bytes src.old }
-    ensures look { G.looks src.new ≡ G.looks src.old + 1 }
+    requires { at + 64 ≤ length (G.seen src.old).bytes }
+    ensures value { result ≡ count (bits (G.seen src.old).bytes (8 * at) 512) }
+    ensures look { LooksExactly 1 (G.seen src.old) (G.seen src.new) }
 {
     Ones::of(&src.chunk(at))
 }
@@ -95,12 +94,11 @@ fn ones_at<G: Glance>(src: &mut G, at: usize) -> Ones
 /// Adds the bits of four chunks from byte `at` on, and carries into a vector of fours.
 #[inline(always)]
 fn add_four<G: Glance>(ones: Ones, twos: Ones, src: &mut G, at: usize) -> (Ones, Ones, Ones)
-    requires inside { at + 256 ≤ length (G.bytes src.old) }
+    requires inside { at + 256 ≤ length (G.seen src.old).bytes }
     requires fits { at + 256 < 2 ^ 64 }
     ensures value { result.0 + 2 * result.1 + 4 * result.2
-        ≡ ones + 2 * twos + count (bits (G.bytes src.old) (8 * at) 2048) }
-    ensures same { G.bytes src.new ≡ G.bytes src.old }
-    ensures looks { G.looks src.new ≡ G.looks src.old + 4 }
+        ≡ ones + 2 * twos + count (bits (G.seen src.old).bytes (8 * at) 2048) }
+    ensures looks { LooksExactly 4 (G.seen src.old) (G.seen src.new) }
 {
     let first = ones_at(src, at);
     let second = ones_at(src, at + 64);

@@ -2,9 +2,10 @@
 //!
 //! No part is a loop: of so few looks the tests of a loop take longer than the counts. Bytes that
 //! lie side by side are put together as one number, which the compiler loads at once.
-ghost use Rattle.std.specs.Prelude.{◌≡◌, ℕ, ◌+◌, ◌-◌, ◌*◌, ◌/◌, ◌%◌, ◌^◌, ◌<◌, ◌≤◌, length, min};
+ghost use Rattle.std.specs.Prelude.{◌≡◌, ◌+◌, ◌-◌, ◌*◌, ◌/◌, ◌%◌, ◌^◌, ◌<◌, ◌≤◌, length, min};
 ghost use Rattle.vb_bits.specs.Bits.{bits, count};
 ghost use Rattle.vb_kernel.specs.Parts.{rest_looks};
+ghost use Rattle.vb_kernel.specs.Looks.{LooksExactly};
 
 use crate::glance::Glance;
 use crate::word::byte_part;
@@ -14,12 +15,11 @@ use crate::word::byte_part;
 #[inline(always)]
 pub(crate) fn add_rest<G: Glance>(src: &mut G, at: usize, len: usize, ones: usize) -> usize
     requires few { len < 512 }
-    requires inside { 8 * at + len ≤ 8 * length (G.bytes src.old) }
+    requires inside { 8 * at + len ≤ 8 * length (G.seen src.old).bytes }
     requires fits { 8 * at + len < 2 ^ 64 }
     requires room { ones + len < 2 ^ 64 }
-    ensures value { result ≡ ones + count (bits (G.bytes src.old) (8 * at) len) }
-    ensures same { G.bytes src.new ≡ G.bytes src.old }
-    ensures looks { G.looks src.new ≡ G.looks src.old + rest_looks len }
+    ensures value { result ≡ ones + count (bits (G.seen src.old).bytes (8 * at) len) }
+    ensures looks { LooksExactly (rest_looks len) (G.seen src.old) (G.seen src.new) }
 {
     let words = add_words(src, at, len / 64, ones);
     let bytes = add_bytes(src, at + len / 64 * 8, len % 64 / 8, words);
@@ -30,12 +30,11 @@ pub(crate) fn add_rest<G: Glance>(src: &mut G, at: usize, len: usize, ones: usiz
 #[tactic(auto, using(vb_bits::proofs::BitsLemmas::windows))]
 fn add_words<G: Glance>(src: &mut G, at: usize, n: usize, ones: usize) -> usize
     requires few { n < 8 }
-    requires inside { at + 8 * n ≤ length (G.bytes src.old) }
+    requires inside { at + 8 * n ≤ length (G.seen src.old).bytes }
     requires fits { at + 8 * n < 2 ^ 64 }
     requires room { ones + 64 * n < 2 ^ 64 }
-    ensures value { result ≡ ones + count (bits (G.bytes src.old) (8 * at) (64 * n)) }
-    ensures same { G.bytes src.new ≡ G.bytes src.old }
-    ensures looks { G.looks src.new ≡ G.looks src.old + n }
+    ensures value { result ≡ ones + count (bits (G.seen src.old).bytes (8 * at) (64 * n)) }
+    ensures looks { LooksExactly n (G.seen src.old) (G.seen src.new) }
 {
     let first = add_pair(src, at, n / 2, 0, ones);
     let second = add_pair(src, at, n / 2, 1, first);
@@ -53,15 +52,13 @@ fn add_words<G: Glance>(src: &mut G, at: usize, n: usize, ones: usize) -> usize
 /// Two words at once and no more: four side by side would be counted as a vector, which takes
 /// longer.
 fn add_pair<G: Glance>(src: &mut G, at: usize, pairs: usize, k: usize, ones: usize) -> usize
-    requires inside { at + 16 * pairs ≤ length (G.bytes src.old) }
+    requires inside { at + 16 * pairs ≤ length (G.seen src.old).bytes }
     requires fits { at + 16 * pairs < 2 ^ 64 }
     requires room { ones + 128 * (pairs - k) < 2 ^ 64 }
-    ensures value { result + count (bits (G.bytes src.old) (8 * at) (128 * min k pairs))
-        ≡ ones + count (bits (G.bytes src.old) (8 * at) (128 * min (k + 1) pairs)) }
+    ensures value { result + count (bits (G.seen src.old).bytes (8 * at) (128 * min k pairs))
+        ≡ ones + count (bits (G.seen src.old).bytes (8 * at) (128 * min (k + 1) pairs)) }
     ensures few { result ≤ ones + 128 * min (pairs - k) 1 }
-    ensures same { G.bytes src.new ≡ G.bytes src.old }
-    ensures looks { G.looks src.new + 2 * min k pairs
-        ≡ G.looks src.old + 2 * min (k + 1) pairs }
+    ensures looks { LooksExactly (2 * min (pairs - k) 1) (G.seen src.old) (G.seen src.new) }
 {
     if pairs <= k {
         return ones;
@@ -75,31 +72,29 @@ fn add_pair<G: Glance>(src: &mut G, at: usize, pairs: usize, k: usize, ones: usi
 #[tactic(auto, using(vb_bits::proofs::BitsLemmas::windows))]
 fn add_bytes<G: Glance>(src: &mut G, at: usize, n: usize, ones: usize) -> usize
     requires few { n < 8 }
-    requires inside { at + n ≤ length (G.bytes src.old) }
+    requires inside { at + n ≤ length (G.seen src.old).bytes }
     requires fits { at + n < 2 ^ 64 }
     requires room { ones + 8 * n < 2 ^ 64 }
-    ensures value { result ≡ ones + count (bits (G.bytes src.old) (8 * at) (8 * n)) }
-    ensures same { G.bytes src.new ≡ G.bytes src.old }
-    ensures looks { G.looks src.new ≡ G.looks src.old + n }
+    ensures value { result ≡ ones + count (bits (G.seen src.old).bytes (8 * at) (8 * n)) }
+    ensures looks { LooksExactly n (G.seen src.old) (G.seen src.new) }
 {
     let four = add_four_bytes(src, at, n, ones);
     let six = add_two_bytes(src, at + n / 4 * 4, n % 4, four);
     if n % 2 == 0 {
         six
     } else {
-        six + count_byte(src, at + n - 1)
+        six + src.byte(at + n - 1).count_ones() as usize
     }
 }
 
 /// Adds to `ones` the true bits of four bytes from `at` on, where `n` is not below that.
 fn add_four_bytes<G: Glance>(src: &mut G, at: usize, n: usize, ones: usize) -> usize
     requires few { n < 8 }
-    requires inside { at + n ≤ length (G.bytes src.old) }
+    requires inside { at + n ≤ length (G.seen src.old).bytes }
     requires fits { at + n < 2 ^ 64 }
     requires room { ones + 8 * n < 2 ^ 64 }
-    ensures value { result ≡ ones + count (bits (G.bytes src.old) (8 * at) (32 * (n / 4))) }
-    ensures same { G.bytes src.new ≡ G.bytes src.old }
-    ensures looks { G.looks src.new ≡ G.looks src.old + 4 * (n / 4) }
+    ensures value { result ≡ ones + count (bits (G.seen src.old).bytes (8 * at) (32 * (n / 4))) }
+    ensures looks { LooksExactly (4 * (n / 4)) (G.seen src.old) (G.seen src.new) }
 {
     if n < 4 {
         return ones;
@@ -116,12 +111,11 @@ fn add_four_bytes<G: Glance>(src: &mut G, at: usize, n: usize, ones: usize) -> u
 /// Adds to `ones` the true bits of two bytes from `at` on, where `n` is not below that.
 fn add_two_bytes<G: Glance>(src: &mut G, at: usize, n: usize, ones: usize) -> usize
     requires few { n < 4 }
-    requires inside { at + n ≤ length (G.bytes src.old) }
+    requires inside { at + n ≤ length (G.seen src.old).bytes }
     requires fits { at + n < 2 ^ 64 }
     requires room { ones + 8 * n < 2 ^ 64 }
-    ensures value { result ≡ ones + count (bits (G.bytes src.old) (8 * at) (16 * (n / 2))) }
-    ensures same { G.bytes src.new ≡ G.bytes src.old }
-    ensures looks { G.looks src.new ≡ G.looks src.old + 2 * (n / 2) }
+    ensures value { result ≡ ones + count (bits (G.seen src.old).bytes (8 * at) (16 * (n / 2))) }
+    ensures looks { LooksExactly (2 * (n / 2)) (G.seen src.old) (G.seen src.new) }
 {
     if n < 2 {
         return ones;
@@ -133,11 +127,10 @@ fn add_two_bytes<G: Glance>(src: &mut G, at: usize, n: usize, ones: usize) -> us
 /// Adds to `ones` the true bits among the first `len` of byte `at`.
 fn add_tail<G: Glance>(src: &mut G, at: usize, len: usize, ones: usize) -> usize
     requires few { len < 8 }
-    requires inside { 8 * at + len ≤ 8 * length (G.bytes src.old) }
+    requires inside { 8 * at + len ≤ 8 * length (G.seen src.old).bytes }
     requires room { ones + len < 2 ^ 64 }
-    ensures value { result ≡ ones + count (bits (G.bytes src.old) (8 * at) len) }
-    ensures same { G.bytes src.new ≡ G.bytes src.old }
-    ensures looks { G.looks src.new ≡ G.looks src.old + min len 1 }
+    ensures value { result ≡ ones + count (bits (G.seen src.old).bytes (8 * at) len) }
+    ensures looks { LooksExactly (min len 1) (G.seen src.old) (G.seen src.new) }
 {
     if len == 0 {
         return ones;
@@ -147,21 +140,10 @@ fn add_tail<G: Glance>(src: &mut G, at: usize, len: usize, ones: usize) -> usize
 
 /// How many bits of the word at byte `at` are true.
 fn count_word<G: Glance>(src: &mut G, at: usize) -> usize
-    requires inside { at + 8 ≤ length (G.bytes src.old) }
-    ensures value { result ≡ count (bits (G.bytes src.old) (8 * at) 64) }
+    requires inside { at + 8 ≤ length (G.seen src.old).bytes }
+    ensures value { result ≡ count (bits (G.seen src.old).bytes (8 * at) 64) }
     ensures few { result ≤ 64 }
-    ensures same { G.bytes src.new ≡ G.bytes src.old }
-    ensures looks { G.looks src.new ≡ G.looks src.old + 1 }
+    ensures looks { LooksExactly 1 (G.seen src.old) (G.seen src.new) }
 {
     src.word(at).count_ones() as usize
-}
-
-/// How many bits of byte `at` are true.
-fn count_byte<G: Glance>(src: &mut G, at: usize) -> usize
-    requires inside { at < length (G.bytes src.old) }
-    ensures value { result ≡ count (bits (G.bytes src.old) (8 * at) 8) }
-    ensures same { G.bytes src.new ≡ G.bytes src.old }
-    ensures looks { G.looks src.new ≡ G.looks src.old + 1 }
-{
-    src.byte(at).count_ones() as usize
 }

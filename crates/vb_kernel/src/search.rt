@@ -1,11 +1,12 @@
 //! Searches of parts of a window for a bit by its rank.
-ghost use Rattle.std.specs.Prelude.{◌≡◌, ℕ, ◌+◌, ◌*◌, ◌/◌, ◌%◌, ◌<◌, ◌≤◌, min};
+ghost use Rattle.std.specs.Prelude.{◌≡◌, ◌+◌, ◌*◌, ◌/◌, ◌%◌, ◌<◌, ◌≤◌, min};
 ghost use Rattle.vb_kernel.specs.Searches.{IsWithin, SearchAnswers};
 ghost use Rattle.vb_kernel.specs.Parts.{rest_looks};
+ghost use Rattle.vb_kernel.specs.Looks.{LooksExactly, LooksAtMost};
 
 use crate::glance::Glance;
 use crate::unit::Unit;
-use crate::word::{byte_part, select_in_word};
+use crate::word::{byte_part, select_in_byte};
 use std::ops::ControlFlow;
 
 /// Where a search of a window stands, and what it seeks: of the bits from place `from` on that are
@@ -30,10 +31,9 @@ pub(crate) fn find_in_rest<G: Glance>(
     len: usize,
 ) -> ControlFlow<usize, usize>
     requires aligned { 0 < len → (search.offset + search.from) % 8 ≡ 0 }
-    requires within { IsWithin (G.bytes src.old) search len }
-    ensures found { SearchAnswers (G.bytes src.old) search len result }
-    ensures same { G.bytes src.new ≡ G.bytes src.old }
-    ensures looks { G.looks src.new ≤ G.looks src.old + rest_looks len }
+    requires within { IsWithin (G.seen src.old).bytes search len }
+    ensures found { SearchAnswers (G.seen src.old).bytes search len result }
+    ensures looks { LooksAtMost (rest_looks len) (G.seen src.old) (G.seen src.new) }
 {
     let bytes_at = search.from + len / 64 * 64;
     let tail_at = search.from + len / 8 * 8;
@@ -51,10 +51,9 @@ pub(crate) fn find_in_part<G: Glance>(
     len: usize,
 ) -> ControlFlow<usize, usize>
     requires in_byte { 0 < len → (search.offset + search.from) % 8 + len ≤ 8 }
-    requires within { IsWithin (G.bytes src.old) search len }
-    ensures found { SearchAnswers (G.bytes src.old) search len result }
-    ensures same { G.bytes src.new ≡ G.bytes src.old }
-    ensures looks { G.looks src.new ≡ G.looks src.old + min len 1 }
+    requires within { IsWithin (G.seen src.old).bytes search len }
+    ensures found { SearchAnswers (G.seen src.old).bytes search len result }
+    ensures looks { LooksExactly (min len 1) (G.seen src.old) (G.seen src.new) }
 {
     if len == 0 {
         return ControlFlow::Continue(search.n);
@@ -63,7 +62,7 @@ pub(crate) fn find_in_part<G: Glance>(
     let part = byte_part(src.byte(at / 8), at % 8, len, search.value);
     let here = part.count_ones() as usize;
     if search.n < here {
-        ControlFlow::Break(search.from + select_in_word(part, search.n))
+        ControlFlow::Break(search.from + select_in_byte(part, search.n))
     } else {
         ControlFlow::Continue(search.n - here)
     }
@@ -77,10 +76,9 @@ pub(crate) fn find_in_units<U: Unit, G: Glance>(
     units: usize,
 ) -> ControlFlow<usize, usize>
     requires aligned { 0 < units → (search.offset + search.from) % 8 ≡ 0 }
-    requires within { IsWithin (G.bytes src.old) search (8 * (U.SIZE * units)) }
-    ensures found { SearchAnswers (G.bytes src.old) search (8 * (U.SIZE * units)) result }
-    ensures same { G.bytes src.new ≡ G.bytes src.old }
-    ensures looks { G.looks src.new ≤ G.looks src.old + units }
+    requires within { IsWithin (G.seen src.old).bytes search (8 * (U.SIZE * units)) }
+    ensures found { SearchAnswers (G.seen src.old).bytes search (8 * (U.SIZE * units)) result }
+    ensures looks { LooksAtMost units (G.seen src.old) (G.seen src.new) }
 {
     let mut left = search.n;
     for k in 0..units {

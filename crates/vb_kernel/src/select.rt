@@ -1,9 +1,8 @@
 //! The place of a bit by its rank.
-ghost use Rattle.std.specs.Prelude.{◌≡◌, ℕ, ◌+◌, ◌*◌, ◌/◌, ◌%◌, ◌^◌, ◌<◌, ◌≤◌, length};
+ghost use Rattle.std.specs.Prelude.{◌≡◌, ◌+◌, ◌*◌, ◌/◌, ◌%◌, ◌^◌, ◌<◌, ◌≤◌, length};
 ghost use Rattle.vb_bits.specs.Bits.{bits, count, negated, Selects, AnswersEach};
-ghost use Rattle.vb_kernel.specs.Looks.{looks};
+ghost use Rattle.vb_kernel.specs.Looks.{looks, LooksExactly, LooksAtMost};
 ghost use Rattle.vb_kernel.specs.Searches.{matching, Searched, IsWithin, SearchAnswers};
-ghost use Rattle.vb_kernel.specs.Parts.{rest_looks};
 
 use crate::chunk::find_in_chunk;
 use crate::count::add_chunks;
@@ -40,12 +39,11 @@ pub fn bit_select_unset(bytes: &[u8], offset: usize, len: usize, n: usize) -> Op
 
 /// [`bit_select`] of the window of `src`, by at most the looks of a count of the window.
 pub fn bit_select_by<G: Glance>(src: &mut G, offset: usize, len: usize, n: usize) -> Option<usize>
-    requires inside { offset + len ≤ 8 * length (G.bytes src.old) }
+    requires inside { offset + len ≤ 8 * length (G.seen src.old).bytes }
     requires fits { offset + len < 2 ^ 64 }
-    ensures place { Selects (bits (G.bytes src.old) offset len) n result }
-    ensures each { AnswersEach (bits (G.bytes src.old) offset len) n result }
-    ensures same { G.bytes src.new ≡ G.bytes src.old }
-    ensures looks { G.looks src.new ≤ G.looks src.old + looks offset len }
+    ensures place { Selects (bits (G.seen src.old).bytes offset len) n result }
+    ensures each { AnswersEach (bits (G.seen src.old).bytes offset len) n result }
+    ensures looks { LooksAtMost (looks offset len) (G.seen src.old) (G.seen src.new) }
 {
     find(src, offset, len, n, true).break_value()
 }
@@ -57,12 +55,11 @@ pub fn bit_select_unset_by<G: Glance>(
     len: usize,
     n: usize,
 ) -> Option<usize>
-    requires inside { offset + len ≤ 8 * length (G.bytes src.old) }
+    requires inside { offset + len ≤ 8 * length (G.seen src.old).bytes }
     requires fits { offset + len < 2 ^ 64 }
-    ensures place { Selects (negated (bits (G.bytes src.old) offset len)) n result }
-    ensures each { AnswersEach (negated (bits (G.bytes src.old) offset len)) n result }
-    ensures same { G.bytes src.new ≡ G.bytes src.old }
-    ensures looks { G.looks src.new ≤ G.looks src.old + looks offset len }
+    ensures place { Selects (negated (bits (G.seen src.old).bytes offset len)) n result }
+    ensures each { AnswersEach (negated (bits (G.seen src.old).bytes offset len)) n result }
+    ensures looks { LooksAtMost (looks offset len) (G.seen src.old) (G.seen src.new) }
 {
     find(src, offset, len, n, false).break_value()
 }
@@ -78,11 +75,10 @@ fn find<G: Glance>(
     n: usize,
     value: bool,
 ) -> ControlFlow<usize, usize>
-    requires inside { offset + len ≤ 8 * length (G.bytes src.old) }
+    requires inside { offset + len ≤ 8 * length (G.seen src.old).bytes }
     requires fits { offset + len < 2 ^ 64 }
-    ensures found { Searched (matching value (bits (G.bytes src.old) offset len)) n result }
-    ensures same { G.bytes src.new ≡ G.bytes src.old }
-    ensures looks { G.looks src.new ≤ G.looks src.old + looks offset len }
+    ensures found { Searched (matching value (bits (G.seen src.old).bytes offset len)) n result }
+    ensures looks { LooksAtMost (looks offset len) (G.seen src.old) (G.seen src.new) }
 {
     let parts = Parts::of(offset, len);
     let mut search = Search {
@@ -106,10 +102,9 @@ fn find_in_chunks<G: Glance>(
     chunks: usize,
 ) -> ControlFlow<usize, usize>
     requires aligned { 0 < chunks → (search.offset + search.from) % 8 ≡ 0 }
-    requires within { IsWithin (G.bytes src.old) search (512 * chunks) }
-    ensures found { SearchAnswers (G.bytes src.old) search (512 * chunks) result }
-    ensures same { G.bytes src.new ≡ G.bytes src.old }
-    ensures looks { G.looks src.new ≤ G.looks src.old + chunks }
+    requires within { IsWithin (G.seen src.old).bytes search (512 * chunks) }
+    ensures found { SearchAnswers (G.seen src.old).bytes search (512 * chunks) result }
+    ensures looks { LooksAtMost chunks (G.seen src.old) (G.seen src.new) }
 {
     if MANY <= chunks {
         return find_in_many_chunks(src, search, chunks);
@@ -135,10 +130,9 @@ fn find_in_many_chunks<G: Glance>(
     chunks: usize,
 ) -> ControlFlow<usize, usize>
     requires aligned { 0 < chunks → (search.offset + search.from) % 8 ≡ 0 }
-    requires within { IsWithin (G.bytes src.old) search (512 * chunks) }
-    ensures found { SearchAnswers (G.bytes src.old) search (512 * chunks) result }
-    ensures same { G.bytes src.new ≡ G.bytes src.old }
-    ensures looks { G.looks src.new ≤ G.looks src.old + chunks }
+    requires within { IsWithin (G.seen src.old).bytes search (512 * chunks) }
+    ensures found { SearchAnswers (G.seen src.old).bytes search (512 * chunks) result }
+    ensures looks { LooksAtMost chunks (G.seen src.old) (G.seen src.new) }
 {
     let at = search.offset + search.from;
     let (passed, left) = pass_chunks(src, at, chunks, search.n, search.value);
@@ -161,13 +155,12 @@ fn pass_chunks<G: Glance>(
     value: bool,
 ) -> (usize, usize)
     requires aligned { 0 < chunks → at % 8 ≡ 0 }
-    requires inside { at + 512 * chunks ≤ 8 * length (G.bytes src.old) }
+    requires inside { at + 512 * chunks ≤ 8 * length (G.seen src.old).bytes }
     requires fits { at + 512 * chunks < 2 ^ 64 }
     ensures within { result.0 ≤ chunks }
     ensures passed { n ≡ result.1
-        + count (matching value (bits (G.bytes src.old) at (512 * result.0))) }
-    ensures same { G.bytes src.new ≡ G.bytes src.old }
-    ensures looks { G.looks src.new ≡ G.looks src.old + result.0 }
+        + count (matching value (bits (G.seen src.old).bytes at (512 * result.0))) }
+    ensures looks { LooksExactly result.0 (G.seen src.old) (G.seen src.new) }
 {
     let mut passed = 0;
     let mut left = n;
@@ -184,11 +177,11 @@ fn pass_chunks<G: Glance>(
 /// How many bits of `n` chunks from byte `at` on are `value`.
 #[tactic(auto, using(vb_bits::proofs::BitsLemmas::windows))]
 fn count_matching<G: Glance>(src: &mut G, at: usize, n: usize, value: bool) -> usize
-    requires inside { at + 64 * n ≤ length (G.bytes src.old) }
+    requires inside { at + 64 * n ≤ length (G.seen src.old).bytes }
     requires fits { 8 * at + 512 * n < 2 ^ 64 }
-    ensures value { result ≡ count (matching value (bits (G.bytes src.old) (8 * at) (512 * n))) }
-    ensures same { G.bytes src.new ≡ G.bytes src.old }
-    ensures looks { G.looks src.new ≡ G.looks src.old + n }
+    ensures value { result
+        ≡ count (matching value (bits (G.seen src.old).bytes (8 * at) (512 * n))) }
+    ensures looks { LooksExactly n (G.seen src.old) (G.seen src.new) }
 {
     let ones = add_chunks(src, at, n, 0);
     if value { ones } else { 512 * n - ones }

@@ -4,9 +4,10 @@ ghost use Rattle.std.specs.Prelude.{slice_range};
 ghost use Rattle.std.specs.Int.{w64, to_le_bytes};
 ghost use Rattle.vb_bits.specs.Bits.{bits, count, Selects};
 ghost use Rattle.vb_kernel.specs.Searches.{matching};
+ghost use Rattle.vb_kernel.specs.Looks.{LooksExactly};
 
 use crate::glance::Glance;
-use crate::word::{byte_part, matching_word, select_in_word};
+use crate::word::{byte_part, matching_word, select_in_byte, select_in_word};
 
 /// Bytes that one look reads, and that are then counted and searched without another look.
 ///
@@ -21,10 +22,9 @@ pub(crate) trait Unit: Copy {
 
     /// The bytes of the source from byte `at` on, by one look.
     fn read<G: Glance>(src: &mut G, at: usize) -> Self
-        requires { at + SIZE ≤ length (G.bytes src.old) }
-        ensures value { bytes result ≡ slice_range (G.bytes src.old) at (at + SIZE) }
-        ensures same { G.bytes src.new ≡ G.bytes src.old }
-        ensures look { G.looks src.new ≡ G.looks src.old + 1 };
+        requires { at + SIZE ≤ length (G.seen src.old).bytes }
+        ensures value { bytes result ≡ slice_range (G.seen src.old).bytes at (at + SIZE) }
+        ensures look { LooksExactly 1 (G.seen src.old) (G.seen src.new) };
 
     /// How many bits are `value`.
     fn count(self, value: bool) -> usize
@@ -52,7 +52,7 @@ impl Unit for u8 {
     }
 
     fn select(self, n: usize, value: bool) -> usize {
-        select_in_word(byte_part(self, 0, 8, value), n)
+        select_in_byte(byte_part(self, 0, 8, value), n)
     }
 }
 

@@ -35,9 +35,7 @@ impl<'a> Plain<'a> {
 }
 
 impl Glance for Plain<'_> {
-    ghost bytes = { λ s. s.bytes };
-
-    ghost looks = { λ s. s.looks };
+    ghost seen = { λ s. s };
 
     fn size(&self) -> usize {
         self.data.len()

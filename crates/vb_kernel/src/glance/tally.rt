@@ -1,7 +1,7 @@
 //! A source whose looks are counted when the program runs.
-ghost use Rattle.std.specs.Prelude.{◌≡◌, ◌+◌, min};
+ghost use Rattle.std.specs.Prelude.{◌≡◌, min};
 ghost use Rattle.std.below.core.specs.declared.int.u64.TheConstants.{MAX};
-ghost use Rattle.vb_kernel.specs.Looks.{CountedBytes};
+ghost use Rattle.vb_kernel.specs.Looks.{CountedBytes, LooksExactly};
 
 use crate::glance::Glance;
 use ghost_count::GhostCount;
@@ -47,7 +47,7 @@ impl<'a> Tally<'a> {
 
     /// Counts one more look.
     fn look(&mut self)
-        ensures { self.new ≡ record self.old { looks = self.old.looks + 1 } }
+        ensures { LooksExactly 1 self.old self.new }
     {
         self.count.add_one();
         self.seen = self.seen.saturating_add(1);
@@ -55,9 +55,7 @@ impl<'a> Tally<'a> {
 }
 
 impl Glance for Tally<'_> {
-    ghost bytes = { λ s. s.bytes };
-
-    ghost looks = { λ s. s.looks };
+    ghost seen = { λ s. s };
 
     fn size(&self) -> usize {
         self.data.len()

@@ -7,18 +7,34 @@ use Rattle.vb_kernel.proofs.count.count_long.Goals.{After-add_chunks, then-rest-
 
 pub returns-clause-value : goal.returns-clause-value
 returns-clause-value g c =
-    let b : List ℕ = g.G.Glance.bytes c.args.src.now in let o : ℕ = c.args.offset in let head : ℕ = (8 - o % 8) % 8 in
-    let at : ℕ = (o + head) / 8 in let left : ℕ = c.args.len - head in let chunks : ℕ = 512 * (left / 512) in let place : ℕ = 8 * (at + 64 * (left / 512)) in
+    let b : List ℕ = (g.G.Glance.seen c.args.src.now).bytes in
+    let o : ℕ = c.args.offset in
+    let head : ℕ = (8 - o % 8) % 8 in
+    let at : ℕ = (o + head) / 8 in
+    let left : ℕ = c.args.len - head in
+    let chunks : ℕ = 512 * (left / 512) in
+    let place : ℕ = 8 * (at + 64 * (left / 512)) in
     let aligned : 8 * at ≡ o + head = omega arith in
-    let counted : (c.if-rest-eq0.ones ≡ c.count_head-ones.result + count (bits b place (left % 512))) × (g.G.Glance.bytes c.if-rest-eq0.src ≡ b) =
+    let counted : (c.if-rest-eq0.ones ≡ c.count_head-ones.result + count
+    (bits b place (left % 512))) × ((g.G.Glance.seen c.if-rest-eq0.src).bytes ≡ b) =
     elim c.if-rest-eq0.branch [
       | then-rest-eq0 w ↦ (
-        omega (arith, w.ones-is, ap (λ m. count (bits b place m)) w.if-rest-eq0.true, count-bits_none b place),
-        ap g.G.Glance.bytes w.src-is ∙ c.count_head-ones.ensures.same,
+        omega (
+          arith,
+          w.ones-is,
+          ap (λ m. count (bits b place m)) w.if-rest-eq0.true,
+          count-bits_none b place,
+        ),
+        ap (λ s. (g.G.Glance.seen s).bytes) w.src-is ∙ c.count_head-ones.ensures.looks.same,
       )
       | else-rest-eq0 w ↦ (
-        omega (arith, w.ones-is, rw c.count_head-ones.ensures.same at w.add_rest-ones.ensures.value),
-        ap g.G.Glance.bytes w.src-is ∙ w.add_rest-ones.ensures.same ∙ c.count_head-ones.ensures.same,
+        omega (
+          arith,
+          w.ones-is,
+          rw c.count_head-ones.ensures.looks.same at w.add_rest-ones.ensures.value,
+        ),
+        ap (λ s. (g.G.Glance.seen s).bytes) w.src-is
+            ∙ w.add_rest-ones.ensures.looks.same ∙ c.count_head-ones.ensures.looks.same,
       )
     ] in
     omega (
@@ -27,5 +43,6 @@ returns-clause-value g c =
       c.count_head-ones.ensures.value,
       rw counted.1 at c.add_chunks.ensures.value,
       count-matching-bits_split true b o head (head + chunks) (8 * at) chunks aligned (omega arith),
-      count-matching-bits_split true b o (head + chunks) c.args.len place (left % 512) (omega arith) (omega arith),
+      count-matching-bits_split true b o
+          (head + chunks) c.args.len place (left % 512) (omega arith) (omega arith),
     )

@@ -6,21 +6,27 @@ use Rattle.vb_kernel.proofs.count.count_short.Goals as goal
 
 pub returns-then-len-head-lt512-clause-value : goal.returns-then-len-head-lt512-clause-value
 returns-then-len-head-lt512-clause-value g c =
-    let b : List ℕ = g.G.Glance.bytes c.args.src.now in let o : ℕ = c.args.offset in let head : ℕ = (8 - o % 8) % 8 in
+    let b : List ℕ = (g.G.Glance.seen c.args.src.now).bytes in
+    let o : ℕ = c.args.offset in
+    let head : ℕ = (8 - o % 8) % 8 in
     let aligned : 8 * ((o + head) / 8) ≡ o + head = omega arith in
     omega (
       arith,
       c.count_head-ones.ensures.value,
-      rw c.count_head-ones.ensures.same at c.add_rest.ensures.value,
-      count-matching-bits_split true b o head c.args.len (8 * ((o + head) / 8)) (c.args.len - head) aligned (omega arith),
+      rw c.count_head-ones.ensures.looks.same at c.add_rest.ensures.value,
+      count-matching-bits_split true b o head c.args.len
+          (8 * ((o + head) / 8)) (c.args.len - head) aligned (omega arith),
     )
 
 pub returns-else-len-head-lt512-clause-value : goal.returns-else-len-head-lt512-clause-value
 returns-else-len-head-lt512-clause-value g c =
-    let b : List ℕ = g.G.Glance.bytes c.args.src.now in let o : ℕ = c.args.offset in let head : ℕ = (8 - o % 8) % 8 in
+    let b : List ℕ = (g.G.Glance.seen c.args.src.now).bytes in
+    let o : ℕ = c.args.offset in
+    let head : ℕ = (8 - o % 8) % 8 in
     let at : ℕ = (o + head) / 8 in
     let aligned : 8 * at ≡ o + head = omega arith in
-    let chunk = bits_of_read b (g.G.Glance.bytes c.count_head-ones.new.src) c.chunk.result at 64 (8 * at) c.count_head-ones.ensures.same c.chunk.ensures.value refl in
+    let chunk = bits_of_read b (g.G.Glance.seen c.count_head-ones.new.src).bytes c.chunk.result
+    at 64 (8 * at) c.count_head-ones.ensures.looks.same c.chunk.ensures.value refl in
     omega (
       arith,
       c.count_head-ones.ensures.value,

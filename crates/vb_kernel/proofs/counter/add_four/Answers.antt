@@ -4,10 +4,10 @@ use Rattle.vb_kernel.proofs.counter.add_four.Goals as goal
 
 pub returns-clause-value : goal.returns-clause-value
 returns-clause-value g c =
-    let b : List ℕ = g.G.Glance.bytes c.args.src.now in let at : ℕ = c.args.at in
-    let same1 = c.ones_at-first.ensures.same in
-    let same2 = c.ones_at-second.ensures.same ∙ same1 in
-    let same3 = c.ones_at-third.ensures.same ∙ same2 in
+    let b : List ℕ = (g.G.Glance.seen c.args.src.now).bytes in let at : ℕ = c.args.at in
+    let same1 = c.ones_at-first.ensures.look.same in
+    let same2 = c.ones_at-second.ensures.look.same ∙ same1 in
+    let same3 = c.ones_at-third.ensures.look.same ∙ same2 in
     omega (
       arith,
       c.full_add-ones.ensures,

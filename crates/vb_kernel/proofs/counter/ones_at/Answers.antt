@@ -5,5 +5,6 @@ use Rattle.vb_kernel.proofs.counter.ones_at.Goals as goal
 
 pub returns-clause-value : goal.returns-clause-value
 returns-clause-value g c =
-    let b = g.G.Glance.bytes c.args.src.now in
-    c.of.ensures ∙ ap count (bits_of_read b b c.chunk.result c.args.at 64 (8 * c.args.at) refl c.chunk.ensures.value refl)
+    let b = (g.G.Glance.seen c.args.src.now).bytes in
+    c.of.ensures ∙ ap count (bits_of_read b b c.chunk.result c.args.at 64
+    (8 * c.args.at) refl c.chunk.ensures.value refl)

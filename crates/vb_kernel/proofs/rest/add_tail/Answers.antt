@@ -10,19 +10,26 @@ use Rattle.vb_kernel.proofs.rest.add_tail.Goals.{After-byte_part}
 
 pub returns-then-len-eq0-clause-value : goal.returns-then-len-eq0-clause-value
 returns-then-len-eq0-clause-value g c =
-    let b : List ℕ = g.G.Glance.bytes c.args.src.now in let o : ℕ = 8 * c.args.at in
+    let b : List ℕ = (g.G.Glance.seen c.args.src.now).bytes in let o : ℕ = 8 * c.args.at in
     omega (arith, ap (λ m. count (bits b o m)) c.if-len-eq0.true, count-bits_none b o)
 
 -- the part that was counted
-counted : (g : Over) (c : After-byte_part g) → count_ones c.byte_part.result ≡ count (bits (g.G.Glance.bytes c.args.src.now) (8 * c.args.at) c.args.len)
+counted : (g : Over) (c : After-byte_part g) → count_ones c.byte_part.result
+    ≡ count (bits (g.G.Glance.seen c.args.src.now).bytes (8 * c.args.at) c.args.len)
 counted g c =
-    let b : List ℕ = g.G.Glance.bytes c.args.src.now in
-    sym (count-digits_below c.byte_part.result c.args.len c.byte_part.ensures.clear) ∙ ap count c.byte_part.ensures.digits
-    ∙ ap count (bits_of_byte_at b c.byte.result c.args.at c.args.len c.byte.ensures.value (omega arith))
+    let b : List ℕ = (g.G.Glance.seen c.args.src.now).bytes in
+    sym (count-digits_below c.byte_part.result c.args.len c.byte_part.ensures.clear)
+    ∙ ap count c.byte_part.ensures.digits
+    ∙ ap count
+    (bits_of_byte_at b c.byte.result c.args.at c.args.len c.byte.ensures.value (omega arith))
 
 pub overflow_add-result : goal.overflow_add-result
 overflow_add-result g c = record {
-  fits = omega (arith, counted g c, count-bits-le (g.G.Glance.bytes c.args.src.now) (8 * c.args.at) c.args.len);
+  fits = omega (
+    arith,
+    counted g c,
+    count-bits-le (g.G.Glance.seen c.args.src.now).bytes (8 * c.args.at) c.args.len,
+  );
 }
 
 pub returns-clause-value : goal.returns-clause-value

@@ -6,10 +6,12 @@ use Rattle.vb_kernel.proofs.rest.add_words.Goals as goal
 
 pub returns-else-n-eq0-clause-value : goal.returns-else-n-eq0-clause-value
 returns-else-n-eq0-clause-value g c =
-    let b : List ℕ = g.G.Glance.bytes c.args.src.now in let n : ℕ = c.args.n in let o : ℕ = 8 * c.args.at in
-    let same1 = c.add_pair-first.ensures.same in
-    let same2 = c.add_pair-second.ensures.same ∙ same1 in
-    let same3 = c.add_pair-pairs.ensures.same ∙ same2 in
+    let b : List ℕ = (g.G.Glance.seen c.args.src.now).bytes in
+    let n : ℕ = c.args.n in
+    let o : ℕ = 8 * c.args.at in
+    let same1 = c.add_pair-first.ensures.looks.same in
+    let same2 = c.add_pair-second.ensures.looks.same ∙ same1 in
+    let same3 = c.add_pair-pairs.ensures.looks.same ∙ same2 in
     let none : 128 * min 0 (n / 2) ≡ 0 = omega arith in
     let all : 128 * min 3 (n / 2) ≡ 64 * (n - 1) = omega arith in
     omega (
@@ -21,5 +23,6 @@ returns-else-n-eq0-clause-value g c =
       ap (λ m. count (bits b o m)) none,
       count-bits_none b o,
       ap (λ m. count (bits b o m)) all,
-      count-matching-bits_split true b o (64 * (n - 1)) (64 * n) (8 * (c.args.at + 8 * n - 8)) 64 (omega arith) (omega arith),
+      count-matching-bits_split true b o
+          (64 * (n - 1)) (64 * n) (8 * (c.args.at + 8 * n - 8)) 64 (omega arith) (omega arith),
     )

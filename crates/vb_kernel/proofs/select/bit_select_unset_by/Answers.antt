@@ -6,5 +6,6 @@ use Rattle.vb_kernel.proofs.select.bit_select_unset_by.Goals as goal
 
 pub returns-clause-each : goal.returns-clause-each
 returns-clause-each g c =
-    let l = negated (bits (g.G.Glance.bytes c.args.src.now) c.args.offset c.args.len) in
-    rw c.break_value.ensures.value (Selects-AnswersEach l c.args.n (break_value c.find.result) (Searched-Selects l c.args.n c.find.result c.find.ensures.found))
+    let l = negated (bits (g.G.Glance.seen c.args.src.now).bytes c.args.offset c.args.len) in
+    rw c.break_value.ensures.value (Selects-AnswersEach l c.args.n (break_value c.find.result)
+    (Searched-Selects l c.args.n c.find.result c.find.ensures.found))

@@ -4,8 +4,18 @@ use Rattle.vb_kernel.proofs.select.count_matching.Goals as goal
 
 pub returns-then-value-clause-value : goal.returns-then-value-clause-value
 returns-then-value-clause-value g c =
-    omega (arith, c.add_chunks-ones.ensures.value, count-matching-bits_true c.args.value (g.G.Glance.bytes c.args.src.now) (8 * c.args.at) (512 * c.args.n) c.if-value.true)
+    omega (
+      arith,
+      c.add_chunks-ones.ensures.value,
+      count-matching-bits_true c.args.value
+          (g.G.Glance.seen c.args.src.now).bytes (8 * c.args.at) (512 * c.args.n) c.if-value.true,
+    )
 
 pub returns-else-value-clause-value : goal.returns-else-value-clause-value
 returns-else-value-clause-value g c =
-    omega (arith, c.add_chunks-ones.ensures.value, count-matching-bits_false c.args.value (g.G.Glance.bytes c.args.src.now) (8 * c.args.at) (512 * c.args.n) c.if-value.false)
+    omega (
+      arith,
+      c.add_chunks-ones.ensures.value,
+      count-matching-bits_false c.args.value
+          (g.G.Glance.seen c.args.src.now).bytes (8 * c.args.at) (512 * c.args.n) c.if-value.false,
+    )

@@ -6,8 +6,20 @@ use Rattle.vb_kernel.proofs.select.find_in_many_chunks.Goals as goal
 
 pub returns-clause-found : goal.returns-clause-found
 returns-clause-found g c =
-    let b : List ℕ = g.G.Glance.bytes c.args.src.now in let v : Bool = c.args.search.value in let o : ℕ = c.args.search.offset in let from : ℕ = c.args.search.from in
-    let passed : ℕ = c.pass_chunks-passed.result.0 in let left : ℕ = c.pass_chunks-passed.result.1 in let chunks : ℕ = c.args.chunks in
-    let others : ℕ = from + 512 * passed in let n : ℕ = c.args.search.n + count (matching v (bits b o from)) in
-    let after : n ≡ left + count (matching v (bits b o others)) = omega (arith, c.pass_chunks-passed.ensures.passed, count-matching-bits-add v b o from (512 * passed)) in
-    Searched_on v b (g.G.Glance.bytes c.pass_chunks-passed.new.src) o others (others + 8 * (64 * (chunks - passed))) (from + 512 * chunks) n left c.find_in_units.result c.pass_chunks-passed.ensures.same (omega arith) after c.find_in_units.ensures.found
+    let b : List ℕ = (g.G.Glance.seen c.args.src.now).bytes in
+    let v : Bool = c.args.search.value in
+    let o : ℕ = c.args.search.offset in
+    let from : ℕ = c.args.search.from in
+    let passed : ℕ = c.pass_chunks-passed.result.0 in
+    let left : ℕ = c.pass_chunks-passed.result.1 in
+    let chunks : ℕ = c.args.chunks in
+    let others : ℕ = from + 512 * passed in
+    let n : ℕ = c.args.search.n + count (matching v (bits b o from)) in
+    let after : n ≡ left + count (matching v (bits b o others)) = omega (
+      arith,
+      c.pass_chunks-passed.ensures.passed,
+      count-matching-bits-add v b o from (512 * passed),
+    ) in
+    Searched_on v b (g.G.Glance.seen c.pass_chunks-passed.new.src).bytes o others
+    (others + 8 * (64 * (chunks - passed))) (from + 512 * chunks) n left c.find_in_units.result
+    c.pass_chunks-passed.ensures.looks.same (omega arith) after c.find_in_units.ensures.found

@@ -1,14 +1,15 @@
 use Rattle.std.proofs.Common.{◌≡◌, ◌+◌, ◌-◌, ◌*◌, ◌≤◌}
 use Rattle.vb_bits.specs.Bits.{bits, count}
 use Rattle.vb_kernel.specs.Searches.{matching}
+use Rattle.vb_kernel.specs.Looks.{LooksExactly}
 use Rattle.vb_kernel.proofs.select.pass_chunks.Given as goal
 
 abbrev pub invariant-loop-at : goal.invariant-loop-at
 invariant-loop-at g l = record {
   within : l.passed ≤ l.chunks;
-  passed : l.n ≡ l.left + count (matching l.value (bits (g.G.Glance.bytes l.initial.src) l.at (512 * l.passed)));
-  same : g.G.Glance.bytes l.src ≡ g.G.Glance.bytes l.initial.src;
-  looks : g.G.Glance.looks l.src ≡ g.G.Glance.looks l.initial.src + l.passed;
+  passed : l.n ≡ l.left + count
+      (matching l.value (bits (g.G.Glance.seen l.initial.src).bytes l.at (512 * l.passed)));
+  looks : LooksExactly l.passed (g.G.Glance.seen l.initial.src) (g.G.Glance.seen l.src);
 }
 
 abbrev pub decreases-loop-at : goal.decreases-loop-at

@@ -14,8 +14,10 @@ returns-clause-digits c =
     let bits = sym (bits_of_byte c.args.byte from len c.requires) in
     digits_masked c.from.result from len (omega arith)
     ∙ elim c.if-value.branch [
-      | then-value w ↦ ap (λ x. digits x from len) (c.from.ensures ∙ w.byte-is) ∙ bits ∙ sym (matching_true c.args.value _ w.if-value.true)
+      | then-value w ↦ ap (λ x. digits x from len) (c.from.ensures ∙ w.byte-is)
+          ∙ bits ∙ sym (matching_true c.args.value _ w.if-value.true)
       | else-value w ↦
-          ap (λ x. digits x from len) (c.from.ensures ∙ w.byte-is) ∙ digits-bit_not w8 c.args.byte from len c.ranges.byte.fits c.requires
+          ap (λ x. digits x from len) (c.from.ensures ∙ w.byte-is)
+          ∙ digits-bit_not w8 c.args.byte from len c.ranges.byte.fits c.requires
           ∙ ap negated bits ∙ sym (matching_false c.args.value _ w.if-value.false)
     ]

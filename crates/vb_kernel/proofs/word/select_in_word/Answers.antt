@@ -1,12 +1,13 @@
 use Rattle.std.proofs.Common.{arith}
-use Rattle.vb_bits.proofs.DigitsLemmas.{length-digits, count-digits_none}
-use Rattle.vb_kernel.proofs.WordLemmas.{Selects-digits}
+use Rattle.vb_kernel.proofs.WordLemmas.{Selects-digits_inside}
 use Rattle.vb_kernel.proofs.word.select_in_word.Goals as goal
 
-pub overflow_add-result : goal.overflow_add-result
-overflow_add-result c = omega (arith, length-digits c.args.word c.halve-at-4.result.0 4)
-
-pub returns : goal.returns
-returns c =
-    let four = c.halve-at-4 in
-    Selects-digits c.args.word four.result.0 4 c.args.n four.result.1 c.select_in_four.result four.ensures.inside (omega (arith, count-digits_none c.args.word 0)) c.select_in_four.ensures
+pub overflow_add-result-3 : goal.overflow_add-result-3
+overflow_add-result-3 c =
+    omega (
+      arith,
+      Selects-digits_inside _ _ _ _ _ c.select_in_byte.ensures,
+      c.halve-half.ensures.within,
+      c.halve-quarter.ensures.within,
+      c.halve-byte.ensures.within,
+    )

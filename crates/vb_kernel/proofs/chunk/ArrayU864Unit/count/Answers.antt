@@ -7,7 +7,15 @@ pub overflow_sub-result : goal.overflow_sub-result
 overflow_sub-result c = omega (arith, c.chunk_ones-ones.ensures, count-bits-le c.args.self 0 512)
 
 pub returns-then-value : goal.returns-then-value
-returns-then-value c = omega (arith, c.chunk_ones-ones.ensures, count-matching-bits_true c.args.value c.args.self 0 512 c.if-value.true)
+returns-then-value c = omega (
+  arith,
+  c.chunk_ones-ones.ensures,
+  count-matching-bits_true c.args.value c.args.self 0 512 c.if-value.true,
+)
 
 pub returns-else-value : goal.returns-else-value
-returns-else-value c = omega (arith, c.chunk_ones-ones.ensures, count-matching-bits_false c.args.value c.args.self 0 512 c.if-value.false)
+returns-else-value c = omega (
+  arith,
+  c.chunk_ones-ones.ensures,
+  count-matching-bits_false c.args.value c.args.self 0 512 c.if-value.false,
+)

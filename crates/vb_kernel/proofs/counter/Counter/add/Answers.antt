@@ -4,10 +4,10 @@ use Rattle.vb_kernel.proofs.counter.Counter.add.Goals as goal
 
 pub plus-requires : goal.plus-requires
 plus-requires g c =
-    let b : List ℕ = g.G.Glance.bytes c.args.src.now in
-    let same1 = c.add_four-ones.ensures.same in
-    let same2 = c.add_four-ones-2.ensures.same ∙ same1 in
-    let same3 = c.add_four-ones-3.ensures.same ∙ same2 in
+    let b : List ℕ = (g.G.Glance.seen c.args.src.now).bytes in
+    let same1 = c.add_four-ones.ensures.looks.same in
+    let same2 = c.add_four-ones-2.ensures.looks.same ∙ same1 in
+    let same3 = c.add_four-ones-3.ensures.looks.same ∙ same2 in
     omega (
       arith,
       c.self.view_is,
@@ -28,9 +28,9 @@ plus-requires g c =
 
 pub returns-clause-value : goal.returns-clause-value
 returns-clause-value g c =
-    let same1 = c.add_four-ones.ensures.same in
-    let same2 = c.add_four-ones-2.ensures.same ∙ same1 in
-    let same3 = c.add_four-ones-3.ensures.same ∙ same2 in
+    let same1 = c.add_four-ones.ensures.looks.same in
+    let same2 = c.add_four-ones-2.ensures.looks.same ∙ same1 in
+    let same3 = c.add_four-ones-3.ensures.looks.same ∙ same2 in
     omega (
       arith,
       c.self.view_is,

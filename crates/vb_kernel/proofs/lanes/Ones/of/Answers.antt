@@ -10,4 +10,5 @@ pub returns : goal.returns
 returns c =
     let b : List ℕ = c.args.chunk.now in
     let whole : take 64 b ≡ b = take_all 64 b (omega arith) in
-    ones-words (chunk 0 64 b) (omega (arith, ap length whole)) (below_from_Fits w8 (chunk 0 64 b) (chunk-fits w8 0 64 b c.type_inv.chunk)) ∙ ap (λ l. count (bits l 0 512)) whole
+    ones-words (chunk 0 64 b) (omega (arith, ap length whole)) (below_from_Fits w8 (chunk 0 64 b)
+    (chunk-fits w8 0 64 b c.type_inv.chunk)) ∙ ap (λ l. count (bits l 0 512)) whole

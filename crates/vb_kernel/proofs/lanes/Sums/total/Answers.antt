@@ -3,4 +3,8 @@ use Rattle.vb_kernel.proofs.LanesLemmas.{fold-wrapped}
 use Rattle.vb_kernel.proofs.lanes.Sums.total.Goals as goal
 
 pub returns : goal.returns
-returns c = omega (arith, fold-wrapped 0 c.self.inside.lanes (omega (arith, c.self.view_is)), c.self.view_is)
+returns c = omega (
+  arith,
+  fold-wrapped 0 c.self.inside.lanes (omega (arith, c.self.view_is)),
+  c.self.view_is,
+)

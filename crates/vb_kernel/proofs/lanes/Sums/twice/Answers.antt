@@ -3,7 +3,8 @@ use Rattle.vb_kernel.proofs.LanesLemmas.{EightWords-wrapped, sum-wrapped}
 use Rattle.vb_kernel.proofs.lanes.Sums.twice.Goals as goal
 
 pub invariant_of-result : goal.invariant_of-result
-invariant_of-result c = EightWords-wrapped c.self.inside.lanes c.self.inside.lanes c.self.invariant c.self.invariant
+invariant_of-result c =
+    EightWords-wrapped c.self.inside.lanes c.self.inside.lanes c.self.invariant c.self.invariant
 
 pub returns : goal.returns
 returns c =
