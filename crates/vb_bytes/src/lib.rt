@@ -8,7 +8,7 @@
 ghost use Rattle.std.specs.Prelude.{◌≡◌, ◌≢◌, ◌+◌, ◌*◌, ◌%◌, ◌^◌, ◌<◌, ◌≤◌, [], ◌++◌};
 ghost use Rattle.std.specs.Prelude.{length, vec_capacity, IfOk, IsOk, IsErrOf};
 ghost use Rattle.vb_bytes.specs.Answers.{MakesBytes, ReadsBytes};
-ghost use Rattle.vb_bytes.specs.ByteForm.{byteform, IsReadFrom, AreOnlyItems};
+ghost use Rattle.vb_bytes.specs.ByteForm.{byteform, IsReadFrom};
 
 mod owned;
 
@@ -71,8 +71,7 @@ pub fn read_items<T: Element, A: Allocator>(bytes: &[u8], items: &mut Vec<T, A>)
     requires empty { items.old.items ≡ [] }
     requires whole { length bytes.now % T.SIZE ≡ 0 }
     requires room { length bytes.now ≤ vec_capacity items.old * T.SIZE }
-    ensures read { IsReadFrom T.form T.is_in_type bytes.now items.new.items }
-    ensures only { AreOnlyItems T.form T.is_in_type bytes.now items.new.items }
+    ensures { IsReadFrom T.SIZE T.form T.is_in_type bytes.now items.new.items }
 {
     for chunk in bytes.chunks_exact(T::SIZE) {
         items.push_reserved(T::get(chunk));
@@ -102,7 +101,7 @@ pub fn items_of<T: Element, A: Allocator + Clone>(
     bytes: &[u8],
 ) -> Result<Vec<T, A>, BufferError>
     ensures { ReadsBytes (length bytes.now) T.SIZE
-        (λ items. IsReadFrom T.form T.is_in_type bytes.now items.items) result }
+        (λ items. IsReadFrom T.SIZE T.form T.is_in_type bytes.now items.items) result }
 {
     let len = item_count::<T>(bytes.len())?;
     let mut items = Vec::with_capacity(alloc.clone()?, len)?;

@@ -1,5 +1,6 @@
 -- One call of an iterator whose number of items is known.
-use Rattle.std.proofs.Common.{◌≡◌, ℕ, ◌-◌, true, List, [], ◌∷◌, length, Option, Some, None, refl, ap, subst, arith}
+use Rattle.std.proofs.Common.{◌≡◌, ℕ, ◌-◌, true, List, [], ◌∷◌, length, Option, Some, None, refl}
+use Rattle.std.proofs.Common.{ap, subst, arith}
 use Rattle.std.proofs.lemmas.Option.{slice_get-get_or}
 use Rattle.std.specs.Iterator.{Yields, Drains}
 use Rattle.std.specs.Iterator.Runs.{Run, Trigger, YieldsRun}
@@ -24,18 +25,24 @@ module _ {S A : Type 0} (steps : S → Option A → S → Type 0) where
   }
 
   -- a known length is that of what comes
-  IsLength-Drains : (s : S) (n : ℕ) → IsLength steps s n → (xs : List A) → Drains steps s xs → length xs ≡ n
+  IsLength-Drains : (s : S) (n : ℕ)
+      → IsLength steps s n → (xs : List A) → Drains steps s xs → length xs ≡ n
   unfolding Trigger run_of
   IsLength-Drains s n known xs drains = known (run_of s xs drains) tt refl refl
 
   -- an item leaves one less
-  pub IsLength-some : (s : S) (item : A) (t : S) (n : ℕ) → IsLength steps s n → steps s (Some item) t → IsLength steps t (n - 1)
+  pub IsLength-some : (s : S) (item : A) (t : S) (n : ℕ)
+      → IsLength steps s n → steps s (Some item) t → IsLength steps t (n - 1)
   unfolding YieldsRun
   IsLength-some s item t n known step run _ from whole =
       let last = run.gave.0.2 whole in
-      let rest : Yields steps t run.items run.gave.0.0 = subst (λ (j : S). Yields steps j run.items run.gave.0.0) from run.gave.0.1 in
+      let rest : Yields steps t run.items run.gave.0.0 =
+      subst (λ (j : S). Yields steps j run.items run.gave.0.0) from run.gave.0.1 in
       let all : length (item ∷ run.items) ≡ n =
-      IsLength-Drains s n known (item ∷ run.items) (last.0, (run.gave.0.0, (t, step, rest), last.1)) in
+      IsLength-Drains s n known (item ∷ run.items) (
+        last.0,
+        (run.gave.0.0, (t, step, rest), last.1),
+      ) in
       let long = run.long in
       omega arith
 

@@ -1,5 +1,6 @@
 -- Powers of two: their one digit, and which divides which.
-use Rattle.std.proofs.Common.{◌≡◌, ℕ, ◌+◌, ◌-◌, ◌*◌, ◌^◌, ◌<◌, ◌≤◌, ◌%◌, IsTrue, count_ones, sym, ap, subst, ◌∙◌, arith, rules}
+use Rattle.std.proofs.Common.{◌≡◌, ℕ, ◌+◌, ◌-◌, ◌*◌, ◌^◌, ◌<◌, ◌≤◌, ◌%◌, IsTrue, count_ones, sym}
+use Rattle.std.proofs.Common.{ap, subst, ◌∙◌, arith, rules}
 use Rattle.std.proofs.Math.Nat.{mod-eq_of_lt, mod_self}
 use Rattle.std.proofs.Math.Pow.{mod-mod-pow, pow-lt}
 use Rattle.std.proofs.lemmas.Nat.{pow_pos, zero_from_ones}
@@ -17,7 +18,8 @@ pub pow-highest : (n k : ℕ) → IsTrue (is_power_of_two n) → 2 ^ k ≤ n →
 pow-highest n k power lower upper =
     let rest_below : n - 2 ^ k < 2 ^ k = omega arith in
     let whole : 2 ^ k + (n - 2 ^ k) ≡ n = omega arith in
-    let digits : count_ones n ≡ 1 + count_ones (n - 2 ^ k) = ap count_ones (sym whole) ∙ count_ones-above k (n - 2 ^ k) rest_below in
+    let digits : count_ones n ≡ 1 + count_ones (n - 2 ^ k) =
+    ap count_ones (sym whole) ∙ count_ones-above k (n - 2 ^ k) rest_below in
     let one : count_ones n ≡ 1 = search rules in
     let rest : n - 2 ^ k ≡ 0 = zero_from_ones (n - 2 ^ k) (omega arith) in
     omega arith
@@ -26,14 +28,16 @@ pow-highest n k power lower upper =
 pub is_power_of_two-pow : (k : ℕ) → IsTrue (is_power_of_two (2 ^ k))
 unfolding ones
 is_power_of_two-pow k =
-    let digits : count_ones (2 ^ k) ≡ 1 = ap count_ones (omega arith) ∙ count_ones-above k 0 (pow_pos k) in
+    let digits : count_ones (2 ^ k) ≡ 1 =
+    ap count_ones (omega arith) ∙ count_ones-above k 0 (pow_pos k) in
     search rules
 
 -- a power of two is a multiple of each lower one
 pub pow-mod-pow : (n k : ℕ) → k ≤ n → 2 ^ n % 2 ^ k ≡ 0
 pow-mod-pow n k below =
     let sum : (n - k) + k ≡ n = omega arith in
-    subst (λ (m : ℕ). 2 ^ m % 2 ^ k ≡ 0) sum (sym (mod-mod-pow (2 ^ ((n - k) + k)) (n - k) k) ∙ ap (λ (m : ℕ). m % 2 ^ k) (mod_self (2 ^ ((n - k) + k))) ∙ mod-eq_of_lt (pow_pos k))
+    subst (λ (m : ℕ). 2 ^ m % 2 ^ k ≡ 0) sum (sym (mod-mod-pow (2 ^ ((n - k) + k)) (n - k) k)
+    ∙ ap (λ (m : ℕ). m % 2 ^ k) (mod_self (2 ^ ((n - k) + k))) ∙ mod-eq_of_lt (pow_pos k))
 
 -- a power of two is no multiple of a greater one
 pub pow-mod_greater : (n k : ℕ) → n < k → 0 < 2 ^ n % 2 ^ k

@@ -14,7 +14,7 @@ Makes-map P Q (Err e) f made = record { ok = tt; refused = made.refused }
 -- what a growing buffer holds is shown once it is shared
 pub Shows-held : {T : Type 0} (items : List T) (reported kept : ℕ) (growing : OpenBuffer T)
     (b : SharedBuffer T) → Holds items reported kept growing
-    → Shows growing.list growing.exponent 0 growing.declared_exponent b
+    → Shows growing.list growing.alignment 0 growing.declared b
     → Shows items reported 0 kept b
 Shows-held items reported kept growing b holds shows = record {
   list = shows.list ∙ holds.list;

@@ -3,16 +3,18 @@ use Rattle.std.proofs.Common.{◌≡◌, ℕ, ◌*◌, ◌%◌, ◌^◌, ◌≤�
 use Rattle.std.proofs.Common.{inl, inr, arith}
 use Rattle.std.proofs.Math.Nat.{dvd-add}
 use Rattle.std.proofs.lemmas.Nat.Gcd.{dvd_of_mod-eq-zero, mod-eq-zero_of_dvd}
+use Rattle.std.specs.declared.ops.Range.{Range}
 use Rattle.vb_mem.specs.SharedBuffer.{SharedBuffer, IsAlignedTo, CanSlice, CanNarrow}
 
 -- so many bytes on, a multiple of the alignment, the alignment is there again
-pub can_slice-narrow : {T : Type 0} (size least : ℕ) (b : SharedBuffer T) (start end alignment : ℕ)
-    → alignment ≡ b.exponent → least ≤ alignment → alignment ≤ b.declared_exponent
+pub can_slice-narrow : {T : Type 0} (size least : ℕ) (b : SharedBuffer T) (range : Range ℕ)
+    (alignment : ℕ)
+    → alignment ≡ b.alignment → least ≤ alignment → alignment ≤ b.declared
     → IsAlignedTo b alignment
-    → CanNarrow size least b start end → CanSlice size least b start end alignment
-can_slice-narrow size least b start end alignment same at_least fits aligned can =
+    → CanNarrow size least b range → CanSlice size least b range alignment
+can_slice-narrow size least b range alignment same at_least fits aligned can =
     elim can [
-      | inl there ↦ subst (λ n. CanSlice size least b start end n) (sym same) there
+      | inl there ↦ subst (λ n. CanSlice size least b range n) (sym same) there
       | inr on ↦ (
         on.0,
         on.1,
@@ -22,7 +24,8 @@ can_slice-narrow size least b start end alignment same at_least fits aligned can
           | inr here ↦ inr (
             mod-eq-zero_of_dvd (2 ^ alignment)
                 (dvd-add (2 ^ alignment) (dvd_of_mod-eq-zero (2 ^ alignment) here.0)
-                (dvd_of_mod-eq-zero (2 ^ alignment) (ap (λ n. start * size % 2 ^ n) same ∙ on.2))),
+                (dvd_of_mod-eq-zero
+                (2 ^ alignment) (ap (λ n. range.start * size % 2 ^ n) same ∙ on.2))),
             fits,
           )
         ],

@@ -43,8 +43,14 @@ module _ {S A E : Type 0} (steps : S → Option (Result A E) → S → Type 0) w
   GivesError s e P = (items : List A) × (t : S)
       × Yields steps s (map Ok items ++ Err e ∷ []) t × P items
 
--- P holds of the error of an item, or Q where memory was refused
-abbrev pub IfStopped : {B E : Type 0} → Result B (ExtendError E) → (E → Type 0) → Type 0 → Type 0
-IfStopped (Ok _) P Q = Unit {0}
-IfStopped (Err Memory) P Q = Q
-IfStopped (Err (Item e)) P Q = P e
+-- an item was an error, of which P holds, or none was met
+abbrev pub IfItem : {B E : Type 0} → Result B (ExtendError E) → (E → Type 0) → Type 0
+IfItem (Ok _) P = Unit {0}
+IfItem (Err Memory) P = Unit {0}
+IfItem (Err (Item e)) P = P e
+
+-- P holds where memory was refused
+abbrev pub OnMemory : {B E : Type 0} → Result B (ExtendError E) → Type 0 → Type 0
+OnMemory (Ok _) P = Unit {0}
+OnMemory (Err Memory) P = P
+OnMemory (Err (Item e)) P = Unit {0}

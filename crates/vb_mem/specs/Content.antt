@@ -11,15 +11,15 @@ module _ {T A : Type 0} where
   abbrev pub seen : ℕ → Content T A → SharedBuffer T
   seen size (Nothing exponent) = record {
     list = [];
-    exponent = exponent;
-    declared_exponent = exponent;
+    alignment = exponent;
+    declared = exponent;
     place = 0;
   }
   seen size (Stored rc None) = shown rc.value
   seen size (Stored rc (Some window)) = record {
     list = take window.len (drop window.start rc.value.list);
-    exponent = window.alignment;
-    declared_exponent = rc.value.declared_exponent;
+    alignment = window.alignment;
+    declared = rc.value.declared;
     place = window.start * size;
   }
 
@@ -32,8 +32,8 @@ module _ {T A : Type 0} where
       (window.start + window.len ≤ length rc.value.list)
       × (window.start + window.len < 2 ^ 64)
       × (0 < window.len
-      → IsPlaceAligned (window.start * size) rc.value.declared_exponent window.alignment)
-      × (least ≤ window.alignment) × (window.alignment ≤ rc.value.declared_exponent)
+      → IsPlaceAligned (window.start * size) rc.value.declared window.alignment)
+      × (least ≤ window.alignment) × (window.alignment ≤ rc.value.declared)
 
   -- all of a storage is shown, and P holds of what is in it
   abbrev pub IsWhole : (OpenBuffer T → Type 0) → Content T A → Type 0

@@ -6,21 +6,21 @@ use Rattle.std.specs.List.{refill}
 -- many items fit without more memory
 pub record OpenBuffer (T : Type 0) : Type 0 where
   pub list : List T
-  pub exponent : ℕ
-  pub declared_exponent : ℕ
+  pub alignment : ℕ
+  pub declared : ℕ
   pub room : ℕ
 
 -- a buffer has these items, reports this alignment, and its storage is declared with that one
 pub record Holds {T : Type 0} (items : List T) (reported kept : ℕ) (b : OpenBuffer T) : Type 0 where
   pub list : b.list ≡ items
-  pub alignment : b.exponent ≡ reported
-  pub declared : b.declared_exponent ≡ kept
+  pub alignment : b.alignment ≡ reported
+  pub declared : b.declared ≡ kept
 
 -- the items were added at the end; both alignments stayed, and the room didn't shrink
 pub record Lengthens {T : Type 0} (added : List T) (old new : OpenBuffer T) : Type 0 where
   pub list : new.list ≡ old.list ++ added
-  pub alignment : new.exponent ≡ old.exponent
-  pub declared : new.declared_exponent ≡ old.declared_exponent
+  pub alignment : new.alignment ≡ old.alignment
+  pub declared : new.declared ≡ old.declared
   pub room : old.room ≤ new.room
 
 -- so many more items fit without more memory

@@ -1,6 +1,7 @@
 -- What contracts see of a `Buffer`.
 use Rattle.std.specs.Prelude.{◌≡◌, ℕ, ◌+◌, ◌*◌, ◌%◌, ◌^◌, ◌<◌, ◌≤◌, ◌⊎◌}
 use Rattle.std.specs.Prelude.{List, [], length, slice_range}
+use Rattle.std.specs.declared.ops.Range.{Range}
 use Rattle.vb_bytes.specs.ByteForm.{IsReadFrom}
 use Rattle.vb_mem.specs.OpenBuffer.{OpenBuffer, over_aligned}
 
@@ -8,8 +9,8 @@ use Rattle.vb_mem.specs.OpenBuffer.{OpenBuffer, over_aligned}
 -- and the place in bytes of its first item in the storage
 pub record SharedBuffer (T : Type 0) : Type 0 where
   pub list : List T
-  pub exponent : ℕ
-  pub declared_exponent : ℕ
+  pub alignment : ℕ
+  pub declared : ℕ
   pub place : ℕ
 
 -- a buffer has these items and reports this alignment, and unless it is empty they stand at this
@@ -17,20 +18,20 @@ pub record SharedBuffer (T : Type 0) : Type 0 where
 pub record Shows {T : Type 0} (items : List T) (reported at kept : ℕ)
     (b : SharedBuffer T) : Type 0 where
   pub list : b.list ≡ items
-  pub alignment : b.exponent ≡ reported
+  pub alignment : b.alignment ≡ reported
   pub place : 0 < length items → b.place ≡ at
-  pub declared : 0 < length items → b.declared_exponent ≡ kept
+  pub declared : 0 < length items → b.declared ≡ kept
 
 -- a buffer has these items in storage made for them, and reports the alignment that was asked
 abbrev pub ShowsMade : {T : Type 0} → List T → ℕ → SharedBuffer T → Type 0
 ShowsMade items asked = Shows items asked 0 (over_aligned asked)
 
--- a buffer shows the items of another one from start up to end, each of so many bytes, and reports
--- this alignment
-abbrev pub ShowsPart : {T : Type 0} → ℕ → SharedBuffer T → ℕ → ℕ → ℕ → SharedBuffer T → Type 0
-ShowsPart size whole start end reported =
-    Shows (slice_range whole.list start end) reported (whole.place + start * size)
-    whole.declared_exponent
+-- a buffer shows the items of a range of another one, each of so many bytes, and reports this
+-- alignment
+abbrev pub ShowsPart : {T : Type 0} → ℕ → SharedBuffer T → Range ℕ → ℕ → SharedBuffer T → Type 0
+ShowsPart size whole range reported =
+    Shows (slice_range whole.list range.start range.end) reported (whole.place + range.start * size)
+    whole.declared
 
 -- the place is a multiple of the alignment, and the storage is declared with it or more
 abbrev pub IsPlaceAligned : ℕ → ℕ → ℕ → Type 0
@@ -38,21 +39,22 @@ IsPlaceAligned place declared alignment = (place % 2 ^ alignment ≡ 0) × (alig
 
 -- the buffer is empty, or its place has the alignment
 abbrev pub IsAlignedTo : {T : Type 0} → SharedBuffer T → ℕ → Type 0
-IsAlignedTo b alignment = (b.list ≡ []) ⊎ IsPlaceAligned b.place b.declared_exponent alignment
+IsAlignedTo b alignment = (b.list ≡ []) ⊎ IsPlaceAligned b.place b.declared alignment
 
--- the items from start up to end can be seen with an alignment, which is at least that of an item:
--- there are none, or the place of the first one has it
-abbrev pub CanSlice : {T : Type 0} → ℕ → ℕ → SharedBuffer T → ℕ → ℕ → ℕ → Type 0
-CanSlice size least b start end alignment =
-    (start ≤ end) × (end ≤ length b.list) × (least ≤ alignment)
-    × ((start ≡ end) ⊎ IsPlaceAligned (b.place + start * size) b.declared_exponent alignment)
+-- the items of a range can be seen with an alignment, which is at least that of an item: there are
+-- none, or the place of the first one has it
+abbrev pub CanSlice : {T : Type 0} → ℕ → ℕ → SharedBuffer T → Range ℕ → ℕ → Type 0
+CanSlice size least b range alignment =
+    (range.start ≤ range.end) × (range.end ≤ length b.list) × (least ≤ alignment)
+    × ((range.start ≡ range.end)
+    ⊎ IsPlaceAligned (b.place + range.start * size) b.declared alignment)
 
 -- the buffer that shows all that a growing one holds
 abbrev pub shown : {T : Type 0} → OpenBuffer T → SharedBuffer T
 shown growing = record {
   list = growing.list;
-  exponent = growing.exponent;
-  declared_exponent = growing.declared_exponent;
+  alignment = growing.alignment;
+  declared = growing.declared;
   place = 0;
 }
 
@@ -60,20 +62,21 @@ shown growing = record {
 -- copy
 pub record KeepsItems {T : Type 0} (old new : SharedBuffer T) : Type 0 where
   pub list : new.list ≡ old.list
-  pub alignment : new.exponent ≡ old.exponent
-  pub declared : (new.declared_exponent ≡ old.declared_exponent)
-      ⊎ (new.declared_exponent ≡ over_aligned old.exponent)
+  pub alignment : new.alignment ≡ old.alignment
+  pub declared : (new.declared ≡ old.declared)
+      ⊎ (new.declared ≡ over_aligned old.alignment)
 
--- the items from start up to end can be seen with the reported alignment. The buffer has it, so it
--- is enough that the range starts a multiple of it on
-abbrev pub CanNarrow : {T : Type 0} → ℕ → ℕ → SharedBuffer T → ℕ → ℕ → Type 0
-CanNarrow size least b start end =
-    CanSlice size least b start end b.exponent
-    ⊎ ((start ≤ end) × (end ≤ length b.list) × (start * size % 2 ^ b.exponent ≡ 0))
+-- the items of a range can be seen with the reported alignment. The buffer has it, so it is enough
+-- that the range starts a multiple of it on
+abbrev pub CanNarrow : {T : Type 0} → ℕ → ℕ → SharedBuffer T → Range ℕ → Type 0
+CanNarrow size least b range =
+    CanSlice size least b range b.alignment
+    ⊎ ((range.start ≤ range.end) × (range.end ≤ length b.list)
+    × (range.start * size % 2 ^ b.alignment ≡ 0))
 
--- a buffer shows the items whose bytes these are, in storage made for them, and reports the
--- alignment that was asked
-abbrev pub ShowsRead : {T : Type 0} → (T → List ℕ) → (T → Type 0) → List ℕ → ℕ
+-- a buffer shows the items whose bytes these are, so many for each, in storage made for them, and
+-- reports the alignment that was asked
+abbrev pub ShowsRead : {T : Type 0} → ℕ → (T → List ℕ) → (T → Type 0) → List ℕ → ℕ
     → SharedBuffer T → Type 0
-ShowsRead form is_in_type bytes asked b =
-    IsReadFrom form is_in_type bytes b.list × ShowsMade b.list asked b
+ShowsRead size form is_in_type bytes asked b =
+    IsReadFrom size form is_in_type bytes b.list × ShowsMade b.list asked b

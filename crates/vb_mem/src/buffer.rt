@@ -72,9 +72,9 @@ impl<T: Element, A: Allocator> Buffer<T, A> {
     /// The alignment that the buffer reports: at least that of an item, at most the declared one,
     /// and one that the buffer is aligned to.
     pub fn alignment(&self) -> Alignment
-        ensures value { result ≡ self.now.exponent }
+        ensures value { result ≡ self.now.alignment }
         ensures at_least { T.align_exponent ≤ result }
-        ensures fits { result ≤ self.now.declared_exponent }
+        ensures fits { result ≤ self.now.declared }
         ensures aligned { IsAlignedTo self.now result }
     {
         match &self.content {
@@ -87,8 +87,8 @@ impl<T: Element, A: Allocator> Buffer<T, A> {
     /// The alignment that the storage is declared with; of an empty buffer, one that is at least
     /// the reported one.
     pub fn declared(&self) -> Alignment
-        ensures value { result ≡ self.now.declared_exponent }
-        ensures at_least { self.now.exponent ≤ result }
+        ensures value { result ≡ self.now.declared }
+        ensures at_least { self.now.alignment ≤ result }
     {
         match &self.content {
             Content::Nothing(alignment) => *alignment,
@@ -113,7 +113,7 @@ impl<T: Element, A: Allocator> Buffer<T, A> {
     /// Drops all items. The alignment stays.
     pub fn clear(&mut self)
         ensures list { self.new.list ≡ [] }
-        ensures alignment { self.new.exponent ≡ self.old.exponent }
+        ensures alignment { self.new.alignment ≡ self.old.alignment }
     {
         self.content = Content::Nothing(self.alignment());
     }
@@ -123,8 +123,7 @@ impl<T: Element, A: Allocator> Buffer<T, A> {
     /// bytes of its first item is a multiple of the alignment and the storage is declared with it
     /// or more.
     pub fn can_slice(&self, range: Range<usize>, alignment: Alignment) -> bool
-        ensures { IsTrue result
-            ↔ CanSlice T.SIZE T.align_exponent self.now range.start range.end alignment }
+        ensures { IsTrue result ↔ CanSlice T.SIZE T.align_exponent self.now range alignment }
     {
         range.start <= range.end
             && range.end <= self.len()
@@ -137,8 +136,8 @@ impl<T: Element, A: Allocator> Buffer<T, A> {
     /// Keeps the items of a range, for which [`Buffer::can_slice`] holds at the buffer's alignment,
     /// which stays: so it does where the range starts a multiple of it on. It takes no memory.
     pub fn narrow(&mut self, range: Range<usize>)
-        requires { CanNarrow T.SIZE T.align_exponent self.old range.start range.end }
-        ensures { ShowsPart T.SIZE self.old range.start range.end self.old.exponent self.new }
+        requires { CanNarrow T.SIZE T.align_exponent self.old range }
+        ensures { ShowsPart T.SIZE self.old range self.old.alignment self.new }
     {
         let alignment = self.alignment();
         self.content.narrow(range, alignment);
@@ -149,18 +148,19 @@ impl<T: Element, A: Allocator + Clone> Buffer<T, A> {
     /// The items of a range as [`Buffer::narrow`] keeps them; the part shares the storage. Refused
     /// with `OutOfMemory` where a copy of the allocator finds no memory.
     pub fn slice(&self, range: Range<usize>) -> Result<Self>
-        requires { CanNarrow T.SIZE T.align_exponent self.now range.start range.end }
-        ensures { Makes (ShowsPart T.SIZE self.now range.start range.end self.now.exponent) result }
+        requires { CanNarrow T.SIZE T.align_exponent self.now range }
+        ensures { Makes (ShowsPart T.SIZE self.now range self.now.alignment) result }
     {
         let alignment = self.alignment();
         self.slice_with_alignment(range, alignment)
     }
 
     /// The items of a range with an alignment, for which [`Buffer::can_slice`] holds; the part
-    /// shares the storage. Refused as [`Buffer::slice`] is.
+    /// shares the storage, and an empty one may lie anywhere in it. Refused as [`Buffer::slice`]
+    /// is.
     pub fn slice_with_alignment(&self, range: Range<usize>, alignment: Alignment) -> Result<Self>
-        requires { CanSlice T.SIZE T.align_exponent self.now range.start range.end alignment }
-        ensures { Makes (ShowsPart T.SIZE self.now range.start range.end alignment) result }
+        requires { CanSlice T.SIZE T.align_exponent self.now range alignment }
+        ensures { Makes (ShowsPart T.SIZE self.now range alignment) result }
     {
         let mut part = self.clone()?;
         part.content.narrow(range, alignment);
@@ -170,9 +170,9 @@ impl<T: Element, A: Allocator + Clone> Buffer<T, A> {
     /// The items of a range within the buffer, of the alignment of an item; the part shares the
     /// storage. Refused as [`Buffer::slice`] is.
     pub fn slice_unaligned(&self, range: Range<usize>) -> Result<Self>
-        requires start_le_end { range.start ≤ range.end }
-        requires in_bounds { range.end ≤ length self.now.list }
-        ensures { Makes (ShowsPart T.SIZE self.now range.start range.end T.align_exponent) result }
+        requires order { range.start ≤ range.end }
+        requires within { range.end ≤ length self.now.list }
+        ensures { Makes (ShowsPart T.SIZE self.now range T.align_exponent) result }
     {
         // Its contract tells the proof that the place is a multiple of an item's alignment.
         let _ = self.alignment();

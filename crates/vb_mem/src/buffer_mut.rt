@@ -40,8 +40,8 @@ impl<T: Element, A: Allocator> Model for BufferMut<T, A> {
 
     ghost view = { λ b. record {
       list = b.items.items;
-      exponent = b.alignment;
-      declared_exponent = b.declared;
+      alignment = b.alignment;
+      declared = b.declared;
       room = vec_capacity b.items;
     } };
 
@@ -54,17 +54,17 @@ impl<T: Element, A: Allocator> Model for BufferMut<T, A> {
 impl<T: Element, A: Allocator> BufferMut<T, A> {
     /// The alignment that the buffer reports: at least that of an item, at most the declared one.
     pub fn alignment(&self) -> Alignment
-        ensures value { result ≡ self.now.exponent }
+        ensures value { result ≡ self.now.alignment }
         ensures at_least { T.align_exponent ≤ result }
-        ensures fits { result ≤ self.now.declared_exponent }
+        ensures fits { result ≤ self.now.declared }
     {
         self.alignment
     }
 
     /// The alignment that the storage is declared with.
     pub fn declared(&self) -> Alignment
-        ensures value { result ≡ self.now.declared_exponent }
-        ensures at_least { self.now.exponent ≤ result }
+        ensures value { result ≡ self.now.declared }
+        ensures at_least { self.now.alignment ≤ result }
     {
         self.declared
     }
@@ -130,9 +130,9 @@ impl<T: Element, A: Allocator> BufferMut<T, A> {
     pub(crate) fn narrow(&mut self, window: Window)
         requires within { window.start + window.len ≤ length self.old.list }
         requires at_least { T.align_exponent ≤ window.alignment }
-        requires fits { window.alignment ≤ self.old.declared_exponent }
+        requires fits { window.alignment ≤ self.old.declared }
         ensures { Holds (take window.len (drop window.start self.old.list)) window.alignment
-            self.old.declared_exponent self.new }
+            self.old.declared self.new }
     {
         if window.start != 0 {
             self.items

@@ -50,9 +50,9 @@ impl<T: Element, A: Allocator> Content<T, A> {
     // Keeps the items of a range, and reports an alignment for which they can be sliced.
     pub(crate) fn narrow(&mut self, range: Range<usize>, alignment: Alignment)
         requires sound { IsSound T.SIZE T.align_exponent self.old }
-        requires can_slice { CanSlice T.SIZE T.align_exponent (seen T.SIZE self.old)
-            range.start range.end alignment }
-        ensures shows { ShowsPart T.SIZE (seen T.SIZE self.old) range.start range.end alignment
+        requires can_slice { CanSlice T.SIZE T.align_exponent (seen T.SIZE self.old) range
+            alignment }
+        ensures shows { ShowsPart T.SIZE (seen T.SIZE self.old) range alignment
             (seen T.SIZE self.new) }
         ensures sound { IsSound T.SIZE T.align_exponent self.new }
     {

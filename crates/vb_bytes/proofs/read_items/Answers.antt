@@ -40,25 +40,10 @@ loop-chunk-preserved g c =
       room = c.push_reserved.ensures.capacity ∙ kept.room;
     }
 
--- less than an item is left, and items divide the bytes
-pub returns-clause-read : goal.returns-clause-read
-returns-clause-read g c =
-    let element = g.T.Element in
-    let kept = c.loop-chunk.invariant in
-    let items = c.loop-chunk.items.items in
-    let rest = chunks_exact_rest c.loop-chunk.chunk-iterator in
-    let few : length rest < element.SIZE = omega (arith, c.in-None.ensures.steps.1.0, kept.size) in
-    let none =
-    no_bytes_left (length items) element.SIZE (length rest) (length c.args.bytes.now) few kept.len
-    c.requires.whole in
-    record {
-      bytes_are = byteform-whole element.form items c.args.bytes.now rest none kept.read;
-      in_type = kept.in_type;
-    }
-
--- other items with these bytes are the same ones, since items and bytes determine each other
-pub returns-clause-only : goal.returns-clause-only
-returns-clause-only g c others valid same =
+-- less than an item is left, and items divide the bytes. Other items with these bytes are the same
+-- ones, since items and bytes determine each other
+pub returns : goal.returns
+returns g c =
     let element = g.T.Element in
     let kept = c.loop-chunk.invariant in
     let items = c.loop-chunk.items.items in
@@ -68,6 +53,11 @@ returns-clause-only g c others valid same =
     no_bytes_left (length items) element.SIZE (length rest) (length c.args.bytes.now) few kept.len
     c.requires.whole in
     let read = byteform-whole element.form items c.args.bytes.now rest none kept.read in
-    byteform-injective element.SIZE element.ALIGN element.align_exponent element.is_in_type
-    element.form element.value_of g.met.T.Element.lawful others items valid kept.in_type
-    (same ∙ sym read)
+    record {
+      bytes_are = read;
+      in_type = kept.in_type;
+      len = omega (arith, kept.len, none);
+      only = λ others valid same. byteform-injective element.SIZE element.ALIGN
+          element.align_exponent element.is_in_type element.form element.value_of
+          g.met.T.Element.lawful others items valid kept.in_type (same ∙ sym read);
+    }

@@ -28,7 +28,7 @@ impl<T: Element, A: Allocator + Clone> Buffer<T, A> {
     /// as [`Buffer::as_bytes`] is; the buffer is gone then.
     pub fn into_byte_buffer(self) -> Result<Buffer<u8, A>>
         ensures { MakesBytes (length self.list * T.SIZE)
-            (ShowsMade (byteform T.form self.list) self.exponent) result }
+            (ShowsMade (byteform T.form self.list) self.alignment) result }
     {
         let alignment = self.alignment();
         let bytes = bytes_of(&self.alloc, self.as_slice());
@@ -47,12 +47,25 @@ impl<T: Element, A: Allocator + Clone> Buffer<T, A> {
         Ok(Bytes::from_vec(bytes?)?)
     }
 
+    /// The items whose bytes a slice has, with an alignment, which is at least that of an item:
+    /// read once into storage made for them, over-aligned to 256 bytes, which the buffer keeps with
+    /// the allocator. Refused with `ByteLength` exactly where the size of an item doesn't divide
+    /// the number of bytes, before memory is asked for, and else with `OutOfMemory`.
+    pub fn read_from(alloc: A, bytes: &[u8], alignment: Alignment) -> Result<Self>
+        requires { T.align_exponent ≤ alignment }
+        ensures { ReadsBytes (length bytes.now) T.SIZE
+            (ShowsRead T.SIZE T.form T.is_in_type bytes.now alignment) result }
+    {
+        let items = items_of(&alloc, bytes)?;
+        BufferMut::of_vec(items, alignment, DEFAULT).freeze()
+    }
+
     /// The items whose bytes a buffer has, of the alignment of an item, copied and over-aligned to
     /// 256 bytes. Refused with `ByteLength` exactly where the size of an item doesn't divide the
     /// number of bytes, and else with `OutOfMemory`; the bytes are gone then.
     pub fn from_byte_buffer(bytes: Buffer<u8, A>) -> Result<Self>
         ensures { ReadsBytes (length bytes.list) T.SIZE
-            (ShowsRead T.form T.is_in_type bytes.list T.align_exponent) result }
+            (ShowsRead T.SIZE T.form T.is_in_type bytes.list T.align_exponent) result }
     {
         Buffer::from_byte_buffer_aligned(bytes, Alignment::of::<T>())
     }
@@ -62,7 +75,7 @@ impl<T: Element, A: Allocator + Clone> Buffer<T, A> {
     pub fn from_byte_buffer_aligned(bytes: Buffer<u8, A>, alignment: Alignment) -> Result<Self>
         requires { T.align_exponent ≤ alignment }
         ensures { ReadsBytes (length bytes.list) T.SIZE
-            (ShowsRead T.form T.is_in_type bytes.list alignment) result }
+            (ShowsRead T.SIZE T.form T.is_in_type bytes.list alignment) result }
     {
         let items = items_of(&bytes.alloc, bytes.as_slice());
         drop(bytes);
@@ -73,7 +86,7 @@ impl<T: Element, A: Allocator + Clone> Buffer<T, A> {
     /// over-aligned to 256 bytes. Refused as [`Buffer::from_byte_buffer`] is.
     pub fn from_bytes<B: Allocator>(alloc: A, bytes: Bytes<B>) -> Result<Self>
         ensures { ReadsBytes (length bytes) T.SIZE
-            (ShowsRead T.form T.is_in_type bytes T.align_exponent) result }
+            (ShowsRead T.SIZE T.form T.is_in_type bytes T.align_exponent) result }
     {
         Buffer::from_bytes_aligned(alloc, bytes, Alignment::of::<T>())
     }
@@ -87,10 +100,10 @@ impl<T: Element, A: Allocator + Clone> Buffer<T, A> {
     ) -> Result<Self>
         requires { T.align_exponent ≤ alignment }
         ensures { ReadsBytes (length bytes) T.SIZE
-            (ShowsRead T.form T.is_in_type bytes alignment) result }
+            (ShowsRead T.SIZE T.form T.is_in_type bytes alignment) result }
     {
-        let items = items_of(&alloc, bytes.as_slice());
+        let items = Buffer::read_from(alloc, bytes.as_slice(), alignment);
         drop(bytes);
-        BufferMut::of_vec(items?, alignment, DEFAULT).freeze()
+        items
     }
 }

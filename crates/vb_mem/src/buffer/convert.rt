@@ -21,7 +21,7 @@ impl<T: Element, A: Allocator> Buffer<T, A> {
     /// shares it; else the buffer is given back. It takes no memory, and constant time but for the
     /// move of items that don't begin the storage.
     pub fn try_into_mut(self) -> Result<BufferMut<T, A>, Self>
-        ensures ok { IfOk result (Holds self.list self.exponent self.declared_exponent) }
+        ensures ok { IfOk result (Holds self.list self.alignment self.declared) }
         ensures err { IfErr result (λ b. b ≡ self) }
     {
         let Buffer { content, alloc } = self;
@@ -49,7 +49,7 @@ impl<T: Element, A: Allocator> Buffer<T, A> {
     /// buffer is gone then.
     pub fn ensure_aligned(self, alignment: Alignment) -> Result<Self>
         requires { T.align_exponent ≤ alignment }
-        ensures ok { IfOk result (Shows self.list alignment self.place self.declared_exponent) }
+        ensures ok { IfOk result (Shows self.list alignment self.place self.declared) }
         ensures aligned { IsAlignedTo self alignment → IsOk result }
         ensures not_aligned { ¬ (IsAlignedTo self alignment) →
             IsErrOf result BufferError.NotAligned }
@@ -111,9 +111,9 @@ impl<T: Element, A: Allocator + Clone> Buffer<T, A> {
     /// the buffer is gone then.
     pub fn aligned(self, alignment: Alignment) -> Result<Self>
         requires { T.align_exponent ≤ alignment }
-        ensures ok { IfOk result (λ b. (b.list ≡ self.list) × (b.exponent ≡ alignment)) }
+        ensures ok { IfOk result (λ b. (b.list ≡ self.list) × (b.alignment ≡ alignment)) }
         ensures in_place { IsAlignedTo self alignment →
-            IsOkAnd result (Shows self.list alignment self.place self.declared_exponent) }
+            IsOkAnd result (Shows self.list alignment self.place self.declared) }
         ensures copied { ¬ (IsAlignedTo self alignment) →
             IfOk result (ShowsMade self.list alignment) }
         ensures refused { IsOkUnless result BufferError.OutOfMemory }

@@ -18,7 +18,7 @@ impl<T: Element, A: Allocator> Buffer<T, A> {
     /// No items and no storage, of the alignment of an item. It takes no memory.
     pub fn empty(alloc: A) -> Self
         ensures list { result.list ≡ [] }
-        ensures alignment { result.exponent ≡ T.align_exponent }
+        ensures alignment { result.alignment ≡ T.align_exponent }
     {
         Buffer::empty_aligned(alloc, Alignment::of::<T>())
     }
@@ -27,7 +27,7 @@ impl<T: Element, A: Allocator> Buffer<T, A> {
     pub fn empty_aligned(alloc: A, alignment: Alignment) -> Self
         requires { T.align_exponent ≤ alignment }
         ensures list { result.list ≡ [] }
-        ensures alignment { result.exponent ≡ alignment }
+        ensures alignment { result.alignment ≡ alignment }
     {
         Buffer {
             content: Content::Nothing(alignment),
@@ -125,9 +125,9 @@ impl<T: Element, A: Allocator + Clone> Buffer<T, A> {
     }
 
     /// The items of a vector, of the alignment of an item, with which its storage is declared.
-    /// Nothing is copied. The block that counts owners is asked of `alloc`, and so are copies; where
-    /// a lone owner opens the buffer, the storage grows from the vector's allocator. Refused with
-    /// `OutOfMemory`; the vector is gone then.
+    /// Nothing is copied. The block that counts owners is asked of `alloc`, and so are copies;
+    /// where a lone owner opens the buffer, the storage grows from the vector's allocator. Refused
+    /// with `OutOfMemory`; the vector is gone then.
     pub fn from_vec(alloc: A, items: Vec<T, A>) -> Result<Self>
         ensures { Makes (Shows items.items T.align_exponent 0 T.align_exponent) result }
     {
@@ -139,7 +139,7 @@ impl<T: Element, A: Allocator + Clone> Buffer<T, A> {
     /// A growing buffer, to be shared, as [`BufferMut::freeze`] does. Refused with `OutOfMemory`;
     /// the buffer is gone then.
     pub fn from_mut(growing: BufferMut<T, A>) -> Result<Self>
-        ensures { Makes (Shows growing.list growing.exponent 0 growing.declared_exponent) result }
+        ensures { Makes (Shows growing.list growing.alignment 0 growing.declared) result }
     {
         let alloc = growing.allocator().clone()?;
         let content = Content::Stored(Rc::new(alloc.clone()?, growing)?, None);

@@ -15,7 +15,7 @@ use vb_core::{Alignment, BufferError, Element};
 
 /// A copy, as [`BufferMut::clone`] makes it, for code over std's trait.
 impl<T: Element, A: Allocator + Clone> Clone for BufferMut<T, A> {
-    ghost is_clone = { λ b copy. HoldsMade b.list b.exponent copy };
+    ghost is_clone = { λ b copy. HoldsMade b.list b.alignment copy };
 
     fn clone(&self) -> Result<Self, AllocError> {
         BufferMut::clone(self).or(Err(AllocError))
@@ -28,7 +28,7 @@ impl<T: Element, A: Allocator + Clone> BufferMut<T, A> {
     /// is unchanged then.
     pub fn take(&mut self) -> Result<Self>
         ensures taken { Makes (λ b. b ≡ self.old) result }
-        ensures left { OnOk result (HoldsMade [] self.old.exponent self.new) }
+        ensures left { OnOk result (HoldsMade [] self.old.alignment self.new) }
         ensures err { OnErr result (self.new ≡ self.old) }
     {
         let alloc = self.allocator().clone()?;
@@ -38,7 +38,7 @@ impl<T: Element, A: Allocator + Clone> BufferMut<T, A> {
 
     /// A copy of the same alignment, over-aligned to 256 bytes. Refused with `OutOfMemory`.
     pub fn clone(&self) -> Result<Self>
-        ensures { Makes (HoldsMade self.now.list self.now.exponent) result }
+        ensures { Makes (HoldsMade self.now.list self.now.alignment) result }
     {
         BufferMut::copy_in(self.allocator(), self.as_slice(), self.alignment)
     }
@@ -49,13 +49,13 @@ impl<T: Element, A: Allocator + Clone> BufferMut<T, A> {
     /// the buffer is gone then.
     pub fn aligned(self, alignment: Alignment) -> Result<Self>
         requires { T.align_exponent ≤ alignment }
-        ensures ok { IfOk result (λ b. (b.list ≡ self.list) × (b.exponent ≡ alignment)) }
-        ensures in_place { (self.list ≡ []) ⊎ (alignment ≤ self.declared_exponent) →
+        ensures ok { IfOk result (λ b. (b.list ≡ self.list) × (b.alignment ≡ alignment)) }
+        ensures in_place { (self.list ≡ []) ⊎ (alignment ≤ self.declared) →
             IsOkAnd result (λ b. b ≡ record self {
-              exponent = alignment;
-              declared_exponent = max self.declared_exponent alignment;
+              alignment = alignment;
+              declared = max self.declared alignment;
             }) }
-        ensures copied { 0 < length self.list → self.declared_exponent < alignment →
+        ensures copied { 0 < length self.list → self.declared < alignment →
             IfOk result (HoldsMade self.list alignment) }
         ensures refused { IsOkUnless result BufferError.OutOfMemory }
     {
@@ -73,7 +73,7 @@ impl<T: Element, A: Allocator + Clone> BufferMut<T, A> {
     /// The same items, to be shared, in constant time: the storage is handed on, and memory is
     /// taken for its count of owners alone. Refused with `OutOfMemory`; the buffer is gone then.
     pub fn freeze(self) -> Result<Buffer<T, A>>
-        ensures { Makes (Shows self.list self.exponent 0 self.declared_exponent) result }
+        ensures { Makes (Shows self.list self.alignment 0 self.declared) result }
     {
         Buffer::from_mut(self)
     }
@@ -82,7 +82,7 @@ impl<T: Element, A: Allocator + Clone> BufferMut<T, A> {
     /// as [`Buffer::as_bytes`] is; the buffer is gone then.
     pub fn into_byte_buffer(self) -> Result<BufferMut<u8, A>>
         ensures { MakesBytes (length self.list * T.SIZE)
-            (HoldsMade (byteform T.form self.list) self.exponent) result }
+            (HoldsMade (byteform T.form self.list) self.alignment) result }
     {
         let alignment = self.alignment;
         let bytes = bytes_of(self.allocator(), self.as_slice());

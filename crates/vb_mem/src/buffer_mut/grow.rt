@@ -5,7 +5,8 @@ ghost use Rattle.std.specs.Iterator.{Drains, ExtendsWithItems, HoldsAlong};
 ghost use Rattle.std.specs.Iterator.{IsFinite, IsFiniteIterable};
 ghost use Rattle.vb_mem.specs.Answers.{NeedsRoom};
 ghost use Rattle.vb_mem.specs.OpenBuffer.{Lengthens, HasRoom};
-ghost use Rattle.vb_mem.specs.Collected.{GivesThen, GivesValues, GivesError, IfStopped};
+ghost use Rattle.vb_mem.specs.Collected.{IfItem, OnMemory};
+ghost use Rattle.vb_mem.specs.Collected.{GivesThen, GivesValues, GivesError};
 
 use super::BufferMut;
 use crate::Result;
@@ -149,9 +150,9 @@ impl<T: Element, A: Allocator> BufferMut<T, A> {
         ensures ok { OnOk result
             (GivesValues I.next_gives iter (λ items. Lengthens items self.old self.new)) }
         ensures in_place { HasRoom self.old (I.left iter) → result ≢ Err ExtendError.Memory }
-        ensures err { IfStopped result
-            (λ e. GivesError I.next_gives iter e (λ items. Lengthens items self.old self.new))
-            (self.new ≡ self.old) }
+        ensures item { IfItem result (λ e. GivesError I.next_gives iter e
+            (λ items. Lengthens items self.old self.new)) }
+        ensures memory { OnMemory result (self.new ≡ self.old) }
     {
         if self.reserve(iter.exact_len()).is_err() {
             return Err(ExtendError::Memory);

@@ -3,7 +3,7 @@ ghost use Rattle.std.specs.Prelude.{◌≡◌, ◌≤◌, ⊤, List, [], length,
 ghost use Rattle.std.specs.Iterator.{Drains, IsFiniteIterable};
 ghost use Rattle.vb_mem.specs.Answers.{Makes};
 ghost use Rattle.vb_mem.specs.Collected.{OfItems, OfRun};
-ghost use Rattle.vb_mem.specs.Collected.{GivesValues, GivesError, IfStopped};
+ghost use Rattle.vb_mem.specs.Collected.{GivesValues, GivesError, IfItem};
 ghost use Rattle.vb_mem.specs.OpenBuffer.{Holds, HoldsMade, preferred_over};
 
 use super::{BufferMut, DEFAULT};
@@ -202,7 +202,7 @@ impl<T: Element, A: Allocator> BufferMut<T, A> {
         requires { I.can_next iter }
         ensures ok { IfOk result (λ b. GivesValues I.next_gives iter
             (λ items. HoldsMade items T.align_exponent b)) }
-        ensures err { IfStopped result (λ e. GivesError I.next_gives iter e (λ _. ⊤)) ⊤ }
+        ensures item { IfItem result (λ e. GivesError I.next_gives iter e (λ _. ⊤)) }
     {
         let mut buffer = BufferMut::empty(alloc);
         buffer.try_extend_trusted(iter)?;

@@ -10,6 +10,7 @@ returns c =
     let power : IsTrue (is_power_of_two align) =
     elim c.requires [
       | inl one_digit ↦ one_digit
-      | inr halved ↦ subst (λ n. IsTrue (is_power_of_two n)) halved (is_power_of_two-pow (halvings 64 align))
+      | inr halved ↦
+          subst (λ n. IsTrue (is_power_of_two n)) halved (is_power_of_two-pow (halvings 64 align))
     ] in
     pow-highest align c.ilog2.result power c.ilog2.ensures.power_le c.ilog2.ensures.next_power_gt

@@ -11,4 +11,5 @@ new-requires g c =
 
 pub returns-clause-exponent : goal.returns-clause-exponent
 returns-clause-exponent g c =
-    pow-injective c.new.result g.T.Element.align_exponent (c.new.ensures ∙ c.ALIGN.ensures ∙ g.met.T.Element.lawful.align_is_power)
+    pow-injective c.new.result g.T.Element.align_exponent
+    (c.new.ensures ∙ c.ALIGN.ensures ∙ g.met.T.Element.lawful.align_is_power)

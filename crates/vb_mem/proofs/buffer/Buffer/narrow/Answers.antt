@@ -10,7 +10,7 @@ narrow-requires-clause-can_slice g c =
     let reported = c.alignment-alignment.ensures in
     let alignment = c.alignment-alignment.result in
     let there =
-    can_slice-narrow element.SIZE element.align_exponent c.args.self.now range.start range.end
-    alignment reported.value reported.at_least reported.fits reported.aligned c.requires in
-    subst (λ b. CanSlice element.SIZE element.align_exponent b range.start range.end alignment)
+    can_slice-narrow element.SIZE element.align_exponent c.args.self.now range alignment
+    reported.value reported.at_least reported.fits reported.aligned c.requires in
+    subst (λ b. CanSlice element.SIZE element.align_exponent b range alignment)
     (sym c.self.view_is) there

@@ -10,8 +10,8 @@ slice_with_alignment-requires g c =
     let size = g.T.Element.SIZE in
     let laws = g.met.T.Element.lawful in
     rw c.of.ensures.exponent (
-      c.requires.start_le_end,
-      c.requires.in_bounds,
+      c.requires.order,
+      c.requires.within,
       omega arith,
       elim reported.aligned [
         | inl empty ↦ inl (omega (arith, ap length empty))

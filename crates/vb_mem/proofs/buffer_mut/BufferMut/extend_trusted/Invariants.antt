@@ -9,6 +9,6 @@ invariant-loop-item g l = record {
   room : length l.self-inside.items.items + g.I.TrustedLen.left l.item-iterator
       ≤ l.self-inside.items.cap;
   grows : l.fn.self.room ≤ l.self-inside.items.cap;
-  alignment : l.self-inside.alignment ≡ l.fn.self.exponent;
-  declared : l.self-inside.declared ≡ l.fn.self.declared_exponent;
+  alignment : l.self-inside.alignment ≡ l.fn.self.alignment;
+  declared : l.self-inside.declared ≡ l.fn.self.declared;
 }

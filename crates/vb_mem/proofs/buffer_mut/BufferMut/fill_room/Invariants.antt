@@ -7,7 +7,7 @@ invariant-loop g l = record {
   list : l.self-inside.items.items ≡ l.fn.self.list ++ l.yielded;
   len : length l.self-inside.items.items ≡ l.counter;
   room : l.self-inside.items.cap ≡ l.fn.self.room;
-  alignment : l.self-inside.alignment ≡ l.fn.self.exponent;
-  declared : l.self-inside.declared ≡ l.fn.self.declared_exponent;
+  alignment : l.self-inside.alignment ≡ l.fn.self.alignment;
+  declared : l.self-inside.declared ≡ l.fn.self.declared;
   nearer : size (g.I.Iterator.remaining l.iter) ≤ size (g.I.Iterator.remaining l.initial.iter);
 }

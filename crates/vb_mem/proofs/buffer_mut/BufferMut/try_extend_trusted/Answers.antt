@@ -3,8 +3,8 @@ use Rattle.vb_mem.proofs.Runs.{Yields-push}
 use Rattle.vb_mem.proofs.buffer_mut.BufferMut.try_extend_trusted.Goals as goal
 
 -- the values before the error were added, and the calls gave them and then the error
-pub returns-in-Err-clause-err : goal.returns-in-Err-clause-err
-returns-in-Err-clause-err g c =
+pub returns-in-Err-clause-item : goal.returns-in-Err-clause-item
+returns-in-Err-clause-item g c =
     let kept = c.loop-item.invariant in
     let start = c.into_iter-item-iterator.result in
     let begins : start ≡ c.args.iter = c.into_iter-item-iterator.ensures.into_iter_gives in
