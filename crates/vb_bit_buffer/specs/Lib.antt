@@ -1,10 +1,12 @@
 pub mod Gives
 pub mod SharedSet
 pub mod Stops
+pub use Rattle.vb_bit_bytes.specs.AskedOf
 pub use Rattle.vb_bit_bytes.specs.Given
 pub use Rattle.vb_kernel.specs.Bits
 pub use Rattle.vb_kernel.specs.Operators
 pub use Rattle.vb_kernel.specs.Shown
+pub use Rattle.vb_mem.specs.Answers
 pub use Rattle.vb_mem.specs.Collected
 pub use Rattle.vb_mem.specs.SharedBuffer
 pub use Rattle.vb_pack.specs.Asked

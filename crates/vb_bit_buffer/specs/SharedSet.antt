@@ -1,5 +1,6 @@
 -- What contracts see of a `BitBuffer`.
-use Rattle.std.specs.Prelude.{ℕ, Bool, List}
+use Rattle.std.specs.Prelude.{◌≡◌, ℕ, ◌+◌, ◌/◌, ◌%◌, Bool, List, length, drop}
+use Rattle.std.specs.Int.{div_ceil}
 
 -- a set whose storage may be shared: its bits, the place of the first one in the bytes, and the
 -- bytes
@@ -7,3 +8,22 @@ pub record SharedSet : Type 0 where
   pub bits : List Bool
   pub offset : ℕ
   pub bytes : List ℕ
+
+-- a set made of these bits: they begin with the first bit of as few bytes as hold them
+pub record IsFreshSet (made : List Bool) (s : SharedSet) : Type 0 where
+  pub bits : s.bits ≡ made
+  pub len : length s.bits ≡ length made
+  pub offset : s.offset ≡ 0
+  pub byte_len : length s.bytes ≡ div_ceil (length made) 8
+
+-- a set has these bits, in the bytes in which they lie and no others
+pub record HoldsAlone (held : List Bool) (s : SharedSet) : Type 0 where
+  pub bits : s.bits ≡ held
+  pub byte_len : length s.bytes ≡ div_ceil (s.offset + length held) 8
+
+-- a set of the bits that begin at bit `start` of a storage, from the byte of the first one on
+pub record SharesFrom (start : ℕ) (storage : List ℕ) (shared : List Bool)
+    (s : SharedSet) : Type 0 where
+  pub bits : s.bits ≡ shared
+  pub offset : s.offset ≡ start % 8
+  pub bytes : s.bytes ≡ drop (start / 8) storage

@@ -1,26 +1,30 @@
 //! A set of bits whose storage several owners may share.
-ghost use Rattle.std.specs.Prelude.{◌≡◌, ◌<◌, ◌==◌, ◌↔◌, length, take, IsSome, IfSome};
+ghost use Rattle.std.specs.Prelude.{◌≡◌, ◌+◌, ◌-◌, ◌*◌, ◌/◌, ◌%◌, ◌^◌, ◌<◌, ◌≤◌, ◌==◌, ◌↔◌};
+ghost use Rattle.std.specs.Prelude.{ℕ, [], true, false, length, take, drop, replicate, All};
+ghost use Rattle.std.specs.Prelude.{slice_get, slice_range, IsSome, IfSome, IfOk, IsOkUnless};
 ghost use Rattle.std.specs.Int.{div_ceil};
+ghost use Rattle.vb_bit_buffer.specs.SharedSet.{IsFreshSet, SharesFrom};
+ghost use Rattle.vb_kernel.specs.Bits.{bits, count, negated, places, Selects, AnswersEach};
+ghost use Rattle.vb_mem.specs.Answers.{Makes};
+ghost use Rattle.vb_view.specs.View.{bits_of, offset_of, bytes_of};
 ghost use Rattle.vb_view.specs.Windows.{IsWindow};
+ghost use Rattle.vb_walk.specs.Cut.{IsCut};
+ghost use Rattle.vb_walk.specs.Runs.{last_place, runs};
 
 use std::alloc::{Allocator, Global};
-use std::fmt;
 use std::marker::Model;
-use vb_bit_bytes::write_bits;
-use vb_mem::ByteBuffer;
+use std::ops::Range;
+use vb_bit_bytes::{copy, full, unaligned};
+use vb_bits::get_bit;
+use vb_core::{BufferError, Result};
+use vb_mem::{Buffer, ByteBuffer, ByteBufferMut};
+use vb_view::BitBufferView;
+use vb_walk::{BitChunks, BitIndexIterator, BitIterator, BitSliceIterator, UnalignedBitChunk};
 
 mod collect;
-mod compare;
-mod convert;
-mod edit;
 mod for_each;
-mod indices;
-mod make;
 mod operator;
-mod print;
-mod question;
-mod slice;
-mod view;
+mod traits;
 
 /// A set of bits whose storage several owners may share, over a byte buffer of alignment 1.
 ///
@@ -49,12 +53,190 @@ impl<A: Allocator + Clone> Model for BitBuffer<A> {
       inside : s.offset + s.len ≤ 8 * length s.buffer.list;
       first_byte : s.offset < 8;
       fits : s.offset + s.len < 2 ^ 64;
-      alignment : s.buffer.exponent ≡ 0;
+      alignment : s.buffer.alignment ≡ 0;
     } };
 }
 
 #[tactic(auto, using(crate::proofs::SetLemmas::sets))]
 impl<A: Allocator + Clone> BitBuffer<A> {
+    /// The first `len` bits of a byte buffer, which have to lie in its bytes. Shares its storage;
+    /// no memory is taken.
+    pub fn new(buffer: ByteBuffer<A>, len: usize) -> Self
+        requires { len ≤ 8 * length buffer.list }
+        ensures value { result
+            ≡ record { bits = bits buffer.list 0 len; offset = 0; bytes = buffer.list } }
+        ensures len { length result.bits ≡ len }
+    {
+        BitBuffer::new_with_offset(buffer, len, 0)
+    }
+
+    /// The `len` bits of a byte buffer from bit `offset` on. They have to lie in its bytes, and
+    /// `offset + len` has to be a `usize`: `vb_kernel::window_fits` is the test. Shares its
+    /// storage, from the byte of the first bit on; no memory is taken.
+    pub fn new_with_offset(buffer: ByteBuffer<A>, len: usize, offset: usize) -> Self
+        requires inside { offset + len ≤ 8 * length buffer.list }
+        requires fits { offset + len < 2 ^ 64 }
+        ensures bits { result.bits ≡ bits buffer.list offset len }
+        ensures len { length result.bits ≡ len }
+        ensures offset { result.offset ≡ offset % 8 }
+        ensures bytes { result.bytes ≡ drop (offset / 8) buffer.list }
+    {
+        BitBuffer::window_of(unaligned(buffer), len, offset)
+    }
+
+    /// [`new_with_offset`](Self::new_with_offset) of a buffer whose alignment is 1 already.
+    fn window_of(buffer: ByteBuffer<A>, len: usize, offset: usize) -> Self
+        requires inside { offset + len ≤ 8 * length buffer.list }
+        requires fits { offset + len < 2 ^ 64 }
+        requires alignment { buffer.alignment ≡ 0 }
+        ensures bits { result.bits ≡ bits buffer.list offset len }
+        ensures len { length result.bits ≡ len }
+        ensures offset { result.offset ≡ offset % 8 }
+        ensures bytes { result.bytes ≡ drop (offset / 8) buffer.list }
+    {
+        let mut buffer = buffer;
+        buffer.narrow(offset / 8..buffer.len());
+        BitBuffer {
+            buffer,
+            offset: offset % 8,
+            len,
+        }
+    }
+
+    /// `n` bits, all true. It takes memory for their bytes and the count of owners. Refused by
+    /// `OutOfMemory` alone.
+    pub fn new_set(alloc: A, n: usize) -> Result<Self>
+        ensures { Makes (IsFreshSet (replicate n true)) result }
+    {
+        BitBuffer::full(alloc, true, n)
+    }
+
+    /// `n` bits, all false. It takes memory for their bytes and the count of owners. Refused by
+    /// `OutOfMemory` alone.
+    pub fn new_unset(alloc: A, n: usize) -> Result<Self>
+        ensures { Makes (IsFreshSet (replicate n false)) result }
+    {
+        BitBuffer::full(alloc, false, n)
+    }
+
+    /// `n` bits, all `v`. It takes memory for their bytes and the count of owners. Refused by
+    /// `OutOfMemory` alone.
+    pub fn full(alloc: A, v: bool, n: usize) -> Result<Self>
+        ensures { Makes (IsFreshSet (replicate n v)) result }
+    {
+        let bytes = full(alloc, v, n)?.freeze()?;
+        Ok(BitBuffer::window_of(bytes, n, 0))
+    }
+
+    /// No bits and no memory.
+    pub fn empty(alloc: A) -> Self
+        ensures { result ≡ record { bits = []; offset = 0; bytes = [] } }
+    {
+        BitBuffer::new(Buffer::empty(alloc), 0)
+    }
+
+    /// Another owner of the same bits, which shares the storage, in constant time. It takes no
+    /// memory but what a copy of the allocator takes. Refused by `OutOfMemory` alone, where the
+    /// allocator can't be copied.
+    pub fn clone(&self) -> Result<Self>
+        ensures { Makes (λ s. s ≡ self.now) result }
+    {
+        let buffer = self.buffer.clone()?;
+        Ok(BitBuffer {
+            buffer,
+            offset: self.offset,
+            len: self.len,
+        })
+    }
+
+    /// The bits of a range, which has to be in order and to end within the length. They share the
+    /// storage, from the byte of the first bit on, in constant time. It takes no memory but what a
+    /// copy of the allocator takes. Refused by `OutOfMemory` alone, where the allocator can't be
+    /// copied.
+    pub fn slice(&self, range: Range<usize>) -> Result<Self>
+        requires order { range.start ≤ range.end }
+        requires within { range.end ≤ length self.now.bits }
+        ensures shares { Makes (SharesFrom (self.now.offset + range.start) self.now.bytes
+            (slice_range self.now.bits range.start range.end)) result }
+        ensures len { IfOk result (λ s. length s.bits ≡ range.end - range.start) }
+    {
+        let buffer = self.buffer.clone()?;
+        Ok(BitBuffer::window_of(buffer, range.end - range.start, self.offset + range.start))
+    }
+
+    /// The same bits, at the same offset, with the bytes in which they lie and no others. It takes
+    /// constant time and no memory.
+    pub fn shrink_offset(self) -> Self
+        ensures bits { result.bits ≡ self.bits }
+        ensures offset { result.offset ≡ self.offset }
+        ensures bytes { result.bytes
+            ≡ take (div_ceil (self.offset + length self.bits) 8) self.bytes }
+        ensures byte_len { length result.bytes ≡ div_ceil (self.offset + length self.bits) 8 }
+    {
+        let BitBuffer {
+            mut buffer,
+            offset,
+            len,
+        } = self;
+        buffer.narrow(0..(offset + len).div_ceil(8));
+        BitBuffer {
+            buffer,
+            offset,
+            len,
+        }
+    }
+
+    /// The same bits at offset 0, with the bytes in which they lie and no others: in the same
+    /// storage where the offset is 0, else in a copy, which takes memory for its bytes and the
+    /// count of their owners, of the set's allocator. Refused by `OutOfMemory` alone.
+    pub fn sliced(&self) -> Result<Self>
+        ensures { Makes (IsFreshSet self.now.bits) result }
+    {
+        let same = self.clone()?;
+        if self.offset == 0 {
+            return Ok(same.shrink_offset());
+        }
+        // A copy, since this set has the storage too. It is made for its allocator: all of its bits
+        // are written over.
+        let mut bytes = same.into_bytes()?;
+        copy(&mut bytes, 0, self.buffer.as_slice(), self.offset, self.len);
+        bytes.truncate(self.len.div_ceil(8));
+        Ok(BitBuffer::window_of(bytes.freeze()?, self.len, 0))
+    }
+
+    /// The bytes in which the bits lie, and no others, for writing: in their storage where no other
+    /// owner has it, else in a copy. Refused by `OutOfMemory` alone.
+    fn into_bytes(self) -> Result<ByteBufferMut<A>>
+        ensures window { IfOk result (λ b. IsWindow b.list self.offset self.bits) }
+        ensures len { IfOk result (λ b. length b.list
+            ≡ div_ceil (self.offset + length self.bits) 8) }
+        ensures alignment { IfOk result (λ b. b.alignment ≡ 0) }
+        ensures refused { IsOkUnless result BufferError.OutOfMemory }
+    {
+        self.shrink_offset().buffer.into_mut()
+    }
+
+    /// The offset, the length in bits, and the byte buffer, of which the bits were a window, in
+    /// constant time; no memory is taken. Its alignment is 1.
+    pub fn into_inner(self) -> (usize, usize, ByteBuffer<A>)
+        ensures offset { result.0 ≡ self.offset }
+        ensures len { result.1 ≡ length self.bits }
+        ensures bytes { result.2.list ≡ self.bytes }
+        ensures window { IsWindow result.2.list self.offset self.bits }
+        ensures alignment { result.2.alignment ≡ 0 }
+    {
+        (self.offset, self.len, self.buffer)
+    }
+
+    /// Leaves no bits and no bytes, with the offset 0. Other owners keep theirs.
+    pub fn clear(&mut self)
+        ensures { self.new ≡ record { bits = []; offset = 0; bytes = [] } }
+    {
+        self.buffer.clear();
+        self.offset = 0;
+        self.len = 0;
+    }
+
     /// How many bits there are.
     pub fn len(&self) -> usize
         ensures { result ≡ length self.now.bits }
@@ -81,21 +263,9 @@ impl<A: Allocator + Clone> BitBuffer<A> {
     pub fn inner(&self) -> &ByteBuffer<A>
         ensures bytes { result.now.list ≡ self.now.bytes }
         ensures window { IsWindow result.now.list self.now.offset self.now.bits }
-        ensures alignment { result.now.exponent ≡ 0 }
+        ensures alignment { result.now.alignment ≡ 0 }
     {
         &self.buffer
-    }
-
-    /// The offset, the length in bits, and the byte buffer, of which the bits were a window, in
-    /// constant time; no memory is taken. Its alignment is 1.
-    pub fn into_inner(self) -> (usize, usize, ByteBuffer<A>)
-        ensures offset { result.0 ≡ self.offset }
-        ensures len { result.1 ≡ length self.bits }
-        ensures bytes { result.2.list ≡ self.bytes }
-        ensures window { IsWindow result.2.list self.offset self.bits }
-        ensures alignment { result.2.exponent ≡ 0 }
-    {
-        (self.offset, self.len, self.buffer)
     }
 
     /// The bytes of the bits, where the offset is 0; otherwise `None`. The bits of the last byte
@@ -111,12 +281,116 @@ impl<A: Allocator + Clone> BitBuffer<A> {
         }
         Some(&self.buffer.as_slice()[..self.len.div_ceil(8)])
     }
-}
 
-/// The first 64 bits, as `BitBuffer(01101..)`.
-impl<A: Allocator + Clone> fmt::Debug for BitBuffer<A> {
-    fn fmt<W: fmt::Write>(&self, f: &mut fmt::Formatter<W>) -> fmt::Result {
-        let bytes = self.buffer.as_slice();
-        write_bits(f, "BitBuffer", bytes, self.offset, self.len)
+    /// The bits for questions, in constant time.
+    pub fn as_view(&self) -> BitBufferView<'_>
+        ensures bits { bits_of result ≡ self.now.bits }
+        ensures offset { offset_of result ≡ self.now.offset }
+        ensures bytes { bytes_of result ≡ self.now.bytes }
+    {
+        BitBufferView::new_with_offset(self.buffer.as_slice(), self.len, self.offset)
+    }
+
+    /// The bit at place `i`, which has to be below the length.
+    pub fn value(&self, i: usize) -> bool
+        requires { i < length self.now.bits }
+        ensures { slice_get self.now.bits i ≡ Some result }
+    {
+        get_bit(self.buffer.as_slice(), self.offset + i)
+    }
+
+    /// How many bits are true. It reads every byte of the bits once, 64 at a time.
+    pub fn true_count(&self) -> usize
+        ensures { result ≡ count self.now.bits }
+    {
+        self.as_view().true_count()
+    }
+
+    /// How many bits are false, at the cost of [`true_count`](Self::true_count).
+    pub fn false_count(&self) -> usize
+        ensures { result ≡ count (negated self.now.bits) }
+    {
+        self.as_view().false_count()
+    }
+
+    /// How many of the bits from `start` up to `end`, `end` excluded, are true. It reads the bytes
+    /// of these bits once, 64 at a time.
+    pub fn count_range(&self, start: usize, end: usize) -> usize
+        requires order { start ≤ end }
+        requires within { end ≤ length self.now.bits }
+        ensures value { result ≡ count (slice_range self.now.bits start end) }
+        ensures adds { (b : ℕ) → start ≤ b → b ≤ end → result
+            ≡ count (slice_range self.now.bits start b) + count (slice_range self.now.bits b end) }
+    {
+        self.as_view().slice(start..end).true_count()
+    }
+
+    /// The place of the `n`-th true bit, counted from 0; `None` where at most `n` bits are true. It
+    /// counts from the front, 64 bytes at a time, up to the bytes that have it.
+    pub fn select(&self, n: usize) -> Option<usize>
+        ensures place { Selects self.now.bits n result }
+        ensures each { AnswersEach self.now.bits n result }
+    {
+        self.as_view().select(n)
+    }
+
+    /// The place of the `n`-th false bit, counted from 0; `None` where at most `n` bits are false,
+    /// at the cost of [`select`](Self::select).
+    pub fn select_unset(&self, n: usize) -> Option<usize>
+        ensures place { Selects (negated self.now.bits) n result }
+        ensures each { AnswersEach (negated self.now.bits) n result }
+    {
+        self.as_view().select_unset(n)
+    }
+
+    /// The place of the last true bit; `None` where no bit is true. It reads from the end, a word
+    /// at a time, up to the word that has it.
+    pub fn last_set_index(&self) -> Option<usize>
+        ensures { result ≡ last_place self.now.bits }
+    {
+        self.as_view().last_set_index()
+    }
+
+    /// The bits as truth values, from either end.
+    pub fn iter(&self) -> BitIterator<'_>
+        ensures value { result ≡ self.now.bits }
+        ensures fits { length self.now.bits < 2 ^ 64 }
+    {
+        self.as_view().iter()
+    }
+
+    /// The places of the true bits, in ascending order.
+    pub fn set_indices(&self) -> BitIndexIterator<'_>
+        ensures value { result ≡ places self.now.bits }
+        ensures below { All (λ i. i < length self.now.bits) result }
+        ensures count { length result ≡ count self.now.bits }
+        ensures few { length result ≤ length self.now.bits }
+        ensures fits { length self.now.bits < 2 ^ 64 }
+    {
+        self.as_view().set_indices()
+    }
+
+    /// The runs of true bits, from front to end: where each begins, and the place behind it.
+    pub fn set_slices(&self) -> BitSliceIterator<'_>
+        ensures value { result ≡ runs self.now.bits }
+        ensures within { All (λ run. (run.0 < run.1) × (run.1 ≤ length self.now.bits)) result }
+        ensures few { length result ≤ length self.now.bits }
+        ensures fits { length self.now.bits < 2 ^ 64 }
+    {
+        self.as_view().set_slices()
+    }
+
+    /// The bits as words of 64 bits from the first bit on.
+    pub fn chunks(&self) -> BitChunks<'_>
+        ensures { result ≡ self.now.bits }
+    {
+        self.as_view().chunks()
+    }
+
+    /// The bytes of the bits, by eights from the first one, as words.
+    pub fn unaligned_chunks(&self) -> UnalignedBitChunk<'_>
+        ensures { IsCut self.now.offset self.now.bits result }
+    {
+        self.as_view().unaligned_chunks()
     }
 }

@@ -1,4 +1,5 @@
-//! Sets of bits whose storage several owners may share.
+//! Sets of bits whose storage several owners may share: [`BitBuffer`], bits taken into one, and
+//! views copied into one.
 //!
 //! A set is a list of truth values: the window of its bytes that begins at bit `offset`, least
 //! significant bit first. Bits outside of the window are never part of an answer. Lengths, offsets
@@ -6,6 +7,9 @@
 #![tactic(auto)]
 
 mod bit_buffer;
-mod called;
+mod take;
+mod to_bit_buffer;
 
 pub use bit_buffer::BitBuffer;
+pub use take::take_bits;
+pub use to_bit_buffer::ToBitBuffer;

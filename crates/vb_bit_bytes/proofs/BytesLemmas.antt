@@ -10,8 +10,10 @@ use Rattle.vb_bits.proofs.WindowLemmas.{windows}
 use Rattle.vb_bits.proofs.WritesLemmas.{writes}
 
 -- a window combined with another one
-pub bits-combined : (op : BitOp) (b c r : List ℕ) (o p n : ℕ) → Writes b c o (combined op (bits b o n) (bits r p n)) → bits c o n ≡ combined op (bits b o n) (bits r p n)
-bits-combined op b c r o p n w = ap (bits c o) (sym (length-merged_bits (bit_op op) b r o p n)) ∙ w.window
+pub bits-combined : (op : BitOp) (b c r : List ℕ) (o p n : ℕ) → Writes b c o
+    (combined op (bits b o n) (bits r p n)) → bits c o n ≡ combined op (bits b o n) (bits r p n)
+bits-combined op b c r o p n w =
+    ap (bits c o) (sym (length-merged_bits (bit_op op) b r o p n)) ∙ w.window
 
 -- a window copied from another one
 pub bits-copied : (b c r : List ℕ) (o p n : ℕ) → Writes b c o (bits r p n) → bits c o n ≡ bits r p n

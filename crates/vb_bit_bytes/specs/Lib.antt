@@ -1,3 +1,4 @@
+pub mod AskedOf
 pub mod Given
 pub use Rattle.vb_bits.specs.Bits
 pub use Rattle.vb_bits.specs.Operators

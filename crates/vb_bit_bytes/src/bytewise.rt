@@ -1,16 +1,15 @@
 //! Windows combined into bytes of their own.
-ghost use Rattle.std.specs.Prelude.{◌≡◌, ℕ, ◌+◌, ◌*◌, ◌^◌, ◌<◌, ◌≤◌, [], Bool};
+ghost use Rattle.std.specs.Prelude.{◌≡◌, ℕ, ◌+◌, ◌*◌, ◌^◌, ◌<◌, ◌≤◌, []};
 ghost use Rattle.std.specs.Prelude.{length, IfOk, IsOkUnless};
 ghost use Rattle.std.specs.Int.{div_ceil};
 ghost use Rattle.vb_bits.specs.Bits.{bits};
-ghost use Rattle.vb_bits.specs.Digits.{has_bit};
 ghost use Rattle.vb_bits.specs.Operators.{combined, merged};
 ghost use Rattle.vb_mem.specs.OpenBuffer.{HasRoom};
 
 use crate::edit::combine;
 use std::alloc::Allocator;
-use vb_bits::BitOp;
-use vb_core::BufferError;
+use vb_bits::{And, AndNot, BitOp, Merge, Or, Xor};
+use vb_core::{BufferError, Result};
 use vb_mem::ByteBufferMut;
 
 /// Bytes in which the `len` bits from bit `l` on are what `op` makes of those of `left` from there
@@ -28,7 +27,7 @@ pub fn combine_into<A: Allocator + Clone>(
     r: usize,
     len: usize,
     op: BitOp,
-) -> Result<ByteBufferMut<A>, BufferError>
+) -> Result<ByteBufferMut<A>>
     requires empty { room.list ≡ [] }
     requires room { HasRoom room (div_ceil (l + len) 8) }
     requires inside { l + len ≤ 8 * length left.now }
@@ -38,7 +37,7 @@ pub fn combine_into<A: Allocator + Clone>(
     ensures bits { IfOk result (λ b. bits b.list l len
         ≡ combined op (bits left.now l len) (bits right.now r len)) }
     ensures len { IfOk result (λ b. length b.list ≡ div_ceil (l + len) 8) }
-    ensures alignment { IfOk result (λ b. b.exponent ≡ room.exponent) }
+    ensures alignment { IfOk result (λ b. b.alignment ≡ room.alignment) }
     ensures refused { IsOkUnless result BufferError.OutOfMemory }
 {
     let count = (l + len).div_ceil(8);
@@ -64,7 +63,7 @@ fn push_combined<A: Allocator + Clone>(
     ensures bits { (o n : ℕ) → o + n ≤ 8 * length left.now → bits result.list o n
         ≡ combined op (bits left.now o n) (bits right.now o n) }
     ensures len { length result.list ≡ length left.now }
-    ensures alignment { result.exponent ≡ room.exponent }
+    ensures alignment { result.alignment ≡ room.alignment }
 {
     match op {
         BitOp::And => push_bytes::<And, A>(room, left, right),
@@ -78,7 +77,7 @@ fn push_combined<A: Allocator + Clone>(
 ///
 /// The buffer is moved in and out, so that no other part of the program can see it meanwhile: its
 /// length then stays in a register, and the compiler makes vectors of the loop.
-fn push_bytes<M: Bytewise, A: Allocator + Clone>(
+fn push_bytes<M: Merge, A: Allocator + Clone>(
     room: ByteBufferMut<A>,
     left: &[u8],
     right: &[u8],
@@ -89,74 +88,11 @@ fn push_bytes<M: Bytewise, A: Allocator + Clone>(
     ensures bits { (o n : ℕ) → o + n ≤ 8 * length left.now → bits result.list o n
         ≡ merged (M.bit) (bits left.now o n) (bits right.now o n) }
     ensures len { length result.list ≡ length left.now }
-    ensures alignment { result.exponent ≡ room.exponent }
+    ensures alignment { result.alignment ≡ room.alignment }
 {
     let mut bytes = room;
     for k in 0..left.len() {
         bytes.push_unchecked(M::byte(left[k], right[k]));
     }
     bytes
-}
-
-/// What two bytes are combined to.
-///
-/// It is a type, so that each operator has a loop of its own.
-trait Bytewise {
-    ghost bit: { Bool → Bool → Bool };
-
-    /// Each bit of `left` combined with that of `right`.
-    fn byte(left: u8, right: u8) -> u8
-        ensures { (i : ℕ) → i < 8 → has_bit result i ≡ bit (has_bit left i) (has_bit right i) };
-}
-
-/// Both bits.
-struct And;
-
-/// Either bit.
-struct Or;
-
-/// One bit of two.
-struct Xor;
-
-/// The left bit without the right one.
-struct AndNot;
-
-impl Bytewise for And {
-    ghost use Rattle.std.specs.Prelude.{◌&&◌};
-
-    ghost bit = { λ a b. a && b };
-
-    fn byte(left: u8, right: u8) -> u8 {
-        left & right
-    }
-}
-
-impl Bytewise for Or {
-    ghost use Rattle.std.specs.Prelude.{◌||◌};
-
-    ghost bit = { λ a b. a || b };
-
-    fn byte(left: u8, right: u8) -> u8 {
-        left | right
-    }
-}
-
-impl Bytewise for Xor {
-    ghost use Rattle.std.specs.Prelude.{cond, not};
-
-    ghost bit = { λ a b. cond a (not b) b };
-
-    fn byte(left: u8, right: u8) -> u8 {
-        left ^ right
-    }
-}
-
-impl Bytewise for AndNot {
-    ghost use Rattle.std.specs.Prelude.{◌&&◌, not};
-
-    ghost bit = { λ a b. a && not b };
-
-    fn byte(left: u8, right: u8) -> u8 {
-        left & !right
-    }
 }

@@ -2,12 +2,13 @@
 ghost use Rattle.std.specs.Prelude.{◌≡◌, ◌+◌, ◌*◌, ◌^◌, ◌<◌, ◌≤◌, ◌==◌, not, length, map};
 ghost use Rattle.std.specs.Prelude.{IfOk, IsOkUnless, OnErr};
 ghost use Rattle.std.specs.Int.{div_ceil};
+ghost use Rattle.vb_bit_bytes.specs.AskedOf.{asked_of};
 ghost use Rattle.vb_pack.specs.Asked.{Answers, CanAsk, span};
 ghost use Rattle.vb_pack.specs.Bits.{at, bits};
 
 use crate::make::full;
 use std::alloc::Allocator;
-use vb_core::BufferError;
+use vb_core::{BufferError, Result};
 use vb_mem::{ByteBuffer, ByteBufferMut};
 use vb_pack::{collect_bool_bytes, map_bool_bytes, pack_bools, pack_truthy};
 
@@ -19,12 +20,12 @@ pub fn collect_bool<A: Allocator + Clone, F: FnMut(usize) -> bool>(
     alloc: A,
     len: usize,
     f: &mut F,
-) -> Result<ByteBufferMut<A>, BufferError>
+) -> Result<ByteBufferMut<A>>
     requires { CanAsk (F.pre) (F.step) f.old (span 0 len) }
     ensures answered { IfOk result (λ b.
         Answers (F.step) f.old (span 0 len) (bits b.list 0 len) f.new) }
     ensures len { IfOk result (λ b. length b.list ≡ div_ceil len 8) }
-    ensures alignment { IfOk result (λ b. b.exponent ≡ 0) }
+    ensures alignment { IfOk result (λ b. b.alignment ≡ 0) }
     ensures not_asked { OnErr result (f.new ≡ f.old) }
     ensures refused { IsOkUnless result BufferError.OutOfMemory }
 {
@@ -39,12 +40,12 @@ pub fn collect_bool_shared<A: Allocator + Clone, F: FnMut(usize) -> bool>(
     alloc: A,
     len: usize,
     f: &mut F,
-) -> Result<ByteBuffer<A>, BufferError>
+) -> Result<ByteBuffer<A>>
     requires { CanAsk (F.pre) (F.step) f.old (span 0 len) }
     ensures answered { IfOk result (λ b.
         Answers (F.step) f.old (span 0 len) (bits b.list 0 len) f.new) }
     ensures len { IfOk result (λ b. length b.list ≡ div_ceil len 8) }
-    ensures alignment { IfOk result (λ b. b.exponent ≡ 0) }
+    ensures alignment { IfOk result (λ b. b.alignment ≡ 0) }
     ensures not_asked { OnErr result (f.new ≡ f.old) }
     ensures refused { IsOkUnless result BufferError.OutOfMemory }
 {
@@ -65,17 +66,17 @@ pub fn map_bool_shared<A: Allocator + Clone, F: FnMut(usize, bool) -> bool>(
     offset: usize,
     len: usize,
     f: &mut F,
-) -> Result<ByteBuffer<A>, BufferError>
+) -> Result<ByteBuffer<A>>
     requires room { len ≤ 8 * length bytes.list }
     requires inside { offset + len ≤ 8 * length src.now }
     requires fits { offset + len < 2 ^ 64 }
     requires callable { CanAsk (λ p i. F.pre p i (at (bits src.now offset len) i))
-        (λ p i b q. F.step p i (at (bits src.now offset len) i) b q) f.old (span 0 len) }
+        (asked_of F.step (bits src.now offset len)) f.old (span 0 len) }
     ensures answered { IfOk result (λ b.
-        Answers (λ p i b q. F.step p i (at (bits src.now offset len) i) b q)
+        Answers (asked_of F.step (bits src.now offset len))
         f.old (span 0 len) (bits b.list 0 len) f.new) }
     ensures len { IfOk result (λ b. length b.list ≡ length bytes.list) }
-    ensures alignment { IfOk result (λ b. b.exponent ≡ bytes.exponent) }
+    ensures alignment { IfOk result (λ b. b.alignment ≡ bytes.alignment) }
     ensures not_asked { OnErr result (f.new ≡ f.old) }
     ensures refused { IsOkUnless result BufferError.OutOfMemory }
 {
@@ -86,13 +87,10 @@ pub fn map_bool_shared<A: Allocator + Clone, F: FnMut(usize, bool) -> bool>(
 
 /// Bytes whose first bits are truth values, as few as hold them, for which it takes memory. Refused
 /// by `OutOfMemory` alone.
-pub fn from_bools<A: Allocator + Clone>(
-    alloc: A,
-    bools: &[bool],
-) -> Result<ByteBufferMut<A>, BufferError>
+pub fn from_bools<A: Allocator + Clone>(alloc: A, bools: &[bool]) -> Result<ByteBufferMut<A>>
     ensures bits { IfOk result (λ b. bits b.list 0 (length bools.now) ≡ bools.now) }
     ensures len { IfOk result (λ b. length b.list ≡ div_ceil (length bools.now) 8) }
-    ensures alignment { IfOk result (λ b. b.exponent ≡ 0) }
+    ensures alignment { IfOk result (λ b. b.alignment ≡ 0) }
     ensures refused { IsOkUnless result BufferError.OutOfMemory }
 {
     let mut bytes = full(alloc, false, bools.len())?;
@@ -101,14 +99,11 @@ pub fn from_bools<A: Allocator + Clone>(
 }
 
 /// [`from_bools`] of bytes, each of which is true where it isn't 0.
-pub fn from_truthy<A: Allocator + Clone>(
-    alloc: A,
-    truthy: &[u8],
-) -> Result<ByteBufferMut<A>, BufferError>
+pub fn from_truthy<A: Allocator + Clone>(alloc: A, truthy: &[u8]) -> Result<ByteBufferMut<A>>
     ensures bits { IfOk result (λ b. bits b.list 0 (length truthy.now)
         ≡ map (λ x. not (x == 0)) truthy.now) }
     ensures len { IfOk result (λ b. length b.list ≡ div_ceil (length truthy.now) 8) }
-    ensures alignment { IfOk result (λ b. b.exponent ≡ 0) }
+    ensures alignment { IfOk result (λ b. b.alignment ≡ 0) }
     ensures refused { IsOkUnless result BufferError.OutOfMemory }
 {
     let mut bytes = full(alloc, false, truthy.len())?;

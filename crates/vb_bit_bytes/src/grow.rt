@@ -7,7 +7,7 @@ ghost use Rattle.vb_bits.specs.Writes.{Writes, lengthened};
 use crate::edit::{fill, write_bit};
 use crate::make::byte_of;
 use std::alloc::Allocator;
-use vb_core::BufferError;
+use vb_core::{BufferError, Result};
 use vb_mem::ByteBufferMut;
 
 /// Adds bit `end`, `v`, behind the bits below it, which lie in the bytes: in one of these, or in a
@@ -20,13 +20,13 @@ pub fn push_bit<A: Allocator + Clone>(
     bytes: &mut ByteBufferMut<A>,
     end: usize,
     v: bool,
-) -> Result<(), BufferError>
+) -> Result<()>
     requires { end ≤ 8 * length bytes.old.list }
     ensures len { OnOk result (length bytes.new.list
         ≡ max (length bytes.old.list) (div_ceil (end + 1) 8)) }
     ensures bits { OnOk result (Writes (lengthened bytes.old.list bytes.new.list) bytes.new.list
         end (v ∷ [])) }
-    ensures alignment { bytes.new.exponent ≡ bytes.old.exponent }
+    ensures alignment { bytes.new.alignment ≡ bytes.old.alignment }
     ensures room { bytes.old.room ≤ bytes.new.room }
     ensures in_room { end + 1 ≤ 8 * max (length bytes.old.list) bytes.old.room → IsOk result }
     ensures err { OnErr result (bytes.new ≡ bytes.old) }
@@ -51,14 +51,14 @@ pub fn push_bits<A: Allocator + Clone>(
     start: usize,
     n: usize,
     v: bool,
-) -> Result<(), BufferError>
+) -> Result<()>
     requires inside { start ≤ 8 * length bytes.old.list }
     requires fits { start + n < 2 ^ 64 }
     ensures len { OnOk result (length bytes.new.list
         ≡ max (length bytes.old.list) (div_ceil (start + n) 8)) }
     ensures bits { OnOk result (Writes (lengthened bytes.old.list bytes.new.list) bytes.new.list
         start (replicate n v)) }
-    ensures alignment { bytes.new.exponent ≡ bytes.old.exponent }
+    ensures alignment { bytes.new.alignment ≡ bytes.old.alignment }
     ensures room { bytes.old.room ≤ bytes.new.room }
     ensures in_room { start + n ≤ 8 * max (length bytes.old.list) bytes.old.room → IsOk result }
     ensures err { OnErr result (bytes.new ≡ bytes.old) }
@@ -80,10 +80,7 @@ pub fn push_bits<A: Allocator + Clone>(
 ///
 /// Refused by `OutOfMemory` alone; then the room is unchanged. Within it it takes no memory and
 /// succeeds.
-pub fn reserve_to<A: Allocator + Clone>(
-    bytes: &mut ByteBufferMut<A>,
-    end: usize,
-) -> Result<(), BufferError>
+pub fn reserve_to<A: Allocator + Clone>(bytes: &mut ByteBufferMut<A>, end: usize) -> Result<()>
     ensures keeps { bytes.new ≡ record bytes.old { room = bytes.new.room } }
     ensures grows { bytes.old.room ≤ bytes.new.room }
     ensures room { OnOk result (end ≤ 8 * bytes.new.room) }

@@ -8,7 +8,7 @@ ghost use Rattle.vb_take.specs.Takes.{with_true, AllBelow, IndexRefused};
 
 use crate::make::full;
 use std::alloc::Allocator;
-use vb_core::BufferError;
+use vb_core::{BufferError, Result};
 use vb_mem::{ByteBuffer, ByteBufferMut};
 use vb_take::set_bits_at;
 
@@ -22,14 +22,14 @@ pub fn from_indices<A: Allocator + Clone, I: IntoIterator<Item = usize>>(
     alloc: A,
     len: usize,
     indices: I,
-) -> Result<ByteBufferMut<A>, BufferError>
+) -> Result<ByteBufferMut<A>>
     requires { IsFiniteIterable I.into_iter_gives I.IntoIter.can_next
         I.IntoIter.remaining indices }
     ensures bits { IfOk result (λ b. OfItems I.into_iter_gives I.IntoIter.next_gives indices
         (λ places. AllBelow len places
         × (bits b.list 0 len ≡ with_true (replicate len false) places))) }
     ensures len { IfOk result (λ b. length b.list ≡ div_ceil len 8) }
-    ensures alignment { IfOk result (λ b. b.exponent ≡ 0) }
+    ensures alignment { IfOk result (λ b. b.alignment ≡ 0) }
     ensures refused { IfErr result
         (IndexRefused I.into_iter_gives I.IntoIter.next_gives len indices) }
 {
@@ -50,14 +50,14 @@ pub fn from_indices_shared<A: Allocator + Clone, I: IntoIterator<Item = usize>>(
     alloc: A,
     len: usize,
     indices: I,
-) -> Result<ByteBuffer<A>, BufferError>
+) -> Result<ByteBuffer<A>>
     requires { IsFiniteIterable I.into_iter_gives I.IntoIter.can_next
         I.IntoIter.remaining indices }
     ensures bits { IfOk result (λ b. OfItems I.into_iter_gives I.IntoIter.next_gives indices
         (λ places. AllBelow len places
         × (bits b.list 0 len ≡ with_true (replicate len false) places))) }
     ensures len { IfOk result (λ b. length b.list ≡ div_ceil len 8) }
-    ensures alignment { IfOk result (λ b. b.exponent ≡ 0) }
+    ensures alignment { IfOk result (λ b. b.alignment ≡ 0) }
     ensures refused { IfErr result
         (IndexRefused I.into_iter_gives I.IntoIter.next_gives len indices) }
 {

@@ -9,7 +9,7 @@ ghost use Rattle.vb_pack.specs.Bits.{bits};
 ghost use Rattle.vb_pack.specs.Digits.{digits};
 
 use std::alloc::Allocator;
-use vb_core::BufferError;
+use vb_core::{BufferError, Result};
 use vb_mem::{BufferMut, ByteBufferMut};
 use vb_pack::pack_bool_word_lanes;
 
@@ -21,12 +21,12 @@ use vb_pack::pack_bool_word_lanes;
 pub fn from_iter<A: Allocator + Clone, I: IntoIterator<Item = bool>>(
     alloc: A,
     iter: I,
-) -> Result<(ByteBufferMut<A>, usize), BufferError>
+) -> Result<(ByteBufferMut<A>, usize)>
     requires { IsFiniteIterable I.into_iter_gives I.IntoIter.can_next I.IntoIter.remaining iter }
     ensures made { IfOk result (λ b. OfItems I.into_iter_gives I.IntoIter.next_gives iter
         (λ items. bits b.0.list 0 b.1 ≡ items)) }
     ensures len { IfOk result (λ b. length b.0.list ≡ div_ceil b.1 8) }
-    ensures alignment { IfOk result (λ b. b.0.exponent ≡ 0) }
+    ensures alignment { IfOk result (λ b. b.0.alignment ≡ 0) }
     ensures err { MatchResult result (λ _. ⊤) (λ e. (e ≡ BufferError.OutOfMemory)
         ⊎ ((e ≡ BufferError.TooManyBits)
         × GivesPast I.into_iter_gives I.IntoIter.next_gives iter)) }
@@ -75,13 +75,13 @@ fn push_digits<A: Allocator + Clone>(
     bytes: &mut ByteBufferMut<A>,
     word: u64,
     count: usize,
-) -> Result<(), BufferError>
+) -> Result<()>
     requires in_word { count ≤ 64 }
     ensures len { OnOk result (length bytes.new.list
         ≡ length bytes.old.list + div_ceil count 8) }
     ensures bits { OnOk result (bits bytes.new.list 0 (8 * length bytes.old.list + count)
         ≡ bits bytes.old.list 0 (8 * length bytes.old.list) ++ digits word 0 count) }
-    ensures alignment { bytes.new.exponent ≡ bytes.old.exponent }
+    ensures alignment { bytes.new.alignment ≡ bytes.old.alignment }
     ensures refused { IsOkUnless result BufferError.OutOfMemory }
 {
     bytes.extend_from_slice(&word.to_le_bytes()[..count.div_ceil(8)])?;

@@ -5,20 +5,16 @@ ghost use Rattle.vb_bits.specs.Bits.{bits};
 ghost use Rattle.vb_bits.specs.Digits.{has_bit};
 
 use std::alloc::Allocator;
-use vb_core::{Alignment, BufferError};
+use vb_core::{Alignment, BufferError, Result};
 use vb_mem::{BufferMut, ByteBuffer, ByteBufferMut};
 
 /// Bytes whose first `n` bits are all `v`, as few as hold them, for which it takes memory. Refused
 /// by `OutOfMemory` alone.
 #[tactic(auto, using(vb_bits::proofs::WindowLemmas::windows))]
-pub fn full<A: Allocator + Clone>(
-    alloc: A,
-    v: bool,
-    n: usize,
-) -> Result<ByteBufferMut<A>, BufferError>
+pub fn full<A: Allocator + Clone>(alloc: A, v: bool, n: usize) -> Result<ByteBufferMut<A>>
     ensures bits { IfOk result (λ b. bits b.list 0 n ≡ replicate n v) }
     ensures len { IfOk result (λ b. length b.list ≡ div_ceil n 8) }
-    ensures alignment { IfOk result (λ b. b.exponent ≡ 0) }
+    ensures alignment { IfOk result (λ b. b.alignment ≡ 0) }
     ensures refused { IsOkUnless result BufferError.OutOfMemory }
 {
     BufferMut::full(alloc, byte_of(v), n.div_ceil(8))
@@ -35,7 +31,7 @@ pub(crate) fn byte_of(v: bool) -> u8
 /// The same bytes, with alignment 1. No memory is taken.
 pub fn unaligned<A: Allocator + Clone>(bytes: ByteBuffer<A>) -> ByteBuffer<A>
     ensures list { result.list ≡ bytes.list }
-    ensures alignment { result.exponent ≡ 0 }
+    ensures alignment { result.alignment ≡ 0 }
 {
     match bytes.ensure_aligned(Alignment::none()) {
         Ok(bytes) => bytes,

@@ -7,7 +7,7 @@ ghost use Rattle.vb_bits.specs.Writes.{Writes, lengthened};
 
 use crate::edit::copy;
 use std::alloc::Allocator;
-use vb_core::BufferError;
+use vb_core::{BufferError, Result};
 use vb_mem::ByteBufferMut;
 
 /// Adds the `n` bits of `source` from bit `offset` on behind the bits below bit `start`, which lie
@@ -23,7 +23,7 @@ pub fn push_window<A: Allocator + Clone>(
     source: &[u8],
     offset: usize,
     n: usize,
-) -> Result<(), BufferError>
+) -> Result<()>
     requires inside { start ≤ 8 * length bytes.old.list }
     requires fits { start + n < 2 ^ 64 }
     requires source_inside { offset + n ≤ 8 * length source.now }
@@ -32,7 +32,7 @@ pub fn push_window<A: Allocator + Clone>(
         ≡ max (length bytes.old.list) (div_ceil (start + n) 8)) }
     ensures bits { OnOk result (Writes (lengthened bytes.old.list bytes.new.list) bytes.new.list
         start (bits source.now offset n)) }
-    ensures alignment { bytes.new.exponent ≡ bytes.old.exponent }
+    ensures alignment { bytes.new.alignment ≡ bytes.old.alignment }
     ensures room { bytes.old.room ≤ bytes.new.room }
     ensures in_room { start + n ≤ 8 * max (length bytes.old.list) bytes.old.room → IsOk result }
     ensures err { OnErr result (bytes.new ≡ bytes.old) }

@@ -1,12 +1,14 @@
 -- Sets made of an iterator's numbers, where it is known which list of numbers it gives.
-use Rattle.std.proofs.Common.{◌≡◌, ℕ, ◌<◌, List, length, get_or, Option, Some, None, refl, ◌∙◌, sym, arith, map-id}
+use Rattle.std.proofs.Common.{◌≡◌, ℕ, ◌<◌, List, length, get_or, Option, Some, None, refl, ◌∙◌, sym}
+use Rattle.std.proofs.Common.{arith, map-id}
 use Rattle.std.proofs.lemmas.Grind.{get_or_default_zero}
 use Rattle.std.proofs.lemmas.Iterator.{YieldsList}
 use Rattle.std.proofs.lemmas.Iterator.Consumers.{YieldsList-turn, YieldsList-end}
 use Rattle.std.specs.Iterator.{Drains}
 use Rattle.vb_take.specs.Takes.{AllBelow, FirstNotBelow}
 
-module _ {S : Type 0} {steps : S → Option ℕ → S → Type 0} {s : S} {all : List ℕ} (road : YieldsList steps (λ x. x) s all) where
+module _ {S : Type 0} {steps : S → Option ℕ → S → Type 0} {s : S} {all : List ℕ}
+    (road : YieldsList steps (λ x. x) s all) where
   -- the items that came are the list
   pub items_are : (items : List ℕ) → Drains steps s items → items ≡ all
   items_are items (u, (t, run, step)) =

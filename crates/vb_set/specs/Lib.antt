@@ -2,6 +2,7 @@ pub mod Lends
 pub mod OpenSet
 pub use Rattle.vb_bit_buffer.specs.Gives
 pub use Rattle.vb_bit_buffer.specs.SharedSet
+pub use Rattle.vb_bit_bytes.specs.AskedOf
 pub use Rattle.vb_bit_bytes.specs.Given
 pub use Rattle.vb_kernel.specs.Bits
 pub use Rattle.vb_kernel.specs.Digits
@@ -9,6 +10,7 @@ pub use Rattle.vb_kernel.specs.Edits
 pub use Rattle.vb_kernel.specs.Operators
 pub use Rattle.vb_kernel.specs.Shown
 pub use Rattle.vb_kernel.specs.Writes
+pub use Rattle.vb_mem.specs.Answers
 pub use Rattle.vb_mem.specs.Collected
 pub use Rattle.vb_mem.specs.OpenBuffer
 pub use Rattle.vb_mem.specs.SharedBuffer

@@ -3,6 +3,7 @@ use Rattle.std.specs.Prelude.{◌≡◌, ℕ, ◌+◌, ◌-◌, ◌*◌, ◌^◌
 use Rattle.std.specs.Prelude.{length, min, max, Result, IsOk, IsOkUnless, IsErrOf, OnErr}
 use Rattle.std.specs.Int.{div_ceil}
 use Rattle.std.specs.List.{refill}
+use Rattle.vb_bit_buffer.specs.SharedSet.{SharedSet}
 use Rattle.vb_core.specs.declared.error.BufferError.{BufferError}
 use Rattle.vb_core.specs.declared.error.BufferError.TheVariants.{OutOfMemory, TooManyBits}
 use Rattle.vb_kernel.specs.Bits.{bits}
@@ -14,7 +15,7 @@ pub record OpenSet : Type 0 where
   pub bits : List Bool
   pub offset : ℕ
   pub bytes : List ℕ
-  pub exponent : ℕ
+  pub alignment : ℕ
   pub room : ℕ
 
 -- how many bits from bit o on have room in n bytes, where a bit's number is one of 64 bits
@@ -32,30 +33,46 @@ pub record IsEmptySet (exponent : ℕ) (s : OpenSet) : Type 0 where
   pub bits : s.bits ≡ []
   pub offset : s.offset ≡ 0
   pub bytes : s.bytes ≡ []
-  pub alignment : s.exponent ≡ exponent
+  pub alignment : s.alignment ≡ exponent
+
+-- a set made of these bits: they begin with the first bit of as few bytes as hold them, whose
+-- alignment is 1
+pub record IsFreshOpenSet (made : List Bool) (s : OpenSet) : Type 0 where
+  pub bits : s.bits ≡ made
+  pub len : length s.bits ≡ length made
+  pub offset : s.offset ≡ 0
+  pub byte_len : length s.bytes ≡ div_ceil (length made) 8
+  pub alignment : s.alignment ≡ 0
+
+-- a set for editing has the bits, the offset and the bytes of a shared one, with alignment 1
+pub record HoldsShared (shared : SharedSet) (s : OpenSet) : Type 0 where
+  pub bits : s.bits ≡ shared.bits
+  pub offset : s.offset ≡ shared.offset
+  pub bytes : s.bytes ≡ shared.bytes
+  pub alignment : s.alignment ≡ 0
 
 -- an edit in place: offset, alignment, room and the numbers of bits and bytes stay
 pub record KeepsLayout (old new : OpenSet) : Type 0 where
   pub len : length new.bits ≡ length old.bits
   pub offset : new.offset ≡ old.offset
   pub byte_len : length new.bytes ≡ length old.bytes
-  pub alignment : new.exponent ≡ old.exponent
+  pub alignment : new.alignment ≡ old.alignment
   pub room : new.room ≡ old.room
 
 -- growth: offset and alignment stay, and the room does not shrink
 pub record Grows (old new : OpenSet) : Type 0 where
   pub offset : new.offset ≡ old.offset
-  pub alignment : new.exponent ≡ old.exponent
+  pub alignment : new.alignment ≡ old.alignment
   pub room : old.room ≤ new.room
 
--- the n bits of a list are added behind the others, in bytes that are lengthened where they need
+-- the bits of a list are added behind the others, in bytes that are lengthened where they need
 -- more
-pub record AddsBits (n : ℕ) (added : List Bool) (old new : OpenSet) : Type 0 where
+pub record AddsBits (added : List Bool) (old new : OpenSet) : Type 0 where
   pub bits : new.bits ≡ old.bits ++ added
-  pub len : length new.bits ≡ length old.bits + n
+  pub len : length new.bits ≡ length old.bits + length added
   pub bytes : Writes (lengthened old.bytes new.bytes) new.bytes (old.offset + length old.bits) added
   pub byte_len : length new.bytes
-      ≡ max (length old.bytes) (div_ceil (old.offset + length old.bits + n) 8)
+      ≡ max (length old.bytes) (div_ceil (old.offset + length old.bits + length added) 8)
 
 -- how a call answers that needs n bits more: within the room it succeeds; it is refused by
 -- `TooManyBits` where the bits' numbers would pass 64 bits, else by `OutOfMemory` alone; refused,

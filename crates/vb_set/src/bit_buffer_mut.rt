@@ -1,25 +1,33 @@
 //! A set of bits that one owner edits.
-ghost use Rattle.std.specs.Prelude.{◌≡◌, ◌+◌, ◌*◌, ◌≤◌, ◌==◌, length};
+ghost use Rattle.std.specs.Prelude.{◌≡◌, ◌+◌, ◌-◌, ◌*◌, ◌/◌, ◌%◌, ◌^◌, ◌<◌, ◌≤◌, ◌==◌, [], ◌∷◌};
+ghost use Rattle.std.specs.Prelude.{true, false, length, min, take, drop, replicate};
+ghost use Rattle.std.specs.Prelude.{slice_get, slice_set, OnOk, OnErr};
 ghost use Rattle.std.specs.Borrow.{sem};
+ghost use Rattle.std.specs.Int.{div_ceil};
+ghost use Rattle.vb_bit_buffer.specs.SharedSet.{SharesFrom};
+ghost use Rattle.vb_kernel.specs.Bits.{bits};
+ghost use Rattle.vb_kernel.specs.Edits.{filled};
+ghost use Rattle.vb_kernel.specs.Writes.{Writes};
+ghost use Rattle.vb_mem.specs.Answers.{Makes};
 ghost use Rattle.vb_set.specs.Lends.{LendsBytes};
-ghost use Rattle.vb_set.specs.OpenSet.{bit_room};
+ghost use Rattle.vb_set.specs.OpenSet.{bit_room, HoldsShared, IsEmptySet, IsFreshOpenSet};
+ghost use Rattle.vb_set.specs.OpenSet.{KeepsLayout};
+ghost use Rattle.vb_view.specs.MutView.{store_of, IsThisLoan, ShowsWindow};
+ghost use Rattle.vb_view.specs.View.{bits_of, offset_of, bytes_of};
 ghost use Rattle.vb_view.specs.Windows.{IsWindow};
 
 use std::alloc::{Allocator, Global};
-use std::fmt;
 use std::marker::Model;
-use vb_bit_bytes::write_bits;
-use vb_mem::ByteBufferMut;
+use vb_bit_buffer::BitBuffer;
+use vb_bit_bytes::{fill, full, write_bit};
+use vb_bits::get_bit;
+use vb_core::Result;
+use vb_mem::{BufferMut, ByteBufferMut};
+use vb_view::{BitBufferMutView, BitBufferView};
 
-mod append_buffer;
+mod append;
 mod collect;
-mod convert;
-mod edit;
-mod grow;
-mod indices;
-mod make;
-mod question;
-mod view;
+mod traits;
 
 /// A set of bits that one owner edits, over a byte buffer that grows.
 ///
@@ -43,7 +51,7 @@ impl<A: Allocator + Clone> Model for BitBufferMut<A> {
       bits = bits s.buffer.list s.offset s.len;
       offset = s.offset;
       bytes = s.buffer.list;
-      exponent = s.buffer.exponent;
+      alignment = s.buffer.alignment;
       room = bit_room s.buffer.room s.offset;
     } };
 
@@ -55,6 +63,119 @@ impl<A: Allocator + Clone> Model for BitBufferMut<A> {
 
 #[tactic(auto, using(vb_bit_bytes::proofs::BytesLemmas::edits))]
 impl<A: Allocator + Clone> BitBufferMut<A> {
+    /// The `len` bits of a byte buffer from bit `offset` on. They have to lie in its bytes, and
+    /// `offset + len` has to be a `usize`: `vb_kernel::window_fits` is the test. No memory is
+    /// taken, and what the set asks for later is asked of the buffer's allocator.
+    pub fn from_buffer(buffer: ByteBufferMut<A>, offset: usize, len: usize) -> Self
+        requires inside { offset + len ≤ 8 * length buffer.list }
+        requires fits { offset + len < 2 ^ 64 }
+        ensures bits { result.bits ≡ bits buffer.list offset len }
+        ensures len { length result.bits ≡ len }
+        ensures offset { result.offset ≡ offset }
+        ensures bytes { result.bytes ≡ buffer.list }
+        ensures alignment { result.alignment ≡ buffer.alignment }
+        ensures room { result.room ≡ bit_room buffer.room offset }
+    {
+        BitBufferMut {
+            buffer,
+            offset,
+            len,
+        }
+    }
+
+    /// No bits, with room for `n`, for whose bytes it takes memory. Refused by `OutOfMemory` alone.
+    pub fn with_capacity(alloc: A, n: usize) -> Result<Self>
+        ensures { Makes (λ s. IsEmptySet 0 s × (n ≤ s.room)) result }
+    {
+        let buffer = BufferMut::with_capacity(alloc, n.div_ceil(8))?;
+        Ok(BitBufferMut::from_buffer(buffer, 0, 0))
+    }
+
+    /// `n` bits, all true, for whose bytes it takes memory. Refused by `OutOfMemory` alone.
+    pub fn new_set(alloc: A, n: usize) -> Result<Self>
+        ensures { Makes (IsFreshOpenSet (replicate n true)) result }
+    {
+        BitBufferMut::full(alloc, true, n)
+    }
+
+    /// `n` bits, all false, for whose bytes it takes memory. Refused by `OutOfMemory` alone.
+    pub fn new_unset(alloc: A, n: usize) -> Result<Self>
+        ensures { Makes (IsFreshOpenSet (replicate n false)) result }
+    {
+        BitBufferMut::full(alloc, false, n)
+    }
+
+    /// `n` bits, all `v`, for whose bytes it takes memory. Refused by `OutOfMemory` alone.
+    pub fn full(alloc: A, v: bool, n: usize) -> Result<Self>
+        ensures { Makes (IsFreshOpenSet (replicate n v)) result }
+    {
+        Ok(BitBufferMut::from_buffer(full(alloc, v, n)?, 0, n))
+    }
+
+    /// No bits and no memory.
+    pub fn empty(alloc: A) -> Self
+        ensures { IsEmptySet 0 result }
+    {
+        BitBufferMut::from_buffer(BufferMut::empty(alloc), 0, 0)
+    }
+
+    /// A copy of a shared set, with all its bytes, which takes memory for these of the allocator
+    /// that is handed in. Refused by `OutOfMemory` alone.
+    pub fn copy_from(alloc: A, set: &BitBuffer<A>) -> Result<Self>
+        ensures { Makes (HoldsShared set.now) result }
+    {
+        let buffer = BufferMut::copy_from(alloc, set.inner().as_slice())?;
+        Ok(BitBufferMut::from_buffer(buffer, set.offset(), set.len()))
+    }
+
+    /// A copy, with all the bytes, which takes memory for these of the set's allocator. Refused by
+    /// `OutOfMemory` alone.
+    pub fn clone(&self) -> Result<Self>
+        ensures { Makes (λ s. s ≡ record self.now { room = s.room }) result }
+    {
+        let buffer = self.buffer.clone()?;
+        Ok(BitBufferMut::from_buffer(buffer, self.offset, self.len))
+    }
+
+    /// The set as it is, which leaves an empty one of the same alignment, with the offset 0.
+    ///
+    /// Refused by `OutOfMemory` alone, where the allocator can't be copied; then the set and its
+    /// room are unchanged.
+    pub fn take(&mut self) -> Result<Self>
+        ensures taken { Makes (λ s. s ≡ self.old) result }
+        ensures left { OnOk result (IsEmptySet self.old.alignment self.new) }
+        ensures err { OnErr result (self.new ≡ self.old) }
+    {
+        let buffer = self.buffer.take()?;
+        let taken = BitBufferMut::from_buffer(buffer, self.offset, self.len);
+        self.offset = 0;
+        self.len = 0;
+        Ok(taken)
+    }
+
+    /// The same bits to be shared, in the same storage, from the byte of the first bit on. It takes
+    /// memory for the count of owners, in constant time. Refused by `OutOfMemory` alone; then the
+    /// set is gone.
+    pub fn freeze(self) -> Result<BitBuffer<A>>
+        ensures { Makes (SharesFrom self.offset self.bytes self.bits) result }
+    {
+        let offset = self.offset();
+        let len = self.len();
+        let buffer = self.into_inner().freeze()?;
+        Ok(BitBuffer::new_with_offset(buffer, len, offset))
+    }
+
+    /// The byte buffer, of which the bits were a window, in constant time; no memory is taken. Ask
+    /// for offset and length before.
+    pub fn into_inner(self) -> ByteBufferMut<A>
+        ensures bytes { result.list ≡ self.bytes }
+        ensures window { IsWindow result.list self.offset self.bits }
+        ensures alignment { result.alignment ≡ self.alignment }
+        ensures room { self.room ≡ bit_room result.room self.offset }
+    {
+        self.buffer
+    }
+
     /// How many bits there are.
     pub fn len(&self) -> usize
         ensures { result ≡ length self.now.bits }
@@ -84,6 +205,16 @@ impl<A: Allocator + Clone> BitBufferMut<A> {
         self.buffer.capacity().saturating_mul(8) - self.offset
     }
 
+    /// The byte buffer, of which the bits are a window.
+    pub fn inner(&self) -> &ByteBufferMut<A>
+        ensures bytes { result.now.list ≡ self.now.bytes }
+        ensures window { IsWindow result.now.list self.now.offset self.now.bits }
+        ensures alignment { result.now.alignment ≡ self.now.alignment }
+        ensures room { self.now.room ≡ bit_room result.now.room self.now.offset }
+    {
+        &self.buffer
+    }
+
     /// The bytes, of which the bits are a window.
     pub fn as_slice(&self) -> &[u8]
         ensures bytes { result.now ≡ self.now.bytes }
@@ -101,31 +232,103 @@ impl<A: Allocator + Clone> BitBufferMut<A> {
         self.buffer.as_mut_slice()
     }
 
-    /// The byte buffer, of which the bits are a window.
-    pub fn inner(&self) -> &ByteBufferMut<A>
-        ensures bytes { result.now.list ≡ self.now.bytes }
-        ensures window { IsWindow result.now.list self.now.offset self.now.bits }
-        ensures alignment { result.now.exponent ≡ self.now.exponent }
-        ensures room { self.now.room ≡ bit_room result.now.room self.now.offset }
+    /// The bits for questions, in constant time. The view's bytes begin with that of the first bit.
+    pub fn as_view(&self) -> BitBufferView<'_>
+        ensures bits { bits_of result ≡ self.now.bits }
+        ensures offset { offset_of result ≡ self.now.offset % 8 }
+        ensures bytes { bytes_of result ≡ drop (self.now.offset / 8) self.now.bytes }
     {
-        &self.buffer
+        BitBufferView::new_with_offset(self.buffer.as_slice(), self.len, self.offset)
     }
 
-    /// The byte buffer, of which the bits were a window, in constant time; no memory is taken. Ask
-    /// for offset and length before.
-    pub fn into_inner(self) -> ByteBufferMut<A>
-        ensures bytes { result.list ≡ self.bytes }
-        ensures window { IsWindow result.list self.offset self.bits }
-        ensures alignment { result.exponent ≡ self.exponent }
-        ensures room { self.room ≡ bit_room result.room self.offset }
+    /// The bits for writing, in constant time. What the view holds at its end is what the set then
+    /// holds.
+    pub fn as_mut_view(&mut self) -> BitBufferMutView<&mut BitBufferMut<A>>
+        ensures lends { IsThisLoan (store_of result) self.entry }
+        ensures window { ShowsWindow self.old.offset self.old.bits result }
     {
-        self.buffer
+        let offset = self.offset();
+        let len = self.len();
+        BitBufferMutView::over(self, offset, len)
     }
-}
 
-/// The first 64 bits, as `BitBufferMut(01101..)`.
-impl<A: Allocator + Clone> fmt::Debug for BitBufferMut<A> {
-    fn fmt<W: fmt::Write>(&self, f: &mut fmt::Formatter<W>) -> fmt::Result {
-        write_bits(f, "BitBufferMut", self.as_slice(), self.offset, self.len)
+    /// The bit at place `i`, which has to be below the length.
+    pub fn value(&self, i: usize) -> bool
+        requires { i < length self.now.bits }
+        ensures { slice_get self.now.bits i ≡ Some result }
+    {
+        get_bit(self.buffer.as_slice(), self.offset + i)
+    }
+
+    /// Makes the bit at place `i` `v`. No other bit of the bytes changes.
+    pub fn set_to(&mut self, i: usize, v: bool)
+        requires { i < length self.old.bits }
+        ensures bits { self.new.bits ≡ slice_set self.old.bits i v }
+        ensures bytes { Writes self.old.bytes self.new.bytes (self.old.offset + i) (v ∷ []) }
+        ensures keeps { KeepsLayout self.old self.new }
+    {
+        write_bit(&mut self.buffer, self.offset + i, v);
+    }
+
+    /// Makes the bit at place `i` true. No other bit of the bytes changes.
+    pub fn set(&mut self, i: usize)
+        requires { i < length self.old.bits }
+        ensures bits { self.new.bits ≡ slice_set self.old.bits i true }
+        ensures bytes { Writes self.old.bytes self.new.bytes (self.old.offset + i) (true ∷ []) }
+        ensures keeps { KeepsLayout self.old self.new }
+    {
+        self.set_to(i, true);
+    }
+
+    /// Makes the bit at place `i` false. No other bit of the bytes changes.
+    pub fn unset(&mut self, i: usize)
+        requires { i < length self.old.bits }
+        ensures bits { self.new.bits ≡ slice_set self.old.bits i false }
+        ensures bytes { Writes self.old.bytes self.new.bytes (self.old.offset + i) (false ∷ []) }
+        ensures keeps { KeepsLayout self.old self.new }
+    {
+        self.set_to(i, false);
+    }
+
+    /// Makes the bits from `start` up to `end`, `end` excluded, `v`, whole bytes at once. No other
+    /// bit of the bytes changes.
+    pub fn fill_range(&mut self, start: usize, end: usize, v: bool)
+        requires order { start ≤ end }
+        requires within { end ≤ length self.old.bits }
+        ensures bits { self.new.bits ≡ filled self.old.bits start end v }
+        ensures bytes { Writes self.old.bytes self.new.bytes (self.old.offset + start)
+            (replicate (end - start) v) }
+        ensures keeps { KeepsLayout self.old self.new }
+    {
+        fill(&mut self.buffer, self.offset + start, self.offset + end, v);
+    }
+
+    /// Keeps the first `n` bits, and the bytes up to the last of these. Where there are fewer than
+    /// `n` bits, the set and its bytes are unchanged. Offset and room stay.
+    pub fn truncate(&mut self, n: usize)
+        ensures bits { self.new.bits ≡ take n self.old.bits }
+        ensures len { length self.new.bits ≡ min n (length self.old.bits) }
+        ensures bytes { n ≤ length self.old.bits
+            → self.new.bytes ≡ take (div_ceil (self.old.offset + n) 8) self.old.bytes }
+        ensures byte_len { n ≤ length self.old.bits
+            → length self.new.bytes ≡ div_ceil (self.old.offset + n) 8 }
+        ensures keeps { self.new
+            ≡ record self.old { bits = self.new.bits; bytes = self.new.bytes } }
+        ensures past_end { length self.old.bits < n → self.new ≡ self.old }
+    {
+        if n <= self.len {
+            self.buffer.truncate((self.offset + n).div_ceil(8));
+            self.len = n;
+        }
+    }
+
+    /// Leaves no bits and no bytes, with the offset 0. The room doesn't fall.
+    pub fn clear(&mut self)
+        ensures left { IsEmptySet self.old.alignment self.new }
+        ensures room { self.old.room ≤ self.new.room }
+    {
+        self.buffer.clear();
+        self.offset = 0;
+        self.len = 0;
     }
 }

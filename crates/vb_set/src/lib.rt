@@ -7,15 +7,11 @@
 #![tactic(auto)]
 
 mod bit_buffer_mut;
-mod take;
-mod to_bit_buffer;
 mod try_into_mut;
 
 pub use bit_buffer_mut::BitBufferMut;
-pub use take::take_bits;
-pub use to_bit_buffer::ToBitBuffer;
 pub use try_into_mut::TryIntoMut;
-pub use vb_bit_buffer::BitBuffer;
+pub use vb_bit_buffer::{BitBuffer, ToBitBuffer, take_bits};
 pub use vb_core::{BitIndex, BufferError};
 pub use vb_kernel::{BitOp, window_fits};
 pub use vb_mem::{ByteBuffer, ByteBufferMut};

@@ -1,6 +1,7 @@
 //! Shared sets as sets for editing.
 ghost use Rattle.std.specs.Prelude.{◌≡◌, IfOk, IfErr};
 ghost use Rattle.vb_bit_buffer.specs.SharedSet.{SharedSet};
+ghost use Rattle.vb_set.specs.OpenSet.{HoldsShared};
 
 use crate::bit_buffer_mut::BitBufferMut;
 use std::alloc::Allocator;
@@ -15,10 +16,7 @@ pub trait TryIntoMut<A: Allocator + Clone>: Sized {
     /// memory taken; otherwise the set itself, given back as an `Err`. Bytes that don't begin the
     /// storage are moved to its front; else it takes constant time.
     fn try_into_mut(self) -> Result<BitBufferMut<A>, Self>
-        ensures bits { IfOk result (λ s. s.bits ≡ (set self).bits) }
-        ensures offset { IfOk result (λ s. s.offset ≡ (set self).offset) }
-        ensures bytes { IfOk result (λ s. s.bytes ≡ (set self).bytes) }
-        ensures alignment { IfOk result (λ s. s.exponent ≡ 0) }
+        ensures open { IfOk result (HoldsShared (set self)) }
         ensures shared { IfErr result (λ s. s ≡ self) };
 }
 

@@ -14,7 +14,7 @@ use std::alloc::Allocator;
 use std::ops::{BitAnd, BitOr, BitXor, Not};
 use vb_bit_bytes::{combine, combine_into, negate};
 use vb_bits::BitOp;
-use vb_core::BufferError;
+use vb_core::{BufferError, Result};
 use vb_mem::{BufferMut, ByteBufferMut};
 
 #[tactic(auto, using(crate::proofs::SetLemmas::sets))]
@@ -22,7 +22,7 @@ impl<A: Allocator + Clone> BitBuffer<A> {
     /// The bits that are true here and not in `right`, in bytes of their own: it takes memory for
     /// the bytes of the window and the count of owners, of this set's allocator. Refused by
     /// `LengthMismatch` exactly where the lengths differ, else by `OutOfMemory` alone.
-    pub fn bitand_not(&self, right: &Self) -> Result<Self, BufferError>
+    pub fn bitand_not(&self, right: &Self) -> Result<Self>
         ensures { GivesCombined BitOp.AndNot self.now right.now result }
     {
         self.combined(right, BitOp::AndNot)
@@ -31,22 +31,22 @@ impl<A: Allocator + Clone> BitBuffer<A> {
     /// The bits that are true here and not in `right`, in the same storage where no other owner
     /// has it: then memory is taken for the count of owners alone, else as by
     /// [`bitand_not`](Self::bitand_not). Refused as that is; the set is gone then.
-    pub fn into_bitand_not(self, right: &Self) -> Result<Self, BufferError>
+    pub fn into_bitand_not(self, right: &Self) -> Result<Self>
         ensures { GivesCombined BitOp.AndNot self right.now result }
     {
         self.into_combined(right, BitOp::AndNot)
     }
 
-    // The bits combined with those of another set, in bytes of their own.
-    fn combined(&self, right: &Self, op: BitOp) -> Result<Self, BufferError>
+    /// The bits combined with those of another set, in bytes of their own.
+    fn combined(&self, right: &Self, op: BitOp) -> Result<Self>
         ensures { GivesCombined op self.now right.now result }
     {
         self.compare_len(right)?;
         self.combine_apart(right, op)
     }
 
-    // The same, in the storage of the bits where no other owner has it.
-    fn into_combined(self, right: &Self, op: BitOp) -> Result<Self, BufferError>
+    /// The bits combined with those of another set, in their storage where no other owner has it.
+    fn into_combined(self, right: &Self, op: BitOp) -> Result<Self>
         ensures { GivesCombined op self right.now result }
     {
         if let Err(why) = self.compare_len(right) {
@@ -56,7 +56,8 @@ impl<A: Allocator + Clone> BitBuffer<A> {
         self.combine(right, op)
     }
 
-    fn compare_len(&self, right: &Self) -> Result<(), BufferError>
+    /// Nothing where the sets are of one length. Refused by `LengthMismatch` else.
+    fn compare_len(&self, right: &Self) -> Result<()>
         ensures same_len { length self.now.bits ≡ length right.now.bits → IsOk result }
         ensures other_len { length self.now.bits ≢ length right.now.bits → IsErrOf result
             (BufferError.LengthMismatch (length self.now.bits) (length right.now.bits)) }
@@ -70,15 +71,15 @@ impl<A: Allocator + Clone> BitBuffer<A> {
         })
     }
 
-    // Room for so many bytes, from the allocator of the bits.
-    fn room(&self, bytes: usize) -> Result<ByteBufferMut<A>, BufferError>
+    /// Room for so many bytes, from the allocator of the bits.
+    fn room(&self, bytes: usize) -> Result<ByteBufferMut<A>>
         ensures { Makes (λ b. HoldsMade [] 0 b × (bytes ≤ b.room)) result }
     {
         BufferMut::with_capacity(self.buffer.allocator().clone()?, bytes)
     }
 
-    // The bits combined with those of a set of as many, in bytes of their own.
-    fn combine_apart(&self, right: &Self, op: BitOp) -> Result<Self, BufferError>
+    /// The bits combined with those of a set of as many, in bytes of their own.
+    fn combine_apart(&self, right: &Self, op: BitOp) -> Result<Self>
         requires { length self.now.bits ≡ length right.now.bits }
         ensures { GivesCombined op self.now right.now result }
     {
@@ -94,8 +95,8 @@ impl<A: Allocator + Clone> BitBuffer<A> {
         })
     }
 
-    // The bits combined with those of a set of as many.
-    fn combine(self, right: &Self, op: BitOp) -> Result<Self, BufferError>
+    /// The bits combined with those of a set of as many.
+    fn combine(self, right: &Self, op: BitOp) -> Result<Self>
         requires { length self.bits ≡ length right.now.bits }
         ensures { GivesCombined op self right.now result }
     {
@@ -112,8 +113,8 @@ impl<A: Allocator + Clone> BitBuffer<A> {
         Ok(BitBuffer::window_of(bytes.freeze()?, len, offset))
     }
 
-    // The bits negated, in bytes of their own.
-    fn negated_apart(&self) -> Result<Self, BufferError>
+    /// The bits negated, in bytes of their own.
+    fn negated_apart(&self) -> Result<Self>
         ensures { GivesNegated self.now result }
     {
         let (offset, len) = (self.offset, self.len);
@@ -129,8 +130,8 @@ impl<A: Allocator + Clone> BitBuffer<A> {
         })
     }
 
-    // The bits negated, in their storage where no other owner has it.
-    fn negated(self) -> Result<Self, BufferError>
+    /// The bits negated, in their storage where no other owner has it.
+    fn negated(self) -> Result<Self>
         ensures { GivesNegated self result }
     {
         let (offset, len) = (self.offset, self.len);
@@ -148,11 +149,11 @@ impl<A: Allocator + Clone> BitAnd<BitBuffer<A>> for BitBuffer<A> {
     ghost use Rattle.vb_bit_buffer.specs.Gives.{GivesCombined};
     ghost use Rattle.vb_bits.specs.declared.zip.BitOp.TheVariants.{And};
 
-    type Output = Result<BitBuffer<A>, BufferError>;
+    type Output = Result<BitBuffer<A>>;
 
     ghost bitand_gives = { GivesCombined And };
 
-    fn bitand(self, rhs: BitBuffer<A>) -> Result<BitBuffer<A>, BufferError> {
+    fn bitand(self, rhs: BitBuffer<A>) -> Result<BitBuffer<A>> {
         let set = self.into_combined(&rhs, BitOp::And);
         drop(rhs);
         set
@@ -167,11 +168,11 @@ impl<A: Allocator + Clone> BitAnd<&BitBuffer<A>> for BitBuffer<A> {
     ghost use Rattle.vb_bit_buffer.specs.Gives.{GivesCombined};
     ghost use Rattle.vb_bits.specs.declared.zip.BitOp.TheVariants.{And};
 
-    type Output = Result<BitBuffer<A>, BufferError>;
+    type Output = Result<BitBuffer<A>>;
 
     ghost bitand_gives = { λ l r s. GivesCombined And l r.now s };
 
-    fn bitand(self, rhs: &BitBuffer<A>) -> Result<BitBuffer<A>, BufferError> {
+    fn bitand(self, rhs: &BitBuffer<A>) -> Result<BitBuffer<A>> {
         self.into_combined(rhs, BitOp::And)
     }
 }
@@ -183,11 +184,11 @@ impl<A: Allocator + Clone> BitAnd<BitBuffer<A>> for &BitBuffer<A> {
     ghost use Rattle.vb_bit_buffer.specs.Gives.{GivesCombined};
     ghost use Rattle.vb_bits.specs.declared.zip.BitOp.TheVariants.{And};
 
-    type Output = Result<BitBuffer<A>, BufferError>;
+    type Output = Result<BitBuffer<A>>;
 
     ghost bitand_gives = { λ l r s. GivesCombined And l.now r s };
 
-    fn bitand(self, rhs: BitBuffer<A>) -> Result<BitBuffer<A>, BufferError> {
+    fn bitand(self, rhs: BitBuffer<A>) -> Result<BitBuffer<A>> {
         let set = self.combined(&rhs, BitOp::And);
         drop(rhs);
         set
@@ -201,11 +202,11 @@ impl<A: Allocator + Clone> BitAnd<&BitBuffer<A>> for &BitBuffer<A> {
     ghost use Rattle.vb_bit_buffer.specs.Gives.{GivesCombined};
     ghost use Rattle.vb_bits.specs.declared.zip.BitOp.TheVariants.{And};
 
-    type Output = Result<BitBuffer<A>, BufferError>;
+    type Output = Result<BitBuffer<A>>;
 
     ghost bitand_gives = { λ l r s. GivesCombined And l.now r.now s };
 
-    fn bitand(self, rhs: &BitBuffer<A>) -> Result<BitBuffer<A>, BufferError> {
+    fn bitand(self, rhs: &BitBuffer<A>) -> Result<BitBuffer<A>> {
         self.combined(rhs, BitOp::And)
     }
 }
@@ -218,11 +219,11 @@ impl<A: Allocator + Clone> BitOr<BitBuffer<A>> for BitBuffer<A> {
     ghost use Rattle.vb_bit_buffer.specs.Gives.{GivesCombined};
     ghost use Rattle.vb_bits.specs.declared.zip.BitOp.TheVariants.{Or};
 
-    type Output = Result<BitBuffer<A>, BufferError>;
+    type Output = Result<BitBuffer<A>>;
 
     ghost bitor_gives = { GivesCombined Or };
 
-    fn bitor(self, rhs: BitBuffer<A>) -> Result<BitBuffer<A>, BufferError> {
+    fn bitor(self, rhs: BitBuffer<A>) -> Result<BitBuffer<A>> {
         let set = self.into_combined(&rhs, BitOp::Or);
         drop(rhs);
         set
@@ -237,11 +238,11 @@ impl<A: Allocator + Clone> BitOr<&BitBuffer<A>> for BitBuffer<A> {
     ghost use Rattle.vb_bit_buffer.specs.Gives.{GivesCombined};
     ghost use Rattle.vb_bits.specs.declared.zip.BitOp.TheVariants.{Or};
 
-    type Output = Result<BitBuffer<A>, BufferError>;
+    type Output = Result<BitBuffer<A>>;
 
     ghost bitor_gives = { λ l r s. GivesCombined Or l r.now s };
 
-    fn bitor(self, rhs: &BitBuffer<A>) -> Result<BitBuffer<A>, BufferError> {
+    fn bitor(self, rhs: &BitBuffer<A>) -> Result<BitBuffer<A>> {
         self.into_combined(rhs, BitOp::Or)
     }
 }
@@ -253,11 +254,11 @@ impl<A: Allocator + Clone> BitOr<&BitBuffer<A>> for &BitBuffer<A> {
     ghost use Rattle.vb_bit_buffer.specs.Gives.{GivesCombined};
     ghost use Rattle.vb_bits.specs.declared.zip.BitOp.TheVariants.{Or};
 
-    type Output = Result<BitBuffer<A>, BufferError>;
+    type Output = Result<BitBuffer<A>>;
 
     ghost bitor_gives = { λ l r s. GivesCombined Or l.now r.now s };
 
-    fn bitor(self, rhs: &BitBuffer<A>) -> Result<BitBuffer<A>, BufferError> {
+    fn bitor(self, rhs: &BitBuffer<A>) -> Result<BitBuffer<A>> {
         self.combined(rhs, BitOp::Or)
     }
 }
@@ -270,11 +271,11 @@ impl<A: Allocator + Clone> BitXor<&BitBuffer<A>> for BitBuffer<A> {
     ghost use Rattle.vb_bit_buffer.specs.Gives.{GivesCombined};
     ghost use Rattle.vb_bits.specs.declared.zip.BitOp.TheVariants.{Xor};
 
-    type Output = Result<BitBuffer<A>, BufferError>;
+    type Output = Result<BitBuffer<A>>;
 
     ghost bitxor_gives = { λ l r s. GivesCombined Xor l r.now s };
 
-    fn bitxor(self, rhs: &BitBuffer<A>) -> Result<BitBuffer<A>, BufferError> {
+    fn bitxor(self, rhs: &BitBuffer<A>) -> Result<BitBuffer<A>> {
         self.into_combined(rhs, BitOp::Xor)
     }
 }
@@ -286,11 +287,11 @@ impl<A: Allocator + Clone> BitXor<&BitBuffer<A>> for &BitBuffer<A> {
     ghost use Rattle.vb_bit_buffer.specs.Gives.{GivesCombined};
     ghost use Rattle.vb_bits.specs.declared.zip.BitOp.TheVariants.{Xor};
 
-    type Output = Result<BitBuffer<A>, BufferError>;
+    type Output = Result<BitBuffer<A>>;
 
     ghost bitxor_gives = { λ l r s. GivesCombined Xor l.now r.now s };
 
-    fn bitxor(self, rhs: &BitBuffer<A>) -> Result<BitBuffer<A>, BufferError> {
+    fn bitxor(self, rhs: &BitBuffer<A>) -> Result<BitBuffer<A>> {
         self.combined(rhs, BitOp::Xor)
     }
 }
@@ -301,11 +302,11 @@ impl<A: Allocator + Clone> BitXor<&BitBuffer<A>> for &BitBuffer<A> {
 impl<A: Allocator + Clone> Not for BitBuffer<A> {
     ghost use Rattle.vb_bit_buffer.specs.Gives.{GivesNegated};
 
-    type Output = Result<BitBuffer<A>, BufferError>;
+    type Output = Result<BitBuffer<A>>;
 
     ghost not_gives = { GivesNegated };
 
-    fn not(self) -> Result<BitBuffer<A>, BufferError> {
+    fn not(self) -> Result<BitBuffer<A>> {
         self.negated()
     }
 }
@@ -315,11 +316,11 @@ impl<A: Allocator + Clone> Not for BitBuffer<A> {
 impl<A: Allocator + Clone> Not for &BitBuffer<A> {
     ghost use Rattle.vb_bit_buffer.specs.Gives.{GivesNegated};
 
-    type Output = Result<BitBuffer<A>, BufferError>;
+    type Output = Result<BitBuffer<A>>;
 
     ghost not_gives = { λ s t. GivesNegated s.now t };
 
-    fn not(self) -> Result<BitBuffer<A>, BufferError> {
+    fn not(self) -> Result<BitBuffer<A>> {
         self.negated_apart()
     }
 }

@@ -1,15 +1,17 @@
 //! Sets made of what a closure answers, of lists of truth values, and of what an iterator gives.
-ghost use Rattle.std.specs.Prelude.{◌≡◌, ◌⊎◌, ◌==◌, ⊤, not, length, map};
-ghost use Rattle.std.specs.Prelude.{IfOk, MatchResult, IsOkUnless, OnErr};
-ghost use Rattle.std.specs.Int.{div_ceil};
+ghost use Rattle.std.specs.Prelude.{◌≡◌, ◌⊎◌, ◌==◌, ⊤, not, false, length, map, replicate};
+ghost use Rattle.std.specs.Prelude.{IfOk, IfErr, MatchResult, OnErr};
 ghost use Rattle.std.specs.Iterator.{IsFiniteIterable};
 ghost use Rattle.vb_bit_bytes.specs.Given.{GivesPast};
+ghost use Rattle.vb_mem.specs.Answers.{Makes};
 ghost use Rattle.vb_mem.specs.Collected.{OfItems};
 ghost use Rattle.vb_pack.specs.Asked.{Answers, CanAsk, span};
+ghost use Rattle.vb_set.specs.OpenSet.{IsFreshOpenSet};
+ghost use Rattle.vb_take.specs.Takes.{with_true, AllBelow, IndexRefused};
 
 use super::BitBufferMut;
 use std::alloc::Allocator;
-use vb_core::BufferError;
+use vb_core::{BufferError, Result};
 
 #[tactic(auto, using(vb_bit_bytes::proofs::BytesLemmas::edits))]
 impl<A: Allocator + Clone> BitBufferMut<A> {
@@ -18,20 +20,13 @@ impl<A: Allocator + Clone> BitBufferMut<A> {
     ///
     /// It takes memory for the bytes of the bits. Refused by `OutOfMemory` alone, before the first
     /// question.
-    pub fn collect_bool<F: FnMut(usize) -> bool>(
-        alloc: A,
-        len: usize,
-        f: &mut F,
-    ) -> Result<Self, BufferError>
+    pub fn collect_bool<F: FnMut(usize) -> bool>(alloc: A, len: usize, f: &mut F) -> Result<Self>
         requires { CanAsk (F.pre) (F.step) f.old (span 0 len) }
         ensures answered { IfOk result (λ s.
             Answers (F.step) f.old (span 0 len) s.bits f.new) }
         ensures len { IfOk result (λ s. length s.bits ≡ len) }
-        ensures offset { IfOk result (λ s. s.offset ≡ 0) }
-        ensures alignment { IfOk result (λ s. s.exponent ≡ 0) }
-        ensures bytes { IfOk result (λ s. length s.bytes ≡ div_ceil len 8) }
+        ensures fresh { Makes (λ s. IsFreshOpenSet s.bits s) result }
         ensures not_asked { OnErr result (f.new ≡ f.old) }
-        ensures refused { IsOkUnless result BufferError.OutOfMemory }
     {
         let bytes = vb_bit_bytes::collect_bool(alloc, len, f)?;
         Ok(BitBufferMut::from_buffer(bytes, 0, len))
@@ -43,28 +38,21 @@ impl<A: Allocator + Clone> BitBufferMut<A> {
         alloc: A,
         len: usize,
         f: &mut F,
-    ) -> Result<Self, BufferError>
+    ) -> Result<Self>
         requires { CanAsk (F.pre) (F.step) f.old (span 0 len) }
         ensures answered { IfOk result (λ s.
             Answers (F.step) f.old (span 0 len) s.bits f.new) }
         ensures len { IfOk result (λ s. length s.bits ≡ len) }
-        ensures offset { IfOk result (λ s. s.offset ≡ 0) }
-        ensures alignment { IfOk result (λ s. s.exponent ≡ 0) }
-        ensures bytes { IfOk result (λ s. length s.bytes ≡ div_ceil len 8) }
+        ensures fresh { Makes (λ s. IsFreshOpenSet s.bits s) result }
         ensures not_asked { OnErr result (f.new ≡ f.old) }
-        ensures refused { IsOkUnless result BufferError.OutOfMemory }
     {
         BitBufferMut::collect_bool(alloc, len, f)
     }
 
     /// The truth values of a slice. It takes memory for the bytes of the bits. Refused by
     /// `OutOfMemory` alone.
-    pub fn from_bools(alloc: A, bools: &[bool]) -> Result<Self, BufferError>
-        ensures bits { IfOk result (λ s. s.bits ≡ bools.now) }
-        ensures offset { IfOk result (λ s. s.offset ≡ 0) }
-        ensures alignment { IfOk result (λ s. s.exponent ≡ 0) }
-        ensures bytes { IfOk result (λ s. length s.bytes ≡ div_ceil (length bools.now) 8) }
-        ensures refused { IsOkUnless result BufferError.OutOfMemory }
+    pub fn from_bools(alloc: A, bools: &[bool]) -> Result<Self>
+        ensures { Makes (IsFreshOpenSet bools.now) result }
     {
         let bytes = vb_bit_bytes::from_bools(alloc, bools)?;
         Ok(BitBufferMut::from_buffer(bytes, 0, bools.len()))
@@ -72,24 +60,16 @@ impl<A: Allocator + Clone> BitBufferMut<A> {
 
     /// The truth values of a vector. It takes memory for the bytes of the bits, and gives the
     /// vector's back. Refused by `OutOfMemory` alone; the vector is gone then too.
-    pub fn from_bool_vec(alloc: A, bools: Vec<bool, A>) -> Result<Self, BufferError>
-        ensures bits { IfOk result (λ s. s.bits ≡ bools.items) }
-        ensures offset { IfOk result (λ s. s.offset ≡ 0) }
-        ensures alignment { IfOk result (λ s. s.exponent ≡ 0) }
-        ensures bytes { IfOk result (λ s. length s.bytes ≡ div_ceil (length bools.items) 8) }
-        ensures refused { IsOkUnless result BufferError.OutOfMemory }
+    pub fn from_bool_vec(alloc: A, bools: Vec<bool, A>) -> Result<Self>
+        ensures { Makes (IsFreshOpenSet bools.items) result }
     {
         BitBufferMut::from_bools(alloc, bools.as_slice())
     }
 
     /// Bytes, each of which is true where it isn't 0. It takes memory for the bytes of the bits.
     /// Refused by `OutOfMemory` alone.
-    pub fn from_truthy(alloc: A, truthy: &[u8]) -> Result<Self, BufferError>
-        ensures bits { IfOk result (λ s. s.bits ≡ map (λ x. not (x == 0)) truthy.now) }
-        ensures offset { IfOk result (λ s. s.offset ≡ 0) }
-        ensures alignment { IfOk result (λ s. s.exponent ≡ 0) }
-        ensures bytes { IfOk result (λ s. length s.bytes ≡ div_ceil (length truthy.now) 8) }
-        ensures refused { IsOkUnless result BufferError.OutOfMemory }
+    pub fn from_truthy(alloc: A, truthy: &[u8]) -> Result<Self>
+        ensures { Makes (IsFreshOpenSet (map (λ x. not (x == 0)) truthy.now)) result }
     {
         let bytes = vb_bit_bytes::from_truthy(alloc, truthy)?;
         Ok(BitBufferMut::from_buffer(bytes, 0, truthy.len()))
@@ -99,19 +79,42 @@ impl<A: Allocator + Clone> BitBufferMut<A> {
     ///
     /// Refused by `TooManyBits` at the first item past `usize::MAX` of them, else by `OutOfMemory`
     /// where memory is. Then the iterator and the items that it gave are gone.
-    pub fn from_iter<I: IntoIterator<Item = bool>>(alloc: A, iter: I) -> Result<Self, BufferError>
+    pub fn from_iter<I: IntoIterator<Item = bool>>(alloc: A, iter: I) -> Result<Self>
         requires { IsFiniteIterable I.into_iter_gives I.IntoIter.can_next
             I.IntoIter.remaining iter }
         ensures made { IfOk result (λ s. OfItems I.into_iter_gives I.IntoIter.next_gives iter
             (λ items. s.bits ≡ items)) }
-        ensures offset { IfOk result (λ s. s.offset ≡ 0) }
-        ensures alignment { IfOk result (λ s. s.exponent ≡ 0) }
-        ensures bytes { IfOk result (λ s. length s.bytes ≡ div_ceil (length s.bits) 8) }
+        ensures fresh { IfOk result (λ s. IsFreshOpenSet s.bits s) }
         ensures err { MatchResult result (λ _. ⊤) (λ e. (e ≡ BufferError.OutOfMemory)
             ⊎ ((e ≡ BufferError.TooManyBits)
             × GivesPast I.into_iter_gives I.IntoIter.next_gives iter)) }
     {
         let (bytes, len) = vb_bit_bytes::from_iter(alloc, iter)?;
+        Ok(BitBufferMut::from_buffer(bytes, 0, len))
+    }
+
+    /// `len` bits, true exactly at the places that an iterator gives, as `[1, 3].into_iter()` or
+    /// `places.iter().copied()`. A place may come more than once.
+    ///
+    /// It takes memory for the bytes of the bits, and for no list of the places. Refused by
+    /// `OutOfMemory` before the iterator is asked, else by `IndexOutOfRange` with the first number
+    /// that isn't below `len`, behind which it isn't asked. The iterator is gone then.
+    pub fn from_indices<I: IntoIterator<Item = usize>>(
+        alloc: A,
+        len: usize,
+        indices: I,
+    ) -> Result<Self>
+        requires { IsFiniteIterable I.into_iter_gives I.IntoIter.can_next
+            I.IntoIter.remaining indices }
+        ensures bits { IfOk result (λ s. OfItems I.into_iter_gives I.IntoIter.next_gives indices
+            (λ places. AllBelow len places
+            × (s.bits ≡ with_true (replicate len false) places))) }
+        ensures len { IfOk result (λ s. length s.bits ≡ len) }
+        ensures fresh { IfOk result (λ s. IsFreshOpenSet s.bits s) }
+        ensures refused { IfErr result
+            (IndexRefused I.into_iter_gives I.IntoIter.next_gives len indices) }
+    {
+        let bytes = vb_bit_bytes::from_indices(alloc, len, indices)?;
         Ok(BitBufferMut::from_buffer(bytes, 0, len))
     }
 }

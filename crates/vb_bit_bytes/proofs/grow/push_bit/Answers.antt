@@ -3,4 +3,5 @@ use Rattle.vb_bits.proofs.WritesLemmas.{Writes_push}
 use Rattle.vb_bit_bytes.proofs.grow.push_bit.Goals as goal
 
 pub returns-clause-bits : goal.returns-clause-bits
-returns-clause-bits g c = Writes_push _ _ _ _ _ c.in_ok-push.ensures.ok.list c.from.ensures (omega arith)
+returns-clause-bits g c =
+    Writes_push _ _ _ _ _ c.in_ok-push.ensures.ok.list c.from.ensures (omega arith)

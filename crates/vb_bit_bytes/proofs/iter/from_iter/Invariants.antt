@@ -12,7 +12,7 @@ invariant-loop-len g l =
       given : Yields iter.next_gives l.initial.rest (bits l.bytes.list 0 l.len) l.rest;
       whole : l.len ≡ 8 * length l.bytes.list;
       words : l.len % 64 ≡ 0;
-      alignment : l.bytes.exponent ≡ 0;
+      alignment : l.bytes.alignment ≡ 0;
     }
 
 abbrev pub decreases-loop-len : goal.decreases-loop-len

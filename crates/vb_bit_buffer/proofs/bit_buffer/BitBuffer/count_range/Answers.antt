@@ -5,5 +5,7 @@ use Rattle.vb_bit_buffer.proofs.bit_buffer.BitBuffer.count_range.Goals as goal
 
 pub returns-clause-adds : goal.returns-clause-adds
 returns-clause-adds g c = λ b low high.
-    let value : c.count_ones.result ≡ count (slice_range c.args.self.now.bits c.args.start c.args.end) = search (rules, windows) in
+    let l = c.args.self.now.bits in
+    let value : c.true_count.result ≡ count (slice_range l c.args.start c.args.end) =
+    search (rules, windows) in
     count_parts _ _ _ _ _ value low high

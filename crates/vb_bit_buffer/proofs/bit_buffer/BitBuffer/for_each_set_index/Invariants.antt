@@ -7,5 +7,6 @@ use Rattle.vb_bit_buffer.proofs.bit_buffer.BitBuffer.for_each_set_index.Given as
 abbrev pub invariant-loop-i : goal.invariant-loop-i
 invariant-loop-i g l = record {
   callable : CanAsk (goal.F-pre g) (goal.F-step g) l.f l.i-iterator;
-  ran : (last : _) → FoldsTo (λ p i q. goal.F-step g p i tt q) l.f l.i-iterator last → FoldsTo (λ p i q. goal.F-step g p i tt q) l.fn.f (places l.self.bits) last;
+  ran : (last : _) → FoldsTo (λ p i q. goal.F-step g p i tt q) l.f l.i-iterator last
+      → FoldsTo (λ p i q. goal.F-step g p i tt q) l.fn.f (places l.self.bits) last;
 }

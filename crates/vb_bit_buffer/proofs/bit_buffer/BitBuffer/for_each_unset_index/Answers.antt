@@ -14,4 +14,5 @@ pub returns : goal.returns
 returns g c =
     let s = c.self.inside in
     let seen : c.args.self.now.bits ≡ bits c.as_slice.result.now s.offset s.len = search rules in
-    subst (λ l. FoldsTo (λ p i q. goal.F-step g p i tt q) c.args.f.now (holes l) c.for_each_unset.new.f) (sym seen) c.for_each_unset.ensures
+    subst (λ l. FoldsTo (λ p i q. goal.F-step g p i tt q) c.args.f.now
+    (holes l) c.for_each_unset.new.f) (sym seen) c.for_each_unset.ensures

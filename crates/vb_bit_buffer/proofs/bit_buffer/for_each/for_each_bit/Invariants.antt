@@ -1,0 +1,17 @@
+use Rattle.std.proofs.Common.{◌+◌, ◌-◌, ◌*◌}
+use Rattle.std.specs.List.{FoldsTo}
+use Rattle.vb_bits.specs.Bits.{bit_of}
+use Rattle.vb_pack.specs.Asked.{CanAsk, span}
+use Rattle.vb_bit_buffer.proofs.bit_buffer.for_each.for_each_bit.Given as goal
+
+-- what the calls at the places that are left reach, all calls reach
+abbrev pub invariant-loop-k : goal.invariant-loop-k
+invariant-loop-k g l = record {
+  callable : CanAsk (λ p i. goal.F-pre g p i (bit_of l.bytes (l.offset + i)))
+      (λ p i r q. goal.F-step g p i (bit_of l.bytes (l.offset + i)) r q) l.f
+      (span (64 * l.k) (l.len - 64 * l.k));
+  ran : (last : _) → FoldsTo (λ p i q. goal.F-step g p i (bit_of l.bytes (l.offset + i)) tt q) l.f
+      (span (64 * l.k) (l.len - 64 * l.k)) last
+      → FoldsTo (λ p i q. goal.F-step g p i (bit_of l.bytes (l.offset + i)) tt q) l.initial.f
+      (span 0 l.len) last;
+}

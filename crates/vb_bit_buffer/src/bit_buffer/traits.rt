@@ -1,0 +1,84 @@
+//! What sets are by std's traits: equal, printed, gone through.
+ghost use Rattle.std.specs.Prelude.{◌≡◌, ◌↔◌, ◌<◌, [], codes, IsTrue};
+ghost use Rattle.std.specs.Bool.{beq};
+ghost use Rattle.std.specs.Cmp.{bool_eq_equiv, on_per, on_equiv, partial_equiv_from_equiv};
+ghost use Rattle.std.specs.Cmp.Lexicographic.{pointwise, lists_per, lists_equiv};
+
+use super::BitBuffer;
+use std::alloc::Allocator;
+use std::fmt;
+use vb_bit_bytes::write_bits;
+use vb_walk::BitIterator;
+
+/// How many bits are printed.
+const SHOWN: usize = 16;
+
+/// Equality is that of the lists of bits.
+impl<A: Allocator + Clone> PartialEq for BitBuffer<A> {
+    ghost eq = { λ x y. pointwise beq x.bits y.bits };
+
+    ghost laws = { on_per (λ s. s.bits) (lists_per (partial_equiv_from_equiv bool_eq_equiv)) };
+
+    /// Whether the lists of bits are equal, by words; where the bits lie in their bytes doesn't
+    /// count.
+    fn eq(&self, other: &Self) -> bool
+        ensures value { result ≡ pointwise beq self.now.bits other.now.bits }
+        ensures exact { IsTrue result ↔ (self.now.bits ≡ other.now.bits) }
+    {
+        self.as_view() == other.as_view()
+    }
+}
+
+impl<A: Allocator + Clone> Eq for BitBuffer<A> {
+    ghost laws = { on_equiv (λ s. s.bits) (lists_equiv bool_eq_equiv) };
+}
+
+/// The first 64 bits, as `BitBuffer(01101..)`.
+impl<A: Allocator + Clone> fmt::Debug for BitBuffer<A> {
+    fn fmt<W: fmt::Write>(&self, f: &mut fmt::Formatter<W>) -> fmt::Result {
+        let bytes = self.buffer.as_slice();
+        write_bits(f, "BitBuffer", bytes, self.offset, self.len)
+    }
+}
+
+/// The number of bits and at most the first 16 of them, as `BitBuffer { len: 2, buffer: [true,
+/// false] }` on one line.
+impl<A: Allocator + Clone> fmt::Display for BitBuffer<A> {
+    ghost use Rattle.std.specs.Prelude.{Some};
+    ghost use Rattle.vb_bits.specs.Shown.{shown};
+
+    ghost output = { λ s. Some (shown s.bits) };
+
+    fn fmt<W: fmt::Write>(&self, f: &mut fmt::Formatter<W>) -> fmt::Result {
+        let len = self.len();
+        write!(f, "BitBuffer {{ len: {len}, buffer: [")?;
+        for i in 0..len.min(SHOWN) {
+            let gap = gap_before(i);
+            let bit = self.value(i);
+            write!(f, "{gap}{bit}")?;
+        }
+        write!(f, "] }}")
+    }
+}
+
+/// What stands in front of the item at place `i`.
+fn gap_before(i: usize) -> &'static str
+    ensures first { i ≡ 0 → result.now ≡ [] }
+    ensures others { 0 < i → result.now ≡ codes ", " }
+{
+    if i == 0 { "" } else { ", " }
+}
+
+impl<'a, A: Allocator + Clone> IntoIterator for &'a BitBuffer<A> {
+    ghost use Rattle.std.specs.Prelude.{◌≡◌, ◌<◌, ◌^◌, length};
+
+    type Item = bool;
+
+    type IntoIter = BitIterator<'a>;
+
+    ghost into_iter_gives = { λ s it. (it ≡ s.now.bits) × (length it < 2 ^ 64) };
+
+    fn into_iter(self) -> BitIterator<'a> {
+        self.iter()
+    }
+}

@@ -1,5 +1,0 @@
-use Rattle.vb_bits.proofs.DigitsLemmas.{has_bit-xor}
-use Rattle.vb_bit_bytes.proofs.bytewise.XorBytewise.byte.Goals as goal
-
-pub returns : goal.returns
-returns c = λ i h. has_bit-xor c.args.left c.args.right i

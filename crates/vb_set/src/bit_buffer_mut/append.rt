@@ -1,0 +1,99 @@
+//! Room, and bits added at the end.
+ghost use Rattle.std.specs.Prelude.{◌≡◌, ◌+◌, ◌≤◌, ◌∷◌, [], length, replicate, true, false, OnOk};
+ghost use Rattle.vb_set.specs.OpenSet.{AddsBits, Grows, NeedsBits};
+
+use super::BitBufferMut;
+use std::alloc::Allocator;
+use vb_bit_buffer::BitBuffer;
+use vb_bit_bytes::{push_bit, push_bits, push_window, reserve_to};
+use vb_core::{BufferError, Result};
+
+#[tactic(auto, using(vb_bit_bytes::proofs::BytesLemmas::edits))]
+impl<A: Allocator + Clone> BitBufferMut<A> {
+    /// Makes room for `n` bits more.
+    ///
+    /// Refused by `TooManyBits` where offset, length and `n` together pass `usize::MAX`, else by
+    /// `OutOfMemory` where memory is. Then the set and its room are unchanged. Within
+    /// [`capacity`](Self::capacity) it takes no memory and succeeds.
+    pub fn reserve(&mut self, n: usize) -> Result<()>
+        ensures keeps { self.new ≡ record self.old { room = self.new.room } }
+        ensures room { OnOk result (length self.old.bits + n ≤ self.new.room) }
+        ensures grows { self.old.room ≤ self.new.room }
+        ensures needs { NeedsBits n result self.old self.new }
+    {
+        let Some(end) = (self.offset + self.len).checked_add(n) else {
+            return Err(BufferError::TooManyBits);
+        };
+        reserve_to(&mut self.buffer, end)
+    }
+
+    /// Adds one bit, in amortised constant time.
+    ///
+    /// Refused as [`reserve`](Self::reserve) of one bit is.
+    pub fn append(&mut self, v: bool) -> Result<()>
+        ensures ok { OnOk result (AddsBits (v ∷ []) self.old self.new) }
+        ensures grows { Grows self.old self.new }
+        ensures needs { NeedsBits 1 result self.old self.new }
+    {
+        let end = self.offset + self.len;
+        if end == usize::MAX {
+            return Err(BufferError::TooManyBits);
+        }
+        push_bit(&mut self.buffer, end, v)?;
+        self.len += 1;
+        Ok(())
+    }
+
+    /// Adds a true bit: [`append`](Self::append) of `true`.
+    pub fn append_true(&mut self) -> Result<()>
+        ensures ok { OnOk result (AddsBits (true ∷ []) self.old self.new) }
+        ensures grows { Grows self.old self.new }
+        ensures needs { NeedsBits 1 result self.old self.new }
+    {
+        self.append(true)
+    }
+
+    /// Adds a false bit: [`append`](Self::append) of `false`.
+    pub fn append_false(&mut self) -> Result<()>
+        ensures ok { OnOk result (AddsBits (false ∷ []) self.old self.new) }
+        ensures grows { Grows self.old self.new }
+        ensures needs { NeedsBits 1 result self.old self.new }
+    {
+        self.append(false)
+    }
+
+    /// Adds `n` bits `v`, whole bytes at once.
+    ///
+    /// Refused as [`reserve`](Self::reserve) of `n` bits is.
+    pub fn append_n(&mut self, v: bool, n: usize) -> Result<()>
+        ensures ok { OnOk result (AddsBits (replicate n v) self.old self.new) }
+        ensures grows { Grows self.old self.new }
+        ensures needs { NeedsBits n result self.old self.new }
+    {
+        let end = self.offset + self.len;
+        if usize::MAX - end < n {
+            return Err(BufferError::TooManyBits);
+        }
+        push_bits(&mut self.buffer, end, n, v)?;
+        self.len += n;
+        Ok(())
+    }
+
+    /// Adds the bits of a shared set, by words, whatever stood in the bytes past the end.
+    ///
+    /// Refused as [`reserve`](Self::reserve) of the other set's length is.
+    pub fn append_buffer(&mut self, set: &BitBuffer<A>) -> Result<()>
+        ensures ok { OnOk result (AddsBits set.now.bits self.old self.new) }
+        ensures grows { Grows self.old self.new }
+        ensures needs { NeedsBits (length set.now.bits) result self.old self.new }
+    {
+        let end = self.offset + self.len;
+        if usize::MAX - end < set.len() {
+            return Err(BufferError::TooManyBits);
+        }
+        let bytes = set.inner().as_slice();
+        push_window(&mut self.buffer, end, bytes, set.offset(), set.len())?;
+        self.len += set.len();
+        Ok(())
+    }
+}

@@ -1,0 +1,69 @@
+//! What sets are by traits: printed, negated, and stores of views.
+use super::BitBufferMut;
+use std::alloc::Allocator;
+use std::fmt;
+use std::ops::Not;
+use vb_bit_bytes::{negate, write_bits};
+use vb_view::BitStore;
+
+/// The first 64 bits, as `BitBufferMut(01101..)`.
+impl<A: Allocator + Clone> fmt::Debug for BitBufferMut<A> {
+    fn fmt<W: fmt::Write>(&self, f: &mut fmt::Formatter<W>) -> fmt::Result {
+        write_bits(f, "BitBufferMut", self.as_slice(), self.offset, self.len)
+    }
+}
+
+/// Negates every bit in place, by words of eight bytes. It takes no memory, and no bit of the bytes
+/// outside of the set changes.
+#[tactic(auto, using(vb_bit_bytes::proofs::BytesLemmas::edits))]
+impl<A: Allocator + Clone> Not for BitBufferMut<A> {
+    ghost use Rattle.std.specs.Prelude.{◌≡◌};
+    ghost use Rattle.vb_kernel.specs.Bits.{negated};
+    ghost use Rattle.vb_kernel.specs.Writes.{Writes};
+    ghost use Rattle.vb_set.specs.OpenSet.{KeepsLayout};
+
+    type Output = BitBufferMut<A>;
+
+    ghost not_gives = { λ s t. (t.bits ≡ negated s.bits)
+        × Writes s.bytes t.bytes s.offset (negated s.bits) × KeepsLayout s t };
+
+    fn not(mut self) -> BitBufferMut<A> {
+        negate(&mut self.buffer, self.offset, self.len);
+        self
+    }
+}
+
+/// A view of a set is of all its bits.
+impl<'a, A: Allocator + Clone> BitStore for &'a mut BitBufferMut<A> {
+    ghost use Rattle.std.specs.Prelude.{ℕ, ◌≡◌, length};
+    ghost use Rattle.std.proofs.Props.{props};
+    ghost use Rattle.std.proofs.Common.{sym};
+
+    ghost bytes = { λ s. s.now.bytes };
+
+    ghost bits = { λ s _ _. s.now.bits };
+
+    ghost fits = { λ s o n. (o ≡ s.now.offset) × (n ≡ length s.now.bits) };
+
+    ghost fits_prop = { λ s o n. Prim.hlevel props };
+
+    ghost lender = { λ s. s.ghost_name };
+
+    ghost Kept = { ℕ × ℕ × ℕ × ℕ };
+
+    ghost kept = { λ s. (s.now.offset, length s.now.bytes, s.now.alignment, s.now.room) };
+
+    ghost counted = { λ s o n h. sym h.1 };
+
+    fn as_slice(&self, offset: usize, len: usize) -> &[u8] {
+        BitBufferMut::as_slice(*self)
+    }
+
+    fn set_to(&mut self, offset: usize, len: usize, i: usize, v: bool) {
+        BitBufferMut::set_to(*self, i, v);
+    }
+
+    fn fill_range(&mut self, offset: usize, len: usize, start: usize, end: usize, v: bool) {
+        BitBufferMut::fill_range(*self, start, end, v);
+    }
+}
