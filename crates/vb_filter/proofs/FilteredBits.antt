@@ -1,8 +1,7 @@
 -- A word of a mask, and what it keeps.
 use Rattle.std.proofs.Common.{◌≡◌, ℕ, zero, suc, ◌+◌, ◌-◌, ◌*◌, ◌^◌, ◌<◌, ◌≤◌, Bool, false, List}
-use Rattle.std.proofs.Common.{[]}
-use Rattle.std.proofs.Common.{◌∷◌, ◌++◌, inl, inr, min, length, take, drop, replicate, refl, sym}
-use Rattle.std.proofs.Common.{ap, ◌∙◌, arith}
+use Rattle.std.proofs.Common.{[], ◌∷◌, ◌++◌, inl, inr, min, length, take, drop, replicate, refl}
+use Rattle.std.proofs.Common.{sym, ap, ◌∙◌, arith}
 use Rattle.std.specs.Prelude.{count_ones, slice_range}
 use Rattle.std.proofs.Math.Seq.{take-add}
 use Rattle.std.proofs.lemmas.List.{append-nil, take_all}
@@ -10,7 +9,7 @@ use Rattle.std.proofs.lemmas.Bool.{cases_lt}
 use Rattle.vb_bits.specs.Bits.{count}
 use Rattle.vb_bits.specs.Digits.{digits}
 use Rattle.vb_bits.specs.Kept.{kept}
-use Rattle.vb_bits.proofs.DigitsLemmas.{digits-add, length-digits, count-digits_below}
+use Rattle.vb_bits.proofs.DigitsLemmas.{digits-add, length-digits, count-digits_below, digits_none}
 use Rattle.vb_bits.proofs.BitsLemmas.{count-append, count-take-le}
 use Rattle.vb_bits.proofs.KeptLemmas.{kept-append}
 use Rattle.vb_pack.proofs.WordsLemmas.{digits_above}
@@ -71,21 +70,54 @@ word_end l t n e = elim (cases_lt (length l) (64 * (t + 1))) [
   | inr full ↦ ap (λ k. take k l) (omega arith)
 ]
 
--- how many a word of the mask keeps, with those before it
-pub count-word : (mask : List Bool) (keep t n : ℕ) → n ≡ min (length mask - 64 * t) 64
-    → keep < 2 ^ n → digits keep 0 n ≡ slice_range mask (64 * t) (64 * t + n)
-    → count (take (64 * t) mask) + count_ones keep ≡ count (take (64 * (t + 1)) mask)
-count-word mask keep t n e clear same =
-    let ones : count (slice_range mask (64 * t) (64 * t + n)) ≡ count_ones keep =
-    ap count (sym same) ∙ count-digits_below keep n clear in
+-- what n bits from bit 64 t on keep, and how many they are, with those before them
+pub record WordKept {T : Type 0} (mask : List Bool) (values : List T) (t n : ℕ) : Type 0 where
+  pub front : kept (take (64 * (t + 1)) mask) (take (64 * (t + 1)) values)
+      ≡ kept (take (64 * t) mask) (take (64 * t) values)
+      ++ kept (slice_range mask (64 * t) (64 * t + n)) (slice_range values (64 * t) (64 * t + n))
+  pub number : count (take (64 * t) mask) + count (slice_range mask (64 * t) (64 * t + n))
+      ≡ count (take (64 * (t + 1)) mask)
+  pub room : count (take (64 * t) mask) + count (slice_range mask (64 * t) (64 * t + n))
+      ≤ count mask
+
+pub word-kept : {T : Type 0} (mask : List Bool) (values : List T) (t n : ℕ)
+    → length values ≡ length mask → n ≡ min (length mask - 64 * t) 64 → WordKept mask values t n
+word-kept mask values t n same e =
+    let there : n ≡ min (length values - 64 * t) 64 =
+    e ∙ ap (λ k. min (k - 64 * t) 64) (sym same) in
     let more : count (take (64 * t + n) mask)
     ≡ count (take (64 * t) mask) + count (slice_range mask (64 * t) (64 * t + n)) =
     ap count (front-add mask (64 * t) n) ∙ count-append (take (64 * t) mask) _ in
-    omega (arith, ones, more, ap count (word_end mask t n e))
+    let number = sym more ∙ ap count (sym (word_end mask t n e)) in
+    record {
+      front = ap (λ l. kept l (take (64 * (t + 1)) values)) (word_end mask t n e)
+          ∙ ap (kept (take (64 * t + n) mask)) (word_end values t n there)
+          ∙ kept-add mask values (64 * t) n same;
+      number = number;
+      room = omega (arith, number, count-take-le (64 * (t + 1)) mask);
+    }
 
--- no more than the whole mask keeps
-pub count-word-le : (mask : List Bool) (keep t n : ℕ) → n ≡ min (length mask - 64 * t) 64
-    → keep < 2 ^ n → digits keep 0 n ≡ slice_range mask (64 * t) (64 * t + n)
-    → count (take (64 * t) mask) + count_ones keep ≤ count mask
-count-word-le mask keep t n e clear same =
-    omega (arith, count-word mask keep t n e clear same, count-take-le (64 * (t + 1)) mask)
+-- the ones of a word of the mask
+pub ones-of : (mask : List Bool) (keep a n : ℕ) → keep < 2 ^ n
+    → digits keep 0 n ≡ slice_range mask a (a + n)
+    → count (slice_range mask a (a + n)) ≡ count_ones keep
+ones-of mask keep a n clear same = ap count (sym same) ∙ count-digits_below keep n clear
+
+-- what it keeps of a word of bits
+pub kept-of : (mask values : List Bool) (keep w a n : ℕ) → keep < 2 ^ n → n ≤ 64
+    → digits keep 0 n ≡ slice_range mask a (a + n)
+    → digits w 0 n ≡ slice_range values a (a + n)
+    → kept (digits keep 0 64) (digits w 0 64)
+    ≡ kept (slice_range mask a (a + n)) (slice_range values a (a + n))
+kept-of mask values keep w a n clear few of_mask of_values =
+    kept-narrow keep w n clear few ∙ ap (λ l. kept l (digits w 0 n)) of_mask
+    ∙ ap (kept (slice_range mask a (a + n))) of_values
+
+-- a word without a one keeps nothing
+pub kept-zero : {T : Type 0} (keep n : ℕ) (xs : List T) → keep ≡ 0
+    → kept (digits keep 0 n) xs ≡ []
+kept-zero keep n xs gone =
+    let small : keep < 2 ^ 0 = omega arith in
+    ap (λ l. kept l xs) (digits_above keep 0 n small (omega arith))
+    ∙ ap (λ l. kept (l ++ replicate (n - 0) false) xs) (digits_none keep 0)
+    ∙ kept_none (n - 0) xs

@@ -1,8 +1,7 @@
 -- The values at the digits of a word, and items that are put behind others.
 use Rattle.std.proofs.Common.{◌≡◌, ℕ, ◌+◌, ◌-◌, ◌<◌, ◌≤◌, ◌^◌, inl, inr, Bool, true, false, List}
 use Rattle.std.proofs.Common.{[], ◌∷◌, ◌++◌, eqb, filter, length, map, get_or, take, drop, refl}
-use Rattle.std.proofs.Common.{sym}
-use Rattle.std.proofs.Common.{ap, subst, ◌∙◌, arith, zero-add, append_assoc, length-append}
+use Rattle.std.proofs.Common.{sym, ap, subst, ◌∙◌, arith, zero-add, append_assoc, length-append}
 use Rattle.std.proofs.Math.Pow.{pow_mono}
 use Rattle.std.proofs.lemmas.Bool.{cases_lt}
 use Rattle.std.proofs.lemmas.List.{nil_from_length, append-nil, drop-drop, take-append-drop}

@@ -3,3 +3,4 @@ mod GatherLemmas
 mod ItemsLemmas
 mod PackedDigits
 mod PendingLemmas
+mod PackedOnes

@@ -142,3 +142,11 @@ Writes_up_to b c n same behind = record {
     | inr past ↦ behind i (omega (arith, length-bits c 0 n))
   ];
 }
+
+-- the same after two writes, the second no shorter than the first
+pub Writes_up_to-more : (b c d : List ℕ) (m n : ℕ) → m ≤ n → Writes b c 0 (bits c 0 m)
+    → Writes c d 0 (bits d 0 n) → Writes b d 0 (bits d 0 n)
+Writes_up_to-more b c d m n le one two =
+    Writes_up_to b d n (two.same_len ∙ one.same_len)
+    (λ i h. two.others i (inr (omega (arith, length-bits d 0 n)))
+    ∙ one.others i (inr (omega (arith, length-bits c 0 m))))

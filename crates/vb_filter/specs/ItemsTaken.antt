@@ -38,7 +38,7 @@ module _ {T : Type 0} (zero : T) (items : List T) (indices : List ℤ)
 pub record GivesTaken {T : Type 0} (zero : T) (b : SharedBuffer T) (indices : List ℤ)
     (validity : Option (List Bool)) (result : Result (SharedBuffer T) BufferError) : Type 0 where
   pub ok : IfOk result (λ k. AreTaken zero b.list indices validity k.list
-      × ShowsMade k.list b.exponent k)
+      × ShowsMade k.list b.alignment k)
   pub refused : IfErr result (λ e. (e ≡ OutOfMemory)
       ⊎ ((position : ℕ) × (e ≡ TakeOutOfRange position)
       × IsFirstUntaken zero b.list indices validity position))

@@ -12,7 +12,7 @@ use crate::filter::Filter;
 use crate::pending::{push_digits, write_pending};
 use std::alloc::Allocator;
 use vb_bit_buffer::BitBuffer;
-use vb_bits::read_bits;
+use vb_bits::{full_word, read_bits};
 use vb_core::{BufferError, Result};
 use vb_mem::BufferMut;
 use vb_view::BitBufferView;
@@ -46,28 +46,60 @@ impl<A: Allocator + Clone> Filter for BitBuffer<A> {
 /// how many they are. The other bits of `out` stay.
 ///
 /// The mask has to be as long as the bits, and `out` to have room for those that it keeps. It goes
-/// by 64 bits: those that the mask keeps are packed, and written a word at a time.
+/// by 64 bits: those that the mask keeps are packed, and written a word at a time. Where it keeps
+/// none of 64, the bits aren't looked at.
 pub fn filter_into(out: &mut [u8], values: BitBufferView<'_>, mask: BitBufferView<'_>) -> usize
     requires same_len { length (bits_of values) ≡ length (bits_of mask) }
     requires room { count (bits_of mask) ≤ 8 * length out.old }
     ensures count { result ≡ count (bits_of mask.entry) }
     ensures kept { Writes out.old out.new 0 (kept (bits_of mask.entry) (bits_of values.entry)) }
 {
+    let total = mask.len();
+    let whole = total / 64;
     let mut pending = 0;
     let mut len = 0;
-    for t in 0..mask.len().div_ceil(64) {
-        let n = (mask.len() - 64 * t).min(64);
-        let keep = view_digits(mask, 64 * t, n);
-        let packed = pack_digits(view_digits(values, 64 * t, n), keep);
-        let added = keep.count_ones() as usize;
+    for t in 0..whole {
+        let (packed, added) = kept_digits(values, mask, 64 * t, 64);
         pending = push_digits(out, pending, len, packed, added);
         len += added;
     }
+    let (packed, added) = kept_digits(values, mask, 64 * whole, total % 64);
+    pending = push_digits(out, pending, len, packed, added);
+    len += added;
     write_pending(out, pending, len);
     len
 }
 
+/// Those of the `n` bits from place `start` on that the mask keeps, as digits of a word, and how
+/// many they are.
+#[inline(always)]
+fn kept_digits(
+    values: BitBufferView<'_>,
+    mask: BitBufferView<'_>,
+    start: usize,
+    n: usize,
+) -> (u64, usize)
+    requires few { n ≤ 64 }
+    requires inside { start + n ≤ length (bits_of mask) }
+    requires same_len { length (bits_of values) ≡ length (bits_of mask) }
+    ensures count { result.1 ≡ count (slice_range (bits_of mask.entry) start (start + n)) }
+    ensures few { result.1 ≤ 64 }
+    ensures kept { digits result.0 0 result.1 ≡ kept
+        (slice_range (bits_of mask.entry) start (start + n))
+        (slice_range (bits_of values.entry) start (start + n)) }
+    ensures clear { result.0 < 2 ^ result.1 }
+{
+    let keep = view_digits(mask, start, n);
+    if keep == 0 {
+        return (0, 0);
+    }
+    let packed = pack_digits(view_digits(values, start, n), keep);
+    (packed, keep.count_ones() as usize)
+}
+
 /// The `n` bits from place `start` on, as digits of a word.
+///
+/// Where they are 64 that is at most two loads.
 #[inline(always)]
 #[tactic(auto, using(vb_bits::proofs::WindowLemmas::windows))]
 pub(crate) fn view_digits(view: BitBufferView<'_>, start: usize, n: usize) -> u64
@@ -76,5 +108,10 @@ pub(crate) fn view_digits(view: BitBufferView<'_>, start: usize, n: usize) -> u6
     ensures digits { digits result 0 n ≡ slice_range (bits_of view.entry) start (start + n) }
     ensures clear { result < 2 ^ n }
 {
-    read_bits(view.inner(), view.offset() + start, n)
+    let at = view.offset() + start;
+    if n == 64 {
+        full_word(view.inner(), at / 8, at % 8)
+    } else {
+        read_bits(view.inner(), at, n)
+    }
 }

@@ -4,18 +4,54 @@ ghost use Rattle.vb_bits.specs.Bits.{count};
 ghost use Rattle.vb_bits.specs.Digits.{digits};
 ghost use Rattle.vb_bits.specs.Kept.{kept};
 
+use vb_bits::digit;
+
 /// The digits of `word` where `mask` has a 1, packed to the lowest ones; 0 behind them.
 ///
-/// Where the mask has no 1 that is one test; else it goes by four digits, with a table. The
-/// processor has an instruction for it from x86-64-v3 on (`pext`), which the language doesn't name.
+/// Where the mask has few ones it goes by these, else by four digits. The processor has an
+/// instruction for it from x86-64-v3 on (`pext`), which the language doesn't name.
+#[inline(always)]
 pub(crate) fn pack_digits(word: u64, mask: u64) -> u64
     ensures kept { digits result 0 (count (digits mask 0 64))
         ≡ kept (digits mask 0 64) (digits word 0 64) }
     ensures clear { result < 2 ^ count (digits mask 0 64) }
 {
-    if mask == 0 {
-        return 0;
+    if mask.count_ones() <= FEW {
+        pack_ones(word, mask)
+    } else {
+        pack_fours(word, mask)
     }
+}
+
+/// So many ones take no longer one by one than sixteen looks at a table.
+const FEW: u32 = 12;
+
+/// [`pack_digits`] by the ones of the mask.
+#[inline(always)]
+fn pack_ones(word: u64, mask: u64) -> u64
+    ensures kept { digits result 0 (count (digits mask 0 64))
+        ≡ kept (digits mask 0 64) (digits word 0 64) }
+    ensures clear { result < 2 ^ count (digits mask 0 64) }
+{
+    let mut packed = 0u64;
+    let mut n = 0u32;
+    let mut left = mask;
+    while left != 0 {
+        let place = left.trailing_zeros() as usize;
+        packed |= u64::from(digit(word, place)) << n;
+        n += 1;
+        left &= left - 1;
+    }
+    packed
+}
+
+/// [`pack_digits`] by four digits of the mask, with a table.
+#[inline(always)]
+fn pack_fours(word: u64, mask: u64) -> u64
+    ensures kept { digits result 0 (count (digits mask 0 64))
+        ≡ kept (digits mask 0 64) (digits word 0 64) }
+    ensures clear { result < 2 ^ count (digits mask 0 64) }
+{
     let mut packed = 0;
     let mut n = 0;
     for k in 0..16u32 {

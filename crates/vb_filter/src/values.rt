@@ -14,7 +14,7 @@ impl<T: Element, A: Allocator + Clone> Filter for Buffer<T, A> {
 
     ghost len = { λ b. length b.list };
 
-    ghost keeps = { λ b mask k. ShowsMade (kept mask b.list) b.exponent k };
+    ghost keeps = { λ b mask k. ShowsMade (kept mask b.list) b.alignment k };
 
     fn filtered(&self, mask: BitBufferView<'_>) -> Result<Self> {
         let items = self.as_slice();

@@ -1,6 +1,5 @@
-use Rattle.std.proofs.Common.{◌≡◌, ℕ, ◌+◌, ◌-◌, ◌*◌, ◌≤◌, ◌++◌, length, take}
-use Rattle.std.proofs.Common.{min}
-use Rattle.std.proofs.Common.{refl, sym, ap, subst, ◌∙◌, arith}
+use Rattle.std.proofs.Common.{◌≡◌, ℕ, ◌+◌, ◌-◌, ◌*◌, ◌≤◌, length, take, min, refl, sym, ap}
+use Rattle.std.proofs.Common.{subst, ◌∙◌, arith}
 use Rattle.std.specs.Prelude.{slice_range}
 use Rattle.std.proofs.lemmas.List.{take_all, length-take, length-drop}
 use Rattle.vb_bits.specs.Bits.{count}
@@ -9,8 +8,7 @@ use Rattle.vb_bits.specs.Kept.{kept}
 use Rattle.vb_bits.proofs.BitsLemmas.{count-le}
 use Rattle.vb_view.specs.View.{bits_of}
 use Rattle.vb_filter.specs.Gathered.{PutsAt}
-use Rattle.vb_filter.proofs.FilteredBits.{kept-add, same_fronts, word_end, count-word}
-use Rattle.vb_filter.proofs.FilteredBits.{count-word-le}
+use Rattle.vb_filter.proofs.FilteredBits.{same_fronts, word-kept, ones-of}
 use Rattle.vb_filter.proofs.GatherLemmas.{length-kept_any, puts-add, puts_none, puts_front}
 use Rattle.vb_filter.proofs.gather.filter_values_into.Goals as goal
 
@@ -32,9 +30,9 @@ loop-t-preserved g c =
     let same = c.requires.same_len in
     let here : n ≡ min (length mask - 64 * t) 64 =
     c.min-n.ensures ∙ ap (λ k. min (k - 64 * t) 64) c.len-in-loop-t.ensures in
-    let there : n ≡ min (length values - 64 * t) 64 =
-    here ∙ ap (λ k. min (k - 64 * t) 64) (sym same) in
+    let word = word-kept mask values t n same here in
     let of_mask = c.view_digits-keep.ensures.digits in
+    let ones = ones-of mask keep (64 * t) n c.view_digits-keep.ensures.clear of_mask in
     let many : length chunk ≡ n = simp (length-take, length-drop) (omega arith) in
     let added : kept (digits keep 0 (length chunk)) chunk
     ≡ kept (slice_range mask (64 * t) (64 * t + n)) chunk =
@@ -46,19 +44,14 @@ loop-t-preserved g c =
       length-kept_any (take (64 * t) mask) (take (64 * t) values)
           (same_fronts mask values (64 * t) same),
     ) in
-    let whole : kept (take (64 * (t + 1)) mask) (take (64 * (t + 1)) values)
-    ≡ front ++ kept (slice_range mask (64 * t) (64 * t + n)) chunk =
-    ap (λ l. kept l (take (64 * (t + 1)) values)) (word_end mask t n here)
-    ∙ ap (kept (take (64 * t + n) mask)) (word_end values t n there)
-    ∙ kept-add mask values (64 * t) n same in
     let more = subst (λ l. PutsAt (0 + length front) l mid new) added
     (subst (λ k. PutsAt k (kept (digits keep 0 (length chunk)) chunk) mid new) place
     c.put_word-len.ensures.kept) in
     record {
       number = ap (λ k. k + c.put_word-len.result) number
-          ∙ ap (λ k. count (take (64 * t) mask) + k) c.put_word-len.ensures.count
-          ∙ count-word mask keep t n here c.view_digits-keep.ensures.clear of_mask;
-      put = subst (λ l. PutsAt 0 l old new) (sym whole)
+          ∙ ap (λ k. count (take (64 * t) mask) + k) (c.put_word-len.ensures.count ∙ sym ones)
+          ∙ word.number;
+      put = subst (λ l. PutsAt 0 l old new) (sym word.front)
           (puts-add 0 front _ old mid new c.loop-t.invariant.put more);
     }
 
@@ -80,28 +73,36 @@ returns-clause-kept g c =
 
 pub put_word-len-requires-clause-room : goal.put_word-len-requires-clause-room
 put_word-len-requires-clause-room g c =
-    let here = c.min-n.ensures ∙ ap (λ k. min (k - 64 * c.loop-t.t) 64) c.len-in-loop-t.ensures in
+    let mask = bits_of c.args.mask in
+    let t = c.loop-t.t in
+    let n : ℕ = c.min-n.result in
+    let here = c.min-n.ensures ∙ ap (λ k. min (k - 64 * t) 64) c.len-in-loop-t.ensures in
+    let word = word-kept mask c.args.values.now t n c.requires.same_len here in
     omega (
       arith,
       c.loop-t.invariant.number,
-      count-word-le (bits_of c.args.mask) _ c.loop-t.t
-          c.min-n.result here c.view_digits-keep.ensures.clear c.view_digits-keep.ensures.digits,
+      ones-of mask c.view_digits-keep.result (64 * t) n c.view_digits-keep.ensures.clear
+          c.view_digits-keep.ensures.digits,
+      word.room,
       c.requires.room,
       c.loop-t.auto.out,
     )
 
 pub overflow_add-len : goal.overflow_add-len
 overflow_add-len g c =
-    let here = c.min-n.ensures ∙ ap (λ k. min (k - 64 * c.loop-t.t) 64) c.len-in-loop-t.ensures in
+    let mask = bits_of c.args.mask in
+    let t = c.loop-t.t in
+    let n : ℕ = c.min-n.result in
+    let here = c.min-n.ensures ∙ ap (λ k. min (k - 64 * t) 64) c.len-in-loop-t.ensures in
+    let word = word-kept mask c.args.values.now t n c.requires.same_len here in
     omega (
       arith,
       c.loop-t.invariant.number,
-      count-word-le (bits_of c.args.mask) _ c.loop-t.t
-          c.min-n.result here c.view_digits-keep.ensures.clear c.view_digits-keep.ensures.digits,
-      c.requires.room,
-      c.loop-t.auto.out,
+      ones-of mask c.view_digits-keep.result (64 * t) n c.view_digits-keep.ensures.clear
+          c.view_digits-keep.ensures.digits,
+      word.room,
       c.put_word-len.ensures.count,
-      count-le (bits_of c.args.mask),
+      count-le mask,
       c.len-in-loop-t.ensures,
       c.len-in-loop-t.type_inv,
     )

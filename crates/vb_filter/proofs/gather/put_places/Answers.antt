@@ -1,14 +1,12 @@
 use Rattle.std.proofs.Common.{rules, ◌≡◌, ℕ, ◌+◌, ◌-◌, ◌<◌, ◌∷◌, ◌++◌, [], length, map, get_or}
-use Rattle.std.proofs.Common.{take}
-use Rattle.std.proofs.Common.{drop, refl, append_assoc, sym, ap, ◌∙◌, arith}
+use Rattle.std.proofs.Common.{take, drop, refl, append_assoc, sym, ap, ◌∙◌, arith}
 use Rattle.std.specs.Int.{trailing_zeros, w64}
 use Rattle.std.specs.Int.Bits.{bit_and}
-use Rattle.std.proofs.lemmas.List.{take_more_set, drop-set-lt, drop-drop}
-use Rattle.std.proofs.lemmas.List.{get_or_default}
+use Rattle.std.proofs.lemmas.List.{take_more_set, drop-set-lt, drop-drop, get_or_default}
 use Rattle.std.proofs.lemmas.List.{append-nil}
 use Rattle.std.proofs.lemmas.Nat.{and_le_l}
-use Rattle.vb_filter.proofs.GatherLemmas.{ones, ones_none, ones_first, lowest_below}
-use Rattle.vb_filter.proofs.GatherLemmas.{length-ones, puts_ones}
+use Rattle.vb_filter.proofs.GatherLemmas.{ones, ones_none, ones_first, lowest_below, length-ones}
+use Rattle.vb_filter.proofs.GatherLemmas.{puts_ones}
 use Rattle.vb_filter.proofs.gather.put_places.Goals as goal
 
 pub loop-left-init : goal.loop-left-init

@@ -3,7 +3,7 @@ use Rattle.std.specs.Simd.Lanes.{mask_l}
 use Rattle.vb_bits.specs.Bits.{count}
 use Rattle.vb_bits.specs.Digits.{digits}
 use Rattle.vb_filter.proofs.PackedDigits.{kept_digits}
-use Rattle.vb_filter.proofs.digits.pack_digits.Given as goal
+use Rattle.vb_filter.proofs.digits.pack_fours.Given as goal
 
 -- the digits of the fours so far, and how many they are
 abbrev pub invariant-loop-k : goal.invariant-loop-k

@@ -1,5 +1,5 @@
 use Rattle.std.proofs.Common.{◌≡◌, ℕ, ◌+◌, ◌*◌, ◌/◌, ◌%◌, ◌^◌, ◌<◌, ◌≤◌, get_or, refl, ap}
-use Rattle.std.proofs.Common.{sym, subst, ◌∙◌, arith, ◌-◌, ◌++◌, false, replicate}
+use Rattle.std.proofs.Common.{sym, subst, ◌∙◌, arith}
 use Rattle.std.specs.Prelude.{bit_and, bit_or}
 use Rattle.std.specs.Simd.Lanes.{mask_l}
 use Rattle.std.proofs.lemmas.Nat.{and_le_r}
@@ -8,14 +8,10 @@ use Rattle.vb_bits.specs.Bits.{count}
 use Rattle.vb_bits.specs.Digits.{digits}
 use Rattle.vb_bits.proofs.BitsLemmas.{count-le}
 use Rattle.vb_bits.proofs.DigitsLemmas.{digits_masked, ones_masked, count-digits-add, length-digits}
-use Rattle.vb_bits.proofs.DigitsLemmas.{digits_none}
-use Rattle.vb_bits.specs.Kept.{kept}
-use Rattle.vb_filter.proofs.FilteredBits.{kept_none}
-use Rattle.vb_pack.proofs.WordsLemmas.{digits_above}
 use Rattle.vb_pack.proofs.MaskLemmas.{digits-mask_l}
 use Rattle.vb_filter.specs.declared.digits.TheConstants.{KEPT}
 use Rattle.vb_filter.proofs.PackedDigits.{kept_digits, length-kept_digits, in_table, packed-more}
-use Rattle.vb_filter.proofs.digits.pack_digits.Goals as goal
+use Rattle.vb_filter.proofs.digits.pack_fours.Goals as goal
 
 pub loop-k-init : goal.loop-k-init
 unfolding digits
@@ -87,24 +83,3 @@ returns c =
           (subst (λ x. mask_l (kept_digits mask word 0 64) < 2 ^ x) many
           (mask_l-lt (kept_digits mask word 0 64)));
     }
-
--- a mask without a 1
-none_true : (mask : ℕ) → mask ≡ 0 → digits mask 0 64 ≡ replicate 64 false
-none_true mask e =
-    let small : mask < 2 ^ 0 = omega arith in
-    digits_above mask 0 64 small (omega arith)
-    ∙ ap (λ l. l ++ replicate (64 - 0) false) (digits_none mask 0)
-
-pub returns-then-mask-eq0-clause-kept : goal.returns-then-mask-eq0-clause-kept
-returns-then-mask-eq0-clause-kept c =
-    let none = none_true c.args.mask c.if-mask-eq0.true in
-    let many : count (digits c.args.mask 0 64) ≡ 0 = ap count none in
-    ap (digits 0 0) many ∙ digits_none 0 0
-    ∙ sym (ap (λ l. kept l (digits c.args.word 0 64)) none
-    ∙ kept_none 64 (digits c.args.word 0 64))
-
-pub returns-then-mask-eq0-clause-clear : goal.returns-then-mask-eq0-clause-clear
-returns-then-mask-eq0-clause-clear c =
-    let many : count (digits c.args.mask 0 64) ≡ 0 =
-    ap count (none_true c.args.mask c.if-mask-eq0.true) in
-    subst (λ n. 0 < 2 ^ n) (sym many) (omega arith)

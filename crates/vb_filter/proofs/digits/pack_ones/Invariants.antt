@@ -1,0 +1,15 @@
+use Rattle.std.proofs.Common.{◌≡◌, ◌^◌, ◌<◌, ◌++◌}
+use Rattle.vb_bits.specs.Digits.{digits}
+use Rattle.vb_filter.proofs.PackedDigits.{kept_digits}
+use Rattle.vb_filter.proofs.digits.pack_ones.Given as goal
+
+-- the digits so far, and those at the ones that are left
+abbrev pub invariant-loop-left : goal.invariant-loop-left
+invariant-loop-left l = record {
+  kept : digits l.packed 0 l.n ++ kept_digits l.left l.word 0 64
+      ≡ kept_digits l.mask l.word 0 64;
+  clear : l.packed < 2 ^ l.n;
+}
+
+abbrev pub decreases-loop-left : goal.decreases-loop-left
+decreases-loop-left l = l.left
