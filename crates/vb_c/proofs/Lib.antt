@@ -1,2 +1,1 @@
-pub mod FillsLemmas
 pub mod IntoLemmas

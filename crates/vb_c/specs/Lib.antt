@@ -9,5 +9,6 @@ pub use Rattle.vb_kernel.specs.Operators
 pub use Rattle.vb_kernel.specs.Runs
 pub use Rattle.vb_kernel.specs.Writes
 pub use Rattle.vb_pack.specs.WordBits
+pub use Rattle.vb_rank.specs.Fills
 pub use Rattle.vb_rank.specs.Tables
 pub use Rattle.vb_take.specs.Takes

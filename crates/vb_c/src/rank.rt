@@ -1,16 +1,15 @@
 //! Ranks, and places of ranks, over a table of counts that the caller keeps.
 ghost use Rattle.std.specs.Prelude.{◌≡◌, ◌+◌, ◌*◌, ◌^◌, ◌<◌, ◌≤◌, ◌↔◌, IsTrue, length, take};
-ghost use Rattle.vb_c.specs.Filled.{Fills};
 ghost use Rattle.vb_bits.specs.InBytes.{InBytes};
 ghost use Rattle.vb_c.specs.Fits.{Checks};
 ghost use Rattle.vb_c.specs.Place.{answered_place};
 ghost use Rattle.vb_kernel.specs.Bits.{bits, count, negated, Selects};
+ghost use Rattle.vb_rank.specs.Fills.{Fills};
 ghost use Rattle.vb_rank.specs.Tables.{block_counts, blocks};
 
 use crate::place::Place;
 use vb_kernel::Plain;
 use vb_rank::PlainTable;
-use vb_view::BitBufferView;
 
 /// Writes, for each block of 512 bits of the `len` bits from bit `offset` on, how many true bits
 /// are before it, to the front of `table`, as many as have room there, and answers how many these
@@ -26,16 +25,7 @@ pub extern "C" fn vb_block_counts(
     requires fits { offset + len < 2 ^ 64 }
     ensures { Fills (block_counts (bits bytes.now offset len)) table.old table.new result }
 {
-    let bits = BitBufferView::new_with_offset(bytes, len, offset);
-    let written = len.div_ceil(512).min(table.len());
-    let mut before = 0;
-    for block in 0..written {
-        table[block] = before;
-        let start = 512 * block;
-        let end = start + (len - start).min(512);
-        before += bits.slice(start..end).true_count();
-    }
-    written
+    vb_rank::write_block_counts(bytes, offset, len, table)
 }
 
 /// Whether the window lies in the bytes; the table and `written` are then as [`vb_block_counts`]

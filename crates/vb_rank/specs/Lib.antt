@@ -1,5 +1,8 @@
+pub mod Fills
 pub mod Tables
+pub use Rattle.vb_bits.specs.InBytes
 pub use Rattle.vb_kernel.specs.Bits
+pub use Rattle.vb_kernel.specs.Looks
 pub use Rattle.vb_kernel.specs.Searches
 pub use Rattle.vb_kernel.specs.Writes
 pub use Rattle.vb_set.specs.OpenSet

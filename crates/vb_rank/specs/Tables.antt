@@ -11,6 +11,16 @@ pub record CountedEntries : Type 0 where
   pub entries : List ℕ
   pub probes : ℕ
 
+-- the entries are the same, and had exactly n probes more
+pub record ProbesExactly (n : ℕ) (before after : CountedEntries) : Type 0 where
+  pub same : after.entries ≡ before.entries
+  pub probes : after.probes ≡ before.probes + n
+
+-- the entries are the same, and had at most n probes more
+pub record ProbesAtMost (n : ℕ) (before after : CountedEntries) : Type 0 where
+  pub same : after.entries ≡ before.entries
+  pub probes : after.probes ≤ before.probes + n
+
 -- how many blocks of 512 bits n bits begin
 abbrev pub blocks : ℕ → ℕ
 blocks n = div_ceil n 512
@@ -18,6 +28,10 @@ blocks n = div_ceil n 512
 -- for each block, how many true values are before it
 unfoldable pub block_counts : List Bool → List ℕ
 block_counts l = map (λ j. count (take (512 * j) l)) (range_with_len 0 (blocks (length l)))
+
+-- the entries are the counts before the blocks of the list
+abbrev pub IsTableOf : CountedEntries → List Bool → Type 0
+IsTableOf t l = t.entries ≡ block_counts l
 
 -- how many binary digits a number has; 0 has none
 abbrev pub binary_digits : ℕ → ℕ

@@ -1,6 +1,6 @@
 //! The block of a rank.
 ghost use Rattle.std.specs.Prelude.{◌≡◌, ℕ, ◌+◌, ◌*◌, ◌^◌, ◌<◌, ◌≤◌, length, slice_index};
-ghost use Rattle.vb_rank.specs.Tables.{passed, BeginsBefore, Rises};
+ghost use Rattle.vb_rank.specs.Tables.{passed, BeginsBefore, Rises, ProbesExactly, ProbesAtMost};
 
 use crate::probe::Probe;
 
@@ -11,15 +11,14 @@ use crate::probe::Probe;
 /// Each probe halves the blocks that are left, by moves in place of branches: how many turns there
 /// are depends on the size of the table alone. Entry 0 is not read, since it is 0.
 pub(crate) fn find_block<T: Probe>(table: &mut T, n: usize, value: bool) -> (usize, usize)
-    requires some { 0 < length (T.entries table.old) }
-    requires fits { (j : ℕ) → j < length (T.entries table.old) → 512 * j < 2 ^ 64 }
-    ensures within { result.0 < length (T.entries table.old) }
+    requires some { 0 < length (T.seen table.old).entries }
+    requires fits { (j : ℕ) → j < length (T.seen table.old).entries → 512 * j < 2 ^ 64 }
+    ensures within { result.0 < length (T.seen table.old).entries }
     ensures low { result.1 ≤ n }
-    ensures block { Rises value (T.entries table.old)
-        → BeginsBefore value (T.entries table.old) n result.0 result.1 }
-    ensures same { T.entries table.new ≡ T.entries table.old }
-    ensures probes { (k : ℕ) → length (T.entries table.old) ≤ 2 ^ k
-        → T.probes table.new ≤ T.probes table.old + k }
+    ensures block { Rises value (T.seen table.old).entries
+        → BeginsBefore value (T.seen table.old).entries n result.0 result.1 }
+    ensures probes { (k : ℕ) → length (T.seen table.old).entries ≤ 2 ^ k
+        → ProbesAtMost k (T.seen table.old) (T.seen table.new) }
 {
     let mut low = 0;
     let mut before = 0;
@@ -38,12 +37,11 @@ pub(crate) fn find_block<T: Probe>(table: &mut T, n: usize, value: bool) -> (usi
 
 /// How many bits that are `value` are before block `j`, by one probe.
 fn bits_before<T: Probe>(table: &mut T, j: usize, value: bool) -> usize
-    requires within { j < length (T.entries table.old) }
+    requires within { j < length (T.seen table.old).entries }
     requires fits { 512 * j < 2 ^ 64 }
-    ensures value { slice_index (T.entries table.old) j ≤ 512 * j
-        → result ≡ passed value (T.entries table.old) j }
-    ensures same { T.entries table.new ≡ T.entries table.old }
-    ensures probe { T.probes table.new ≡ T.probes table.old + 1 }
+    ensures value { slice_index (T.seen table.old).entries j ≤ 512 * j
+        → result ≡ passed value (T.seen table.old).entries j }
+    ensures probe { ProbesExactly 1 (T.seen table.old) (T.seen table.new) }
 {
     let ones = table.entry(j);
     if value {

@@ -2,7 +2,9 @@
 ghost use Rattle.std.specs.Prelude.{◌≡◌, ◌+◌, ◌-◌, ◌*◌, ◌^◌, ◌<◌, ◌≤◌, length, min};
 ghost use Rattle.vb_kernel.specs.Bits.{bits, count};
 ghost use Rattle.vb_kernel.specs.Digits.{digits};
+ghost use Rattle.vb_kernel.specs.Looks.{LooksAtMost};
 
+use vb_bits::low_digits;
 use vb_kernel::{Glance, count_ones_by, full_word};
 
 /// How many of the `len` bits from bit `at` on are true, which are no more than a block.
@@ -10,12 +12,11 @@ use vb_kernel::{Glance, count_ones_by, full_word};
 /// They are counted with one chunk in hand, by no branch that depends on their number. Where the
 /// bytes end within that chunk, or the bits reach behind it, [`count_ones_by`] counts them.
 pub(crate) fn count_in_block<G: Glance>(src: &mut G, at: usize, len: usize) -> usize
-    requires inside { at + len ≤ 8 * length (G.bytes src.old) }
+    requires inside { at + len ≤ 8 * length (G.seen src.old).bytes }
     requires fits { at + len < 2 ^ 64 }
     requires block { len ≤ 512 }
-    ensures value { result ≡ count (bits (G.bytes src.old) at len) }
-    ensures same { G.bytes src.new ≡ G.bytes src.old }
-    ensures looks { G.looks src.new ≤ G.looks src.old + 16 }
+    ensures value { result ≡ count (bits (G.seen src.old).bytes at len) }
+    ensures looks { LooksAtMost 16 (G.seen src.old) (G.seen src.new) }
 {
     let (first, skip) = (at / 8, at % 8);
     if src.size() < first + 64 || 512 < skip + len {
@@ -43,11 +44,5 @@ fn word_ones(chunk: &[u8; 64], word: usize, n: usize) -> usize
     requires in_word { n ≤ 64 }
     ensures { result ≡ count (bits chunk.now (64 * word) n) }
 {
-    let digits = full_word(chunk, 8 * word, 0);
-    let front = if n == 64 {
-        digits
-    } else {
-        digits & ((1 << n) - 1)
-    };
-    front.count_ones() as usize
+    low_digits(full_word(chunk, 8 * word, 0), n).count_ones() as usize
 }

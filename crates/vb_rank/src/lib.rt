@@ -20,4 +20,4 @@ pub use probe::{PlainTable, Probe, TallyTable};
 pub use rank::rank_by;
 pub use ranked::Ranked;
 pub use select::{select_by, select_unset_by};
-pub use table::table_of;
+pub use table::{table_of, write_block_counts};

@@ -1,7 +1,8 @@
 //! The rank of a place, over a table.
 ghost use Rattle.std.specs.Prelude.{◌≡◌, ◌+◌, ◌*◌, ◌^◌, ◌<◌, ◌≤◌, length, take};
 ghost use Rattle.vb_kernel.specs.Bits.{bits, count};
-ghost use Rattle.vb_rank.specs.Tables.{block_counts, blocks};
+ghost use Rattle.vb_kernel.specs.Looks.{LooksAtMost};
+ghost use Rattle.vb_rank.specs.Tables.{blocks, ProbesAtMost, IsTableOf};
 
 use crate::count::count_in_block;
 use crate::probe::Probe;
@@ -20,16 +21,14 @@ pub fn rank_by<G: Glance, T: Probe>(
     table: &mut T,
     i: usize,
 ) -> usize
-    requires inside { offset + len ≤ 8 * length (G.bytes src.old) }
+    requires inside { offset + len ≤ 8 * length (G.seen src.old).bytes }
     requires fits { offset + len < 2 ^ 64 }
-    requires size { length (T.entries table.old) ≡ blocks len }
+    requires size { length (T.seen table.old).entries ≡ blocks len }
     requires within { i ≤ len }
-    ensures value { T.entries table.old ≡ block_counts (bits (G.bytes src.old) offset len)
-        → result ≡ count (take i (bits (G.bytes src.old) offset len)) }
-    ensures same { G.bytes src.new ≡ G.bytes src.old }
-    ensures same_table { T.entries table.new ≡ T.entries table.old }
-    ensures looks { G.looks src.new ≤ G.looks src.old + 16 }
-    ensures probes { T.probes table.new ≤ T.probes table.old + 1 }
+    ensures value { IsTableOf (T.seen table.old) (bits (G.seen src.old).bytes offset len)
+        → result ≡ count (take i (bits (G.seen src.old).bytes offset len)) }
+    ensures looks { LooksAtMost 16 (G.seen src.old) (G.seen src.new) }
+    ensures probes { ProbesAtMost 1 (T.seen table.old) (T.seen table.new) }
 {
     if i == 0 {
         return 0;

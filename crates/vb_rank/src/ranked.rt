@@ -130,7 +130,7 @@ impl<A: Allocator + Clone> Ranked<A> {
     /// the set it takes no memory and succeeds, unless the length is a multiple of 512: then the
     /// table needs an entry more.
     pub fn append(&mut self, v: bool) -> Result<(), BufferError>
-        ensures ok { OnOk result (AddsBits 1 (v ∷ []) self.old self.new) }
+        ensures ok { OnOk result (AddsBits (v ∷ []) self.old self.new) }
         ensures grows { Grows self.old self.new }
         ensures in_room { 0 < length self.old.bits % 512
             → length self.old.bits + 1 ≤ self.old.room → IsOk result }

@@ -1,20 +1,21 @@
 //! The place of a bit by its rank, over a table.
 ghost use Rattle.std.specs.Prelude.{◌≡◌, ◌+◌, ◌*◌, ◌^◌, ◌<◌, ◌≤◌, length};
 ghost use Rattle.vb_kernel.specs.Bits.{bits, negated, Selects, AnswersEach};
+ghost use Rattle.vb_kernel.specs.Looks.{LooksAtMost};
 ghost use Rattle.vb_kernel.specs.Searches.{matching};
-ghost use Rattle.vb_rank.specs.Tables.{block_counts, blocks, binary_digits};
+ghost use Rattle.vb_rank.specs.Tables.{blocks, binary_digits, ProbesAtMost, IsTableOf};
 
 use crate::block::find_block;
 use crate::probe::Probe;
 use vb_kernel::{Glance, bit_select_by, bit_select_unset_by};
 
 /// The place, relative to the window, of its `n`-th true bit, counted from 0; `None` where the
-/// window has at most `n`. It takes at most 16 looks, and at most as many probes of the table as
-/// the number of its entries and one has binary digits.
+/// window has at most `n`. It takes at most 16 looks, and for a table of `m` entries at most as
+/// many probes of it as `m + 1` has binary digits.
 ///
 /// The window has to lie in the bytes, its end has to be a `usize`, and the table has to have an
-/// entry for each of its blocks. Where its entries aren't those that [`table_of`](crate::table_of)
-/// makes, the place says nothing.
+/// entry for each of its blocks of 512 bits. Where its entries aren't those that
+/// [`table_of`](crate::table_of) makes, the place says nothing.
 pub fn select_by<G: Glance, T: Probe>(
     src: &mut G,
     offset: usize,
@@ -22,17 +23,16 @@ pub fn select_by<G: Glance, T: Probe>(
     table: &mut T,
     n: usize,
 ) -> Option<usize>
-    requires inside { offset + len ≤ 8 * length (G.bytes src.old) }
+    requires inside { offset + len ≤ 8 * length (G.seen src.old).bytes }
     requires fits { offset + len < 2 ^ 64 }
-    requires size { length (T.entries table.old) ≡ blocks len }
-    ensures place { T.entries table.old ≡ block_counts (bits (G.bytes src.old) offset len)
-        → Selects (bits (G.bytes src.old) offset len) n result }
-    ensures each { T.entries table.old ≡ block_counts (bits (G.bytes src.old) offset len)
-        → AnswersEach (bits (G.bytes src.old) offset len) n result }
-    ensures same { G.bytes src.new ≡ G.bytes src.old }
-    ensures same_table { T.entries table.new ≡ T.entries table.old }
-    ensures looks { G.looks src.new ≤ G.looks src.old + 16 }
-    ensures probes { T.probes table.new ≤ T.probes table.old + binary_digits (blocks len + 1) }
+    requires size { length (T.seen table.old).entries ≡ blocks len }
+    ensures place { IsTableOf (T.seen table.old) (bits (G.seen src.old).bytes offset len)
+        → Selects (bits (G.seen src.old).bytes offset len) n result }
+    ensures each { IsTableOf (T.seen table.old) (bits (G.seen src.old).bytes offset len)
+        → AnswersEach (bits (G.seen src.old).bytes offset len) n result }
+    ensures looks { LooksAtMost 16 (G.seen src.old) (G.seen src.new) }
+    ensures probes { ProbesAtMost (binary_digits (blocks len + 1))
+        (T.seen table.old) (T.seen table.new) }
 {
     select_value_by(src, offset, len, table, n, true)
 }
@@ -47,17 +47,16 @@ pub fn select_unset_by<G: Glance, T: Probe>(
     table: &mut T,
     n: usize,
 ) -> Option<usize>
-    requires inside { offset + len ≤ 8 * length (G.bytes src.old) }
+    requires inside { offset + len ≤ 8 * length (G.seen src.old).bytes }
     requires fits { offset + len < 2 ^ 64 }
-    requires size { length (T.entries table.old) ≡ blocks len }
-    ensures place { T.entries table.old ≡ block_counts (bits (G.bytes src.old) offset len)
-        → Selects (negated (bits (G.bytes src.old) offset len)) n result }
-    ensures each { T.entries table.old ≡ block_counts (bits (G.bytes src.old) offset len)
-        → AnswersEach (negated (bits (G.bytes src.old) offset len)) n result }
-    ensures same { G.bytes src.new ≡ G.bytes src.old }
-    ensures same_table { T.entries table.new ≡ T.entries table.old }
-    ensures looks { G.looks src.new ≤ G.looks src.old + 16 }
-    ensures probes { T.probes table.new ≤ T.probes table.old + binary_digits (blocks len + 1) }
+    requires size { length (T.seen table.old).entries ≡ blocks len }
+    ensures place { IsTableOf (T.seen table.old) (bits (G.seen src.old).bytes offset len)
+        → Selects (negated (bits (G.seen src.old).bytes offset len)) n result }
+    ensures each { IsTableOf (T.seen table.old) (bits (G.seen src.old).bytes offset len)
+        → AnswersEach (negated (bits (G.seen src.old).bytes offset len)) n result }
+    ensures looks { LooksAtMost 16 (G.seen src.old) (G.seen src.new) }
+    ensures probes { ProbesAtMost (binary_digits (blocks len + 1))
+        (T.seen table.old) (T.seen table.new) }
 {
     select_value_by(src, offset, len, table, n, false)
 }
@@ -72,15 +71,14 @@ fn select_value_by<G: Glance, T: Probe>(
     n: usize,
     value: bool,
 ) -> Option<usize>
-    requires inside { offset + len ≤ 8 * length (G.bytes src.old) }
+    requires inside { offset + len ≤ 8 * length (G.seen src.old).bytes }
     requires fits { offset + len < 2 ^ 64 }
-    requires size { length (T.entries table.old) ≡ blocks len }
-    ensures place { T.entries table.old ≡ block_counts (bits (G.bytes src.old) offset len)
-        → Selects (matching value (bits (G.bytes src.old) offset len)) n result }
-    ensures same { G.bytes src.new ≡ G.bytes src.old }
-    ensures same_table { T.entries table.new ≡ T.entries table.old }
-    ensures looks { G.looks src.new ≤ G.looks src.old + 16 }
-    ensures probes { T.probes table.new ≤ T.probes table.old + binary_digits (blocks len + 1) }
+    requires size { length (T.seen table.old).entries ≡ blocks len }
+    ensures place { IsTableOf (T.seen table.old) (bits (G.seen src.old).bytes offset len)
+        → Selects (matching value (bits (G.seen src.old).bytes offset len)) n result }
+    ensures looks { LooksAtMost 16 (G.seen src.old) (G.seen src.new) }
+    ensures probes { ProbesAtMost (binary_digits (blocks len + 1))
+        (T.seen table.old) (T.seen table.new) }
 {
     if len == 0 {
         return None;
@@ -100,12 +98,11 @@ fn select_in_block<G: Glance>(
     n: usize,
     value: bool,
 ) -> Option<usize>
-    requires inside { offset + len ≤ 8 * length (G.bytes src.old) }
+    requires inside { offset + len ≤ 8 * length (G.seen src.old).bytes }
     requires fits { offset + len < 2 ^ 64 }
     requires block { len ≤ 512 }
-    ensures place { Selects (matching value (bits (G.bytes src.old) offset len)) n result }
-    ensures same { G.bytes src.new ≡ G.bytes src.old }
-    ensures looks { G.looks src.new ≤ G.looks src.old + 16 }
+    ensures place { Selects (matching value (bits (G.seen src.old).bytes offset len)) n result }
+    ensures looks { LooksAtMost 16 (G.seen src.old) (G.seen src.new) }
 {
     if value {
         bit_select_by(src, offset, len, n)

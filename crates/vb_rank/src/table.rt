@@ -1,10 +1,14 @@
 //! The table of a list of bits: made, and moved by an edit.
 ghost use Rattle.std.specs.Prelude.{◌≡◌, ℕ, ◌+◌, ◌^◌, ◌<◌, ◌≤◌, true, false};
 ghost use Rattle.std.specs.Prelude.{length, slice_index, IfOk, IsOkUnless};
+ghost use Rattle.vb_bits.specs.InBytes.{InBytes};
+ghost use Rattle.vb_kernel.specs.Bits.{bits};
+ghost use Rattle.vb_rank.specs.Fills.{Fills};
 ghost use Rattle.vb_rank.specs.Tables.{block_counts, blocks, moved};
 ghost use Rattle.vb_set.specs.View.{bits_of};
 
 use std::alloc::Allocator;
+use vb_kernel::count_ones;
 use vb_set::{BitBufferView, BufferError};
 
 /// For each block of 512 bits, how many true bits are before it.
@@ -19,16 +23,36 @@ pub fn table_of<A: Allocator>(
     ensures size { IfOk result (λ t. length t.items ≡ blocks (length (bits_of bits.entry))) }
     ensures refused { IsOkUnless result BufferError.OutOfMemory }
 {
-    let blocks = bits.len().div_ceil(512);
-    let mut table = Vec::with_capacity(alloc, blocks)?;
-    let mut before = 0;
-    for block in 0..blocks {
-        table.push_reserved(before);
-        let start = 512 * block;
-        let end = start + (bits.len() - start).min(512);
-        before += bits.slice(start..end).true_count();
-    }
+    let mut table = Vec::from_elem(alloc, 0, bits.len().div_ceil(512))?;
+    write_block_counts(
+        bits.inner(),
+        bits.offset(),
+        bits.len(),
+        table.as_mut_slice(),
+    );
     Ok(table)
+}
+
+/// Writes, for each block of 512 bits of the `len` bits from bit `offset` on, how many true bits
+/// are before it, to the front of `table`, as many as have room there, and answers how many these
+/// are.
+///
+/// The window has to lie in the bytes, and its end has to be a `usize`. It counts the bits of the
+/// blocks once, and takes no memory.
+pub fn write_block_counts(bytes: &[u8], offset: usize, len: usize, table: &mut [usize]) -> usize
+    requires window { InBytes bytes.now offset len }
+    ensures fills { Fills (block_counts (bits bytes.now offset len)) table.old table.new result }
+    ensures whole { length table.old ≡ blocks len
+        → table.new ≡ block_counts (bits bytes.now offset len) }
+{
+    let written = len.div_ceil(512).min(table.len());
+    let mut before = 0;
+    for block in 0..written {
+        table[block] = before;
+        let start = 512 * block;
+        before += count_ones(bytes, offset + start, (len - start).min(512));
+    }
+    written
 }
 
 /// Moves the entries from `from` on up by one, or down.

@@ -1,18 +1,23 @@
 use Rattle.std.proofs.Common.{◌<◌, ◌++◌, ◌∷◌, [], length, sym, ap, ◌∙◌, arith}
 use Rattle.std.proofs.lemmas.List.{append_assoc, length-append, length-set}
-use Rattle.vb_c.proofs.FillsLemmas.{set_next}
+use Rattle.vb_rank.proofs.FillsLemmas.{set_next}
 use Rattle.vb_c.proofs.walk.vb_set_indices.Goals as goal
 
 pub loop-place-preserved : goal.loop-place-preserved
 loop-place-preserved c =
-    let inv = c.loop-place.invariant in let n = c.loop-place.written in let front = c.loop-place.yielded in
-    let more : n < length c.args.out.now = omega (arith, inv.room, inv.len, c.if-written-out.false) in
+    let inv = c.loop-place.invariant in
+    let n = c.loop-place.written in
+    let front = c.loop-place.yielded in
+    let more : n < length c.args.out.now =
+    omega (arith, inv.room, inv.len, c.if-written-out.false) in
     record {
       can_next = tt;
       is_finite = tt;
-      whole = append_assoc front (c.in-Some.place ∷ []) c.next.new.self ∙ ap (λ l. front ++ l) (sym c.in-Some.ensures.steps) ∙ inv.whole;
+      whole = append_assoc front (c.in-Some.place ∷ []) c.next.new.self
+          ∙ ap (λ l. front ++ l) (sym c.in-Some.ensures.steps) ∙ inv.whole;
       count = omega (arith, inv.count, length-append front (c.in-Some.place ∷ []));
       room = omega (arith, more);
       len = length-set c.loop-place.out n _ ∙ inv.len;
-      items = set_next front c.args.out.now c.loop-place.out c.in-Some.place n inv.count more inv.items;
+      items =
+          set_next front c.args.out.now c.loop-place.out c.in-Some.place n inv.count more inv.items;
     }

@@ -6,15 +6,19 @@ use Rattle.vb_rank.proofs.block.find_block.Given as goal
 abbrev pub invariant-loop-left : goal.invariant-loop-left
 invariant-loop-left g l = record {
   some : 0 < l.left;
-  within : l.low + l.left ≤ length (g.T.Probe.entries l.initial.table);
+  within : l.low + l.left ≤ length (g.T.Probe.seen l.initial.table).entries;
   below : l.before ≤ l.n;
-  before : Rises l.value (g.T.Probe.entries l.initial.table) → l.before ≡ passed l.value (g.T.Probe.entries l.initial.table) l.low;
-  above : Rises l.value (g.T.Probe.entries l.initial.table) → l.low + l.left < length (g.T.Probe.entries l.initial.table) → l.n < passed l.value (g.T.Probe.entries l.initial.table) (l.low + l.left);
-  same : g.T.Probe.entries l.table ≡ g.T.Probe.entries l.initial.table;
+  before : Rises l.value (g.T.Probe.seen l.initial.table).entries
+      → l.before ≡ passed l.value (g.T.Probe.seen l.initial.table).entries l.low;
+  above : Rises l.value (g.T.Probe.seen l.initial.table).entries
+      → l.low + l.left < length (g.T.Probe.seen l.initial.table).entries
+      → l.n < passed l.value (g.T.Probe.seen l.initial.table).entries (l.low + l.left);
+  same : (g.T.Probe.seen l.table).entries ≡ (g.T.Probe.seen l.initial.table).entries;
   -- where k halvings bring the table to one entry, those that are left bring the range to one
-  halves : (k : ℕ) → length (g.T.Probe.entries l.initial.table) ≤ 2 ^ k
-      → (g.T.Probe.probes l.table ≤ g.T.Probe.probes l.initial.table + k)
-      × (l.left ≤ 2 ^ (g.T.Probe.probes l.initial.table + k - g.T.Probe.probes l.table));
+  halves : (k : ℕ) → length (g.T.Probe.seen l.initial.table).entries ≤ 2 ^ k
+      → ((g.T.Probe.seen l.table).probes ≤ (g.T.Probe.seen l.initial.table).probes + k)
+      × (l.left ≤ 2
+      ^ ((g.T.Probe.seen l.initial.table).probes + k - (g.T.Probe.seen l.table).probes));
 }
 
 abbrev pub decreases-loop-left : goal.decreases-loop-left

@@ -1,16 +1,19 @@
-use Rattle.std.proofs.Common.{◌≡◌, ℕ, zero, suc, List, ◌*◌, ◌+◌, ◌<◌, min, ap, sym, ◌∙◌, arith, zero-add}
+use Rattle.std.proofs.Common.{◌≡◌, ℕ, zero, suc, List, ◌*◌, ◌+◌, ◌<◌, min, ap, sym, ◌∙◌, arith}
+use Rattle.std.proofs.Common.{zero-add}
 use Rattle.vb_kernel.specs.Bits.{bits, count}
 use Rattle.vb_kernel.proofs.BitsLemmas.{count-bits_none, count-bits-add, count-bits-le}
 use Rattle.vb_rank.proofs.count.front_ones.Goals as goal
 
 -- a front with the part that comes after it, which may be none
-front-more : (b : List ℕ) (m d z p : ℕ) → z ≡ m + d → (0 < d → p ≡ m) → count (bits b 0 z) ≡ count (bits b 0 m) + count (bits b p d)
+front-more : (b : List ℕ) (m d z p : ℕ)
+    → z ≡ m + d → (0 < d → p ≡ m) → count (bits b 0 z) ≡ count (bits b 0 m) + count (bits b p d)
 front-more b m zero z p e here =
     let same : z ≡ m = omega (arith, e) in
     omega (arith, ap (λ x. count (bits b 0 x)) same, count-bits_none b p)
 front-more b m (suc d) z p e here =
     let after : p ≡ 0 + m = here (omega arith) ∙ sym (zero-add m) in
-    ap (λ x. count (bits b 0 x)) e ∙ count-bits-add b 0 m (suc d) ∙ sym (ap (λ x. count (bits b 0 m) + count (bits b x (suc d))) after)
+    ap (λ x. count (bits b 0 x)) e ∙ count-bits-add b 0 m (suc d)
+    ∙ sym (ap (λ x. count (bits b 0 m) + count (bits b x (suc d))) after)
 
 pub loop-word-init : goal.loop-word-init
 loop-word-init c =
@@ -20,10 +23,21 @@ loop-word-init c =
 pub overflow_add-ones : goal.overflow_add-ones
 overflow_add-ones c =
     let b : List ℕ = c.args.chunk.now in
-    record { fits = omega (arith, c.loop-word.invariant, count-bits-le b 0 (min c.args.n (64 * c.loop-word.word)), c.word_ones-ones.ensures, count-bits-le b (64 * c.loop-word.word) c.min.result, c.min.ensures) }
+    record {
+      fits = omega (
+        arith,
+        c.loop-word.invariant,
+        count-bits-le b 0 (min c.args.n (64 * c.loop-word.word)),
+        c.word_ones-ones.ensures,
+        count-bits-le b (64 * c.loop-word.word) c.min.result,
+        c.min.ensures,
+      );
+    }
 
 pub loop-word-preserved : goal.loop-word-preserved
 loop-word-preserved c =
     let b : List ℕ = c.args.chunk.now in let k : ℕ = c.loop-word.word in let n : ℕ = c.args.n in
-    let more = front-more b (min n (64 * k)) c.min.result (min n (64 * (k + 1))) (64 * k) (omega (arith, c.min.ensures, c.saturating_sub.ensures)) (λ some. omega (arith, some, c.min.ensures, c.saturating_sub.ensures)) in
+    let more = front-more b (min n (64 * k)) c.min.result
+    (min n (64 * (k + 1))) (64 * k) (omega (arith, c.min.ensures, c.saturating_sub.ensures))
+    (λ some. omega (arith, some, c.min.ensures, c.saturating_sub.ensures)) in
     omega (arith, more, c.loop-word.invariant, c.word_ones-ones.ensures)

@@ -3,4 +3,6 @@ use Rattle.vb_kernel.proofs.BitsLemmas.{Selects-AnswersEach}
 use Rattle.vb_rank.proofs.select.select_by.Goals as goal
 
 pub returns-clause-each : goal.returns-clause-each
-returns-clause-each g c = λ e. Selects-AnswersEach (bits (g.G.Glance.bytes c.args.src.now) c.args.offset c.args.len) c.args.n c.select_value_by.result (c.select_value_by.ensures.place e)
+returns-clause-each g c =
+    λ e. Selects-AnswersEach (bits (g.G.Glance.seen c.args.src.now).bytes c.args.offset c.args.len)
+    c.args.n c.select_value_by.result (c.select_value_by.ensures.place e)
