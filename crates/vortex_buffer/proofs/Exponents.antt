@@ -1,5 +1,6 @@
 -- Exponents of alignments that are part of a type.
-use Rattle.std.proofs.Common.{◌≡◌, ℕ, ◌-◌, ◌%◌, ◌^◌, ◌≤◌, List, [], ◌∷◌, IsTrue, inl, inr, refl, sym, ap, subst, ◌∙◌, arith}
+use Rattle.std.proofs.Common.{◌≡◌, ℕ, ◌-◌, ◌%◌, ◌^◌, ◌≤◌, List, [], ◌∷◌, IsTrue, inl, inr, refl}
+use Rattle.std.proofs.Common.{sym, ap, subst, ◌∙◌, arith}
 use Rattle.std.specs.Prelude.{◌⊎◌}
 use Rattle.std.proofs.Math.Nat.{zero-mod}
 use Rattle.std.proofs.Math.Pow.{pow-lt}
@@ -15,7 +16,11 @@ use Rattle.vortex_buffer.specs.Fixed.{OfBytes}
 pub lesser : {T : Type 0} (b : SharedBuffer T) (j k : ℕ) → k ≤ j → IsAlignedTo b j → IsAlignedTo b k
 lesser b j k le (inl none) = inl none
 lesser b j k le (inr at) =
-    inr (sym (mod-mod-lesser b.place j k le) ∙ ap (λ m. m % 2 ^ k) at.0 ∙ zero-mod (2 ^ k), omega (arith, at.1))
+    inr (
+      sym (mod-mod-lesser b.place j k le) ∙ ap (λ m. m % 2 ^ k) at.0
+          ∙ zero-mod (2 ^ k),
+      omega (arith, at.1),
+    )
 
 -- a number of bytes has one exponent
 one_exponent : (j k n : ℕ) → 2 ^ j ≡ n → 2 ^ k ≡ n → j ≡ k
@@ -29,7 +34,9 @@ of_bytes P k n p here = λ j q. subst P (one_exponent k j n p q) here
 pub least_of_bytes : (align least k n : ℕ) → align ≡ 2 ^ least → align ≤ n → 2 ^ k ≡ n → least ≤ k
 least_of_bytes align least k n p le q = grind (arith, pow-lt)
 
-of_place : {T : Type 0} (items : List T) (place declared k : ℕ) → ((items ≡ []) ⊎ IsPlaceAligned place declared k) ⊎ ¬ ((items ≡ []) ⊎ IsPlaceAligned place declared k)
+of_place : {T : Type 0} (items : List T) (place declared k : ℕ)
+    → ((items ≡ []) ⊎ IsPlaceAligned place declared k)
+    ⊎ ¬ ((items ≡ []) ⊎ IsPlaceAligned place declared k)
 of_place [] place declared k = inl (inl refl)
 of_place (x ∷ xs) place declared k =
     elim (cases_eq (place % 2 ^ k) 0) [
@@ -41,10 +48,12 @@ of_place (x ∷ xs) place declared k =
     ]
 
 -- a buffer is aligned to an alignment or isn't
-pub aligned_or_not : {T : Type 0} (b : SharedBuffer T) (k : ℕ) → IsAlignedTo b k ⊎ ¬ (IsAlignedTo b k)
-aligned_or_not b k = of_place b.list b.place b.declared_exponent k
+pub aligned_or_not : {T : Type 0} (b : SharedBuffer T) (k : ℕ)
+    → IsAlignedTo b k ⊎ ¬ (IsAlignedTo b k)
+aligned_or_not b k = of_place b.list b.place b.declared k
 
 -- a power of two has one digit
 pub is_power : (n : ℕ) → IsPower n → IsTrue (is_power_of_two n)
 is_power n (inl one) = one
-is_power n (inr halved) = subst (λ m. IsTrue (is_power_of_two m)) halved (is_power_of_two-pow (halvings 64 n))
+is_power n (inr halved) =
+    subst (λ m. IsTrue (is_power_of_two m)) halved (is_power_of_two-pow (halvings 64 n))

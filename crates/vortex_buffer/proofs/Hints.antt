@@ -1,4 +1,5 @@
--- Lemmas of the crates below that the hint of a function, `using(vortex_buffer::proofs::Hints::..)`,
+-- Lemmas of the crates below that the hint of a function,
+-- `using(vortex_buffer::proofs::Hints::..)`,
 -- can name: it looks into files of one crate, and not into what that crate hands on.
 pub use Rattle.vb_bits.proofs.BitsLemmas.{length-bits, at-bits, bits-add, count-append, count-le}
 pub use Rattle.vb_bits.proofs.BitsLemmas.{count-negated}

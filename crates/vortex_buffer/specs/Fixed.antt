@@ -8,7 +8,7 @@ OfBytes n P = (exponent : ℕ) → 2 ^ exponent ≡ n → P exponent
 
 -- the buffer is aligned to n bytes, and reports them or more
 abbrev pub HasAlignment : {T : Type 0} → ℕ → SharedBuffer T → Type 0
-HasAlignment n b = OfBytes n (λ exponent. (exponent ≤ b.exponent) × IsAlignedTo b exponent)
+HasAlignment n b = OfBytes n (λ exponent. (exponent ≤ b.alignment) × IsAlignedTo b exponent)
 
 -- the buffer has these items in storage made for them, and reports n bytes
 abbrev pub ShowsFixed : {T : Type 0} → List T → ℕ → SharedBuffer T → Type 0

@@ -1,7 +1,9 @@
 pub mod Fixed
+pub mod Steps
 pub mod Text
 pub use Rattle.vb_bit_buffer.specs.Gives
 pub use Rattle.vb_bit_buffer.specs.Stops
+pub use Rattle.vb_bit_bytes.specs.AskedOf
 pub use Rattle.vb_bit_bytes.specs.Given
 pub use Rattle.vb_bits.specs.Kept
 pub use Rattle.vb_bytes.specs.ByteForm

@@ -5,6 +5,7 @@ ghost use Rattle.vb_core.specs.Alignments.{IsPower};
 ghost use Rattle.vb_mem.specs.Answers.{Makes};
 ghost use Rattle.vb_mem.specs.SharedBuffer.{ShowsMade, ShowsPart};
 ghost use Rattle.vortex_buffer.specs.Fixed.{ShowsFixed};
+ghost use Rattle.vortex_buffer.specs.Steps.{AreSteps, rest_of, list_steps, buffer_steps};
 
 use crate::const_buffer::{ConstBuffer, ConstByteBuffer};
 use std::alloc::Allocator;
@@ -22,6 +23,9 @@ pub trait AlignedBuf {
     // Whether the second value is what passing over as many bytes makes of the first.
     ghost is_past: { Self → ℕ → Self → Type 0 };
 
+    // No bytes can be passed over, and parts one after the other are one step of their sum.
+    ghost steps: { AreSteps is_step is_past };
+
     /// The number of bytes that are left.
     fn remaining(&self) -> usize
         ensures { result ≡ length (unread self.now) };
@@ -38,7 +42,7 @@ pub trait AlignedBuf {
     /// Passes over `n` bytes, for which [`AlignedBuf::can_advance`] holds. It takes no memory. A
     /// [`ByteBuffer`] keeps its alignment and its storage.
     fn advance(&mut self, n: usize)
-        requires in_bounds { n ≤ length (unread self.old) }
+        requires within { n ≤ length (unread self.old) }
         requires is_step { is_step self.old n }
         ensures rest { unread self.new ≡ drop n (unread self.old) }
         ensures keeps { (m : ℕ) → is_step self.old m → is_step self.new m }
@@ -54,7 +58,7 @@ pub trait AlignedBuf {
         len: usize,
         alignment: Alignment,
     ) -> Result<ByteBuffer<A>>
-        requires in_bounds { len ≤ length (unread self.old) }
+        requires within { len ≤ length (unread self.old) }
         requires is_step { is_step self.old len }
         ensures copy { Makes (ShowsMade (take len (unread self.old)) alignment) result }
         ensures rest { OnOk result (unread self.new ≡ drop len (unread self.old)) }
@@ -74,6 +78,8 @@ impl AlignedBuf for &[u8] {
     ghost is_step = { λ _ _. Unit {0} };
 
     ghost is_past = { λ bytes n rest. rest.now ≡ drop n bytes.now };
+
+    ghost steps = { list_steps (λ bytes. bytes.now) };
 
     fn remaining(&self) -> usize {
         self.len()
@@ -96,10 +102,12 @@ impl AlignedBuf for &[u8] {
 impl<A: Allocator> AlignedBuf for Buffer<u8, A> {
     ghost unread = { λ bytes. bytes.list };
 
-    ghost is_step = { λ bytes n. n % 2 ^ bytes.exponent ≡ 0 };
+    ghost is_step = { λ bytes n. n % 2 ^ bytes.alignment ≡ 0 };
 
     ghost is_past = { λ bytes n rest.
-        ShowsPart 1 bytes n (length bytes.list) bytes.exponent rest };
+        ShowsPart 1 bytes (rest_of bytes n) bytes.alignment rest };
+
+    ghost steps = { buffer_steps };
 
     fn remaining(&self) -> usize {
         self.len()
@@ -127,7 +135,7 @@ pub fn copy_to_const_aligned<const N: usize, B: AlignedBuf, A: Allocator + Clone
     len: usize,
 ) -> Result<ConstByteBuffer<N, A>>
     requires power { IsPower N }
-    requires in_bounds { len ≤ length (B.unread buf.old) }
+    requires within { len ≤ length (B.unread buf.old) }
     requires is_step { B.is_step buf.old len }
     ensures copy { Makes (ShowsFixed (take len (B.unread buf.old)) N) result }
     ensures rest { OnOk result (B.unread buf.new ≡ drop len (B.unread buf.old)) }

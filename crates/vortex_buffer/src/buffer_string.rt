@@ -42,15 +42,15 @@ impl<A: Allocator> BufferString<A> {
     /// No text, of alignment 1. It takes no memory.
     pub fn empty(alloc: A) -> Self
         ensures list { result.list ≡ [] }
-        ensures alignment { result.exponent ≡ 0 }
+        ensures alignment { result.alignment ≡ 0 }
     {
         BufferString {
             bytes: Buffer::empty(alloc),
         }
     }
 
-    /// The text of bytes, in their storage. It takes no memory. Refused with `NotUtf8` exactly where they aren't
-    /// UTF-8; the buffer is gone then.
+    /// The text of bytes, in their storage. It takes no memory. Refused with `NotUtf8` exactly
+    /// where they aren't UTF-8; the buffer is gone then.
     pub fn try_from_buffer(bytes: ByteBuffer<A>) -> Result<Self>
         ensures ok { IfOk result (λ text. (text ≡ bytes) × IsUtf8 bytes.list) }
         ensures err { IfErr result (IsNoText bytes.list) }

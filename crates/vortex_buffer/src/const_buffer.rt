@@ -50,8 +50,8 @@ impl<T: Element, const N: usize, A: Allocator> ConstBuffer<T, N, A> {
     #[tactic(auto, using(crate::proofs::Exponents::is_power))]
     pub fn try_from_buffer(buffer: Buffer<T, A>) -> Result<Self>
         ensures ok { IfOk result (λ fixed. fixed ≡ buffer) }
-        ensures aligned { IsPower N → 2 ^ buffer.exponent % N ≡ 0 → result ≡ Ok buffer }
-        ensures not_aligned { IsPower N → 2 ^ buffer.exponent % N ≢ 0 →
+        ensures aligned { IsPower N → 2 ^ buffer.alignment % N ≡ 0 → result ≡ Ok buffer }
+        ensures not_aligned { IsPower N → 2 ^ buffer.alignment % N ≢ 0 →
             IsErrOf result BufferError.NotAligned }
         ensures no_power { ¬ (IsPower N) → IsErrOf result (BufferError.NotPowerOfTwo N) }
     {
@@ -66,7 +66,7 @@ impl<T: Element, const N: usize, A: Allocator> ConstBuffer<T, N, A> {
 
     // The buffer, which reports `N` bytes or more.
     pub(crate) fn of(buffer: Buffer<T, A>) -> Self
-        requires { OfBytes N (λ exponent. exponent ≤ buffer.exponent) }
+        requires { OfBytes N (λ exponent. exponent ≤ buffer.alignment) }
         ensures { result ≡ buffer }
     {
         // Its contract tells the proof that the buffer has the alignment that it reports.
@@ -118,9 +118,9 @@ impl<T: Element, const N: usize, A: Allocator + Clone> ConstBuffer<T, N, A> {
         requires power { IsPower N }
         requires at_least { T.ALIGN ≤ N }
         ensures ok { IfOk result (λ fixed. (fixed.list ≡ buffer.list)
-            × OfBytes N (λ exponent. fixed.exponent ≡ exponent)) }
+            × OfBytes N (λ exponent. fixed.alignment ≡ exponent)) }
         ensures in_place { OfBytes N (λ exponent. IsAlignedTo buffer exponent →
-            IsOkAnd result (Shows buffer.list exponent buffer.place buffer.declared_exponent)) }
+            IsOkAnd result (Shows buffer.list exponent buffer.place buffer.declared)) }
         ensures copied { OfBytes N (λ exponent. ¬ (IsAlignedTo buffer exponent) →
             IfOk result (ShowsMade buffer.list exponent)) }
         ensures refused { IsOkUnless result BufferError.OutOfMemory }

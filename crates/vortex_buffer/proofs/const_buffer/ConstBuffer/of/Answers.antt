@@ -5,5 +5,8 @@ use Rattle.vortex_buffer.proofs.const_buffer.ConstBuffer.of.Goals as goal
 
 pub invariant_of-result : goal.invariant_of-result
 invariant_of-result g c = λ e h.
-    let le = c.requires e h in
-    (le, lesser c.args.buffer c.alignment.result e (omega (arith, le, c.alignment.ensures.value)) c.alignment.ensures.aligned)
+    let le = c.requires e h in (
+      le,
+      lesser c.args.buffer c.alignment.result e
+          (omega (arith, le, c.alignment.ensures.value)) c.alignment.ensures.aligned,
+    )

@@ -5,5 +5,7 @@ use Rattle.vortex_buffer.proofs.const_buffer.ConstBuffer.try_from_buffer.Goals a
 
 pub of-requires : goal.of-requires
 of-requires g c =
-    let le : c.new.result ≤ c.args.buffer.exponent = search rules in
-    (search rules, of_bytes (λ (e : ℕ). e ≤ c.args.buffer.exponent) c.new.result g.row.N c.new.ensures le)
+    let le : c.new.result ≤ c.args.buffer.alignment = search rules in (
+      search rules,
+      of_bytes (λ (e : ℕ). e ≤ c.args.buffer.alignment) c.new.result g.row.N c.new.ensures le,
+    )
