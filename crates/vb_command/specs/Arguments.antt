@@ -1,109 +1,202 @@
--- What a line of words asks for: one equation a command, its name and then its fields.
-use Rattle.std.specs.Prelude.{ℕ, List, codes, Option, Some, None, if◌then◌else◌}
+-- What a line of words asks for: by how many words stand after its name, the name, and its fields.
+use Rattle.std.specs.Prelude.{ℕ, Bool, List, [], ◌∷◌, codes, Option, Some, None}
+use Rattle.std.specs.Prelude.{if◌then◌else◌}
 use Rattle.std.specs.Str.{bytes_eq}
 use Rattle.vb_bits.specs.declared.zip.BitOp.TheVariants.{And, Or, Xor, AndNot}
 use Rattle.vb_command.specs.Hex.{hex}
-use Rattle.vb_command.specs.Listed.{listed, index}
+use Rattle.vb_command.specs.Listed.{items_of, index}
 use Rattle.vb_command.specs.Machine.{Order, Import, Full, Indices, Set, Append, Appendn, Appendset}
 use Rattle.vb_command.specs.Machine.{Fill, Truncate, Clear, Flip, Freeze, Thaw, Clone, Slice}
 use Rattle.vb_command.specs.Machine.{Sliced, Drop, Combine, Not, Take, Len, Count, Get, Countrange}
 use Rattle.vb_command.specs.Machine.{Select, Selectunset, Last, Bits, Places, Runs, Show, Eq}
 use Rattle.vb_command.specs.Optional.{◌>>=◌}
 use Rattle.vb_command.specs.Words.{number, optional_number, truth, mode}
-use Rattle.vb_command.specs.Words.{one_field, two_fields, three_fields, four_fields}
+use Rattle.vb_command.specs.declared.command.Mode.{Mode}
 
--- an order of one field
-abbrev pub one : {A : Type 0} → (A → Order) → (List ℕ → Option A) → List (List ℕ) → Option Order
-one make f ws = do
-  x ← one_field f ws
-  Some (make x)
-
--- an order of two fields
-abbrev pub two : {A B : Type 0} → (A → B → Order)
-    → (List ℕ → Option A) → (List ℕ → Option B) → List (List ℕ) → Option Order
-two make f g ws = do
-  (x, y) ← two_fields f g ws
-  Some (make x y)
-
--- an order of three fields
-abbrev pub three : {A B C : Type 0} → (A → B → C → Order)
-    → (List ℕ → Option A) → (List ℕ → Option B) → (List ℕ → Option C)
-    → List (List ℕ) → Option Order
-three make f g h ws = do
-  (x, y, z) ← three_fields f g h ws
-  Some (make x y z)
-
--- an order of four fields
-abbrev pub four : {A B C D : Type 0} → (A → B → C → D → Order)
-    → (List ℕ → Option A) → (List ℕ → Option B) → (List ℕ → Option C) → (List ℕ → Option D)
-    → List (List ℕ) → Option Order
-four make f g h i ws = do
-  (w, x, y, z) ← four_fields f g h i ws
-  Some (make w x y z)
-
--- the order of a question
-unfoldable pub question_of : List ℕ → List (List ℕ) → Option Order
-question_of name ws =
-    if bytes_eq name (codes "len") then one Len number ws else
-    if bytes_eq name (codes "count") then one Count number ws else
-    if bytes_eq name (codes "get") then two Get number number ws else
-    if bytes_eq name (codes "countrange") then three Countrange number number number ws else
-    if bytes_eq name (codes "select") then two Select number number ws else
-    if bytes_eq name (codes "selectunset") then two Selectunset number number ws else
-    if bytes_eq name (codes "last") then one Last number ws else
-    if bytes_eq name (codes "bits") then one Bits number ws else
-    if bytes_eq name (codes "places") then one Places number ws else
-    if bytes_eq name (codes "runs") then one Runs number ws else
-    if bytes_eq name (codes "show") then one Show number ws else
-    if bytes_eq name (codes "eq") then two Eq number number ws else
+-- a question to the set in one slot
+unfoldable pub question_of_number : List ℕ → ℕ → Option Order
+question_of_number name k =
+    if bytes_eq name (codes "len") then Some (Len k) else
+    if bytes_eq name (codes "count") then Some (Count k) else
+    if bytes_eq name (codes "last") then Some (Last k) else
+    if bytes_eq name (codes "bits") then Some (Bits k) else
+    if bytes_eq name (codes "places") then Some (Places k) else
+    if bytes_eq name (codes "runs") then Some (Runs k) else
+    if bytes_eq name (codes "show") then Some (Show k) else
     None
 
--- the order of an operator, or of a question
-unfoldable pub operator_of : List ℕ → List (List ℕ) → Option Order
-operator_of name ws =
-    if bytes_eq name (codes "and") then four (Combine And) mode number number number ws else
-    if bytes_eq name (codes "or") then four (Combine Or) mode number number number ws else
-    if bytes_eq name (codes "xor") then four (Combine Xor) mode number number number ws else
-    if bytes_eq name (codes "andnot") then four (Combine AndNot) mode number number number ws else
-    if bytes_eq name (codes "not") then three Not mode number number ws else
-    question_of name ws
+-- the order of a name and a number
+unfoldable pub of_number : List ℕ → ℕ → Option Order
+of_number name k =
+    if bytes_eq name (codes "clear") then Some (Clear k) else
+    if bytes_eq name (codes "flip") then Some (Flip k) else
+    if bytes_eq name (codes "freeze") then Some (Freeze k) else
+    if bytes_eq name (codes "thaw") then Some (Thaw k) else
+    if bytes_eq name (codes "drop") then Some (Drop k) else
+    question_of_number name k
 
--- the order of an append, of an operator, or of a question
-unfoldable pub append_of : List ℕ → List (List ℕ) → Option Order
-append_of name ws =
-    if bytes_eq name (codes "append") then two Append number truth ws else
-    if bytes_eq name (codes "appendn") then three Appendn number truth number ws else
-    if bytes_eq name (codes "appendset") then two Appendset number number ws else
-    operator_of name ws
+-- a question to the set in one slot, with a number
+unfoldable pub question_of_numbers : List ℕ → ℕ → ℕ → Option Order
+question_of_numbers name k n =
+    if bytes_eq name (codes "get") then Some (Get k n) else
+    if bytes_eq name (codes "select") then Some (Select k n) else
+    if bytes_eq name (codes "selectunset") then Some (Selectunset k n) else
+    if bytes_eq name (codes "eq") then Some (Eq k n) else
+    None
 
--- the order of an edit that doesn't lengthen, of an append, of an operator, or of a question
-unfoldable pub edit_of : List ℕ → List (List ℕ) → Option Order
-edit_of name ws =
-    if bytes_eq name (codes "set") then three Set number number truth ws else
-    if bytes_eq name (codes "fill") then four Fill number number number truth ws else
-    if bytes_eq name (codes "truncate") then two Truncate number number ws else
-    if bytes_eq name (codes "clear") then one Clear number ws else
-    if bytes_eq name (codes "flip") then one Flip number ws else
-    append_of name ws
+-- the order of a name and two numbers
+unfoldable pub of_numbers : List ℕ → ℕ → ℕ → Option Order
+of_numbers name k n =
+    if bytes_eq name (codes "truncate") then Some (Truncate k n) else
+    if bytes_eq name (codes "appendset") then Some (Appendset k n) else
+    if bytes_eq name (codes "clone") then Some (Clone k n) else
+    if bytes_eq name (codes "sliced") then Some (Sliced k n) else
+    question_of_numbers name k n
 
--- the order that fills a slot from others or by a value, changes its kind or empties it, or another
--- one
-unfoldable pub slot_of : List ℕ → List (List ℕ) → Option Order
-slot_of name ws =
-    if bytes_eq name (codes "full") then three Full number truth number ws else
-    if bytes_eq name (codes "clone") then two Clone number number ws else
-    if bytes_eq name (codes "slice") then four Slice number number number number ws else
-    if bytes_eq name (codes "sliced") then two Sliced number number ws else
-    if bytes_eq name (codes "freeze") then one Freeze number ws else
-    if bytes_eq name (codes "thaw") then one Thaw number ws else
-    if bytes_eq name (codes "drop") then one Drop number ws else
-    edit_of name ws
+-- the order of a name, a number, a truth value and a number
+unfoldable pub of_value : List ℕ → ℕ → Bool → ℕ → Option Order
+of_value name k v n =
+    if bytes_eq name (codes "full") then Some (Full k v n) else
+    if bytes_eq name (codes "appendn") then Some (Appendn k v n) else
+    None
+
+-- the order of an operator on two lists
+unfoldable pub of_operator : List ℕ → Mode → ℕ → ℕ → ℕ → Option Order
+of_operator name m l r t =
+    if bytes_eq name (codes "and") then Some (Combine And m l r t) else
+    if bytes_eq name (codes "or") then Some (Combine Or m l r t) else
+    if bytes_eq name (codes "xor") then Some (Combine Xor m l r t) else
+    if bytes_eq name (codes "andnot") then Some (Combine AndNot m l r t) else
+    None
+
+-- the numbers that two words write
+unfoldable pub two_numbers : List ℕ → List ℕ → Option (ℕ × ℕ)
+two_numbers a b = do
+  x ← number a
+  y ← number b
+  Some (x, y)
+
+-- the numbers that three words write
+unfoldable pub three_numbers : List ℕ → List ℕ → List ℕ → Option (ℕ × ℕ × ℕ)
+three_numbers a b c = do
+  x ← number a
+  y ← number b
+  z ← number c
+  Some (x, y, z)
+
+-- an `append` of these words
+unfoldable pub append_of : List ℕ → List ℕ → Option Order
+append_of a b = do
+  k ← number a
+  v ← truth b
+  Some (Append k v)
+
+-- an `indices` of these words
+unfoldable pub indices_of : List ℕ → List ℕ → List ℕ → Option Order
+indices_of a b c = do
+  (t, n) ← two_numbers a b
+  numbers ← items_of number c
+  Some (Indices t n numbers)
+
+-- a `set` of these words
+unfoldable pub set_of : List ℕ → List ℕ → List ℕ → Option Order
+set_of a b c = do
+  (k, i) ← two_numbers a b
+  v ← truth c
+  Some (Set k i v)
+
+-- a `not` of these words
+unfoldable pub not_of : List ℕ → List ℕ → List ℕ → Option Order
+not_of a b c = do
+  m ← mode a
+  (l, t) ← two_numbers b c
+  Some (Not m l t)
+
+-- a `countrange` of these words
+unfoldable pub countrange_of : List ℕ → List ℕ → List ℕ → Option Order
+countrange_of a b c = do
+  (k, i, j) ← three_numbers a b c
+  Some (Countrange k i j)
+
+-- what a name asks for with a number, a truth value and a number
+unfoldable pub value_of : List ℕ → List ℕ → List ℕ → List ℕ → Option Order
+value_of name a b c = do
+  k ← number a
+  v ← truth b
+  n ← number c
+  of_value name k v n
+
+-- an `import` of these words
+unfoldable pub import_of : List ℕ → List ℕ → List ℕ → List ℕ → Option Order
+import_of a b c d = do
+  (t, o, n) ← three_numbers a b c
+  bytes ← hex d
+  Some (Import t o n bytes)
+
+-- a `take` of these words
+unfoldable pub take_of : List ℕ → List ℕ → List ℕ → List ℕ → Option Order
+take_of a b c d = do
+  (k, t) ← two_numbers a b
+  m ← optional_number c
+  indexes ← items_of index d
+  Some (Take k t m indexes)
+
+-- a `fill` of these words
+unfoldable pub fill_of : List ℕ → List ℕ → List ℕ → List ℕ → Option Order
+fill_of a b c d = do
+  (k, i, j) ← three_numbers a b c
+  v ← truth d
+  Some (Fill k i j v)
+
+-- a `slice` of these words
+unfoldable pub slice_of : List ℕ → List ℕ → List ℕ → List ℕ → Option Order
+slice_of a b c d = do
+  (k, i, j) ← three_numbers a b c
+  t ← number d
+  Some (Slice k i j t)
+
+-- what the name of an operator asks for with these words
+unfoldable pub operator_of : List ℕ → List ℕ → List ℕ → List ℕ → List ℕ → Option Order
+operator_of name a b c d = do
+  m ← mode a
+  (l, r, t) ← three_numbers b c d
+  of_operator name m l r t
+
+-- what a name asks for with one word after it
+unfoldable pub one_word : List ℕ → List ℕ → Option Order
+one_word name a = do
+  k ← number a
+  of_number name k
+
+-- what a name asks for with two words after it
+unfoldable pub two_words : List ℕ → List ℕ → List ℕ → Option Order
+two_words name a b =
+    if bytes_eq name (codes "append") then append_of a b else (do
+      (k, n) ← two_numbers a b
+      of_numbers name k n)
+
+-- what a name asks for with three words after it
+unfoldable pub three_words : List ℕ → List ℕ → List ℕ → List ℕ → Option Order
+three_words name a b c =
+    if bytes_eq name (codes "indices") then indices_of a b c else
+    if bytes_eq name (codes "set") then set_of a b c else
+    if bytes_eq name (codes "not") then not_of a b c else
+    if bytes_eq name (codes "countrange") then countrange_of a b c else
+    value_of name a b c
+
+-- what a name asks for with four words after it
+unfoldable pub four_words : List ℕ → List ℕ → List ℕ → List ℕ → List ℕ → Option Order
+four_words name a b c d =
+    if bytes_eq name (codes "import") then import_of a b c d else
+    if bytes_eq name (codes "take") then take_of a b c d else
+    if bytes_eq name (codes "fill") then fill_of a b c d else
+    if bytes_eq name (codes "slice") then slice_of a b c d else
+    operator_of name a b c d
 
 -- what a name and the words after it ask for
 unfoldable pub arguments_of : List ℕ → List (List ℕ) → Option Order
-arguments_of name ws =
-    if bytes_eq name (codes "import") then four Import number number number hex ws else
-    if bytes_eq name (codes "indices") then three Indices number number (listed number) ws else
-    if bytes_eq name (codes "take")
-    then four Take number number optional_number (listed index) ws else
-    slot_of name ws
+arguments_of name (a ∷ []) = one_word name a
+arguments_of name (a ∷ b ∷ []) = two_words name a b
+arguments_of name (a ∷ b ∷ c ∷ []) = three_words name a b c
+arguments_of name (a ∷ b ∷ c ∷ d ∷ []) = four_words name a b c d
+arguments_of name ws = None

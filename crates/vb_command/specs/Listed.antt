@@ -38,5 +38,5 @@ all_written f (part ∷ more) = do
   Some (x ∷ xs)
 
 -- the list that a word writes, with commas between two, or `-` for none
-abbrev pub listed : {X : Type 0} → (List ℕ → Option X) → List ℕ → Option (List X)
-listed f w = all_written f (parts w)
+abbrev pub items_of : {X : Type 0} → (List ℕ → Option X) → List ℕ → Option (List X)
+items_of f w = all_written f (parts w)

@@ -12,6 +12,11 @@ use Rattle.vb_bits.specs.Runs.{runs, last_place}
 use Rattle.vb_bits.specs.Shown.{shown}
 use Rattle.vb_bits.specs.declared.zip.BitOp.{BitOp}
 use Rattle.vb_bits.specs.declared.zip.BitOp.TheVariants.{And, Or, Xor, AndNot}
+use Rattle.vb_command.specs.declared.answer.Refusal.{Refusal}
+use Rattle.vb_command.specs.declared.answer.Refusal.TheVariants.{BadSlot, BadWindow}
+use Rattle.vb_command.specs.declared.answer.Refusal.TheVariants.{OutOfRange, LengthMismatch}
+use Rattle.vb_command.specs.declared.answer.Refusal.TheVariants.{TakeOutOfRange, TooManyBits}
+use Rattle.vb_command.specs.declared.answer.Refusal.TheVariants.{OutOfMemory}
 use Rattle.vb_command.specs.declared.command.Command.{Command}
 use Rattle.vb_command.specs.declared.command.Command.TheVariants as commands
 use Rattle.vb_command.specs.declared.command.Mode.{Mode}
@@ -102,16 +107,6 @@ order (commands.Runs k) = Runs k
 order (commands.Show k) = Show k
 order (commands.Eq k j) = Eq k j
 
--- why an order is refused
-pub data Reason : Type 0 where
-  BadSlot : Reason
-  BadWindow : Reason
-  OutOfRange : Reason
-  LengthMismatch : Reason
-  TakeOutOfRange : ℕ → Reason
-  TooManyBits : Reason
-  OutOfMemory : Reason
-
 -- what an order is answered
 pub data Reply : Type 0 where
   Done : Reply
@@ -122,7 +117,7 @@ pub data Reply : Type 0 where
   ListedPlaces : List ℕ → Reply
   ListedRuns : List (ℕ × ℕ) → Reply
   Text : List ℕ → Reply
-  Refused : Reason → Reply
+  Refused : Refusal → Reply
 
 -- the list that a slot holds, open or frozen
 abbrev pub list_of : Slot → Option (List Bool)
@@ -155,14 +150,14 @@ abbrev pub frozen_at : List Slot → ℕ → Option (List Bool)
 frozen_at s k = option_and_then frozen_list (slice_get s k)
 
 -- a slot that holds a list
-abbrev pub kept : Slot → Option Slot
-kept Empty = None
-kept (Open l) = Some (Open l)
-kept (Frozen l) = Some (Frozen l)
+abbrev pub kept_slot : Slot → Option Slot
+kept_slot Empty = None
+kept_slot (Open l) = Some (Open l)
+kept_slot (Frozen l) = Some (Frozen l)
 
 -- what slot k holds, if it is there and holds a list
 abbrev pub kept_at : List Slot → ℕ → Option Slot
-kept_at s k = option_and_then kept (slice_get s k)
+kept_at s k = option_and_then kept_slot (slice_get s k)
 
 -- whether a slot is empty
 abbrev pub is_vacant : Slot → Bool
@@ -199,16 +194,16 @@ abbrev pub is_range : ℕ → ℕ → List Bool → Bool
 is_range a b l = nat_le a b && nat_le b (length l)
 
 -- the slots once an operator has its left list from slot l: with `own` that slot gave it away
-abbrev pub released : Mode → ℕ → List Slot → List Slot
-released Ref l s = s
-released Own l s = slice_set s l Empty
+abbrev pub after_release : Mode → ℕ → List Slot → List Slot
+after_release Ref l s = s
+after_release Own l s = slice_set s l Empty
 
 -- what may come of an order: a relation of the slots before it, its answer and the slots after it
 abbrev pub Effect : Type 1
 Effect = List Slot → Reply → List Slot → Type 0
 
 -- the order is refused, and every slot stays
-abbrev pub Refuses : Reason → Effect
+abbrev pub Refuses : Refusal → Effect
 Refuses why s r t = (r ≡ Refused why) × (t ≡ s)
 
 -- the order is done: slot k is filled with this, and all others stay
@@ -217,10 +212,10 @@ Puts k new s r t = (r ≡ Done) × (t ≡ slice_set s k new)
 
 -- an operator has its left list from slot l, and something follows
 abbrev pub Releases : Mode → ℕ → Effect → Effect
-Releases mode l Then s r t = Then (released mode l s) r t
+Releases mode l Then s r t = Then (after_release mode l s) r t
 
 -- where a check fails the order is refused for this reason, and else something follows
-abbrev pub Checks : Bool → Reason → Effect → Effect
+abbrev pub Checks : Bool → Refusal → Effect → Effect
 Checks passed why Then s r t = MatchBool passed (Then s r t) (Refuses why s r t)
 
 -- where a slot holds nothing of the kind the order is refused, and else something follows of what
@@ -303,11 +298,12 @@ Step s (Slice k a b j) r t =
 Step s (Sliced k j) r t =
     Needs (frozen_at s k) (λ l. Checks (vacant_at s j) BadSlot (Puts j (Frozen l))) s r t
 Step s (Combine op mode k j i) r t =
-    Needs (frozen_at s k) (λ l. Needs (frozen_at (released mode k s) j) (λ m.
-    Checks (vacant_at (released mode k s) i) BadSlot (Checks (length l == length m) LengthMismatch
+    Needs (frozen_at s k) (λ l. Needs (frozen_at (after_release mode k s) j) (λ m.
+    Checks (vacant_at (after_release mode k s) i) BadSlot
+    (Checks (length l == length m) LengthMismatch
     (Releases mode k (Puts i (Frozen (combined op l m))))))) s r t
 Step s (Not mode k j) r t =
-    Needs (frozen_at s k) (λ l. Checks (vacant_at (released mode k s) j) BadSlot
+    Needs (frozen_at s k) (λ l. Checks (vacant_at (after_release mode k s) j) BadSlot
     (Releases mode k (Puts j (Frozen (negated l))))) s r t
 Step s (Take k j m indexes) r t =
     Needs (frozen_at s k) (λ l. Checks (vacant_at s j) BadSlot (Needs (validity_at s m) (λ v.
@@ -366,11 +362,11 @@ GivesUp s (Slice k a b j) r t =
 GivesUp s (Sliced k j) r t =
     Has (frozen_at s k) (λ l. Passes (vacant_at s j) (Refuses OutOfMemory)) s r t
 GivesUp s (Combine op mode k j i) r t =
-    Has (frozen_at s k) (λ l. Has (frozen_at (released mode k s) j) (λ m.
-    Passes (vacant_at (released mode k s) i) (Passes (length l == length m)
+    Has (frozen_at s k) (λ l. Has (frozen_at (after_release mode k s) j) (λ m.
+    Passes (vacant_at (after_release mode k s) i) (Passes (length l == length m)
     (Releases mode k (Refuses OutOfMemory))))) s r t
 GivesUp s (Not mode k j) r t =
-    Has (frozen_at s k) (λ l. Passes (vacant_at (released mode k s) j)
+    Has (frozen_at s k) (λ l. Passes (vacant_at (after_release mode k s) j)
     (Releases mode k (Refuses OutOfMemory))) s r t
 GivesUp s (Take k j m indexes) r t =
     Has (frozen_at s k) (λ l. Passes (vacant_at s j) (Has (validity_at s m) (λ v.

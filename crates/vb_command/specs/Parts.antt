@@ -1,8 +1,9 @@
 -- The text of an answer, as parts that follow one another.
 use Rattle.std.specs.Prelude.{ℕ, List, ◌++◌, decimal, Option, Some, None}
 use Rattle.vb_command.specs.Printed.{digits_of, places_text, runs_text}
-use Rattle.vb_command.specs.declared.answer.Part.{Part}
-use Rattle.vb_command.specs.declared.answer.Part.TheVariants.{Words, Number, Bits, Places, Runs}
+use Rattle.vb_command.specs.declared.print.answer.Part.{Part}
+use Rattle.vb_command.specs.declared.print.answer.Part.TheVariants.{Words, Number, Bits, Places}
+use Rattle.vb_command.specs.declared.print.answer.Part.TheVariants.{Runs}
 
 -- the text of a part
 abbrev pub part_text : Part → List ℕ

@@ -2,12 +2,15 @@
 use Rattle.std.specs.Prelude.{ℕ, Bool, true, false, List, [], ◌∷◌, ◌++◌, codes, decimal, Some, None}
 use Rattle.std.specs.List.{flat_map}
 use Rattle.vb_command.specs.Machine.{Reply, Done, Number, Truth, Place, Listed, ListedPlaces}
-use Rattle.vb_command.specs.Machine.{ListedRuns, Text, Refused, Reason, BadSlot, BadWindow}
-use Rattle.vb_command.specs.Machine.{OutOfRange, LengthMismatch, TakeOutOfRange, TooManyBits}
-use Rattle.vb_command.specs.Machine.{OutOfMemory}
+use Rattle.vb_command.specs.Machine.{ListedRuns, Text, Refused}
+use Rattle.vb_command.specs.declared.answer.Refusal.{Refusal}
+use Rattle.vb_command.specs.declared.answer.Refusal.TheVariants.{BadSlot, BadWindow}
+use Rattle.vb_command.specs.declared.answer.Refusal.TheVariants.{OutOfRange, LengthMismatch}
+use Rattle.vb_command.specs.declared.answer.Refusal.TheVariants.{TakeOutOfRange, TooManyBits}
+use Rattle.vb_command.specs.declared.answer.Refusal.TheVariants.{OutOfMemory}
 
 -- the name of a refusal, and where it has one its position
-abbrev pub name_of : Reason → List ℕ
+abbrev pub name_of : Refusal → List ℕ
 name_of BadSlot = codes "BadSlot"
 name_of BadWindow = codes "BadWindow"
 name_of OutOfRange = codes "OutOfRange"
@@ -17,7 +20,7 @@ name_of TooManyBits = codes "TooManyBits"
 name_of OutOfMemory = codes "OutOfMemory"
 
 -- the text of a refusal
-abbrev pub refusal_text : Reason → List ℕ
+abbrev pub refusal_text : Refusal → List ℕ
 refusal_text why = codes "refused " ++ name_of why
 
 -- a truth value as a binary digit

@@ -6,22 +6,13 @@
 #![tactic(auto)]
 
 mod answer;
-mod arguments;
 mod command;
-mod digits;
-mod field;
-mod hex;
-mod line;
-mod listed;
-mod mode;
-mod number;
-mod numbers;
-mod truth;
+mod print;
+mod read;
 mod unread;
-mod words;
 
-pub use answer::{Answer, Part, Refusal};
+pub use answer::{Answer, Refusal};
 pub use command::{Command, Mode};
-pub use digits::digit;
-pub use line::command_of;
+pub use print::{Part, digit};
+pub use read::command_of;
 pub use unread::Unread;

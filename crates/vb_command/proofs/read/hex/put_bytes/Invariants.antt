@@ -1,0 +1,9 @@
+use Rattle.std.proofs.Common.{◌≡◌, ◌*◌, take, drop}
+use Rattle.vb_command.specs.Hex.{hex_pairs}
+use Rattle.vb_command.proofs.Behind.{behind}
+use Rattle.vb_command.proofs.read.hex.put_bytes.Given as goal
+
+-- all bytes are those that are written, and then those of the rest
+abbrev pub invariant-loop-i : goal.invariant-loop-i
+invariant-loop-i l =
+    hex_pairs l.digits ≡ behind (take l.i l.bytes) (hex_pairs (drop (2 * l.i) l.digits))

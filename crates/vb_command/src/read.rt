@@ -1,0 +1,12 @@
+//! Lines, and the commands that they ask for.
+mod arguments;
+mod field;
+mod hex;
+mod line;
+mod listed;
+mod mode;
+mod number;
+mod truth;
+mod words;
+
+pub use line::command_of;

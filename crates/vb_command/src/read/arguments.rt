@@ -1,0 +1,346 @@
+//! What a line of words asks for.
+ghost use Rattle.std.specs.Prelude.{IsErrOf, IsTrue, Some, option_map};
+ghost use Rattle.vb_command.specs.Arguments.{arguments_of, one_word, two_words, three_words};
+ghost use Rattle.vb_command.specs.Arguments.{four_words, append_of, indices_of, set_of, not_of};
+ghost use Rattle.vb_command.specs.Arguments.{countrange_of, value_of, import_of, take_of, fill_of};
+ghost use Rattle.vb_command.specs.Arguments.{slice_of, operator_of, two_numbers, three_numbers};
+ghost use Rattle.vb_command.specs.Arguments.{of_number, question_of_number, of_numbers};
+ghost use Rattle.vb_command.specs.Arguments.{question_of_numbers, of_value, of_operator};
+ghost use Rattle.vb_command.specs.Machine.{order};
+ghost use Rattle.vb_command.specs.Reading.{Gives, Tells, asks_memory};
+
+use crate::command::{Command, Mode};
+use crate::read::field::Field;
+use crate::read::hex::{bytes_of_pairs, hex_pairs};
+use crate::read::listed::list;
+use crate::read::words::Words;
+use crate::unread::Unread;
+use std::alloc::Allocator;
+
+/// The command of this name with these words after it. Memory is taken only for a command that can
+/// be read.
+#[tactic(auto, unfolding(crate::specs::Arguments::arguments_of))]
+pub fn arguments<A: Allocator + Clone>(
+    alloc: &A,
+    name: &str,
+    words: &mut Words<'_>,
+) -> Result<Command<A>, Unread>
+    ensures read { Gives order result (arguments_of name.now words.old) }
+    ensures memory { IsErrOf result Unread.Memory →
+        IsTrue (asks_memory (option_map Some (arguments_of name.now words.old))) }
+{
+    let Some(a) = words.next() else {
+        return Err(Unread::Unreadable);
+    };
+    let Some(b) = words.next() else {
+        return one_word(name, a);
+    };
+    let Some(c) = words.next() else {
+        return two_words(name, a, b);
+    };
+    let Some(d) = words.next() else {
+        return three_words(alloc, name, a, b, c);
+    };
+    if words.next().is_some() {
+        return Err(Unread::Unreadable);
+    }
+    four_words(alloc, name, a, b, c, d)
+}
+
+/// The command of this name with one word after it.
+#[tactic(auto, unfolding(crate::specs::Arguments::one_word))]
+fn one_word<A: Allocator>(name: &str, a: &str) -> Result<Command<A>, Unread>
+    ensures { Tells order result (one_word name.now a.now) }
+{
+    of_number(name, usize::read(a)?)
+}
+
+/// The command of this name with two words after it.
+#[tactic(auto, unfolding(crate::specs::Arguments::two_words))]
+fn two_words<A: Allocator>(name: &str, a: &str, b: &str) -> Result<Command<A>, Unread>
+    ensures { Tells order result (two_words name.now a.now b.now) }
+{
+    if name == "append" {
+        return append(a, b);
+    }
+    let (k, n) = two_numbers(a, b)?;
+    of_numbers(name, k, n)
+}
+
+/// The command of this name with three words after it.
+#[tactic(auto, unfolding(crate::specs::Arguments::three_words))]
+fn three_words<A: Allocator + Clone>(
+    alloc: &A,
+    name: &str,
+    a: &str,
+    b: &str,
+    c: &str,
+) -> Result<Command<A>, Unread>
+    ensures read { Gives order result (three_words name.now a.now b.now c.now) }
+    ensures memory { IsErrOf result Unread.Memory →
+        IsTrue (asks_memory (option_map Some (three_words name.now a.now b.now c.now))) }
+{
+    match name {
+        "indices" => indices(alloc, a, b, c),
+        "set" => set(a, b, c),
+        "not" => not(a, b, c),
+        "countrange" => countrange(a, b, c),
+        _ => value(name, a, b, c),
+    }
+}
+
+/// The command of this name with four words after it.
+#[tactic(auto, unfolding(crate::specs::Arguments::four_words))]
+fn four_words<A: Allocator + Clone>(
+    alloc: &A,
+    name: &str,
+    a: &str,
+    b: &str,
+    c: &str,
+    d: &str,
+) -> Result<Command<A>, Unread>
+    ensures read { Gives order result (four_words name.now a.now b.now c.now d.now) }
+    ensures memory { IsErrOf result Unread.Memory →
+        IsTrue (asks_memory (option_map Some (four_words name.now a.now b.now c.now d.now))) }
+{
+    match name {
+        "import" => import(alloc, a, b, c, d),
+        "take" => take(alloc, a, b, c, d),
+        "fill" => fill(a, b, c, d),
+        "slice" => slice(a, b, c, d),
+        _ => operator(name, a, b, c, d),
+    }
+}
+
+/// The command of this name with a number after it.
+#[tactic(auto, unfolding(crate::specs::Arguments::of_number))]
+fn of_number<A: Allocator>(name: &str, k: usize) -> Result<Command<A>, Unread>
+    ensures { Tells order result (of_number name.now k) }
+{
+    match name {
+        "clear" => Ok(Command::Clear(k)),
+        "flip" => Ok(Command::Flip(k)),
+        "freeze" => Ok(Command::Freeze(k)),
+        "thaw" => Ok(Command::Thaw(k)),
+        "drop" => Ok(Command::Drop(k)),
+        _ => question_of_number(name, k),
+    }
+}
+
+/// The question of this name to the set in one slot.
+#[tactic(auto, unfolding(crate::specs::Arguments::question_of_number))]
+fn question_of_number<A: Allocator>(name: &str, k: usize) -> Result<Command<A>, Unread>
+    ensures { Tells order result (question_of_number name.now k) }
+{
+    match name {
+        "len" => Ok(Command::Len(k)),
+        "count" => Ok(Command::Count(k)),
+        "last" => Ok(Command::Last(k)),
+        "bits" => Ok(Command::Bits(k)),
+        "places" => Ok(Command::Places(k)),
+        "runs" => Ok(Command::Runs(k)),
+        "show" => Ok(Command::Show(k)),
+        _ => Err(Unread::Unreadable),
+    }
+}
+
+/// The command of this name with two numbers after it.
+#[tactic(auto, unfolding(crate::specs::Arguments::of_numbers))]
+fn of_numbers<A: Allocator>(name: &str, k: usize, n: usize) -> Result<Command<A>, Unread>
+    ensures { Tells order result (of_numbers name.now k n) }
+{
+    match name {
+        "truncate" => Ok(Command::Truncate(k, n)),
+        "appendset" => Ok(Command::Appendset(k, n)),
+        "clone" => Ok(Command::Clone(k, n)),
+        "sliced" => Ok(Command::Sliced(k, n)),
+        _ => question_of_numbers(name, k, n),
+    }
+}
+
+/// The question of this name to the set in one slot, with a number.
+#[tactic(auto, unfolding(crate::specs::Arguments::question_of_numbers))]
+fn question_of_numbers<A: Allocator>(name: &str, k: usize, n: usize) -> Result<Command<A>, Unread>
+    ensures { Tells order result (question_of_numbers name.now k n) }
+{
+    match name {
+        "get" => Ok(Command::Get(k, n)),
+        "select" => Ok(Command::Select(k, n)),
+        "selectunset" => Ok(Command::Selectunset(k, n)),
+        "eq" => Ok(Command::Eq(k, n)),
+        _ => Err(Unread::Unreadable),
+    }
+}
+
+/// The command of this name with a number, a truth value and a number after it.
+#[tactic(auto, unfolding(crate::specs::Arguments::of_value))]
+fn of_value<A: Allocator>(name: &str, k: usize, v: bool, n: usize) -> Result<Command<A>, Unread>
+    ensures { Tells order result (of_value name.now k v n) }
+{
+    match name {
+        "full" => Ok(Command::Full(k, v, n)),
+        "appendn" => Ok(Command::Appendn(k, v, n)),
+        _ => Err(Unread::Unreadable),
+    }
+}
+
+/// The operator of this name on two sets.
+#[tactic(auto, unfolding(crate::specs::Arguments::of_operator))]
+fn of_operator<A: Allocator>(
+    name: &str,
+    m: Mode,
+    l: usize,
+    r: usize,
+    t: usize,
+) -> Result<Command<A>, Unread>
+    ensures { Tells order result (of_operator name.now m l r t) }
+{
+    match name {
+        "and" => Ok(Command::And(m, l, r, t)),
+        "or" => Ok(Command::Or(m, l, r, t)),
+        "xor" => Ok(Command::Xor(m, l, r, t)),
+        "andnot" => Ok(Command::Andnot(m, l, r, t)),
+        _ => Err(Unread::Unreadable),
+    }
+}
+
+/// An `append` of these words.
+#[tactic(auto, unfolding(crate::specs::Arguments::append_of))]
+fn append<A: Allocator>(a: &str, b: &str) -> Result<Command<A>, Unread>
+    ensures { Tells order result (append_of a.now b.now) }
+{
+    Ok(Command::Append(usize::read(a)?, bool::read(b)?))
+}
+
+/// An `indices` of these words.
+#[tactic(auto, unfolding(crate::specs::Arguments::indices_of))]
+fn indices<A: Allocator + Clone>(alloc: &A, a: &str, b: &str, c: &str) -> Result<Command<A>, Unread>
+    ensures read { Gives order result (indices_of a.now b.now c.now) }
+    ensures memory { IsErrOf result Unread.Memory →
+        IsTrue (asks_memory (option_map Some (indices_of a.now b.now c.now))) }
+{
+    let (t, n) = two_numbers(a, b)?;
+    Ok(Command::Indices(t, n, list(alloc, c)?))
+}
+
+/// A `set` of these words.
+#[tactic(auto, unfolding(crate::specs::Arguments::set_of))]
+fn set<A: Allocator>(a: &str, b: &str, c: &str) -> Result<Command<A>, Unread>
+    ensures { Tells order result (set_of a.now b.now c.now) }
+{
+    let (k, i) = two_numbers(a, b)?;
+    Ok(Command::Set(k, i, bool::read(c)?))
+}
+
+/// A `not` of these words.
+#[tactic(auto, unfolding(crate::specs::Arguments::not_of))]
+fn not<A: Allocator>(a: &str, b: &str, c: &str) -> Result<Command<A>, Unread>
+    ensures { Tells order result (not_of a.now b.now c.now) }
+{
+    let m = Mode::read(a)?;
+    let (l, t) = two_numbers(b, c)?;
+    Ok(Command::Not(m, l, t))
+}
+
+/// A `countrange` of these words.
+#[tactic(auto, unfolding(crate::specs::Arguments::countrange_of))]
+fn countrange<A: Allocator>(a: &str, b: &str, c: &str) -> Result<Command<A>, Unread>
+    ensures { Tells order result (countrange_of a.now b.now c.now) }
+{
+    let (k, i, j) = three_numbers(a, b, c)?;
+    Ok(Command::Countrange(k, i, j))
+}
+
+/// The command of this name with a number, a truth value and a number, which these words write.
+#[tactic(auto, unfolding(crate::specs::Arguments::value_of))]
+fn value<A: Allocator>(name: &str, a: &str, b: &str, c: &str) -> Result<Command<A>, Unread>
+    ensures { Tells order result (value_of name.now a.now b.now c.now) }
+{
+    of_value(name, usize::read(a)?, bool::read(b)?, usize::read(c)?)
+}
+
+/// An `import` of these words.
+#[tactic(auto, unfolding(crate::specs::Arguments::import_of))]
+fn import<A: Allocator + Clone>(
+    alloc: &A,
+    a: &str,
+    b: &str,
+    c: &str,
+    d: &str,
+) -> Result<Command<A>, Unread>
+    ensures read { Gives order result (import_of a.now b.now c.now d.now) }
+    ensures memory { IsErrOf result Unread.Memory →
+        IsTrue (asks_memory (option_map Some (import_of a.now b.now c.now d.now))) }
+{
+    let (t, o, n) = three_numbers(a, b, c)?;
+    let pairs = hex_pairs(d)?;
+    Ok(Command::Import(t, o, n, bytes_of_pairs(alloc.clone()?, pairs)?))
+}
+
+/// A `take` of these words.
+#[tactic(auto, unfolding(crate::specs::Arguments::take_of))]
+fn take<A: Allocator + Clone>(
+    alloc: &A,
+    a: &str,
+    b: &str,
+    c: &str,
+    d: &str,
+) -> Result<Command<A>, Unread>
+    ensures read { Gives order result (take_of a.now b.now c.now d.now) }
+    ensures memory { IsErrOf result Unread.Memory →
+        IsTrue (asks_memory (option_map Some (take_of a.now b.now c.now d.now))) }
+{
+    let (k, t) = two_numbers(a, b)?;
+    let m = Option::<usize>::read(c)?;
+    Ok(Command::Take(k, t, m, list(alloc, d)?))
+}
+
+/// A `fill` of these words.
+#[tactic(auto, unfolding(crate::specs::Arguments::fill_of))]
+fn fill<A: Allocator>(a: &str, b: &str, c: &str, d: &str) -> Result<Command<A>, Unread>
+    ensures { Tells order result (fill_of a.now b.now c.now d.now) }
+{
+    let (k, i, j) = three_numbers(a, b, c)?;
+    Ok(Command::Fill(k, i, j, bool::read(d)?))
+}
+
+/// A `slice` of these words.
+#[tactic(auto, unfolding(crate::specs::Arguments::slice_of))]
+fn slice<A: Allocator>(a: &str, b: &str, c: &str, d: &str) -> Result<Command<A>, Unread>
+    ensures { Tells order result (slice_of a.now b.now c.now d.now) }
+{
+    let (k, i, j) = three_numbers(a, b, c)?;
+    Ok(Command::Slice(k, i, j, usize::read(d)?))
+}
+
+/// The operator of this name on two sets, with the fields that these words write.
+#[tactic(auto, unfolding(crate::specs::Arguments::operator_of))]
+fn operator<A: Allocator>(
+    name: &str,
+    a: &str,
+    b: &str,
+    c: &str,
+    d: &str,
+) -> Result<Command<A>, Unread>
+    ensures { Tells order result (operator_of name.now a.now b.now c.now d.now) }
+{
+    let m = Mode::read(a)?;
+    let (l, r, t) = three_numbers(b, c, d)?;
+    of_operator(name, m, l, r, t)
+}
+
+/// The numbers that two words write.
+#[tactic(auto, unfolding(crate::specs::Arguments::two_numbers))]
+fn two_numbers(a: &str, b: &str) -> Result<(usize, usize), Unread>
+    ensures { Tells (λ numbers. numbers) result (two_numbers a.now b.now) }
+{
+    Ok((usize::read(a)?, usize::read(b)?))
+}
+
+/// The numbers that three words write.
+#[tactic(auto, unfolding(crate::specs::Arguments::three_numbers))]
+fn three_numbers(a: &str, b: &str, c: &str) -> Result<(usize, usize, usize), Unread>
+    ensures { Tells (λ numbers. numbers) result (three_numbers a.now b.now c.now) }
+{
+    Ok((usize::read(a)?, usize::read(b)?, usize::read(c)?))
+}

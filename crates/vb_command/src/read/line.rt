@@ -1,0 +1,73 @@
+//! Lines as commands.
+ghost use Rattle.std.specs.Prelude.{◌≡◌, true, false, MatchOption, option_map, IsErrOf, IsTrue};
+ghost use Rattle.vb_command.specs.Words.{words};
+ghost use Rattle.vb_command.specs.Reading.{Gives, all_ascii, request_of, asks_memory, reading};
+ghost use Rattle.vb_command.specs.Machine.{order};
+
+use crate::command::Command;
+use crate::read::arguments::arguments;
+use crate::read::words::Words;
+use crate::unread::Unread;
+use std::alloc::Allocator;
+
+/// The line as a text, if it is ASCII.
+#[tactic(auto, using(crate::proofs::Lines::ascii))]
+fn ascii_text(line: &[u8]) -> Option<&str>
+    ensures { MatchOption result
+        (all_ascii line.now ≡ false)
+        (λ text. (all_ascii line.now ≡ true) × (text.now ≡ line.now)) }
+{
+    if !line.is_ascii() {
+        return None;
+    }
+    // ASCII is UTF-8, as is proved here, and so the line isn't looked at again.
+    Some(unsafe { std::str::from_utf8_unchecked(line) })
+}
+
+/// What the words of a text ask for.
+#[tactic(auto, unfolding(crate::specs::Reading::request_of))]
+fn request<A: Allocator + Clone>(alloc: &A, text: &str) -> Result<Option<Command<A>>, Unread>
+    ensures read { Gives (option_map order) result (request_of (words text.now)) }
+    ensures memory { IsErrOf result Unread.Memory →
+        IsTrue (asks_memory (request_of (words text.now))) }
+{
+    let mut words = Words::new(text);
+    let Some(name) = words.next() else {
+        return Ok(None);
+    };
+    if name.starts_with('#') {
+        return Ok(None);
+    }
+    Ok(Some(arguments(alloc, name, &mut words)?))
+}
+
+/// Reads a line: the command that it asks for, or `None` where it has no words or is a comment.
+/// The line is given without its line feed and the carriage return before that.
+///
+/// Words stand between spaces. The first one is the name of a command, or begins with `#` and makes
+/// the line a comment. The others are the command's fields: numbers in decimal digits, at most
+/// 18446744073709551615, with leading zeros or without and with no sign; truth values as `0` or
+/// `1`; modes as `ref` or `own`; bytes as pairs of hexadecimal digits of either case; numbers with
+/// one comma between two; and indices in the same way, from -9223372036854775808 to
+/// 9223372036854775807, with a `-` before those below 0. A `-` alone stands for no bytes, no
+/// numbers, no indices and, in a `take`, no validity.
+///
+/// A line can't be read, which is `Unread::Unreadable`, if it has a byte that isn't ASCII, be it in
+/// a comment, or if it has words, is no comment, and its first word names no command, words are
+/// missing or left over, or one is of another kind. No other line is answered so.
+///
+/// Memory is taken for an `import`, `indices` or `take` that can be read: for a copy of `alloc`,
+/// and for the bytes or numbers as much as they need, by one request. Where that is refused the
+/// answer is `Unread::Memory`; no other line is answered so.
+///
+/// The time is proportional to the line's length.
+pub fn command_of<A: Allocator + Clone>(
+    alloc: &A,
+    line: &[u8],
+) -> Result<Option<Command<A>>, Unread>
+    ensures read { Gives (option_map order) result (reading line.now) }
+    ensures memory { IsErrOf result Unread.Memory → IsTrue (asks_memory (reading line.now)) }
+{
+    let text = ascii_text(line).ok_or(Unread::Unreadable)?;
+    request(alloc, text)
+}

@@ -1,0 +1,80 @@
+//! Lists that are written with commas between two, or as `-` for none.
+ghost use Rattle.std.specs.Prelude.{◌≡◌, [], ◌∷◌, length, MatchOption, option_map};
+ghost use Rattle.vb_command.specs.Listed.{items_of, parts};
+ghost use Rattle.vb_command.specs.Reading.{Gives, Tells};
+
+use crate::read::field::Field;
+use crate::unread::Unread;
+use std::alloc::Allocator;
+use std::marker::Model;
+
+/// The parts of a word that are still to come. Contracts see the list of them.
+#[derive(Drop)]
+struct Parts<'a> {
+    rest: Option<&'a str>,
+}
+
+impl<'a> Model for Parts<'a> {
+    ghost use Rattle.std.specs.Prelude.{ℕ, List, []};
+    ghost use Rattle.std.specs.List.{slice_split};
+    ghost use Rattle.std.specs.Option.{option_map_or};
+    ghost use Rattle.vb_command.specs.Listed.{is_comma};
+
+    ghost Value = { List (List ℕ) };
+
+    ghost view = { λ p. option_map_or (λ rest. slice_split is_comma rest.now) p.rest [] };
+}
+
+impl<'a> Parts<'a> {
+    /// The parts of a word between commas; of `-` none.
+    fn new(word: &'a str) -> Self
+        ensures { result ≡ parts word.now }
+    {
+        Parts {
+            rest: if word == "-" { None } else { Some(word) },
+        }
+    }
+
+    /// The next part, if there is one.
+    #[tactic(auto, using(crate::proofs::ListedLemmas::splits))]
+    fn next(&mut self) -> Option<&'a str>
+        ensures { MatchOption result
+            (self.old ≡ [])
+            (λ part. self.old ≡ part.now ∷ self.new) }
+    {
+        let rest = self.rest?;
+        if let Some((part, after)) = rest.split_once(',') {
+            self.rest = Some(after);
+            return Some(part);
+        }
+        self.rest = None;
+        Some(rest)
+    }
+}
+
+/// How many items a word writes.
+#[tactic(auto, using(crate::proofs::ListedLemmas::counts))]
+fn count<T: Field>(word: &str) -> Result<usize, Unread>
+    ensures { Tells (λ n. n) result (option_map length (items_of (T.written) word.now)) }
+{
+    let mut count = 0;
+    let mut parts = Parts::new(word);
+    while let Some(part) = parts.next() {
+        T::read(part)?;
+        count += 1;
+    }
+    Ok(count)
+}
+
+/// The items that a word writes, in memory by one request.
+pub fn list<T: Field, A: Allocator + Clone>(alloc: &A, word: &str) -> Result<Vec<T, A>, Unread>
+    ensures { Gives (λ items. items.items) result (items_of (T.written) word.now) }
+{
+    let count = count::<T>(word)?;
+    let mut items = Vec::with_capacity(alloc.clone()?, count)?;
+    let mut parts = Parts::new(word);
+    while let Some(part) = parts.next() {
+        items.push(T::read(part)?)?;
+    }
+    Ok(items)
+}
