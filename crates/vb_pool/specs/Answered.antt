@@ -1,7 +1,7 @@
 -- What a command's method gives.
 use Rattle.std.specs.Prelude.{◌≡◌, Option, Some, None, Result, Ok, Err}
 use Rattle.vb_command.specs.Machine.{Reply, Refused}
-use Rattle.vb_command.specs.Views.{reason, reply}
+use Rattle.vb_command.specs.Views.{reply}
 use Rattle.vb_command.specs.declared.answer.Answer.{Answer}
 use Rattle.vb_command.specs.declared.answer.Refusal.{Refusal}
 use Rattle.vb_command.specs.declared.answer.Refusal.TheVariants.{BadSlot}
@@ -10,9 +10,9 @@ use Rattle.vb_set.specs.declared.BufferError.TheVariants.{OutOfMemory, TakeOutOf
 use Rattle.vb_set.specs.declared.BufferError.TheVariants.{TooManyBits}
 
 -- the reply of an answer, or of a refusal
-abbrev pub answered : {A : Type 0} → Result (Answer A) Refusal → Reply
-answered (Ok answer) = reply answer
-answered (Err why) = Refused (reason why)
+abbrev pub reply_of : {A : Type 0} → Result (Answer A) Refusal → Reply
+reply_of (Ok answer) = reply answer
+reply_of (Err why) = Refused why
 
 -- what a slot holds is given, seen in this way; where it holds nothing of the kind, the slot is
 -- refused

@@ -1,7 +1,7 @@
 //! Edits of the open set in a slot.
 ghost use Rattle.vb_command.specs.Machine.{Step, Outcome};
 ghost use Rattle.vb_command.specs.Machine as machine;
-ghost use Rattle.vb_pool.specs.Answered.{answered};
+ghost use Rattle.vb_pool.specs.Answered.{reply_of};
 
 use crate::pool::Pool;
 use crate::range::is_range;
@@ -14,7 +14,7 @@ use vb_command::{Answer, Refusal};
 impl<A: Allocator + Clone> Pool<A> {
     /// Makes bit `i` `v`.
     pub(crate) fn set(&mut self, k: usize, i: usize, v: bool) -> Result<Answer<A>, Refusal>
-        ensures { Step self.old (machine.Set k i v) (answered result) self.new }
+        ensures { Step self.old (machine.Set k i v) (reply_of result) self.new }
     {
         let set = self.open_mut(k).ok_or(Refusal::BadSlot)?;
         if i >= set.len() {
@@ -26,7 +26,7 @@ impl<A: Allocator + Clone> Pool<A> {
 
     /// Adds a bit `v`.
     pub(crate) fn append(&mut self, k: usize, v: bool) -> Result<Answer<A>, Refusal>
-        ensures { Outcome self.old (machine.Append k v) (answered result) self.new }
+        ensures { Outcome self.old (machine.Append k v) (reply_of result) self.new }
     {
         let set = self.open_mut(k).ok_or(Refusal::BadSlot)?;
         set.append(v).map_err(refusal_of)?;
@@ -35,7 +35,7 @@ impl<A: Allocator + Clone> Pool<A> {
 
     /// Adds `n` bits `v`.
     pub(crate) fn append_n(&mut self, k: usize, v: bool, n: usize) -> Result<Answer<A>, Refusal>
-        ensures { Outcome self.old (machine.Appendn k v n) (answered result) self.new }
+        ensures { Outcome self.old (machine.Appendn k v n) (reply_of result) self.new }
     {
         let set = self.open_mut(k).ok_or(Refusal::BadSlot)?;
         set.append_n(v, n).map_err(refusal_of)?;
@@ -45,7 +45,7 @@ impl<A: Allocator + Clone> Pool<A> {
     /// Adds the bits of the frozen set in slot `j`.
     #[tactic(auto, using(crate::proofs::Slots::taken))]
     pub(crate) fn append_set(&mut self, k: usize, j: usize) -> Result<Answer<A>, Refusal>
-        ensures { Outcome self.old (machine.Appendset k j) (answered result) self.new }
+        ensures { Outcome self.old (machine.Appendset k j) (reply_of result) self.new }
     {
         self.frozen_at(j)?;
         let mut set = self.take_open(k)?;
@@ -68,7 +68,7 @@ impl<A: Allocator + Clone> Pool<A> {
         b: usize,
         v: bool,
     ) -> Result<Answer<A>, Refusal>
-        ensures { Step self.old (machine.Fill k a b v) (answered result) self.new }
+        ensures { Step self.old (machine.Fill k a b v) (reply_of result) self.new }
     {
         let set = self.open_mut(k).ok_or(Refusal::BadSlot)?;
         if !is_range(a, b, set.len()) {
@@ -80,7 +80,7 @@ impl<A: Allocator + Clone> Pool<A> {
 
     /// Keeps the first `n` bits, or all where there are at most `n`.
     pub(crate) fn truncate(&mut self, k: usize, n: usize) -> Result<Answer<A>, Refusal>
-        ensures { Step self.old (machine.Truncate k n) (answered result) self.new }
+        ensures { Step self.old (machine.Truncate k n) (reply_of result) self.new }
     {
         self.open_mut(k).ok_or(Refusal::BadSlot)?.truncate(n);
         Ok(Answer::Done)
@@ -88,7 +88,7 @@ impl<A: Allocator + Clone> Pool<A> {
 
     /// Takes all bits from the set.
     pub(crate) fn clear(&mut self, k: usize) -> Result<Answer<A>, Refusal>
-        ensures { Step self.old (machine.Clear k) (answered result) self.new }
+        ensures { Step self.old (machine.Clear k) (reply_of result) self.new }
     {
         self.open_mut(k).ok_or(Refusal::BadSlot)?.clear();
         Ok(Answer::Done)
@@ -96,7 +96,7 @@ impl<A: Allocator + Clone> Pool<A> {
 
     /// Negates every bit.
     pub(crate) fn flip(&mut self, k: usize) -> Result<Answer<A>, Refusal>
-        ensures { Step self.old (machine.Flip k) (answered result) self.new }
+        ensures { Step self.old (machine.Flip k) (reply_of result) self.new }
     {
         let set = self.take_open(k)?;
         Ok(self.put(k, Slot::Open(set.flip())))

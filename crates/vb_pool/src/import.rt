@@ -2,8 +2,7 @@
 ghost use Rattle.std.specs.Prelude.{◌≡◌, true, IfErr, OnOk};
 ghost use Rattle.vb_command.specs.Machine.{Outcome, Step, Refused, fits, vacant_at};
 ghost use Rattle.vb_command.specs.Machine as machine;
-ghost use Rattle.vb_command.specs.Views.{reason};
-ghost use Rattle.vb_pool.specs.Answered.{answered};
+ghost use Rattle.vb_pool.specs.Answered.{reply_of};
 
 use crate::open_bits::OpenBits;
 use crate::pool::Pool;
@@ -24,7 +23,7 @@ impl<A: Allocator + Clone> Pool<A> {
         bytes: &[u8],
     ) -> Result<Answer<A>, Refusal>
         ensures { Outcome self.old (machine.Import k offset len bytes.now)
-            (answered result) self.new }
+            (reply_of result) self.new }
     {
         self.can_import(k, offset, len, bytes)?;
         let set = OpenBits::copy_window(alloc, bytes, offset, len).map_err(refusal_of)?;
@@ -41,7 +40,7 @@ impl<A: Allocator + Clone> Pool<A> {
         bytes: Vec<u8, A>,
     ) -> Result<Answer<A>, Refusal>
         ensures { Outcome self.old (machine.Import k offset len bytes.items)
-            (answered result) self.new }
+            (reply_of result) self.new }
     {
         if let Err(why) = self.can_import(k, offset, len, &bytes) {
             drop(bytes);
@@ -56,7 +55,7 @@ impl<A: Allocator + Clone> Pool<A> {
         ensures vacant { OnOk result (vacant_at self.now k ≡ true) }
         ensures fits { OnOk result (fits offset len bytes.now ≡ true) }
         ensures err { IfErr result (λ why.
-            Step self.now (machine.Import k offset len bytes.now) (Refused (reason why)) self.now) }
+            Step self.now (machine.Import k offset len bytes.now) (Refused why) self.now) }
     {
         if !self.is_vacant(k) {
             return Err(Refusal::BadSlot);

@@ -2,7 +2,7 @@
 //! it is empty afterwards.
 ghost use Rattle.vb_command.specs.Machine.{Outcome};
 ghost use Rattle.vb_command.specs.Machine as machine;
-ghost use Rattle.vb_pool.specs.Answered.{answered};
+ghost use Rattle.vb_pool.specs.Answered.{reply_of};
 
 use crate::open_bits::OpenBits;
 use crate::pool::Pool;
@@ -15,7 +15,7 @@ use vb_command::{Answer, Refusal};
 impl<A: Allocator + Clone> Pool<A> {
     /// Makes the open set a frozen one, with no copy.
     pub(crate) fn freeze(&mut self, k: usize) -> Result<Answer<A>, Refusal>
-        ensures { Outcome self.old (machine.Freeze k) (answered result) self.new }
+        ensures { Outcome self.old (machine.Freeze k) (reply_of result) self.new }
     {
         let set = self.take_open(k)?.freeze().map_err(refusal_of)?;
         Ok(self.put(k, Slot::Frozen(set)))
@@ -23,7 +23,7 @@ impl<A: Allocator + Clone> Pool<A> {
 
     /// Makes the frozen set an open one: with no copy, where no other slot has its storage.
     pub(crate) fn thaw(&mut self, alloc: &A, k: usize) -> Result<Answer<A>, Refusal>
-        ensures { Outcome self.old (machine.Thaw k) (answered result) self.new }
+        ensures { Outcome self.old (machine.Thaw k) (reply_of result) self.new }
     {
         let set = OpenBits::thaw(alloc, self.take_frozen(k)?).map_err(refusal_of)?;
         Ok(self.put(k, Slot::Open(set)))

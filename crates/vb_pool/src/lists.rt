@@ -8,6 +8,7 @@ ghost use Rattle.vb_set.specs.Runs.{runs};
 ghost use Rattle.vb_set.specs.View.{bits_of};
 
 use std::alloc::Allocator;
+use vb_bits::digit;
 use vb_set::{BitBuffer, BitBufferView, BufferError};
 
 /// The bits from place 0 on, by one request, a word of them at a time. Refused by `OutOfMemory`
@@ -35,7 +36,7 @@ fn list_digits(word: u64) -> [bool; 64]
 {
     let mut list = [false; 64];
     for k in 0..64 {
-        list[k] = (word >> k) & 1 == 1;
+        list[k] = digit(word, k);
     }
     list
 }

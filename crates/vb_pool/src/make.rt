@@ -2,7 +2,7 @@
 ghost use Rattle.std.specs.Prelude.{◌≡◌};
 ghost use Rattle.vb_command.specs.Machine.{Step, Outcome, all_below};
 ghost use Rattle.vb_command.specs.Machine as machine;
-ghost use Rattle.vb_pool.specs.Answered.{answered};
+ghost use Rattle.vb_pool.specs.Answered.{reply_of};
 
 use crate::open_bits::OpenBits;
 use crate::pool::Pool;
@@ -22,7 +22,7 @@ impl<A: Allocator + Clone> Pool<A> {
         v: bool,
         n: usize,
     ) -> Result<Answer<A>, Refusal>
-        ensures { Outcome self.old (machine.Full k v n) (answered result) self.new }
+        ensures { Outcome self.old (machine.Full k v n) (reply_of result) self.new }
     {
         self.need_vacant(k)?;
         let set = OpenBits::full(alloc, v, n).map_err(refusal_of)?;
@@ -38,7 +38,7 @@ impl<A: Allocator + Clone> Pool<A> {
         n: usize,
         places: &[usize],
     ) -> Result<Answer<A>, Refusal>
-        ensures { Outcome self.old (machine.Indices k n places.now) (answered result) self.new }
+        ensures { Outcome self.old (machine.Indices k n places.now) (reply_of result) self.new }
     {
         self.need_vacant(k)?;
         if !all_below(n, places) {
@@ -51,7 +51,7 @@ impl<A: Allocator + Clone> Pool<A> {
     /// Puts the set of slot `k`, of its kind, in slot `t` too, which has to be empty. The bits of
     /// an open set are copied; a frozen set shares its storage.
     pub(crate) fn clone(&mut self, k: usize, t: usize) -> Result<Answer<A>, Refusal>
-        ensures { Outcome self.old (machine.Clone k t) (answered result) self.new }
+        ensures { Outcome self.old (machine.Clone k t) (reply_of result) self.new }
     {
         let slot = self.kept_at(k)?;
         self.need_vacant(t)?;
@@ -68,7 +68,7 @@ impl<A: Allocator + Clone> Pool<A> {
         b: usize,
         t: usize,
     ) -> Result<Answer<A>, Refusal>
-        ensures { Outcome self.old (machine.Slice k a b t) (answered result) self.new }
+        ensures { Outcome self.old (machine.Slice k a b t) (reply_of result) self.new }
     {
         let set = self.frozen_at(k)?;
         self.need_vacant(t)?;
@@ -82,7 +82,7 @@ impl<A: Allocator + Clone> Pool<A> {
     /// Puts the bits of the frozen set in slot `k` in slot `t` too, which has to be empty, with the
     /// bytes in which they lie and no others.
     pub(crate) fn sliced(&mut self, k: usize, t: usize) -> Result<Answer<A>, Refusal>
-        ensures { Outcome self.old (machine.Sliced k t) (answered result) self.new }
+        ensures { Outcome self.old (machine.Sliced k t) (reply_of result) self.new }
     {
         let set = self.frozen_at(k)?;
         self.need_vacant(t)?;
@@ -92,7 +92,7 @@ impl<A: Allocator + Clone> Pool<A> {
 
     /// Empties the slot, which has to hold a set.
     pub(crate) fn drop(&mut self, k: usize) -> Result<Answer<A>, Refusal>
-        ensures { Step self.old (machine.Drop k) (answered result) self.new }
+        ensures { Step self.old (machine.Drop k) (reply_of result) self.new }
     {
         self.kept_at(k)?;
         Ok(self.put(k, Slot::Empty))

@@ -2,9 +2,9 @@
 //! memory is refused it is empty afterwards.
 ghost use Rattle.std.specs.Prelude.{◌≡◌, true, false, IsSome, IfErr, OnOk};
 ghost use Rattle.vb_set.specs.Gives.{GivesCombined};
-ghost use Rattle.vb_command.specs.Machine.{Outcome, frozen_at, released, vacant_at};
+ghost use Rattle.vb_command.specs.Machine.{Outcome, frozen_at, after_release, vacant_at};
 ghost use Rattle.vb_command.specs.Machine as machine;
-ghost use Rattle.vb_pool.specs.Answered.{GivesHeld, answered};
+ghost use Rattle.vb_pool.specs.Answered.{GivesHeld, reply_of};
 
 use crate::pool::Pool;
 use crate::refused::refusal_of;
@@ -26,7 +26,7 @@ impl<A: Allocator + Clone> Pool<A> {
         r: usize,
         t: usize,
     ) -> Result<Answer<A>, Refusal>
-        ensures { Outcome self.old (machine.Combine op mode l r t) (answered result) self.new }
+        ensures { Outcome self.old (machine.Combine op mode l r t) (reply_of result) self.new }
     {
         let len = self.frozen_at(l)?.len();
         let right_len = self.frozen_beside(mode, l, r)?.len();
@@ -51,7 +51,7 @@ impl<A: Allocator + Clone> Pool<A> {
     /// Puts the negated bits of the frozen set in slot `l` in slot `t`: by reference in bytes of
     /// their own, by `own` in the set's storage where no other slot has it.
     pub(crate) fn not(&mut self, mode: Mode, l: usize, t: usize) -> Result<Answer<A>, Refusal>
-        ensures { Outcome self.old (machine.Not mode l t) (answered result) self.new }
+        ensures { Outcome self.old (machine.Not mode l t) (reply_of result) self.new }
     {
         self.frozen_at(l)?;
         self.need_vacant_beside(mode, l, t)?;
@@ -66,7 +66,8 @@ impl<A: Allocator + Clone> Pool<A> {
     /// Refused by `BadSlot`, where the slot isn't there or holds none.
     #[tactic(auto, using(crate::proofs::Slots::given))]
     fn frozen_beside(&self, mode: Mode, l: usize, r: usize) -> Result<&BitBuffer<A>, Refusal>
-        ensures { GivesHeld (λ set. set.now.bits) (frozen_at (released mode l self.now) r) result }
+        ensures { GivesHeld (λ set. set.now.bits)
+            (frozen_at (after_release mode l self.now) r) result }
     {
         match mode {
             Mode::Own if l == r => Err(Refusal::BadSlot),
@@ -79,9 +80,9 @@ impl<A: Allocator + Clone> Pool<A> {
     #[tactic(auto, using(crate::proofs::Slots::given))]
     fn need_vacant_beside(&self, mode: Mode, l: usize, t: usize) -> Result<(), Refusal>
         requires { IsSome (frozen_at self.now l) }
-        ensures ok { OnOk result (vacant_at (released mode l self.now) t ≡ true) }
+        ensures ok { OnOk result (vacant_at (after_release mode l self.now) t ≡ true) }
         ensures err { IfErr result (λ why.
-            (why ≡ Refusal.BadSlot) × (vacant_at (released mode l self.now) t ≡ false)) }
+            (why ≡ Refusal.BadSlot) × (vacant_at (after_release mode l self.now) t ≡ false)) }
     {
         match mode {
             Mode::Own if l == t => Ok(()),

@@ -2,7 +2,7 @@
 ghost use Rattle.std.specs.Prelude.{◌≡◌, map, IfOk, OnErr, IsOkUnless};
 ghost use Rattle.vb_command.specs.Machine.{Outcome, Run, order};
 ghost use Rattle.vb_command.specs.Views.{reply};
-ghost use Rattle.vb_pool.specs.Answered.{answered};
+ghost use Rattle.vb_pool.specs.Answered.{reply_of};
 ghost use Rattle.vb_set.specs.declared.BufferError.TheVariants.{OutOfMemory};
 
 use crate::pool::Pool;
@@ -47,7 +47,7 @@ impl<A: Allocator + Clone> Pool<A> {
 
     /// Carries out one command: what it is answered, or why it is refused.
     fn carry_out(&mut self, alloc: &A, command: &Command<A>) -> Result<Answer<A>, Refusal>
-        ensures { Outcome self.old (order command.now) (answered result) self.new }
+        ensures { Outcome self.old (order command.now) (reply_of result) self.new }
     {
         match *command {
             Command::Import(k, offset, len, ref bytes) => {
@@ -93,7 +93,7 @@ impl<A: Allocator + Clone> Pool<A> {
 
 /// What a command is answered that was carried out or refused.
 fn answer_of<A: Allocator>(outcome: Result<Answer<A>, Refusal>) -> Answer<A>
-    ensures { reply result ≡ answered outcome }
+    ensures { reply result ≡ reply_of outcome }
 {
     match outcome {
         Ok(answer) => answer,

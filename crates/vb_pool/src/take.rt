@@ -3,7 +3,7 @@ ghost use Rattle.std.specs.Prelude.{◌≡◌, length, IfOk, IfErr, IsTrue};
 ghost use Rattle.std.specs.Option.{option_map};
 ghost use Rattle.vb_command.specs.Machine.{Outcome, is_as_long, validity_at};
 ghost use Rattle.vb_command.specs.Machine as machine;
-ghost use Rattle.vb_pool.specs.Answered.{GivesHeld, answered};
+ghost use Rattle.vb_pool.specs.Answered.{GivesHeld, reply_of};
 ghost use Rattle.vb_set.specs.Takes.{IsTaken, TakeRefused};
 ghost use Rattle.vb_set.specs.View.{bits_of};
 
@@ -26,7 +26,7 @@ impl<A: Allocator + Clone> Pool<A> {
         m: Option<usize>,
         indices: &[i64],
     ) -> Result<Answer<A>, Refusal>
-        ensures { Outcome self.old (machine.Take k t m indices.now) (answered result) self.new }
+        ensures { Outcome self.old (machine.Take k t m indices.now) (reply_of result) self.new }
     {
         let source = self.frozen_at(k)?.as_view();
         self.need_vacant(t)?;

@@ -1,9 +1,8 @@
 -- How far a session has come, and what that says where it ends.
-use Rattle.std.proofs.Common.{◌≡◌, ◌⊎◌, ℕ, ◌+◌, ◌-◌, ◌^◌, ◌<◌, List, [], ◌∷◌, ◌++◌}
-use Rattle.std.proofs.Common.{length, take, drop, refl, sym, ap, ◌∙◌, Option, Some, None, Result}
-use Rattle.std.proofs.Common.{Ok, Err, arith, eqb, subst, append_assoc, length-append}
-use Rattle.std.specs.Prelude.{position, slice_get, IfSome, IsSomeAnd, IsTrue, ⊤}
-use Rattle.std.proofs.Math.Seq.{take-append_seam}
+use Rattle.std.proofs.Common.{◌≡◌, ◌⊎◌, ℕ, ◌+◌, ◌-◌, ◌^◌, ◌<◌, List, [], ◌∷◌, ◌++◌, length, take}
+use Rattle.std.proofs.Common.{drop, refl, sym, ap, ◌∙◌, Option, Some, None, Result, Ok, Err, arith}
+use Rattle.std.proofs.Common.{eqb, subst, append_assoc, length-append}
+use Rattle.std.specs.Prelude.{position, IfSome, IsSomeAnd, IsTrue}
 use Rattle.std.specs.Str.Lines.{lines, strip_carriage_return}
 use Rattle.std.specs.Io.KnownBytes.{prepend_known, append_known, Keeps, Appends, IsAtEnd}
 use Rattle.std.proofs.lemmas.Grind.{flat_map-append}
@@ -14,222 +13,29 @@ use Rattle.vb_command.specs.Reading.{asks_memory, before, reading, script}
 use Rattle.vb_pool.proofs.Runs.{Run-append}
 use Rattle.vb_script.specs.Feed.{next_line}
 use Rattle.vb_script.specs.DriveError.{UnlessWrite, line_error, stream_error}
-use Rattle.vb_script.specs.Session.{Answers, reading_any, line_of_any, printed, AnswersRun}
+use Rattle.vb_script.specs.Session.{Answers, reading_any, line_of_any, lines_of, AnswersRun}
 use Rattle.vb_script.specs.Session.{AnswersLines, AnswersSome, AnswersEnded, StopsAt, SessionEnds}
-use Rattle.vb_script.specs.Session.{count_ended, ended_lines}
+use Rattle.vb_script.specs.Session.{count_ended}
 use Rattle.vb_script.specs.declared.error.DriveError.{DriveError}
 use Rattle.vb_script.specs.declared.error.DriveError.TheVariants.{Unreadable, Read, Write, Memory}
 use Rattle.vb_command.specs.declared.unread.Unread.{Unread}
 use Rattle.vb_command.specs.declared.unread.Unread.TheVariants as unread
 use Rattle.vb_script.specs.declared.lines.Unready.{Unready}
 use Rattle.vb_script.specs.declared.lines.Unready.TheVariants as unready
-use Rattle.vb_script.proofs.InputLines.{line_feeds, line_feeds-append, line_feeds-within}
-use Rattle.vb_script.proofs.InputLines.{lines-line_feed, lines-last, within_first, within_all}
-use Rattle.vb_script.proofs.InputLines.{cut_at_line_feed}
+use Rattle.vb_script.proofs.InputLines.{line_feeds-append}
 use Rattle.vb_script.proofs.KnownBytes.{Appends-Keeps, Appends-nil, Appends-trans, Appends-wait-nil}
-use Rattle.vb_script.proofs.KnownBytes.{Appends-written, known_rest, nil_at_end}
+use Rattle.vb_script.proofs.KnownBytes.{Appends-written, nil_at_end}
 use Rattle.vb_script.proofs.Scripts.{script-append}
-
--- of the input these lines were passed; the bytes fed come next, and then the remaining ones
-pub record Passed (input : List ℕ) (done : List (List ℕ)) (fed : List ℕ)
-    (remaining : Option (List ℕ)) : Type 0 where
-  pub used : List ℕ
-  pub rest : List ℕ
-  pub known : remaining ≡ Some rest
-  pub whole : input ≡ used ++ (fed ++ rest)
-  pub split : (more : List ℕ) → lines (used ++ more) ≡ done ++ lines more
-  pub ended : line_feeds used ≡ length done
-
--- no line was passed
-pub Passed-nil : (input : List ℕ) (remaining : Option (List ℕ)) → remaining ≡ Some input
-    → Passed input [] [] remaining
-Passed-nil input remaining e = record {
-  used = [];
-  rest = input;
-  known = e;
-  whole = refl;
-  split =
-      λ more. refl;
-  ended = refl;
-}
-
--- bytes were read
-pub Passed-Keeps : (input : List ℕ) (done : List (List ℕ)) (fed : List ℕ)
-    (remaining : Option (List ℕ)) (fed' : List ℕ) (remaining' : Option (List ℕ))
-    → Passed input done fed remaining → Keeps (prepend_known fed remaining)
-    (prepend_known fed' remaining') → Passed input done fed' remaining'
-Passed-Keeps input done fed remaining fed' remaining' p kept =
-    let now = known_rest (fed ++ p.rest) fed' remaining'
-    (subst (λ (o : Option (List ℕ)). Keeps (prepend_known fed o)
-    (prepend_known fed' remaining')) p.known kept) in
-    record {
-      used = p.used;
-      rest = now.0;
-      known = now.1;
-      whole = p.whole
-          ∙ ap (λ xs. p.used ++ xs) (sym now.2);
-      split = p.split;
-      ended = p.ended;
-    }
-
--- one more line was passed
-pub Passed-append : (input : List ℕ) (done : List (List ℕ)) (fed : List ℕ)
-    (remaining : Option (List ℕ)) (at : ℕ)
-    → Passed input done fed remaining → position (λ b. eqb b 10) fed ≡ Some at
-    → Passed input (done ++ strip_carriage_return (take at fed) ∷ [])
-    (drop (at + 1) fed) remaining
-Passed-append input done fed remaining at p here =
-    let line = take at fed in
-    let more = drop (at + 1) fed in
-    let end = line ++ 10 ∷ [] in
-    let cut : (ys : List ℕ) → end ++ ys ≡ line ++ 10 ∷ ys = λ ys. append_assoc line (10 ∷ []) ys in
-    record {
-      used = p.used ++ end;
-      rest = p.rest;
-      known = p.known;
-      whole = p.whole ∙ (ap (λ xs. p.used ++ (xs ++ p.rest))
-          (cut_at_line_feed fed at here ∙ sym (cut more))
-          ∙ (ap (λ xs. p.used ++ xs) (append_assoc end more p.rest)
-          ∙ sym (append_assoc p.used end (more ++ p.rest))));
-      split = λ ys. ap lines (append_assoc p.used end ys ∙ ap (λ xs. p.used ++ xs) (cut ys))
-          ∙ (p.split (line ++ 10 ∷ ys) ∙ (ap (λ ls. done ++ ls)
-          (lines-line_feed line ys (within_first fed at here))
-          ∙ sym (append_assoc done (strip_carriage_return line ∷ []) (lines ys))));
-      ended = omega (
-        arith,
-        line_feeds-append p.used end,
-        line_feeds-append line
-            (10 ∷ []),
-        line_feeds-within line (within_first fed at here),
-        p.ended,
-        length-append done
-            (strip_carriage_return line ∷ []),
-      );
-    }
-
--- there is a next line, if a line feed or any byte is there
-pub next_line-there : (at : Option ℕ) (fed : List ℕ) → (at ≡ None → 0 < length fed)
-    → IsSomeAnd (next_line at fed) (λ line. ⊤)
-next_line-there (Some k) fed some = tt
-next_line-there None [] some = absurd (let no : 0 < 0 = some refl in omega arith)
-next_line-there None (b ∷ bytes) some = tt
-
--- the lines of the input are those that were passed and those to come
-pub Passed-lines : (input : List ℕ) (done : List (List ℕ)) (fed : List ℕ)
-    (remaining : Option (List ℕ)) → (p : Passed input done fed remaining)
-    → lines input ≡ done ++ lines (fed ++ p.rest)
-Passed-lines input done fed remaining p = ap lines p.whole ∙ p.split (fed ++ p.rest)
-
--- where no line feed waits, the lines that have ended are those that were passed
-pub Passed-ended_lines : (input : List ℕ) (done : List (List ℕ)) (fed : List ℕ)
-    (remaining : Option (List ℕ)) → (p : Passed input done fed remaining)
-    → position (λ b. eqb b 10) fed ≡ None → ended_lines (p.used ++ fed) ≡ done
-Passed-ended_lines input done fed remaining p none =
-    let count : line_feeds (p.used ++ fed) ≡ length done =
-    omega (
-      arith,
-      line_feeds-append p.used fed,
-      line_feeds-within fed (within_all fed none),
-      p.ended,
-    ) in
-    ap (λ n. take n (lines (p.used ++ fed))) count ∙ (ap (take (length done)) (p.split fed)
-    ∙ take-append_seam done (lines fed))
-
--- the lines that were passed are the first ones of the input
-pub Passed-front : (input : List ℕ) (done : List (List ℕ)) (fed : List ℕ)
-    (remaining : Option (List ℕ)) → Passed input done fed remaining
-    → take (length done) (lines input) ≡ done
-Passed-front input done fed remaining p = ap (take (length done))
-    (Passed-lines input done fed remaining p) ∙ take-append_seam done (lines (fed ++ p.rest))
-
--- where no line feed waits, as many lines have ended as were passed
-pub Passed-count : (input : List ℕ) (done : List (List ℕ)) (fed : List ℕ)
-    (remaining : Option (List ℕ)) → (p : Passed input done fed remaining)
-    → position (λ b. eqb b 10) fed ≡ None → count_ended (p.used ++ fed) ≡ length done
-Passed-count input done fed remaining p none = omega (
-  arith,
-  line_feeds-append p.used fed,
-  line_feeds-within fed (within_all fed none),
-  p.ended,
-)
-
--- what holds of an element stands at its place
-at_seam : (done : List (List ℕ)) (line : List ℕ) (later : List (List ℕ)) (P : List ℕ → Type 0)
-    → P line → IsSomeAnd (slice_get (done ++ line ∷ later) (length done)) P
-at_seam [] line later P h = h
-at_seam (x ∷ done) line later P h = at_seam done line later P h
-
--- what holds of a line in the middle of a list
-pub next_of : (ls done : List (List ℕ)) (line : List ℕ) (later : List (List ℕ))
-    (P : List ℕ → Type 0) → ls ≡ done ++ line ∷ later → P line
-    → IsSomeAnd (slice_get ls (length done)) P
-next_of ls done line later P e h = subst (λ (xs : List (List ℕ)).
-    IsSomeAnd (slice_get xs (length done)) P) (sym e) (at_seam done line later P h)
-
--- the same lines, as if no more were to come
-Passed-here : (input : List ℕ) (done : List (List ℕ)) (fed : List ℕ) (remaining : Option (List ℕ))
-    → (p : Passed input done fed remaining) → Passed (p.used ++ fed) done fed (Some [])
-Passed-here input done fed remaining p = record {
-  used = p.used;
-  rest = [];
-  known = refl;
-  whole =
-      ap (λ xs. p.used ++ xs) (sym (append-nil fed));
-  split = p.split;
-  ended = p.ended;
-}
-
--- nothing is left
-pub Passed-all : (input : List ℕ) (done : List (List ℕ)) (remaining : Option (List ℕ))
-    → Passed input done [] remaining → IsAtEnd remaining → lines input ≡ done
-Passed-all input done remaining p end =
-    Passed-lines input done [] remaining p ∙ (ap (λ xs. done ++ lines xs)
-    (nil_at_end remaining p.rest p.known end) ∙ append-nil done)
-
--- a last line is left, which no line feed ends
-pub Passed-last : (input : List ℕ) (done : List (List ℕ)) (fed : List ℕ)
-    (remaining : Option (List ℕ)) → Passed input done fed remaining
-    → position (λ b. eqb b 10) fed ≡ None → 0 < length fed → IsAtEnd remaining
-    → lines input ≡ done ++ fed ∷ []
-Passed-last input done fed remaining p none some end =
-    Passed-lines input done fed remaining p
-    ∙ (ap (λ xs. done ++ lines (fed ++ xs)) (nil_at_end remaining p.rest p.known end)
-    ∙ (ap (λ xs. done ++ lines xs) (append-nil fed)
-    ∙ ap (λ ls. done ++ ls) (lines-last fed (within_all fed none) some)))
-
--- the next line stands behind those that were passed
-pub Passed-next_line : (input : List ℕ) (done : List (List ℕ)) (fed : List ℕ)
-    (remaining : Option (List ℕ)) (at : Option ℕ) (P : List ℕ → Type 0)
-    → Passed input done fed remaining → at ≡ position (λ b. eqb b 10) fed
-    → (at ≡ None → IsAtEnd remaining) → IsSomeAnd (next_line at fed) P
-    → (line : List ℕ) × (later : List (List ℕ)) × (lines input ≡ done ++ line ∷ later) × P line
-Passed-next_line input done fed remaining (Some k) P p here end some =
-    let line = take k fed in
-    let more = drop (k + 1) fed ++ p.rest in
-    let cut : fed ++ p.rest ≡ line ++ 10 ∷ more = ap (λ xs. xs ++ p.rest)
-    (cut_at_line_feed fed k (sym here)) ∙ append_assoc line (10 ∷ drop (k + 1) fed) p.rest in (
-      strip_carriage_return line,
-      lines more,
-      Passed-lines input done fed remaining p
-          ∙ ap (λ ls. done ++ ls) (ap lines cut ∙ lines-line_feed line more
-          (within_first fed k (sym here))),
-      some,
-    )
-Passed-next_line input done [] remaining None P p here end some = absurd some
-Passed-next_line input done (b ∷ bytes) remaining None P p here end some = (
-  b ∷ bytes,
-  [],
-  Passed-last input done (b ∷ bytes) remaining p (sym here) (omega arith)
-      (end refl),
-  some,
-)
+use Rattle.vb_script.proofs.Passed.{Passed, Passed-nil, Passed-Keeps, Passed-append}
+use Rattle.vb_script.proofs.Passed.{Passed-ended_lines, Passed-front, Passed-count, next_of}
+use Rattle.vb_script.proofs.Passed.{Passed-here, Passed-all, Passed-last, Passed-next_line}
 
 -- commands were run, and of their answers those of out wait to be written
 pub record Ran (commands : List Order) (first written : Option (List ℕ)) (out : List ℕ)
     (slots : List Slot) : Type 0 where
   pub replies : List Reply
   pub ran : Run empty_slots commands replies slots
-  pub told : Appends first (append_known written out) (printed replies)
+  pub told : Appends first (append_known written out) (lines_of replies)
 
 -- no command was run
 pub Ran-nil : (first : Option (List ℕ)) → Ran [] first first [] empty_slots
@@ -245,14 +51,14 @@ Ran-Keeps commands first written out written' out' slots a told =
       replies = a.replies;
       ran = a.ran;
       told = Appends-Keeps first (append_known written out)
-          (append_known written' out') (printed a.replies) a.told told;
+          (append_known written' out') (lines_of a.replies) a.told told;
     }
 
 -- one more answer
-printed-append : (replies : List Reply) (r : Reply) → printed (replies ++ r ∷ []) ≡ printed
+lines_of-append : (replies : List Reply) (r : Reply) → lines_of (replies ++ r ∷ []) ≡ lines_of
     replies ++ line_of r
-printed-append replies r = flat_map-append line_of replies (r ∷ [])
-    ∙ ap (λ xs. printed replies ++ xs) (append-nil (line_of r))
+lines_of-append replies r = flat_map-append line_of replies (r ∷ [])
+    ∙ ap (λ xs. lines_of replies ++ xs) (append-nil (line_of r))
 
 -- one more line was served
 pub Ran-append : (commands : List Order) (first written : Option (List ℕ)) (out : List ℕ)
@@ -271,9 +77,10 @@ Ran-append commands first written out slots (Some None) r written' out' slots' a
         replies = a.replies;
         ran = subst (λ (s : List Slot). Run empty_slots commands a.replies s) (sym served.1) a.ran;
         told = subst (λ (x : List ℕ). Appends first (append_known written' out') x)
-            (ap (λ q. printed a.replies ++ line_of_any q) served.0 ∙ append-nil (printed a.replies))
+            (ap (λ q. lines_of a.replies ++ line_of_any q) served.0
+            ∙ append-nil (lines_of a.replies))
             (Appends-trans first (append_known written out) (append_known written' out')
-            (printed a.replies) (line_of_any r) a.told told);
+            (lines_of a.replies) (line_of_any r) a.told told);
       }),
 )
 Ran-append commands first written out slots (Some (Some c)) None written' out' slots' a served
@@ -286,9 +93,9 @@ Ran-append commands first written out slots (Some (Some c)) (Some r) written' ou
         replies = a.replies ++ r ∷ [];
         ran = Run-append empty_slots commands a.replies slots c r slots' a.ran outcome;
         told = subst (λ (x : List ℕ). Appends first (append_known written' out') x)
-            (sym (printed-append a.replies r))
+            (sym (lines_of-append a.replies r))
             (Appends-trans first (append_known written out) (append_known written' out')
-            (printed a.replies) (line_of r) a.told told);
+            (lines_of a.replies) (line_of r) a.told told);
       },
     )
 
@@ -304,7 +111,7 @@ Ran-AnswersRun commands first written out written' slots a wrote =
       last = slots;
       ran = a.ran;
       written =
-          Appends-written first written written' out (printed a.replies) a.told wrote;
+          Appends-written first written written' out (lines_of a.replies) a.told wrote;
     }
 
 -- some commands were run
@@ -335,28 +142,6 @@ pub RanAny-AnswersRun : (first written : Option (List ℕ)) (out : List ℕ) (sl
     → RanAny first written out slots → Appends written written' out → AnswersRun first written'
 RanAny-AnswersRun first written out slots written' (commands, a) wrote =
     Ran-AnswersRun commands first written out written' slots a wrote
-
--- no further line came
-pub RanAny-unready : (first written : Option (List ℕ)) (out : List ℕ) (slots : List Slot)
-    (written' : Option (List ℕ)) (e : Unready) (Q : Type 0)
-    → RanAny first written out slots → UnlessWrite {X = Option ℕ} (Err (stream_error e))
-    (Appends written written' out × Q) → UnlessWrite {X = Unit {0}} (Err (stream_error e))
-    (AnswersRun first written')
-RanAny-unready first written out slots written' unready.Write Q a stopped = tt
-RanAny-unready first written out slots written' unready.Read Q a stopped =
-    RanAny-AnswersRun first written out slots written' a stopped.0
-RanAny-unready first written out slots written' unready.Memory Q a stopped =
-    RanAny-AnswersRun first written out slots written' a stopped.0
-
--- the next line gave no command
-pub RanAny-unread : (first written : Option (List ℕ)) (out : List ℕ) (slots : List Slot)
-    (written' : Option (List ℕ)) (n : ℕ) (e : Unread)
-    → RanAny first written out slots → Appends written written' out
-    → UnlessWrite {X = Unit {0}} (Err (line_error n e)) (AnswersRun first written')
-RanAny-unread first written out slots written' n unread.Unreadable a wrote =
-    RanAny-AnswersRun first written out slots written' a wrote
-RanAny-unread first written out slots written' n unread.Memory a wrote =
-    RanAny-AnswersRun first written out slots written' a wrote
 
 -- no command was run, and nothing written
 pub AnswersRun-none : (written : Option (List ℕ)) → AnswersRun written written
@@ -400,7 +185,7 @@ Answered-AnswersLines ls first written out written' slots a wrote =
       last = slots;
       ran =
           a.ran.ran;
-      written = Appends-written first written written' out (printed a.ran.replies)
+      written = Appends-written first written written' out (lines_of a.ran.replies)
           a.ran.told wrote;
     }
 

@@ -29,8 +29,8 @@ line_of_any None = []
 line_of_any (Some r) = line_of r
 
 -- the answers, one a line
-abbrev pub printed : List Reply → List ℕ
-printed replies = flat_map line_of replies
+abbrev pub lines_of : List Reply → List ℕ
+lines_of replies = flat_map line_of replies
 
 -- commands were run from sixteen empty slots on, and the answers written
 pub record AnswersRun (old new : Option (List ℕ)) : Type 0 where
@@ -38,7 +38,7 @@ pub record AnswersRun (old new : Option (List ℕ)) : Type 0 where
   pub replies : List Reply
   pub last : List Slot
   pub ran : Run empty_slots commands replies last
-  pub written : Appends old new (printed replies)
+  pub written : Appends old new (lines_of replies)
 
 -- the lines were answered: their commands were run from sixteen empty slots on, and the answers
 -- written
@@ -48,7 +48,7 @@ pub record AnswersLines (ls : List (List ℕ)) (old new : Option (List ℕ)) : T
   pub replies : List Reply
   pub last : List Slot
   pub ran : Run empty_slots commands replies last
-  pub written : Appends old new (printed replies)
+  pub written : Appends old new (lines_of replies)
 
 -- the line of this number, which stands in what was read, can't be read, and those before it were
 -- answered

@@ -21,13 +21,14 @@ use vb_command::Unread;
 /// Memory is taken for the sets and what a command answers, for 65536 bytes of the input or at most
 /// twice the longest line, and once for 65536 bytes of answers: none is taken to print them. What
 /// clause `ends` says of the bytes read and written it says of streams that tell them; where the
-/// sink alone tells them, or none does, `ran` holds.
+/// sink alone tells them, or none does, `ran` holds: the answers of some commands were written, run
+/// from empty slots on.
 ///
 /// - `Ok`: the input ended, and each of its lines was answered.
 /// - `Unreadable`: this line can't be read and did nothing; the lines before it were answered.
 /// - `Read`: a read failed, as the source's count of faults tells; the lines that had ended were
 ///   answered.
-/// - `Write`: a write failed, as the sink's count of faults tells.
+/// - `Write`: a write failed, as the sink's count of faults tells; what was written is open.
 /// - `Memory`: a request for memory was refused outside of a command; some first ones of the lines
 ///   that had ended were answered. If the next one had ended too, it is an `import`, `indices` or
 ///   `take` that can be read.

@@ -1,7 +1,6 @@
-use Rattle.std.proofs.Common.{rules, ◌≡◌, suc, ◌+◌, ◌/◌, ◌^◌, ◌++◌, ◌∷◌, [], nat_eq, bit_and, take}
+use Rattle.std.proofs.Common.{rules, ◌≡◌, suc, ◌+◌, ◌++◌, ◌∷◌, [], take}
 use Rattle.std.proofs.Common.{slice_set, refl, sym, ap, ◌∙◌, arith, zero-add}
 use Rattle.std.proofs.Math.Seq.{take-suc-set}
-use Rattle.std.proofs.lemmas.Nat.Bits.{shr_and_one}
 use Rattle.vb_set.specs.Digits.{digits, has_bit}
 use Rattle.vb_set.proofs.DigitsLemmas.{digits_none, digits-add}
 use Rattle.vb_pool.proofs.lists.list_digits.Goals as goal
@@ -14,11 +13,11 @@ unfolding digits
 loop-k-preserved c =
     let l = c.loop-k in
     let w = c.args.word in
-    let read = nat_eq (bit_and (w / 2 ^ l.k) 1) 1 in
+    let read = c.digit.result in
     let turn : l.k + 1 ≡ suc l.k = omega arith in
     let next : digits w 0 (l.k + 1) ≡ digits w 0 l.k ++ has_bit w l.k ∷ [] = digits-add w 0 l.k 1
     ∙ ap (λ i. digits w 0 l.k ++ has_bit w i ∷ []) (zero-add l.k) in
-    let bit : read ≡ has_bit w l.k = ap (λ b. nat_eq b 1) (shr_and_one w l.k) in
+    let bit : read ≡ has_bit w l.k = c.digit.ensures in
     record {
       digits = ap (λ n. take n (slice_set l.list l.k read)) turn
           ∙ take-suc-set l.list l.k read (omega (arith, l.invariant.len))
