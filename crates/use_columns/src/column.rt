@@ -49,6 +49,21 @@ impl<A: Allocator + Clone> Column<A> {
         self.values.len()
     }
 
+    /// The values of all rows. What stands where a row is null says nothing.
+    pub fn values(&self) -> &Buffer<u32, A>
+        ensures { result.now.list ≡ self.now.values }
+    {
+        &self.values
+    }
+
+    /// Which rows aren't null, for each value one bit.
+    pub fn valid(&self) -> &BitBuffer<A>
+        ensures bits { result.now.bits ≡ self.now.valid }
+        ensures len { length result.now.bits ≡ length self.now.values }
+    {
+        &self.valid
+    }
+
     /// How many values are null.
     pub fn null_count(&self) -> usize
         ensures { result ≡ count (negated self.now.valid) }

@@ -4,14 +4,16 @@ ghost use Rattle.use_columns.specs.Page.{IsPage, IsNoPageOrMemory};
 
 use crate::column::Column;
 use std::alloc::Allocator;
-use vortex_buffer::{BitBuffer, Buffer, BufferError, ByteBuffer};
+use vortex_buffer::{Alignment, BitBuffer, Buffer, BufferError, ByteBuffer};
 
 /// Why a page can't be read.
-#[derive(Clone, Copy, Debug, PartialEq, Eq)]
+#[derive(Clone, Copy, Debug, PartialEq, Eq, thiserror::Error)]
 pub enum PageError {
     /// The page hasn't the bytes that its number of rows asks for.
+    #[error("page is cut short or too long")]
     Length,
     /// Memory was refused.
+    #[error("{0}")]
     Buffer(BufferError),
 }
 
@@ -26,8 +28,9 @@ impl From<BufferError> for PageError {
 }
 
 /// The column of a page: the number of rows in one byte, then the mask, then the values in four
-/// bytes each. The mask shares the page's storage, and the values are copied. Refused with `Length`
-/// exactly where the page has too few or too many bytes, and else with `Buffer` of `OutOfMemory`.
+/// bytes each. The mask shares the page's storage, and the values are read into storage of their
+/// own. Refused with `Length` exactly where the page has too few or too many bytes, and else with
+/// `Buffer` of `OutOfMemory`.
 pub fn read_page<A: Allocator + Clone>(page: &ByteBuffer<A>) -> Result<Column<A>, PageError>
     ensures ok { IfOk result (IsPage page.now.list) }
     ensures err { IfErr result (IsNoPageOrMemory page.now.list) }
@@ -40,9 +43,10 @@ pub fn read_page<A: Allocator + Clone>(page: &ByteBuffer<A>) -> Result<Column<A>
     if page.len() != start + 4 * rows {
         return Err(PageError::Length);
     }
-    let bytes = page.slice_unaligned(start..page.len())?;
+    let alloc = page.allocator().clone().map_err(BufferError::from)?;
+    let bytes = &page.as_slice()[start..];
+    let values = Buffer::read_from(alloc, bytes, Alignment::of::<u32>())?;
     let mask = page.clone()?;
     let valid = BitBuffer::new_with_offset(mask, rows, 8);
-    let values = Buffer::from_byte_buffer(bytes)?;
     Ok(Column::new(values, valid))
 }

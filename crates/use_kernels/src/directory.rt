@@ -36,9 +36,7 @@ impl<'a> Narrow<'a> {
 }
 
 impl Probe for Narrow<'_> {
-    ghost entries = { λ s. s.entries };
-
-    ghost probes = { λ s. s.probes };
+    ghost seen = { λ s. s };
 
     fn size(&self) -> usize {
         self.counts.len()

@@ -67,9 +67,7 @@ impl<'a> Metered<'a> {
 }
 
 impl Glance for Metered<'_> {
-    ghost bytes = { λ s. s.bytes };
-
-    ghost looks = { λ s. s.looks };
+    ghost seen = { λ s. record { bytes = s.bytes; looks = s.looks } };
 
     fn size(&self) -> usize {
         self.data.len()

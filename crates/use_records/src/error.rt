@@ -4,11 +4,13 @@ ghost use Rattle.std.specs.Prelude.{◌≡◌};
 use vortex_buffer::BufferError;
 
 /// Why a name can't be read.
-#[derive(Clone, Copy, Debug, PartialEq, Eq)]
+#[derive(Clone, Copy, Debug, PartialEq, Eq, thiserror::Error)]
 pub enum ReadError {
     /// The file ends before the name does.
+    #[error("file ends before a name does")]
     CutShort,
     /// The name isn't UTF-8, or memory was refused.
+    #[error("{0}")]
     Buffer(BufferError),
 }
 

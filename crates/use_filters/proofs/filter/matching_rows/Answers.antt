@@ -13,8 +13,10 @@ returns g c =
     let valid = c.args.valid.now.bits in
     let values = c.args.values.now.list in
     let met = c.in_ok-rows_where.ensures.ok in
-    let len : length c.in_ok-rows_where.field-0.bits ≡ length valid = omega (arith, ap length met, length-map values test, c.requires) in
+    let len : length c.in_ok-rows_where.field-0.bits ≡ length valid =
+    omega (arith, ap length met, length-map values test, c.requires) in
     record {
-      ok = IfOk-weaker c.bitand.result _ _ (λ s e. e ∙ ap (λ l. merged (λ a b. a && b) l valid) met ∙ merged_matched test valid values c.requires) c.bitand.ensures.ok;
+      ok = IfOk-weaker c.bitand.result _ _ (λ s e. e ∙ ap (λ l. merged (λ a b. a && b) l valid) met
+          ∙ merged_matched test valid values c.requires) c.bitand.ensures.ok;
       refused = c.bitand.ensures.same_len len;
     }

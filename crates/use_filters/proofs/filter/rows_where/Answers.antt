@@ -19,13 +19,18 @@ returns g c =
     let test = is_met c.args.condition in
     record {
       ok = IfOk-weaker c.collect_bool.result _ _ (λ s asked.
-          let told = Answers-from _ (λ k p. (p.1.now ≡ items) × (p.0.now ≡ c.args.condition)) (λ k. test (slice_index items k)) 0 (length items)
+          let told = Answers-from _ (λ k p. (p.1.now ≡ items) × (p.0.now ≡ c.args.condition))
+          (λ k. test (slice_index items k)) 0 (length items)
           (λ k p b q h same said.
           let value : b ≡ is_met p.0.now (slice_index p.1.now k) = search rules in
           let kept : q.1.now ≡ p.1.now = search rules in
-          let still : q.0.now ≡ p.0.now = search rules in
-          (value ∙ ap (λ l. is_met p.0.now (slice_index l k)) same.0 ∙ ap (λ t. is_met t (slice_index items k)) same.1, (kept ∙ same.0, still ∙ same.1)))
+          let still : q.0.now ≡ p.0.now = search rules in (
+            value ∙ ap (λ l. is_met p.0.now (slice_index l k)) same.0
+                ∙ ap (λ t. is_met t (slice_index items k)) same.1,
+            (kept ∙ same.0, still ∙ same.1),
+          ))
           _ _ _ (refl, refl) asked in
-          told.0 ∙ map_of_span test items ∙ ap (λ l. map test l) c.as_slice-items.ensures) c.collect_bool.ensures.answered;
-      refused = c.collect_bool.ensures.refused;
+          told.0 ∙ map_of_span test items
+          ∙ ap (λ l. map test l) c.as_slice-items.ensures) c.collect_bool.ensures.answered;
+      refused = c.collect_bool.ensures.fresh.refused;
     }

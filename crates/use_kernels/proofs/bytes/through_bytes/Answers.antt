@@ -1,11 +1,9 @@
--- Values and their bytes determine each other.
-use Rattle.std.proofs.Common.{◌<◌, ◌^◌, ℕ, ◌∙◌, ap}
+-- No other values have these bytes.
+use Rattle.std.proofs.Common.{◌<◌, ◌^◌, ℕ, ◌∙◌, sym, ap}
 use Rattle.std.proofs.lemmas.List.Elements.{All-from_get_or}
 use Rattle.std.proofs.lemmas.Result.{IfOk-weaker}
-use Rattle.std.specs.Int.{w32, to_le_bytes, from_le_bytes}
+use Rattle.std.specs.Int.{w32, to_le_bytes}
 use Rattle.vortex_buffer.specs.ByteForm.{byteform}
-use Rattle.vortex_buffer.specs.ElementLaws.{unsigned_laws}
-use Rattle.vortex_buffer.proofs.ByteForms.{byteform-injective}
 use Rattle.use_kernels.proofs.bytes.through_bytes.Goals as goal
 
 pub returns : goal.returns
@@ -16,7 +14,5 @@ returns g c =
     let bytes =
     c.in_ok-bytes.ensures.ok.list
     ∙ ap (byteform (to_le_bytes w32)) c.in_ok-copy_from.ensures.ok.list in
-    IfOk-weaker c.from_byte_buffer.result _ _ (λ b read.
-    byteform-injective 4 4 2 (λ (x : ℕ). x < 2 ^ 32) (to_le_bytes w32) (from_le_bytes w32)
-    (unsigned_laws w32) b.list values read.0.in_type small (read.0.bytes_are ∙ bytes))
-    c.from_byte_buffer.ensures.ok
+    IfOk-weaker c.from_byte_buffer.result _ _
+    (λ b read. sym (read.0.only values small (sym bytes))) c.from_byte_buffer.ensures.ok
