@@ -1,5 +1,5 @@
 //! Tests of shared sets of bits: calls whose requests for memory are refused, what calls ask of the
-//! allocator, and walks over sets. Those of their operators are `vb_operator_tests`.
+//! allocator, walks over sets, and their text. Those of their operators are `vb_operator_tests`.
 #![tactic(auto)]
 
 #[cfg(test)]
@@ -8,5 +8,7 @@ mod compared;
 mod costs;
 #[cfg(test)]
 mod makers;
+#[cfg(test)]
+mod printed;
 #[cfg(test)]
 mod walks;

@@ -50,6 +50,25 @@ fn bytes_that_are_no_items_are_refused(rt: HostRuntime) {
     seven_are_refused(&rt, Buffer::copy_from(rt.alloc(), &[0; 7]), rt.alloc());
 }
 
+/// A thousand items are asked for by one request, and the count of owners by another one. A body
+/// that copies the bytes first, or asks before it counts them, fails here.
+#[test]
+fn bytes_of_a_slice_are_read_once(rt: HostRuntime) {
+    let heap = Refusing::new(rt.alloc(), 0);
+    let item = Alignment::of::<u32>();
+    let made = Buffer::<u32, _>::read_from(&heap, &[1; 4000], item);
+    equal(&rt, heap.asked(), 2);
+    assert!(rt; heap.asks_within(4000, 4256));
+    has_items(&rt, made, &[0x0101_0101; 1000], 4);
+    let seven = Buffer::<u32, _>::read_from(&heap, &[1; 7], item).err();
+    equal(
+        &rt,
+        seven,
+        Some(BufferError::ByteLength { len: 7, size: 4 }),
+    );
+    equal(&rt, heap.asked(), 0);
+}
+
 /// No list is so long that its bytes pass `usize`, so the counts alone are tried.
 #[test]
 fn byte_counts_past_usize_are_refused(rt: HostRuntime) {
@@ -139,12 +158,17 @@ fn in_bytes<A: Allocator + Clone>(alloc: &A) -> Result<Bytes<A>, BufferError> {
     Buffer::copy_from(alloc.clone()?, &[1u32, 2])?.into_bytes()
 }
 
-/// A way from items to bytes and back.
+/// The bytes of 1 and 2.
+const BYTES: &[u8] = &[1, 0, 0, 0, 2, 0, 0, 0];
+
+/// A way from items to bytes and back, or from bytes to items.
 enum Way {
     Buffer(Form),
     BufferAligned(Form),
     Bytes,
     BytesAligned,
+    Slice,
+    SliceAligned,
 }
 
 impl Way {
@@ -161,6 +185,8 @@ impl Way {
                 let bytes = in_bytes(&alloc)?;
                 Buffer::from_bytes_aligned(alloc, bytes, wide)
             }
+            Way::Slice => Buffer::read_from(alloc, BYTES, Alignment::of::<u32>()),
+            Way::SliceAligned => Buffer::read_from(alloc, BYTES, wide),
         }
     }
 }
@@ -173,6 +199,8 @@ const WAYS: &[(Way, (usize, usize))] = &[
     (Way::BufferAligned(Form::AsBytes), (512, 512)),
     (Way::Bytes, (4, 256)),
     (Way::BytesAligned, (512, 512)),
+    (Way::Slice, (4, 256)),
+    (Way::SliceAligned, (512, 512)),
 ];
 
 #[test]

@@ -12,6 +12,15 @@ pub(crate) fn equal<T: Copy + PartialEq + Debug>(rt: &impl Abort, given: T, want
     assert_eq!(rt; given, wanted);
 }
 
+/// The two values are equal, in this case of many.
+fn equal_at<T, C>(rt: &impl Abort, given: T, wanted: T, case: C)
+where
+    T: Copy + PartialEq + Debug,
+    C: Copy + Debug,
+{
+    assert_eq!(rt; given, wanted, "at {case:?}");
+}
+
 /// Each answer is that of the plain machine. This is how a session over the lines then ends: at its
 /// first line that can't be read, or for want of memory where answers are missing.
 fn answers_are_plain(
@@ -29,7 +38,7 @@ fn answers_are_plain(
                 };
                 wanted.clear();
                 plain.serve(call, told, wanted)?;
-                assert_eq!(rt; told, wanted.as_str(), "line {line}: {text}");
+                equal_at(rt, told, wanted.as_str(), (line, text));
             }
             Line::Skipped => {}
             Line::Unreadable => {
@@ -54,8 +63,10 @@ pub(crate) fn is_plain(
     assert!(rt; written.is_empty() || written.ends_with('\n'));
     let mut plain = Plain::new(global, was_refused)?;
     let mut wanted = String::new(global);
-    let end = answers_are_plain(rt, &mut plain, &mut wanted, (lines, written))?;
-    equal(rt, ended, end);
-    equal(rt, plain.may_refuse, ended == Err(DriveError::Memory));
+    let end = answers_are_plain(rt, &mut plain, &mut wanted, (lines, written));
+    let may_refuse = plain.may_refuse;
+    drop((plain, wanted));
+    equal(rt, ended, end?);
+    equal(rt, may_refuse, ended == Err(DriveError::Memory));
     Ok(())
 }

@@ -19,6 +19,7 @@ fn drive_is_plain(
     let mut source = FromRead::new(lines.as_bytes());
     let mut sink = ToWrite::new(Vec::new(global));
     let ended = drive(Handle { inner: heap }, &mut source, &mut sink);
+    drop(source);
     let written = sink.into_inner();
     let text = std::str::from_utf8(&written).expect(rt, "ASCII");
     let compared = is_plain(rt, global, lines, heap.has_refused(), (ended, text));
@@ -38,7 +39,49 @@ fn each_is_refused(rt: &impl Abort, global: Global, lines: &str, least: u64) -> 
 fn sessions_are_plain_whatever_is_refused(rt: HostRuntime) -> Result<(), Fail> {
     for (lines, least) in SESSIONS {
         let lines = format!(in rt.alloc(); "{lines}{LOOKS}")?;
-        each_is_refused(&rt, rt.alloc(), lines.as_str(), *least)?;
+        let compared = each_is_refused(&rt, rt.alloc(), lines.as_str(), *least);
+        drop(lines);
+        compared?;
+    }
+    Ok(())
+}
+
+/// So many random lines, in sessions that each end at a line that can't be read, are plain with the
+/// memory of a heap, or without one with each request refused in turn.
+fn random_sessions_are_plain(
+    rt: &impl Abort,
+    global: Global,
+    heap: Option<&Refusing<Global>>,
+    random: &mut Random,
+    most: usize,
+) -> Result<(), Fail> {
+    let (mut lines, mut line) = (String::new(global), String::new(global));
+    let compared = add_and_compare(rt, global, heap, random, most, (&mut lines, &mut line));
+    drop((lines, line));
+    compared
+}
+
+/// The same, with texts that take the lines.
+fn add_and_compare(
+    rt: &impl Abort,
+    global: Global,
+    heap: Option<&Refusing<Global>>,
+    random: &mut Random,
+    most: usize,
+    (lines, line): (&mut String, &mut String),
+) -> Result<(), Fail> {
+    let mut count = 0usize;
+    for _ in 0..most {
+        lines.clear();
+        let added = random.add_session(lines, line, most.saturating_sub(count))?;
+        match heap {
+            Some(heap) => drive_is_plain(rt, global, heap, lines.as_str())?,
+            None => each_is_refused(rt, global, lines.as_str(), 1)?,
+        }
+        count = count.saturating_add(added);
+        if count >= most {
+            return Ok(());
+        }
     }
     Ok(())
 }
@@ -53,18 +96,10 @@ fn random_lines_are_plain(rt: HostRuntime) -> Result<(), Fail> {
         lengths: ALL_LENGTHS,
     };
     let heap = Refusing::new(rt.alloc(), 0);
-    let (mut lines, mut line) = (String::new(rt.alloc()), String::new(rt.alloc()));
-    let mut count = 0usize;
-    for _ in 0..LINES {
-        let left = LINES.saturating_sub(count);
-        lines.clear();
-        count = count.saturating_add(random.add_session(&mut lines, &mut line, left)?);
-        drive_is_plain(&rt, rt.alloc(), &heap, lines.as_str())?;
-        if count >= LINES {
-            return Ok(());
-        }
-    }
-    Ok(())
+    let alloc = rt.alloc();
+    let compared = random_sessions_are_plain(&rt, alloc, Some(&heap), &mut random, LINES);
+    drop((random, heap));
+    compared
 }
 
 /// How many random lines are answered again with each of their requests refused in turn.
@@ -76,16 +111,7 @@ fn random_lines_are_plain_whatever_is_refused(rt: HostRuntime) -> Result<(), Fai
         state: 7,
         lengths: LENGTHS,
     };
-    let (mut lines, mut line) = (String::new(rt.alloc()), String::new(rt.alloc()));
-    let mut count = 0usize;
-    for _ in 0..REFUSED_LINES {
-        let left = REFUSED_LINES.saturating_sub(count);
-        lines.clear();
-        count = count.saturating_add(random.add_session(&mut lines, &mut line, left)?);
-        each_is_refused(&rt, rt.alloc(), lines.as_str(), 1)?;
-        if count >= REFUSED_LINES {
-            return Ok(());
-        }
-    }
-    Ok(())
+    let compared = random_sessions_are_plain(&rt, rt.alloc(), None, &mut random, REFUSED_LINES);
+    drop(random);
+    compared
 }

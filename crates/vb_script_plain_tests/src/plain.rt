@@ -5,6 +5,7 @@ use crate::line::{Call, word};
 use crate::list::{combine, cut, fill, lengthen, name_places, take, window};
 use crate::stop::{BAD_SLOT, OUT_OF_MEMORY, Stop};
 use std::alloc::Global;
+use std::mem;
 
 /// What a slot holds.
 #[derive(Drop)]
@@ -82,7 +83,23 @@ impl Plain {
             1
         };
         let mut bits = self.bits(call, first).to_vec(self.alloc)?;
-        let changed = self.change(call, &mut bits);
+        let done = self.make(call, is_refused, &mut bits);
+        if done.is_err() || matches!(call.form.2, Then::Answers) {
+            let asked = match done {
+                Ok(()) => answer(text, call, &bits, self.bits(call, 2)),
+                Err(stop) => Err(stop),
+            };
+            drop(bits);
+            return asked;
+        }
+        self.put(call, bits);
+        text.push_str("ok")?;
+        Ok(())
+    }
+
+    /// Makes of a list what the line makes of it, unless memory is refused.
+    fn make(&mut self, call: Call<'_>, is_refused: bool, bits: &mut Vec<bool>) -> Result<(), Stop> {
+        let changed = self.change(call, bits);
         // The indexes of a `take` come after memory, all else before it.
         if let Err(Stop::Refused(_) | Stop::TooLong) = changed {
             return changed;
@@ -92,13 +109,7 @@ impl Plain {
             self.give_away(call);
             return Err(OUT_OF_MEMORY);
         }
-        changed?;
-        if matches!(call.form.2, Then::Answers) {
-            return answer(text, call, &bits, self.bits(call, 2));
-        }
-        self.put(call, bits);
-        text.push_str("ok")?;
-        Ok(())
+        changed
     }
 
     /// The list of the slot that a word names.
@@ -170,22 +181,29 @@ impl Plain {
         let is_open = matches!(self.slots.get(call.number(1)), Some(Slot::Open(_)));
         self.give_away(call);
         let slot = match call.form.2 {
-            Then::Empties => Slot::Empty,
+            Then::Empties => {
+                drop(bits);
+                Slot::Empty
+            }
             Then::Opens => Slot::Open(bits),
             Then::Keeps if is_open => Slot::Open(bits),
             _ => Slot::Frozen(bits),
         };
-        if let Some(target) = self.slots.get_mut(call.target()) {
-            *target = slot;
+        self.fill(call.target(), slot);
+    }
+
+    /// Puts this into a slot, if it is there.
+    fn fill(&mut self, place: usize, slot: Slot) {
+        match self.slots.get_mut(place) {
+            Some(target) => drop(mem::replace(target, slot)),
+            None => drop(slot),
         }
     }
 
     /// Empties the slot that gives its list away.
     fn give_away(&mut self, call: Call<'_>) {
         if let Some(place) = call.given() {
-            if let Some(slot) = self.slots.get_mut(call.number(place)) {
-                *slot = Slot::Empty;
-            }
+            self.fill(call.number(place), Slot::Empty);
         }
     }
 }

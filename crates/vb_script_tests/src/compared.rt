@@ -9,9 +9,13 @@ pub(crate) fn equal<T: Copy + PartialEq + Debug>(rt: &impl Abort, given: T, want
     assert_eq!(rt; given, wanted);
 }
 
-/// The two texts are equal.
-pub(crate) fn equal_texts(rt: &impl Abort, given: &str, wanted: &str) {
-    assert_eq!(rt; given, wanted);
+/// The two values are equal, in this case of many.
+pub(crate) fn equal_at<T, C>(rt: &impl Abort, given: T, wanted: T, case: C)
+where
+    T: Copy + PartialEq + Debug,
+    C: Copy + Debug,
+{
+    assert_eq!(rt; given, wanted, "at {case:?}");
 }
 
 /// A session over these lines ended so, and wrote this.
@@ -19,9 +23,11 @@ pub(crate) fn ends(
     rt: &impl Abort,
     lines: &[u8],
     session: (Result<(), DriveError>, Vec<u8>),
-    ended: Result<(), DriveError>,
+    wanted: Result<(), DriveError>,
     answered: &str,
 ) {
-    assert_eq!(rt; session.0, ended, "{lines:?}");
-    assert_eq!(rt; session.1.as_slice(), answered.as_bytes(), "{lines:?}");
+    let (ended, written) = session;
+    equal_at(rt, ended, wanted, lines);
+    equal_at(rt, written.as_slice(), answered.as_bytes(), lines);
+    drop(written);
 }

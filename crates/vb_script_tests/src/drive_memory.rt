@@ -1,7 +1,8 @@
 //! Memory that is refused in the middle of a session: the lines before it are answered, and a line
 //! that can't be read asks for none.
-use crate::compared::{ends, equal};
+use crate::compared::{ends, equal_at};
 use std::alloc::Global;
+use std::process::Abort;
 use vb_script::{DriveError, FromRead, ToWrite, drive};
 use vb_testing::Refusing;
 
@@ -29,31 +30,44 @@ fn session(
     let mut source = FromRead::new(lines);
     let mut sink = ToWrite::new(Vec::new(global));
     let ended = drive(heap, &mut source, &mut sink);
+    drop(source);
     (ended, sink.into_inner())
 }
 
 /// How many requests a session makes for the first lines.
 fn asked(global: Global) -> u64 {
     let heap = Refusing::new(global, 0);
-    let _ = session(global, &heap, LINES);
-    heap.asked()
+    drop(session(global, &heap, LINES));
+    let asked = heap.asked();
+    drop(heap);
+    asked
+}
+
+/// A session over these lines, whose request behind those of the first lines is refused, ends so
+/// and answers the first ones. It makes that request or not.
+fn ends_after_first(
+    rt: &impl Abort,
+    global: Global,
+    lines: &[u8],
+    wanted: DriveError,
+    has_refused: bool,
+) {
+    let heap = Refusing::new(global, asked(global).saturating_add(1));
+    let ended = session(global, &heap, lines);
+    ends(rt, lines, ended, Err(wanted), ANSWERED);
+    equal_at(rt, heap.has_refused(), has_refused, lines);
+    drop(heap);
 }
 
 #[test]
 fn lines_before_refused_memory_are_answered(rt: HostRuntime) {
-    let heap = Refusing::new(rt.alloc(), asked(rt.alloc()).saturating_add(1));
-    let ended = session(rt.alloc(), &heap, IMPORT);
-    ends(&rt, IMPORT, ended, Err(DriveError::Memory), ANSWERED);
-    equal(&rt, heap.has_refused(), true);
+    ends_after_first(&rt, rt.alloc(), IMPORT, DriveError::Memory, true);
 }
 
 #[test]
 fn a_line_that_cannot_be_read_asks_for_no_memory(rt: HostRuntime) {
     for lines in [NO_DIGIT, LONG] {
-        let heap = Refusing::new(rt.alloc(), asked(rt.alloc()).saturating_add(1));
-        let ended = session(rt.alloc(), &heap, lines);
         let unreadable = DriveError::Unreadable { line: 4 };
-        ends(&rt, lines, ended, Err(unreadable), ANSWERED);
-        equal(&rt, heap.has_refused(), false);
+        ends_after_first(&rt, rt.alloc(), lines, unreadable, false);
     }
 }

@@ -3,12 +3,11 @@ ghost use Rattle.std.specs.Prelude.{[], IfOk, Some};
 ghost use Rattle.std.specs.Str.Lines.{lines};
 ghost use Rattle.vb_script.specs.Session.{AnswersLines};
 
-use crate::compared::{ends, equal_texts};
-use std::alloc::Global;
+use crate::compared::{ends, equal};
+use std::alloc::{AllocError, Global};
 use std::io;
 use std::io::Read;
 use std::process::Abort;
-use std::test::Fail;
 use vb_script::{DriveError, FromRead, ToWrite, drive};
 
 /// What is written where all lines are answered. Its contract rests on that of `drive` alone.
@@ -17,8 +16,14 @@ fn answers(alloc: Global, input: &[u8]) -> Result<Vec<u8>, DriveError>
 {
     let mut source = FromRead::new(input);
     let mut sink = ToWrite::new(Vec::new(alloc));
-    drive(alloc, &mut source, &mut sink)?;
-    Ok(sink.into_inner())
+    let ended = drive(alloc, &mut source, &mut sink);
+    drop(source);
+    let written = sink.into_inner();
+    if let Err(error) = ended {
+        drop(written);
+        return Err(error);
+    }
+    Ok(written)
 }
 
 /// Gives its bytes a few at a time.
@@ -40,6 +45,7 @@ fn session(alloc: Global, bytes: &[u8], most: usize) -> (Result<(), DriveError>,
     let mut source = FromRead::new(Pieces { bytes, most });
     let mut sink = ToWrite::new(Vec::new(alloc));
     let ended = drive(alloc, &mut source, &mut sink);
+    drop(source);
     (ended, sink.into_inner())
 }
 
@@ -188,8 +194,16 @@ fn a_line_that_cannot_be_read_ends_the_session(rt: HostRuntime) {
     }
 }
 
+/// An error says this.
+fn says(rt: &impl Abort, alloc: Global, error: DriveError, text: &str) -> Result<(), AllocError> {
+    let shown = format!(in alloc; "{error}")?;
+    equal(rt, shown.as_str(), text);
+    drop(shown);
+    Ok(())
+}
+
 #[test]
-fn errors_say_what_ended_the_session(rt: HostRuntime) -> Result<(), Fail> {
+fn errors_say_what_ended_the_session(rt: HostRuntime) -> Result<(), AllocError> {
     for (error, text) in [
         (
             DriveError::Unreadable {
@@ -201,8 +215,7 @@ fn errors_say_what_ended_the_session(rt: HostRuntime) -> Result<(), Fail> {
         (DriveError::Write, "output can't be written"),
         (DriveError::Memory, "out of memory"),
     ] {
-        let shown = format!(in rt.alloc(); "{error}")?;
-        equal_texts(&rt, shown.as_str(), text);
+        says(&rt, rt.alloc(), error, text)?;
     }
     Ok(())
 }

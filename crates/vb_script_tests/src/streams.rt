@@ -1,7 +1,7 @@
 //! Streams that fail, and what is written before a read.
 ghost use Rattle.std.specs.Prelude.{◌≡◌, IfOk};
 
-use crate::compared::equal;
+use crate::compared::{ends, equal, equal_at};
 use std::alloc::Global;
 use std::cell::Cell;
 use std::io;
@@ -17,9 +17,11 @@ fn read_fails(rt: &impl Abort, alloc: Global, before: usize, answered: &str) {
     let mut source = FromRead::new(FaultyReader::new(lines, before));
     let mut sink = ToWrite::new(Vec::new(alloc));
     let ended = drive(alloc, &mut source, &mut sink);
+    drop(source);
     let written = sink.into_inner();
-    assert_eq!(rt; ended, Err(DriveError::Read), "after {before}");
-    assert_eq!(rt; written.as_slice(), answered.as_bytes(), "after {before}");
+    equal_at(rt, ended, Err(DriveError::Read), before);
+    equal_at(rt, written.as_slice(), answered.as_bytes(), before);
+    drop(written);
 }
 
 #[test]
@@ -81,24 +83,32 @@ impl Sink for Full {
 }
 
 #[test]
-fn a_source_and_a_sink_of_ones_own_fault(rt: HostRuntime) {
+fn a_source_of_ones_own_faults(rt: HostRuntime) {
+    let lines = b"len 0\nlen 1\n".as_slice();
     let mut source = Broken {
-        bytes: b"len 0\nlen 1\n",
+        bytes: lines,
         until_fault: 10,
         faults: 0,
     };
     let mut sink = ToWrite::new(Vec::new(rt.alloc()));
-    equal(
+    let ended = drive(rt.alloc(), &mut source, &mut sink);
+    drop(source);
+    let session = (ended, sink.into_inner());
+    ends(
         &rt,
-        drive(rt.alloc(), &mut source, &mut sink),
+        lines,
+        session,
         Err(DriveError::Read),
+        "refused BadSlot\n",
     );
-    assert_eq!(rt;
-        sink.into_inner().as_slice(),
-        b"refused BadSlot\n".as_slice()
-    );
-    let mut lines = FromRead::new(b"len 0\n".as_slice());
-    let ended = drive(rt.alloc(), &mut lines, &mut Full { faults: 0 });
+}
+
+#[test]
+fn a_sink_of_ones_own_faults(rt: HostRuntime) {
+    let mut source = FromRead::new(b"len 0\n".as_slice());
+    let mut sink = Full { faults: 0 };
+    let ended = drive(rt.alloc(), &mut source, &mut sink);
+    drop((source, sink));
     equal(&rt, ended, Err(DriveError::Write));
 }
 
@@ -107,8 +117,11 @@ fn write_fails(rt: &impl Abort, alloc: Global, lines: &str, wanted: Result<(), D
     let mut source = FromRead::new(lines.as_bytes());
     let mut sink = ToWrite::new(FaultyWriter::new(Vec::new(alloc), 0));
     let ended = drive(alloc, &mut source, &mut sink);
-    assert_eq!(rt; ended, wanted, "{lines}");
-    assert!(rt; sink.into_inner().inner().is_empty());
+    drop(source);
+    let writer = sink.into_inner();
+    let is_empty = writer.inner().is_empty();
+    drop(writer);
+    equal_at(rt, (ended, is_empty), (wanted, true), lines);
 }
 
 #[test]
@@ -159,13 +172,15 @@ impl Write for Interrupted {
 
 #[test]
 fn each_error_of_a_stream_is_a_fault(rt: HostRuntime) {
-    let mut lines = FromRead::new(b"len 0\n".as_slice());
+    let mut source = FromRead::new(b"len 0\n".as_slice());
     let mut sink = ToWrite::new(Interrupted { calls: 0 });
-    let ended = drive(rt.alloc(), &mut lines, &mut sink);
+    let ended = drive(rt.alloc(), &mut source, &mut sink);
+    drop((source, sink));
     equal(&rt, ended, Err(DriveError::Write));
     let mut source = FromRead::new(Interrupted { calls: 0 });
     let mut sink = ToWrite::new(Vec::new(rt.alloc()));
     let ended = drive(rt.alloc(), &mut source, &mut sink);
+    drop((source, sink));
     equal(&rt, ended, Err(DriveError::Read));
 }
 
@@ -232,8 +247,11 @@ fn asked(rt: &impl Abort, alloc: Global, lines: &[u8], reads: usize, answers: us
         written: &written,
     });
     let mut sink = ToWrite::new(Counting(&written));
-    equal(rt, drive(alloc, &mut source, &mut sink), Ok(()));
+    let ended = drive(alloc, &mut source, &mut sink);
+    drop((source, sink));
     let counts = (written.writes.get(), written.bytes.get());
+    drop(written);
+    equal(rt, ended, Ok(()));
     equal(rt, counts, (reads, reads.saturating_mul(answers)));
 }
 
@@ -251,8 +269,10 @@ const FOUR_LINES: &[u8] = b"full 0 1 9\nappend 0 1\ndrop 0\nlen 0\n";
 fn many_lines_are_answered(rt: HostRuntime) -> Result<(), Fail> {
     let lines = b"len 0\n".repeat(rt.alloc(), 4000)?;
     asked(&rt, rt.alloc(), &lines, 38, 64_000);
+    drop(lines);
     let lines = FOUR_LINES.repeat(rt.alloc(), 1000)?;
     asked(&rt, rt.alloc(), &lines, 25, 25_000);
+    drop(lines);
     Ok(())
 }
 
@@ -262,9 +282,17 @@ fn answers_do_not_pile_up(rt: HostRuntime) -> Result<(), Fail> {
     let written = Written::default();
     let mut source = FromRead::new(lines.as_slice());
     let mut sink = ToWrite::new(Counting(&written));
-    equal(&rt, drive(rt.alloc(), &mut source, &mut sink), Ok(()));
-    equal(&rt, written.bytes.get(), 800_000);
-    assert!(rt; written.widest.get() < 65536 + 16);
-    assert!(rt; written.writes.get() <= 20, "by blocks");
+    let ended = drive(rt.alloc(), &mut source, &mut sink);
+    drop((source, sink));
+    let (bytes, widest, writes) = (
+        written.bytes.get(),
+        written.widest.get(),
+        written.writes.get(),
+    );
+    drop((written, lines));
+    equal(&rt, ended, Ok(()));
+    equal(&rt, bytes, 800_000);
+    assert!(rt; widest < 65536 + 16);
+    assert!(rt; writes <= 20, "by blocks");
     Ok(())
 }

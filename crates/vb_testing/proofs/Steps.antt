@@ -2,7 +2,9 @@
 pub use Rattle.std.proofs.Common.{◌≡◌, ◌^◌, ℕ, [], ◌∷◌, refl, ap, sym, subst, w64}
 pub use Rattle.std.proofs.raw_atomic.Walks.{proved}
 pub use Rattle.std.proofs.VecSteps.Shapes.{after}
-pub use Rattle.std.proofs.alloc.Calls.{Al, token, Takes, at_takes, Answered, Takes-goes, Takes-gives, Answer, answer_val, Answer-typed, Gives, at_gives, Gives-goes, Gives-Gives}
+pub use Rattle.std.proofs.alloc.Calls.{Al, token, Takes, at_takes, Answered, Takes-goes}
+pub use Rattle.std.proofs.alloc.Calls.{Takes-gives, Answer, answer_val, Answer-typed, Gives}
+pub use Rattle.std.proofs.alloc.Calls.{at_gives, Gives-goes, Gives-Gives}
 pub use base.Logic.{id⊢, fst∗, never}
 pub use base.Fml.{Fml, ftrue, flft}
 pub use contract.BorrowLft.{◌⊑◌, ⊑_trans}
@@ -13,9 +15,13 @@ pub use mir.MapTy.{inst_fn}
 pub use mir.Syntax.{Fn, ty_unit, named}
 pub use mir.Val.{Val, vunit, vint, vptr, has_ty, WT}
 pub use prog.Wp.{WpFn}
-pub use types.Kit.{‵, raw, ◌⊛◌, some, later, given, prop, at_ret, Sq, ◌$◌, ◌∵◌, !, qed, done, move, keep, drop, use0, use1, use2, split, split3, join, fsplit, fjoin, feq_i, feq_l, flt_i, pick, learn, await, regoal, suffices, group}
-pub use types.Run.{enter, of_opd, lit, unit_lit, addr, stop, fld, no_more, and_then, first, blocks, branches, skips, exec, returns, returns_within}
-pub use types.ByLocal.{alloc_all, pass_all, free_all, look_at, get, through, sets, lands_as, lands_last, env}
+pub use types.Kit.{‵, raw, ◌⊛◌, some, later, given, prop, at_ret, Sq, ◌$◌, ◌∵◌, !, qed, done, move}
+pub use types.Kit.{keep, drop, use0, use1, use2, split, split3, join, fsplit, fjoin, feq_i, feq_l}
+pub use types.Kit.{flt_i, pick, learn, await, regoal, suffices, group}
+pub use types.Run.{enter, of_opd, lit, unit_lit, addr, stop, fld, no_more, and_then, first, blocks}
+pub use types.Run.{branches, skips, exec, returns, returns_within}
+pub use types.ByLocal.{alloc_all, pass_all, free_all, look_at, get, through, sets, lands_as}
+pub use types.ByLocal.{lands_last, env}
 pub use types.Logic.{sem}
 pub use types.Part.{agg}
 pub use denote.Builtin.{usize, bool, RawPtr, RefOf}

@@ -1,4 +1,5 @@
--- What the walks of an allocator around another share: the `&` to the one within, and its answer. Assumes `Logic`.
+-- What the walks of an allocator around another share: the `&` to the one within, and its answer.
+-- Assumes `Logic`.
 use Rattle.std.proofs.Common.{ℕ, ◌+◌, [], ◌∷◌}
 use mathlib.Core.Bool.{Bool, true, false}
 use seplogic.Ra.Ura.{Ura}
@@ -40,15 +41,21 @@ module _ (B : RattleType) where
 module _ {M : Type 1} {𝓤 : Ura M} (𝓛 : Logic 𝓤) where
   -- a `&` to a `Refusing` gives one to the allocator within, and one to the requests
   pub refusing_shares : (B : RattleType) (κ : Lft) (heap : Refusing B.Denot) (b o : ℕ)
-      → ent 𝓤 (sem 𝓛 (hidden_shr (refusing_row (param 0 B)) κ heap b o)) (sep 𝓤 (sem 𝓛 (hidden_shr B κ heap.inner b (inner_at B o))) (sem 𝓛 (hidden_shr requests_row κ heap.requests b (requests_at B o))))
-  refusing_shares B κ heap b o = qed 𝓛 (‵ (shared_of (refusing_row (param 0 B)) heap b o κ) ∷ []) ∵ fsplit ! $ fsplit ! $ move ! (1 ∷ []) $ fsplit ! $ keep ! (2 ∷ 0 ∷ []) $ done !
+      → ent 𝓤 (sem 𝓛 (hidden_shr (refusing_row (param 0 B)) κ heap b o))
+      (sep 𝓤 (sem 𝓛 (hidden_shr B κ heap.inner b (inner_at B o)))
+      (sem 𝓛 (hidden_shr requests_row κ heap.requests b (requests_at B o))))
+  refusing_shares B κ heap b o = qed 𝓛 (‵ (shared_of (refusing_row (param 0 B)) heap b o κ) ∷ []) ∵
+      fsplit ! $ fsplit ! $ move ! (1 ∷ []) $ fsplit ! $ keep ! (2 ∷ 0 ∷ []) $ done !
 
   -- a `&` to a `Handle` gives one to the allocator within
   pub handle_shares : (B : RattleType) (κ : Lft) (handle : Handle B.Denot) (b o : ℕ)
-      → ent 𝓤 (sem 𝓛 (hidden_shr (handle_row (param 0 B)) κ handle b o)) (sem 𝓛 (hidden_shr B κ handle.inner b (inner_at B o)))
-  handle_shares B κ handle b o = qed 𝓛 (‵ (shared_of (handle_row (param 0 B)) handle b o κ) ∷ []) ∵ fsplit ! $ fsplit ! $ keep ! (0 ∷ []) $ done !
+      → ent 𝓤 (sem 𝓛 (hidden_shr (handle_row (param 0 B)) κ handle b o))
+      (sem 𝓛 (hidden_shr B κ handle.inner b (inner_at B o)))
+  handle_shares B κ handle b o = qed 𝓛 (‵ (shared_of (handle_row (param 0 B)) handle b o κ) ∷ []) ∵
+      fsplit ! $ fsplit ! $ keep ! (0 ∷ []) $ done !
 
   -- what came with the answer of the one within comes with the same answer of the one around
-  pub passes_on : (holds : Ty → Ptr → Fml) (τ : Ty) (is_ok : Bool) (b o : ℕ) → ent 𝓤 (sem 𝓛 (got holds τ is_ok b o)) (sem 𝓛 (block_if_ok holds τ (result_of is_ok b o)))
+  pub passes_on : (holds : Ty → Ptr → Fml) (τ : Ty) (is_ok : Bool) (b o : ℕ)
+      → ent 𝓤 (sem 𝓛 (got holds τ is_ok b o)) (sem 𝓛 (block_if_ok holds τ (result_of is_ok b o)))
   passes_on holds τ true b o = id⊢ 𝓤 _
   passes_on holds τ false b o = id⊢ 𝓤 _

@@ -56,6 +56,15 @@ fn a_slice_of_a_view(rt: HostRuntime) {
     equal(&rt, (part.select(3), part.select(4)), (Some(10), None));
     equal(
         &rt,
+        (
+            part.count_range(1, 5),
+            part.count_range(5, 10),
+            part.count_range(4, 4),
+        ),
+        (2, 1, 0),
+    );
+    equal(
+        &rt,
         (part.select_unset(7), part.inner().len()),
         (Some(11), 3),
     );

@@ -14,7 +14,8 @@ returns c =
     let small : k < 2 ^ 64 - 1 = omega arith in
     (value, omega arith))
     _ _ _ refl c.collect_bool_bytes.ensures.answered in
-    let named = Answers-keeps _ (λ p. p.0.ghost_name) (λ p k b q said. search rules) _ _ _ _ c.collect_bool_bytes.ensures.answered in
+    let named = Answers-keeps _ (λ p. p.0.ghost_name)
+    (λ p k b q said. search rules) _ _ _ _ c.collect_bool_bytes.ensures.answered in
     let same = sym named in
     let all : _ ≡ 0 + c.args.len = counted.1 in
     let end : 0 + c.args.len ≡ c.args.len = zero-add c.args.len in

@@ -1,4 +1,5 @@
-use Rattle.std.proofs.Common.{◌≡◌, inl, inr, ℕ, zero, suc, ◌+◌, ◌-◌, ◌/◌, ◌%◌, ◌<◌, ◌≤◌, false, eqb, List, [], ◌∷◌, refl, ap, ◌∙◌, arith}
+use Rattle.std.proofs.Common.{◌≡◌, inl, inr, ℕ, zero, suc, ◌+◌, ◌-◌, ◌/◌, ◌%◌, ◌<◌, ◌≤◌, false, eqb}
+use Rattle.std.proofs.Common.{List, [], ◌∷◌, refl, ap, ◌∙◌, arith}
 use Rattle.std.specs.Prelude.{slice_index}
 use Rattle.std.proofs.lemmas.Bool.{cases_lt}
 use Rattle.std.proofs.lemmas.Nat.Bits.{bit_at_above}
@@ -18,10 +19,13 @@ clear_from i h = elim (cases_lt i 64) [
   | inl low ↦
       let first : i / 64 ≡ 0 = omega (arith, low) in
       let place : i % 64 ≡ i = omega (arith, low) in
-      ap (λ k. has_bit (slice_index words k) (i % 64)) first ∙ ap (has_bit 31) place ∙ ap (λ x. eqb x 1) (bit_at_above 31 5 i (omega arith) h)
+      ap (λ k. has_bit (slice_index words k) (i % 64)) first ∙ ap (has_bit 31) place
+      ∙ ap (λ x. eqb x 1) (bit_at_above 31 5 i (omega arith) h)
   | inr high ↦
       let later : i / 64 ≡ suc (i / 64 - 1) = omega (arith, high) in
-      ap (λ k. has_bit (slice_index words k) (i % 64)) later ∙ ap (λ x. has_bit x (i % 64)) (none_behind (i / 64 - 1)) ∙ ap (λ x. eqb x 1) (bit_at_above 0 0 (i % 64) (omega arith) (omega arith))
+      ap (λ k. has_bit (slice_index words k) (i % 64)) later
+      ∙ ap (λ x. has_bit x (i % 64)) (none_behind (i / 64 - 1))
+      ∙ ap (λ x. eqb x 1) (bit_at_above 0 0 (i % 64) (omega arith) (omega arith))
 ]
 
 pub pack_bools_into_words-requires-clause-clear : goal.pack_bools_into_words-requires-clause-clear
