@@ -80,7 +80,7 @@ def levels(deps: dict[str, list[str]]) -> dict[str, int]:
 def kind_of(name: str, deps: dict[str, list[str]]) -> str:
     if name == FACADE:
         return "top"
-    if name.startswith("use_"):
+    if name.startswith(("use_", "run_")):
         return "use"
     if name.endswith("_c"):
         return "c"

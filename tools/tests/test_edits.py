@@ -9,7 +9,7 @@ from pathlib import Path
 TOOLS = Path(__file__).resolve().parent.parent
 RT = """#!/usr/bin/env bash
 [ "$1" = must-fail ] && shift
-for crate; do ls "crates/$crate"/must-fail/*.edit "crates/$crate"/out 2>/dev/null; done > "$(dirname "$0")/seen"
+for crate; do ls "crates/$crate"/must-fail/*.edit "crates/$crate"/out/* -d 2>/dev/null; done > "$(dirname "$0")/seen"
 cat "$(dirname "$0")/said"
 """
 EDIT = "file: src/lib.rt\nold: one\nnew: two\n"
@@ -19,7 +19,7 @@ class Command(unittest.TestCase):
     def setUp(self):
         self.root = Path(tempfile.mkdtemp(prefix="edits-test-"))
         self.addCleanup(shutil.rmtree, self.root)
-        for folder in ("tools", "bin", "crates/demo/src", "crates/demo/out"):
+        for folder in ("tools", "bin", "crates/demo/src", "crates/demo/out/rlib", "crates/demo/out/incremental"):
             (self.root / folder).mkdir(parents=True)
         shutil.copy(TOOLS / "edits", self.root / "tools/edits")
         self.write("crates.txt", "demo:\n")
@@ -45,7 +45,8 @@ class Command(unittest.TestCase):
         status, lines = self.run_it(said="rt: must-fail demo/a.edit: refused, as it must be: src/lib.rt:1:1: x\n")
         self.assertEqual((status, lines[-1]), (0, "1 edits, 0 not refused"))
         seen = (self.root / "bin/seen").read_text()
-        self.assertEqual(seen, "crates/demo/must-fail/a.edit\n", "neither the gate's edits nor out/ are copied")
+        copied = "crates/demo/must-fail/a.edit\ncrates/demo/out/rlib\n"
+        self.assertEqual(seen, copied, "neither the gate's edits nor what a check keeps is copied")
 
     def test_names_each_that_is_not_refused(self):
         names = ("bad", "kept", "left", "plain", "weak")
