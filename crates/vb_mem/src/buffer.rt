@@ -156,8 +156,7 @@ impl<T: Element, A: Allocator + Clone> Buffer<T, A> {
     }
 
     /// The items of a range with an alignment, for which [`Buffer::can_slice`] holds; the part
-    /// shares the storage, and an empty one may lie anywhere in it. Refused as [`Buffer::slice`]
-    /// is.
+    /// shares the storage, and an empty one may lie anywhere. Refused as [`Buffer::slice`] is.
     pub fn slice_with_alignment(&self, range: Range<usize>, alignment: Alignment) -> Result<Self>
         requires { CanSlice T.SIZE T.align_exponent self.now range alignment }
         ensures { Makes (ShowsPart T.SIZE self.now range alignment) result }
