@@ -1,6 +1,7 @@
 //! Windows compared.
 ghost use Rattle.std.specs.Prelude.{◌≡◌, ◌+◌, ◌*◌, ◌%◌, ◌^◌, ◌<◌, ◌≤◌, ◌↔◌, length, IsTrue};
 ghost use Rattle.vb_bits.specs.Bits.{bits};
+ghost use Rattle.vb_bits.specs.InBytes.{InBytes};
 
 use crate::bytes::word_at;
 use crate::read::{read_bits, shifted_word};
@@ -14,10 +15,8 @@ const BLOCK: usize = 64;
 /// between go by blocks, which begin with a cache line of `left` where `left` begins with one. No
 /// block behind the first difference is read.
 pub fn equal_bits(left: &[u8], l: usize, right: &[u8], r: usize, len: usize) -> bool
-    requires left_inside { l + len ≤ 8 * length left.now }
-    requires left_fits { l + len < 2 ^ 64 }
-    requires right_inside { r + len ≤ 8 * length right.now }
-    requires right_fits { r + len < 2 ^ 64 }
+    requires left { InBytes left.now l len }
+    requires right { InBytes right.now r len }
     ensures { IsTrue result ↔ (bits left.now l len ≡ bits right.now r len) }
 {
     if len < 64 {
@@ -44,8 +43,7 @@ fn equal_few(left: &[u8], l: usize, right: &[u8], r: usize, len: usize) -> bool
 /// blocks, and those that are left.
 fn equal_words(left: &[u8], a: usize, right: &[u8], r: usize, n: usize) -> bool
     requires left_inside { a + 8 * n ≤ length left.now }
-    requires right_inside { r + 64 * n ≤ 8 * length right.now }
-    requires right_fits { r + 64 * n < 2 ^ 64 }
+    requires right { InBytes right.now r (64 * n) }
     ensures { IsTrue result ↔ (bits left.now (8 * a) (64 * n) ≡ bits right.now r (64 * n)) }
 {
     let lead = n.min((8 - a / 8 % 8) % 8);
@@ -59,8 +57,7 @@ fn equal_words(left: &[u8], a: usize, right: &[u8], r: usize, n: usize) -> bool
 /// [`equal_bits`] of `n` blocks of `left` from byte `a` on.
 fn equal_blocks(left: &[u8], a: usize, right: &[u8], r: usize, n: usize) -> bool
     requires left_inside { a + 8 * (BLOCK * n) ≤ length left.now }
-    requires right_inside { r + 64 * (BLOCK * n) ≤ 8 * length right.now }
-    requires right_fits { r + 64 * (BLOCK * n) < 2 ^ 64 }
+    requires right { InBytes right.now r (64 * (BLOCK * n)) }
     ensures { IsTrue result
         ↔ (bits left.now (8 * a) (64 * (BLOCK * n)) ≡ bits right.now r (64 * (BLOCK * n))) }
 {

@@ -1,6 +1,7 @@
 //! The last true bit.
 ghost use Rattle.std.specs.Prelude.{ℕ, ◌≡◌, ◌+◌, ◌*◌, ◌%◌, ◌^◌, ◌<◌, ◌≤◌, false, length};
 ghost use Rattle.vb_bits.specs.Bits.{bit_of, bits};
+ghost use Rattle.vb_bits.specs.InBytes.{InBytes};
 ghost use Rattle.vb_bits.specs.Runs.{last_place};
 
 use crate::bytes::word_at;
@@ -14,8 +15,7 @@ const BLOCK: usize = 8;
 /// Words are read from the end to the front, all but the last one from whole bytes on. Those that
 /// have no true bit are passed by blocks of eight, and then one by one.
 pub fn last_set_index(bytes: &[u8], offset: usize, len: usize) -> Option<usize>
-    requires inside { offset + len ≤ 8 * length bytes.now }
-    requires fits { offset + len < 2 ^ 64 }
+    requires window { InBytes bytes.now offset len }
     ensures { result ≡ last_place (bits bytes.now offset len) }
 {
     let mut left = len;
@@ -39,8 +39,7 @@ fn pass_words(bytes: &[u8], offset: usize, len: usize, n: usize) -> usize
     requires some { 0 < n }
     requires few { n ≤ BLOCK }
     requires whole { 0 < len → (offset + len) % 8 ≡ 0 }
-    requires inside { offset + len ≤ 8 * length bytes.now }
-    requires fits { offset + len < 2 ^ 64 }
+    requires window { InBytes bytes.now offset len }
     ensures within { result ≤ len }
     ensures whole { 0 < result → (offset + result) % 8 ≡ 0 }
     ensures passed { (i : ℕ) → result ≤ i → i < len → bit_of bytes.now (offset + i) ≡ false }

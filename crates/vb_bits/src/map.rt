@@ -1,6 +1,7 @@
 //! Windows negated.
 ghost use Rattle.std.specs.Prelude.{ℕ, ◌+◌, ◌-◌, ◌*◌, ◌%◌, ◌^◌, ◌<◌, ◌≤◌, length};
 ghost use Rattle.vb_bits.specs.Bits.{bits, negated};
+ghost use Rattle.vb_bits.specs.InBytes.{InBytes};
 ghost use Rattle.vb_bits.specs.Writes.{Writes};
 
 use crate::bytes::{byte_mask, word_at, write_word};
@@ -10,8 +11,7 @@ use crate::bytes::{byte_mask, word_at, write_word};
 /// The bits of a partial first and last byte go by a mask, the whole bytes between by words of
 /// eight bytes and then by bytes.
 pub fn map_words(bytes: &mut [u8], offset: usize, len: usize)
-    requires inside { offset + len ≤ 8 * length bytes.old }
-    requires fits { offset + len < 2 ^ 64 }
+    requires window { InBytes bytes.old offset len }
     ensures { Writes bytes.old bytes.new offset (negated (bits bytes.old offset len)) }
 {
     let end = offset + len;

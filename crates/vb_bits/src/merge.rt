@@ -1,6 +1,7 @@
 //! A window of bits combined with one of other bytes.
 ghost use Rattle.std.specs.Prelude.{◌≡◌, ◌+◌, ◌*◌, ◌%◌, ◌^◌, ◌<◌, ◌≤◌, length};
 ghost use Rattle.vb_bits.specs.Bits.{bits};
+ghost use Rattle.vb_bits.specs.InBytes.{InBytes};
 ghost use Rattle.vb_bits.specs.Operators.{merged};
 ghost use Rattle.vb_bits.specs.Writes.{Writes};
 
@@ -15,10 +16,8 @@ use crate::write::{write_few, write_in_byte};
 /// The bits of a partial first byte of `dst` go by a mask, those behind it by words, and what is
 /// left by bytes.
 pub(crate) fn merge_bits<M: Merge>(dst: &mut [u8], d: usize, src: &[u8], s: usize, len: usize)
-    requires into { d + len ≤ 8 * length dst.old }
-    requires into_fits { d + len < 2 ^ 64 }
-    requires from { s + len ≤ 8 * length src.now }
-    requires from_fits { s + len < 2 ^ 64 }
+    requires into { InBytes dst.old d len }
+    requires from { InBytes src.now s len }
     ensures { Writes dst.old dst.new d
         (merged (M.bit) (bits dst.old d len) (bits src.now s len)) }
 {
@@ -94,8 +93,7 @@ fn merge_shifted_words<M: Merge>(dst: &mut [u8], d: usize, src: &[u8], s: usize,
 fn merge_rest<M: Merge>(dst: &mut [u8], d: usize, src: &[u8], s: usize, len: usize)
     requires in_word { len ≤ 64 }
     requires whole { 0 < len → d % 8 ≡ 0 }
-    requires into { d + len ≤ 8 * length dst.old }
-    requires fits { d + len < 2 ^ 64 }
+    requires into { InBytes dst.old d len }
     requires from { s + len ≤ 8 * length src.now }
     ensures { Writes dst.old dst.new d
         (merged (M.bit) (bits dst.old d len) (bits src.now s len)) }

@@ -1,6 +1,7 @@
 //! The lowest digits of a number written as bits.
 ghost use Rattle.std.specs.Prelude.{ℕ, ◌≡◌, ◌+◌, ◌*◌, ◌%◌, ◌^◌, ◌<◌, ◌≤◌, length};
 ghost use Rattle.vb_bits.specs.Digits.{digits};
+ghost use Rattle.vb_bits.specs.InBytes.{InBytes};
 ghost use Rattle.vb_bits.specs.Writes.{Writes};
 
 use crate::bytes::byte_mask;
@@ -25,8 +26,7 @@ pub(crate) fn write_in_byte(bytes: &mut [u8], at: usize, count: usize, word: u64
 pub(crate) fn write_few(bytes: &mut [u8], at: usize, count: usize, word: u64)
     requires in_word { count ≤ 64 }
     requires whole { 0 < count → at % 8 ≡ 0 }
-    requires inside { at + count ≤ 8 * length bytes.old }
-    requires fits { at + count < 2 ^ 64 }
+    requires window { InBytes bytes.old at count }
     ensures { Writes bytes.old bytes.new at (digits word 0 count) }
 {
     let mut done = 0;

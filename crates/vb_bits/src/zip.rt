@@ -1,6 +1,7 @@
 //! Windows combined by an operator, and copied.
 ghost use Rattle.std.specs.Prelude.{◌+◌, ◌*◌, ◌^◌, ◌<◌, ◌≤◌, length};
 ghost use Rattle.vb_bits.specs.Bits.{bits};
+ghost use Rattle.vb_bits.specs.InBytes.{InBytes};
 ghost use Rattle.vb_bits.specs.Operators.{combined};
 ghost use Rattle.vb_bits.specs.Writes.{Writes};
 
@@ -25,10 +26,8 @@ pub enum BitOp {
 ///
 /// It goes by words of 64 bits whatever the two offsets are.
 pub fn zip_words(dst: &mut [u8], d: usize, src: &[u8], s: usize, len: usize, op: BitOp)
-    requires into { d + len ≤ 8 * length dst.old }
-    requires into_fits { d + len < 2 ^ 64 }
-    requires from { s + len ≤ 8 * length src.now }
-    requires from_fits { s + len < 2 ^ 64 }
+    requires into { InBytes dst.old d len }
+    requires from { InBytes src.now s len }
     ensures { Writes dst.old dst.new d
         (combined op (bits dst.old d len) (bits src.now s len)) }
 {
@@ -45,10 +44,8 @@ pub fn zip_words(dst: &mut [u8], d: usize, src: &[u8], s: usize, len: usize, op:
 ///
 /// It goes by words of 64 bits whatever the two offsets are.
 pub fn copy_bits(dst: &mut [u8], d: usize, src: &[u8], s: usize, len: usize)
-    requires into { d + len ≤ 8 * length dst.old }
-    requires into_fits { d + len < 2 ^ 64 }
-    requires from { s + len ≤ 8 * length src.now }
-    requires from_fits { s + len < 2 ^ 64 }
+    requires into { InBytes dst.old d len }
+    requires from { InBytes src.now s len }
     ensures { Writes dst.old dst.new d (bits src.now s len) }
 {
     merge_bits::<Right>(dst, d, src, s, len);
