@@ -1,10 +1,10 @@
 //! Bytes made of places.
-ghost use Rattle.std.specs.Prelude.{◌≡◌, false, length, replicate, IfOk, IfErr};
+ghost use Rattle.std.specs.Prelude.{◌≡◌, ◌<◌, All, false, length, replicate, IfOk, IfErr};
 ghost use Rattle.std.specs.Int.{div_ceil};
 ghost use Rattle.std.specs.Iterator.{IsFiniteIterable};
 ghost use Rattle.vb_bits.specs.Bits.{bits};
 ghost use Rattle.vb_mem.specs.Collected.{OfItems};
-ghost use Rattle.vb_take.specs.Takes.{with_true, AllBelow, IndexRefused};
+ghost use Rattle.vb_take.specs.Takes.{with_true, IndexRefused};
 
 use crate::make::full;
 use std::alloc::Allocator;
@@ -26,7 +26,7 @@ pub fn from_indices<A: Allocator + Clone, I: IntoIterator<Item = usize>>(
     requires { IsFiniteIterable I.into_iter_gives I.IntoIter.can_next
         I.IntoIter.remaining indices }
     ensures bits { IfOk result (λ b. OfItems I.into_iter_gives I.IntoIter.next_gives indices
-        (λ places. AllBelow len places
+        (λ places. All (λ p. p < len) places
         × (bits b.list 0 len ≡ with_true (replicate len false) places))) }
     ensures len { IfOk result (λ b. length b.list ≡ div_ceil len 8) }
     ensures alignment { IfOk result (λ b. b.alignment ≡ 0) }
@@ -54,7 +54,7 @@ pub fn from_indices_shared<A: Allocator + Clone, I: IntoIterator<Item = usize>>(
     requires { IsFiniteIterable I.into_iter_gives I.IntoIter.can_next
         I.IntoIter.remaining indices }
     ensures bits { IfOk result (λ b. OfItems I.into_iter_gives I.IntoIter.next_gives indices
-        (λ places. AllBelow len places
+        (λ places. All (λ p. p < len) places
         × (bits b.list 0 len ≡ with_true (replicate len false) places))) }
     ensures len { IfOk result (λ b. length b.list ≡ div_ceil len 8) }
     ensures alignment { IfOk result (λ b. b.alignment ≡ 0) }

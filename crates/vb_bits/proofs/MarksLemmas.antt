@@ -12,7 +12,7 @@ use Rattle.vb_bits.specs.Bits.{bit_of, bits, at}
 use Rattle.vb_bits.specs.Writes.{Writes}
 use Rattle.vb_bits.proofs.BitsLemmas.{length-bits, at-bits}
 use Rattle.vb_bits.proofs.WritesLemmas.{Writes-at}
-use Rattle.vb_bits.specs.Marks.{with_true, AllBelow}
+use Rattle.vb_bits.specs.Marks.{with_true}
 
 -- of the first n bits those at the places are true, and the others are as before
 abbrev pub MarkedAt : ℕ → List ℕ → List ℕ → List ℕ → Type 0
@@ -69,13 +69,3 @@ with_true-all n ps old new marked =
     ∙ ap (λ b. b || list_any (λ p. eqb p i) ps)
     (sym (at-bits old 0 n i false low ∙ ap (bit_of old) (zero-add i)))
     ∙ sym (get_or-map-range_with_len f 0 (length l) i i d (omega arith) (zero-add i)))
-
--- one more number below n
-pub AllBelow-push : (n p : ℕ) (ps : List ℕ) → AllBelow n ps → p < n → AllBelow n (ps ++ p ∷ [])
-AllBelow-push n p ps below h = λ i within.
-    elim (cases_eq i (length ps)) [
-      | inl last ↦ rw last (rw (get_or-append_seam ps p [] 0) h)
-      | inr front ↦
-          let low : i < length ps = omega (arith, within, length-append ps (p ∷ []), front) in
-          rw (get_or_append_left ps (p ∷ []) 0 i low) (below i low)
-    ]

@@ -5,6 +5,7 @@
 //! bytes. The compiler chooses the count of a word or vector.
 ghost use Rattle.std.specs.Prelude.{◌≡◌, ◌+◌, ◌-◌, ◌*◌, ◌/◌, ◌%◌, ◌^◌, ◌<◌, ◌≤◌, length, min};
 ghost use Rattle.vb_bits.specs.Bits.{bits, count};
+ghost use Rattle.vb_bits.specs.InBytes.{InBytes};
 ghost use Rattle.vb_kernel.specs.Looks.{looks, LooksExactly};
 
 use crate::chunk::{LaneSum, chunk_ones};
@@ -22,8 +23,7 @@ const PAST_CACHES: usize = 131_072;
 
 /// How many bits of the window are true.
 pub fn count_ones(bytes: &[u8], offset: usize, len: usize) -> usize
-    requires inside { offset + len ≤ 8 * length bytes.now }
-    requires fits { offset + len < 2 ^ 64 }
+    requires window { InBytes bytes.now offset len }
     ensures { result ≡ count (bits bytes.now offset len) }
 {
     if len <= 512 {
@@ -37,8 +37,7 @@ pub fn count_ones(bytes: &[u8], offset: usize, len: usize) -> usize
 #[inline(never)]
 fn count_of_many(bytes: &[u8], offset: usize, len: usize) -> usize
     requires long { 512 < len }
-    requires inside { offset + len ≤ 8 * length bytes.now }
-    requires fits { offset + len < 2 ^ 64 }
+    requires window { InBytes bytes.now offset len }
     ensures { result ≡ count (bits bytes.now offset len) }
 {
     count_long(&mut Plain::new(bytes), offset, len)
@@ -49,8 +48,7 @@ fn count_of_many(bytes: &[u8], offset: usize, len: usize) -> usize
 /// It looks once at a partial first byte, once at each 64 whole bytes, once at each eight of those
 /// left, once at each byte then left, and once at a partial last byte.
 pub fn count_ones_by<G: Glance>(src: &mut G, offset: usize, len: usize) -> usize
-    requires inside { offset + len ≤ 8 * length (G.seen src.old).bytes }
-    requires fits { offset + len < 2 ^ 64 }
+    requires window { InBytes ((G.seen src.old).bytes) offset len }
     ensures value { result ≡ count (bits (G.seen src.old).bytes offset len) }
     ensures looks { LooksExactly (looks offset len) (G.seen src.old) (G.seen src.new) }
 {
@@ -66,8 +64,7 @@ pub fn count_ones_by<G: Glance>(src: &mut G, offset: usize, len: usize) -> usize
 #[inline(always)]
 fn count_short<G: Glance>(src: &mut G, offset: usize, len: usize) -> usize
     requires short { len ≤ 512 }
-    requires inside { offset + len ≤ 8 * length (G.seen src.old).bytes }
-    requires fits { offset + len < 2 ^ 64 }
+    requires window { InBytes ((G.seen src.old).bytes) offset len }
     ensures value { result ≡ count (bits (G.seen src.old).bytes offset len) }
     ensures looks { LooksExactly (looks offset len) (G.seen src.old) (G.seen src.new) }
 {
@@ -89,8 +86,7 @@ fn count_short<G: Glance>(src: &mut G, offset: usize, len: usize) -> usize
 #[inline(never)]
 fn count_long<G: Glance>(src: &mut G, offset: usize, len: usize) -> usize
     requires long { 512 < len }
-    requires inside { offset + len ≤ 8 * length (G.seen src.old).bytes }
-    requires fits { offset + len < 2 ^ 64 }
+    requires window { InBytes ((G.seen src.old).bytes) offset len }
     ensures value { result ≡ count (bits (G.seen src.old).bytes offset len) }
     ensures looks { LooksExactly (looks offset len) (G.seen src.old) (G.seen src.new) }
 {

@@ -4,6 +4,7 @@
 //! lie side by side are put together as one number, which the compiler loads at once.
 ghost use Rattle.std.specs.Prelude.{◌≡◌, ◌+◌, ◌-◌, ◌*◌, ◌/◌, ◌%◌, ◌^◌, ◌<◌, ◌≤◌, length, min};
 ghost use Rattle.vb_bits.specs.Bits.{bits, count};
+ghost use Rattle.vb_bits.specs.InBytes.{InBytes};
 ghost use Rattle.vb_kernel.specs.Parts.{rest_looks};
 ghost use Rattle.vb_kernel.specs.Looks.{LooksExactly};
 
@@ -15,8 +16,7 @@ use crate::word::byte_part;
 #[inline(always)]
 pub(crate) fn add_rest<G: Glance>(src: &mut G, at: usize, len: usize, ones: usize) -> usize
     requires few { len < 512 }
-    requires inside { 8 * at + len ≤ 8 * length (G.seen src.old).bytes }
-    requires fits { 8 * at + len < 2 ^ 64 }
+    requires window { InBytes ((G.seen src.old).bytes) (8 * at) len }
     requires room { ones + len < 2 ^ 64 }
     ensures value { result ≡ ones + count (bits (G.seen src.old).bytes (8 * at) len) }
     ensures looks { LooksExactly (rest_looks len) (G.seen src.old) (G.seen src.new) }

@@ -1,6 +1,7 @@
 //! The place of a bit by its rank.
 ghost use Rattle.std.specs.Prelude.{◌≡◌, ◌+◌, ◌*◌, ◌/◌, ◌%◌, ◌^◌, ◌<◌, ◌≤◌, length};
 ghost use Rattle.vb_bits.specs.Bits.{bits, count, negated, Selects, AnswersEach};
+ghost use Rattle.vb_bits.specs.InBytes.{InBytes};
 ghost use Rattle.vb_kernel.specs.Looks.{looks, LooksExactly, LooksAtMost};
 ghost use Rattle.vb_kernel.specs.Searches.{matching, Searched, IsWithin, SearchAnswers};
 
@@ -18,8 +19,7 @@ const MANY: usize = 4;
 /// The place, relative to the window, of its `n`-th true bit, counted from 0; `None` where the
 /// window has at most `n`.
 pub fn bit_select(bytes: &[u8], offset: usize, len: usize, n: usize) -> Option<usize>
-    requires inside { offset + len ≤ 8 * length bytes.now }
-    requires fits { offset + len < 2 ^ 64 }
+    requires window { InBytes bytes.now offset len }
     ensures place { Selects (bits bytes.now offset len) n result }
     ensures each { AnswersEach (bits bytes.now offset len) n result }
 {
@@ -29,8 +29,7 @@ pub fn bit_select(bytes: &[u8], offset: usize, len: usize, n: usize) -> Option<u
 /// The place, relative to the window, of its `n`-th false bit, counted from 0; `None` where the
 /// window has at most `n`.
 pub fn bit_select_unset(bytes: &[u8], offset: usize, len: usize, n: usize) -> Option<usize>
-    requires inside { offset + len ≤ 8 * length bytes.now }
-    requires fits { offset + len < 2 ^ 64 }
+    requires window { InBytes bytes.now offset len }
     ensures place { Selects (negated (bits bytes.now offset len)) n result }
     ensures each { AnswersEach (negated (bits bytes.now offset len)) n result }
 {
@@ -39,8 +38,7 @@ pub fn bit_select_unset(bytes: &[u8], offset: usize, len: usize, n: usize) -> Op
 
 /// [`bit_select`] of the window of `src`, by at most the looks of a count of the window.
 pub fn bit_select_by<G: Glance>(src: &mut G, offset: usize, len: usize, n: usize) -> Option<usize>
-    requires inside { offset + len ≤ 8 * length (G.seen src.old).bytes }
-    requires fits { offset + len < 2 ^ 64 }
+    requires window { InBytes ((G.seen src.old).bytes) offset len }
     ensures place { Selects (bits (G.seen src.old).bytes offset len) n result }
     ensures each { AnswersEach (bits (G.seen src.old).bytes offset len) n result }
     ensures looks { LooksAtMost (looks offset len) (G.seen src.old) (G.seen src.new) }
@@ -55,8 +53,7 @@ pub fn bit_select_unset_by<G: Glance>(
     len: usize,
     n: usize,
 ) -> Option<usize>
-    requires inside { offset + len ≤ 8 * length (G.seen src.old).bytes }
-    requires fits { offset + len < 2 ^ 64 }
+    requires window { InBytes ((G.seen src.old).bytes) offset len }
     ensures place { Selects (negated (bits (G.seen src.old).bytes offset len)) n result }
     ensures each { AnswersEach (negated (bits (G.seen src.old).bytes offset len)) n result }
     ensures looks { LooksAtMost (looks offset len) (G.seen src.old) (G.seen src.new) }
@@ -75,8 +72,7 @@ fn find<G: Glance>(
     n: usize,
     value: bool,
 ) -> ControlFlow<usize, usize>
-    requires inside { offset + len ≤ 8 * length (G.seen src.old).bytes }
-    requires fits { offset + len < 2 ^ 64 }
+    requires window { InBytes ((G.seen src.old).bytes) offset len }
     ensures found { Searched (matching value (bits (G.seen src.old).bytes offset len)) n result }
     ensures looks { LooksAtMost (looks offset len) (G.seen src.old) (G.seen src.new) }
 {
@@ -155,8 +151,7 @@ fn pass_chunks<G: Glance>(
     value: bool,
 ) -> (usize, usize)
     requires aligned { 0 < chunks → at % 8 ≡ 0 }
-    requires inside { at + 512 * chunks ≤ 8 * length (G.seen src.old).bytes }
-    requires fits { at + 512 * chunks < 2 ^ 64 }
+    requires window { InBytes ((G.seen src.old).bytes) at (512 * chunks) }
     ensures within { result.0 ≤ chunks }
     ensures passed { n ≡ result.1
         + count (matching value (bits (G.seen src.old).bytes at (512 * result.0))) }

@@ -1,5 +1,6 @@
 //! What a closure makes of the bits of a window.
 ghost use Rattle.std.specs.Prelude.{◌≡◌, ◌+◌, ◌*◌, ◌^◌, ◌<◌, ◌≤◌, length};
+ghost use Rattle.vb_bits.specs.InBytes.{InBytes};
 ghost use Rattle.vb_pack.specs.Asked.{Answers, CanAsk, span};
 ghost use Rattle.vb_pack.specs.Bits.{at, bit_of, bits};
 ghost use Rattle.vb_pack.specs.Digits.{digits};
@@ -23,8 +24,7 @@ pub fn map_bool_bytes<F: FnMut(usize, bool) -> bool>(
     f: &mut F,
 )
     requires room { len ≤ 8 * length dst.old }
-    requires inside { offset + len ≤ 8 * length src.now }
-    requires fits { offset + len < 2 ^ 64 }
+    requires window { InBytes src.now offset len }
     requires callable { CanAsk (λ p i. F.pre p i (at (bits src.now offset len) i))
         (λ p i b q. F.step p i (at (bits src.now offset len) i) b q) f.old (span 0 len) }
     ensures answered { Answers (λ p i b q. F.step p i (at (bits src.now offset len) i) b q)
@@ -45,8 +45,7 @@ pub fn map_bool_bytes<F: FnMut(usize, bool) -> bool>(
 /// there.
 #[inline(always)]
 fn map_full<F: FnMut(usize, bool) -> bool>(src: &[u8], offset: usize, base: usize, f: &mut F) -> u64
-    requires inside { offset + base + 64 ≤ 8 * length src.now }
-    requires fits { offset + base + 64 < 2 ^ 64 }
+    requires window { InBytes src.now (offset + base) 64 }
     requires callable { CanAsk (λ p i. F.pre p i (bit_of src.now (offset + i)))
         (λ p i b q. F.step p i (bit_of src.now (offset + i)) b q) f.old (span base 64) }
     ensures { Answers (λ p i b q. F.step p i (bit_of src.now (offset + i)) b q)
@@ -70,8 +69,7 @@ fn map_part<F: FnMut(usize, bool) -> bool>(
     f: &mut F,
 ) -> u64
     requires in_word { len ≤ 64 }
-    requires inside { offset + base + len ≤ 8 * length src.now }
-    requires fits { offset + base + len < 2 ^ 64 }
+    requires window { InBytes src.now (offset + base) len }
     requires callable { CanAsk (λ p i. F.pre p i (bit_of src.now (offset + i)))
         (λ p i b q. F.step p i (bit_of src.now (offset + i)) b q) f.old (span base len) }
     ensures answered { Answers (λ p i b q. F.step p i (bit_of src.now (offset + i)) b q)

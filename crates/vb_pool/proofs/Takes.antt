@@ -1,18 +1,18 @@
 -- Bits taken at indices, and places that are made true.
 use Rattle.std.proofs.Common.{◌≡◌, ℕ, Bool, true, List, length, get_or}
 use Rattle.std.proofs.Common.{Option, Some, None}
-use Rattle.std.specs.Prelude.{nat_lt}
+use Rattle.std.specs.Prelude.{◌<◌, nat_lt, All}
 use Rattle.std.specs.Option.{ForSome}
 use Rattle.std.proofs.lemmas.Bool.{eqb-true, ltb-true}
+use Rattle.std.proofs.lemmas.List.Elements.{All-from_get_or}
 use Rattle.std.proofs.lemmas.List.Sums.{AllPass-from_list_all}
 use Rattle.std.proofs.lemmas.Option.{none-some}
 use Rattle.vb_command.specs.Machine.{all_below, is_as_long}
-use Rattle.vb_set.specs.Takes.{AllBelow}
 
 -- each place is below n, where the test says so
-pub below_all : (n : ℕ) (places : List ℕ) → all_below n places ≡ true → AllBelow n places
-below_all n places below = λ i within.
-    ltb-true (get_or places i 0) n (AllPass-from_list_all (λ p. nat_lt p n) places below i 0 within)
+pub below_all : (n : ℕ) (places : List ℕ) → all_below n places ≡ true → All (λ p. p < n) places
+below_all n places below = All-from_get_or (λ p. p < n) places 0 (λ i within.
+    ltb-true (get_or places i 0) n (AllPass-from_list_all (λ p. nat_lt p n) places below i 0 within))
 
 -- a validity that is as long as the indices
 pub validity_fits : (n : ℕ) (validity : Option (List Bool))

@@ -4,8 +4,10 @@ use Rattle.std.proofs.Common.{arith, map-id}
 use Rattle.std.proofs.lemmas.Grind.{get_or_default_zero}
 use Rattle.std.proofs.lemmas.Iterator.{YieldsList}
 use Rattle.std.proofs.lemmas.Iterator.Consumers.{YieldsList-turn, YieldsList-end}
+use Rattle.std.proofs.lemmas.List.Elements.{All-get_or}
 use Rattle.std.specs.Iterator.{Drains}
-use Rattle.vb_take.specs.Takes.{AllBelow, FirstNotBelow}
+use Rattle.std.specs.Prelude.{All}
+use Rattle.vb_take.specs.Takes.{FirstNotBelow}
 
 module _ {S : Type 0} {steps : S → Option ℕ → S → Type 0} {s : S} {all : List ℕ}
     (road : YieldsList steps (λ x. x) s all) where
@@ -15,8 +17,8 @@ module _ {S : Type 0} {steps : S → Option ℕ → S → Type 0} {s : S} {all :
       sym (map-id items) ∙ (YieldsList-end road items t run None u refl step).0
 
   -- where each number of the list is below n, none is the first that isn't
-  pub none_past : (n index : ℕ) → AllBelow n all → FirstNotBelow steps n s index → ⊥
+  pub none_past : (n index : ℕ) → All (λ p. p < n) all → FirstNotBelow steps n s index → ⊥
   none_past n index below (places, u, (t, run, step), front, past) =
       let turn = YieldsList-turn road places t run (Some index) u index refl step in
       let zero = get_or_default_zero all (length places) index turn.0 in
-      omega (arith, turn.1, zero, below (length places) turn.0, past)
+      omega (arith, turn.1, zero, All-get_or (λ p. p < n) all (length places) 0 turn.0 below, past)

@@ -4,7 +4,7 @@ use Rattle.std.specs.Prelude.{slice_get, slice_index_or, Option, Some, None, IsS
 use Rattle.std.specs.Prelude.{if◌then◌else◌}
 use Rattle.std.specs.Option.{option_and_then}
 use Rattle.vb_bits.specs.Bits.{at}
-pub use Rattle.vb_bits.specs.Marks.{with_true, AllBelow, GivesBelow, FirstNotBelow}
+pub use Rattle.vb_bits.specs.Marks.{with_true, GivesBelow, FirstNotBelow}
 use Rattle.vb_core.specs.Indices.{place_of}
 use Rattle.vb_core.specs.declared.error.BufferError.{BufferError}
 use Rattle.vb_core.specs.declared.error.BufferError.TheVariants.{OutOfMemory, IndexOutOfRange}

@@ -1,15 +1,15 @@
 //! Sets made of what a closure answers, of lists of truth values, and of what an iterator gives.
 ghost use Rattle.std.specs.Prelude.{◌≡◌, ◌⊎◌, ⊤, false, length, replicate};
-ghost use Rattle.std.specs.Prelude.{IfOk, IfErr, MatchResult, OnErr};
+ghost use Rattle.std.specs.Prelude.{◌<◌, All, IfOk, IfErr, MatchResult, OnErr};
 ghost use Rattle.std.specs.Iterator.{IsFiniteIterable};
 ghost use Rattle.vb_bit_buffer.specs.SharedSet.{IsFreshSet};
 ghost use Rattle.vb_bit_bytes.specs.AskedOf.{asked_of};
 ghost use Rattle.vb_bit_bytes.specs.Given.{GivesPast};
-ghost use Rattle.vb_kernel.specs.Bits.{at};
+ghost use Rattle.vb_bits.specs.Bits.{at};
 ghost use Rattle.vb_mem.specs.Answers.{Makes};
 ghost use Rattle.vb_mem.specs.Collected.{OfItems};
 ghost use Rattle.vb_pack.specs.Asked.{Answers, CanAsk, span};
-ghost use Rattle.vb_take.specs.Takes.{with_true, AllBelow, IndexRefused};
+ghost use Rattle.vb_take.specs.Takes.{with_true, IndexRefused};
 
 use super::BitBuffer;
 use std::alloc::Allocator;
@@ -128,7 +128,7 @@ impl<A: Allocator + Clone> BitBuffer<A> {
         requires { IsFiniteIterable I.into_iter_gives I.IntoIter.can_next
             I.IntoIter.remaining indices }
         ensures bits { IfOk result (λ s. OfItems I.into_iter_gives I.IntoIter.next_gives indices
-            (λ places. AllBelow len places
+            (λ places. All (λ p. p < len) places
             × (s.bits ≡ with_true (replicate len false) places))) }
         ensures len { IfOk result (λ s. length s.bits ≡ len) }
         ensures fresh { IfOk result (λ s. IsFreshSet s.bits s) }

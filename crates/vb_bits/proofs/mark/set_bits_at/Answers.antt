@@ -1,7 +1,8 @@
-use Rattle.std.proofs.Common.{rules, true, [], ◌∷◌, subst, arith}
+use Rattle.std.proofs.Common.{◌<◌, rules, true, [], ◌∷◌, subst, arith}
+use Rattle.std.proofs.lemmas.List.Elements.{All-push}
 use Rattle.std.specs.Iterator.{Yields}
 use Rattle.vb_bits.proofs.KeepsLemmas.{KeepsBehind-write, Writes-first}
-use Rattle.vb_bits.proofs.MarksLemmas.{MarkedAt-bit, AllBelow-push, with_true-all}
+use Rattle.vb_bits.proofs.MarksLemmas.{MarkedAt-bit, with_true-all}
 use Rattle.vb_bits.proofs.mark.set_bits_at.Goals as goal
 
 pub returns-then-place-len-clause-past : goal.returns-then-place-len-clause-past
@@ -35,7 +36,7 @@ loop-place-preserved g c =
       can = search rules;
       finite = search rules;
       marked = MarkedAt-bit n p given old out new inv.marked c.set_bit_unchecked.ensures;
-      below = AllBelow-push n p given inv.below (omega arith);
+      below = All-push (λ i. i < n) given p inv.below (omega arith);
       keeps = KeepsBehind-write n old out new p
           (true ∷ []) inv.keeps c.set_bit_unchecked.ensures (omega arith);
     }
