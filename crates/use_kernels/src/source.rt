@@ -1,6 +1,7 @@
 //! A source of bits that adds up what is read of it.
 ghost use Rattle.std.specs.Prelude.{◌≡◌, ◌+◌, ◌*◌, ◌^◌, ◌<◌, ◌≤◌, length, min, slice_range};
 ghost use Rattle.std.below.core.specs.declared.int.u64.TheConstants.{MAX};
+ghost use Rattle.vb_bits.specs.InBytes.{InBytes};
 ghost use Rattle.vortex_buffer.specs.Bits.{bits, count};
 ghost use Rattle.vortex_buffer.specs.Looks.{looks};
 
@@ -88,8 +89,7 @@ impl Glance for Metered<'_> {
 
 /// How many bits of a window are true, and how many bytes were read for it: at most 64 a look.
 pub fn count_metered(bytes: &[u8], offset: usize, len: usize) -> (usize, u64)
-    requires inside { offset + len ≤ 8 * length bytes.now }
-    requires fits { offset + len < 2 ^ 64 }
+    requires window { InBytes bytes.now offset len }
     ensures count { result.0 ≡ count (bits bytes.now offset len) }
     ensures read { result.1 ≤ 64 * looks offset len }
 {

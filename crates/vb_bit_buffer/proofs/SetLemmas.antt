@@ -2,7 +2,7 @@
 use Rattle.std.proofs.Common.{◌≡◌, ℕ, ◌*◌, ◌^◌, ◌<◌, ◌≤◌, Bool, List, length, take, ap, sym, ◌∙◌}
 use Rattle.std.proofs.Common.{arith}
 use Rattle.std.proofs.lemmas.List.{length-take}
-use Rattle.vb_kernel.specs.Bits.{bits}
+use Rattle.vb_bits.specs.Bits.{bits}
 use Rattle.vb_bits.proofs.BitsLemmas.{length-bits}
 use Rattle.vb_bits.proofs.WindowLemmas.{bits-take_bytes}
 use Rattle.vb_bit_bytes.proofs.BytesLemmas.{edits}

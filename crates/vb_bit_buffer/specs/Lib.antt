@@ -3,9 +3,9 @@ pub mod SharedSet
 pub mod Stops
 pub use Rattle.vb_bit_bytes.specs.AskedOf
 pub use Rattle.vb_bit_bytes.specs.Given
-pub use Rattle.vb_kernel.specs.Bits
-pub use Rattle.vb_kernel.specs.Operators
-pub use Rattle.vb_kernel.specs.Shown
+pub use Rattle.vb_bits.specs.Bits
+pub use Rattle.vb_bits.specs.Operators
+pub use Rattle.vb_bits.specs.Shown
 pub use Rattle.vb_mem.specs.Answers
 pub use Rattle.vb_mem.specs.Collected
 pub use Rattle.vb_mem.specs.SharedBuffer
@@ -14,5 +14,5 @@ pub use Rattle.vb_take.specs.Takes
 pub use Rattle.vb_view.specs.View
 pub use Rattle.vb_view.specs.Windows
 pub use Rattle.vb_walk.specs.Cut
-pub use Rattle.vb_walk.specs.Runs
+pub use Rattle.vb_bits.specs.Runs
 pub use Rattle.vb_walk.specs.Words

@@ -4,12 +4,13 @@ ghost use Rattle.std.specs.Prelude.{ℕ, [], true, false, length, take, drop, re
 ghost use Rattle.std.specs.Prelude.{slice_get, slice_range, IsSome, IfSome, IfOk, IsOkUnless};
 ghost use Rattle.std.specs.Int.{div_ceil};
 ghost use Rattle.vb_bit_buffer.specs.SharedSet.{IsFreshSet, SharesFrom};
-ghost use Rattle.vb_kernel.specs.Bits.{bits, count, negated, places, Selects, AnswersEach};
+ghost use Rattle.vb_bits.specs.InBytes.{InBytes};
+ghost use Rattle.vb_bits.specs.Bits.{bits, count, negated, places, Selects, AnswersEach};
 ghost use Rattle.vb_mem.specs.Answers.{Makes};
 ghost use Rattle.vb_view.specs.View.{bits_of, offset_of, bytes_of};
 ghost use Rattle.vb_view.specs.Windows.{IsWindow};
 ghost use Rattle.vb_walk.specs.Cut.{IsCut};
-ghost use Rattle.vb_walk.specs.Runs.{last_place, runs};
+ghost use Rattle.vb_bits.specs.Runs.{last_place, runs};
 
 use std::alloc::{Allocator, Global};
 use std::marker::Model;
@@ -38,7 +39,7 @@ pub struct BitBuffer<A: Allocator + Clone = Global> {
 
 impl<A: Allocator + Clone> Model for BitBuffer<A> {
     ghost use Rattle.std.specs.Prelude.{◌≡◌, ◌+◌, ◌*◌, ◌<◌, ◌≤◌, ◌^◌, length};
-    ghost use Rattle.vb_kernel.specs.Bits.{bits};
+    ghost use Rattle.vb_bits.specs.Bits.{bits};
     ghost use Rattle.vb_bit_buffer.specs.SharedSet.{SharedSet};
 
     ghost Value = { SharedSet };
@@ -71,11 +72,10 @@ impl<A: Allocator + Clone> BitBuffer<A> {
     }
 
     /// The `len` bits of a byte buffer from bit `offset` on. They have to lie in its bytes, and
-    /// `offset + len` has to be a `usize`: `vb_kernel::window_fits` is the test. Shares its
+    /// `offset + len` has to be a `usize`: `window_fits` is the test. Shares its
     /// storage, from the byte of the first bit on; no memory is taken.
     pub fn new_with_offset(buffer: ByteBuffer<A>, len: usize, offset: usize) -> Self
-        requires inside { offset + len ≤ 8 * length buffer.list }
-        requires fits { offset + len < 2 ^ 64 }
+        requires window { InBytes buffer.list offset len }
         ensures bits { result.bits ≡ bits buffer.list offset len }
         ensures len { length result.bits ≡ len }
         ensures offset { result.offset ≡ offset % 8 }
@@ -86,8 +86,7 @@ impl<A: Allocator + Clone> BitBuffer<A> {
 
     /// [`new_with_offset`](Self::new_with_offset) of a buffer whose alignment is 1 already.
     fn window_of(buffer: ByteBuffer<A>, len: usize, offset: usize) -> Self
-        requires inside { offset + len ≤ 8 * length buffer.list }
-        requires fits { offset + len < 2 ^ 64 }
+        requires window { InBytes buffer.list offset len }
         requires alignment { buffer.alignment ≡ 0 }
         ensures bits { result.bits ≡ bits buffer.list offset len }
         ensures len { length result.bits ≡ len }

@@ -3,6 +3,7 @@ ghost use Rattle.std.specs.Prelude.{◌≡◌, ℕ, ◌+◌, ◌*◌, ◌^◌, �
 ghost use Rattle.std.specs.Prelude.{length, IfOk, IsOkUnless};
 ghost use Rattle.std.specs.Int.{div_ceil};
 ghost use Rattle.vb_bits.specs.Bits.{bits};
+ghost use Rattle.vb_bits.specs.InBytes.{InBytes};
 ghost use Rattle.vb_bits.specs.Operators.{combined, merged};
 ghost use Rattle.vb_mem.specs.OpenBuffer.{HasRoom};
 
@@ -30,10 +31,8 @@ pub fn combine_into<A: Allocator + Clone>(
 ) -> Result<ByteBufferMut<A>>
     requires empty { room.list ≡ [] }
     requires room { HasRoom room (div_ceil (l + len) 8) }
-    requires inside { l + len ≤ 8 * length left.now }
-    requires fits { l + len < 2 ^ 64 }
-    requires inside_right { r + len ≤ 8 * length right.now }
-    requires right_fits { r + len < 2 ^ 64 }
+    requires window { InBytes left.now l len }
+    requires right { InBytes right.now r len }
     ensures bits { IfOk result (λ b. bits b.list l len
         ≡ combined op (bits left.now l len) (bits right.now r len)) }
     ensures len { IfOk result (λ b. length b.list ≡ div_ceil (l + len) 8) }

@@ -3,8 +3,9 @@ ghost use Rattle.std.specs.Prelude.{◌≡◌, ◌+◌, ◌*◌, ◌^◌, ◌<�
 ghost use Rattle.std.specs.Prelude.{IfOk, IsOkUnless, OnErr};
 ghost use Rattle.std.specs.Int.{div_ceil};
 ghost use Rattle.vb_bit_bytes.specs.AskedOf.{asked_of};
+ghost use Rattle.vb_bits.specs.InBytes.{InBytes};
 ghost use Rattle.vb_pack.specs.Asked.{Answers, CanAsk, span};
-ghost use Rattle.vb_pack.specs.Bits.{at, bits};
+ghost use Rattle.vb_bits.specs.Bits.{at, bits};
 
 use crate::make::full;
 use std::alloc::Allocator;
@@ -68,8 +69,7 @@ pub fn map_bool_shared<A: Allocator + Clone, F: FnMut(usize, bool) -> bool>(
     f: &mut F,
 ) -> Result<ByteBuffer<A>>
     requires room { len ≤ 8 * length bytes.list }
-    requires inside { offset + len ≤ 8 * length src.now }
-    requires fits { offset + len < 2 ^ 64 }
+    requires window { InBytes src.now offset len }
     requires callable { CanAsk (λ p i. F.pre p i (at (bits src.now offset len) i))
         (asked_of F.step (bits src.now offset len)) f.old (span 0 len) }
     ensures answered { IfOk result (λ b.

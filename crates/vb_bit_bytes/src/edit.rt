@@ -2,6 +2,7 @@
 ghost use Rattle.std.specs.Prelude.{◌≡◌, ◌+◌, ◌-◌, ◌*◌, ◌/◌, ◌^◌, ◌<◌, ◌≤◌, [], ◌∷◌};
 ghost use Rattle.std.specs.Prelude.{length, replicate};
 ghost use Rattle.vb_bits.specs.Bits.{bits, negated};
+ghost use Rattle.vb_bits.specs.InBytes.{InBytes};
 ghost use Rattle.vb_bits.specs.Operators.{combined};
 ghost use Rattle.vb_bits.specs.Writes.{Writes};
 
@@ -30,8 +31,7 @@ pub fn fill<A: Allocator + Clone>(bytes: &mut ByteBufferMut<A>, start: usize, en
 
 /// Negates each of the `len` bits from bit `offset` on, by words of eight bytes.
 pub fn negate<A: Allocator + Clone>(bytes: &mut ByteBufferMut<A>, offset: usize, len: usize)
-    requires inside { offset + len ≤ 8 * length bytes.old.list }
-    requires fits { offset + len < 2 ^ 64 }
+    requires window { InBytes bytes.old.list offset len }
     ensures bits { Writes bytes.old.list bytes.new.list offset
         (negated (bits bytes.old.list offset len)) }
     ensures keeps { bytes.new ≡ record bytes.old { list = bytes.new.list } }
@@ -49,10 +49,8 @@ pub fn combine<A: Allocator + Clone>(
     len: usize,
     op: BitOp,
 )
-    requires inside { offset + len ≤ 8 * length bytes.old.list }
-    requires fits { offset + len < 2 ^ 64 }
-    requires inside_right { start + len ≤ 8 * length right.now }
-    requires right_fits { start + len < 2 ^ 64 }
+    requires window { InBytes bytes.old.list offset len }
+    requires right { InBytes right.now start len }
     ensures bits { Writes bytes.old.list bytes.new.list offset
         (combined op (bits bytes.old.list offset len) (bits right.now start len)) }
     ensures keeps { bytes.new ≡ record bytes.old { list = bytes.new.list } }
@@ -69,10 +67,8 @@ pub fn copy<A: Allocator + Clone>(
     start: usize,
     len: usize,
 )
-    requires inside { offset + len ≤ 8 * length bytes.old.list }
-    requires fits { offset + len < 2 ^ 64 }
-    requires inside_source { start + len ≤ 8 * length from.now }
-    requires source_fits { start + len < 2 ^ 64 }
+    requires window { InBytes bytes.old.list offset len }
+    requires source { InBytes from.now start len }
     ensures bits { Writes bytes.old.list bytes.new.list offset (bits from.now start len) }
     ensures keeps { bytes.new ≡ record bytes.old { list = bytes.new.list } }
 {

@@ -5,8 +5,8 @@ ghost use Rattle.std.specs.Int.{div_ceil};
 ghost use Rattle.std.specs.Iterator.{IsFinite, IsFiniteIterable};
 ghost use Rattle.vb_bit_bytes.specs.Given.{GivesPast, GivesUpTo};
 ghost use Rattle.vb_mem.specs.Collected.{OfItems};
-ghost use Rattle.vb_pack.specs.Bits.{bits};
-ghost use Rattle.vb_pack.specs.Digits.{digits};
+ghost use Rattle.vb_bits.specs.Bits.{bits};
+ghost use Rattle.vb_bits.specs.Digits.{digits};
 
 use std::alloc::Allocator;
 use vb_core::{BufferError, Result};

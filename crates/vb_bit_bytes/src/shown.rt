@@ -1,5 +1,6 @@
 //! Sets as text for people who look for a fault.
 ghost use Rattle.std.specs.Prelude.{◌+◌, ◌*◌, ◌^◌, ◌<◌, ◌≤◌, length};
+ghost use Rattle.vb_bits.specs.InBytes.{InBytes};
 
 use std::fmt;
 use vb_bits::get_bit;
@@ -16,8 +17,7 @@ pub fn write_bits<W: fmt::Write>(
     offset: usize,
     len: usize,
 ) -> fmt::Result
-    requires inside { offset + len ≤ 8 * length bytes.now }
-    requires fits { offset + len < 2 ^ 64 }
+    requires window { InBytes bytes.now offset len }
 {
     write!(f, "{name}(")?;
     for i in 0..len.min(SHOWN) {

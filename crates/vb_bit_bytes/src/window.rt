@@ -3,6 +3,7 @@ ghost use Rattle.std.specs.Prelude.{◌≡◌, ◌+◌, ◌*◌, ◌^◌, ◌<�
 ghost use Rattle.std.specs.Prelude.{length, max, IsOk, IsOkUnless, OnOk, OnErr};
 ghost use Rattle.std.specs.Int.{div_ceil};
 ghost use Rattle.vb_bits.specs.Bits.{bits};
+ghost use Rattle.vb_bits.specs.InBytes.{InBytes};
 ghost use Rattle.vb_bits.specs.Writes.{Writes, lengthened};
 
 use crate::edit::copy;
@@ -26,8 +27,7 @@ pub fn push_window<A: Allocator + Clone>(
 ) -> Result<()>
     requires inside { start ≤ 8 * length bytes.old.list }
     requires fits { start + n < 2 ^ 64 }
-    requires source_inside { offset + n ≤ 8 * length source.now }
-    requires source_fits { offset + n < 2 ^ 64 }
+    requires source { InBytes source.now offset n }
     ensures len { OnOk result (length bytes.new.list
         ≡ max (length bytes.old.list) (div_ceil (start + n) 8)) }
     ensures bits { OnOk result (Writes (lengthened bytes.old.list bytes.new.list) bytes.new.list

@@ -4,10 +4,10 @@ pub mod Place
 pub mod Taken
 pub use Rattle.vb_bits.specs.InBytes
 pub use Rattle.vb_bits.specs.Kept
-pub use Rattle.vb_kernel.specs.Bits
-pub use Rattle.vb_kernel.specs.Operators
-pub use Rattle.vb_kernel.specs.Runs
-pub use Rattle.vb_kernel.specs.Writes
+pub use Rattle.vb_bits.specs.Bits
+pub use Rattle.vb_bits.specs.Operators
+pub use Rattle.vb_bits.specs.Runs
+pub use Rattle.vb_bits.specs.Writes
 pub use Rattle.vb_pack.specs.WordBits
 pub use Rattle.vb_rank.specs.Fills
 pub use Rattle.vb_rank.specs.Tables

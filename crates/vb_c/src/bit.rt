@@ -1,7 +1,7 @@
 //! One bit.
 ghost use Rattle.std.specs.Prelude.{◌≡◌, ◌*◌, ◌/◌, ◌<◌, length};
 ghost use Rattle.vb_c.specs.Fits.{Checks};
-ghost use Rattle.vb_kernel.specs.Bits.{bit_of};
+ghost use Rattle.vb_bits.specs.Bits.{bit_of};
 
 /// Bit `i`, which has to lie in the bytes.
 #[unsafe(no_mangle)]
@@ -9,7 +9,7 @@ pub extern "C" fn vb_get_bit(bytes: &[u8], i: usize) -> bool
     requires { i / 8 < length bytes.now }
     ensures { result ≡ bit_of bytes.now i }
 {
-    vb_kernel::get_bit(bytes, i)
+    vb_bits::get_bit(bytes, i)
 }
 
 /// Whether bit `i` lies in the bytes; `bit` is then [`vb_get_bit`], and else as it was.

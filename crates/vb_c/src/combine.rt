@@ -2,11 +2,11 @@
 ghost use Rattle.std.specs.Prelude.{◌≡◌, ◌+◌, ◌*◌, ◌^◌, ◌<◌, ◌≤◌, length};
 ghost use Rattle.vb_bits.specs.InBytes.{InBytes};
 ghost use Rattle.vb_c.specs.Fits.{Checks};
-ghost use Rattle.vb_kernel.specs.Bits.{bits};
-ghost use Rattle.vb_kernel.specs.Operators.{combined};
-ghost use Rattle.vb_kernel.specs.Writes.{Writes};
+ghost use Rattle.vb_bits.specs.Bits.{bits};
+ghost use Rattle.vb_bits.specs.Operators.{combined};
+ghost use Rattle.vb_bits.specs.Writes.{Writes};
 
-use vb_kernel::{BitOp, window_fits, zip_words};
+use vb_bits::{BitOp, window_fits, zip_words};
 
 /// Makes each of the `len` bits of `dst` from bit `d` on true exactly where it is true and that of
 /// `src` from bit `s` on is, and leaves every other bit of `dst`. The two may not overlap.

@@ -2,7 +2,7 @@
 ghost use Rattle.std.specs.Prelude.{◌≡◌, ◌+◌, ◌*◌, ◌^◌, ◌<◌, ◌≤◌, length};
 ghost use Rattle.vb_bits.specs.InBytes.{InBytes};
 ghost use Rattle.vb_c.specs.Fits.{Checks};
-ghost use Rattle.vb_kernel.specs.Bits.{bits, count};
+ghost use Rattle.vb_bits.specs.Bits.{bits, count};
 
 /// How many of the `len` bits from bit `offset` on are true. The window is read once, 64 bytes at a
 /// time.
@@ -25,7 +25,7 @@ pub extern "C" fn vb_try_count_ones(
     ensures { Checks (InBytes bytes.now offset len)
         (ones.new ≡ count (bits bytes.now offset len)) (ones.new ≡ ones.old) result }
 {
-    if !vb_kernel::window_fits(bytes, offset, len) {
+    if !vb_bits::window_fits(bytes, offset, len) {
         return false;
     }
     *ones = vb_count_ones(bytes, offset, len);

@@ -2,7 +2,7 @@
 ghost use Rattle.std.specs.Prelude.{◌≡◌, ◌+◌, ◌*◌, ◌^◌, ◌<◌, ◌≤◌, ◌↔◌, length, IsTrue};
 ghost use Rattle.vb_bits.specs.InBytes.{InBytes};
 ghost use Rattle.vb_c.specs.Fits.{Checks};
-ghost use Rattle.vb_kernel.specs.Bits.{bits};
+ghost use Rattle.vb_bits.specs.Bits.{bits};
 
 /// Whether the `len` bits of `left` from bit `l` on are those of `right` from bit `r` on. No block
 /// of 512 bytes behind the first difference is read.
@@ -12,7 +12,7 @@ pub extern "C" fn vb_equal_bits(left: &[u8], l: usize, right: &[u8], r: usize, l
     requires right { InBytes right.now r len }
     ensures { IsTrue result ↔ (bits left.now l len ≡ bits right.now r len) }
 {
-    vb_kernel::equal_bits(left, l, right, r, len)
+    vb_bits::equal_bits(left, l, right, r, len)
 }
 
 /// Whether both windows lie in their bytes; `equal` is then [`vb_equal_bits`], and else as it was.
@@ -29,7 +29,7 @@ pub extern "C" fn vb_try_equal_bits(
         (IsTrue equal.new ↔ (bits left.now l len ≡ bits right.now r len))
         (equal.new ≡ equal.old) result }
 {
-    if !vb_kernel::window_fits(left, l, len) || !vb_kernel::window_fits(right, r, len) {
+    if !vb_bits::window_fits(left, l, len) || !vb_bits::window_fits(right, r, len) {
         return false;
     }
     *equal = vb_equal_bits(left, l, right, r, len);

@@ -3,11 +3,12 @@ ghost use Rattle.std.specs.Prelude.{◌≡◌, ◌*◌, ◌≤◌, ◌↔◌, �
 ghost use Rattle.vb_bits.specs.InBytes.{InBytes};
 ghost use Rattle.vb_bits.specs.Kept.{kept};
 ghost use Rattle.vb_c.specs.Fits.{Checks};
-ghost use Rattle.vb_kernel.specs.Bits.{bits, count};
-ghost use Rattle.vb_kernel.specs.Writes.{Writes};
+ghost use Rattle.vb_bits.specs.Bits.{bits, count};
+ghost use Rattle.vb_bits.specs.Writes.{Writes};
 
 use vb_filter::{filter_into, filter_values_into};
-use vb_kernel::{count_ones, window_fits};
+use vb_bits::window_fits;
+use vb_kernel::count_ones;
 use vb_view::BitBufferView;
 
 /// A value of 16 bytes, as it crosses to C.

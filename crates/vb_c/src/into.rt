@@ -2,11 +2,11 @@
 ghost use Rattle.std.specs.Prelude.{◌≡◌, ◌+◌, ◌*◌, ◌^◌, ◌<◌, ◌≤◌, length};
 ghost use Rattle.vb_bits.specs.InBytes.{InBytes};
 ghost use Rattle.vb_c.specs.Fits.{Checks};
-ghost use Rattle.vb_kernel.specs.Bits.{bits};
-ghost use Rattle.vb_kernel.specs.Operators.{combined};
-ghost use Rattle.vb_kernel.specs.Writes.{Writes};
+ghost use Rattle.vb_bits.specs.Bits.{bits};
+ghost use Rattle.vb_bits.specs.Operators.{combined};
+ghost use Rattle.vb_bits.specs.Writes.{Writes};
 
-use vb_kernel::{BitOp, copy_bits, window_fits, zip_words};
+use vb_bits::{BitOp, copy_bits, window_fits, zip_words};
 
 /// How many bits are combined before the next ones are copied: few enough that the bytes of a
 /// block stay near the processor in between.

@@ -1,9 +1,9 @@
 //! Truth values packed into bits.
 ghost use Rattle.std.specs.Prelude.{◌≡◌, ◌*◌, ◌≤◌, ◌==◌, not, length, map};
 ghost use Rattle.vb_c.specs.Fits.{Checks};
-ghost use Rattle.vb_pack.specs.Bits.{bits};
+ghost use Rattle.vb_bits.specs.Bits.{bits};
 ghost use Rattle.vb_pack.specs.WordBits.{filled_up};
-ghost use Rattle.vb_pack.specs.Writes.{Writes};
+ghost use Rattle.vb_bits.specs.Writes.{Writes};
 
 /// Packs truth values into the first bytes of `out`, eight into each; the bits of the last one
 /// behind them are false, and later bytes stay.
@@ -24,7 +24,7 @@ pub extern "C" fn vb_try_pack_bools(out: &mut [u8], bools: &[bool]) -> bool
         × Writes out.old out.new 0 (filled_up 8 (bools.now)))
         (out.new ≡ out.old) result }
 {
-    if !vb_kernel::window_fits(out, 0, bools.len()) {
+    if !vb_bits::window_fits(out, 0, bools.len()) {
         return false;
     }
     vb_pack_bools(out, bools);
@@ -51,7 +51,7 @@ pub extern "C" fn vb_try_pack_truthy(out: &mut [u8], truthy: &[u8]) -> bool
         × Writes out.old out.new 0 (filled_up 8 (map (λ x. not (x == 0)) truthy.now)))
         (out.new ≡ out.old) result }
 {
-    if !vb_kernel::window_fits(out, 0, truthy.len()) {
+    if !vb_bits::window_fits(out, 0, truthy.len()) {
         return false;
     }
     vb_pack_truthy(out, truthy);

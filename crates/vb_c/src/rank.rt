@@ -3,7 +3,7 @@ ghost use Rattle.std.specs.Prelude.{◌≡◌, ◌+◌, ◌*◌, ◌^◌, ◌<�
 ghost use Rattle.vb_bits.specs.InBytes.{InBytes};
 ghost use Rattle.vb_c.specs.Fits.{Checks};
 ghost use Rattle.vb_c.specs.Place.{answered_place};
-ghost use Rattle.vb_kernel.specs.Bits.{bits, count, negated, Selects};
+ghost use Rattle.vb_bits.specs.Bits.{bits, count, negated, Selects};
 ghost use Rattle.vb_rank.specs.Fills.{Fills};
 ghost use Rattle.vb_rank.specs.Tables.{block_counts, blocks};
 
@@ -21,8 +21,7 @@ pub extern "C" fn vb_block_counts(
     len: usize,
     table: &mut [usize],
 ) -> usize
-    requires inside { offset + len ≤ 8 * length bytes.now }
-    requires fits { offset + len < 2 ^ 64 }
+    requires window { InBytes bytes.now offset len }
     ensures { Fills (block_counts (bits bytes.now offset len)) table.old table.new result }
 {
     vb_rank::write_block_counts(bytes, offset, len, table)
@@ -42,7 +41,7 @@ pub extern "C" fn vb_try_block_counts(
         (Fills (block_counts (bits bytes.now offset len)) table.old table.new written.new)
         ((table.new ≡ table.old) × (written.new ≡ written.old)) result }
 {
-    if !vb_kernel::window_fits(bytes, offset, len) {
+    if !vb_bits::window_fits(bytes, offset, len) {
         return false;
     }
     *written = vb_block_counts(bytes, offset, len, table);
@@ -59,8 +58,7 @@ pub extern "C" fn vb_rank(
     table: &[usize],
     i: usize,
 ) -> usize
-    requires inside { offset + len ≤ 8 * length bytes.now }
-    requires fits { offset + len < 2 ^ 64 }
+    requires window { InBytes bytes.now offset len }
     requires size { length table.now ≡ blocks len }
     requires within { i ≤ len }
     ensures { table.now ≡ block_counts (bits bytes.now offset len)
@@ -110,8 +108,7 @@ pub extern "C" fn vb_ranked_select(
     table: &[usize],
     n: usize,
 ) -> Place
-    requires inside { offset + len ≤ 8 * length bytes.now }
-    requires fits { offset + len < 2 ^ 64 }
+    requires window { InBytes bytes.now offset len }
     requires size { length table.now ≡ blocks len }
     ensures { table.now ≡ block_counts (bits bytes.now offset len)
         → Selects (bits bytes.now offset len) n (answered_place result) }
@@ -152,8 +149,7 @@ pub extern "C" fn vb_ranked_select_unset(
     table: &[usize],
     n: usize,
 ) -> Place
-    requires inside { offset + len ≤ 8 * length bytes.now }
-    requires fits { offset + len < 2 ^ 64 }
+    requires window { InBytes bytes.now offset len }
     requires size { length table.now ≡ blocks len }
     ensures { table.now ≡ block_counts (bits bytes.now offset len)
         → Selects (negated (bits bytes.now offset len)) n (answered_place result) }
@@ -189,5 +185,5 @@ pub extern "C" fn vb_try_ranked_select_unset(
 fn has_table(bytes: &[u8], offset: usize, len: usize, table: &[usize]) -> bool
     ensures { IsTrue result ↔ (InBytes bytes.now offset len × (length table.now ≡ blocks len)) }
 {
-    vb_kernel::window_fits(bytes, offset, len) && table.len() == len.div_ceil(512)
+    vb_bits::window_fits(bytes, offset, len) && table.len() == len.div_ceil(512)
 }

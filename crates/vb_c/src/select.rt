@@ -3,8 +3,8 @@ ghost use Rattle.std.specs.Prelude.{◌≡◌, ◌+◌, ◌*◌, ◌^◌, ◌<�
 ghost use Rattle.vb_bits.specs.InBytes.{InBytes};
 ghost use Rattle.vb_c.specs.Fits.{Checks};
 ghost use Rattle.vb_c.specs.Place.{answered_place};
-ghost use Rattle.vb_kernel.specs.Bits.{bits, negated, Selects, AnswersEach};
-ghost use Rattle.vb_kernel.specs.Runs.{last_place};
+ghost use Rattle.vb_bits.specs.Bits.{bits, negated, Selects, AnswersEach};
+ghost use Rattle.vb_bits.specs.Runs.{last_place};
 
 use crate::place::Place;
 
@@ -38,7 +38,7 @@ pub extern "C" fn vb_last_set_index(bytes: &[u8], offset: usize, len: usize) -> 
     requires window { InBytes bytes.now offset len }
     ensures { answered_place result ≡ last_place (bits bytes.now offset len) }
 {
-    vb_kernel::last_set_index(bytes, offset, len).into()
+    vb_bits::last_set_index(bytes, offset, len).into()
 }
 
 /// Whether the window lies in the bytes; `place` is then [`vb_bit_select`], and else as it was.
@@ -54,7 +54,7 @@ pub extern "C" fn vb_try_bit_select(
         (Selects (bits bytes.now offset len) n (answered_place place.new))
         (place.new ≡ place.old) result }
 {
-    if !vb_kernel::window_fits(bytes, offset, len) {
+    if !vb_bits::window_fits(bytes, offset, len) {
         return false;
     }
     *place = vb_bit_select(bytes, offset, len, n);
@@ -75,7 +75,7 @@ pub extern "C" fn vb_try_bit_select_unset(
         (Selects (negated (bits bytes.now offset len)) n (answered_place place.new))
         (place.new ≡ place.old) result }
 {
-    if !vb_kernel::window_fits(bytes, offset, len) {
+    if !vb_bits::window_fits(bytes, offset, len) {
         return false;
     }
     *place = vb_bit_select_unset(bytes, offset, len, n);
@@ -94,7 +94,7 @@ pub extern "C" fn vb_try_last_set_index(
         (answered_place place.new ≡ last_place (bits bytes.now offset len))
         (place.new ≡ place.old) result }
 {
-    if !vb_kernel::window_fits(bytes, offset, len) {
+    if !vb_bits::window_fits(bytes, offset, len) {
         return false;
     }
     *place = vb_last_set_index(bytes, offset, len);

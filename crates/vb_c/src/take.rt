@@ -4,8 +4,8 @@ ghost use Rattle.std.specs.Option.{ForSome, option_map};
 ghost use Rattle.vb_bits.specs.InBytes.{InBytes};
 ghost use Rattle.vb_c.specs.Fits.{Checks};
 ghost use Rattle.vb_c.specs.Taken.{Takes};
-ghost use Rattle.vb_kernel.specs.Bits.{bits};
-ghost use Rattle.vb_kernel.specs.Writes.{Writes};
+ghost use Rattle.vb_bits.specs.Bits.{bits};
+ghost use Rattle.vb_bits.specs.Writes.{Writes};
 ghost use Rattle.vb_view.specs.View.{bits_of};
 
 use crate::place::Place;
@@ -56,8 +56,8 @@ pub extern "C" fn vb_try_take_u32(
         × Writes out.old out.new 0 (bits out.new 0 (length indices.now)))
         ((out.new ≡ out.old) × (past.new ≡ past.old)) result }
 {
-    if !vb_kernel::window_fits(out, 0, indices.len())
-        || !vb_kernel::window_fits(bytes, offset, len)
+    if !vb_bits::window_fits(out, 0, indices.len())
+        || !vb_bits::window_fits(bytes, offset, len)
     {
         return false;
     }
@@ -112,9 +112,9 @@ pub extern "C" fn vb_try_take_valid_u32(
         × Writes out.old out.new 0 (bits out.new 0 (length indices.now)))
         ((out.new ≡ out.old) × (past.new ≡ past.old)) result }
 {
-    if !vb_kernel::window_fits(out, 0, indices.len())
-        || !vb_kernel::window_fits(bytes, offset, len)
-        || !vb_kernel::window_fits(validity, v, indices.len())
+    if !vb_bits::window_fits(out, 0, indices.len())
+        || !vb_bits::window_fits(bytes, offset, len)
+        || !vb_bits::window_fits(validity, v, indices.len())
     {
         return false;
     }
@@ -163,8 +163,8 @@ pub extern "C" fn vb_try_take_u64(
         × Writes out.old out.new 0 (bits out.new 0 (length indices.now)))
         ((out.new ≡ out.old) × (past.new ≡ past.old)) result }
 {
-    if !vb_kernel::window_fits(out, 0, indices.len())
-        || !vb_kernel::window_fits(bytes, offset, len)
+    if !vb_bits::window_fits(out, 0, indices.len())
+        || !vb_bits::window_fits(bytes, offset, len)
     {
         return false;
     }
@@ -218,9 +218,9 @@ pub extern "C" fn vb_try_take_valid_u64(
         × Writes out.old out.new 0 (bits out.new 0 (length indices.now)))
         ((out.new ≡ out.old) × (past.new ≡ past.old)) result }
 {
-    if !vb_kernel::window_fits(out, 0, indices.len())
-        || !vb_kernel::window_fits(bytes, offset, len)
-        || !vb_kernel::window_fits(validity, v, indices.len())
+    if !vb_bits::window_fits(out, 0, indices.len())
+        || !vb_bits::window_fits(bytes, offset, len)
+        || !vb_bits::window_fits(validity, v, indices.len())
     {
         return false;
     }

@@ -3,8 +3,8 @@ ghost use Rattle.std.specs.Prelude.{◌≡◌, ◌+◌, ◌*◌, ◌^◌, ◌<�
 ghost use Rattle.vb_c.specs.Filled.{run_of};
 ghost use Rattle.vb_bits.specs.InBytes.{InBytes};
 ghost use Rattle.vb_c.specs.Fits.{Checks};
-ghost use Rattle.vb_kernel.specs.Bits.{bits, places};
-ghost use Rattle.vb_kernel.specs.Runs.{runs};
+ghost use Rattle.vb_bits.specs.Bits.{bits, places};
+ghost use Rattle.vb_bits.specs.Runs.{runs};
 ghost use Rattle.vb_rank.specs.Fills.{Fills};
 
 use vb_walk::{BitIndexIterator, BitSliceIterator};
@@ -77,7 +77,7 @@ pub extern "C" fn vb_try_set_indices(
         (Fills (places (bits bytes.now offset len)) out.old out.new count.new)
         ((out.new ≡ out.old) × (count.new ≡ count.old)) result }
 {
-    if !vb_kernel::window_fits(bytes, offset, len) {
+    if !vb_bits::window_fits(bytes, offset, len) {
         return false;
     }
     *count = vb_set_indices(bytes, offset, len, out);
@@ -98,7 +98,7 @@ pub extern "C" fn vb_try_set_slices(
         (Fills (map run_of (runs (bits bytes.now offset len))) out.old out.new count.new)
         ((out.new ≡ out.old) × (count.new ≡ count.old)) result }
 {
-    if !vb_kernel::window_fits(bytes, offset, len) {
+    if !vb_bits::window_fits(bytes, offset, len) {
         return false;
     }
     *count = vb_set_slices(bytes, offset, len, out);

@@ -2,8 +2,8 @@
 ghost use Rattle.std.specs.Prelude.{◌≡◌, ◌+◌, ◌-◌, ◌*◌, ◌^◌, ◌<◌, ◌≤◌, length, replicate};
 ghost use Rattle.vb_bits.specs.InBytes.{InBytes};
 ghost use Rattle.vb_c.specs.Fits.{Checks};
-ghost use Rattle.vb_kernel.specs.Bits.{bits, negated};
-ghost use Rattle.vb_kernel.specs.Writes.{Writes};
+ghost use Rattle.vb_bits.specs.Bits.{bits, negated};
+ghost use Rattle.vb_bits.specs.Writes.{Writes};
 
 /// Makes the bits from `start` up to `end`, `end` excluded, `v`, and leaves every other bit;
 /// nothing where `start >= end`.
@@ -12,7 +12,7 @@ pub extern "C" fn vb_fill_bits(bytes: &mut [u8], start: usize, end: usize, v: bo
     requires { end ≤ 8 * length bytes.old }
     ensures { Writes bytes.old bytes.new start (replicate (end - start) v) }
 {
-    vb_kernel::fill_bits(bytes, start, end, v);
+    vb_bits::fill_bits(bytes, start, end, v);
 }
 
 /// Whether `end` is at most the number of bits; then [`vb_fill_bits`] is done, and else the bytes
@@ -23,7 +23,7 @@ pub extern "C" fn vb_try_fill_bits(bytes: &mut [u8], start: usize, end: usize, v
         (Writes bytes.old bytes.new start (replicate (end - start) v))
         (bytes.new ≡ bytes.old) result }
 {
-    if !vb_kernel::window_fits(bytes, 0, end) {
+    if !vb_bits::window_fits(bytes, 0, end) {
         return false;
     }
     vb_fill_bits(bytes, start, end, v);
@@ -36,7 +36,7 @@ pub extern "C" fn vb_negate_bits(bytes: &mut [u8], offset: usize, len: usize)
     requires window { InBytes bytes.old offset len }
     ensures { Writes bytes.old bytes.new offset (negated (bits bytes.old offset len)) }
 {
-    vb_kernel::map_words(bytes, offset, len);
+    vb_bits::map_words(bytes, offset, len);
 }
 
 /// Whether the window lies in the bytes; then [`vb_negate_bits`] is done, and else the bytes are as
@@ -47,7 +47,7 @@ pub extern "C" fn vb_try_negate_bits(bytes: &mut [u8], offset: usize, len: usize
         (Writes bytes.old bytes.new offset (negated (bits bytes.old offset len)))
         (bytes.new ≡ bytes.old) result }
 {
-    if !vb_kernel::window_fits(bytes, offset, len) {
+    if !vb_bits::window_fits(bytes, offset, len) {
         return false;
     }
     vb_negate_bits(bytes, offset, len);
@@ -62,7 +62,7 @@ pub extern "C" fn vb_copy_bits(dst: &mut [u8], d: usize, src: &[u8], s: usize, l
     requires from { InBytes src.now s len }
     ensures { Writes dst.old dst.new d (bits src.now s len) }
 {
-    vb_kernel::copy_bits(dst, d, src, s, len);
+    vb_bits::copy_bits(dst, d, src, s, len);
 }
 
 /// Whether both windows lie in their bytes; then [`vb_copy_bits`] is done, and else `dst` is as it
@@ -78,7 +78,7 @@ pub extern "C" fn vb_try_copy_bits(
     ensures { Checks (InBytes dst.old d len × InBytes src.now s len)
         (Writes dst.old dst.new d (bits src.now s len)) (dst.new ≡ dst.old) result }
 {
-    if !vb_kernel::window_fits(dst, d, len) || !vb_kernel::window_fits(src, s, len) {
+    if !vb_bits::window_fits(dst, d, len) || !vb_bits::window_fits(src, s, len) {
         return false;
     }
     vb_copy_bits(dst, d, src, s, len);

@@ -2,6 +2,7 @@
 ghost use Rattle.std.specs.Prelude.{◌≡◌, ◌+◌, ◌*◌, ◌/◌, ◌%◌, ◌^◌, ◌<◌, ◌≤◌, ◌++◌, length};
 ghost use Rattle.vb_bits.specs.Bits.{bits};
 ghost use Rattle.vb_bits.specs.Digits.{digits};
+ghost use Rattle.vb_bits.specs.InBytes.{InBytes};
 ghost use Rattle.vb_bits.specs.Writes.{Writes};
 ghost use Rattle.vb_filter.specs.Pending.{written};
 
@@ -13,8 +14,7 @@ pub(crate) fn push_digits(out: &mut [u8], pending: u64, len: usize, word: u64, n
     requires few { n ≤ 64 }
     requires clear { word < 2 ^ n }
     requires pending { pending < 2 ^ (len % 64) }
-    requires room { len + n ≤ 8 * length out.old }
-    requires fits { len + n < 2 ^ 64 }
+    requires room { InBytes out.old len n }
     ensures written { written out.new result (len + n)
         ≡ written out.old pending len ++ digits word 0 n }
     ensures clear { result < 2 ^ ((len + n) % 64) }

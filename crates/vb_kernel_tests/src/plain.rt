@@ -1,5 +1,6 @@
 //! Counting and selecting bit by bit, as the definitions say it.
 ghost use Rattle.std.specs.Prelude.{◌≡◌, ◌+◌, ◌*◌, ◌^◌, ◌<◌, ◌≤◌, length};
+ghost use Rattle.vb_bits.specs.InBytes.{InBytes};
 ghost use Rattle.vb_kernel.specs.Bits.{bits, count, negated, Selects};
 
 use vb_kernel::get_bit;
@@ -7,8 +8,7 @@ use vb_kernel::get_bit;
 /// How many bits of the window are true.
 #[tactic(auto, using(vb_bits::proofs::BitsLemmas::windows))]
 pub(crate) fn count_ones(bytes: &[u8], offset: usize, len: usize) -> usize
-    requires inside { offset + len ≤ 8 * length bytes.now }
-    requires fits { offset + len < 2 ^ 64 }
+    requires window { InBytes bytes.now offset len }
     ensures { result ≡ count (bits bytes.now offset len) }
 {
     let mut ones = 0;
@@ -23,8 +23,7 @@ pub(crate) fn count_ones(bytes: &[u8], offset: usize, len: usize) -> usize
 /// The place of the `n`-th true bit of the window.
 #[tactic(auto, using(vb_bits::proofs::BitsLemmas::windows))]
 pub(crate) fn bit_select(bytes: &[u8], offset: usize, len: usize, n: usize) -> Option<usize>
-    requires inside { offset + len ≤ 8 * length bytes.now }
-    requires fits { offset + len < 2 ^ 64 }
+    requires window { InBytes bytes.now offset len }
     ensures { Selects (bits bytes.now offset len) n result }
 {
     let mut left = n;
@@ -42,8 +41,7 @@ pub(crate) fn bit_select(bytes: &[u8], offset: usize, len: usize, n: usize) -> O
 /// The place of the `n`-th false bit of the window.
 #[tactic(auto, using(vb_bits::proofs::BitsLemmas::windows))]
 pub(crate) fn bit_select_unset(bytes: &[u8], offset: usize, len: usize, n: usize) -> Option<usize>
-    requires inside { offset + len ≤ 8 * length bytes.now }
-    requires fits { offset + len < 2 ^ 64 }
+    requires window { InBytes bytes.now offset len }
     ensures { Selects (negated (bits bytes.now offset len)) n result }
 {
     let mut left = n;

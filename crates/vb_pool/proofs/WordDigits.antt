@@ -7,7 +7,7 @@ use Rattle.std.proofs.lemmas.Grind.{flat_map-append}
 use Rattle.std.proofs.lemmas.List.{length-drop, length-take, take_all, take-append-le}
 use Rattle.std.proofs.lemmas.List.{take-append-drop}
 use Rattle.std.proofs.lemmas.Nat.Bits.{bit_at_lowest}
-use Rattle.vb_set.specs.Digits.{digits, has_bit}
+use Rattle.vb_bits.specs.Digits.{digits, has_bit}
 use Rattle.vb_set.specs.Words.{number, word, words}
 use Rattle.vb_set.proofs.DigitsLemmas.{digits_none, digits-suc, digits-add, length-digits}
 use Rattle.vb_set.proofs.WordsLemmas.{words_none, words_push}

@@ -3,7 +3,7 @@ pub mod OpenBits
 pub mod Slot
 pub use Rattle.vb_command.specs.Machine
 pub use Rattle.vb_command.specs.Views
-pub use Rattle.vb_set.specs.Bits
-pub use Rattle.vb_set.specs.Edits
-pub use Rattle.vb_set.specs.Runs
+pub use Rattle.vb_bits.specs.Bits
+pub use Rattle.vb_bits.specs.Edits
+pub use Rattle.vb_bits.specs.Runs
 pub use Rattle.vb_set.specs.Takes

@@ -1,10 +1,10 @@
 //! What a set holds, as lists and as a text in memory of an allocator.
 ghost use Rattle.std.specs.Prelude.{◌≡◌, IfOk, IsOkUnless, string_bytes};
-ghost use Rattle.vb_set.specs.Shown.{shown};
+ghost use Rattle.vb_bits.specs.Shown.{shown};
 ghost use Rattle.vb_set.specs.declared.BufferError.TheVariants.{OutOfMemory};
-ghost use Rattle.vb_set.specs.Digits.{digits};
-ghost use Rattle.vb_set.specs.Bits.{places};
-ghost use Rattle.vb_set.specs.Runs.{runs};
+ghost use Rattle.vb_bits.specs.Digits.{digits};
+ghost use Rattle.vb_bits.specs.Bits.{places};
+ghost use Rattle.vb_bits.specs.Runs.{runs};
 ghost use Rattle.vb_set.specs.View.{bits_of};
 
 use std::alloc::Allocator;

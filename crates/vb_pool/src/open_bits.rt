@@ -2,10 +2,11 @@
 ghost use Rattle.std.specs.Prelude.{◌≡◌, ◌+◌, ◌*◌, ◌^◌, ◌<◌, ◌≤◌, [], ◌∷◌, ◌++◌, length, take};
 ghost use Rattle.std.specs.Prelude.{replicate, slice_set, false, IsTrue, IfOk, IsOkUnless};
 ghost use Rattle.std.specs.Prelude.{OnOk, OnErr};
+ghost use Rattle.vb_bits.specs.InBytes.{InBytes};
 ghost use Rattle.vb_command.specs.Machine.{all_below};
 ghost use Rattle.vb_set.specs.declared.BufferError.TheVariants.{OutOfMemory};
-ghost use Rattle.vb_set.specs.Bits.{bits, negated};
-ghost use Rattle.vb_set.specs.Edits.{filled};
+ghost use Rattle.vb_bits.specs.Bits.{bits, negated};
+ghost use Rattle.vb_bits.specs.Edits.{filled};
 ghost use Rattle.vb_pool.specs.OpenBits.{LimitsLength};
 ghost use Rattle.vb_set.specs.Takes.{with_true};
 
@@ -50,8 +51,7 @@ impl<A: Allocator + Clone> OpenBits<A> {
         len: usize,
     ) -> Result<Self, BufferError>
         requires first_byte { offset < 8 }
-        requires inside { offset + len ≤ 8 * length bytes.now }
-        requires fits { offset + len < 2 ^ 64 }
+        requires window { InBytes bytes.now offset len }
         ensures bits { IfOk result (λ s. s ≡ bits bytes.now offset len) }
         ensures refused { IsOkUnless result OutOfMemory }
     {
@@ -68,8 +68,7 @@ impl<A: Allocator + Clone> OpenBits<A> {
         len: usize,
     ) -> Result<Self, BufferError>
         requires first_byte { offset < 8 }
-        requires inside { offset + len ≤ 8 * length bytes.items }
-        requires fits { offset + len < 2 ^ 64 }
+        requires window { InBytes bytes.items offset len }
         ensures bits { IfOk result (λ s. s ≡ bits bytes.items offset len) }
         ensures refused { IsOkUnless result OutOfMemory }
     {

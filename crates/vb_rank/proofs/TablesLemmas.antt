@@ -6,7 +6,7 @@ use Rattle.std.specs.Int.Digits.{digits_of}
 use Rattle.std.proofs.lemmas.List.FromFn.{length-map-range_with_len, get_or-map-range_with_len}
 use Rattle.std.proofs.lemmas.Bool.{cases_lt}
 use Rattle.std.proofs.lemmas.Int.Digits.{length-digits_of_step}
-use Rattle.vb_kernel.specs.Bits.{bits, count, Selects}
+use Rattle.vb_bits.specs.Bits.{bits, count, Selects}
 use Rattle.vb_kernel.specs.Looks.{looks}
 use Rattle.vb_kernel.specs.Searches.{matching}
 use Rattle.vb_kernel.proofs.BitsLemmas.{length-bits, take-bits, count-bits-le}

@@ -4,7 +4,7 @@ use Rattle.std.specs.Prelude.{List, length, map, take, slice_index}
 use Rattle.std.specs.Int.{div_ceil}
 use Rattle.std.specs.Int.Digits.{digits_of}
 use Rattle.std.specs.List.{range_with_len}
-use Rattle.vb_kernel.specs.Bits.{count}
+use Rattle.vb_bits.specs.Bits.{count}
 
 -- entries, and how many probes they have had
 pub record CountedEntries : Type 0 where

@@ -1,19 +1,20 @@
 //! Counts within a block.
 ghost use Rattle.std.specs.Prelude.{◌≡◌, ◌+◌, ◌-◌, ◌*◌, ◌^◌, ◌<◌, ◌≤◌, length, min};
-ghost use Rattle.vb_kernel.specs.Bits.{bits, count};
-ghost use Rattle.vb_kernel.specs.Digits.{digits};
+ghost use Rattle.vb_bits.specs.InBytes.{InBytes};
+ghost use Rattle.vb_bits.specs.Bits.{bits, count};
+ghost use Rattle.vb_bits.specs.Digits.{digits};
 ghost use Rattle.vb_kernel.specs.Looks.{LooksAtMost};
 
 use vb_bits::low_digits;
-use vb_kernel::{Glance, count_ones_by, full_word};
+use vb_bits::full_word;
+use vb_kernel::{Glance, count_ones_by};
 
 /// How many of the `len` bits from bit `at` on are true, which are no more than a block.
 ///
 /// They are counted with one chunk in hand, by no branch that depends on their number. Where the
 /// bytes end within that chunk, or the bits reach behind it, [`count_ones_by`] counts them.
 pub(crate) fn count_in_block<G: Glance>(src: &mut G, at: usize, len: usize) -> usize
-    requires inside { at + len ≤ 8 * length (G.seen src.old).bytes }
-    requires fits { at + len < 2 ^ 64 }
+    requires window { InBytes ((G.seen src.old).bytes) at len }
     requires block { len ≤ 512 }
     ensures value { result ≡ count (bits (G.seen src.old).bytes at len) }
     ensures looks { LooksAtMost 16 (G.seen src.old) (G.seen src.new) }

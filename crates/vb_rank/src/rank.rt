@@ -1,6 +1,7 @@
 //! The rank of a place, over a table.
 ghost use Rattle.std.specs.Prelude.{◌≡◌, ◌+◌, ◌*◌, ◌^◌, ◌<◌, ◌≤◌, length, take};
-ghost use Rattle.vb_kernel.specs.Bits.{bits, count};
+ghost use Rattle.vb_bits.specs.InBytes.{InBytes};
+ghost use Rattle.vb_bits.specs.Bits.{bits, count};
 ghost use Rattle.vb_kernel.specs.Looks.{LooksAtMost};
 ghost use Rattle.vb_rank.specs.Tables.{blocks, ProbesAtMost, IsTableOf};
 
@@ -21,8 +22,7 @@ pub fn rank_by<G: Glance, T: Probe>(
     table: &mut T,
     i: usize,
 ) -> usize
-    requires inside { offset + len ≤ 8 * length (G.seen src.old).bytes }
-    requires fits { offset + len < 2 ^ 64 }
+    requires window { InBytes ((G.seen src.old).bytes) offset len }
     requires size { length (T.seen table.old).entries ≡ blocks len }
     requires within { i ≤ len }
     ensures value { IsTableOf (T.seen table.old) (bits (G.seen src.old).bytes offset len)

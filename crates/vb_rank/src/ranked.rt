@@ -1,8 +1,8 @@
 //! A set of bits with its table.
 ghost use Rattle.std.specs.Prelude.{◌≡◌, ◌+◌, ◌/◌, ◌%◌, ◌^◌, ◌<◌, ◌≤◌, ◌∷◌, [], length, take, drop};
 ghost use Rattle.std.specs.Prelude.{slice_set, IfOk, IsOk, IsOkUnless, IsErrOf, OnOk, OnErr};
-ghost use Rattle.vb_kernel.specs.Bits.{count, negated, Selects, AnswersEach};
-ghost use Rattle.vb_kernel.specs.Writes.{Writes};
+ghost use Rattle.vb_bits.specs.Bits.{count, negated, Selects, AnswersEach};
+ghost use Rattle.vb_bits.specs.Writes.{Writes};
 ghost use Rattle.vb_rank.specs.Tables.{block_counts, blocks};
 ghost use Rattle.vb_set.specs.OpenSet.{AddsBits, Grows, KeepsLayout};
 ghost use Rattle.vb_set.specs.View.{bits_of, offset_of, bytes_of};

@@ -1,6 +1,7 @@
 //! The place of a bit by its rank, over a table.
 ghost use Rattle.std.specs.Prelude.{◌≡◌, ◌+◌, ◌*◌, ◌^◌, ◌<◌, ◌≤◌, length};
-ghost use Rattle.vb_kernel.specs.Bits.{bits, negated, Selects, AnswersEach};
+ghost use Rattle.vb_bits.specs.InBytes.{InBytes};
+ghost use Rattle.vb_bits.specs.Bits.{bits, negated, Selects, AnswersEach};
 ghost use Rattle.vb_kernel.specs.Looks.{LooksAtMost};
 ghost use Rattle.vb_kernel.specs.Searches.{matching};
 ghost use Rattle.vb_rank.specs.Tables.{blocks, binary_digits, ProbesAtMost, IsTableOf};
@@ -23,8 +24,7 @@ pub fn select_by<G: Glance, T: Probe>(
     table: &mut T,
     n: usize,
 ) -> Option<usize>
-    requires inside { offset + len ≤ 8 * length (G.seen src.old).bytes }
-    requires fits { offset + len < 2 ^ 64 }
+    requires window { InBytes ((G.seen src.old).bytes) offset len }
     requires size { length (T.seen table.old).entries ≡ blocks len }
     ensures place { IsTableOf (T.seen table.old) (bits (G.seen src.old).bytes offset len)
         → Selects (bits (G.seen src.old).bytes offset len) n result }
@@ -47,8 +47,7 @@ pub fn select_unset_by<G: Glance, T: Probe>(
     table: &mut T,
     n: usize,
 ) -> Option<usize>
-    requires inside { offset + len ≤ 8 * length (G.seen src.old).bytes }
-    requires fits { offset + len < 2 ^ 64 }
+    requires window { InBytes ((G.seen src.old).bytes) offset len }
     requires size { length (T.seen table.old).entries ≡ blocks len }
     ensures place { IsTableOf (T.seen table.old) (bits (G.seen src.old).bytes offset len)
         → Selects (negated (bits (G.seen src.old).bytes offset len)) n result }
@@ -71,8 +70,7 @@ fn select_value_by<G: Glance, T: Probe>(
     n: usize,
     value: bool,
 ) -> Option<usize>
-    requires inside { offset + len ≤ 8 * length (G.seen src.old).bytes }
-    requires fits { offset + len < 2 ^ 64 }
+    requires window { InBytes ((G.seen src.old).bytes) offset len }
     requires size { length (T.seen table.old).entries ≡ blocks len }
     ensures place { IsTableOf (T.seen table.old) (bits (G.seen src.old).bytes offset len)
         → Selects (matching value (bits (G.seen src.old).bytes offset len)) n result }
@@ -98,8 +96,7 @@ fn select_in_block<G: Glance>(
     n: usize,
     value: bool,
 ) -> Option<usize>
-    requires inside { offset + len ≤ 8 * length (G.seen src.old).bytes }
-    requires fits { offset + len < 2 ^ 64 }
+    requires window { InBytes ((G.seen src.old).bytes) offset len }
     requires block { len ≤ 512 }
     ensures place { Selects (matching value (bits (G.seen src.old).bytes offset len)) n result }
     ensures looks { LooksAtMost 16 (G.seen src.old) (G.seen src.new) }

@@ -4,12 +4,12 @@ pub use Rattle.vb_bit_buffer.specs.Gives
 pub use Rattle.vb_bit_buffer.specs.SharedSet
 pub use Rattle.vb_bit_bytes.specs.AskedOf
 pub use Rattle.vb_bit_bytes.specs.Given
-pub use Rattle.vb_kernel.specs.Bits
-pub use Rattle.vb_kernel.specs.Digits
-pub use Rattle.vb_kernel.specs.Edits
-pub use Rattle.vb_kernel.specs.Operators
-pub use Rattle.vb_kernel.specs.Shown
-pub use Rattle.vb_kernel.specs.Writes
+pub use Rattle.vb_bits.specs.Bits
+pub use Rattle.vb_bits.specs.Digits
+pub use Rattle.vb_bits.specs.Edits
+pub use Rattle.vb_bits.specs.Operators
+pub use Rattle.vb_bits.specs.Shown
+pub use Rattle.vb_bits.specs.Writes
 pub use Rattle.vb_mem.specs.Answers
 pub use Rattle.vb_mem.specs.Collected
 pub use Rattle.vb_mem.specs.OpenBuffer
@@ -20,5 +20,5 @@ pub use Rattle.vb_view.specs.MutView
 pub use Rattle.vb_view.specs.View
 pub use Rattle.vb_view.specs.Windows
 pub use Rattle.vb_walk.specs.Cut
-pub use Rattle.vb_walk.specs.Runs
+pub use Rattle.vb_bits.specs.Runs
 pub use Rattle.vb_walk.specs.Words

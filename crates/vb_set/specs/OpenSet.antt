@@ -6,8 +6,8 @@ use Rattle.std.specs.List.{refill}
 use Rattle.vb_bit_buffer.specs.SharedSet.{SharedSet}
 use Rattle.vb_core.specs.declared.error.BufferError.{BufferError}
 use Rattle.vb_core.specs.declared.error.BufferError.TheVariants.{OutOfMemory, TooManyBits}
-use Rattle.vb_kernel.specs.Bits.{bits}
-use Rattle.vb_kernel.specs.Writes.{Writes, lengthened}
+use Rattle.vb_bits.specs.Bits.{bits}
+use Rattle.vb_bits.specs.Writes.{Writes, lengthened}
 
 -- a set that one owner edits: its bits, the place of the first one in the bytes, the bytes with the
 -- exponent of their alignment, and for how many bits there is room

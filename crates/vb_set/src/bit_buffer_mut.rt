@@ -5,9 +5,10 @@ ghost use Rattle.std.specs.Prelude.{slice_get, slice_set, OnOk, OnErr};
 ghost use Rattle.std.specs.Borrow.{sem};
 ghost use Rattle.std.specs.Int.{div_ceil};
 ghost use Rattle.vb_bit_buffer.specs.SharedSet.{SharesFrom};
-ghost use Rattle.vb_kernel.specs.Bits.{bits};
-ghost use Rattle.vb_kernel.specs.Edits.{filled};
-ghost use Rattle.vb_kernel.specs.Writes.{Writes};
+ghost use Rattle.vb_bits.specs.InBytes.{InBytes};
+ghost use Rattle.vb_bits.specs.Bits.{bits};
+ghost use Rattle.vb_bits.specs.Edits.{filled};
+ghost use Rattle.vb_bits.specs.Writes.{Writes};
 ghost use Rattle.vb_mem.specs.Answers.{Makes};
 ghost use Rattle.vb_set.specs.Lends.{LendsBytes};
 ghost use Rattle.vb_set.specs.OpenSet.{bit_room, HoldsShared, IsEmptySet, IsFreshOpenSet};
@@ -42,7 +43,7 @@ pub struct BitBufferMut<A: Allocator + Clone = Global> {
 
 impl<A: Allocator + Clone> Model for BitBufferMut<A> {
     ghost use Rattle.std.specs.Prelude.{◌+◌, ◌*◌, ◌<◌, ◌≤◌, ◌^◌, length};
-    ghost use Rattle.vb_kernel.specs.Bits.{bits};
+    ghost use Rattle.vb_bits.specs.Bits.{bits};
     ghost use Rattle.vb_set.specs.OpenSet.{OpenSet, bit_room};
 
     ghost Value = { OpenSet };
@@ -64,11 +65,10 @@ impl<A: Allocator + Clone> Model for BitBufferMut<A> {
 #[tactic(auto, using(vb_bit_bytes::proofs::BytesLemmas::edits))]
 impl<A: Allocator + Clone> BitBufferMut<A> {
     /// The `len` bits of a byte buffer from bit `offset` on. They have to lie in its bytes, and
-    /// `offset + len` has to be a `usize`: `vb_kernel::window_fits` is the test. No memory is
+    /// `offset + len` has to be a `usize`: `window_fits` is the test. No memory is
     /// taken, and what the set asks for later is asked of the buffer's allocator.
     pub fn from_buffer(buffer: ByteBufferMut<A>, offset: usize, len: usize) -> Self
-        requires inside { offset + len ≤ 8 * length buffer.list }
-        requires fits { offset + len < 2 ^ 64 }
+        requires window { InBytes buffer.list offset len }
         ensures bits { result.bits ≡ bits buffer.list offset len }
         ensures len { length result.bits ≡ len }
         ensures offset { result.offset ≡ offset }

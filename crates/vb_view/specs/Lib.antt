@@ -1,9 +1,9 @@
 pub mod MutView
 pub mod View
 pub mod Windows
-pub use Rattle.vb_kernel.specs.Bits
-pub use Rattle.vb_kernel.specs.Edits
-pub use Rattle.vb_kernel.specs.Writes
+pub use Rattle.vb_bits.specs.Bits
+pub use Rattle.vb_bits.specs.Edits
+pub use Rattle.vb_bits.specs.Writes
 pub use Rattle.vb_walk.specs.Cut
-pub use Rattle.vb_walk.specs.Runs
+pub use Rattle.vb_bits.specs.Runs
 pub use Rattle.vb_walk.specs.Words

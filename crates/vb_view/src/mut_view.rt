@@ -5,6 +5,7 @@ ghost use Rattle.std.specs.Prelude.{length, drop, replicate, slice_get, slice_se
 ghost use Rattle.std.specs.Borrow.{GName};
 ghost use Rattle.vb_bits.specs.Bits.{bits as window, count, negated};
 ghost use Rattle.vb_bits.specs.Edits.{filled};
+ghost use Rattle.vb_bits.specs.InBytes.{InBytes};
 ghost use Rattle.vb_bits.specs.Writes.{Writes};
 ghost use Rattle.vb_view.specs.Windows.{IsWindow};
 ghost use Rattle.vb_view.specs.View.{bits_of, offset_of, bytes_of};
@@ -266,8 +267,7 @@ impl<'a> BitBufferMutView<&'a mut [u8]> {
     /// The `len` bits from bit `offset` on. They have to lie in the bytes, and `offset + len` has
     /// to be a `usize`.
     pub fn new_with_offset(bytes: &'a mut [u8], len: usize, offset: usize) -> Self
-        requires inside { offset + len ≤ 8 * length bytes.old }
-        requires fits { offset + len < 2 ^ 64 }
+        requires window { InBytes bytes.old offset len }
         ensures lends { IsThisLoan (store_of result) bytes.entry }
         ensures window { ShowsWindow offset (window bytes.old offset len) result }
         ensures len { mut_len_of result ≡ len }

@@ -2,6 +2,7 @@
 ghost use Rattle.std.specs.Prelude.{◌≡◌, ◌+◌, ◌-◌, ◌*◌, ◌/◌, ◌%◌, ◌^◌, ◌<◌, ◌≤◌, ◌==◌};
 ghost use Rattle.std.specs.Prelude.{ℕ, length, drop, slice_get, slice_range, Some, All};
 ghost use Rattle.vb_bits.specs.Bits.{bits, count, negated, places, Selects, AnswersEach};
+ghost use Rattle.vb_bits.specs.InBytes.{InBytes};
 ghost use Rattle.vb_bits.specs.Runs.{runs, last_place};
 ghost use Rattle.vb_walk.specs.Cut.{IsCut};
 ghost use Rattle.vb_view.specs.Windows.{IsWindow};
@@ -43,8 +44,7 @@ impl<'a> BitBufferView<'a> {
     /// The `len` bits from bit `offset` on. They have to lie in the bytes, and `offset + len` has
     /// to be a `usize`. The view's bytes begin with that of the first bit.
     pub fn new_with_offset(bytes: &'a [u8], len: usize, offset: usize) -> Self
-        requires inside { offset + len ≤ 8 * length bytes.now }
-        requires fits { offset + len < 2 ^ 64 }
+        requires window { InBytes bytes.now offset len }
         ensures bits { bits_of result ≡ bits bytes.now offset len }
         ensures len { length (bits_of result) ≡ len }
         ensures offset { offset_of result ≡ offset % 8 }

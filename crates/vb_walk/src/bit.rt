@@ -3,6 +3,7 @@ ghost use Rattle.std.specs.Prelude.{◌≡◌, ◌+◌, ◌*◌, ◌^◌, ◌<�
 ghost use Rattle.std.specs.Iterator.{YieldsFirst, YieldsLast, UpTo, at_most, item_count};
 ghost use Rattle.std.specs.Iterator.SizeHint.{IsWithinCount};
 ghost use Rattle.vb_bits.specs.Bits.{bits};
+ghost use Rattle.vb_bits.specs.InBytes.{InBytes};
 ghost use Rattle.vb_core.specs.ExactCounts.{list_counts};
 
 use std::marker::Model;
@@ -40,8 +41,7 @@ impl<'a> BitIterator<'a> {
     /// to be a `usize`.
     #[inline]
     pub fn new(bytes: &'a [u8], offset: usize, len: usize) -> Self
-        requires inside { offset + len ≤ 8 * length bytes.now }
-        requires fits { offset + len < 2 ^ 64 }
+        requires window { InBytes bytes.now offset len }
         ensures value { result ≡ bits bytes.now offset len }
         ensures len { length result ≡ len }
     {

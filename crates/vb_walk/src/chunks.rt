@@ -3,6 +3,7 @@ ghost use Rattle.std.specs.Prelude.{◌≡◌, ◌+◌, ◌*◌, ◌/◌, ◌%�
 ghost use Rattle.std.specs.Iterator.{YieldsFirst, UpTo, at_most, item_count};
 ghost use Rattle.std.specs.Iterator.SizeHint.{IsWithinCount};
 ghost use Rattle.vb_bits.specs.Bits.{bits};
+ghost use Rattle.vb_bits.specs.InBytes.{InBytes};
 ghost use Rattle.vb_core.specs.ExactCounts.{list_counts};
 ghost use Rattle.vb_walk.specs.Words.{word, full_words, padded};
 
@@ -39,8 +40,7 @@ impl<'a> BitChunks<'a> {
     /// The `len` bits from bit `offset` on. They have to lie in the bytes, and `offset + len` has
     /// to be a `usize`.
     pub fn new(bytes: &'a [u8], offset: usize, len: usize) -> Self
-        requires inside { offset + len ≤ 8 * length bytes.now }
-        requires fits { offset + len < 2 ^ 64 }
+        requires window { InBytes bytes.now offset len }
         ensures value { result ≡ bits bytes.now offset len }
         ensures len { length result ≡ len }
     {
@@ -118,8 +118,7 @@ impl<'a> BitChunkIterator<'a> {
     /// and `offset + len` has to be a `usize`. Fewer than 64 bits behind the full words aren't
     /// given.
     pub fn new(bytes: &'a [u8], offset: usize, len: usize) -> Self
-        requires inside { offset + len ≤ 8 * length bytes.now }
-        requires fits { offset + len < 2 ^ 64 }
+        requires window { InBytes bytes.now offset len }
         ensures { result ≡ full_words (bits bytes.now offset len) }
     {
         BitChunkIterator {

@@ -3,6 +3,7 @@ ghost use Rattle.std.specs.Prelude.{◌≡◌, ℕ, ◌+◌, ◌-◌, ◌*◌, �
 ghost use Rattle.std.specs.Prelude.{false};
 ghost use Rattle.vb_bits.specs.Bits.{bit_of, bits};
 ghost use Rattle.vb_bits.specs.Digits.{digits};
+ghost use Rattle.vb_bits.specs.InBytes.{InBytes};
 ghost use Rattle.vb_walk.specs.Walks.{
   ahead,
   stop,
@@ -42,8 +43,7 @@ impl Cursor {
     /// The first word ends with a byte, so that whole words are read from whole bytes.
     #[inline]
     pub(crate) fn new(bytes: &[u8], offset: usize, len: usize) -> Cursor
-        requires inside { offset + len ≤ 8 * length bytes.now }
-        requires fits { offset + len < 2 ^ 64 }
+        requires window { InBytes bytes.now offset len }
         ensures valid { IsCursor bytes.now result }
         ensures base { result.base ≡ 0 }
         ensures stop { stop result ≡ len }

@@ -2,6 +2,7 @@
 ghost use Rattle.std.specs.Prelude.{◌≡◌, length, ℕ, ◌+◌, ◌-◌, ◌*◌, ◌^◌, ◌<◌, ◌≤◌, All};
 ghost use Rattle.std.specs.Iterator.{YieldsFirst, item_count};
 ghost use Rattle.vb_bits.specs.Bits.{bits, count, places};
+ghost use Rattle.vb_bits.specs.InBytes.{InBytes};
 
 use crate::cursor::Cursor;
 use std::marker::Model;
@@ -32,8 +33,7 @@ impl<'a> BitIndexIterator<'a> {
     /// and `offset + len` has to be a `usize`.
     #[inline]
     pub fn new(bytes: &'a [u8], offset: usize, len: usize) -> Self
-        requires inside { offset + len ≤ 8 * length bytes.now }
-        requires fits { offset + len < 2 ^ 64 }
+        requires window { InBytes bytes.now offset len }
         ensures value { result ≡ places (bits bytes.now offset len) }
         ensures below { All (λ i. i < len) result }
         ensures count { length result ≡ count (bits bytes.now offset len) }

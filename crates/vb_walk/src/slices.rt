@@ -2,6 +2,7 @@
 ghost use Rattle.std.specs.Prelude.{◌≡◌, length, ℕ, ◌+◌, ◌-◌, ◌*◌, ◌^◌, ◌<◌, ◌≤◌, All};
 ghost use Rattle.std.specs.Iterator.{YieldsFirst, item_count};
 ghost use Rattle.vb_bits.specs.Bits.{bits};
+ghost use Rattle.vb_bits.specs.InBytes.{InBytes};
 ghost use Rattle.vb_bits.specs.Runs.{runs};
 ghost use Rattle.vb_walk.specs.Walks.{IsCursor, TakesRun};
 
@@ -36,8 +37,7 @@ impl<'a> BitSliceIterator<'a> {
     /// and `offset + len` has to be a `usize`.
     #[inline]
     pub fn new(bytes: &'a [u8], offset: usize, len: usize) -> Self
-        requires inside { offset + len ≤ 8 * length bytes.now }
-        requires fits { offset + len < 2 ^ 64 }
+        requires window { InBytes bytes.now offset len }
         ensures value { result ≡ runs (bits bytes.now offset len) }
         ensures within { All (λ run. (run.0 < run.1) × (run.1 ≤ len)) result }
         ensures few { length result ≤ len }

@@ -5,6 +5,7 @@ ghost use Rattle.std.specs.Int.{div_ceil};
 ghost use Rattle.std.specs.Iterator.{YieldsFirst, UpTo, at_most, item_count};
 ghost use Rattle.std.specs.Iterator.SizeHint.{IsWithinCount};
 ghost use Rattle.vb_bits.specs.Bits.{bits};
+ghost use Rattle.vb_bits.specs.InBytes.{InBytes};
 ghost use Rattle.vb_core.specs.ExactCounts.{list_counts};
 ghost use Rattle.vb_walk.specs.Cut.{word_of, all_words, cut, IsCut};
 ghost use Rattle.vb_walk.specs.Words.{words, item_of};
@@ -49,8 +50,7 @@ impl<'a> UnalignedBitChunk<'a> {
     /// The `len` bits from bit `offset` on. They have to lie in the bytes, and `offset + len` has
     /// to be a `usize`.
     pub fn new(bytes: &'a [u8], offset: usize, len: usize) -> Self
-        requires inside { offset + len ≤ 8 * length bytes.now }
-        requires fits { offset + len < 2 ^ 64 }
+        requires window { InBytes bytes.now offset len }
         ensures { IsCut (offset % 8) (bits bytes.now offset len) result }
     {
         if len == 0 {
@@ -80,8 +80,7 @@ impl<'a> UnalignedBitChunk<'a> {
 /// bits.
 #[tactic(auto, using(crate::proofs::CutLemmas::cuts))]
 fn words_of(bytes: &[u8], start: usize, len: usize) -> (&[[u8; 8]], Option<u64>)
-    requires inside { 0 < len → 8 * start + len ≤ 8 * length bytes.now }
-    requires fits { 0 < len → 8 * start + len < 2 ^ 64 }
+    requires window { InBytes bytes.now (0 < len → 8 * start) len }
     ensures words { 0 < len → map word_of result.0.now ++ item_of result.1
         ≡ words (bits bytes.now (8 * start) len) (div_ceil len 64) }
     ensures some { 0 < len → result.1 ≢ None }
@@ -173,8 +172,7 @@ impl<'a> UnalignedBitChunkIterator<'a> {
     /// the byte of the first bit on, eight bytes each, and bits outside of the window 0. The bits
     /// have to lie in the bytes, and `offset + len` has to be a `usize`.
     pub fn new(bytes: &'a [u8], offset: usize, len: usize) -> Self
-        requires inside { offset + len ≤ 8 * length bytes.now }
-        requires fits { offset + len < 2 ^ 64 }
+        requires window { InBytes bytes.now offset len }
         ensures { result ≡ cut (offset % 8) (bits bytes.now offset len) }
     {
         UnalignedBitChunk::new(bytes, offset, len).iter()

@@ -5,6 +5,7 @@ ghost use Rattle.vb_bit_buffer.specs.Stops.{StopsWith};
 ghost use Rattle.vb_bit_bytes.specs.AskedOf.{asked_of};
 ghost use Rattle.vb_bits.specs.Bits.{at, bit_of, bits, holes, negated, places};
 ghost use Rattle.vb_bits.specs.Digits.{digits};
+ghost use Rattle.vb_bits.specs.InBytes.{InBytes};
 ghost use Rattle.vb_pack.specs.Asked.{CanAsk, span};
 ghost use Rattle.vb_walk.specs.Walks.{places_in};
 
@@ -64,8 +65,7 @@ impl<A: Allocator + Clone> BitBuffer<A> {
 /// Calls `f` at each place of the window of `len` bits from bit `offset` on whose bit is false.
 #[inline(always)]
 fn for_each_unset<F: FnMut(usize)>(bytes: &[u8], offset: usize, len: usize, f: &mut F)
-    requires inside { offset + len ≤ 8 * length bytes.now }
-    requires fits { offset + len < 2 ^ 64 }
+    requires window { InBytes bytes.now offset len }
     requires callable { CanAsk (F.pre) (F.step) f.old (holes (bits bytes.now offset len)) }
     ensures { FoldsTo (λ p i q. F.step p i tt q) f.old (holes (bits bytes.now offset len)) f.new }
 {
@@ -79,8 +79,7 @@ fn for_each_unset<F: FnMut(usize)>(bytes: &[u8], offset: usize, len: usize, f: &
 /// Calls `f` at each place of the window, with the bit there.
 #[inline(always)]
 fn for_each_bit<F: FnMut(usize, bool)>(bytes: &[u8], offset: usize, len: usize, f: &mut F)
-    requires inside { offset + len ≤ 8 * length bytes.now }
-    requires fits { offset + len < 2 ^ 64 }
+    requires window { InBytes bytes.now offset len }
     requires callable { CanAsk (λ p i. F.pre p i (at (bits bytes.now offset len) i))
         (asked_of F.step (bits bytes.now offset len)) f.old (span 0 len) }
     ensures { FoldsTo (λ p i q. asked_of F.step (bits bytes.now offset len) p i tt q)
@@ -98,8 +97,7 @@ fn for_each_bit<F: FnMut(usize, bool)>(bytes: &[u8], offset: usize, len: usize, 
 #[inline(always)]
 fn unset_in_word<F: FnMut(usize)>(bytes: &[u8], offset: usize, base: usize, len: usize, f: &mut F)
     requires in_word { len ≤ 64 }
-    requires inside { offset + base + len ≤ 8 * length bytes.now }
-    requires fits { offset + base + len < 2 ^ 64 }
+    requires window { InBytes bytes.now (offset + base) len }
     requires callable { CanAsk (F.pre) (F.step) f.old
         (places_in (λ i. not (bit_of bytes.now (offset + i))) base len) }
     ensures { FoldsTo (λ p i q. F.step p i tt q) f.old
@@ -123,8 +121,7 @@ fn bits_in_word<F: FnMut(usize, bool)>(
     f: &mut F,
 )
     requires in_word { len ≤ 64 }
-    requires inside { offset + base + len ≤ 8 * length bytes.now }
-    requires fits { offset + base + len < 2 ^ 64 }
+    requires window { InBytes bytes.now (offset + base) len }
     requires callable { CanAsk (λ p i. F.pre p i (bit_of bytes.now (offset + i)))
         (λ p i r q. F.step p i (bit_of bytes.now (offset + i)) r q) f.old (span base len) }
     ensures { FoldsTo (λ p i q. F.step p i (bit_of bytes.now (offset + i)) tt q)

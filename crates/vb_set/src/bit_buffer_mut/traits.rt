@@ -18,8 +18,8 @@ impl<A: Allocator + Clone> fmt::Debug for BitBufferMut<A> {
 #[tactic(auto, using(vb_bit_bytes::proofs::BytesLemmas::edits))]
 impl<A: Allocator + Clone> Not for BitBufferMut<A> {
     ghost use Rattle.std.specs.Prelude.{◌≡◌};
-    ghost use Rattle.vb_kernel.specs.Bits.{negated};
-    ghost use Rattle.vb_kernel.specs.Writes.{Writes};
+    ghost use Rattle.vb_bits.specs.Bits.{negated};
+    ghost use Rattle.vb_bits.specs.Writes.{Writes};
     ghost use Rattle.vb_set.specs.OpenSet.{KeepsLayout};
 
     type Output = BitBufferMut<A>;

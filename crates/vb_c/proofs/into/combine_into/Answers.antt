@@ -1,6 +1,6 @@
 use Rattle.std.proofs.Common.{arith}
-use Rattle.vb_kernel.specs.Bits.{bits}
-use Rattle.vb_kernel.specs.Operators.{combined}
+use Rattle.vb_bits.specs.Bits.{bits}
+use Rattle.vb_bits.specs.Operators.{combined}
 use Rattle.vb_bits.specs.Operators.{bit_op}
 use Rattle.vb_bits.proofs.OperatorsLemmas.{length-merged_bits}
 use Rattle.vb_bits.proofs.WritesLemmas.{Writes_none}

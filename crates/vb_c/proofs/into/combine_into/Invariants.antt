@@ -1,7 +1,7 @@
 use Rattle.std.proofs.Common.{◌-◌, ◌≤◌}
-use Rattle.vb_kernel.specs.Bits.{bits}
-use Rattle.vb_kernel.specs.Operators.{combined}
-use Rattle.vb_kernel.specs.Writes.{Writes}
+use Rattle.vb_bits.specs.Bits.{bits}
+use Rattle.vb_bits.specs.Operators.{combined}
+use Rattle.vb_bits.specs.Writes.{Writes}
 use Rattle.vb_c.proofs.into.combine_into.Given as goal
 
 -- the bits so far

@@ -1,5 +1,5 @@
 use Rattle.std.proofs.Common.{◌≡◌, ◌≤◌, ◌++◌, length, drop}
-use Rattle.vb_kernel.specs.Bits.{bits, places}
+use Rattle.vb_bits.specs.Bits.{bits, places}
 use Rattle.vb_c.proofs.walk.vb_set_indices.Given as goal
 
 abbrev pub invariant-loop-place : goal.invariant-loop-place

@@ -1,6 +1,6 @@
 use Rattle.std.proofs.Common.{◌≡◌, ◌≤◌, ◌++◌, length, drop, map}
-use Rattle.vb_kernel.specs.Bits.{bits}
-use Rattle.vb_kernel.specs.Runs.{runs}
+use Rattle.vb_bits.specs.Bits.{bits}
+use Rattle.vb_bits.specs.Runs.{runs}
 use Rattle.vb_c.specs.Filled.{run_of}
 use Rattle.vb_c.proofs.walk.vb_set_slices.Given as goal
 

@@ -1,5 +1,5 @@
 use Rattle.std.proofs.Common.{◌≡◌, ◌++◌, flat_map}
-use Rattle.vb_set.specs.Digits.{digits}
+use Rattle.vb_bits.specs.Digits.{digits}
 use Rattle.vb_set.specs.View.{bits_of}
 use Rattle.vb_set.specs.Words.{full_words}
 use Rattle.vb_pool.proofs.lists.list_bits.Given as goal

@@ -1,7 +1,7 @@
 use Rattle.std.proofs.Common.{rules, ◌≡◌, suc, ◌+◌, ◌++◌, ◌∷◌, [], take}
 use Rattle.std.proofs.Common.{slice_set, refl, sym, ap, ◌∙◌, arith, zero-add}
 use Rattle.std.proofs.Math.Seq.{take-suc-set}
-use Rattle.vb_set.specs.Digits.{digits, has_bit}
+use Rattle.vb_bits.specs.Digits.{digits, has_bit}
 use Rattle.vb_set.proofs.DigitsLemmas.{digits_none, digits-add}
 use Rattle.vb_pool.proofs.lists.list_digits.Goals as goal
 

@@ -1,5 +1,5 @@
 use Rattle.std.proofs.Common.{◌≡◌, length, take}
-use Rattle.vb_set.specs.Digits.{digits}
+use Rattle.vb_bits.specs.Digits.{digits}
 use Rattle.vb_pool.proofs.lists.list_digits.Given as goal
 
 -- the first digits

@@ -1,5 +1,5 @@
 use Rattle.std.proofs.Common.{◌≡◌, ◌++◌}
-use Rattle.vb_set.specs.Bits.{places}
+use Rattle.vb_bits.specs.Bits.{places}
 use Rattle.vb_set.specs.View.{bits_of}
 use Rattle.vb_pool.proofs.lists.list_places.Given as goal
 

@@ -1,6 +1,6 @@
 use Rattle.std.proofs.Common.{◌≡◌, ℕ, List, ◌*◌, ◌+◌, ◌≤◌, ap, sym, ◌∙◌, arith, subst}
-use Rattle.vb_kernel.specs.Bits.{bits, count}
-use Rattle.vb_kernel.specs.Digits.{digits}
+use Rattle.vb_bits.specs.Bits.{bits, count}
+use Rattle.vb_bits.specs.Digits.{digits}
 use Rattle.vb_kernel.proofs.DigitsLemmas.{count-digits_below}
 use Rattle.vb_kernel.proofs.ReadLemmas.{digits-bits, has_bit-bits}
 use Rattle.vb_rank.proofs.count.word_ones.Goals as goal

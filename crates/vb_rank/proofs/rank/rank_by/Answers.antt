@@ -1,5 +1,5 @@
 use Rattle.std.proofs.Common.{◌-◌, ◌/◌, ◌<◌, ℕ, List, length, ap, arith}
-use Rattle.vb_kernel.specs.Bits.{count}
+use Rattle.vb_bits.specs.Bits.{count}
 use Rattle.vb_kernel.proofs.BitsLemmas.{count-bits-le, take-bits}
 use Rattle.vb_rank.proofs.TablesLemmas.{rank-block}
 use Rattle.vb_rank.proofs.rank.rank_by.Goals as goal

@@ -1,4 +1,4 @@
-use Rattle.vb_kernel.specs.Bits.{bits, negated}
+use Rattle.vb_bits.specs.Bits.{bits, negated}
 use Rattle.vb_kernel.proofs.BitsLemmas.{Selects-AnswersEach}
 use Rattle.vb_rank.proofs.select.select_unset_by.Goals as goal
 

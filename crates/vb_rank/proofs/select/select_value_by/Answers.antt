@@ -16,18 +16,18 @@ find_block-block-requires-clause-some g c = omega (arith, c.requires.size)
 
 pub find_block-block-requires-clause-fits : goal.find_block-block-requires-clause-fits
 find_block-block-requires-clause-fits g c =
-    λ j h. omega (arith, h, c.requires.size, c.requires.fits)
+    λ j h. omega (arith, h, c.requires.size, c.requires.window.fits)
 
 pub overflow_mul-at : goal.overflow_mul-at
 overflow_mul-at g c = record {
   fits =
-      omega (arith, c.requires.size, c.requires.fits, c.find_block-block.ensures.within);
+      omega (arith, c.requires.size, c.requires.window.fits, c.find_block-block.ensures.within);
 }
 
 pub overflow_add-offset : goal.overflow_add-offset
 overflow_add-offset g c = record {
   fits =
-      omega (arith, c.requires.size, c.requires.fits, c.find_block-block.ensures.within);
+      omega (arith, c.requires.size, c.requires.window.fits, c.find_block-block.ensures.within);
 }
 
 pub overflow_sub-len : goal.overflow_sub-len
@@ -37,7 +37,7 @@ pub select_in_block-requires-clause-inside : goal.select_in_block-requires-claus
 select_in_block-requires-clause-inside g c = omega (
   arith,
   c.requires.size,
-  c.requires.inside,
+  c.requires.window.inside,
   c.min.ensures,
   c.find_block-block.ensures.within,
 )
@@ -46,7 +46,7 @@ pub select_in_block-requires-clause-fits : goal.select_in_block-requires-clause-
 select_in_block-requires-clause-fits g c = omega (
   arith,
   c.requires.size,
-  c.requires.fits,
+  c.requires.window.fits,
   c.min.ensures,
   c.find_block-block.ensures.within,
 )
@@ -83,7 +83,7 @@ overflow_add-result g c =
         inside,
         c.min.ensures,
         c.requires.size,
-        c.requires.fits,
+        c.requires.window.fits,
         c.find_block-block.ensures.within,
       );
     }

@@ -5,7 +5,7 @@ use Rattle.std.specs.List.{slice_range}
 use Rattle.std.proofs.lemmas.List.{take_more, length-set, length-take, drop_all, append-nil}
 use Rattle.vb_bits.proofs.BitsLemmas.{length-bits, count-le, count-take-le}
 use Rattle.vb_bits.proofs.WindowLemmas.{bits-part}
-use Rattle.vb_kernel.specs.Bits.{bits, count}
+use Rattle.vb_bits.specs.Bits.{bits, count}
 use Rattle.vb_rank.specs.Tables.{block_counts, blocks}
 use Rattle.vb_rank.proofs.TablesLemmas.{length-block_counts, length-block_counts-bits}
 use Rattle.vb_rank.proofs.TablesLemmas.{at-block_counts}

@@ -1,5 +1,5 @@
 use Rattle.std.proofs.Common.{◌≡◌, rules, slice_range}
-use Rattle.vb_kernel.specs.Bits.{count}
+use Rattle.vb_bits.specs.Bits.{count}
 use Rattle.vb_bits.proofs.WindowLemmas.{count_parts, windows}
 use Rattle.vb_bit_buffer.proofs.bit_buffer.BitBuffer.count_range.Goals as goal
 

@@ -1,5 +1,5 @@
 use Rattle.std.specs.List.{FoldsTo}
-use Rattle.vb_kernel.specs.Bits.{places}
+use Rattle.vb_bits.specs.Bits.{places}
 use Rattle.vb_pack.specs.Asked.{CanAsk}
 use Rattle.vb_bit_buffer.proofs.bit_buffer.BitBuffer.for_each_set_index.Given as goal
 

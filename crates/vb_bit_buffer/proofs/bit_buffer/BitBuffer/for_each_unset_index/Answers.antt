@@ -1,6 +1,6 @@
 use Rattle.std.proofs.Common.{◌≡◌, rules, sym, subst}
 use Rattle.std.specs.List.{FoldsTo}
-use Rattle.vb_kernel.specs.Bits.{bits, holes}
+use Rattle.vb_bits.specs.Bits.{bits, holes}
 use Rattle.vb_pack.specs.Asked.{CanAsk}
 use Rattle.vb_bit_buffer.proofs.bit_buffer.BitBuffer.for_each_unset_index.Goals as goal
 

@@ -1,6 +1,6 @@
 use Rattle.std.proofs.Common.{◌≡◌, length, rules, sym, ap, ◌∙◌, subst}
 use Rattle.std.specs.List.{FoldsTo}
-use Rattle.vb_kernel.specs.Bits.{at, bits}
+use Rattle.vb_bits.specs.Bits.{at, bits}
 use Rattle.vb_bits.proofs.BitsLemmas.{length-bits}
 use Rattle.vb_pack.specs.Asked.{CanAsk, span}
 use Rattle.vb_bit_buffer.proofs.bit_buffer.BitBuffer.iter_bits.Goals as goal

@@ -1,7 +1,7 @@
 use Rattle.std.proofs.Common.{◌≡◌, ◌+◌, length, min, refl, sym, ap, ◌∙◌, subst, rules, arith}
 use Rattle.std.specs.Int.{div_ceil}
 use Rattle.std.proofs.lemmas.List.{length-take}
-use Rattle.vb_kernel.specs.Bits.{at, bits}
+use Rattle.vb_bits.specs.Bits.{at, bits}
 use Rattle.vb_bits.proofs.BitsLemmas.{length-bits}
 use Rattle.vb_pack.specs.Asked.{Answers, CanAsk, span}
 use Rattle.vb_bit_buffer.proofs.SetLemmas.{sets}

@@ -1,6 +1,6 @@
 use Rattle.std.proofs.Common.{◌≡◌, ◌∷◌, [], ◌++◌, Ok, refl, rules, subst, sym, ap, ◌∙◌}
 use Rattle.std.proofs.Common.{append_assoc}
-use Rattle.vb_kernel.specs.Bits.{places}
+use Rattle.vb_bits.specs.Bits.{places}
 use Rattle.std.proofs.lemmas.Fn.{FoldsTo-push}
 use Rattle.vb_pack.specs.Asked.{CanAsk}
 use Rattle.vb_bit_buffer.proofs.bit_buffer.BitBuffer.try_for_each_set_index.Goals as goal

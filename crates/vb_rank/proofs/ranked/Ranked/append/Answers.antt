@@ -1,6 +1,6 @@
 use Rattle.std.proofs.Common.{◌≡◌, Bool, List, ◌++◌, [], ◌∷◌, length, take, sym, ap, ◌∙◌, arith}
 use Rattle.std.proofs.Math.Seq.{take-length}
-use Rattle.vb_kernel.specs.Bits.{count}
+use Rattle.vb_bits.specs.Bits.{count}
 use Rattle.vb_rank.specs.Tables.{block_counts}
 use Rattle.vb_rank.proofs.EditsLemmas.{block_counts_push, block_counts_push_block}
 use Rattle.vb_rank.proofs.ranked.Ranked.append.Goals as goal

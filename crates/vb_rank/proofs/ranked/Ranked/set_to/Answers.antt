@@ -4,7 +4,7 @@ use Rattle.std.proofs.lemmas.List.{set-get_or}
 use Rattle.std.proofs.lemmas.Option.{get_or_from_slice_get}
 use Rattle.std.proofs.Math.Bool.{beq}
 use Rattle.std.proofs.Math.Seq.{take-append_seam}
-use Rattle.vb_kernel.specs.Bits.{at}
+use Rattle.vb_bits.specs.Bits.{at}
 use Rattle.vb_kernel.proofs.BitsLemmas.{length-bits}
 use Rattle.vb_set.specs.View.{bits_of}
 use Rattle.vb_rank.specs.Tables.{block_counts}

@@ -2,8 +2,8 @@ use Rattle.std.proofs.Common.{◌≡◌, ℕ, ◌+◌, ◌++◌, List, Bool, len
 use Rattle.vb_bits.proofs.BitsLemmas.{length-bits}
 use Rattle.vb_bits.proofs.WritesLemmas.{bits_behind}
 use Rattle.vb_bit_bytes.proofs.BytesLemmas.{edits}
-use Rattle.vb_kernel.specs.Bits.{bits}
-use Rattle.vb_kernel.specs.Writes.{Writes, lengthened}
+use Rattle.vb_bits.specs.Bits.{bits}
+use Rattle.vb_bits.specs.Writes.{Writes, lengthened}
 use Rattle.vb_set.proofs.bit_buffer_mut.BitBufferMut.append_buffer.Goals as goal
 
 pub returns-in_err-push_window-clause-needs : goal.returns-in_err-push_window-clause-needs
