@@ -6,8 +6,8 @@ ghost use Rattle.vb_c.specs.Fits.{Checks};
 ghost use Rattle.vb_bits.specs.Bits.{bits, count};
 ghost use Rattle.vb_bits.specs.Writes.{Writes};
 
-use vb_filter::{filter_into, filter_values_into};
 use vb_bits::window_fits;
+use vb_filter::{filter_into, filter_values_into};
 use vb_kernel::count_ones;
 use vb_view::BitBufferView;
 

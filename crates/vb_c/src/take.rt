@@ -56,9 +56,7 @@ pub extern "C" fn vb_try_take_u32(
         × Writes out.old out.new 0 (bits out.new 0 (length indices.now)))
         ((out.new ≡ out.old) × (past.new ≡ past.old)) result }
 {
-    if !vb_bits::window_fits(out, 0, indices.len())
-        || !vb_bits::window_fits(bytes, offset, len)
-    {
+    if !vb_bits::window_fits(out, 0, indices.len()) || !vb_bits::window_fits(bytes, offset, len) {
         return false;
     }
     *past = vb_take_u32(out, bytes, offset, len, indices);
@@ -163,9 +161,7 @@ pub extern "C" fn vb_try_take_u64(
         × Writes out.old out.new 0 (bits out.new 0 (length indices.now)))
         ((out.new ≡ out.old) × (past.new ≡ past.old)) result }
 {
-    if !vb_bits::window_fits(out, 0, indices.len())
-        || !vb_bits::window_fits(bytes, offset, len)
-    {
+    if !vb_bits::window_fits(out, 0, indices.len()) || !vb_bits::window_fits(bytes, offset, len) {
         return false;
     }
     *past = vb_take_u64(out, bytes, offset, len, indices);

@@ -5,8 +5,7 @@ ghost use Rattle.vb_bits.specs.Bits.{bits, count};
 ghost use Rattle.vb_bits.specs.Digits.{digits};
 ghost use Rattle.vb_kernel.specs.Looks.{LooksAtMost};
 
-use vb_bits::low_digits;
-use vb_bits::full_word;
+use vb_bits::{full_word, low_digits};
 use vb_kernel::{Glance, count_ones_by};
 
 /// How many of the `len` bits from bit `at` on are true, which are no more than a block.
