@@ -11,8 +11,10 @@ use Rattle.vb_command.specs.Machine.{all_below, is_as_long}
 
 -- each place is below n, where the test says so
 pub below_all : (n : ℕ) (places : List ℕ) → all_below n places ≡ true → All (λ p. p < n) places
-below_all n places below = All-from_get_or (λ p. p < n) places 0 (λ i within.
-    ltb-true (get_or places i 0) n (AllPass-from_list_all (λ p. nat_lt p n) places below i 0 within))
+below_all n places below =
+    let passes = AllPass-from_list_all (λ p. nat_lt p n) places below in
+    All-from_get_or (λ p. p < n) places 0
+    (λ i within. ltb-true (get_or places i 0) n (passes i 0 within))
 
 -- a validity that is as long as the indices
 pub validity_fits : (n : ℕ) (validity : Option (List Bool))

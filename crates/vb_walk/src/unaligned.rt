@@ -80,7 +80,7 @@ impl<'a> UnalignedBitChunk<'a> {
 /// bits.
 #[tactic(auto, using(crate::proofs::CutLemmas::cuts))]
 fn words_of(bytes: &[u8], start: usize, len: usize) -> (&[[u8; 8]], Option<u64>)
-    requires window { InBytes bytes.now (0 < len → 8 * start) len }
+    requires window { 0 < len → InBytes bytes.now (8 * start) len }
     ensures words { 0 < len → map word_of result.0.now ++ item_of result.1
         ≡ words (bits bytes.now (8 * start) len) (div_ceil len 64) }
     ensures some { 0 < len → result.1 ≢ None }

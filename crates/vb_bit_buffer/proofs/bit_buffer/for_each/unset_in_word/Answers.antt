@@ -23,7 +23,11 @@ overflow_add-base g c =
     let w = c.loop-unset.unset in
     let some : 0 < w = omega arith in
     let fits : w < 2 ^ 64 = omega arith in
-    omega (arith, c.requires.window.fits, lowest_below w c.args.len some fits c.loop-unset.invariant.small)
+    omega (
+      arith,
+      c.requires.window.fits,
+      lowest_below w c.args.len some fits c.loop-unset.invariant.small,
+    )
 
 pub f-requires : goal.f-requires
 f-requires g c =
