@@ -48,7 +48,7 @@ fn count_of_many(bytes: &[u8], offset: usize, len: usize) -> usize
 /// It looks once at a partial first byte, once at each 64 whole bytes, once at each eight of those
 /// left, once at each byte then left, and once at a partial last byte.
 pub fn count_ones_by<G: Glance>(src: &mut G, offset: usize, len: usize) -> usize
-    requires window { InBytes ((G.seen src.old).bytes) offset len }
+    requires window { InBytes (G.seen src.old).bytes offset len }
     ensures value { result ≡ count (bits (G.seen src.old).bytes offset len) }
     ensures looks { LooksExactly (looks offset len) (G.seen src.old) (G.seen src.new) }
 {
@@ -64,7 +64,7 @@ pub fn count_ones_by<G: Glance>(src: &mut G, offset: usize, len: usize) -> usize
 #[inline(always)]
 fn count_short<G: Glance>(src: &mut G, offset: usize, len: usize) -> usize
     requires short { len ≤ 512 }
-    requires window { InBytes ((G.seen src.old).bytes) offset len }
+    requires window { InBytes (G.seen src.old).bytes offset len }
     ensures value { result ≡ count (bits (G.seen src.old).bytes offset len) }
     ensures looks { LooksExactly (looks offset len) (G.seen src.old) (G.seen src.new) }
 {
@@ -86,7 +86,7 @@ fn count_short<G: Glance>(src: &mut G, offset: usize, len: usize) -> usize
 #[inline(never)]
 fn count_long<G: Glance>(src: &mut G, offset: usize, len: usize) -> usize
     requires long { 512 < len }
-    requires window { InBytes ((G.seen src.old).bytes) offset len }
+    requires window { InBytes (G.seen src.old).bytes offset len }
     ensures value { result ≡ count (bits (G.seen src.old).bytes offset len) }
     ensures looks { LooksExactly (looks offset len) (G.seen src.old) (G.seen src.new) }
 {

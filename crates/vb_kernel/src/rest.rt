@@ -16,7 +16,7 @@ use crate::word::byte_part;
 #[inline(always)]
 pub(crate) fn add_rest<G: Glance>(src: &mut G, at: usize, len: usize, ones: usize) -> usize
     requires few { len < 512 }
-    requires window { InBytes ((G.seen src.old).bytes) (8 * at) len }
+    requires window { InBytes (G.seen src.old).bytes (8 * at) len }
     requires room { ones + len < 2 ^ 64 }
     ensures value { result ≡ ones + count (bits (G.seen src.old).bytes (8 * at) len) }
     ensures looks { LooksExactly (rest_looks len) (G.seen src.old) (G.seen src.new) }

@@ -38,7 +38,7 @@ pub fn bit_select_unset(bytes: &[u8], offset: usize, len: usize, n: usize) -> Op
 
 /// [`bit_select`] of the window of `src`, by at most the looks of a count of the window.
 pub fn bit_select_by<G: Glance>(src: &mut G, offset: usize, len: usize, n: usize) -> Option<usize>
-    requires window { InBytes ((G.seen src.old).bytes) offset len }
+    requires window { InBytes (G.seen src.old).bytes offset len }
     ensures place { Selects (bits (G.seen src.old).bytes offset len) n result }
     ensures each { AnswersEach (bits (G.seen src.old).bytes offset len) n result }
     ensures looks { LooksAtMost (looks offset len) (G.seen src.old) (G.seen src.new) }
@@ -53,7 +53,7 @@ pub fn bit_select_unset_by<G: Glance>(
     len: usize,
     n: usize,
 ) -> Option<usize>
-    requires window { InBytes ((G.seen src.old).bytes) offset len }
+    requires window { InBytes (G.seen src.old).bytes offset len }
     ensures place { Selects (negated (bits (G.seen src.old).bytes offset len)) n result }
     ensures each { AnswersEach (negated (bits (G.seen src.old).bytes offset len)) n result }
     ensures looks { LooksAtMost (looks offset len) (G.seen src.old) (G.seen src.new) }
@@ -72,7 +72,7 @@ fn find<G: Glance>(
     n: usize,
     value: bool,
 ) -> ControlFlow<usize, usize>
-    requires window { InBytes ((G.seen src.old).bytes) offset len }
+    requires window { InBytes (G.seen src.old).bytes offset len }
     ensures found { Searched (matching value (bits (G.seen src.old).bytes offset len)) n result }
     ensures looks { LooksAtMost (looks offset len) (G.seen src.old) (G.seen src.new) }
 {
@@ -151,7 +151,7 @@ fn pass_chunks<G: Glance>(
     value: bool,
 ) -> (usize, usize)
     requires aligned { 0 < chunks → at % 8 ≡ 0 }
-    requires window { InBytes ((G.seen src.old).bytes) at (512 * chunks) }
+    requires window { InBytes (G.seen src.old).bytes at (512 * chunks) }
     ensures within { result.0 ≤ chunks }
     ensures passed { n ≡ result.1
         + count (matching value (bits (G.seen src.old).bytes at (512 * result.0))) }

@@ -13,7 +13,7 @@ use vb_kernel::{Glance, count_ones_by};
 /// They are counted with one chunk in hand, by no branch that depends on their number. Where the
 /// bytes end within that chunk, or the bits reach behind it, [`count_ones_by`] counts them.
 pub(crate) fn count_in_block<G: Glance>(src: &mut G, at: usize, len: usize) -> usize
-    requires window { InBytes ((G.seen src.old).bytes) at len }
+    requires window { InBytes (G.seen src.old).bytes at len }
     requires block { len ≤ 512 }
     ensures value { result ≡ count (bits (G.seen src.old).bytes at len) }
     ensures looks { LooksAtMost 16 (G.seen src.old) (G.seen src.new) }

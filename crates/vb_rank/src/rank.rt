@@ -22,7 +22,7 @@ pub fn rank_by<G: Glance, T: Probe>(
     table: &mut T,
     i: usize,
 ) -> usize
-    requires window { InBytes ((G.seen src.old).bytes) offset len }
+    requires window { InBytes (G.seen src.old).bytes offset len }
     requires size { length (T.seen table.old).entries ≡ blocks len }
     requires within { i ≤ len }
     ensures value { IsTableOf (T.seen table.old) (bits (G.seen src.old).bytes offset len)

@@ -24,7 +24,7 @@ pub fn select_by<G: Glance, T: Probe>(
     table: &mut T,
     n: usize,
 ) -> Option<usize>
-    requires window { InBytes ((G.seen src.old).bytes) offset len }
+    requires window { InBytes (G.seen src.old).bytes offset len }
     requires size { length (T.seen table.old).entries ≡ blocks len }
     ensures place { IsTableOf (T.seen table.old) (bits (G.seen src.old).bytes offset len)
         → Selects (bits (G.seen src.old).bytes offset len) n result }
@@ -47,7 +47,7 @@ pub fn select_unset_by<G: Glance, T: Probe>(
     table: &mut T,
     n: usize,
 ) -> Option<usize>
-    requires window { InBytes ((G.seen src.old).bytes) offset len }
+    requires window { InBytes (G.seen src.old).bytes offset len }
     requires size { length (T.seen table.old).entries ≡ blocks len }
     ensures place { IsTableOf (T.seen table.old) (bits (G.seen src.old).bytes offset len)
         → Selects (negated (bits (G.seen src.old).bytes offset len)) n result }
@@ -70,7 +70,7 @@ fn select_value_by<G: Glance, T: Probe>(
     n: usize,
     value: bool,
 ) -> Option<usize>
-    requires window { InBytes ((G.seen src.old).bytes) offset len }
+    requires window { InBytes (G.seen src.old).bytes offset len }
     requires size { length (T.seen table.old).entries ≡ blocks len }
     ensures place { IsTableOf (T.seen table.old) (bits (G.seen src.old).bytes offset len)
         → Selects (matching value (bits (G.seen src.old).bytes offset len)) n result }
@@ -96,7 +96,7 @@ fn select_in_block<G: Glance>(
     n: usize,
     value: bool,
 ) -> Option<usize>
-    requires window { InBytes ((G.seen src.old).bytes) offset len }
+    requires window { InBytes (G.seen src.old).bytes offset len }
     requires block { len ≤ 512 }
     ensures place { Selects (matching value (bits (G.seen src.old).bytes offset len)) n result }
     ensures looks { LooksAtMost 16 (G.seen src.old) (G.seen src.new) }
