@@ -4,7 +4,7 @@ from html import escape
 from reference_pages.antt_items import AnttFile, Declaration
 from reference_pages.fragments import Fragments
 from reference_pages.library import FACADE
-from reference_pages.html_text import tag
+from reference_pages.html_text import name_html, tag
 from reference_pages.pages import Page
 from reference_pages.rust_items import Item
 
@@ -77,7 +77,7 @@ class AnttPages:
     def nav(self, page: Page, file: AnttFile, crate: str) -> None:
         page.nav.append(tag("p", page.link(f"{crate}/index.html", crate), class_="crate"))
         names = "".join(
-            tag("li", page.link(self.urls.declaration(it), escape(it.name)))
+            tag("li", page.link(self.urls.declaration(it), name_html(it.name)))
             for it in file.declarations
             if it.is_public and it.kind != "ruleset"
         )

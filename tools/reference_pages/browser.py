@@ -104,9 +104,18 @@ class Browser:
             raise BrowserError(f"{script}: {given['exceptionDetails']['text']}")
         return given["result"].get("value")
 
+    def try_run(self, script: str) -> Any:
+        """The value of an expression; `None` where the page is left before it answers."""
+        try:
+            return self.run(script)
+        except BrowserError as error:
+            if "target navigated" not in str(error):
+                raise
+            return None
+
     def wait(self, script: str, seconds: float = 10) -> None:
         until = time.monotonic() + seconds
-        while not self.run(script):
+        while not self.try_run(script):
             if time.monotonic() > until:
                 raise BrowserError(f"never: {script}")
             time.sleep(0.02)

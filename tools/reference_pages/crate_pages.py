@@ -4,7 +4,7 @@ from html import escape
 from reference_pages.antt_items import AnttFile
 from reference_pages.docs_html import Lookup, docs_html
 from reference_pages.fragments import Fragments
-from reference_pages.html_text import tag
+from reference_pages.html_text import name_html, tag
 from reference_pages.item_pages import display
 from reference_pages.library import FACADE, Crate, Reach, sentence
 from reference_pages.pages import Page
@@ -94,7 +94,7 @@ class CratePages:
             page.add(tag("h2", title, id=kind), tag("table", rows, class_="list"))
             page.nav.append(tag("h2", page.link(f"{page.url}#{kind}", title)))
             page.nav.append(tag("ul", "".join(
-                tag("li", page.link(self.urls.of(it.item), escape(it.name))) for it in found)))
+                tag("li", page.link(self.urls.of(it.item), name_html(it.name))) for it in found)))
 
     def item_row(self, page: Page, crate: Crate, reach: Reach) -> str:
         item = reach.item

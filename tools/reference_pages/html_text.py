@@ -26,6 +26,11 @@ def tag(name: str, content: str, **attributes: str) -> str:
     return f"<{name}{written}>{content}</{name}>"
 
 
+def name_html(name: str) -> str:
+    """A name, which may be broken behind its underscores alone where a line is short."""
+    return escape(name).replace("_", "_<wbr>")
+
+
 def rust_class(token: Token) -> str:
     if token.kind == "word":
         if token.text in RUST_KEYWORDS:

@@ -2,7 +2,7 @@
 from html import escape
 
 from reference_pages.fragments import Fragments
-from reference_pages.html_text import rust_html, tag
+from reference_pages.html_text import name_html, rust_html, tag
 from reference_pages.library import sentence
 from reference_pages.pages import Page
 from reference_pages.rust_items import Item
@@ -224,5 +224,5 @@ class ItemPages:
             self.nav_list(page, [(name, f"{page.url}#{self.anchor(it)}") for it, name in traits])
 
     def nav_list(self, page: Page, names: list[tuple[str, str]]) -> None:
-        listed = "".join(tag("li", page.link(url, escape(name))) for name, url in names)
+        listed = "".join(tag("li", page.link(url, name_html(name))) for name, url in names)
         page.nav.append(tag("ul", listed))
