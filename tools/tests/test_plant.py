@@ -11,7 +11,8 @@ RT = """#!/usr/bin/env bash
 echo "$(basename "$PWD") $*" >> "$(dirname "$0")/asked"
 cat said
 """
-COUNTS = "untested=0 no-ensures=1 proves={} same=2 refused=3 elsewhere=1 not-judged=0 not-source=4 not-run={}"
+COUNTS = "untested=0 no-ensures=1 proves={} same=2 refused=3 elsewhere=1 not-judged={} not-source=4 not-run={}"
+NONE_JUDGED = "plants crate=one proves=0 same=0 refused=0 elsewhere=0 not-judged=9 not-source=4 not-run=5\n"
 
 
 class Command(unittest.TestCase):
@@ -33,8 +34,8 @@ class Command(unittest.TestCase):
         file.parent.mkdir(parents=True, exist_ok=True)
         file.write_text(text)
 
-    def said(self, crate: str, *rows: str, left: int = 0):
-        last = f"plants crate={crate} planted-in=3 {COUNTS.format(len(rows), left)}\n"
+    def said(self, crate: str, *rows: str, open: int = 0, left: int = 0):
+        last = f"plants crate={crate} planted-in=3 {COUNTS.format(len(rows), open, left)}\n"
         self.write(f"crates/{crate}/said", "".join(f"{it}\n" for it in rows) + last)
 
     def run_it(self, *words: str) -> tuple[int, list[str]]:
@@ -43,10 +44,10 @@ class Command(unittest.TestCase):
         return ran.returncode, ran.stdout.splitlines()
 
     def test_goes_over_the_libraries(self):
-        status, lines = self.run_it("--minutes", "3")
+        status, lines = self.run_it("--minutes", "3", "--jobs", "4")
         self.assertEqual((status, lines), (0, ["18 planted, 0 prove, 0 of them not explained"]))
         asked = (self.root / "bin/asked").read_text().split("\n")
-        self.assertEqual(asked[:-1], [f"{it} plant --minutes 3" for it in ("one", "two", "lib_c")])
+        self.assertEqual(asked[:-1], [f"{it} plant --minutes 3 --max 10000 --jobs 4" for it in ("one", "two", "lib_c")])
 
     def test_compares_with_the_list(self):
         self.said(
@@ -70,11 +71,38 @@ class Command(unittest.TestCase):
         self.assertEqual(status, 1)
 
     def test_says_what_was_left(self):
-        self.said("two", left=7)
+        self.said("two", open=2, left=7)
         self.write("tools/plant-allowed.txt", "two old: { 1 }\n  no more\n")
         status, lines = self.run_it("two")
-        self.assertEqual(lines[:2], ["perhaps not tried: two old: { 1 }", "two: 7 not tried: give more minutes"])
+        self.assertEqual(
+            lines,
+            [
+                "perhaps not tried: two old: { 1 }",
+                "two: 2 not judged",
+                "two: 7 not tried: give more minutes",
+                "6 planted, 0 prove, 0 of them not explained",
+            ],
+        )
         self.assertEqual(status, 0)
+
+    def test_some_functions_alone(self):
+        self.write("tools/plant-allowed.txt", "two old: { 1 }\n  no more\n")
+        status, lines = self.run_it("--only", "src/a.rt", "two")
+        self.assertEqual((status, lines[0]), (0, "perhaps not tried: two old: { 1 }"))
+        self.assertTrue((self.root / "bin/asked").read_text().endswith(" --only src/a.rt\n"))
+
+    def test_a_crate_of_which_nothing_was_judged(self):
+        self.write("crates/one/said", NONE_JUDGED)
+        status, lines = self.run_it("one")
+        self.assertEqual(
+            lines,
+            [
+                "one: 9 not judged",
+                "one: 5 not tried: give more minutes",
+                "0 planted, 0 prove, 0 of them not explained",
+            ],
+        )
+        self.assertEqual(status, 1)
 
     def test_a_crate_that_can_not_be_tried(self):
         self.write("crates/one/said", "rt: the check failed\n")
