@@ -48,28 +48,25 @@ pub push_digits-pending-requires-clause-room : goal.push_digits-pending-requires
 push_digits-pending-requires-clause-room c =
     let word = word-kept (bits_of c.args.mask) (bits_of c.args.values) c.loop-t.t 64
     c.requires.same_len (omega arith) in
-    omega (
-      arith,
-      c.loop-t.invariant.number,
-      c.kept_digits-packed.ensures.count,
-      word.room,
-      c.requires.room,
-      c.loop-t.auto.out,
-    )
-
-pub push_digits-pending-requires-clause-fits : goal.push_digits-pending-requires-clause-fits
-push_digits-pending-requires-clause-fits c =
-    let word = word-kept (bits_of c.args.mask) (bits_of c.args.values) c.loop-t.t 64
-    c.requires.same_len (omega arith) in
-    omega (
-      arith,
-      c.loop-t.invariant.number,
-      c.kept_digits-packed.ensures.count,
-      word.room,
-      count-le (bits_of c.args.mask),
-      c.len-total.ensures,
-      c.len-total.type_inv,
-    )
+    record {
+      inside = omega (
+        arith,
+        c.loop-t.invariant.number,
+        c.kept_digits-packed.ensures.count,
+        word.room,
+        c.requires.room,
+        c.loop-t.auto.out,
+      );
+      fits = omega (
+        arith,
+        c.loop-t.invariant.number,
+        c.kept_digits-packed.ensures.count,
+        word.room,
+        count-le (bits_of c.args.mask),
+        c.len-total.ensures,
+        c.len-total.type_inv,
+      );
+    }
 
 pub overflow_add-len : goal.overflow_add-len
 overflow_add-len c =
@@ -92,15 +89,27 @@ push_digits-pending-requires-2-clause-room c =
     let end : c.loop-t.t ≡ q = omega arith in
     let word = word-kept mask (bits_of c.args.values) q (c.len-total.result % 64)
     c.requires.same_len (omega (arith, c.len-total.ensures)) in
-    omega (
-      arith,
-      c.loop-t.invariant.number,
-      ap (λ t. count (take (64 * t) mask)) end,
-      c.kept_digits-packed-2.ensures.count,
-      word.room,
-      c.requires.room,
-      c.loop-t.auto.out,
-    )
+    record {
+      inside = omega (
+        arith,
+        c.loop-t.invariant.number,
+        ap (λ t. count (take (64 * t) mask)) end,
+        c.kept_digits-packed-2.ensures.count,
+        word.room,
+        c.requires.room,
+        c.loop-t.auto.out,
+      );
+      fits = omega (
+        arith,
+        c.loop-t.invariant.number,
+        ap (λ t. count (take (64 * t) mask)) end,
+        c.kept_digits-packed-2.ensures.count,
+        word.room,
+        count-le mask,
+        c.len-total.ensures,
+        c.len-total.type_inv,
+      );
+    }
 
 pub write_pending-requires : goal.write_pending-requires
 write_pending-requires c =

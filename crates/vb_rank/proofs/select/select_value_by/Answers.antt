@@ -33,23 +33,13 @@ overflow_add-offset g c = record {
 pub overflow_sub-len : goal.overflow_sub-len
 overflow_sub-len g c = omega (arith, c.requires.size, c.find_block-block.ensures.within)
 
-pub select_in_block-requires-clause-inside : goal.select_in_block-requires-clause-inside
-select_in_block-requires-clause-inside g c = omega (
-  arith,
-  c.requires.size,
-  c.requires.window.inside,
-  c.min.ensures,
-  c.find_block-block.ensures.within,
-)
-
-pub select_in_block-requires-clause-fits : goal.select_in_block-requires-clause-fits
-select_in_block-requires-clause-fits g c = omega (
-  arith,
-  c.requires.size,
-  c.requires.window.fits,
-  c.min.ensures,
-  c.find_block-block.ensures.within,
-)
+pub select_in_block-requires-clause-window : goal.select_in_block-requires-clause-window
+select_in_block-requires-clause-window g c =
+    let facts = (c.requires.size, c.min.ensures, c.find_block-block.ensures.within) in
+    record {
+      inside = omega (arith, c.requires.window.inside, facts.0, facts.1, facts.2);
+      fits = omega (arith, c.requires.window.fits, facts.0, facts.1, facts.2);
+    }
 
 pub returns-in_err-place-clause-place : goal.returns-in_err-place-clause-place
 returns-in_err-place-clause-place g c = λ e.

@@ -18,8 +18,8 @@ map_bool_shared-requires-clause-callable g c =
     (subst (λ n. CanAsk (λ p i. goal.F-pre g p i (at l i))
     (λ p i b q. goal.F-step g p i (at l i) b q) c.args.f.now (span 0 n)) len c.requires)
 
-pub window_of-requires-clause-inside : goal.window_of-requires-clause-inside
-window_of-requires-clause-inside g c =
+pub window_of-requires-clause-window : goal.window_of-requires-clause-window
+window_of-requires-clause-window g c =
     let s = c.self.inside in let set = c.in_ok-clone.field-0 in
     let same : length set.bits ≡ s.len = search (rules, sets) in
     let count : c.div_ceil.result ≡ div_ceil s.len 8 = c.div_ceil.ensures in
@@ -29,7 +29,10 @@ window_of-requires-clause-inside g c =
     ≡ min c.div_ceil.result (length c.in_ok-bytes.bytes.list) =
     ap (λ b. length b.list) c.truncate.ensures
     ∙ length-take c.div_ceil.result c.in_ok-bytes.bytes.list in
-    omega (arith, same, count, whole, kept, c.in_ok-answers.ensures.len)
+    record {
+      inside = omega (arith, same, count, whole, kept, c.in_ok-answers.ensures.len);
+      fits = search rules;
+    }
 
 pub returns-clause-answered : goal.returns-clause-answered
 returns-clause-answered g c =
