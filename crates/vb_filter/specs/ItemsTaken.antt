@@ -35,7 +35,7 @@ module _ {T : Type 0} (zero : T) (items : List T) (indices : List ℤ)
 
 -- the items of a buffer were taken into one of the same alignment, in storage made for them; or
 -- memory was refused, or the first position that takes nothing
-pub record GivesTaken {T : Type 0} (zero : T) (b : SharedBuffer T) (indices : List ℤ)
+pub record GivesItemsTaken {T : Type 0} (zero : T) (b : SharedBuffer T) (indices : List ℤ)
     (validity : Option (List Bool)) (result : Result (SharedBuffer T) BufferError) : Type 0 where
   pub ok : IfOk result (λ k. AreTaken zero b.list indices validity k.list
       × ShowsMade k.list b.alignment k)

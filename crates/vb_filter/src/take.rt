@@ -33,9 +33,9 @@ pub trait Take: Sized {
 }
 
 impl<T: Element, A: Allocator + Clone> Take for Buffer<T, A> {
-    ghost use Rattle.vb_filter.specs.ItemsTaken.{GivesTaken};
+    ghost use Rattle.vb_filter.specs.ItemsTaken.{GivesItemsTaken};
 
-    ghost takes = { λ b indices validity result. GivesTaken T.zero b indices validity result };
+    ghost takes = { λ b indices validity result. GivesItemsTaken T.zero b indices validity result };
 
     fn taken<I: BitIndex>(
         &self,

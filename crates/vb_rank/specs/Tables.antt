@@ -56,6 +56,6 @@ pub record BeginsBefore (v : Bool) (t : List ℕ) (n j m : ℕ) : Type 0 where
   pub high : j + 1 < length t → n < passed v t (j + 1)
 
 -- one more, or one fewer
-abbrev pub moved : Bool → ℕ → ℕ
-moved true n = n + 1
-moved false n = n - 1
+abbrev pub bump : Bool → ℕ → ℕ
+bump true n = n + 1
+bump false n = n - 1

@@ -4,7 +4,7 @@ ghost use Rattle.std.specs.Prelude.{length, slice_index, IfOk, IsOkUnless};
 ghost use Rattle.vb_bits.specs.InBytes.{InBytes};
 ghost use Rattle.vb_bits.specs.Bits.{bits};
 ghost use Rattle.vb_rank.specs.Fills.{Fills};
-ghost use Rattle.vb_rank.specs.Tables.{block_counts, blocks, moved};
+ghost use Rattle.vb_rank.specs.Tables.{block_counts, blocks, bump};
 ghost use Rattle.vb_set.specs.View.{bits_of};
 
 use std::alloc::Allocator;
@@ -64,7 +64,7 @@ pub(crate) fn move_entries(entries: &mut [usize], from: usize, up: bool)
     ensures len { length entries.new ≡ length entries.old }
     ensures before { (j : ℕ) → j < from → slice_index entries.new j ≡ slice_index entries.old j }
     ensures moved { (j : ℕ) → from ≤ j → j < length entries.old
-        → slice_index entries.new j ≡ moved up (slice_index entries.old j) }
+        → slice_index entries.new j ≡ bump up (slice_index entries.old j) }
 {
     for j in from..entries.len() {
         let entry = entries[j];

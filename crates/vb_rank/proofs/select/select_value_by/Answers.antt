@@ -35,10 +35,12 @@ overflow_sub-len g c = omega (arith, c.requires.size, c.find_block-block.ensures
 
 pub select_in_block-requires-clause-window : goal.select_in_block-requires-clause-window
 select_in_block-requires-clause-window g c =
-    let facts = (c.requires.size, c.min.ensures, c.find_block-block.ensures.within) in
+    let size = c.requires.size in
+    let short = c.min.ensures in
+    let within = c.find_block-block.ensures.within in
     record {
-      inside = omega (arith, c.requires.window.inside, facts.0, facts.1, facts.2);
-      fits = omega (arith, c.requires.window.fits, facts.0, facts.1, facts.2);
+      inside = omega (arith, size, short, within, c.requires.window.inside);
+      fits = omega (arith, size, short, within, c.requires.window.fits);
     }
 
 pub returns-in_err-place-clause-place : goal.returns-in_err-place-clause-place
