@@ -1,8 +1,8 @@
 //! A source of bits that adds up what is read of it.
 ghost use Rattle.std.specs.Prelude.{◌≡◌, ◌+◌, ◌*◌, ◌^◌, ◌<◌, ◌≤◌, length, min, slice_range};
 ghost use Rattle.std.below.core.specs.declared.int.u64.TheConstants.{MAX};
-ghost use Rattle.vb_bits.specs.InBytes.{InBytes};
 ghost use Rattle.vortex_buffer.specs.Bits.{bits, count};
+ghost use Rattle.vortex_buffer.specs.InBytes.{InBytes};
 ghost use Rattle.vortex_buffer.specs.Looks.{looks};
 
 use std::marker::Model;

@@ -4,7 +4,9 @@ pub mod Stops
 pub use Rattle.vb_bit_bytes.specs.AskedOf
 pub use Rattle.vb_bit_bytes.specs.Given
 pub use Rattle.vb_bits.specs.Bits
+pub use Rattle.vb_bits.specs.InBytes
 pub use Rattle.vb_bits.specs.Operators
+pub use Rattle.vb_bits.specs.Runs
 pub use Rattle.vb_bits.specs.Shown
 pub use Rattle.vb_mem.specs.Answers
 pub use Rattle.vb_mem.specs.Collected
@@ -14,5 +16,4 @@ pub use Rattle.vb_take.specs.Takes
 pub use Rattle.vb_view.specs.View
 pub use Rattle.vb_view.specs.Windows
 pub use Rattle.vb_walk.specs.Cut
-pub use Rattle.vb_bits.specs.Runs
 pub use Rattle.vb_walk.specs.Words

@@ -4,13 +4,13 @@ ghost use Rattle.std.specs.Prelude.{ℕ, [], true, false, length, take, drop, re
 ghost use Rattle.std.specs.Prelude.{slice_get, slice_range, IsSome, IfSome, IfOk, IsOkUnless};
 ghost use Rattle.std.specs.Int.{div_ceil};
 ghost use Rattle.vb_bit_buffer.specs.SharedSet.{IsFreshSet, SharesFrom};
-ghost use Rattle.vb_bits.specs.InBytes.{InBytes};
 ghost use Rattle.vb_bits.specs.Bits.{bits, count, negated, places, Selects, AnswersEach};
+ghost use Rattle.vb_bits.specs.InBytes.{InBytes};
+ghost use Rattle.vb_bits.specs.Runs.{last_place, runs};
 ghost use Rattle.vb_mem.specs.Answers.{Makes};
 ghost use Rattle.vb_view.specs.View.{bits_of, offset_of, bytes_of};
 ghost use Rattle.vb_view.specs.Windows.{IsWindow};
 ghost use Rattle.vb_walk.specs.Cut.{IsCut};
-ghost use Rattle.vb_bits.specs.Runs.{last_place, runs};
 
 use std::alloc::{Allocator, Global};
 use std::marker::Model;

@@ -1,6 +1,7 @@
 pub mod AskedOf
 pub mod Given
 pub use Rattle.vb_bits.specs.Bits
+pub use Rattle.vb_bits.specs.InBytes
 pub use Rattle.vb_bits.specs.Operators
 pub use Rattle.vb_bits.specs.Writes
 pub use Rattle.vb_mem.specs.Collected

@@ -3,9 +3,9 @@ ghost use Rattle.std.specs.Prelude.{◌≡◌, ◌+◌, ◌*◌, ◌^◌, ◌<�
 ghost use Rattle.std.specs.Prelude.{IfOk, IsOkUnless, OnErr};
 ghost use Rattle.std.specs.Int.{div_ceil};
 ghost use Rattle.vb_bit_bytes.specs.AskedOf.{asked_of};
+ghost use Rattle.vb_bits.specs.Bits.{at, bits};
 ghost use Rattle.vb_bits.specs.InBytes.{InBytes};
 ghost use Rattle.vb_pack.specs.Asked.{Answers, CanAsk, span};
-ghost use Rattle.vb_bits.specs.Bits.{at, bits};
 
 use crate::make::full;
 use std::alloc::Allocator;

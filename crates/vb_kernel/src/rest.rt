@@ -5,8 +5,8 @@
 ghost use Rattle.std.specs.Prelude.{◌≡◌, ◌+◌, ◌-◌, ◌*◌, ◌/◌, ◌%◌, ◌^◌, ◌<◌, ◌≤◌, length, min};
 ghost use Rattle.vb_bits.specs.Bits.{bits, count};
 ghost use Rattle.vb_bits.specs.InBytes.{InBytes};
-ghost use Rattle.vb_kernel.specs.Parts.{rest_looks};
 ghost use Rattle.vb_kernel.specs.Looks.{LooksExactly};
+ghost use Rattle.vb_kernel.specs.Parts.{rest_looks};
 
 use crate::glance::Glance;
 use crate::word::byte_part;

@@ -2,13 +2,13 @@
 ghost use Rattle.std.specs.Prelude.{◌≡◌, ◌+◌, ◌*◌, ◌^◌, ◌<◌, ◌≤◌, [], ◌∷◌, ◌++◌, length, take};
 ghost use Rattle.std.specs.Prelude.{replicate, slice_set, false, IsTrue, IfOk, IsOkUnless};
 ghost use Rattle.std.specs.Prelude.{OnOk, OnErr};
-ghost use Rattle.vb_bits.specs.InBytes.{InBytes};
-ghost use Rattle.vb_command.specs.Machine.{all_below};
-ghost use Rattle.vb_set.specs.declared.BufferError.TheVariants.{OutOfMemory};
 ghost use Rattle.vb_bits.specs.Bits.{bits, negated};
 ghost use Rattle.vb_bits.specs.Edits.{filled};
+ghost use Rattle.vb_bits.specs.InBytes.{InBytes};
+ghost use Rattle.vb_command.specs.Machine.{all_below};
 ghost use Rattle.vb_pool.specs.OpenBits.{LimitsLength};
 ghost use Rattle.vb_set.specs.Takes.{with_true};
+ghost use Rattle.vb_set.specs.declared.BufferError.TheVariants.{OutOfMemory};
 
 use std::alloc::Allocator;
 use std::marker::Model;

@@ -1,8 +1,8 @@
 //! Counts within a block.
 ghost use Rattle.std.specs.Prelude.{◌≡◌, ◌+◌, ◌-◌, ◌*◌, ◌^◌, ◌<◌, ◌≤◌, length, min};
-ghost use Rattle.vb_bits.specs.InBytes.{InBytes};
 ghost use Rattle.vb_bits.specs.Bits.{bits, count};
 ghost use Rattle.vb_bits.specs.Digits.{digits};
+ghost use Rattle.vb_bits.specs.InBytes.{InBytes};
 ghost use Rattle.vb_kernel.specs.Looks.{LooksAtMost};
 
 use vb_bits::{full_word, low_digits};

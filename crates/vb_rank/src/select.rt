@@ -1,7 +1,7 @@
 //! The place of a bit by its rank, over a table.
 ghost use Rattle.std.specs.Prelude.{◌≡◌, ◌+◌, ◌*◌, ◌^◌, ◌<◌, ◌≤◌, length};
-ghost use Rattle.vb_bits.specs.InBytes.{InBytes};
 ghost use Rattle.vb_bits.specs.Bits.{bits, negated, Selects, AnswersEach};
+ghost use Rattle.vb_bits.specs.InBytes.{InBytes};
 ghost use Rattle.vb_kernel.specs.Looks.{LooksAtMost};
 ghost use Rattle.vb_kernel.specs.Searches.{matching};
 ghost use Rattle.vb_rank.specs.Tables.{blocks, binary_digits, ProbesAtMost, IsTableOf};

@@ -7,7 +7,9 @@ pub use Rattle.vb_bit_bytes.specs.Given
 pub use Rattle.vb_bits.specs.Bits
 pub use Rattle.vb_bits.specs.Digits
 pub use Rattle.vb_bits.specs.Edits
+pub use Rattle.vb_bits.specs.InBytes
 pub use Rattle.vb_bits.specs.Operators
+pub use Rattle.vb_bits.specs.Runs
 pub use Rattle.vb_bits.specs.Shown
 pub use Rattle.vb_bits.specs.Writes
 pub use Rattle.vb_mem.specs.Answers
@@ -20,5 +22,4 @@ pub use Rattle.vb_view.specs.MutView
 pub use Rattle.vb_view.specs.View
 pub use Rattle.vb_view.specs.Windows
 pub use Rattle.vb_walk.specs.Cut
-pub use Rattle.vb_bits.specs.Runs
 pub use Rattle.vb_walk.specs.Words

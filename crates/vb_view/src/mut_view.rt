@@ -7,8 +7,8 @@ ghost use Rattle.vb_bits.specs.Bits.{bits as window, count, negated};
 ghost use Rattle.vb_bits.specs.Edits.{filled};
 ghost use Rattle.vb_bits.specs.InBytes.{InBytes};
 ghost use Rattle.vb_bits.specs.Writes.{Writes};
-ghost use Rattle.vb_view.specs.Windows.{IsWindow};
 ghost use Rattle.vb_view.specs.View.{bits_of, offset_of, bytes_of};
+ghost use Rattle.vb_view.specs.Windows.{IsWindow};
 
 use crate::view::BitBufferView;
 use vb_bits::{fill_bits, set_bit_to};

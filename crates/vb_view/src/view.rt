@@ -4,8 +4,8 @@ ghost use Rattle.std.specs.Prelude.{ℕ, length, drop, slice_get, slice_range, S
 ghost use Rattle.vb_bits.specs.Bits.{bits, count, negated, places, Selects, AnswersEach};
 ghost use Rattle.vb_bits.specs.InBytes.{InBytes};
 ghost use Rattle.vb_bits.specs.Runs.{runs, last_place};
-ghost use Rattle.vb_walk.specs.Cut.{IsCut};
 ghost use Rattle.vb_view.specs.Windows.{IsWindow};
+ghost use Rattle.vb_walk.specs.Cut.{IsCut};
 
 use crate::meta::BitBufferMeta;
 use std::ops::Range;
