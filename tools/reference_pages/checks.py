@@ -1,10 +1,11 @@
 """Whether the pages are exact: nothing public is missing, each link leads somewhere, each public
-item has a docstring."""
+item has a docstring, and users find the words of each contract in the crate that they name."""
 import re
 from html import unescape
 from pathlib import Path
 from urllib.parse import unquote
 
+from reference_pages.library import FACADE
 from reference_pages.rust_items import Item
 from reference_pages.site import Site
 
@@ -37,6 +38,7 @@ class Checks:
         }
         self.missing()
         self.exports()
+        self.words()
         self.docstrings()
         self.links()
 
@@ -73,6 +75,22 @@ class Checks:
                 for name in re.findall(r"\b\w+(?=[,}\s]*[,};])", text):
                     if name not in self.library.reached[crate.name]:
                         self.found.append(f"{path}: `{name}` of a `pub use` has no entry")
+
+    def words(self) -> None:
+        """The facade gives the definitions that the contracts of what it gives cite."""
+        given = self.library.spec_files(FACADE)
+        reached = {
+            id(entry) for it in self.library.reached[FACADE].values()
+            for entry in [it.item, *self.site.members(it.item)]
+        }
+        files = [it for crate in self.library.shown for it in crate.specs.values()]
+        for declared in (it for file in files for it in file.declarations):
+            cited = self.site.fragments.cited.get(id(declared), [])
+            calls = [it.name for it in cited if id(it) in reached]
+            names = (self.library.declared(it, declared.name) for it in given)
+            if calls and not any(it is declared for it in names):
+                told = f"`{declared.name}`, which `{calls[0]}` cites, isn't given by {FACADE}"
+                self.found.append(f"{declared.place}: {told}")
 
     # ---- docstrings
     def docstrings(self) -> None:

@@ -235,6 +235,14 @@ class Library:
                 return self.antt_file(path[1], path[2], name, depth + 1)
         return None
 
+    def spec_files(self, crate: str) -> list[AnttFile]:
+        """The files of definitions that a crate gives: its own, and those that it re-exports."""
+        files = self.crates[crate].specs
+        uses = files["Lib"].uses if "Lib" in files else []
+        names = [*files, *(it.path.split(".")[-1] for it in uses if it.is_public)]
+        found = (self.antt_file(crate, "specs", it) for it in names)
+        return [it for it in found if it is not None]
+
     def declared(self, file: AnttFile, name: str, depth: int = 0) -> Declaration | None:
         """What a file gives under a name: its own, or what it re-exports."""
         own = file.declaration(name)

@@ -139,6 +139,15 @@ class Errors(unittest.TestCase):
         found = errors(("crates/low/src/lib.rt", "fresh, of_pair}", "fresh, of_pair, stale}"))
         self.assertEqual(found, ["crates/low/src/lib.rt: `stale` of a `pub use` has no entry"])
 
+    def test_a_word_that_users_do_not_find(self):
+        given = "crates/vortex_buffer/specs/Lib.antt"
+        found = errors((given, "pub use Rattle.low.specs.Seen\n", ""))
+        seen = "crates/low/specs/Seen.antt"
+        self.assertEqual(found, [
+            f"{seen}:9: `counted`, which `add` cites, isn't given by vortex_buffer",
+            f"{seen}:13: `IsOne`, which `fresh` cites, isn't given by vortex_buffer",
+        ])
+
     def test_an_item_that_is_left_out(self):
         with Repository() as root:
             site = Site(Path(root))
