@@ -325,6 +325,7 @@ unsafe extern "C" {
         rounds: usize,
     ) -> usize;
     pub fn bench_buffer_copy_from(items: *const u32, many: usize) -> usize;
+    pub fn bench_buffer_read_from(bytes: Bytes, size: usize) -> usize;
     pub fn bench_buffer_from_iter(n: u32) -> usize;
     pub fn bench_buffer_push(items: *const u32, many: usize) -> usize;
     pub fn bench_buffer_slice(items: *const u32, many: usize, start: usize, rounds: usize)

@@ -277,6 +277,13 @@ pub fn move_entries(entries: &mut [usize], by: usize) {
     }
 }
 
+/// The numbers whose bytes these are.
+#[inline(never)]
+pub fn read_from(bytes: &[u8]) -> Vec<u32> {
+    let item = |bytes: &[u8]| u32::from_le_bytes([bytes[0], bytes[1], bytes[2], bytes[3]]);
+    bytes.chunks_exact(4).map(item).collect()
+}
+
 /// The values whose bit is set, of a mask that begins with its words.
 #[inline(never)]
 pub fn filtered(values: &[u32], mask: &Input) -> Vec<u32> {

@@ -4,7 +4,9 @@
 use std::cell::Cell;
 use std::hint::black_box;
 
-use vortex_buffer::{BitBuffer, BitBufferMut, BitBufferView, Buffer, BufferMut, ByteBuffer};
+use vortex_buffer::{
+    Alignment, BitBuffer, BitBufferMut, BitBufferView, Buffer, BufferMut, ByteBuffer,
+};
 
 use crate::input::Window;
 
@@ -296,6 +298,13 @@ take!(take_u32: u32, take_u64: u64, take_i64: i64, take_u128: u128);
 #[inline(never)]
 pub fn buffer_copy_from(items: &[u32]) -> usize {
     black_box(&Buffer::<u32>::copy_from(items)).len()
+}
+
+/// By a copy of the bytes that is aligned as the items are, and a cast.
+#[inline(never)]
+pub fn buffer_read_from(bytes: &[u8]) -> usize {
+    let bytes = ByteBuffer::copy_from_aligned(bytes, Alignment::of::<u32>());
+    black_box(&Buffer::<u32>::from_byte_buffer(bytes)).len()
 }
 
 #[inline(never)]

@@ -1,8 +1,12 @@
 //! Buffers of numbers.
 
+use std::cell::RefCell;
+use std::hint::black_box;
+
 use super::upstream;
 use crate::bench::Bench;
 use crate::calls;
+use crate::loops;
 use crate::measure::Contender;
 use crate::row::{Row, UPSTREAM};
 
@@ -12,6 +16,7 @@ pub fn measure(bench: &mut Bench) {
         let items: Vec<u32> = (0..many).collect();
         made(bench, &items);
         bytes(bench, &items);
+        read(bench, &items);
     }
     let items: Vec<u32> = (0..1_000).collect();
     sliced(bench, &items);
@@ -28,9 +33,7 @@ fn made(bench: &mut Bench, items: &[u32]) {
     .upstream(upstream!(Contender::of(move || {
         crate::upstream::buffer_copy_from(items)
     })))
-    .plain(Contender::of(move || {
-        std::hint::black_box(items.to_vec()).len()
-    }));
+    .plain(Contender::of(move || black_box(items.to_vec()).len()));
     bench.row(row_of_copy.at_most(1.1, UPSTREAM));
     let ours = move || unsafe { calls::bench_buffer_from_iter(many as u32) };
     let row_of_iter = row("`Buffer::from_iter` of a range", Box::new(ours))
@@ -38,7 +41,7 @@ fn made(bench: &mut Bench, items: &[u32]) {
             crate::upstream::buffer_from_iter(many as u32)
         })))
         .plain(Contender::of(move || {
-            std::hint::black_box((0..many as u32).collect::<Vec<_>>()).len()
+            black_box((0..many as u32).collect::<Vec<_>>()).len()
         }));
     bench.row(row_of_iter);
     let ours = move || unsafe { calls::bench_buffer_push(list, many) };
@@ -47,7 +50,7 @@ fn made(bench: &mut Bench, items: &[u32]) {
         for &item in items {
             pushed.push(item);
         }
-        std::hint::black_box(&pushed).len()
+        black_box(&pushed).len()
     };
     let row_of_push = row("`BufferMut::push`, one by one", Box::new(ours))
         .upstream(upstream!(Contender::of(move || {
@@ -74,8 +77,28 @@ fn bytes(bench: &mut Bench, items: &[u32]) {
     let ours = move |rounds| unsafe { calls::bench_buffer_as_bytes(list, many, rounds) };
     let plain = move || {
         let bytes: Vec<u8> = items.iter().flat_map(|item| item.to_le_bytes()).collect();
-        std::hint::black_box(&bytes).len()
+        black_box(&bytes).len()
     };
     let row = Row::new("`as_bytes`, which copies", Contender::in_rounds(ours)).items(many);
     bench.row(row.plain(Contender::of(plain)));
+}
+
+fn read(bench: &mut Bench, items: &[u32]) {
+    let bytes: &Vec<u8> = &items.iter().flat_map(|item| item.to_le_bytes()).collect();
+    let ours = move || unsafe { calls::bench_buffer_read_from(bytes.as_ptr(), bytes.len()) };
+    let over = RefCell::new(vec![0; bytes.len()]);
+    let memcpy = move || {
+        over.borrow_mut().copy_from_slice(bytes);
+        0
+    };
+    let row = Row::new("`Buffer::read_from`", Contender::of(ours))
+        .items(items.len())
+        .upstream(upstream!(Contender::of(move || {
+            crate::upstream::buffer_read_from(bytes)
+        })))
+        .plain(Contender::of(move || {
+            black_box(&loops::read_from(bytes)).len()
+        }))
+        .beside("memcpy", Contender::of(memcpy));
+    bench.row(row.at_most(1.1, UPSTREAM));
 }
