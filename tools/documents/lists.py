@@ -11,6 +11,7 @@ EXPORT = re.compile(r"^pub use [\w:]+?::(?:\{([^}]*)\}|(\w+));", re.MULTILINE)
 OF_THE_LIBRARY = {"vb_level", "vb_has_level"}
 # What the Rust crate does without a call.
 INLINE = {"vb_get_bit"}
+C_FUNCTION = re.compile(r'^pub extern "C" fn (\w+)', re.MULTILINE)
 NATIVE = re.compile(r"^    (\w+)\(", re.MULTILINE)
 
 
@@ -34,8 +35,9 @@ def headers(repository: Repository) -> list[str]:
 
 def c_functions(repository: Repository) -> list[str]:
     """The functions of the header, of the Rust table, and of the crate."""
-    crate, table = "crates/vb_c/src/lib.rt", "bindings/rust/src/native.rs"
-    given = {it for it in exported(repository.read(crate)) if it[0].islower()}
+    crate, table = "crates/vb_c", "bindings/rust/src/native.rs"
+    sources = [text for path, text in repository.code.items() if path.startswith(f"{crate}/src/")]
+    given = {it for text in sources for it in C_FUNCTION.findall(text)}
     found = []
     for header in headers(repository):
         declared = set(re.findall(r"^\w[\w ]*?\W(vb_\w+)\(", repository.read(header), re.MULTILINE))

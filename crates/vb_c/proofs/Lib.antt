@@ -1,1 +1,1 @@
-pub mod IntoLemmas
+pub mod CombineLemmas

@@ -1,10 +1,15 @@
+pub mod Combined
 pub mod Filled
+pub mod Filtered
 pub mod Fits
+pub mod Packed
 pub mod Place
+pub mod Ranked
 pub mod Taken
+pub mod Windows
+pub use Rattle.vb_bits.specs.Bits
 pub use Rattle.vb_bits.specs.InBytes
 pub use Rattle.vb_bits.specs.Kept
-pub use Rattle.vb_bits.specs.Bits
 pub use Rattle.vb_bits.specs.Operators
 pub use Rattle.vb_bits.specs.Runs
 pub use Rattle.vb_bits.specs.Writes

@@ -1,11 +1,14 @@
 -- How a call that takes bits answers.
-use Rattle.std.specs.Prelude.{◌≡◌, ℤ, true, false, Bool, List, Option}
+use Rattle.std.specs.Prelude.{◌≡◌, ℕ, ℤ, true, false, Bool, List, Option, length}
+use Rattle.vb_bits.specs.Bits.{bits}
+use Rattle.vb_bits.specs.Writes.{Writes}
 use Rattle.vb_take.specs.Takes.{IsTaken, IsFirstPast}
 use Rattle.vb_c.specs.declared.place.Place.{Place}
 
--- no place where each position takes a bit of the list, and these are the bits; else the first
--- position that takes none
+-- no place where each position takes a bit of the list, and these stand in front, one for each
+-- index; else the first position that takes none; behind those in front every bit is as before
 pub record Takes (l : List Bool) (indices : List ℤ) (validity : Option (List Bool))
-    (values : List Bool) (answer : Place) : Type 0 where
-  pub taken : answer.found ≡ false → IsTaken l indices validity values
+    (old new : List ℕ) (answer : Place) : Type 0 where
+  pub taken : answer.found ≡ false → IsTaken l indices validity (bits new 0 (length indices))
   pub past : answer.found ≡ true → IsFirstPast l indices validity answer.index
+  pub others : Writes old new 0 (bits new 0 (length indices))

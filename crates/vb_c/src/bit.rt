@@ -1,7 +1,7 @@
 //! One bit.
 ghost use Rattle.std.specs.Prelude.{◌≡◌, ◌*◌, ◌/◌, ◌<◌, length};
-ghost use Rattle.vb_c.specs.Fits.{Checks};
 ghost use Rattle.vb_bits.specs.Bits.{bit_of};
+ghost use Rattle.vb_c.specs.Fits.{Checks};
 
 /// Bit `i`, which has to lie in the bytes.
 #[unsafe(no_mangle)]

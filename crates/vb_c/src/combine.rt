@@ -1,21 +1,22 @@
-//! Windows combined by an operator.
-ghost use Rattle.std.specs.Prelude.{◌≡◌, ◌+◌, ◌*◌, ◌^◌, ◌<◌, ◌≤◌, length};
-ghost use Rattle.vb_bits.specs.InBytes.{InBytes};
-ghost use Rattle.vb_c.specs.Fits.{Checks};
+//! Windows combined by an operator, in place and into a third one.
+ghost use Rattle.std.specs.Prelude.{◌≡◌};
 ghost use Rattle.vb_bits.specs.Bits.{bits};
-ghost use Rattle.vb_bits.specs.Operators.{combined};
-ghost use Rattle.vb_bits.specs.Writes.{Writes};
+ghost use Rattle.vb_c.specs.Combined.{Combines};
+ghost use Rattle.vb_c.specs.Fits.{Checks};
+ghost use Rattle.vb_c.specs.Windows.{AllInBytes, BothInBytes};
 
-use vb_bits::{BitOp, window_fits, zip_words};
+use vb_bits::{BitOp, copy_bits, window_fits, zip_words};
+
+/// How many bits are combined before the next ones are copied: few enough that the bytes of a
+/// block stay near the processor in between.
+const BLOCK: usize = 32_768;
 
 /// Makes each of the `len` bits of `dst` from bit `d` on true exactly where it is true and that of
 /// `src` from bit `s` on is, and leaves every other bit of `dst`. The two may not overlap.
 #[unsafe(no_mangle)]
 pub extern "C" fn vb_and_bits(dst: &mut [u8], d: usize, src: &[u8], s: usize, len: usize)
-    requires into { InBytes dst.old d len }
-    requires from { InBytes src.now s len }
-    ensures { Writes dst.old dst.new d
-        (combined BitOp.And (bits dst.old d len) (bits src.now s len)) }
+    requires { BothInBytes dst.old d src.now s len }
+    ensures { Combines BitOp.And dst.old dst.new d (bits dst.old d len) (bits src.now s len) }
 {
     zip_words(dst, d, src, s, len, BitOp::And);
 }
@@ -24,22 +25,18 @@ pub extern "C" fn vb_and_bits(dst: &mut [u8], d: usize, src: &[u8], s: usize, le
 /// `src` from bit `s` on is, and leaves every other bit of `dst`. The two may not overlap.
 #[unsafe(no_mangle)]
 pub extern "C" fn vb_or_bits(dst: &mut [u8], d: usize, src: &[u8], s: usize, len: usize)
-    requires into { InBytes dst.old d len }
-    requires from { InBytes src.now s len }
-    ensures { Writes dst.old dst.new d
-        (combined BitOp.Or (bits dst.old d len) (bits src.now s len)) }
+    requires { BothInBytes dst.old d src.now s len }
+    ensures { Combines BitOp.Or dst.old dst.new d (bits dst.old d len) (bits src.now s len) }
 {
     zip_words(dst, d, src, s, len, BitOp::Or);
 }
 
-/// Makes each of the `len` bits of `dst` from bit `d` on true exactly where one of it and that of
-/// `src` from bit `s` on is, and leaves every other bit of `dst`. The two may not overlap.
+/// Makes each of the `len` bits of `dst` from bit `d` on true exactly where it is another than that
+/// of `src` from bit `s` on, and leaves every other bit of `dst`. The two may not overlap.
 #[unsafe(no_mangle)]
 pub extern "C" fn vb_xor_bits(dst: &mut [u8], d: usize, src: &[u8], s: usize, len: usize)
-    requires into { InBytes dst.old d len }
-    requires from { InBytes src.now s len }
-    ensures { Writes dst.old dst.new d
-        (combined BitOp.Xor (bits dst.old d len) (bits src.now s len)) }
+    requires { BothInBytes dst.old d src.now s len }
+    ensures { Combines BitOp.Xor dst.old dst.new d (bits dst.old d len) (bits src.now s len) }
 {
     zip_words(dst, d, src, s, len, BitOp::Xor);
 }
@@ -48,16 +45,13 @@ pub extern "C" fn vb_xor_bits(dst: &mut [u8], d: usize, src: &[u8], s: usize, le
 /// `src` from bit `s` on isn't, and leaves every other bit of `dst`. The two may not overlap.
 #[unsafe(no_mangle)]
 pub extern "C" fn vb_and_not_bits(dst: &mut [u8], d: usize, src: &[u8], s: usize, len: usize)
-    requires into { InBytes dst.old d len }
-    requires from { InBytes src.now s len }
-    ensures { Writes dst.old dst.new d
-        (combined BitOp.AndNot (bits dst.old d len) (bits src.now s len)) }
+    requires { BothInBytes dst.old d src.now s len }
+    ensures { Combines BitOp.AndNot dst.old dst.new d (bits dst.old d len) (bits src.now s len) }
 {
     zip_words(dst, d, src, s, len, BitOp::AndNot);
 }
 
-/// Whether both windows lie in their bytes; then [`vb_and_bits`] is done, and else `dst` is as it
-/// was.
+/// Whether both windows lie in their bytes; [`vb_and_bits`] is then done, else nothing.
 #[unsafe(no_mangle)]
 pub extern "C" fn vb_try_and_bits(
     dst: &mut [u8],
@@ -66,9 +60,8 @@ pub extern "C" fn vb_try_and_bits(
     s: usize,
     len: usize,
 ) -> bool
-    ensures { Checks (InBytes dst.old d len × InBytes src.now s len)
-        (Writes dst.old dst.new d
-        (combined BitOp.And (bits dst.old d len) (bits src.now s len)))
+    ensures { Checks (BothInBytes dst.old d src.now s len)
+        (Combines BitOp.And dst.old dst.new d (bits dst.old d len) (bits src.now s len))
         (dst.new ≡ dst.old) result }
 {
     if !window_fits(dst, d, len) || !window_fits(src, s, len) {
@@ -78,13 +71,11 @@ pub extern "C" fn vb_try_and_bits(
     true
 }
 
-/// Whether both windows lie in their bytes; then [`vb_or_bits`] is done, and else `dst` is as it
-/// was.
+/// Whether both windows lie in their bytes; [`vb_or_bits`] is then done, else nothing.
 #[unsafe(no_mangle)]
 pub extern "C" fn vb_try_or_bits(dst: &mut [u8], d: usize, src: &[u8], s: usize, len: usize) -> bool
-    ensures { Checks (InBytes dst.old d len × InBytes src.now s len)
-        (Writes dst.old dst.new d
-        (combined BitOp.Or (bits dst.old d len) (bits src.now s len)))
+    ensures { Checks (BothInBytes dst.old d src.now s len)
+        (Combines BitOp.Or dst.old dst.new d (bits dst.old d len) (bits src.now s len))
         (dst.new ≡ dst.old) result }
 {
     if !window_fits(dst, d, len) || !window_fits(src, s, len) {
@@ -94,8 +85,7 @@ pub extern "C" fn vb_try_or_bits(dst: &mut [u8], d: usize, src: &[u8], s: usize,
     true
 }
 
-/// Whether both windows lie in their bytes; then [`vb_xor_bits`] is done, and else `dst` is as it
-/// was.
+/// Whether both windows lie in their bytes; [`vb_xor_bits`] is then done, else nothing.
 #[unsafe(no_mangle)]
 pub extern "C" fn vb_try_xor_bits(
     dst: &mut [u8],
@@ -104,9 +94,8 @@ pub extern "C" fn vb_try_xor_bits(
     s: usize,
     len: usize,
 ) -> bool
-    ensures { Checks (InBytes dst.old d len × InBytes src.now s len)
-        (Writes dst.old dst.new d
-        (combined BitOp.Xor (bits dst.old d len) (bits src.now s len)))
+    ensures { Checks (BothInBytes dst.old d src.now s len)
+        (Combines BitOp.Xor dst.old dst.new d (bits dst.old d len) (bits src.now s len))
         (dst.new ≡ dst.old) result }
 {
     if !window_fits(dst, d, len) || !window_fits(src, s, len) {
@@ -116,8 +105,7 @@ pub extern "C" fn vb_try_xor_bits(
     true
 }
 
-/// Whether both windows lie in their bytes; then [`vb_and_not_bits`] is done, and else `dst` is as
-/// it was.
+/// Whether both windows lie in their bytes; [`vb_and_not_bits`] is then done, else nothing.
 #[unsafe(no_mangle)]
 pub extern "C" fn vb_try_and_not_bits(
     dst: &mut [u8],
@@ -126,9 +114,8 @@ pub extern "C" fn vb_try_and_not_bits(
     s: usize,
     len: usize,
 ) -> bool
-    ensures { Checks (InBytes dst.old d len × InBytes src.now s len)
-        (Writes dst.old dst.new d
-        (combined BitOp.AndNot (bits dst.old d len) (bits src.now s len)))
+    ensures { Checks (BothInBytes dst.old d src.now s len)
+        (Combines BitOp.AndNot dst.old dst.new d (bits dst.old d len) (bits src.now s len))
         (dst.new ≡ dst.old) result }
 {
     if !window_fits(dst, d, len) || !window_fits(src, s, len) {
@@ -136,4 +123,191 @@ pub extern "C" fn vb_try_and_not_bits(
     }
     vb_and_not_bits(dst, d, src, s, len);
     true
+}
+
+/// Makes each of the `len` bits of `out` from bit `o` on true exactly where that of `left` from bit
+/// `l` on is true and that of `right` from bit `r` on is, and leaves every other bit of `out`. It
+/// may overlap neither of the two.
+#[unsafe(no_mangle)]
+pub extern "C" fn vb_and_into(
+    out: &mut [u8],
+    o: usize,
+    left: &[u8],
+    l: usize,
+    right: &[u8],
+    r: usize,
+    len: usize,
+)
+    requires { AllInBytes out.old o left.now l right.now r len }
+    ensures { Combines BitOp.And out.old out.new o (bits left.now l len) (bits right.now r len) }
+{
+    combine_into(out, o, left, l, right, r, len, BitOp::And);
+}
+
+/// Makes each of the `len` bits of `out` from bit `o` on true exactly where that of `left` from bit
+/// `l` on is true, or that of `right` from bit `r` on, or both, and leaves every other bit of
+/// `out`. It may overlap neither of the two.
+#[unsafe(no_mangle)]
+pub extern "C" fn vb_or_into(
+    out: &mut [u8],
+    o: usize,
+    left: &[u8],
+    l: usize,
+    right: &[u8],
+    r: usize,
+    len: usize,
+)
+    requires { AllInBytes out.old o left.now l right.now r len }
+    ensures { Combines BitOp.Or out.old out.new o (bits left.now l len) (bits right.now r len) }
+{
+    combine_into(out, o, left, l, right, r, len, BitOp::Or);
+}
+
+/// Makes each of the `len` bits of `out` from bit `o` on true exactly where that of `left` from bit
+/// `l` on is another than that of `right` from bit `r` on, and leaves every other bit of `out`. It
+/// may overlap neither of the two.
+#[unsafe(no_mangle)]
+pub extern "C" fn vb_xor_into(
+    out: &mut [u8],
+    o: usize,
+    left: &[u8],
+    l: usize,
+    right: &[u8],
+    r: usize,
+    len: usize,
+)
+    requires { AllInBytes out.old o left.now l right.now r len }
+    ensures { Combines BitOp.Xor out.old out.new o (bits left.now l len) (bits right.now r len) }
+{
+    combine_into(out, o, left, l, right, r, len, BitOp::Xor);
+}
+
+/// Makes each of the `len` bits of `out` from bit `o` on true exactly where that of `left` from bit
+/// `l` on is true and that of `right` from bit `r` on isn't, and leaves every other bit of `out`.
+/// It may overlap neither of the two.
+#[unsafe(no_mangle)]
+pub extern "C" fn vb_and_not_into(
+    out: &mut [u8],
+    o: usize,
+    left: &[u8],
+    l: usize,
+    right: &[u8],
+    r: usize,
+    len: usize,
+)
+    requires { AllInBytes out.old o left.now l right.now r len }
+    ensures { Combines BitOp.AndNot out.old out.new o (bits left.now l len) (bits right.now r len) }
+{
+    combine_into(out, o, left, l, right, r, len, BitOp::AndNot);
+}
+
+/// Whether the three windows lie in their bytes; [`vb_and_into`] is then done, else nothing.
+#[unsafe(no_mangle)]
+pub extern "C" fn vb_try_and_into(
+    out: &mut [u8],
+    o: usize,
+    left: &[u8],
+    l: usize,
+    right: &[u8],
+    r: usize,
+    len: usize,
+) -> bool
+    ensures { Checks (AllInBytes out.old o left.now l right.now r len)
+        (Combines BitOp.And out.old out.new o (bits left.now l len) (bits right.now r len))
+        (out.new ≡ out.old) result }
+{
+    if !window_fits(out, o, len) || !window_fits(left, l, len) || !window_fits(right, r, len) {
+        return false;
+    }
+    vb_and_into(out, o, left, l, right, r, len);
+    true
+}
+
+/// Whether the three windows lie in their bytes; [`vb_or_into`] is then done, else nothing.
+#[unsafe(no_mangle)]
+pub extern "C" fn vb_try_or_into(
+    out: &mut [u8],
+    o: usize,
+    left: &[u8],
+    l: usize,
+    right: &[u8],
+    r: usize,
+    len: usize,
+) -> bool
+    ensures { Checks (AllInBytes out.old o left.now l right.now r len)
+        (Combines BitOp.Or out.old out.new o (bits left.now l len) (bits right.now r len))
+        (out.new ≡ out.old) result }
+{
+    if !window_fits(out, o, len) || !window_fits(left, l, len) || !window_fits(right, r, len) {
+        return false;
+    }
+    vb_or_into(out, o, left, l, right, r, len);
+    true
+}
+
+/// Whether the three windows lie in their bytes; [`vb_xor_into`] is then done, else nothing.
+#[unsafe(no_mangle)]
+pub extern "C" fn vb_try_xor_into(
+    out: &mut [u8],
+    o: usize,
+    left: &[u8],
+    l: usize,
+    right: &[u8],
+    r: usize,
+    len: usize,
+) -> bool
+    ensures { Checks (AllInBytes out.old o left.now l right.now r len)
+        (Combines BitOp.Xor out.old out.new o (bits left.now l len) (bits right.now r len))
+        (out.new ≡ out.old) result }
+{
+    if !window_fits(out, o, len) || !window_fits(left, l, len) || !window_fits(right, r, len) {
+        return false;
+    }
+    vb_xor_into(out, o, left, l, right, r, len);
+    true
+}
+
+/// Whether the three windows lie in their bytes; [`vb_and_not_into`] is then done, else nothing.
+#[unsafe(no_mangle)]
+pub extern "C" fn vb_try_and_not_into(
+    out: &mut [u8],
+    o: usize,
+    left: &[u8],
+    l: usize,
+    right: &[u8],
+    r: usize,
+    len: usize,
+) -> bool
+    ensures { Checks (AllInBytes out.old o left.now l right.now r len)
+        (Combines BitOp.AndNot out.old out.new o (bits left.now l len) (bits right.now r len))
+        (out.new ≡ out.old) result }
+{
+    if !window_fits(out, o, len) || !window_fits(left, l, len) || !window_fits(right, r, len) {
+        return false;
+    }
+    vb_and_not_into(out, o, left, l, right, r, len);
+    true
+}
+
+/// Combines the two windows into that of `out` by `op`, a block at a time.
+fn combine_into(
+    out: &mut [u8],
+    o: usize,
+    left: &[u8],
+    l: usize,
+    right: &[u8],
+    r: usize,
+    len: usize,
+    op: BitOp,
+)
+    requires { AllInBytes out.old o left.now l right.now r len }
+    ensures { Combines op out.old out.new o (bits left.now l len) (bits right.now r len) }
+{
+    let mut done = 0;
+    while done < len {
+        let block = (len - done).min(BLOCK);
+        copy_bits(out, o + done, left, l + done, block);
+        zip_words(out, o + done, right, r + done, block, op);
+        done += block;
+    }
 }

@@ -1,8 +1,8 @@
 //! How many bits are true.
-ghost use Rattle.std.specs.Prelude.{◌≡◌, ◌+◌, ◌*◌, ◌^◌, ◌<◌, ◌≤◌, length};
+ghost use Rattle.std.specs.Prelude.{◌≡◌};
+ghost use Rattle.vb_bits.specs.Bits.{bits, count};
 ghost use Rattle.vb_bits.specs.InBytes.{InBytes};
 ghost use Rattle.vb_c.specs.Fits.{Checks};
-ghost use Rattle.vb_bits.specs.Bits.{bits, count};
 
 /// How many of the `len` bits from bit `offset` on are true. The window is read once, 64 bytes at a
 /// time.

@@ -1,15 +1,14 @@
 //! Windows compared.
-ghost use Rattle.std.specs.Prelude.{◌≡◌, ◌+◌, ◌*◌, ◌^◌, ◌<◌, ◌≤◌, ◌↔◌, length, IsTrue};
-ghost use Rattle.vb_bits.specs.InBytes.{InBytes};
-ghost use Rattle.vb_c.specs.Fits.{Checks};
+ghost use Rattle.std.specs.Prelude.{◌≡◌, ◌↔◌, IsTrue};
 ghost use Rattle.vb_bits.specs.Bits.{bits};
+ghost use Rattle.vb_c.specs.Fits.{Checks};
+ghost use Rattle.vb_c.specs.Windows.{BothInBytes};
 
 /// Whether the `len` bits of `left` from bit `l` on are those of `right` from bit `r` on. No block
 /// of 512 bytes behind the first difference is read.
 #[unsafe(no_mangle)]
 pub extern "C" fn vb_equal_bits(left: &[u8], l: usize, right: &[u8], r: usize, len: usize) -> bool
-    requires left { InBytes left.now l len }
-    requires right { InBytes right.now r len }
+    requires { BothInBytes left.now l right.now r len }
     ensures { IsTrue result ↔ (bits left.now l len ≡ bits right.now r len) }
 {
     vb_bits::equal_bits(left, l, right, r, len)
@@ -25,7 +24,7 @@ pub extern "C" fn vb_try_equal_bits(
     len: usize,
     equal: &mut bool,
 ) -> bool
-    ensures { Checks (InBytes left.now l len × InBytes right.now r len)
+    ensures { Checks (BothInBytes left.now l right.now r len)
         (IsTrue equal.new ↔ (bits left.now l len ≡ bits right.now r len))
         (equal.new ≡ equal.old) result }
 {

@@ -1,10 +1,9 @@
 //! Bits and values that a mask keeps.
-ghost use Rattle.std.specs.Prelude.{◌≡◌, ◌*◌, ◌≤◌, ◌↔◌, ◌++◌, IsTrue, length, drop};
+ghost use Rattle.std.specs.Prelude.{◌≡◌, ◌*◌, length};
+ghost use Rattle.vb_bits.specs.Bits.{bits};
 ghost use Rattle.vb_bits.specs.InBytes.{InBytes};
-ghost use Rattle.vb_bits.specs.Kept.{kept};
+ghost use Rattle.vb_c.specs.Filtered.{Filters, FiltersBits, HasRoom};
 ghost use Rattle.vb_c.specs.Fits.{Checks};
-ghost use Rattle.vb_bits.specs.Bits.{bits, count};
-ghost use Rattle.vb_bits.specs.Writes.{Writes};
 
 use vb_bits::window_fits;
 use vb_filter::{filter_into, filter_values_into};
@@ -34,10 +33,8 @@ pub extern "C" fn vb_filter_bits(
     len: usize,
 ) -> usize
     requires values { InBytes values.now v len }
-    requires mask { InBytes mask.now m len }
-    requires room { count (bits mask.now m len) ≤ 8 * length out.old }
-    ensures count { result ≡ count (bits mask.now m len) }
-    ensures kept { Writes out.old out.new 0 (kept (bits mask.now m len) (bits values.now v len)) }
+    requires mask { HasRoom mask.now m len (8 * length out.old) }
+    ensures { FiltersBits (bits mask.now m len) (bits values.now v len) out.old out.new result }
 {
     filter_into(
         out,
@@ -58,11 +55,8 @@ pub extern "C" fn vb_try_filter_bits(
     len: usize,
     written: &mut usize,
 ) -> bool
-    ensures { Checks
-        (InBytes values.now v len × InBytes mask.now m len
-        × (count (bits mask.now m len) ≤ 8 * length out.old))
-        ((written.new ≡ count (bits mask.now m len))
-        × Writes out.old out.new 0 (kept (bits mask.now m len) (bits values.now v len)))
+    ensures { Checks (InBytes values.now v len × HasRoom mask.now m len (8 * length out.old))
+        (FiltersBits (bits mask.now m len) (bits values.now v len) out.old out.new written.new)
         ((out.new ≡ out.old) × (written.new ≡ written.old)) result }
 {
     if !window_fits(values, v, len)
@@ -80,18 +74,14 @@ pub extern "C" fn vb_try_filter_bits(
 /// behind them stay.
 #[unsafe(no_mangle)]
 pub extern "C" fn vb_filter_u8(out: &mut [u8], values: &[u8], mask: &[u8], m: usize) -> usize
-    requires mask { InBytes mask.now m (length values.now) }
-    requires room { count (bits mask.now m (length values.now)) ≤ length out.old }
-    ensures count { result ≡ count (bits mask.now m (length values.now)) }
-    ensures kept { out.new ≡ kept (bits mask.now m (length values.now)) values.now
-        ++ drop result out.old }
+    requires { HasRoom mask.now m (length values.now) (length out.old) }
+    ensures { Filters (bits mask.now m (length values.now)) values.now out.old out.new result }
 {
     filter_values(out, values, mask, m)
 }
 
-/// Whether a mask of as many bits as there are values lies in its bytes, and `out` has room for the
-/// values that are kept; `written` is then what [`vb_filter_u8`] answers, and else all is as it
-/// was.
+/// Whether the mask has a bit for each value in its bytes, and `out` room for those that it keeps;
+/// `written` is then what [`vb_filter_u8`] answers, and else all is as it was.
 #[unsafe(no_mangle)]
 pub extern "C" fn vb_try_filter_u8(
     out: &mut [u8],
@@ -100,19 +90,11 @@ pub extern "C" fn vb_try_filter_u8(
     m: usize,
     written: &mut usize,
 ) -> bool
-    ensures { Checks
-        (InBytes mask.now m (length values.now)
-        × (count (bits mask.now m (length values.now)) ≤ length out.old))
-        ((written.new ≡ count (bits mask.now m (length values.now)))
-        × (out.new ≡ kept (bits mask.now m (length values.now)) values.now
-        ++ drop written.new out.old))
+    ensures { Checks (HasRoom mask.now m (length values.now) (length out.old))
+        (Filters (bits mask.now m (length values.now)) values.now out.old out.new written.new)
         ((out.new ≡ out.old) × (written.new ≡ written.old)) result }
 {
-    if !can_filter(mask, m, values.len(), out.len()) {
-        return false;
-    }
-    *written = vb_filter_u8(out, values, mask, m);
-    true
+    try_filter_values(out, values, mask, m, written)
 }
 
 /// Writes those of the values, of two bytes each, whose bit of `mask` from bit `m` on is true, in
@@ -120,18 +102,14 @@ pub extern "C" fn vb_try_filter_u8(
 /// The items of `out` behind them stay.
 #[unsafe(no_mangle)]
 pub extern "C" fn vb_filter_u16(out: &mut [u16], values: &[u16], mask: &[u8], m: usize) -> usize
-    requires mask { InBytes mask.now m (length values.now) }
-    requires room { count (bits mask.now m (length values.now)) ≤ length out.old }
-    ensures count { result ≡ count (bits mask.now m (length values.now)) }
-    ensures kept { out.new ≡ kept (bits mask.now m (length values.now)) values.now
-        ++ drop result out.old }
+    requires { HasRoom mask.now m (length values.now) (length out.old) }
+    ensures { Filters (bits mask.now m (length values.now)) values.now out.old out.new result }
 {
     filter_values(out, values, mask, m)
 }
 
-/// Whether a mask of as many bits as there are values lies in its bytes, and `out` has room for the
-/// values that are kept; `written` is then what [`vb_filter_u16`] answers, and else all is as it
-/// was.
+/// Whether the mask has a bit for each value in its bytes, and `out` room for those that it keeps;
+/// `written` is then what [`vb_filter_u16`] answers, and else all is as it was.
 #[unsafe(no_mangle)]
 pub extern "C" fn vb_try_filter_u16(
     out: &mut [u16],
@@ -140,19 +118,11 @@ pub extern "C" fn vb_try_filter_u16(
     m: usize,
     written: &mut usize,
 ) -> bool
-    ensures { Checks
-        (InBytes mask.now m (length values.now)
-        × (count (bits mask.now m (length values.now)) ≤ length out.old))
-        ((written.new ≡ count (bits mask.now m (length values.now)))
-        × (out.new ≡ kept (bits mask.now m (length values.now)) values.now
-        ++ drop written.new out.old))
+    ensures { Checks (HasRoom mask.now m (length values.now) (length out.old))
+        (Filters (bits mask.now m (length values.now)) values.now out.old out.new written.new)
         ((out.new ≡ out.old) × (written.new ≡ written.old)) result }
 {
-    if !can_filter(mask, m, values.len(), out.len()) {
-        return false;
-    }
-    *written = vb_filter_u16(out, values, mask, m);
-    true
+    try_filter_values(out, values, mask, m, written)
 }
 
 /// Writes those of the values, of four bytes each, whose bit of `mask` from bit `m` on is true, in
@@ -160,18 +130,14 @@ pub extern "C" fn vb_try_filter_u16(
 /// The items of `out` behind them stay.
 #[unsafe(no_mangle)]
 pub extern "C" fn vb_filter_u32(out: &mut [u32], values: &[u32], mask: &[u8], m: usize) -> usize
-    requires mask { InBytes mask.now m (length values.now) }
-    requires room { count (bits mask.now m (length values.now)) ≤ length out.old }
-    ensures count { result ≡ count (bits mask.now m (length values.now)) }
-    ensures kept { out.new ≡ kept (bits mask.now m (length values.now)) values.now
-        ++ drop result out.old }
+    requires { HasRoom mask.now m (length values.now) (length out.old) }
+    ensures { Filters (bits mask.now m (length values.now)) values.now out.old out.new result }
 {
     filter_values(out, values, mask, m)
 }
 
-/// Whether a mask of as many bits as there are values lies in its bytes, and `out` has room for the
-/// values that are kept; `written` is then what [`vb_filter_u32`] answers, and else all is as it
-/// was.
+/// Whether the mask has a bit for each value in its bytes, and `out` room for those that it keeps;
+/// `written` is then what [`vb_filter_u32`] answers, and else all is as it was.
 #[unsafe(no_mangle)]
 pub extern "C" fn vb_try_filter_u32(
     out: &mut [u32],
@@ -180,19 +146,11 @@ pub extern "C" fn vb_try_filter_u32(
     m: usize,
     written: &mut usize,
 ) -> bool
-    ensures { Checks
-        (InBytes mask.now m (length values.now)
-        × (count (bits mask.now m (length values.now)) ≤ length out.old))
-        ((written.new ≡ count (bits mask.now m (length values.now)))
-        × (out.new ≡ kept (bits mask.now m (length values.now)) values.now
-        ++ drop written.new out.old))
+    ensures { Checks (HasRoom mask.now m (length values.now) (length out.old))
+        (Filters (bits mask.now m (length values.now)) values.now out.old out.new written.new)
         ((out.new ≡ out.old) × (written.new ≡ written.old)) result }
 {
-    if !can_filter(mask, m, values.len(), out.len()) {
-        return false;
-    }
-    *written = vb_filter_u32(out, values, mask, m);
-    true
+    try_filter_values(out, values, mask, m, written)
 }
 
 /// Writes those of the values, of eight bytes each, whose bit of `mask` from bit `m` on is true, in
@@ -200,18 +158,14 @@ pub extern "C" fn vb_try_filter_u32(
 /// The items of `out` behind them stay.
 #[unsafe(no_mangle)]
 pub extern "C" fn vb_filter_u64(out: &mut [u64], values: &[u64], mask: &[u8], m: usize) -> usize
-    requires mask { InBytes mask.now m (length values.now) }
-    requires room { count (bits mask.now m (length values.now)) ≤ length out.old }
-    ensures count { result ≡ count (bits mask.now m (length values.now)) }
-    ensures kept { out.new ≡ kept (bits mask.now m (length values.now)) values.now
-        ++ drop result out.old }
+    requires { HasRoom mask.now m (length values.now) (length out.old) }
+    ensures { Filters (bits mask.now m (length values.now)) values.now out.old out.new result }
 {
     filter_values(out, values, mask, m)
 }
 
-/// Whether a mask of as many bits as there are values lies in its bytes, and `out` has room for the
-/// values that are kept; `written` is then what [`vb_filter_u64`] answers, and else all is as it
-/// was.
+/// Whether the mask has a bit for each value in its bytes, and `out` room for those that it keeps;
+/// `written` is then what [`vb_filter_u64`] answers, and else all is as it was.
 #[unsafe(no_mangle)]
 pub extern "C" fn vb_try_filter_u64(
     out: &mut [u64],
@@ -220,19 +174,11 @@ pub extern "C" fn vb_try_filter_u64(
     m: usize,
     written: &mut usize,
 ) -> bool
-    ensures { Checks
-        (InBytes mask.now m (length values.now)
-        × (count (bits mask.now m (length values.now)) ≤ length out.old))
-        ((written.new ≡ count (bits mask.now m (length values.now)))
-        × (out.new ≡ kept (bits mask.now m (length values.now)) values.now
-        ++ drop written.new out.old))
+    ensures { Checks (HasRoom mask.now m (length values.now) (length out.old))
+        (Filters (bits mask.now m (length values.now)) values.now out.old out.new written.new)
         ((out.new ≡ out.old) × (written.new ≡ written.old)) result }
 {
-    if !can_filter(mask, m, values.len(), out.len()) {
-        return false;
-    }
-    *written = vb_filter_u64(out, values, mask, m);
-    true
+    try_filter_values(out, values, mask, m, written)
 }
 
 /// Writes those of the values, of 16 bytes each, whose bit of `mask` from bit `m` on is true, in
@@ -240,18 +186,14 @@ pub extern "C" fn vb_try_filter_u64(
 /// The items of `out` behind them stay.
 #[unsafe(no_mangle)]
 pub extern "C" fn vb_filter_u128(out: &mut [Wide], values: &[Wide], mask: &[u8], m: usize) -> usize
-    requires mask { InBytes mask.now m (length values.now) }
-    requires room { count (bits mask.now m (length values.now)) ≤ length out.old }
-    ensures count { result ≡ count (bits mask.now m (length values.now)) }
-    ensures kept { out.new ≡ kept (bits mask.now m (length values.now)) values.now
-        ++ drop result out.old }
+    requires { HasRoom mask.now m (length values.now) (length out.old) }
+    ensures { Filters (bits mask.now m (length values.now)) values.now out.old out.new result }
 {
     filter_values(out, values, mask, m)
 }
 
-/// Whether a mask of as many bits as there are values lies in its bytes, and `out` has room for the
-/// values that are kept; `written` is then what [`vb_filter_u128`] answers, and else all is as it
-/// was.
+/// Whether the mask has a bit for each value in its bytes, and `out` room for those that it keeps;
+/// `written` is then what [`vb_filter_u128`] answers, and else all is as it was.
 #[unsafe(no_mangle)]
 pub extern "C" fn vb_try_filter_u128(
     out: &mut [Wide],
@@ -260,38 +202,39 @@ pub extern "C" fn vb_try_filter_u128(
     m: usize,
     written: &mut usize,
 ) -> bool
-    ensures { Checks
-        (InBytes mask.now m (length values.now)
-        × (count (bits mask.now m (length values.now)) ≤ length out.old))
-        ((written.new ≡ count (bits mask.now m (length values.now)))
-        × (out.new ≡ kept (bits mask.now m (length values.now)) values.now
-        ++ drop written.new out.old))
+    ensures { Checks (HasRoom mask.now m (length values.now) (length out.old))
+        (Filters (bits mask.now m (length values.now)) values.now out.old out.new written.new)
         ((out.new ≡ out.old) × (written.new ≡ written.old)) result }
 {
-    if !can_filter(mask, m, values.len(), out.len()) {
-        return false;
-    }
-    *written = vb_filter_u128(out, values, mask, m);
-    true
+    try_filter_values(out, values, mask, m, written)
 }
 
 /// Writes those of the values whose bit of `mask` from bit `m` on is true to the front of `out`,
 /// and answers how many they are.
 fn filter_values<T: Copy>(out: &mut [T], values: &[T], mask: &[u8], m: usize) -> usize
-    requires mask { InBytes mask.now m (length values.now) }
-    requires room { count (bits mask.now m (length values.now)) ≤ length out.old }
-    ensures count { result ≡ count (bits mask.now m (length values.now)) }
-    ensures kept { out.new ≡ kept (bits mask.now m (length values.now)) values.now
-        ++ drop result out.old }
+    requires { HasRoom mask.now m (length values.now) (length out.old) }
+    ensures { Filters (bits mask.now m (length values.now)) values.now out.old out.new result }
 {
     let mask = BitBufferView::new_with_offset(mask, values.len(), m);
     filter_values_into(out, values, mask)
 }
 
-/// Whether the `len` bits of `mask` from bit `m` on lie in their bytes, and no more of them are
-/// true than there is `room` for.
-fn can_filter(mask: &[u8], m: usize, len: usize, room: usize) -> bool
-    ensures { IsTrue result ↔ (InBytes mask.now m len × (count (bits mask.now m len) ≤ room)) }
+/// Whether the mask has a bit for each value in its bytes, and `out` room for those that it keeps;
+/// `written` is then what [`filter_values`] answers, and else all is as it was.
+fn try_filter_values<T: Copy>(
+    out: &mut [T],
+    values: &[T],
+    mask: &[u8],
+    m: usize,
+    written: &mut usize,
+) -> bool
+    ensures { Checks (HasRoom mask.now m (length values.now) (length out.old))
+        (Filters (bits mask.now m (length values.now)) values.now out.old out.new written.new)
+        ((out.new ≡ out.old) × (written.new ≡ written.old)) result }
 {
-    window_fits(mask, m, len) && count_ones(mask, m, len) <= room
+    if !window_fits(mask, m, values.len()) || out.len() < count_ones(mask, m, values.len()) {
+        return false;
+    }
+    *written = filter_values(out, values, mask, m);
+    true
 }

@@ -12,52 +12,15 @@
 //! everything as it was.
 #![tactic(auto)]
 
-mod bit;
-mod combine;
-mod count;
-mod equal;
-mod filter;
-mod into;
-mod pack;
-mod place;
-mod rank;
-mod select;
-mod take;
-mod walk;
-mod write;
-
-pub use bit::{vb_get_bit, vb_try_get_bit};
-pub use combine::{
-    vb_and_bits, vb_and_not_bits, vb_or_bits, vb_try_and_bits, vb_try_and_not_bits, vb_try_or_bits,
-    vb_try_xor_bits, vb_xor_bits,
-};
-pub use count::{vb_count_ones, vb_try_count_ones};
-pub use equal::{vb_equal_bits, vb_try_equal_bits};
-pub use filter::{
-    Wide, vb_filter_bits, vb_filter_u8, vb_filter_u16, vb_filter_u32, vb_filter_u64,
-    vb_filter_u128, vb_try_filter_bits, vb_try_filter_u8, vb_try_filter_u16, vb_try_filter_u32,
-    vb_try_filter_u64, vb_try_filter_u128,
-};
-pub use into::{
-    vb_and_into, vb_and_not_into, vb_or_into, vb_try_and_into, vb_try_and_not_into, vb_try_or_into,
-    vb_try_xor_into, vb_xor_into,
-};
-pub use pack::{vb_pack_bools, vb_pack_truthy, vb_try_pack_bools, vb_try_pack_truthy};
-pub use place::Place;
-pub use rank::{
-    vb_block_counts, vb_rank, vb_ranked_select, vb_ranked_select_unset, vb_try_block_counts,
-    vb_try_rank, vb_try_ranked_select, vb_try_ranked_select_unset,
-};
-pub use select::{
-    vb_bit_select, vb_bit_select_unset, vb_last_set_index, vb_try_bit_select,
-    vb_try_bit_select_unset, vb_try_last_set_index,
-};
-pub use take::{
-    vb_take_u32, vb_take_u64, vb_take_valid_u32, vb_take_valid_u64, vb_try_take_u32,
-    vb_try_take_u64, vb_try_take_valid_u32, vb_try_take_valid_u64,
-};
-pub use walk::{Run, vb_set_indices, vb_set_slices, vb_try_set_indices, vb_try_set_slices};
-pub use write::{
-    vb_copy_bits, vb_fill_bits, vb_negate_bits, vb_try_copy_bits, vb_try_fill_bits,
-    vb_try_negate_bits,
-};
+pub mod bit;
+pub mod combine;
+pub mod count;
+pub mod equal;
+pub mod filter;
+pub mod pack;
+pub mod place;
+pub mod rank;
+pub mod select;
+pub mod take;
+pub mod walk;
+pub mod write;

@@ -17,12 +17,9 @@ impl From<Option<usize>> for Place {
     ghost from_gives = { λ place result. answered_place result ≡ place };
 
     fn from(place: Option<usize>) -> Self {
-        match place {
-            Some(index) => Place { found: true, index },
-            None => Place {
-                found: false,
-                index: 0,
-            },
+        Place {
+            found: place.is_some(),
+            index: place.unwrap_or(0),
         }
     }
 }

@@ -1,11 +1,12 @@
 //! Ranks, and places of ranks, over a table of counts that the caller keeps.
-ghost use Rattle.std.specs.Prelude.{◌≡◌, ◌+◌, ◌*◌, ◌^◌, ◌<◌, ◌≤◌, ◌↔◌, IsTrue, length, take};
+ghost use Rattle.std.specs.Prelude.{◌≡◌, ◌≤◌, ◌↔◌, IsTrue, take};
+ghost use Rattle.vb_bits.specs.Bits.{bits, count, negated, Selects};
 ghost use Rattle.vb_bits.specs.InBytes.{InBytes};
 ghost use Rattle.vb_c.specs.Fits.{Checks};
 ghost use Rattle.vb_c.specs.Place.{answered_place};
-ghost use Rattle.vb_bits.specs.Bits.{bits, count, negated, Selects};
+ghost use Rattle.vb_c.specs.Ranked.{HasTable};
 ghost use Rattle.vb_rank.specs.Fills.{Fills};
-ghost use Rattle.vb_rank.specs.Tables.{block_counts, blocks};
+ghost use Rattle.vb_rank.specs.Tables.{block_counts};
 
 use crate::place::Place;
 use vb_kernel::Plain;
@@ -58,19 +59,13 @@ pub extern "C" fn vb_rank(
     table: &[usize],
     i: usize,
 ) -> usize
-    requires window { InBytes bytes.now offset len }
-    requires size { length table.now ≡ blocks len }
+    requires table { HasTable bytes.now offset len table.now }
     requires within { i ≤ len }
     ensures { table.now ≡ block_counts (bits bytes.now offset len)
         → result ≡ count (take i (bits bytes.now offset len)) }
 {
-    vb_rank::rank_by(
-        &mut Plain::new(bytes),
-        offset,
-        len,
-        &mut PlainTable::new(table),
-        i,
-    )
+    let table = &mut PlainTable::new(table);
+    vb_rank::rank_by(&mut Plain::new(bytes), offset, len, table, i)
 }
 
 /// Whether the window lies in the bytes, the table has an entry a block, and `i` is at most `len`;
@@ -84,8 +79,7 @@ pub extern "C" fn vb_try_rank(
     i: usize,
     rank: &mut usize,
 ) -> bool
-    ensures { Checks
-        (InBytes bytes.now offset len × (length table.now ≡ blocks len) × (i ≤ len))
+    ensures { Checks (HasTable bytes.now offset len table.now × (i ≤ len))
         (table.now ≡ block_counts (bits bytes.now offset len)
         → rank.new ≡ count (take i (bits bytes.now offset len)))
         (rank.new ≡ rank.old) result }
@@ -108,8 +102,7 @@ pub extern "C" fn vb_ranked_select(
     table: &[usize],
     n: usize,
 ) -> Place
-    requires window { InBytes bytes.now offset len }
-    requires size { length table.now ≡ blocks len }
+    requires { HasTable bytes.now offset len table.now }
     ensures { table.now ≡ block_counts (bits bytes.now offset len)
         → Selects (bits bytes.now offset len) n (answered_place result) }
 {
@@ -128,7 +121,7 @@ pub extern "C" fn vb_try_ranked_select(
     n: usize,
     place: &mut Place,
 ) -> bool
-    ensures { Checks (InBytes bytes.now offset len × (length table.now ≡ blocks len))
+    ensures { Checks (HasTable bytes.now offset len table.now)
         (table.now ≡ block_counts (bits bytes.now offset len)
         → Selects (bits bytes.now offset len) n (answered_place place.new))
         (place.new ≡ place.old) result }
@@ -140,7 +133,9 @@ pub extern "C" fn vb_try_ranked_select(
     true
 }
 
-/// [`vb_ranked_select`] of the `n`-th false bit.
+/// The place of the `n`-th false bit of the window, counted from 0, if there is one: by halves of
+/// the table, and then within a block. The table has to have an entry a block; where it isn't that
+/// of [`vb_block_counts`], the place says nothing.
 #[unsafe(no_mangle)]
 pub extern "C" fn vb_ranked_select_unset(
     bytes: &[u8],
@@ -149,8 +144,7 @@ pub extern "C" fn vb_ranked_select_unset(
     table: &[usize],
     n: usize,
 ) -> Place
-    requires window { InBytes bytes.now offset len }
-    requires size { length table.now ≡ blocks len }
+    requires { HasTable bytes.now offset len table.now }
     ensures { table.now ≡ block_counts (bits bytes.now offset len)
         → Selects (negated (bits bytes.now offset len)) n (answered_place result) }
 {
@@ -169,7 +163,7 @@ pub extern "C" fn vb_try_ranked_select_unset(
     n: usize,
     place: &mut Place,
 ) -> bool
-    ensures { Checks (InBytes bytes.now offset len × (length table.now ≡ blocks len))
+    ensures { Checks (HasTable bytes.now offset len table.now)
         (table.now ≡ block_counts (bits bytes.now offset len)
         → Selects (negated (bits bytes.now offset len)) n (answered_place place.new))
         (place.new ≡ place.old) result }
@@ -183,7 +177,7 @@ pub extern "C" fn vb_try_ranked_select_unset(
 
 /// Whether the window lies in the bytes, and the table has an entry for each of its blocks.
 fn has_table(bytes: &[u8], offset: usize, len: usize, table: &[usize]) -> bool
-    ensures { IsTrue result ↔ (InBytes bytes.now offset len × (length table.now ≡ blocks len)) }
+    ensures { IsTrue result ↔ HasTable bytes.now offset len table.now }
 {
     vb_bits::window_fits(bytes, offset, len) && table.len() == len.div_ceil(512)
 }

@@ -1,10 +1,10 @@
 //! The places of bits.
-ghost use Rattle.std.specs.Prelude.{◌≡◌, ◌+◌, ◌*◌, ◌^◌, ◌<◌, ◌≤◌, length};
+ghost use Rattle.std.specs.Prelude.{◌≡◌};
+ghost use Rattle.vb_bits.specs.Bits.{bits, negated, Selects, AnswersEach};
 ghost use Rattle.vb_bits.specs.InBytes.{InBytes};
+ghost use Rattle.vb_bits.specs.Runs.{last_place};
 ghost use Rattle.vb_c.specs.Fits.{Checks};
 ghost use Rattle.vb_c.specs.Place.{answered_place};
-ghost use Rattle.vb_bits.specs.Bits.{bits, negated, Selects, AnswersEach};
-ghost use Rattle.vb_bits.specs.Runs.{last_place};
 
 use crate::place::Place;
 

@@ -1,14 +1,14 @@
 //! Bits taken at indices.
-ghost use Rattle.std.specs.Prelude.{◌≡◌, ◌+◌, ◌*◌, ◌^◌, ◌<◌, ◌≤◌, Some, None, length, map, pos};
+ghost use Rattle.std.specs.Prelude.{◌≡◌, ◌*◌, ◌≤◌, Some, None, length, map, pos};
 ghost use Rattle.std.specs.Option.{ForSome, option_map};
+ghost use Rattle.vb_bits.specs.Bits.{bits};
 ghost use Rattle.vb_bits.specs.InBytes.{InBytes};
 ghost use Rattle.vb_c.specs.Fits.{Checks};
 ghost use Rattle.vb_c.specs.Taken.{Takes};
-ghost use Rattle.vb_bits.specs.Bits.{bits};
-ghost use Rattle.vb_bits.specs.Writes.{Writes};
 ghost use Rattle.vb_view.specs.View.{bits_of};
 
 use crate::place::Place;
+use vb_bits::window_fits;
 use vb_core::BitIndex;
 use vb_view::BitBufferView;
 
@@ -26,20 +26,14 @@ pub extern "C" fn vb_take_u32(
 ) -> Place
     requires room { length indices.now ≤ 8 * length out.old }
     requires window { InBytes bytes.now offset len }
-    ensures taken { Takes (bits bytes.now offset len) (map pos indices.now) None
-        (bits out.new 0 (length indices.now)) result }
-    ensures others { Writes out.old out.new 0 (bits out.new 0 (length indices.now)) }
+    ensures { Takes (bits bytes.now offset len) (map pos indices.now) None out.old out.new result }
 {
-    take(
-        out,
-        BitBufferView::new_with_offset(bytes, len, offset),
-        indices,
-        None,
-    )
+    let window = BitBufferView::new_with_offset(bytes, len, offset);
+    take(out, window, indices, None)
 }
 
-/// Whether the window lies in the bytes, and `out` has room for a bit an index; `past` is then
-/// what [`vb_take_u32`] answers, and else all is as it was.
+/// Whether the window lies in the bytes, and `out` has room for a bit an index; `past` is then what
+/// [`vb_take_u32`] answers, and else all is as it was.
 #[unsafe(no_mangle)]
 pub extern "C" fn vb_try_take_u32(
     out: &mut [u8],
@@ -49,22 +43,22 @@ pub extern "C" fn vb_try_take_u32(
     indices: &[u32],
     past: &mut Place,
 ) -> bool
-    ensures { Checks
-        ((length indices.now ≤ 8 * length out.old) × InBytes bytes.now offset len)
-        (Takes (bits bytes.now offset len) (map pos indices.now) None
-        (bits out.new 0 (length indices.now)) past.new
-        × Writes out.old out.new 0 (bits out.new 0 (length indices.now)))
+    ensures { Checks ((length indices.now ≤ 8 * length out.old) × InBytes bytes.now offset len)
+        (Takes (bits bytes.now offset len) (map pos indices.now) None out.old out.new past.new)
         ((out.new ≡ out.old) × (past.new ≡ past.old)) result }
 {
-    if !vb_bits::window_fits(out, 0, indices.len()) || !vb_bits::window_fits(bytes, offset, len) {
+    if !window_fits(out, 0, indices.len()) || !window_fits(bytes, offset, len) {
         return false;
     }
     *past = vb_take_u32(out, bytes, offset, len, indices);
     true
 }
 
-/// [`vb_take_u32`] where a position counts only if the bit of `validity` from bit `v` on is true
-/// there: at the others false is written, and their indices aren't looked at.
+/// Writes the bits that the indices name among the `len` bits from bit `offset` on to the first
+/// bits of `out`, one for each index, and answers no place; or answers the first position that
+/// counts and whose index isn't below `len`. A position counts where the bit of `validity` from bit
+/// `v` on is true: at the others false is written, and their indices aren't looked at. The bits of
+/// `out` behind the first ones stay; where a position is answered, the first ones hold any bits.
 #[unsafe(no_mangle)]
 pub extern "C" fn vb_take_valid_u32(
     out: &mut [u8],
@@ -78,10 +72,8 @@ pub extern "C" fn vb_take_valid_u32(
     requires room { length indices.now ≤ 8 * length out.old }
     requires window { InBytes bytes.now offset len }
     requires validity { InBytes validity.now v (length indices.now) }
-    ensures taken { Takes (bits bytes.now offset len) (map pos indices.now)
-        (Some (bits validity.now v (length indices.now)))
-        (bits out.new 0 (length indices.now)) result }
-    ensures others { Writes out.old out.new 0 (bits out.new 0 (length indices.now)) }
+    ensures { Takes (bits bytes.now offset len) (map pos indices.now)
+        (Some (bits validity.now v (length indices.now))) out.old out.new result }
 {
     let window = BitBufferView::new_with_offset(bytes, len, offset);
     let valid = BitBufferView::new_with_offset(validity, indices.len(), v);
@@ -101,18 +93,15 @@ pub extern "C" fn vb_try_take_valid_u32(
     v: usize,
     past: &mut Place,
 ) -> bool
-    ensures { Checks
-        ((length indices.now ≤ 8 * length out.old) × InBytes bytes.now offset len
+    ensures { Checks ((length indices.now ≤ 8 * length out.old) × InBytes bytes.now offset len
         × InBytes validity.now v (length indices.now))
         (Takes (bits bytes.now offset len) (map pos indices.now)
-        (Some (bits validity.now v (length indices.now)))
-        (bits out.new 0 (length indices.now)) past.new
-        × Writes out.old out.new 0 (bits out.new 0 (length indices.now)))
+        (Some (bits validity.now v (length indices.now))) out.old out.new past.new)
         ((out.new ≡ out.old) × (past.new ≡ past.old)) result }
 {
-    if !vb_bits::window_fits(out, 0, indices.len())
-        || !vb_bits::window_fits(bytes, offset, len)
-        || !vb_bits::window_fits(validity, v, indices.len())
+    if !window_fits(out, 0, indices.len())
+        || !window_fits(bytes, offset, len)
+        || !window_fits(validity, v, indices.len())
     {
         return false;
     }
@@ -120,7 +109,10 @@ pub extern "C" fn vb_try_take_valid_u32(
     true
 }
 
-/// [`vb_take_u32`] by indices of 64 bits.
+/// Writes the bits that the indices name among the `len` bits from bit `offset` on to the first
+/// bits of `out`, one for each index of 64 bits, and answers no place; or answers the first
+/// position whose index isn't below `len`. The bits of `out` behind the first ones stay; where a
+/// position is answered, the first ones hold any bits.
 #[unsafe(no_mangle)]
 pub extern "C" fn vb_take_u64(
     out: &mut [u8],
@@ -131,20 +123,14 @@ pub extern "C" fn vb_take_u64(
 ) -> Place
     requires room { length indices.now ≤ 8 * length out.old }
     requires window { InBytes bytes.now offset len }
-    ensures taken { Takes (bits bytes.now offset len) (map pos indices.now) None
-        (bits out.new 0 (length indices.now)) result }
-    ensures others { Writes out.old out.new 0 (bits out.new 0 (length indices.now)) }
+    ensures { Takes (bits bytes.now offset len) (map pos indices.now) None out.old out.new result }
 {
-    take(
-        out,
-        BitBufferView::new_with_offset(bytes, len, offset),
-        indices,
-        None,
-    )
+    let window = BitBufferView::new_with_offset(bytes, len, offset);
+    take(out, window, indices, None)
 }
 
-/// Whether the window lies in the bytes, and `out` has room for a bit an index; `past` is then
-/// what [`vb_take_u64`] answers, and else all is as it was.
+/// Whether the window lies in the bytes, and `out` has room for a bit an index; `past` is then what
+/// [`vb_take_u64`] answers, and else all is as it was.
 #[unsafe(no_mangle)]
 pub extern "C" fn vb_try_take_u64(
     out: &mut [u8],
@@ -154,21 +140,23 @@ pub extern "C" fn vb_try_take_u64(
     indices: &[u64],
     past: &mut Place,
 ) -> bool
-    ensures { Checks
-        ((length indices.now ≤ 8 * length out.old) × InBytes bytes.now offset len)
-        (Takes (bits bytes.now offset len) (map pos indices.now) None
-        (bits out.new 0 (length indices.now)) past.new
-        × Writes out.old out.new 0 (bits out.new 0 (length indices.now)))
+    ensures { Checks ((length indices.now ≤ 8 * length out.old) × InBytes bytes.now offset len)
+        (Takes (bits bytes.now offset len) (map pos indices.now) None out.old out.new past.new)
         ((out.new ≡ out.old) × (past.new ≡ past.old)) result }
 {
-    if !vb_bits::window_fits(out, 0, indices.len()) || !vb_bits::window_fits(bytes, offset, len) {
+    if !window_fits(out, 0, indices.len()) || !window_fits(bytes, offset, len) {
         return false;
     }
     *past = vb_take_u64(out, bytes, offset, len, indices);
     true
 }
 
-/// [`vb_take_valid_u32`] by indices of 64 bits.
+/// Writes the bits that the indices name among the `len` bits from bit `offset` on to the first
+/// bits of `out`, one for each index of 64 bits, and answers no place; or answers the first
+/// position that counts and whose index isn't below `len`. A position counts where the bit of
+/// `validity` from bit `v` on is true: at the others false is written, and their indices aren't
+/// looked at. The bits of `out` behind the first ones stay; where a position is answered, the first
+/// ones hold any bits.
 #[unsafe(no_mangle)]
 pub extern "C" fn vb_take_valid_u64(
     out: &mut [u8],
@@ -182,10 +170,8 @@ pub extern "C" fn vb_take_valid_u64(
     requires room { length indices.now ≤ 8 * length out.old }
     requires window { InBytes bytes.now offset len }
     requires validity { InBytes validity.now v (length indices.now) }
-    ensures taken { Takes (bits bytes.now offset len) (map pos indices.now)
-        (Some (bits validity.now v (length indices.now)))
-        (bits out.new 0 (length indices.now)) result }
-    ensures others { Writes out.old out.new 0 (bits out.new 0 (length indices.now)) }
+    ensures { Takes (bits bytes.now offset len) (map pos indices.now)
+        (Some (bits validity.now v (length indices.now))) out.old out.new result }
 {
     let window = BitBufferView::new_with_offset(bytes, len, offset);
     let valid = BitBufferView::new_with_offset(validity, indices.len(), v);
@@ -205,18 +191,15 @@ pub extern "C" fn vb_try_take_valid_u64(
     v: usize,
     past: &mut Place,
 ) -> bool
-    ensures { Checks
-        ((length indices.now ≤ 8 * length out.old) × InBytes bytes.now offset len
+    ensures { Checks ((length indices.now ≤ 8 * length out.old) × InBytes bytes.now offset len
         × InBytes validity.now v (length indices.now))
         (Takes (bits bytes.now offset len) (map pos indices.now)
-        (Some (bits validity.now v (length indices.now)))
-        (bits out.new 0 (length indices.now)) past.new
-        × Writes out.old out.new 0 (bits out.new 0 (length indices.now)))
+        (Some (bits validity.now v (length indices.now))) out.old out.new past.new)
         ((out.new ≡ out.old) × (past.new ≡ past.old)) result }
 {
-    if !vb_bits::window_fits(out, 0, indices.len())
-        || !vb_bits::window_fits(bytes, offset, len)
-        || !vb_bits::window_fits(validity, v, indices.len())
+    if !window_fits(out, 0, indices.len())
+        || !window_fits(bytes, offset, len)
+        || !window_fits(validity, v, indices.len())
     {
         return false;
     }
@@ -224,7 +207,7 @@ pub extern "C" fn vb_try_take_valid_u64(
     true
 }
 
-/// The bits at the indices, as [`vb_take_u32`] writes them.
+/// The bits at the indices, as [`vb_take_u32`] and [`vb_take_valid_u32`] write them.
 fn take<I: BitIndex>(
     out: &mut [u8],
     window: BitBufferView<'_>,
@@ -233,9 +216,8 @@ fn take<I: BitIndex>(
 ) -> Place
     requires room { length indices.now ≤ 8 * length out.old }
     requires validity { ForSome validity (λ v. length (bits_of v) ≡ length indices.now) }
-    ensures taken { Takes (bits_of window.entry) (map I.number indices.now)
-        (option_map bits_of validity.entry) (bits out.new 0 (length indices.now)) result }
-    ensures others { Writes out.old out.new 0 (bits out.new 0 (length indices.now)) }
+    ensures { Takes (bits_of window.entry) (map I.number indices.now)
+        (option_map bits_of validity.entry) out.old out.new result }
 {
     vb_take::take_into(out, window, indices, validity)
         .err()

@@ -1,10 +1,10 @@
 //! Places and runs of true bits, written into the caller's memory.
-ghost use Rattle.std.specs.Prelude.{◌≡◌, ◌+◌, ◌*◌, ◌^◌, ◌<◌, ◌≤◌, length, map};
-ghost use Rattle.vb_c.specs.Filled.{run_of};
-ghost use Rattle.vb_bits.specs.InBytes.{InBytes};
-ghost use Rattle.vb_c.specs.Fits.{Checks};
+ghost use Rattle.std.specs.Prelude.{◌≡◌, map};
 ghost use Rattle.vb_bits.specs.Bits.{bits, places};
+ghost use Rattle.vb_bits.specs.InBytes.{InBytes};
 ghost use Rattle.vb_bits.specs.Runs.{runs};
+ghost use Rattle.vb_c.specs.Filled.{run_of};
+ghost use Rattle.vb_c.specs.Fits.{Checks};
 ghost use Rattle.vb_rank.specs.Fills.{Fills};
 
 use vb_walk::{BitIndexIterator, BitSliceIterator};

@@ -1,9 +1,10 @@
 //! Bits filled, negated and copied.
-ghost use Rattle.std.specs.Prelude.{◌≡◌, ◌+◌, ◌-◌, ◌*◌, ◌^◌, ◌<◌, ◌≤◌, length, replicate};
-ghost use Rattle.vb_bits.specs.InBytes.{InBytes};
-ghost use Rattle.vb_c.specs.Fits.{Checks};
+ghost use Rattle.std.specs.Prelude.{◌≡◌, ◌-◌, ◌*◌, ◌≤◌, length, replicate};
 ghost use Rattle.vb_bits.specs.Bits.{bits, negated};
+ghost use Rattle.vb_bits.specs.InBytes.{InBytes};
 ghost use Rattle.vb_bits.specs.Writes.{Writes};
+ghost use Rattle.vb_c.specs.Fits.{Checks};
+ghost use Rattle.vb_c.specs.Windows.{BothInBytes};
 
 /// Makes the bits from `start` up to `end`, `end` excluded, `v`, and leaves every other bit;
 /// nothing where `start >= end`.
@@ -58,8 +59,7 @@ pub extern "C" fn vb_try_negate_bits(bytes: &mut [u8], offset: usize, len: usize
 /// every other bit of `dst`. The two may not overlap.
 #[unsafe(no_mangle)]
 pub extern "C" fn vb_copy_bits(dst: &mut [u8], d: usize, src: &[u8], s: usize, len: usize)
-    requires into { InBytes dst.old d len }
-    requires from { InBytes src.now s len }
+    requires { BothInBytes dst.old d src.now s len }
     ensures { Writes dst.old dst.new d (bits src.now s len) }
 {
     vb_bits::copy_bits(dst, d, src, s, len);
@@ -75,7 +75,7 @@ pub extern "C" fn vb_try_copy_bits(
     s: usize,
     len: usize,
 ) -> bool
-    ensures { Checks (InBytes dst.old d len × InBytes src.now s len)
+    ensures { Checks (BothInBytes dst.old d src.now s len)
         (Writes dst.old dst.new d (bits src.now s len)) (dst.new ≡ dst.old) result }
 {
     if !vb_bits::window_fits(dst, d, len) || !vb_bits::window_fits(src, s, len) {

@@ -47,7 +47,7 @@ pub fn two(n: u8) -> u8
     "    let a = one(1);\n    assert!(rt;\n        matches!(\n            a,\n            [1, 2],\n"
     "        )\n    );\n}\n",
     "crates/use_low/specs/F.antt": "-- f\nabbrev pub f : A\nf = b\n",
-    "crates/vb_c/src/lib.rt": "pub use bit::{vb_get, vb_try_get};\npub use place::Place;\n",
+    "crates/vb_c/src/bit.rt": 'pub extern "C" fn vb_get(\npub extern "C" fn vb_try_get(\n',
     "bindings/c/any.h": "bool vb_get(const uint8_t *b);\nbool vb_try_get(size_t n);\n",
     "bindings/rust/src/native.rs": "\nkernels! {\n    get(b: *const u8) -> bool;\n}\n",
     "crates/vortex_buffer/src/lib.rt": "pub use low::{one,\n    two};\npub use low::Type;\n",
@@ -90,8 +90,8 @@ class Checked(unittest.TestCase):
     def test_a_function_that_the_header_lacks(self):
         found = lists(self.repository(any_dot_h=("vb_try_get", "vb_try_got")))
         self.assertEqual(found, [
-            "crates/vb_c/src/lib.rt: has `vb_try_get`, which bindings/c/any.h hasn't",
-            "bindings/c/any.h: has `vb_try_got`, which crates/vb_c/src/lib.rt hasn't",
+            "crates/vb_c: has `vb_try_get`, which bindings/c/any.h hasn't",
+            "bindings/c/any.h: has `vb_try_got`, which crates/vb_c hasn't",
         ])
 
     def test_a_name_that_the_tests_do_not_reach(self):

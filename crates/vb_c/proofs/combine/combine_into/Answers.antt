@@ -4,8 +4,8 @@ use Rattle.vb_bits.specs.Operators.{combined}
 use Rattle.vb_bits.specs.Operators.{bit_op}
 use Rattle.vb_bits.proofs.OperatorsLemmas.{length-merged_bits}
 use Rattle.vb_bits.proofs.WritesLemmas.{Writes_none}
-use Rattle.vb_c.proofs.IntoLemmas.{Writes-block}
-use Rattle.vb_c.proofs.into.combine_into.Goals as goal
+use Rattle.vb_c.proofs.CombineLemmas.{Writes-block}
+use Rattle.vb_c.proofs.combine.combine_into.Goals as goal
 
 pub loop-done-init : goal.loop-done-init
 loop-done-init c =

@@ -2,7 +2,7 @@ use Rattle.std.proofs.Common.{◌-◌, ◌≤◌}
 use Rattle.vb_bits.specs.Bits.{bits}
 use Rattle.vb_bits.specs.Operators.{combined}
 use Rattle.vb_bits.specs.Writes.{Writes}
-use Rattle.vb_c.proofs.into.combine_into.Given as goal
+use Rattle.vb_c.proofs.combine.combine_into.Given as goal
 
 -- the bits so far
 abbrev pub invariant-loop-done : goal.invariant-loop-done

@@ -1,0 +1,10 @@
+-- How a call that packs truth values leaves the bytes.
+use Rattle.std.specs.Prelude.{◌≡◌, ℕ, Bool, List, length}
+use Rattle.vb_bits.specs.Bits.{bits}
+use Rattle.vb_bits.specs.Writes.{Writes}
+use Rattle.vb_pack.specs.WordBits.{filled_up}
+
+-- the first bits are these values; the rest of their last byte is false, and later bytes stay
+pub record Packs (bools : List Bool) (old new : List ℕ) : Type 0 where
+  pub packed : bits new 0 (length bools) ≡ bools
+  pub written : Writes old new 0 (filled_up 8 bools)
