@@ -1,15 +1,12 @@
-//! Bits over slices of bytes, least significant first: bit `i` is digit `i % 8` of byte `i / 8`.
+//! Counts and selects of the bits of a window, by looks that are counted.
 //!
 //! A window is the `len` bits from bit `offset` on. It has to lie in the bytes, and its end has to
 //! be a `usize`; [`window_fits`] is the test. Places and counts are of bits, relative to the
 //! window.
 //!
-//! A write changes the bits of its window and no other bit, whichever bytes these share.
-//!
-//! Truth values that a closure answers are packed into words by the calls of `vb_pack`.
-//!
 //! Counting and selecting read a [`Glance`], a source of bytes that counts its reads: see
-//! [`count_ones_by`] for the exact number, and [`most_looks`] for a bound on it.
+//! [`count_ones_by`] for the exact number, and [`most_looks`] for a bound on it. The calls of
+//! `vb_bits` and `vb_pack` are given on.
 #![tactic(auto)]
 
 mod chunk;

@@ -1,4 +1,4 @@
-//! Bits taken at indices, and bits made true at places as `vb_bits` does it, over slices of bytes.
+//! Bits taken at indices, over slices of bytes. [`set_bits_at`] is that of `vb_bits`.
 //!
 //! Lengths, places and positions are counted in bits. No call takes memory.
 #![tactic(auto)]
