@@ -491,5 +491,6 @@ int main(void)
     }
     refusals(bytes);
     nothing();
+    check(vb_has_level() && strncmp(vb_level(), "x86-64-v", 8) == 0, "vb_level");
     return failures == 0 ? 0 : 1;
 }

@@ -7,6 +7,7 @@
  */
 #include "vortex_bits.h"
 
+/* Made of the header, by bindings/c/functions. */
 #include "functions.h"
 #include "processor.h"
 

@@ -5,8 +5,8 @@
 //! Of each function: a pointer is followed by the number of items that it points to, and isn't
 //! null; they may be read, and written where it is `*mut`; nothing else writes them during the
 //! call. Windows end within their bytes, and at a `usize`; those of takes, packs and filters are the
-//! first bits of `out`, one for each item, or for each that is kept. A table has as many entries as the window has blocks of 512
-//! bits, whatever they are. The processor has the level.
+//! first bits of `out`, one for each item, or for each that is kept. A table has as many entries as
+//! the window has blocks of 512 bits, whatever they are. The processor has the level.
 //!
 //! A function changes only the windows and the items that it is said to write.
 

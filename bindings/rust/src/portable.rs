@@ -10,10 +10,10 @@ mod walk;
 mod word;
 mod write;
 
-pub use count::{count_ones, equal, last_set, select, select_unset};
-pub use filter::{filter, keep};
-pub use rank::{block_counts, rank, ranked_select, ranked_select_unset};
-pub use take::take;
-pub use walk::{set_indices, set_slices};
+pub use count::*;
+pub use filter::*;
+pub use rank::*;
+pub use take::*;
+pub use walk::*;
 pub use word::{only_word, write};
-pub use write::{combine, combine_into, copy, fill, negate, pack};
+pub use write::*;
