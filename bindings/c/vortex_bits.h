@@ -135,7 +135,7 @@ VB_CHECKED bool vb_try_set_slices(const uint8_t *bytes, size_t size, size_t offs
 void vb_fill_bits(uint8_t *bytes, size_t size, size_t start, size_t end, bool value);
 VB_CHECKED bool vb_try_fill_bits(uint8_t *bytes, size_t size, size_t start, size_t end, bool value);
 
-/* Negates each bit of the window, eight bytes at a time. */
+/* Negates each bit of the window, 32 bytes at a time. */
 void vb_negate_bits(uint8_t *bytes, size_t size, size_t offset, size_t len);
 VB_CHECKED bool vb_try_negate_bits(uint8_t *bytes, size_t size, size_t offset, size_t len);
 

@@ -9,9 +9,11 @@ pub mod ShiftLemmas
 pub mod WindowLemmas
 pub mod WrittenLemmas
 pub mod WritesLemmas
+pub mod MasksLemmas
 pub mod OperatorsLemmas
 pub mod RunsLemmas
 pub mod LastLemmas
+pub mod LanesLemmas
 pub mod EqualLemmas
 pub mod KeepsLemmas
 pub mod MarksLemmas

@@ -25,11 +25,14 @@ pub fn word_at(bytes: &[u8], at: usize) -> u64
 }
 
 /// Writes `word` into the eight bytes from `at` on, least significant first.
+///
+/// They go as a vector too: of an array the toolchain's own compiler makes a copy that first tests
+/// whether the two overlap.
 pub fn write_word(bytes: &mut [u8], at: usize, word: u64)
     requires { at + 8 ≤ length bytes.old }
     ensures { Writes bytes.old bytes.new (8 * at) (digits word 0 64) }
 {
-    bytes[at..at + 8].copy_from_slice(&word.to_le_bytes());
+    u8x8::from_array(word.to_le_bytes()).copy_to_slice(&mut bytes[at..at + 8]);
 }
 
 /// Ones in the digits from `from` up to `to`, `to` excluded.

@@ -9,6 +9,7 @@ mod bit;
 mod bytes;
 mod equal;
 mod fill;
+mod lanes;
 mod last;
 mod map;
 mod mark;

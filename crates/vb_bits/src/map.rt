@@ -5,11 +5,13 @@ ghost use Rattle.vb_bits.specs.InBytes.{InBytes};
 ghost use Rattle.vb_bits.specs.Writes.{Writes};
 
 use crate::bytes::{byte_mask, word_at, write_word};
+use crate::lanes::{words_at, write_words};
+use std::simd::prelude::*;
 
 /// Negates each bit of the window and leaves every other bit.
 ///
-/// The bits of a partial first and last byte go by a mask, the whole bytes between by words of
-/// eight bytes and then by bytes.
+/// The bits of a partial first and last byte go by a mask, the whole bytes between by words, four
+/// at a time where there are so many, and then by bytes.
 pub fn map_words(bytes: &mut [u8], offset: usize, len: usize)
     requires window { InBytes bytes.old offset len }
     ensures { Writes bytes.old bytes.new offset (negated (bits bytes.old offset len)) }
@@ -42,15 +44,60 @@ fn negate_in_byte(bytes: &mut [u8], start: usize, end: usize)
     bytes[start / 8] ^= byte_mask(from, from + (end - start));
 }
 
-/// Negates `n` words from byte `at` on.
+/// Negates `n` words from byte `at` on: four at a time, and those left.
 fn negate_words(bytes: &mut [u8], at: usize, n: usize)
     requires { at + 8 * n ≤ length bytes.old }
     ensures { Writes bytes.old bytes.new (8 * at) (negated (bits bytes.old (8 * at) (64 * n))) }
 {
-    for k in 0..n {
-        let word = word_at(bytes, at + 8 * k);
-        write_word(bytes, at + 8 * k, !word);
+    if n < 4 {
+        negate_few_words(bytes, at, n);
+        return;
     }
+    let blocks = n / 4;
+    negate_blocks(bytes, at, blocks);
+    negate_few_words(bytes, at + 32 * blocks, n % 4);
+}
+
+/// Negates `n` times four words from byte `at` on.
+fn negate_blocks(bytes: &mut [u8], at: usize, n: usize)
+    requires { at + 32 * n ≤ length bytes.old }
+    ensures { Writes bytes.old bytes.new (8 * at) (negated (bits bytes.old (8 * at) (256 * n))) }
+{
+    for k in 0..n {
+        let words = words_at(bytes, at + 32 * k);
+        write_words(bytes, at + 32 * k, words ^ u64x4::splat(u64::MAX));
+    }
+}
+
+/// Negates `n` words from byte `at` on, fewer than four, with no loop: of one over so few words the
+/// compiler makes vectors under a mask, which wait for what was just written.
+fn negate_few_words(bytes: &mut [u8], at: usize, n: usize)
+    requires few { n < 4 }
+    requires inside { at + 8 * n ≤ length bytes.old }
+    ensures { Writes bytes.old bytes.new (8 * at) (negated (bits bytes.old (8 * at) (64 * n))) }
+{
+    if n == 0 {
+        return;
+    }
+    negate_word(bytes, at);
+    if n == 1 {
+        return;
+    }
+    negate_word(bytes, at + 8);
+    if n == 2 {
+        return;
+    }
+    negate_word(bytes, at + 16);
+}
+
+/// Negates the word from byte `at` on.
+#[inline(always)]
+fn negate_word(bytes: &mut [u8], at: usize)
+    requires { at + 8 ≤ length bytes.old }
+    ensures { Writes bytes.old bytes.new (8 * at) (negated (bits bytes.old (8 * at) 64)) }
+{
+    let word = word_at(bytes, at);
+    write_word(bytes, at, !word);
 }
 
 /// Negates the bytes from `first` up to `last`, `last` excluded.

@@ -6,16 +6,35 @@ ghost use Rattle.vb_bits.specs.Operators.{merged};
 ghost use Rattle.vb_bits.specs.Writes.{Writes};
 
 use crate::bytes::{word_at, write_word};
+use crate::lanes::{shifted_words, words_at, write_words};
 use crate::operator::Merge;
-use crate::read::{read_bits, shifted_word};
+use crate::read::{full_word, read_bits};
 use crate::write::{write_few, write_in_byte};
+
+/// From so many bits on, those up to a multiple of four words of `dst` are combined first: then no
+/// vector that is written reaches over a cache line where `dst` begins with one.
+const LONG: usize = 65_536;
 
 /// Combines each of the `len` bits of `dst` from bit `d` on with that of `src` from bit `s` on, and
 /// leaves every other bit of `dst`.
-///
-/// The bits of a partial first byte of `dst` go by a mask, those behind it by words, and what is
-/// left by bytes.
 pub(crate) fn merge_bits<M: Merge>(dst: &mut [u8], d: usize, src: &[u8], s: usize, len: usize)
+    requires into { InBytes dst.old d len }
+    requires from { InBytes src.now s len }
+    ensures { Writes dst.old dst.new d
+        (merged (M.bit) (bits dst.old d len) (bits src.now s len)) }
+{
+    if len < LONG || d % 256 == 0 {
+        merge_run::<M>(dst, d, src, s, len);
+        return;
+    }
+    let lead = 256 - d % 256;
+    merge_run::<M>(dst, d, src, s, lead);
+    merge_run::<M>(dst, d + lead, src, s + lead, len - lead);
+}
+
+/// [`merge_bits`] from wherever they begin: those of a partial first byte of `dst` by a mask, those
+/// behind it by words, and what is left by bytes.
+fn merge_run<M: Merge>(dst: &mut [u8], d: usize, src: &[u8], s: usize, len: usize)
     requires into { InBytes dst.old d len }
     requires from { InBytes src.now s len }
     ensures { Writes dst.old dst.new d
@@ -42,51 +61,103 @@ fn merge_in_byte<M: Merge>(dst: &mut [u8], d: usize, src: &[u8], s: usize, len: 
     write_in_byte(dst, d, len, M::word(left, right));
 }
 
-/// [`merge_bits`] of `n` words of `dst`, which begin with a byte.
+/// [`merge_bits`] of `n` words of `dst`, which begin with a byte: four at a time, and those left.
 fn merge_words<M: Merge>(dst: &mut [u8], d: usize, src: &[u8], s: usize, n: usize)
     requires whole { 0 < n → d % 8 ≡ 0 }
-    requires into { d + 64 * n ≤ 8 * length dst.old }
-    requires from { s + 64 * n ≤ 8 * length src.now }
+    requires into { InBytes dst.old d (64 * n) }
+    requires from { InBytes src.now s (64 * n) }
     ensures { Writes dst.old dst.new d
         (merged (M.bit) (bits dst.old d (64 * n)) (bits src.now s (64 * n))) }
+{
+    let blocks = n / 4;
+    merge_blocks::<M>(dst, d, src, s, blocks);
+    let done = 256 * blocks;
+    merge_few_words::<M>(dst, d + done, src, s + done, n % 4);
+}
+
+/// [`merge_words`] of `n` times four words.
+fn merge_blocks<M: Merge>(dst: &mut [u8], d: usize, src: &[u8], s: usize, n: usize)
+    requires whole { 0 < n → d % 8 ≡ 0 }
+    requires into { d + 256 * n ≤ 8 * length dst.old }
+    requires from { s + 256 * n ≤ 8 * length src.now }
+    ensures { Writes dst.old dst.new d
+        (merged (M.bit) (bits dst.old d (256 * n)) (bits src.now s (256 * n))) }
 {
     if s % 8 == 0 {
-        merge_whole_words::<M>(dst, d, src, s, n);
+        merge_whole_blocks::<M>(dst, d, src, s, n);
     } else {
-        merge_shifted_words::<M>(dst, d, src, s, n);
+        merge_shifted_blocks::<M>(dst, d, src, s, n);
     }
 }
 
-/// [`merge_words`] where those of `src` begin with a byte too.
-fn merge_whole_words<M: Merge>(dst: &mut [u8], d: usize, src: &[u8], s: usize, n: usize)
+/// [`merge_blocks`] where those of `src` begin with a byte too.
+fn merge_whole_blocks<M: Merge>(dst: &mut [u8], d: usize, src: &[u8], s: usize, n: usize)
     requires whole { 0 < n → d % 8 ≡ 0 }
     requires whole_source { s % 8 ≡ 0 }
-    requires into { d + 64 * n ≤ 8 * length dst.old }
-    requires from { s + 64 * n ≤ 8 * length src.now }
+    requires into { d + 256 * n ≤ 8 * length dst.old }
+    requires from { s + 256 * n ≤ 8 * length src.now }
     ensures { Writes dst.old dst.new d
-        (merged (M.bit) (bits dst.old d (64 * n)) (bits src.now s (64 * n))) }
+        (merged (M.bit) (bits dst.old d (256 * n)) (bits src.now s (256 * n))) }
 {
     for k in 0..n {
-        let left = word_at(dst, d / 8 + 8 * k);
-        let right = word_at(src, s / 8 + 8 * k);
-        write_word(dst, d / 8 + 8 * k, M::word(left, right));
+        let left = words_at(dst, d / 8 + 32 * k);
+        let right = words_at(src, s / 8 + 32 * k);
+        write_words(dst, d / 8 + 32 * k, M::words(left, right));
     }
 }
 
-/// [`merge_words`] where those of `src` begin within a byte.
-fn merge_shifted_words<M: Merge>(dst: &mut [u8], d: usize, src: &[u8], s: usize, n: usize)
+/// [`merge_blocks`] where those of `src` begin within a byte.
+fn merge_shifted_blocks<M: Merge>(dst: &mut [u8], d: usize, src: &[u8], s: usize, n: usize)
     requires whole { 0 < n → d % 8 ≡ 0 }
     requires part { 0 < s % 8 }
-    requires into { d + 64 * n ≤ 8 * length dst.old }
-    requires from { s + 64 * n ≤ 8 * length src.now }
+    requires into { d + 256 * n ≤ 8 * length dst.old }
+    requires from { s + 256 * n ≤ 8 * length src.now }
+    ensures { Writes dst.old dst.new d
+        (merged (M.bit) (bits dst.old d (256 * n)) (bits src.now s (256 * n))) }
+{
+    for k in 0..n {
+        let left = words_at(dst, d / 8 + 32 * k);
+        let right = shifted_words(src, s / 8 + 32 * k, s % 8);
+        write_words(dst, d / 8 + 32 * k, M::words(left, right));
+    }
+}
+
+/// [`merge_words`] of fewer than four, with no loop: of one over so few words the compiler makes
+/// vectors under a mask, which wait for what was just written.
+fn merge_few_words<M: Merge>(dst: &mut [u8], d: usize, src: &[u8], s: usize, n: usize)
+    requires few { n < 4 }
+    requires whole { 0 < n → d % 8 ≡ 0 }
+    requires into { InBytes dst.old d (64 * n) }
+    requires from { InBytes src.now s (64 * n) }
     ensures { Writes dst.old dst.new d
         (merged (M.bit) (bits dst.old d (64 * n)) (bits src.now s (64 * n))) }
 {
-    for k in 0..n {
-        let left = word_at(dst, d / 8 + 8 * k);
-        let right = shifted_word(src, s / 8 + 8 * k, s % 8);
-        write_word(dst, d / 8 + 8 * k, M::word(left, right));
+    if n == 0 {
+        return;
     }
+    merge_word::<M>(dst, d, src, s);
+    if n == 1 {
+        return;
+    }
+    merge_word::<M>(dst, d + 64, src, s + 64);
+    if n == 2 {
+        return;
+    }
+    merge_word::<M>(dst, d + 128, src, s + 128);
+}
+
+/// [`merge_words`] of one.
+#[inline(always)]
+fn merge_word<M: Merge>(dst: &mut [u8], d: usize, src: &[u8], s: usize)
+    requires whole { d % 8 ≡ 0 }
+    requires into { d + 64 ≤ 8 * length dst.old }
+    requires from { s + 64 ≤ 8 * length src.now }
+    ensures { Writes dst.old dst.new d
+        (merged (M.bit) (bits dst.old d 64) (bits src.now s 64)) }
+{
+    let left = word_at(dst, d / 8);
+    let right = full_word(src, s / 8, s % 8);
+    write_word(dst, d / 8, M::word(left, right));
 }
 
 /// [`merge_bits`] of at most 64 bits, which begin with a byte of `dst`.

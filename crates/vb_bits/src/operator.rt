@@ -1,16 +1,26 @@
 //! What two bits are combined to.
-ghost use Rattle.std.specs.Prelude.{◌≡◌, ℕ, ◌<◌, Bool};
-ghost use Rattle.vb_bits.specs.Digits.{has_bit};
+ghost use Rattle.std.specs.Prelude.{◌≡◌, ℕ, ◌<◌, Bool, length};
+ghost use Rattle.vb_bits.specs.Digits.{has_bit, lane_bits};
+ghost use Rattle.vb_bits.specs.Operators.{merged};
 
-/// What two bits are combined to: all bits of a word, or of a byte, at once.
+use std::simd::prelude::*;
+
+/// What two bits are combined to: all bits of four words, of one, or of a byte, at once.
 ///
-/// It is a type, so that each operator has loops of its own, which the compiler makes vectors of.
+/// It is a type, so that each operator has loops of its own.
 pub trait Merge {
     ghost bit: { Bool → Bool → Bool };
 
     /// Each digit of `left` combined with that of `right`.
     fn word(left: u64, right: u64) -> u64
         ensures { (i : ℕ) → i < 64 → has_bit result i ≡ bit (has_bit left i) (has_bit right i) };
+
+    /// [`word`](Merge::word) of four words.
+    fn words(left: u64x4, right: u64x4) -> u64x4
+        requires left { length left ≡ 4 }
+        requires right { length right ≡ 4 }
+        ensures len { length result ≡ 4 }
+        ensures digits { lane_bits result ≡ merged bit (lane_bits left) (lane_bits right) };
 
     /// [`word`](Merge::word) of eight digits.
     fn byte(left: u8, right: u8) -> u8
@@ -43,6 +53,11 @@ impl Merge for And {
     }
 
     #[inline(always)]
+    fn words(left: u64x4, right: u64x4) -> u64x4 {
+        left & right
+    }
+
+    #[inline(always)]
     fn byte(left: u8, right: u8) -> u8 {
         left & right
     }
@@ -55,6 +70,11 @@ impl Merge for Or {
 
     #[inline(always)]
     fn word(left: u64, right: u64) -> u64 {
+        left | right
+    }
+
+    #[inline(always)]
+    fn words(left: u64x4, right: u64x4) -> u64x4 {
         left | right
     }
 
@@ -75,6 +95,11 @@ impl Merge for Xor {
     }
 
     #[inline(always)]
+    fn words(left: u64x4, right: u64x4) -> u64x4 {
+        left ^ right
+    }
+
+    #[inline(always)]
     fn byte(left: u8, right: u8) -> u8 {
         left ^ right
     }
@@ -91,6 +116,12 @@ impl Merge for AndNot {
     }
 
     #[inline(always)]
+    fn words(left: u64x4, right: u64x4) -> u64x4 {
+        // The same as `left & !right`, and its digits follow from those of words of any size.
+        left ^ (left & right)
+    }
+
+    #[inline(always)]
     fn byte(left: u8, right: u8) -> u8 {
         left & !right
     }
@@ -101,6 +132,11 @@ impl Merge for Right {
 
     #[inline(always)]
     fn word(left: u64, right: u64) -> u64 {
+        right
+    }
+
+    #[inline(always)]
+    fn words(left: u64x4, right: u64x4) -> u64x4 {
         right
     }
 

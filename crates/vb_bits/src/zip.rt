@@ -24,7 +24,7 @@ pub enum BitOp {
 /// Makes each of the `len` bits of `dst` from bit `d` on what `op` makes of it, as the left one,
 /// and of that of `src` from bit `s` on, and leaves every other bit of `dst`.
 ///
-/// It goes by words of 64 bits whatever the two offsets are.
+/// It goes by words of 64 bits, four at a time, whatever the two offsets are.
 pub fn zip_words(dst: &mut [u8], d: usize, src: &[u8], s: usize, len: usize, op: BitOp)
     requires into { InBytes dst.old d len }
     requires from { InBytes src.now s len }
@@ -42,7 +42,7 @@ pub fn zip_words(dst: &mut [u8], d: usize, src: &[u8], s: usize, len: usize, op:
 /// Copies the `len` bits of `src` from bit `s` on to the bits of `dst` from bit `d` on, and leaves
 /// every other bit of `dst`.
 ///
-/// It goes by words of 64 bits whatever the two offsets are.
+/// It goes by words of 64 bits, four at a time, whatever the two offsets are.
 pub fn copy_bits(dst: &mut [u8], d: usize, src: &[u8], s: usize, len: usize)
     requires into { InBytes dst.old d len }
     requires from { InBytes src.now s len }

@@ -1,4 +1,4 @@
-use Rattle.vb_bits.proofs.WritesLemmas.{Writes_put}
+use Rattle.vb_bits.proofs.MasksLemmas.{Writes_put}
 use Rattle.vb_bits.proofs.bit.set_bit_to.Goals as goal
 
 pub returns : goal.returns

@@ -1,4 +1,4 @@
-use Rattle.vb_bits.proofs.WritesLemmas.{Writes_set}
+use Rattle.vb_bits.proofs.MasksLemmas.{Writes_set}
 use Rattle.vb_bits.proofs.bit.set_bit_unchecked.Goals as goal
 
 pub returns : goal.returns

@@ -1,4 +1,4 @@
-use Rattle.vb_bits.proofs.WritesLemmas.{Writes_unset}
+use Rattle.vb_bits.proofs.MasksLemmas.{Writes_unset}
 use Rattle.vb_bits.proofs.bit.unset_bit_unchecked.Goals as goal
 
 pub returns : goal.returns

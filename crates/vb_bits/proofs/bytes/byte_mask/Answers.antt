@@ -1,7 +1,7 @@
 use Rattle.std.proofs.Common.{◌^◌, ◌≤◌, arith}
 use Rattle.std.proofs.Math.Pow.{pow_mono}
 use Rattle.std.proofs.lemmas.Nat.{one_shl}
-use Rattle.vb_bits.proofs.WritesLemmas.{mask_fits}
+use Rattle.vb_bits.proofs.MasksLemmas.{mask_fits}
 use Rattle.vb_bits.proofs.bytes.byte_mask.Goals as goal
 
 pub overflow_sub-result : goal.overflow_sub-result

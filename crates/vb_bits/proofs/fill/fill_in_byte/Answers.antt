@@ -1,6 +1,7 @@
 use Rattle.std.proofs.Common.{◌-◌, arith}
 use Rattle.std.proofs.lemmas.List.{length-replicate}
-use Rattle.vb_bits.proofs.WritesLemmas.{Writes_none, Writes_or_mask, Writes_and_mask}
+use Rattle.vb_bits.proofs.MasksLemmas.{Writes_or_mask, Writes_and_mask}
+use Rattle.vb_bits.proofs.WritesLemmas.{Writes_none}
 use Rattle.vb_bits.proofs.fill.fill_in_byte.Goals as goal
 
 pub returns-then-start-end : goal.returns-then-start-end

@@ -1,5 +1,6 @@
 use Rattle.std.proofs.Common.{arith}
-use Rattle.vb_bits.proofs.WritesLemmas.{Writes_negated_none, Writes_xor_mask}
+use Rattle.vb_bits.proofs.MasksLemmas.{Writes_xor_mask}
+use Rattle.vb_bits.proofs.WritesLemmas.{Writes_negated_none}
 use Rattle.vb_bits.proofs.map.negate_in_byte.Goals as goal
 
 pub returns-then-start-end : goal.returns-then-start-end

@@ -1,6 +1,7 @@
 use Rattle.std.proofs.Common.{arith}
 use Rattle.vb_bits.proofs.DigitsLemmas.{length-digits}
-use Rattle.vb_bits.proofs.WritesLemmas.{Writes_none, Writes_masked}
+use Rattle.vb_bits.proofs.MasksLemmas.{Writes_masked}
+use Rattle.vb_bits.proofs.WritesLemmas.{Writes_none}
 use Rattle.vb_bits.proofs.write.write_in_byte.Goals as goal
 
 pub returns-then-count-eq0 : goal.returns-then-count-eq0

@@ -2,8 +2,8 @@ use Rattle.std.proofs.Common.{◌*◌}
 use Rattle.vb_bits.specs.Bits.{bits}
 use Rattle.vb_bits.specs.Operators.{merged}
 use Rattle.vb_bits.specs.Writes.{Writes}
-use Rattle.vb_bits.proofs.merge.merge_whole_words.Given as goal
+use Rattle.vb_bits.proofs.merge.merge_whole_blocks.Given as goal
 
 abbrev pub invariant-loop-k : goal.invariant-loop-k
-invariant-loop-k g l = Writes l.initial.dst l.dst l.d
-    (merged g.M.Merge.bit (bits l.initial.dst l.d (64 * l.k)) (bits l.src l.s (64 * l.k)))
+invariant-loop-k g l = Writes l.initial.dst l.dst l.d (merged g.M.Merge.bit
+    (bits l.initial.dst l.d (256 * l.k)) (bits l.src l.s (256 * l.k)))

@@ -1,0 +1,58 @@
+//! Four words at once, as a vector: the compiler that makes no vectors of loops has them too.
+ghost use Rattle.std.specs.Prelude.{◌≡◌, ◌+◌, ◌*◌, ◌^◌, ◌<◌, ◌≤◌, length};
+ghost use Rattle.std.specs.Simd.Lanes.{Each1};
+ghost use Rattle.vb_bits.specs.Bits.{bits};
+ghost use Rattle.vb_bits.specs.Digits.{lane_bits};
+ghost use Rattle.vb_bits.specs.Writes.{Writes};
+
+use std::simd::prelude::*;
+
+/// The four words from byte `at` on.
+#[inline(always)]
+pub(crate) fn words_at(bytes: &[u8], at: usize) -> u64x4
+    requires { at + 32 ≤ length bytes.now }
+    ensures len { length result ≡ 4 }
+    ensures words { Each1 (λ x. x < 2 ^ 64) result }
+    ensures digits { lane_bits result ≡ bits bytes.now (8 * at) 256 }
+{
+    words_of(&bytes[at..at + 32])
+}
+
+/// 32 bytes as four words. They are a slice, since a proof knows of a slice's bytes, and not of an
+/// array's, that they are below 256.
+#[inline(always)]
+fn words_of(bytes: &[u8]) -> u64x4
+    requires { length bytes.now ≡ 32 }
+    ensures len { length result ≡ 4 }
+    ensures words { Each1 (λ x. x < 2 ^ 64) result }
+    ensures digits { lane_bits result ≡ bits bytes.now 0 256 }
+{
+    u64x4::from_le_bytes(u8x32::from_slice(bytes))
+}
+
+/// The four words from bit `shift` of byte `first` on: as `shifted_word` reads one.
+#[inline(always)]
+pub(crate) fn shifted_words(bytes: &[u8], first: usize, shift: usize) -> u64x4
+    requires part { 0 < shift }
+    requires in_byte { shift < 8 }
+    requires inside { first + 33 ≤ length bytes.now }
+    ensures len { length result ≡ 4 }
+    ensures digits { lane_bits result ≡ bits bytes.now (8 * first + shift) 256 }
+{
+    let low = words_at(bytes, first) >> u64x4::splat(shift as u64);
+    let high = words_at(bytes, first + 1) << u64x4::splat(8 - shift as u64);
+    low | high
+}
+
+/// Writes four words into the 32 bytes from `at` on.
+///
+/// The bytes go from the vector into the slice, since those of an array would be copied by a call.
+#[inline(always)]
+pub(crate) fn write_words(bytes: &mut [u8], at: usize, words: u64x4)
+    requires inside { at + 32 ≤ length bytes.old }
+    requires len { length words ≡ 4 }
+    ensures { Writes bytes.old bytes.new (8 * at) (lane_bits words) }
+{
+    let lanes = words.to_le_bytes();
+    lanes.copy_to_slice(&mut bytes[at..at + 32]);
+}
