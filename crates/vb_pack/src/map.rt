@@ -9,7 +9,7 @@ ghost use Rattle.vb_pack.specs.Writes.{Writes};
 
 use crate::bytes::write_front;
 use crate::pack::pack_bool_word_lanes;
-use vb_bits::{digit, read_bits};
+use vb_bits::{digit, full_word, read_bits};
 
 /// Asks `f` at each place of the window of `len` bits of `src` from bit `offset` on, with the bit
 /// there, and packs its answers into the first bytes of `dst`, eight into each; the bits of the
@@ -51,7 +51,7 @@ fn map_full<F: FnMut(usize, bool) -> bool>(src: &[u8], offset: usize, base: usiz
     ensures { Answers (λ p i b q. F.step p i (bit_of src.now (offset + i)) b q)
         f.old (span base 64) (digits result 0 64) f.new }
 {
-    let word = read_bits(src, offset + base, 64);
+    let word = full_word(src, (offset + base) / 8, (offset + base) % 8);
     let mut bools = [false; 64];
     for i in 0..64 {
         bools[i] = f(base + i, digit(word, i));

@@ -1,5 +1,5 @@
-use Rattle.std.proofs.Common.{arith, of_calls, ◌≡◌, ℕ, ◌+◌, ◌-◌, [], ◌∷◌, ◌++◌, take, set}
-use Rattle.std.proofs.Common.{length-set, subst, refl, sym, ap, ◌∙◌}
+use Rattle.std.proofs.Common.{arith, of_calls, ◌≡◌, ℕ, ◌+◌, ◌-◌, ◌*◌, ◌/◌, ◌%◌, [], ◌∷◌, ◌++◌}
+use Rattle.std.proofs.Common.{take, set, length-set, subst, refl, sym, ap, ◌∙◌}
 use Rattle.std.proofs.Math.Seq.{take-length}
 use Rattle.std.proofs.lemmas.Grind.{take-set_at}
 use Rattle.vb_pack.specs.Asked.{Answers, span}
@@ -22,10 +22,11 @@ loop-i-init g c =
 pub f-requires : goal.f-requires
 f-requires g c =
     let i : ℕ = c.loop-i.i in let place : ℕ = c.args.base + i in
-    let from : c.args.offset + c.args.base + i ≡ c.args.offset + place = omega arith in
+    let at : ℕ = c.args.offset + c.args.base in
+    let from : 8 * (at / 8) + at % 8 + i ≡ c.args.offset + place = omega arith in
     let bit : c.digit.result ≡ bit_of c.args.src.now (c.args.offset + place) =
-    c.digit.ensures ∙ has_bit-bits c.args.src.now c.read_bits-word.result
-    (c.args.offset + c.args.base) 64 i c.read_bits-word.ensures.digits (omega arith)
+    c.digit.ensures ∙ has_bit-bits c.args.src.now c.full_word-word.result
+    (8 * (at / 8) + at % 8) 64 i c.full_word-word.ensures (omega arith)
     ∙ ap (bit_of c.args.src.now) from in
     let may : goal.F-pre g c.loop-i.f place c.digit.result =
     subst (goal.F-pre g c.loop-i.f place) (sym bit)
@@ -37,10 +38,11 @@ f-requires g c =
 pub loop-i-preserved : goal.loop-i-preserved
 loop-i-preserved g c =
     let i : ℕ = c.loop-i.i in let place : ℕ = c.args.base + i in
-    let from : c.args.offset + c.args.base + i ≡ c.args.offset + place = omega arith in
+    let at : ℕ = c.args.offset + c.args.base in
+    let from : 8 * (at / 8) + at % 8 + i ≡ c.args.offset + place = omega arith in
     let lit : c.digit.result ≡ bit_of c.args.src.now (c.args.offset + place) =
-    c.digit.ensures ∙ has_bit-bits c.args.src.now c.read_bits-word.result
-    (c.args.offset + c.args.base) 64 i c.read_bits-word.ensures.digits (omega arith)
+    c.digit.ensures ∙ has_bit-bits c.args.src.now c.full_word-word.result
+    (8 * (at / 8) + at % 8) 64 i c.full_word-word.ensures (omega arith)
     ∙ ap (bit_of c.args.src.now) from in
     let said =
     subst (λ x. goal.F-step g c.loop-i.f place x c.f.result c.f.new.self) lit c.f.ensures in
