@@ -1,23 +1,27 @@
 -- The places of a word at which a closure is called.
-use Rattle.std.proofs.Common.{◌≡◌, inl, inr, ℕ, suc, ◌+◌, ◌-◌, ◌^◌, ◌<◌, Bool, not, false, eqb}
-use Rattle.std.proofs.Common.{List, [], ◌∷◌, ◌++◌, length, get_or, filter, refl, sym, ap, ◌∙◌}
-use Rattle.std.proofs.Common.{arith}
-use Rattle.std.specs.Int.{bit_at, trailing_zeros, w64}
+use Rattle.std.proofs.Common.{◌≡◌, inl, inr, ℕ, zero, suc, ◌+◌, ◌-◌, ◌*◌, ◌^◌, ◌<◌, ◌≤◌, Bool}
+use Rattle.std.proofs.Common.{not, cond, true, false, ◌&&◌, eqb, List, [], ◌∷◌, ◌++◌, length}
+use Rattle.std.proofs.Common.{get_or, filter, refl}
+use Rattle.std.proofs.Common.{sym, ap, ◌∙◌, arith}
+use Rattle.std.specs.Int.{trailing_zeros, w64}
 use Rattle.std.specs.Int.Bits.{bit_and}
 use Rattle.std.specs.List.{range_with_len}
-use Rattle.std.proofs.lemmas.Bool.{cases_lt}
-use Rattle.std.proofs.lemmas.List.{length-map, get_or-map}
+use Rattle.std.proofs.lemmas.Bool.{cases_lt, false≢true}
+use Rattle.std.proofs.lemmas.List.{length-map, get_or-map, append-nil}
 use Rattle.std.proofs.lemmas.List.Elements.{filter-append}
 use Rattle.std.proofs.lemmas.Nat.{and_le_r}
-use Rattle.std.proofs.lemmas.Nat.Bits.{bit_at-trailing_zeros, bit_at_above}
+use Rattle.std.proofs.lemmas.Nat.Bits.{bit_at-trailing_zeros, bit_at_above, bit_at_ones}
 use Rattle.vb_bits.specs.Bits.{at, bit_of, bits, holes, negated, places}
 use Rattle.vb_bits.specs.Digits.{digits, has_bit}
 use Rattle.vb_bits.proofs.BitsLemmas.{length-bits, at-bits}
-use Rattle.vb_bits.proofs.DigitsLemmas.{at-digits}
+use Rattle.vb_bits.proofs.DigitsLemmas.{at-digits, has_bit-and, has_bit-bit_not}
 use Rattle.vb_bits.proofs.RangeLemmas.{range_with_len-add, same_filter-range_with_len}
+use Rattle.vb_bits.proofs.ReadLemmas.{has_bit-bits}
 use Rattle.vb_bits.proofs.WindowLemmas.{digits-clear}
+use Rattle.vb_bit_buffer.specs.Called.{places_of, ones_of}
 use Rattle.vb_pack.specs.Asked.{span}
-use Rattle.vb_walk.specs.Walks.{places_in}
+use Rattle.vb_walk.specs.Walks.{places_in, others, AreAll, IsOther}
+use Rattle.vb_walk.specs.declared.other.OtherWord.{OtherWord}
 use Rattle.vb_walk.proofs.OnesLemmas.{lowest_off}
 use Rattle.vb_walk.proofs.PlacesLemmas.{places_in_empty, places_in_first, same_places_in}
 
@@ -55,48 +59,155 @@ places_in-holes b o n =
     ∙ ap not (at-bits b o n i false (omega arith))))
     ∙ ap (λ k. filter (at (negated l)) (range_with_len 0 k)) (sym long)
 
+-- ---- places whose bit is a given value
+-- a bit of the other value
+pub valued_other : (v x : Bool) → x ≡ not v → cond v x (not x) ≡ false
+valued_other true x e = e
+valued_other false x e = ap not e
+
+-- a digit of a word whose ones are those digits that are v
+pub valued_digit : (v : Bool) (w i : ℕ) → w < 2 ^ 64 → i < 64
+    → has_bit (others (not v) w) i ≡ cond v (has_bit w i) (not (has_bit w i))
+valued_digit true w i small h = refl
+valued_digit false w i small h = has_bit-bit_not w64 w i small h
+
+pub others_fit : (v : Bool) (w : ℕ) → w < 2 ^ 64 → others (not v) w < 2 ^ 64
+others_fit true w small = small
+others_fit false w small = omega arith
+
+-- no places among bits of the other value
+pub places_of_none : (b : List ℕ) (o : ℕ) (v : Bool) (a n : ℕ)
+    → ((i : ℕ) → a ≤ i → i < a + n → bit_of b (o + i) ≡ not v) → places_of b o v a n ≡ []
+places_of_none b o v a n others =
+    places_in_empty (λ i. cond v (bit_of b (o + i)) (not (bit_of b (o + i)))) a n
+    (λ i lo hi. valued_other v (bit_of b (o + i)) (others i lo hi))
+
 -- ---- the ones of a word
--- the digits of a window that is negated, as places from a on
-pub places_in-negated : (b : List ℕ) (o a n w : ℕ) → digits w 0 n ≡ negated (bits b (o + a) n)
-    → places_in (λ i. not (bit_of b (o + i))) a n ≡ places_in (λ i. has_bit w (i - a)) a n
-places_in-negated b o a n w e =
-    same_places_in (λ i. not (bit_of b (o + i))) (λ i. has_bit w (i - a)) a n
+-- a one is below what the word is below
+pub one_below : (w n i : ℕ) → w < 2 ^ n → has_bit w i ≡ true → i < n
+one_below w n i small one = elim (cases_lt i n) [
+  | inl l ↦ l
+  | inr g ↦ absurd (false≢true (sym (ap (λ x. eqb x 1) (bit_at_above w n i small g)) ∙ one))
+]
+
+-- a one of a word without its lowest one
+pub one_of_fewer : (w i : ℕ) → has_bit (bit_and w (w - 1)) i ≡ true → has_bit w i ≡ true
+one_of_fewer w i one = left (has_bit w i) (has_bit (w - 1) i) (sym (has_bit-and w (w - 1) i) ∙ one)
+  where
+    left : (x y : Bool) → (x && y) ≡ true → x ≡ true
+    left true y e = refl
+    left false y e = e
+
+-- the ones of a word of n digits
+ones_of-few : (w a n : ℕ) → n ≤ 64 → w < 2 ^ n
+    → places_in (λ i. has_bit w (i - a)) a n ≡ ones_of w a
+ones_of-few w a n few small =
+    let t : ℕ → Bool = λ i. has_bit w (i - a) in
+    let none : places_in t (a + n) (64 - n) ≡ [] =
+    places_in_empty t (a + n) (64 - n)
+    (λ i lo hi. ap (λ x. eqb x 1) (bit_at_above w n (i - a) small (omega arith))) in
+    sym (places_in-cut t a (a + n) n 64 (64 - n) refl (omega arith)
+    ∙ ap (λ l. places_in t a n ++ l) none ∙ append-nil (places_in t a n))
+
+-- they are the places of a window whose bit is v, where the digits are what these bits are
+pub places_of-ones : (b : List ℕ) (o : ℕ) (v : Bool) (a n w : ℕ) → n ≤ 64 → w < 2 ^ n
+    → ((i : ℕ) → i < n
+    → has_bit w i ≡ cond v (bit_of b (o + (a + i))) (not (bit_of b (o + (a + i)))))
+    → places_of b o v a n ≡ ones_of w a
+places_of-ones b o v a n w few small read =
+    let value : ℕ → Bool = λ i. cond v (bit_of b (o + i)) (not (bit_of b (o + i))) in
+    same_places_in value (λ i. has_bit w (i - a)) a n
     (λ i lo hi.
-    let place : o + a + (i - a) ≡ o + i = omega arith in
-    let near : i - a < n = omega arith in
-    let front : 0 + (i - a) ≡ i - a = omega arith in
-    let size = length-bits b (o + a) n in
-    sym (ap (has_bit w) (sym front)
-    ∙ sym (at-digits w 0 n (i - a) false near) ∙ ap (λ l. get_or l (i - a) false) e
-    ∙ get_or-map not (bits b (o + a) n) (i - a) false false (omega (arith, size))
-    ∙ ap not (at-bits b (o + a) n (i - a) false near ∙ ap (bit_of b) place)))
+    let place : a + (i - a) ≡ i = omega arith in
+    sym (read (i - a) (omega arith) ∙ ap value place)) ∙ ones_of-few w a n few small
+
+-- a window as its first part, whole words, and the rest
+pub window_cut : (b : List ℕ) (o : ℕ) (v : Bool) (n first words rest : ℕ)
+    → n ≡ first + (64 * words + rest)
+    → places_of b o v 0 n ≡ places_of b o v 0 first
+    ++ (places_of b o v first (64 * words) ++ places_of b o v (first + 64 * words) rest)
+window_cut b o v n first words rest whole =
+    let value : ℕ → Bool = λ i. cond v (bit_of b (o + i)) (not (bit_of b (o + i))) in
+    places_in-cut value 0 first first n (64 * words + rest) (omega arith) whole
+    ∙ ap (λ l. places_of b o v 0 first ++ l) (places_in-cut value first (first + 64 * words)
+    (64 * words) (64 * words + rest) rest refl refl)
+
+-- of digits that were read, those that are v, as ones
+pub valued_read : (b : List ℕ) (o : ℕ) (v : Bool) (a n r w : ℕ)
+    → n ≤ 64 → r < 2 ^ 64 → digits r 0 n ≡ bits b (o + a) n
+    → digits w 0 n ≡ digits (others (not v) r) 0 n → (i : ℕ) → i < n
+    → has_bit w i ≡ cond v (bit_of b (o + (a + i))) (not (bit_of b (o + (a + i))))
+valued_read b o v a n r w few fits read same i l =
+    let place : o + a + i ≡ o + (a + i) = omega arith in
+    let front : 0 + i ≡ i = omega arith in
+    ap (has_bit w) (sym front) ∙ sym (at-digits w 0 n i false l)
+    ∙ ap (λ x. get_or x i false) same ∙ at-digits (others (not v) r) 0 n i false l
+    ∙ ap (has_bit (others (not v) r)) front ∙ valued_digit v r i fits (omega arith)
+    ∙ ap (λ x. cond v x (not x)) (has_bit-bits b r (o + a) n i read l ∙ ap (bit_of b) place)
+
+-- the places behind those that were passed over: the ones of a word, and those behind it
+pub places_of-other : (b : List ℕ) (o : ℕ) (v : Bool) (at end s : ℕ) (w : OtherWord)
+    → o + s ≡ 8 * at → IsOther b at end (not v) w
+    → places_of b o v s (8 * (end - at)) ≡ ones_of (others (not v) w.word) (8 * (w.behind - 8) - o)
+    ++ places_of b o v (8 * w.behind - o) (8 * (end - w.behind))
+places_of-other b o v at end s w from found =
+    let value : ℕ → Bool = λ i. cond v (bit_of b (o + i)) (not (bit_of b (o + i))) in
+    let q : ℕ = 8 * (w.behind - 8) - o in
+    let front : o + q ≡ 8 * (w.behind - 8) = omega (arith, found.from) in
+    let none = places_of_none b o v s (8 * (w.behind - 8) - 8 * at)
+    (λ i lo hi. found.passed (o + i) (omega arith) (omega (arith, found.from))) in
+    let fits : others (not v) w.word < 2 ^ 64 = others_fit v w.word found.fits in
+    let here = places_of-ones b o v q 64 (others (not v) w.word) (omega arith) fits
+    (λ i l.
+    let place : 8 * (w.behind - 8) + i ≡ o + (q + i) = omega arith in
+    valued_digit v w.word i found.fits l
+    ∙ ap (λ x. cond v x (not x)) (found.read i l ∙ ap (bit_of b) place)) in
+    places_in-cut value s q (8 * (w.behind - 8) - 8 * at) (8 * (end - at))
+    (64 + 8 * (end - w.behind)) (omega (arith, found.from))
+    (omega (arith, found.from, found.within))
+    ∙ ap (λ l. l ++ places_in value q (64 + 8 * (end - w.behind))) none
+    ∙ places_in-cut value q (8 * w.behind - o) 64 (64 + 8 * (end - w.behind))
+    (8 * (end - w.behind)) (omega (arith, found.from)) refl
+    ∙ ap (λ l. l ++ places_of b o v (8 * w.behind - o) (8 * (end - w.behind))) here
+
+-- no places where all was passed over
+pub places_of-passed : (b : List ℕ) (o : ℕ) (v : Bool) (at end s : ℕ) → (at < end → o + s ≡ 8 * at)
+    → AreAll b (not v) (8 * at) (8 * end) → places_of b o v s (8 * (end - at)) ≡ []
+places_of-passed b o v at end s from passed =
+    places_of_none b o v s (8 * (end - at))
+    (λ i lo hi. let here = from (omega arith) in passed (o + i) (omega arith) (omega arith))
+
+-- all ones
+places_in_all : (t : ℕ → Bool) (a n : ℕ)
+    → ((i : ℕ) → a ≤ i → i < a + n → t i ≡ true) → places_in t a n ≡ span a n
+unfolding places_in span
+places_in_all t a zero h = refl
+places_in_all t a (suc n) h =
+    ap (λ x. cond x (a ∷ filter t (range_with_len (a + 1) n)) (filter t (range_with_len (a + 1) n)))
+    (h a (omega arith) (omega arith))
+    ∙ ap (λ l. a ∷ l) (places_in_all t (a + 1) n (λ i lo hi. h i (omega arith) (omega arith)))
+
+pub ones_of-all : (w a : ℕ) → w ≡ 2 ^ 64 - 1 → ones_of w a ≡ span a 64
+ones_of-all w a full =
+    places_in_all (λ i. has_bit w (i - a)) a 64
+    (λ i lo hi. ap (λ x. has_bit x (i - a)) full
+    ∙ ap (λ x. eqb x 1) (bit_at_ones 64 (i - a) (omega arith)))
 
 -- no ones
-pub ones_none : (w a n : ℕ) → w ≡ 0 → places_in (λ i. has_bit w (i - a)) a n ≡ []
-ones_none w a n z = places_in_empty (λ i. has_bit w (i - a)) a n
+pub ones_of_none : (w a : ℕ) → w ≡ 0 → ones_of w a ≡ []
+ones_of_none w a z = places_in_empty (λ i. has_bit w (i - a)) a 64
     (λ i lo hi. ap (λ x. has_bit x (i - a)) z ∙ digits-clear (i - a))
 
--- the lowest one is inside
-pub lowest_below : (w n : ℕ) → 0 < w → w < 2 ^ 64 → w < 2 ^ n → trailing_zeros w64 w < n
-lowest_below w n some fits small =
-    let z = bit_at-trailing_zeros w64 w some fits in
-    elim (cases_lt (trailing_zeros w64 w) n) [
-      | inl l ↦ l
-      | inr g ↦ let none : bit_at w (trailing_zeros w64 w) ≡ 0 =
-          bit_at_above w n (trailing_zeros w64 w) small g in
-          absurd (omega (arith, z.1))
-    ]
-
 -- the lowest one, and the others
-pub ones_first : (w a n : ℕ) → 0 < w → w < 2 ^ 64 → w < 2 ^ n → places_in (λ i. has_bit w (i - a)) a
-    n ≡ (a + trailing_zeros w64 w) ∷ places_in (λ i. has_bit (bit_and w (w - 1)) (i - a)) a n
-ones_first w a n some fits small =
+pub ones_of_first : (w a : ℕ) → 0 < w → w < 2 ^ 64
+    → ones_of w a ≡ (a + trailing_zeros w64 w) ∷ ones_of (bit_and w (w - 1)) a
+ones_of_first w a some fits =
     let low : ℕ = trailing_zeros w64 w in
     let z = bit_at-trailing_zeros w64 w some fits in
     let off = lowest_off w low z.1 z.2 in
-    let inside : low < n = lowest_below w n some fits small in
+    let inside : low < 64 = one_below w 64 low fits (ap (λ x. eqb x 1) z.1) in
     let place : a + low - a ≡ low = omega arith in
-    places_in_first (λ i. has_bit w (i - a)) (λ i. has_bit (bit_and w (w - 1)) (i - a)) a n
+    places_in_first (λ i. has_bit w (i - a)) (λ i. has_bit (bit_and w (w - 1)) (i - a)) a 64
     (a + low) (omega arith) (omega arith)
     (λ i lo hi. ap (λ x. eqb x 1) (z.2 (i - a) (omega arith)))
     (ap (has_bit w) place ∙ ap (λ x. eqb x 1) z.1)

@@ -1,3 +1,4 @@
+pub mod Called
 pub mod Gives
 pub mod SharedSet
 pub mod Stops

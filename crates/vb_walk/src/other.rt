@@ -7,18 +7,20 @@ use vb_bits::word_at;
 
 /// A word, and the byte behind it.
 #[derive(Clone, Copy)]
-pub(crate) struct OtherWord {
-    pub(crate) behind: usize,
-    pub(crate) word: u64,
+pub struct OtherWord {
+    /// The byte behind the word's eight bytes.
+    pub behind: usize,
+    /// These bytes, least significant first.
+    pub word: u64,
 }
 
-/// Of the whole words from byte `at` up to byte `end`, the first one with a digit that isn't
-/// `value`.
+/// Of the whole words of eight bytes from byte `at` up to byte `end`, the first one with a digit
+/// that isn't `value`; `None` where there is none.
 ///
 /// The first word is looked at alone, since it mostly is the one; then four at once are passed
 /// over.
 #[inline(always)]
-pub(crate) fn first_other(bytes: &[u8], at: usize, end: usize, value: bool) -> Option<OtherWord>
+pub fn first_other(bytes: &[u8], at: usize, end: usize, value: bool) -> Option<OtherWord>
     requires order { at ≤ end }
     requires whole { (end - at) % 8 ≡ 0 }
     requires room { end ≤ length bytes.now }
@@ -78,7 +80,7 @@ fn four_are(bytes: &[u8], at: usize, value: bool) -> bool
 
 /// The digits of a word that aren't `value`, as ones.
 #[inline(always)]
-fn others(word: u64, value: bool) -> u64
+pub fn others(word: u64, value: bool) -> u64
     ensures { result ≡ others value word }
 {
     if value { !word } else { word }

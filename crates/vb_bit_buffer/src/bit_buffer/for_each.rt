@@ -1,17 +1,19 @@
 //! Closures called at the bits of a set, in ascending order and once at each, word by word.
-ghost use Rattle.std.specs.Prelude.{◌≡◌, ◌+◌, ◌*◌, ◌^◌, ◌<◌, ◌≤◌, not, length, Ok, MatchResult};
+ghost use Rattle.std.specs.Prelude.{◌≡◌, ℕ, ◌+◌, ◌*◌, ◌%◌, ◌^◌, ◌<◌, ◌≤◌, true, length, Ok};
+ghost use Rattle.std.specs.Prelude.{MatchResult};
 ghost use Rattle.std.specs.List.{FoldsTo};
+ghost use Rattle.vb_bit_buffer.specs.Called.{places_of, ones_of};
 ghost use Rattle.vb_bit_buffer.specs.Stops.{StopsWith};
 ghost use Rattle.vb_bit_bytes.specs.AskedOf.{asked_of};
-ghost use Rattle.vb_bits.specs.Bits.{at, bit_of, bits, holes, negated, places};
-ghost use Rattle.vb_bits.specs.Digits.{digits};
+ghost use Rattle.vb_bits.specs.Bits.{at, bit_of, bits, holes, places};
+ghost use Rattle.vb_bits.specs.Digits.{digits, has_bit};
 ghost use Rattle.vb_bits.specs.InBytes.{InBytes};
 ghost use Rattle.vb_pack.specs.Asked.{CanAsk, span};
-ghost use Rattle.vb_walk.specs.Walks.{places_in};
 
 use super::BitBuffer;
 use std::alloc::Allocator;
-use vb_bits::{digit, low_digits, read_bits};
+use vb_bits::{digit, full_word, low_digits, read_bits};
+use vb_walk::{first_other, others};
 
 #[tactic(auto, using(crate::proofs::SetLemmas::sets))]
 impl<A: Allocator + Clone> BitBuffer<A> {
@@ -20,9 +22,7 @@ impl<A: Allocator + Clone> BitBuffer<A> {
         requires { CanAsk (F.pre) (F.step) f.old (places self.now.bits) }
         ensures { FoldsTo (λ p i q. F.step p i tt q) f.old (places self.now.bits) f.new }
     {
-        for i in self.set_indices() {
-            f(i);
-        }
+        for_each_place(self.buffer.as_slice(), self.offset, self.len, true, f);
     }
 
     /// Calls `f` at the place of each false bit. It goes by words, and makes no other buffer.
@@ -30,7 +30,7 @@ impl<A: Allocator + Clone> BitBuffer<A> {
         requires { CanAsk (F.pre) (F.step) f.old (holes self.now.bits) }
         ensures { FoldsTo (λ p i q. F.step p i tt q) f.old (holes self.now.bits) f.new }
     {
-        for_each_unset(self.buffer.as_slice(), self.offset, self.len, f);
+        for_each_place(self.buffer.as_slice(), self.offset, self.len, false, f);
     }
 
     /// Calls `f` at each place, with the bit there. It reads the bits by words.
@@ -62,18 +62,118 @@ impl<A: Allocator + Clone> BitBuffer<A> {
     }
 }
 
-/// Calls `f` at each place of the window of `len` bits from bit `offset` on whose bit is false.
+/// Calls `f` at each place of the window of `len` bits from bit `offset` on whose bit is `value`.
+///
+/// Its first part ends with a byte, so that words are read from whole bytes.
 #[inline(always)]
-fn for_each_unset<F: FnMut(usize)>(bytes: &[u8], offset: usize, len: usize, f: &mut F)
+fn for_each_place<F: FnMut(usize)>(bytes: &[u8], offset: usize, len: usize, value: bool, f: &mut F)
     requires window { InBytes bytes.now offset len }
-    requires callable { CanAsk (F.pre) (F.step) f.old (holes (bits bytes.now offset len)) }
-    ensures { FoldsTo (λ p i q. F.step p i tt q) f.old (holes (bits bytes.now offset len)) f.new }
+    requires callable { CanAsk (F.pre) (F.step) f.old (places_of bytes.now offset value 0 len) }
+    ensures { FoldsTo (λ p i q. F.step p i tt q) f.old
+        (places_of bytes.now offset value 0 len) f.new }
 {
-    let full = len / 64;
-    for k in 0..full {
-        unset_in_word(bytes, offset, 64 * k, 64, f);
+    let first = len.min(64 - offset % 8);
+    places_in_part(bytes, offset, 0, first, value, f);
+    let words = (len - first) / 64;
+    places_in_words(bytes, offset, first, words, value, f);
+    places_in_part(
+        bytes,
+        offset,
+        first + 64 * words,
+        (len - first) % 64,
+        value,
+        f,
+    );
+}
+
+/// Calls `f` at those places of so many words from place `base` on, counted from bit `offset`,
+/// whose bit is `value`. The words begin with a byte, and those without such a place are passed
+/// over.
+#[inline(always)]
+fn places_in_words<F: FnMut(usize)>(
+    bytes: &[u8],
+    offset: usize,
+    base: usize,
+    words: usize,
+    value: bool,
+    f: &mut F,
+)
+    requires window { InBytes bytes.now (offset + base) (64 * words) }
+    requires whole { 0 < words → (offset + base) % 8 ≡ 0 }
+    requires callable { CanAsk (F.pre) (F.step) f.old
+        (places_of bytes.now offset value base (64 * words)) }
+    ensures { FoldsTo (λ p i q. F.step p i tt q) f.old
+        (places_of bytes.now offset value base (64 * words)) f.new }
+{
+    let mut at = (offset + base) / 8;
+    let end = at + 8 * words;
+    while let Some(other) = first_other(bytes, at, end, !value) {
+        at = other.behind;
+        ones_or_all(others(other.word, !value), 8 * (at - 8) - offset, f);
     }
-    unset_in_word(bytes, offset, 64 * full, len % 64, f);
+}
+
+/// Calls `f` at those of the `len` places from `base` on, at most 64 and counted from bit `offset`,
+/// whose bit is `value`.
+#[inline(always)]
+fn places_in_part<F: FnMut(usize)>(
+    bytes: &[u8],
+    offset: usize,
+    base: usize,
+    len: usize,
+    value: bool,
+    f: &mut F,
+)
+    requires in_word { len ≤ 64 }
+    requires window { InBytes bytes.now (offset + base) len }
+    requires callable { CanAsk (F.pre) (F.step) f.old
+        (places_of bytes.now offset value base len) }
+    ensures { FoldsTo (λ p i q. F.step p i tt q) f.old
+        (places_of bytes.now offset value base len) f.new }
+{
+    let word = others(read_bits(bytes, offset + base, len), !value);
+    ones(low_digits(word, len), base, f);
+}
+
+/// [`ones`], where the places of a word that is all ones are counted through, which takes no word
+/// apart.
+#[inline(always)]
+fn ones_or_all<F: FnMut(usize)>(word: u64, base: usize, f: &mut F)
+    requires fits { (i : ℕ) → has_bit word i ≡ true → base + i < 2 ^ 64 }
+    requires callable { CanAsk (F.pre) (F.step) f.old (ones_of word base) }
+    ensures { FoldsTo (λ p i q. F.step p i tt q) f.old (ones_of word base) f.new }
+{
+    if word == u64::MAX {
+        all(base, f);
+    } else {
+        ones(word, base, f);
+    }
+}
+
+/// Calls `f` at the 64 places from `base` on.
+#[inline(always)]
+fn all<F: FnMut(usize)>(base: usize, f: &mut F)
+    requires fits { base + 63 < 2 ^ 64 }
+    requires callable { CanAsk (F.pre) (F.step) f.old (span base 64) }
+    ensures { FoldsTo (λ p i q. F.step p i tt q) f.old (span base 64) f.new }
+{
+    for i in 0..64 {
+        f(base + i);
+    }
+}
+
+/// Calls `f` at the places of a word's ones, of which the lowest digit has the place `base`.
+#[inline(always)]
+fn ones<F: FnMut(usize)>(word: u64, base: usize, f: &mut F)
+    requires fits { (i : ℕ) → has_bit word i ≡ true → base + i < 2 ^ 64 }
+    requires callable { CanAsk (F.pre) (F.step) f.old (ones_of word base) }
+    ensures { FoldsTo (λ p i q. F.step p i tt q) f.old (ones_of word base) f.new }
+{
+    let mut left = word;
+    while left != 0 {
+        f(base + left.trailing_zeros() as usize);
+        left &= left - 1;
+    }
 }
 
 /// Calls `f` at each place of the window, with the bit there.
@@ -90,24 +190,6 @@ fn for_each_bit<F: FnMut(usize, bool)>(bytes: &[u8], offset: usize, len: usize, 
         bits_in_word(bytes, offset, 64 * k, 64, f);
     }
     bits_in_word(bytes, offset, 64 * full, len % 64, f);
-}
-
-/// Calls `f` at those of the `len` places from `base` on, at most 64 and counted from bit `offset`,
-/// whose bit is false.
-#[inline(always)]
-fn unset_in_word<F: FnMut(usize)>(bytes: &[u8], offset: usize, base: usize, len: usize, f: &mut F)
-    requires in_word { len ≤ 64 }
-    requires window { InBytes bytes.now (offset + base) len }
-    requires callable { CanAsk (F.pre) (F.step) f.old
-        (places_in (λ i. not (bit_of bytes.now (offset + i))) base len) }
-    ensures { FoldsTo (λ p i q. F.step p i tt q) f.old
-        (places_in (λ i. not (bit_of bytes.now (offset + i))) base len) f.new }
-{
-    let mut unset = read_negated(bytes, offset + base, len);
-    while unset != 0 {
-        f(base + unset.trailing_zeros() as usize);
-        unset &= unset - 1;
-    }
 }
 
 /// Calls `f` at the `len` places from `base` on, at most 64 and counted from bit `offset`, with the
@@ -127,19 +209,22 @@ fn bits_in_word<F: FnMut(usize, bool)>(
     ensures { FoldsTo (λ p i q. F.step p i (bit_of bytes.now (offset + i)) tt q)
         f.old (span base len) f.new }
 {
-    let word = read_bits(bytes, offset + base, len);
+    let word = read_word(bytes, offset + base, len);
     for i in 0..len {
         f(base + i, digit(word, i));
     }
 }
 
-/// [`read_bits`] of the bits negated; the digits from `count` on are 0.
+/// [`read_bits`], of which 64 are a [`full_word`].
 #[inline(always)]
-fn read_negated(bytes: &[u8], at: usize, count: usize) -> u64
+fn read_word(bytes: &[u8], at: usize, count: usize) -> u64
     requires in_word { count ≤ 64 }
     requires inside { at + count ≤ 8 * length bytes.now }
-    ensures digits { digits result 0 count ≡ negated (bits bytes.now at count) }
-    ensures clear { result < 2 ^ count }
+    ensures { digits result 0 count ≡ bits bytes.now at count }
 {
-    low_digits(!read_bits(bytes, at, count), count)
+    if count == 64 {
+        full_word(bytes, at / 8, at % 8)
+    } else {
+        read_bits(bytes, at, count)
+    }
 }
