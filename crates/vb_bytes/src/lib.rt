@@ -14,11 +14,11 @@ mod owned;
 
 pub use owned::{HasItems, OwnedItems};
 use std::alloc::Allocator;
-use vb_core::{BufferError, Element};
+use vb_core::{BufferError, Element, Result};
 
 /// The number of bytes of so many items. Refused with `TooManyBytes` exactly where it passes
 /// `usize`.
-pub fn byte_count<T: Element>(items: usize) -> Result<usize, BufferError>
+pub fn byte_count<T: Element>(items: usize) -> Result<usize>
     ensures fits { items * T.SIZE < 2 ^ 64 → result ≡ Ok (items * T.SIZE) }
     ensures too_many { 2 ^ 64 ≤ items * T.SIZE → IsErrOf result BufferError.TooManyBytes }
 {
@@ -27,7 +27,7 @@ pub fn byte_count<T: Element>(items: usize) -> Result<usize, BufferError>
 
 /// The number of items that `len` bytes are. Refused with `ByteLength` exactly where the size of an
 /// item doesn't divide it.
-pub fn item_count<T: Element>(len: usize) -> Result<usize, BufferError>
+pub fn item_count<T: Element>(len: usize) -> Result<usize>
     ensures items { IfOk result (λ items. items * T.SIZE ≡ len) }
     ensures whole { len % T.SIZE ≡ 0 → IsOk result }
     ensures uneven { len % T.SIZE ≢ 0 → IsErrOf result (BufferError.ByteLength len T.SIZE) }
@@ -80,10 +80,7 @@ pub fn read_items<T: Element, A: Allocator>(bytes: &[u8], items: &mut Vec<T, A>)
 
 /// The bytes of items, in a vector made for them. Refused with `TooManyBytes` where their number
 /// passes `usize`, which is looked at before memory is asked for, and else with `OutOfMemory`.
-pub fn bytes_of<T: Element, A: Allocator + Clone>(
-    alloc: &A,
-    items: &[T],
-) -> Result<Vec<u8, A>, BufferError>
+pub fn bytes_of<T: Element, A: Allocator + Clone>(alloc: &A, items: &[T]) -> Result<Vec<u8, A>>
     ensures { MakesBytes (length items.now * T.SIZE)
         (λ bytes. bytes.items ≡ byteform T.form items.now) result }
 {
@@ -96,10 +93,7 @@ pub fn bytes_of<T: Element, A: Allocator + Clone>(
 /// The items whose bytes these are, in a vector made for them. Refused with `ByteLength` where the
 /// size of an item doesn't divide the number of bytes, which is looked at before memory is asked
 /// for, and else with `OutOfMemory`.
-pub fn items_of<T: Element, A: Allocator + Clone>(
-    alloc: &A,
-    bytes: &[u8],
-) -> Result<Vec<T, A>, BufferError>
+pub fn items_of<T: Element, A: Allocator + Clone>(alloc: &A, bytes: &[u8]) -> Result<Vec<T, A>>
     ensures { ReadsBytes (length bytes.now) T.SIZE
         (λ items. IsReadFrom T.SIZE T.form T.is_in_type bytes.now items.items) result }
 {

@@ -4,6 +4,7 @@ ghost use Rattle.std.specs.Int.{is_power_of_two};
 ghost use Rattle.std.specs.Fmt.{decimal};
 ghost use Rattle.vb_core.specs.Alignments.{IsPower};
 
+use crate::Result;
 use crate::element::Element;
 use crate::error::BufferError;
 use std::fmt;
@@ -82,7 +83,7 @@ impl Alignment {
 
     /// The alignment of `2^exponent` bytes. Refused with `ExponentTooLarge` exactly where the
     /// exponent is 64 or more.
-    pub fn try_from_exponent(exponent: u8) -> Result<Alignment, BufferError>
+    pub fn try_from_exponent(exponent: u8) -> Result<Self>
         ensures fits { exponent < 64 → result ≡ Ok exponent }
         ensures too_large { 64 ≤ exponent → IsErrOf result (BufferError.ExponentTooLarge exponent) }
     {
@@ -95,7 +96,7 @@ impl Alignment {
     /// The alignment of `2^exponent` bytes, where the exponent comes from input that isn't trusted
     /// and so isn't to ask for more than `MAX_UNTRUSTED`. Refused with `ExponentTooLarge` exactly
     /// where the exponent is 64 or more, and with `Untrusted` exactly where it is 17 to 63.
-    pub fn try_from_untrusted_exponent(exponent: u8) -> Result<Alignment, BufferError>
+    pub fn try_from_untrusted_exponent(exponent: u8) -> Result<Self>
         ensures fits { exponent ≤ 16 → result ≡ Ok exponent }
         ensures untrusted { 16 < exponent → exponent < 64 →
             IsErrOf result (BufferError.Untrusted exponent) }
@@ -110,7 +111,7 @@ impl Alignment {
 
     /// The alignment of `align` bytes. Refused with `AlignmentZero` exactly where `align` is 0, and
     /// with `NotPowerOfTwo` exactly where it is another number that is no power of two.
-    pub fn try_from_u32(align: u32) -> Result<Alignment, BufferError>
+    pub fn try_from_u32(align: u32) -> Result<Self>
         ensures power { IsTrue (is_power_of_two align) →
             IsOkAnd result (λ alignment. 2 ^ alignment ≡ align) }
         ensures zero { align ≡ 0 → IsErrOf result BufferError.AlignmentZero }
@@ -128,7 +129,7 @@ impl Alignment {
     }
 
     /// The alignment in bytes. Refused with `PastU32` exactly where the exponent is 32 or more.
-    pub fn to_u32(self) -> Result<u32, BufferError>
+    pub fn to_u32(self) -> Result<u32>
         ensures fits { self < 32 → result ≡ Ok (2 ^ self) }
         ensures past { 32 ≤ self → IsErrOf result (BufferError.PastU32 self) }
     {

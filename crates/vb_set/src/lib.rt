@@ -13,7 +13,7 @@ pub use bit_buffer_mut::BitBufferMut;
 pub use try_into_mut::TryIntoMut;
 pub use vb_bit_buffer::{BitBuffer, ToBitBuffer, take_bits};
 pub use vb_bits::{BitOp, window_fits};
-pub use vb_core::{BitIndex, BufferError};
+pub use vb_core::{BitIndex, BufferError, Result};
 pub use vb_mem::{ByteBuffer, ByteBufferMut};
 pub use vb_view::{BitBufferMeta, BitBufferMutView, BitBufferView, BitStore};
 pub use vb_walk::{
