@@ -1,7 +1,7 @@
 //! What a set holds, as lists and as a text in memory of an allocator.
-ghost use Rattle.std.specs.Prelude.{◌≡◌, IfOk, IsOkUnless, string_bytes};
+ghost use Rattle.std.specs.Prelude.{◌≡◌, string_bytes};
 ghost use Rattle.vb_bits.specs.Shown.{shown};
-ghost use Rattle.vb_set.specs.declared.BufferError.TheVariants.{OutOfMemory};
+ghost use Rattle.vb_set.specs.Answers.{Makes};
 ghost use Rattle.vb_bits.specs.Digits.{digits};
 ghost use Rattle.vb_bits.specs.Bits.{places};
 ghost use Rattle.vb_bits.specs.Runs.{runs};
@@ -9,16 +9,15 @@ ghost use Rattle.vb_set.specs.View.{bits_of};
 
 use std::alloc::Allocator;
 use vb_bits::digit;
-use vb_set::{BitBuffer, BitBufferView, BufferError};
+use vb_set::{BitBuffer, BitBufferView, Result};
 
 /// The bits from place 0 on, by one request, a word of them at a time. Refused by `OutOfMemory`
 /// alone.
 pub(crate) fn list_bits<A: Allocator + Clone>(
     alloc: &A,
     view: BitBufferView<'_>,
-) -> Result<Vec<bool, A>, BufferError>
-    ensures bits { IfOk result (λ list. list.items ≡ bits_of view.entry) }
-    ensures refused { IsOkUnless result OutOfMemory }
+) -> Result<Vec<bool, A>>
+    ensures { Makes (λ list. list.items ≡ bits_of view.entry) result }
 {
     let mut list = Vec::with_capacity(alloc.clone()?, view.len())?;
     let chunks = view.chunks();
@@ -45,9 +44,8 @@ fn list_digits(word: u64) -> [bool; 64]
 pub(crate) fn list_places<A: Allocator + Clone>(
     alloc: &A,
     view: BitBufferView<'_>,
-) -> Result<Vec<usize, A>, BufferError>
-    ensures places { IfOk result (λ list. list.items ≡ places (bits_of view.entry)) }
-    ensures refused { IsOkUnless result OutOfMemory }
+) -> Result<Vec<usize, A>>
+    ensures { Makes (λ list. list.items ≡ places (bits_of view.entry)) result }
 {
     let mut places = Vec::with_capacity(alloc.clone()?, view.true_count())?;
     for place in view.set_indices() {
@@ -61,9 +59,8 @@ pub(crate) fn list_places<A: Allocator + Clone>(
 pub(crate) fn list_runs<A: Allocator + Clone>(
     alloc: &A,
     view: BitBufferView<'_>,
-) -> Result<Vec<(usize, usize), A>, BufferError>
-    ensures runs { IfOk result (λ list. list.items ≡ runs (bits_of view.entry)) }
-    ensures refused { IsOkUnless result OutOfMemory }
+) -> Result<Vec<(usize, usize), A>>
+    ensures { Makes (λ list. list.items ≡ runs (bits_of view.entry)) result }
 {
     let mut runs = Vec::new(alloc.clone()?);
     for run in view.set_slices() {
@@ -73,12 +70,8 @@ pub(crate) fn list_runs<A: Allocator + Clone>(
 }
 
 /// The text that shows a set. Refused by `OutOfMemory` alone.
-pub(crate) fn text<A: Allocator + Clone>(
-    alloc: &A,
-    set: &BitBuffer<A>,
-) -> Result<String<A>, BufferError>
-    ensures shown { IfOk result (λ text. string_bytes text ≡ shown set.now.bits) }
-    ensures refused { IsOkUnless result OutOfMemory }
+pub(crate) fn text<A: Allocator + Clone>(alloc: &A, set: &BitBuffer<A>) -> Result<String<A>>
+    ensures { Makes (λ text. string_bytes text ≡ shown set.now.bits) result }
 {
     Ok(format!(in alloc.clone()?; "{set}")?)
 }

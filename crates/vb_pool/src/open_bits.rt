@@ -1,18 +1,18 @@
 //! The sets that commands edit.
 ghost use Rattle.std.specs.Prelude.{◌≡◌, ◌+◌, ◌*◌, ◌^◌, ◌<◌, ◌≤◌, [], ◌∷◌, ◌++◌, length, take};
-ghost use Rattle.std.specs.Prelude.{replicate, slice_set, false, IsTrue, IfOk, IsOkUnless};
+ghost use Rattle.std.specs.Prelude.{replicate, slice_set, false, IsTrue};
 ghost use Rattle.std.specs.Prelude.{OnOk, OnErr};
 ghost use Rattle.vb_bits.specs.Bits.{bits, negated};
 ghost use Rattle.vb_bits.specs.Edits.{filled};
 ghost use Rattle.vb_bits.specs.InBytes.{InBytes};
 ghost use Rattle.vb_command.specs.Machine.{all_below};
 ghost use Rattle.vb_pool.specs.OpenBits.{LimitsLength};
+ghost use Rattle.vb_set.specs.Answers.{Makes};
 ghost use Rattle.vb_set.specs.Takes.{with_true};
-ghost use Rattle.vb_set.specs.declared.BufferError.TheVariants.{OutOfMemory};
 
 use std::alloc::Allocator;
 use std::marker::Model;
-use vb_set::{BitBuffer, BitBufferMut, BufferError, ByteBuffer, ByteBufferMut, TryIntoMut};
+use vb_set::{BitBuffer, BitBufferMut, BufferError, ByteBuffer, ByteBufferMut, Result, TryIntoMut};
 
 /// A set that commands edit. Contracts see the list of its bits.
 ///
@@ -44,16 +44,10 @@ impl<A: Allocator + Clone> OpenBits<A> {
 
     /// The window of `len` bits from bit `offset` on in a copy of the bytes. Refused by
     /// `OutOfMemory` alone.
-    pub fn copy_window(
-        alloc: &A,
-        bytes: &[u8],
-        offset: usize,
-        len: usize,
-    ) -> Result<Self, BufferError>
+    pub fn copy_window(alloc: &A, bytes: &[u8], offset: usize, len: usize) -> Result<Self>
         requires first_byte { offset < 8 }
         requires window { InBytes bytes.now offset len }
-        ensures bits { IfOk result (λ s. s ≡ bits bytes.now offset len) }
-        ensures refused { IsOkUnless result OutOfMemory }
+        ensures { Makes (λ s. s ≡ bits bytes.now offset len) result }
     {
         let buffer = ByteBufferMut::copy_from(alloc.clone()?, bytes)?;
         Ok(OpenBits::new(BitBufferMut::from_buffer(buffer, offset, len)))
@@ -61,16 +55,10 @@ impl<A: Allocator + Clone> OpenBits<A> {
 
     /// The window of `len` bits from bit `offset` on in these very bytes, whose storage becomes
     /// that of the set. Refused by `OutOfMemory` alone; then the bytes are gone.
-    pub fn window(
-        alloc: &A,
-        bytes: Vec<u8, A>,
-        offset: usize,
-        len: usize,
-    ) -> Result<Self, BufferError>
+    pub fn window(alloc: &A, bytes: Vec<u8, A>, offset: usize, len: usize) -> Result<Self>
         requires first_byte { offset < 8 }
         requires window { InBytes bytes.items offset len }
-        ensures bits { IfOk result (λ s. s ≡ bits bytes.items offset len) }
-        ensures refused { IsOkUnless result OutOfMemory }
+        ensures { Makes (λ s. s ≡ bits bytes.items offset len) result }
     {
         let Ok(alloc) = alloc.clone() else {
             drop(bytes);
@@ -81,27 +69,24 @@ impl<A: Allocator + Clone> OpenBits<A> {
     }
 
     /// `n` bits, all `v`. Refused by `OutOfMemory` alone.
-    pub fn full(alloc: &A, v: bool, n: usize) -> Result<Self, BufferError>
-        ensures bits { IfOk result (λ s. s ≡ replicate n v) }
-        ensures refused { IsOkUnless result OutOfMemory }
+    pub fn full(alloc: &A, v: bool, n: usize) -> Result<Self>
+        ensures { Makes (λ s. s ≡ replicate n v) result }
     {
         BitBufferMut::full(alloc.clone()?, v, n).map(OpenBits::new)
     }
 
     /// `n` bits, true exactly at these places. Refused by `OutOfMemory` alone.
-    pub fn from_indices(alloc: &A, n: usize, places: &[usize]) -> Result<Self, BufferError>
+    pub fn from_indices(alloc: &A, n: usize, places: &[usize]) -> Result<Self>
         requires { IsTrue (all_below n places.now) }
-        ensures bits { IfOk result (λ s. s ≡ with_true (replicate n false) places.now) }
-        ensures refused { IsOkUnless result OutOfMemory }
+        ensures { Makes (λ s. s ≡ with_true (replicate n false) places.now) result }
     {
         Ok(OpenBits::new(BitBufferMut::from_indices(alloc.clone()?, n, places.iter().copied())?))
     }
 
     /// The bits of a shared set: in its storage, where it has no other owner, else in a copy.
     /// Refused by `OutOfMemory` alone; then the shared set is gone.
-    pub fn thaw(alloc: &A, set: BitBuffer<A>) -> Result<Self, BufferError>
-        ensures bits { IfOk result (λ s. s ≡ set.bits) }
-        ensures refused { IsOkUnless result OutOfMemory }
+    pub fn thaw(alloc: &A, set: BitBuffer<A>) -> Result<Self>
+        ensures { Makes (λ s. s ≡ set.bits) result }
     {
         prove!(set.offset() < 8);
         match set.try_into_mut() {
@@ -115,27 +100,24 @@ impl<A: Allocator + Clone> OpenBits<A> {
     }
 
     /// The bits of a shared set, in a copy. Refused by `OutOfMemory` alone.
-    fn copy_from(alloc: &A, set: &BitBuffer<A>) -> Result<Self, BufferError>
-        ensures bits { IfOk result (λ s. s ≡ set.now.bits) }
-        ensures refused { IsOkUnless result OutOfMemory }
+    fn copy_from(alloc: &A, set: &BitBuffer<A>) -> Result<Self>
+        ensures { Makes (λ s. s ≡ set.now.bits) result }
     {
         prove!(set.offset() < 8);
         BitBufferMut::copy_from(alloc.clone()?, set).map(OpenBits::new)
     }
 
-    /// The same bits to be shared, with no copy. Refused by `OutOfMemory` alone; then the set is
-    /// gone.
-    pub fn freeze(self) -> Result<BitBuffer<A>, BufferError>
-        ensures bits { IfOk result (λ s. s.bits ≡ self) }
-        ensures refused { IsOkUnless result OutOfMemory }
+    /// The bits as a set to be shared, with no copy. Refused by `OutOfMemory` alone; then the open
+    /// set is gone.
+    pub fn freeze(self) -> Result<BitBuffer<A>>
+        ensures { Makes (λ s. s.bits ≡ self) result }
     {
         self.set.freeze()
     }
 
     /// A copy. Refused by `OutOfMemory` alone.
-    pub fn clone(&self) -> Result<Self, BufferError>
-        ensures same { IfOk result (λ s. s ≡ self.now) }
-        ensures refused { IsOkUnless result OutOfMemory }
+    pub fn clone(&self) -> Result<Self>
+        ensures { Makes (λ s. s ≡ self.now) result }
     {
         self.set.clone().map(OpenBits::new)
     }
@@ -172,7 +154,7 @@ impl<A: Allocator + Clone> OpenBits<A> {
     }
 
     /// Adds a bit `v`. Refused by `OutOfMemory` or `TooManyBits`; then the set is unchanged.
-    pub fn append(&mut self, v: bool) -> Result<(), BufferError>
+    pub fn append(&mut self, v: bool) -> Result<()>
         ensures ok { OnOk result (self.new ≡ self.old ++ v ∷ []) }
         ensures err { OnErr result (self.new ≡ self.old) }
         ensures limits { LimitsLength (length self.old + 1) result }
@@ -181,7 +163,7 @@ impl<A: Allocator + Clone> OpenBits<A> {
     }
 
     /// Adds `n` bits `v`. Refused by `OutOfMemory` or `TooManyBits`; then the set is unchanged.
-    pub fn append_n(&mut self, v: bool, n: usize) -> Result<(), BufferError>
+    pub fn append_n(&mut self, v: bool, n: usize) -> Result<()>
         ensures ok { OnOk result (self.new ≡ self.old ++ replicate n v) }
         ensures err { OnErr result (self.new ≡ self.old) }
         ensures limits { LimitsLength (length self.old + n) result }
@@ -191,7 +173,7 @@ impl<A: Allocator + Clone> OpenBits<A> {
 
     /// Adds the bits of a shared set. Refused by `OutOfMemory` or `TooManyBits`; then the set is
     /// unchanged.
-    pub fn append_set(&mut self, set: &BitBuffer<A>) -> Result<(), BufferError>
+    pub fn append_set(&mut self, set: &BitBuffer<A>) -> Result<()>
         ensures ok { OnOk result (self.new ≡ self.old ++ set.now.bits) }
         ensures err { OnErr result (self.new ≡ self.old) }
         ensures limits { LimitsLength (length self.old + length set.now.bits) result }

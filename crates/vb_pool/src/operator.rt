@@ -11,7 +11,7 @@ use crate::refused::refusal_of;
 use crate::slot::Slot;
 use std::alloc::Allocator;
 use vb_command::{Answer, Mode, Refusal};
-use vb_set::{BitBuffer, BitOp, BufferError};
+use vb_set::{BitBuffer, BitOp, Result};
 
 #[tactic(auto, using(crate::proofs::Slots::slots))]
 impl<A: Allocator + Clone> Pool<A> {
@@ -96,7 +96,7 @@ fn combine_sets<A: Allocator + Clone>(
     left: &BitBuffer<A>,
     right: &BitBuffer<A>,
     op: BitOp,
-) -> Result<BitBuffer<A>, BufferError>
+) -> Result<BitBuffer<A>>
     ensures { GivesCombined op left.now right.now result }
 {
     match op {
@@ -113,7 +113,7 @@ fn combine_into_left<A: Allocator + Clone>(
     left: BitBuffer<A>,
     right: &BitBuffer<A>,
     op: BitOp,
-) -> Result<BitBuffer<A>, BufferError>
+) -> Result<BitBuffer<A>>
     ensures { GivesCombined op left right.now result }
 {
     match op {

@@ -44,7 +44,7 @@ impl<A: Allocator + Clone> Pool<A> {
         if !is_range(a, b, set.len()) {
             return Err(Refusal::OutOfRange);
         }
-        Ok(Answer::Number(set.slice(a..b).true_count()))
+        Ok(Answer::Number(set.count_range(a, b)))
     }
 
     /// The place of the `n`-th true bit of the set, counted from 0.

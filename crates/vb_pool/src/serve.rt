@@ -8,7 +8,7 @@ ghost use Rattle.vb_set.specs.declared.BufferError.TheVariants.{OutOfMemory};
 use crate::pool::Pool;
 use std::alloc::Allocator;
 use vb_command::{Answer, Command, Refusal};
-use vb_set::{BitOp, BufferError};
+use vb_set::{BitOp, Result};
 
 impl<A: Allocator + Clone> Pool<A> {
     /// Carries out one command and answers it. A command that is refused changes nothing, except
@@ -28,8 +28,8 @@ impl<A: Allocator + Clone> Pool<A> {
         answer_of(self.carry_out(alloc, command))
     }
 
-    /// The same as [`serve`](Self::serve), of a command that is given away: the bytes of an
-    /// `import` become those of its set, which asks for an owner of them alone.
+    /// Carries out one command that is given away, as [`serve`](Self::serve) does one that is lent.
+    /// The bytes of an `import` become those of its set, which asks for an owner of them alone.
     pub fn serve_owned(&mut self, alloc: &A, command: Command<A>) -> Answer<A>
         ensures { Outcome self.old (order command) (reply result) self.new }
     {
@@ -103,18 +103,17 @@ fn answer_of<A: Allocator>(outcome: Result<Answer<A>, Refusal>) -> Answer<A>
 
 /// Carries out the commands in their order and gives one answer a command.
 ///
-/// The room for all answers is asked from a copy of `alloc` first: where that is refused, the
-/// answer is [`BufferError::OutOfMemory`] and nothing was done. A command that is refused later,
-/// for want of memory too, has its refusal among the answers, and the commands after it are carried
-/// out.
+/// The room for all answers is asked from a copy of `alloc` first. Refused by `OutOfMemory` alone,
+/// where that is refused; then nothing was done. A command that is refused later, for want of
+/// memory too, has its refusal among the answers, and the commands after it are carried out.
 pub fn run<A: Allocator + Clone>(
     alloc: A,
     pool: &mut Pool<A>,
     commands: &[Command<A>],
-) -> Result<Vec<Answer<A>, A>, BufferError>
+) -> Result<Vec<Answer<A>, A>>
     ensures ok { IfOk result (λ answers.
         Run pool.old (map order commands.now) (map reply answers.items) pool.new) }
-    ensures refusal { IsOkUnless result OutOfMemory }
+    ensures refused { IsOkUnless result OutOfMemory }
     ensures err { OnErr result (pool.new ≡ pool.old) }
 {
     let mut answers = Vec::with_capacity(alloc.clone()?, commands.len())?;

@@ -1,15 +1,16 @@
 //! What a slot holds.
-ghost use Rattle.std.specs.Prelude.{◌≡◌, MatchOption, IfOk, IsOkUnless};
+ghost use Rattle.std.specs.Prelude.{◌≡◌, MatchOption};
 ghost use Rattle.std.specs.Borrow.{LendsIf, sem};
 ghost use Rattle.std.specs.Option.{option_copied_mut, option_map};
 ghost use Rattle.vb_command.specs.Machine.{open_list, frozen_list};
 ghost use Rattle.vb_pool.specs.contracts.open_bits.OpenBits.{the_row as open_row};
 ghost use Rattle.vb_pool.specs.contracts.slot.Slot.{the_row};
+ghost use Rattle.vb_set.specs.Answers.{Makes};
 
 use crate::open_bits::OpenBits;
 use std::alloc::Allocator;
 use std::mem;
-use vb_set::{BitBuffer, BufferError};
+use vb_set::{BitBuffer, Result};
 
 /// A slot of the pool.
 #[derive(Drop)]
@@ -28,9 +29,8 @@ impl<A: Allocator + Clone> Slot<A> {
 
     /// A copy, whose bits are copied if the set is open, and shared if it is frozen. Refused by
     /// `OutOfMemory` alone.
-    pub fn clone(&self) -> Result<Self, BufferError>
-        ensures same { IfOk result (λ slot. content slot ≡ content self.now) }
-        ensures refused { IsOkUnless result BufferError.OutOfMemory }
+    pub fn clone(&self) -> Result<Self>
+        ensures { Makes (λ slot. content slot ≡ content self.now) result }
     {
         Ok(match self {
             Slot::Empty => Slot::Empty,

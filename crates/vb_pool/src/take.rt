@@ -12,7 +12,7 @@ use crate::refused::refusal_of;
 use crate::slot::Slot;
 use std::alloc::Allocator;
 use vb_command::{Answer, Refusal};
-use vb_set::{BitBuffer, BitBufferView, BufferError, take_bits};
+use vb_set::{BitBuffer, BitBufferView, Result, take_bits};
 
 impl<A: Allocator + Clone> Pool<A> {
     /// Puts the bits of the frozen set in slot `k` at these indices in slot `t`, which has to be
@@ -68,7 +68,7 @@ fn take_at<A: Allocator + Clone>(
     bits: BitBufferView<'_>,
     indices: &[i64],
     validity: Option<BitBufferView<'_>>,
-) -> Result<BitBuffer<A>, BufferError>
+) -> Result<BitBuffer<A>>
     requires { IsTrue (is_as_long (length indices.now) (option_map bits_of validity)) }
     ensures taken { IfOk result (λ s. IsTaken (bits_of bits.entry) indices.now
         (option_map bits_of validity.entry) s.bits) }

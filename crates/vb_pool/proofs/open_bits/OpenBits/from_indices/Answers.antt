@@ -7,8 +7,8 @@ use Rattle.vb_set.specs.Takes.{with_true}
 use Rattle.vb_pool.proofs.Takes.{below_all}
 use Rattle.vb_pool.proofs.open_bits.OpenBits.from_indices.Goals as goal
 
-pub returns-in_err-from_indices-clause-refused : goal.returns-in_err-from_indices-clause-refused
-returns-in_err-from_indices-clause-refused g c =
+pub returns-in_err-from_indices : goal.returns-in_err-from_indices
+returns-in_err-from_indices g c =
     let memory : c.in_err-from_indices.field-0.0 ≡ OutOfMemory =
     elim c.in_err-from_indices.ensures.refused [
       | inl memory ↦ memory
@@ -20,9 +20,13 @@ returns-in_err-from_indices-clause-refused g c =
     ] in
     search rules
 
-pub returns-clause-bits : goal.returns-clause-bits
-returns-clause-bits g c =
+pub returns : goal.returns
+returns g c =
     let (s, items, begins, drains, (below, made)) = c.in_ok-from_indices.ensures.bits in
     let road = YieldsList-at begins (YieldsList-from_copied
     (YieldsList-from_slice c.args.places.now cc)) in
-    c.new.ensures ∙ made ∙ ap (with_true (replicate c.args.n false)) (items_are road items drains)
+    record {
+      ok = c.new.ensures ∙ made
+          ∙ ap (with_true (replicate c.args.n false)) (items_are road items drains);
+      refused = search rules;
+    }
