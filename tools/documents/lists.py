@@ -1,5 +1,6 @@
 """Whether what is said in several places agrees: the C functions in header, Rust table and crate;
-what the crate to depend on gives, and what its tests reach; the version; the picture of the crates.
+what the crate to depend on gives, and what its tests reach; the commands, their table and their
+tests; the version; the picture of the crates.
 """
 import re
 
@@ -57,6 +58,21 @@ def facade(repository: Repository) -> list[str]:
     return differ(crate, given, tests, reached)
 
 
+def commands(repository: Repository) -> list[str]:
+    """The commands, those that users read of, and those that tests run."""
+    crate, table = "crates/vb_command/src/command.rt", "docs/COMMANDS.md"
+    forms = "crates/vb_script_plain_tests/src/form.rt"
+    sessions = "crates/vb_script_tests/src/sessions.rt"
+    _, _, variants = repository.read(crate).partition("pub enum Command")
+    given = {it.lower() for it in re.findall(r"^    (\w+)\(", variants, re.MULTILINE)}
+    lines, _, _ = repository.read(table).partition("\n## Answers")
+    listed = set(re.findall(r"^\| `([a-z]+) ", lines, re.MULTILINE))
+    run = set(re.findall(r'Form\("(\w+)"', repository.read(forms)))
+    answered = set(re.findall(r"(?:\\n|\b)([a-z]+) (?:\d|ref |own )", repository.read(sessions)))
+    found = differ(crate, given, table, listed) + differ(crate, given, forms, run)
+    return found + differ(crate, given, sessions, answered & given)
+
+
 VERSION = re.compile(r"\b\d+\.\d+\.\d+-r\d+\b")
 
 
@@ -81,5 +97,9 @@ def drawn(repository: Repository) -> list[str]:
 
 def lists(repository: Repository) -> list[str]:
     return [
-        *c_functions(repository), *facade(repository), *versions(repository), *drawn(repository)
+        *c_functions(repository),
+        *facade(repository),
+        *commands(repository),
+        *versions(repository),
+        *drawn(repository),
     ]

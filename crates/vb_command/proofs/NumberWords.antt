@@ -101,5 +101,5 @@ pub index_gives : {E : Type 0} (w : List ℕ) (r : Result ℤ E) → ParsesSigne
     → get_or w 0 0 ≢ 43 → result_ok r ≡ index w
 index_gives w r h plain = signed w r (get_or w 0 0 == 45) refl h plain
 
--- for `#[tactic(auto, using(..))]`: numbers and indexes
+-- for `#[tactic(auto, using(..))]`: numbers and indices
 pub ruleset numbers = (number_gives, index_gives)

@@ -5,10 +5,8 @@ use Rattle.std.specs.Str.{bytes_eq}
 use Rattle.vb_bits.specs.declared.zip.BitOp.TheVariants.{And, Or, Xor, AndNot}
 use Rattle.vb_command.specs.Hex.{hex}
 use Rattle.vb_command.specs.Listed.{items_of, index}
-use Rattle.vb_command.specs.Machine.{Order, Import, Full, Indices, Set, Append, Appendn, Appendset}
-use Rattle.vb_command.specs.Machine.{Fill, Truncate, Clear, Flip, Freeze, Thaw, Clone, Slice}
-use Rattle.vb_command.specs.Machine.{Sliced, Drop, Combine, Not, Take, Len, Count, Get, Countrange}
-use Rattle.vb_command.specs.Machine.{Select, Selectunset, Last, Bits, Places, Runs, Show, Eq}
+use Rattle.vb_command.specs.Machine.{Order}
+use Rattle.vb_command.specs.Machine as orders
 use Rattle.vb_command.specs.Optional.{◌>>=◌}
 use Rattle.vb_command.specs.Words.{number, optional_number, truth, mode}
 use Rattle.vb_command.specs.declared.command.Mode.{Mode}
@@ -16,57 +14,57 @@ use Rattle.vb_command.specs.declared.command.Mode.{Mode}
 -- a question to the set in one slot
 unfoldable pub question_of_number : List ℕ → ℕ → Option Order
 question_of_number name k =
-    if bytes_eq name (codes "len") then Some (Len k) else
-    if bytes_eq name (codes "count") then Some (Count k) else
-    if bytes_eq name (codes "last") then Some (Last k) else
-    if bytes_eq name (codes "bits") then Some (Bits k) else
-    if bytes_eq name (codes "places") then Some (Places k) else
-    if bytes_eq name (codes "runs") then Some (Runs k) else
-    if bytes_eq name (codes "show") then Some (Show k) else
+    if bytes_eq name (codes "len") then Some (orders.Len k) else
+    if bytes_eq name (codes "count") then Some (orders.Count k) else
+    if bytes_eq name (codes "last") then Some (orders.Last k) else
+    if bytes_eq name (codes "bits") then Some (orders.Bits k) else
+    if bytes_eq name (codes "places") then Some (orders.Places k) else
+    if bytes_eq name (codes "runs") then Some (orders.Runs k) else
+    if bytes_eq name (codes "show") then Some (orders.Show k) else
     None
 
 -- the order of a name and a number
 unfoldable pub of_number : List ℕ → ℕ → Option Order
 of_number name k =
-    if bytes_eq name (codes "clear") then Some (Clear k) else
-    if bytes_eq name (codes "flip") then Some (Flip k) else
-    if bytes_eq name (codes "freeze") then Some (Freeze k) else
-    if bytes_eq name (codes "thaw") then Some (Thaw k) else
-    if bytes_eq name (codes "drop") then Some (Drop k) else
+    if bytes_eq name (codes "clear") then Some (orders.Clear k) else
+    if bytes_eq name (codes "flip") then Some (orders.Flip k) else
+    if bytes_eq name (codes "freeze") then Some (orders.Freeze k) else
+    if bytes_eq name (codes "thaw") then Some (orders.Thaw k) else
+    if bytes_eq name (codes "drop") then Some (orders.Drop k) else
     question_of_number name k
 
 -- a question to the set in one slot, with a number
 unfoldable pub question_of_numbers : List ℕ → ℕ → ℕ → Option Order
 question_of_numbers name k n =
-    if bytes_eq name (codes "get") then Some (Get k n) else
-    if bytes_eq name (codes "select") then Some (Select k n) else
-    if bytes_eq name (codes "selectunset") then Some (Selectunset k n) else
-    if bytes_eq name (codes "eq") then Some (Eq k n) else
+    if bytes_eq name (codes "get") then Some (orders.Get k n) else
+    if bytes_eq name (codes "select") then Some (orders.Select k n) else
+    if bytes_eq name (codes "selectunset") then Some (orders.Selectunset k n) else
+    if bytes_eq name (codes "eq") then Some (orders.Eq k n) else
     None
 
 -- the order of a name and two numbers
 unfoldable pub of_numbers : List ℕ → ℕ → ℕ → Option Order
 of_numbers name k n =
-    if bytes_eq name (codes "truncate") then Some (Truncate k n) else
-    if bytes_eq name (codes "appendset") then Some (Appendset k n) else
-    if bytes_eq name (codes "clone") then Some (Clone k n) else
-    if bytes_eq name (codes "sliced") then Some (Sliced k n) else
+    if bytes_eq name (codes "truncate") then Some (orders.Truncate k n) else
+    if bytes_eq name (codes "appendset") then Some (orders.Appendset k n) else
+    if bytes_eq name (codes "clone") then Some (orders.Clone k n) else
+    if bytes_eq name (codes "sliced") then Some (orders.Sliced k n) else
     question_of_numbers name k n
 
 -- the order of a name, a number, a truth value and a number
 unfoldable pub of_value : List ℕ → ℕ → Bool → ℕ → Option Order
 of_value name k v n =
-    if bytes_eq name (codes "full") then Some (Full k v n) else
-    if bytes_eq name (codes "appendn") then Some (Appendn k v n) else
+    if bytes_eq name (codes "full") then Some (orders.Full k v n) else
+    if bytes_eq name (codes "appendn") then Some (orders.Appendn k v n) else
     None
 
 -- the order of an operator on two lists
 unfoldable pub of_operator : List ℕ → Mode → ℕ → ℕ → ℕ → Option Order
 of_operator name m l r t =
-    if bytes_eq name (codes "and") then Some (Combine And m l r t) else
-    if bytes_eq name (codes "or") then Some (Combine Or m l r t) else
-    if bytes_eq name (codes "xor") then Some (Combine Xor m l r t) else
-    if bytes_eq name (codes "andnot") then Some (Combine AndNot m l r t) else
+    if bytes_eq name (codes "and") then Some (orders.Combine And m l r t) else
+    if bytes_eq name (codes "or") then Some (orders.Combine Or m l r t) else
+    if bytes_eq name (codes "xor") then Some (orders.Combine Xor m l r t) else
+    if bytes_eq name (codes "andnot") then Some (orders.Combine AndNot m l r t) else
     None
 
 -- the numbers that two words write
@@ -89,34 +87,34 @@ unfoldable pub append_of : List ℕ → List ℕ → Option Order
 append_of a b = do
   k ← number a
   v ← truth b
-  Some (Append k v)
+  Some (orders.Append k v)
 
 -- an `indices` of these words
 unfoldable pub indices_of : List ℕ → List ℕ → List ℕ → Option Order
 indices_of a b c = do
   (t, n) ← two_numbers a b
   numbers ← items_of number c
-  Some (Indices t n numbers)
+  Some (orders.Indices t n numbers)
 
 -- a `set` of these words
 unfoldable pub set_of : List ℕ → List ℕ → List ℕ → Option Order
 set_of a b c = do
   (k, i) ← two_numbers a b
   v ← truth c
-  Some (Set k i v)
+  Some (orders.Set k i v)
 
 -- a `not` of these words
 unfoldable pub not_of : List ℕ → List ℕ → List ℕ → Option Order
 not_of a b c = do
   m ← mode a
   (l, t) ← two_numbers b c
-  Some (Not m l t)
+  Some (orders.Not m l t)
 
 -- a `countrange` of these words
 unfoldable pub countrange_of : List ℕ → List ℕ → List ℕ → Option Order
 countrange_of a b c = do
   (k, i, j) ← three_numbers a b c
-  Some (Countrange k i j)
+  Some (orders.Countrange k i j)
 
 -- what a name asks for with a number, a truth value and a number
 unfoldable pub value_of : List ℕ → List ℕ → List ℕ → List ℕ → Option Order
@@ -131,29 +129,29 @@ unfoldable pub import_of : List ℕ → List ℕ → List ℕ → List ℕ → O
 import_of a b c d = do
   (t, o, n) ← three_numbers a b c
   bytes ← hex d
-  Some (Import t o n bytes)
+  Some (orders.Import t o n bytes)
 
 -- a `take` of these words
 unfoldable pub take_of : List ℕ → List ℕ → List ℕ → List ℕ → Option Order
 take_of a b c d = do
   (k, t) ← two_numbers a b
   m ← optional_number c
-  indexes ← items_of index d
-  Some (Take k t m indexes)
+  indices ← items_of index d
+  Some (orders.Take k t m indices)
 
 -- a `fill` of these words
 unfoldable pub fill_of : List ℕ → List ℕ → List ℕ → List ℕ → Option Order
 fill_of a b c d = do
   (k, i, j) ← three_numbers a b c
   v ← truth d
-  Some (Fill k i j v)
+  Some (orders.Fill k i j v)
 
 -- a `slice` of these words
 unfoldable pub slice_of : List ℕ → List ℕ → List ℕ → List ℕ → Option Order
 slice_of a b c d = do
   (k, i, j) ← three_numbers a b c
   t ← number d
-  Some (Slice k i j t)
+  Some (orders.Slice k i j t)
 
 -- what the name of an operator asks for with these words
 unfoldable pub operator_of : List ℕ → List ℕ → List ℕ → List ℕ → List ℕ → Option Order

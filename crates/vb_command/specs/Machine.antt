@@ -93,7 +93,7 @@ order (commands.Or mode l r t) = Combine Or mode l r t
 order (commands.Xor mode l r t) = Combine Xor mode l r t
 order (commands.Andnot mode l r t) = Combine AndNot mode l r t
 order (commands.Not mode l t) = Not mode l t
-order (commands.Take k t m indexes) = Take k t m indexes.items
+order (commands.Take k t m indices) = Take k t m indices.items
 order (commands.Len k) = Len k
 order (commands.Count k) = Count k
 order (commands.Get k i) = Get k i
@@ -248,12 +248,12 @@ Lengthens k l more s r t = (length l + length more < 2 ^ 64) × Puts k (Open (l 
 abbrev pub AppendsValues : ℕ → List Bool → Effect
 AppendsValues k more s r t = Needs (open_at s k) (λ l. Lengthens k l more) s r t
 
--- slot j is filled with the values that indexes take from a list, or the order is refused at the
+-- slot j is filled with the values that indices take from a list, or the order is refused at the
 -- first position that takes nothing
 abbrev pub PutsTaken : ℕ → List Bool → List ℤ → Option (List Bool) → Effect
-PutsTaken j l indexes validity s r t =
-    ((m : List Bool) × IsTaken l indexes validity m × Puts j (Frozen m) s r t)
-    ⊎ ((p : ℕ) × IsFirstPast l indexes validity p × Refuses (TakeOutOfRange p) s r t)
+PutsTaken j l indices validity s r t =
+    ((m : List Bool) × IsTaken l indices validity m × Puts j (Frozen m) s r t)
+    ⊎ ((p : ℕ) × IsFirstPast l indices validity p × Refuses (TakeOutOfRange p) s r t)
 
 -- the answer is the value at place i, which has to be below the length
 abbrev pub Gets : ℕ → List Bool → Reply → Type 0
@@ -305,9 +305,9 @@ Step s (Combine op mode k j i) r t =
 Step s (Not mode k j) r t =
     Needs (frozen_at s k) (λ l. Checks (vacant_at (after_release mode k s) j) BadSlot
     (Releases mode k (Puts j (Frozen (negated l))))) s r t
-Step s (Take k j m indexes) r t =
+Step s (Take k j m indices) r t =
     Needs (frozen_at s k) (λ l. Checks (vacant_at s j) BadSlot (Needs (validity_at s m) (λ v.
-    Checks (is_as_long (length indexes) v) LengthMismatch (PutsTaken j l indexes v)))) s r t
+    Checks (is_as_long (length indices) v) LengthMismatch (PutsTaken j l indices v)))) s r t
 Step s (Drop k) r t = Needs (kept_at s k) (λ x. Puts k Empty) s r t
 Step s (Len k) r t = Asks k (λ l a. a ≡ Number (length l)) s r t
 Step s (Count k) r t = Asks k (λ l a. a ≡ Number (count l)) s r t
@@ -368,9 +368,9 @@ GivesUp s (Combine op mode k j i) r t =
 GivesUp s (Not mode k j) r t =
     Has (frozen_at s k) (λ l. Passes (vacant_at (after_release mode k s) j)
     (Releases mode k (Refuses OutOfMemory))) s r t
-GivesUp s (Take k j m indexes) r t =
+GivesUp s (Take k j m indices) r t =
     Has (frozen_at s k) (λ l. Passes (vacant_at s j) (Has (validity_at s m) (λ v.
-    Passes (is_as_long (length indexes) v) (Refuses OutOfMemory)))) s r t
+    Passes (is_as_long (length indices) v) (Refuses OutOfMemory)))) s r t
 GivesUp s (Bits k) r t = Has (list_at s k) (λ l. Refuses OutOfMemory) s r t
 GivesUp s (Places k) r t = Has (list_at s k) (λ l. Refuses OutOfMemory) s r t
 GivesUp s (Runs k) r t = Has (list_at s k) (λ l. Refuses OutOfMemory) s r t

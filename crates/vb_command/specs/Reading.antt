@@ -16,7 +16,7 @@ Gives view (Ok x) read = read ≡ Some (view x)
 Gives view (Err unread.Memory) read = IsTrue (is_some read)
 Gives view (Err unread.Unreadable) read = read ≡ None
 
--- the same of a function that takes no memory
+-- a function that takes no memory gives what a definition reads
 abbrev pub Tells : {X Y : Type 0} → (X → Y) → Result X Unread → Option Y → Type 0
 Tells view (Ok x) read = read ≡ Some (view x)
 Tells view (Err unread.Memory) read = ⊥
@@ -41,7 +41,7 @@ request_of (w ∷ ws) = if is_comment w then Some None else (do
 abbrev pub holds_list : Order → Bool
 holds_list (Import t o n bytes) = true
 holds_list (Indices t n numbers) = true
-holds_list (Take k t m indexes) = true
+holds_list (Take k t m indices) = true
 holds_list c = false
 
 -- whether what a line asks for holds a list
@@ -55,9 +55,9 @@ abbrev pub reading : List ℕ → Option (Option Order)
 reading line = if all_ascii line then request_of (words line) else None
 
 -- an order, if there is one, before others
-abbrev pub before : Option Order → List Order → List Order
-before None cs = cs
-before (Some c) cs = c ∷ cs
+abbrev pub with_order : Option Order → List Order → List Order
+with_order None cs = cs
+with_order (Some c) cs = c ∷ cs
 
 -- the orders of lines that are numbered from n on, if each can be read; a line numbered 2 ^ 64 - 1
 -- can't
@@ -66,4 +66,4 @@ script n [] = Some []
 script n (l ∷ ls) = if nat_lt n (2 ^ 64 - 1) then (do
   c ← reading l
   cs ← script (n + 1) ls
-  Some (before c cs)) else None
+  Some (with_order c cs)) else None

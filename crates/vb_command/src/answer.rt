@@ -5,7 +5,7 @@ use std::alloc::{Allocator, Global};
 /// Why a command is refused. It is printed as `refused` and its name.
 ///
 /// Checks come in this order: slots as the line names them, then windows, places and lengths, then
-/// numbers of bits, then memory, then the indexes of a `take`.
+/// numbers of bits, then memory, then the indices of a `take`.
 #[derive(Clone, Copy, Debug, PartialEq, Eq)]
 pub enum Refusal {
     /// A slot isn't there, or doesn't hold what the command needs.
@@ -16,8 +16,8 @@ pub enum Refusal {
     OutOfRange,
     /// Two lists that have to be of one length aren't.
     LengthMismatch,
-    /// An index to take from a set is none of its places; of several the first one counts, whose
-    /// position among the indexes is printed too.
+    /// An index of a `take` that counts names no place of the set. The position among the indices
+    /// of the first such one, counted from 0, is printed too.
     TakeOutOfRange(usize),
     /// The bit offset of a set and its new length pass `usize::MAX` together.
     TooManyBits,

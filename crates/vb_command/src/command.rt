@@ -76,9 +76,9 @@ pub enum Command<A: Allocator = Global> {
     /// empty.
     Not(Mode, usize, usize),
     /// `take k t m INDEXES`: fills slot `t`, which has to be empty, with a frozen set of the bits
-    /// of the frozen set in slot `k` at these places, one for each. `m` names the slot of a frozen
-    /// set that is as long as they are many: where that is false the bit is false, and the place
-    /// doesn't count. Every place that counts has to be one of the set. With no `m` all count.
+    /// of the frozen set in slot `k` at these indices, one for each. `m` names the slot of a frozen
+    /// set that is as long as they are many: where that is false the bit is false, and the index
+    /// doesn't count. Each index that counts has to name a place of the set. With no `m` all count.
     Take(usize, usize, Option<usize>, Vec<i64, A>),
     /// `len k`: the length in bits of the set in slot `k`.
     Len(usize),

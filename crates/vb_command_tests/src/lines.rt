@@ -1,46 +1,22 @@
-//! Which lines can be read, and what they ask for.
+//! Which lines can be read, and what each kind of word says. What a line of each name asks for is
+//! seen by its answer, in the tests of sessions.
 use crate::compared::equal_at;
 use std::alloc::Global;
 use std::process::Abort;
 use std::str;
 use vb_command::{Command, Mode, Unread, command_of};
 
-/// The variant of a command with one number or two, and these.
-fn numbers(command: &Command<Global>) -> Option<(&'static str, usize, usize)> {
+/// The numbers of a `len` or a `get`.
+fn numbers(command: &Command<Global>) -> Option<(usize, Option<usize>)> {
     match *command {
-        Command::Clear(k) => Some(("Clear", k, 0)),
-        Command::Flip(k) => Some(("Flip", k, 0)),
-        Command::Freeze(k) => Some(("Freeze", k, 0)),
-        Command::Thaw(k) => Some(("Thaw", k, 0)),
-        Command::Drop(k) => Some(("Drop", k, 0)),
-        Command::Truncate(k, n) => Some(("Truncate", k, n)),
-        Command::Appendset(k, j) => Some(("Appendset", k, j)),
-        Command::Clone(k, t) => Some(("Clone", k, t)),
-        Command::Sliced(k, t) => Some(("Sliced", k, t)),
-        _ => question(command),
-    }
-}
-
-/// The variant of a question with one number or two, and these.
-fn question(command: &Command<Global>) -> Option<(&'static str, usize, usize)> {
-    match *command {
-        Command::Len(k) => Some(("Len", k, 0)),
-        Command::Count(k) => Some(("Count", k, 0)),
-        Command::Last(k) => Some(("Last", k, 0)),
-        Command::Bits(k) => Some(("Bits", k, 0)),
-        Command::Places(k) => Some(("Places", k, 0)),
-        Command::Runs(k) => Some(("Runs", k, 0)),
-        Command::Show(k) => Some(("Show", k, 0)),
-        Command::Get(k, i) => Some(("Get", k, i)),
-        Command::Select(k, n) => Some(("Select", k, n)),
-        Command::Selectunset(k, n) => Some(("Selectunset", k, n)),
-        Command::Eq(k, j) => Some(("Eq", k, j)),
+        Command::Len(k) => Some((k, None)),
+        Command::Get(k, i) => Some((k, Some(i))),
         _ => None,
     }
 }
 
-/// A line asks for this variant with these numbers.
-fn asks(rt: &impl Abort, alloc: Global, line: &str, wanted: (&'static str, usize, usize)) {
+/// A line asks for a `len` or a `get` with these numbers.
+fn asks(rt: &impl Abort, alloc: Global, line: &str, wanted: (usize, Option<usize>)) {
     let asked = command_of(&alloc, line.as_bytes());
     let given = match &asked {
         Ok(Some(command)) => numbers(command),
@@ -51,62 +27,26 @@ fn asks(rt: &impl Abort, alloc: Global, line: &str, wanted: (&'static str, usize
 }
 
 #[test]
-fn commands_of_numbers_are_read(rt: HostRuntime) {
+fn numbers_are_read(rt: HostRuntime) {
     for (line, wanted) in [
-        ("len 3", ("Len", 3, 0)),
-        ("count 0", ("Count", 0, 0)),
-        ("bits 4", ("Bits", 4, 0)),
-        ("last 5", ("Last", 5, 0)),
-        ("places 6", ("Places", 6, 0)),
-        ("runs 16", ("Runs", 16, 0)),
-        ("show 1", ("Show", 1, 0)),
-        ("clear 5", ("Clear", 5, 0)),
-        ("flip 6", ("Flip", 6, 0)),
-        ("freeze 7", ("Freeze", 7, 0)),
-        ("thaw 8", ("Thaw", 8, 0)),
-        ("drop 11", ("Drop", 11, 0)),
+        ("len 3", (3, None)),
+        ("len 16", (16, None)),
+        ("get 0 0", (0, Some(0))),
         (
             "get 0 00018446744073709551615",
-            ("Get", 0, 18446744073709551615),
+            (0, Some(18446744073709551615)),
         ),
-        ("select 0 1", ("Select", 0, 1)),
-        ("selectunset 0 2", ("Selectunset", 0, 2)),
-        ("eq 1 2", ("Eq", 1, 2)),
-        ("   get   15  7 ", ("Get", 15, 7)),
-        ("truncate 0 99", ("Truncate", 0, 99)),
-        ("clone 9 10", ("Clone", 9, 10)),
-        ("appendset 1 2", ("Appendset", 1, 2)),
-        ("sliced 3 4", ("Sliced", 3, 4)),
+        ("   get   15  7 ", (15, Some(7))),
     ] {
         asks(&rt, rt.alloc(), line, wanted);
     }
 }
 
-/// The variant of a command with a truth value or more than two numbers, its numbers, and the truth
-/// value.
-fn fields(command: &Command<Global>) -> Option<(&'static str, [usize; 4], Option<bool>)> {
-    match *command {
-        Command::Full(t, v, n) => Some(("Full", [t, n, 0, 0], Some(v))),
-        Command::Set(k, i, v) => Some(("Set", [k, i, 0, 0], Some(v))),
-        Command::Append(k, v) => Some(("Append", [k, 0, 0, 0], Some(v))),
-        Command::Appendn(k, v, n) => Some(("Appendn", [k, n, 0, 0], Some(v))),
-        Command::Fill(k, a, b, v) => Some(("Fill", [k, a, b, 0], Some(v))),
-        Command::Slice(k, a, b, t) => Some(("Slice", [k, a, b, t], None)),
-        Command::Countrange(k, a, b) => Some(("Countrange", [k, a, b, 0], None)),
-        _ => None,
-    }
-}
-
-/// A line asks for this variant with these fields.
-fn asks_fields(
-    rt: &impl Abort,
-    alloc: Global,
-    line: &str,
-    wanted: (&'static str, [usize; 4], Option<bool>),
-) {
+/// A line asks for an `append` of this value to the set in this slot.
+fn appends(rt: &impl Abort, alloc: Global, line: &str, wanted: (usize, bool)) {
     let asked = command_of(&alloc, line.as_bytes());
     let given = match &asked {
-        Ok(Some(command)) => fields(command),
+        Ok(Some(Command::Append(k, v))) => Some((*k, *v)),
         _ => None,
     };
     drop(asked);
@@ -114,42 +54,17 @@ fn asks_fields(
 }
 
 #[test]
-fn commands_of_other_fields_are_read(rt: HostRuntime) {
-    for (line, wanted) in [
-        ("full 0 1 4", ("Full", [0, 4, 0, 0], Some(true))),
-        ("set 1 7 0", ("Set", [1, 7, 0, 0], Some(false))),
-        ("append 2 1", ("Append", [2, 0, 0, 0], Some(true))),
-        ("appendn 3 0 9", ("Appendn", [3, 9, 0, 0], Some(false))),
-        ("fill 0 2 7 1", ("Fill", [0, 2, 7, 0], Some(true))),
-        ("countrange 0 3 9", ("Countrange", [0, 3, 9, 0], None)),
-        ("slice 0 3 2 1", ("Slice", [0, 3, 2, 1], None)),
-    ] {
-        asks_fields(&rt, rt.alloc(), line, wanted);
+fn truth_values_are_read(rt: HostRuntime) {
+    for (line, wanted) in [("append 2 1", (2, true)), ("append 3 0", (3, false))] {
+        appends(&rt, rt.alloc(), line, wanted);
     }
 }
 
-/// The variant of an operator, its mode and its numbers.
-fn operator(command: &Command<Global>) -> Option<(&'static str, Mode, [usize; 3])> {
-    match *command {
-        Command::And(m, l, r, t) => Some(("And", m, [l, r, t])),
-        Command::Or(m, l, r, t) => Some(("Or", m, [l, r, t])),
-        Command::Xor(m, l, r, t) => Some(("Xor", m, [l, r, t])),
-        Command::Andnot(m, l, r, t) => Some(("Andnot", m, [l, r, t])),
-        Command::Not(m, l, t) => Some(("Not", m, [l, t, 0])),
-        _ => None,
-    }
-}
-
-/// A line asks for this operator.
-fn asks_operator(
-    rt: &impl Abort,
-    alloc: Global,
-    line: &str,
-    wanted: (&'static str, Mode, [usize; 3]),
-) {
+/// A line asks for a `not` in this mode with these numbers.
+fn negates(rt: &impl Abort, alloc: Global, line: &str, wanted: (Mode, usize, usize)) {
     let asked = command_of(&alloc, line.as_bytes());
     let given = match &asked {
-        Ok(Some(command)) => operator(command),
+        Ok(Some(Command::Not(m, l, t))) => Some((*m, *l, *t)),
         _ => None,
     };
     drop(asked);
@@ -157,15 +72,12 @@ fn asks_operator(
 }
 
 #[test]
-fn operators_are_read(rt: HostRuntime) {
+fn modes_are_read(rt: HostRuntime) {
     for (line, wanted) in [
-        ("and own 1 2 3", ("And", Mode::Own, [1, 2, 3])),
-        ("or ref 1 2 3", ("Or", Mode::Ref, [1, 2, 3])),
-        ("xor own 4 5 4", ("Xor", Mode::Own, [4, 5, 4])),
-        ("andnot ref 6 6 7", ("Andnot", Mode::Ref, [6, 6, 7])),
-        ("not own 8 8", ("Not", Mode::Own, [8, 8, 0])),
+        ("not own 8 8", (Mode::Own, 8, 8)),
+        ("not ref 3 4", (Mode::Ref, 3, 4)),
     ] {
-        asks_operator(&rt, rt.alloc(), line, wanted);
+        negates(&rt, rt.alloc(), line, wanted);
     }
 }
 

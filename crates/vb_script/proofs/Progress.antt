@@ -9,7 +9,7 @@ use Rattle.std.proofs.lemmas.Grind.{flat_map-append}
 use mathlib.Core.List.{append-nil}
 use Rattle.vb_command.specs.Machine.{Slot, empty_slots, Order, Reply, Run}
 use Rattle.vb_command.specs.Printed.{line_of}
-use Rattle.vb_command.specs.Reading.{asks_memory, before, reading, script}
+use Rattle.vb_command.specs.Reading.{asks_memory, reading, script, with_order}
 use Rattle.vb_pool.proofs.Runs.{Run-append}
 use Rattle.vb_script.specs.Feed.{next_line}
 use Rattle.vb_script.specs.DriveError.{UnlessWrite, line_error, stream_error}
@@ -66,7 +66,8 @@ pub Ran-append : (commands : List Order) (first written : Option (List ℕ)) (ou
     (out' : List ℕ) (slots' : List Slot)
     → Ran commands first written out slots → Answers o slots r slots'
     → Appends (append_known written out) (append_known written' out') (line_of_any r)
-    → (c : Option Order) × (o ≡ Some c) × Ran (commands ++ before c []) first written' out' slots'
+    → (c : Option Order) × (o ≡ Some c)
+    × Ran (commands ++ with_order c []) first written' out' slots'
 Ran-append commands first written out slots None r written' out' slots' a served told =
     absurd served
 Ran-append commands first written out slots (Some None) r written' out' slots' a served told = (
@@ -126,7 +127,7 @@ pub RanAny-next : (first written : Option (List ℕ)) (out : List ℕ) (slots : 
     → RanAny first written' out' slots'
 RanAny-next first written out slots o r written' out' slots' (commands, a) served told =
     let next = Ran-append commands first written out slots o r written' out' slots' a served told in
-    (commands ++ before next.0 [], next.2)
+    (commands ++ with_order next.0 [], next.2)
 
 -- answers were written
 pub RanAny-Keeps : (first written : Option (List ℕ)) (out : List ℕ) (written' : Option (List ℕ))
@@ -201,7 +202,7 @@ Answered-append ls first written out slots line r written' out' slots' a small s
     let next = Ran-append a.commands first written out slots (reading line) r written' out' slots'
     a.ran served told in
     record {
-      commands = a.commands ++ before next.0 [];
+      commands = a.commands ++ with_order next.0 [];
       read = script-append 1 ls line a.commands next.0 small next.1 a.read;
       ran = next.2;
     }
@@ -221,7 +222,7 @@ Answered-same ls first written out slots r written' out' slots' a served told =
       commands = a.commands;
       read = a.read;
       ran = subst (λ (cs : List Order). Ran cs first written' out' slots')
-          (ap (λ c. a.commands ++ before c []) same ∙ append-nil a.commands) next.2;
+          (ap (λ c. a.commands ++ with_order c []) same ∙ append-nil a.commands) next.2;
     }
 
 -- the next line has number n: those before it were passed and answered

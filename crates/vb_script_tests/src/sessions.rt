@@ -119,6 +119,10 @@ const ANSWERED: &[(&str, &str)] = &[
     ),
     ("full 0 1 130\nruns 0\nlast 0\n", "ok\n0-130\n129\n"),
     (
+        "full 0 1 3\ndrop 0\ndrop 0\nlen 0\nfull 0 0 1\nbits 0\n",
+        "ok\nok\nrefused BadSlot\nrefused BadSlot\nok\n0\n",
+    ),
+    (
         "full 0 1 0\nruns 0\nplaces 0\nlast 0\nlast 1\nplaces 16\nruns 1\n",
         "ok\n-\n-\nnone\nrefused BadSlot\nrefused BadSlot\nrefused BadSlot\n",
     ),

@@ -52,6 +52,11 @@ pub fn two(n: u8) -> u8
     "bindings/rust/src/native.rs": "\nkernels! {\n    get(b: *const u8) -> bool;\n}\n",
     "crates/vortex_buffer/src/lib.rt": "pub use low::{one,\n    two};\npub use low::Type;\n",
     "crates/vortex_buffer_tests/src/reached.rt": "pub use vortex_buffer::{Type, one, two};\n",
+    "crates/vb_command/src/command.rt": "pub enum Mode {\n    Ref(u8),\n}\n\n"
+    "pub enum Command<A> {\n    /// `len k`: the length.\n    Len(usize),\n}\n",
+    "docs/COMMANDS.md": "| Line | Answers |\n|---|---|\n| `len k` | how many |\n",
+    "crates/vb_script_plain_tests/src/form.rt": '    Form("len", &[Held], Answers, Never),\n',
+    "crates/vb_script_tests/src/sessions.rt": '    ("drop 0\\nlen 0\\n", "0\\n"),\n',
 }
 
 
@@ -98,6 +103,21 @@ class Checked(unittest.TestCase):
         found = lists(self.repository(reached_dot_rt=(", two", "")))
         self.assertEqual(found, ["crates/vortex_buffer/src/lib.rt: has `two`, which "
                                  "crates/vortex_buffer_tests/src/reached.rt hasn't"])
+
+    def test_a_command_that_is_missing_somewhere(self):
+        crate = "crates/vb_command/src/command.rt"
+        for where, (old, other) in {
+            "COMMANDS_dot_md": ("`len ", "docs/COMMANDS.md"),
+            "form_dot_rt": ('"len"', "crates/vb_script_plain_tests/src/form.rt"),
+            "sessions_dot_rt": ("len 0", "crates/vb_script_tests/src/sessions.rt"),
+        }.items():
+            found = lists(self.repository(**{where: (old, old.replace("len", ""))}))
+            self.assertEqual(found[:1], [f"{crate}: has `len`, which {other} hasn't"])
+
+    def test_a_command_that_is_gone(self):
+        found = lists(self.repository(COMMANDS_dot_md=("| `len", "| `size k` | |\n| `len")))
+        wanted = "docs/COMMANDS.md: has `size`, which crates/vb_command/src/command.rt hasn't"
+        self.assertEqual(found, [wanted])
 
     def test_a_name_that_is_gone(self):
         found = names(self.repository(LOW_dot_md=("Type::of", "Type::gone")))

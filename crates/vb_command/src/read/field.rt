@@ -7,7 +7,7 @@ use crate::unread::Unread;
 pub trait Field: Copy {
     ghost use Rattle.std.specs.Prelude.{ℕ, List, Option};
 
-    // What a word writes, if it is such a field.
+    /// What a word writes, if it is such a field.
     ghost written: { List ℕ → Option Self };
 
     /// The field that the word writes.
