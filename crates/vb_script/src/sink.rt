@@ -1,6 +1,7 @@
 //! Where bytes go to.
-ghost use Rattle.std.specs.Prelude.{◌≡◌, ℕ, ◌+◌, List, Option, None, OnOk, OnErr};
+ghost use Rattle.std.specs.Prelude.{◌≡◌, ℕ, List, Option, None, OnOk};
 ghost use Rattle.std.specs.Io.KnownBytes.{Appends};
+ghost use Rattle.vb_script.specs.Fault.{CountsFault};
 
 use crate::fault::Fault;
 use ghost_count::GhostCount;
@@ -18,8 +19,7 @@ pub trait Sink {
     /// Writes all bytes, or fails. How many bytes a failed write wrote is open.
     fn write(&mut self, bytes: &[u8]) -> Result<(), Fault>
         ensures bytes { OnOk result (Appends (contents self.old) (contents self.new) bytes.now) }
-        ensures ok { OnOk result (faults self.new ≡ faults self.old) }
-        ensures fault { OnErr result (faults self.new ≡ faults self.old + 1) };
+        ensures counts { CountsFault result (faults self.old) (faults self.new) };
 }
 
 /// The [`Sink`] that writes to a writer of `std`. Each error of the writer is a fault, and so is a

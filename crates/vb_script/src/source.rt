@@ -1,7 +1,8 @@
 //! Where bytes come from.
-ghost use Rattle.std.specs.Prelude.{◌≡◌, ℕ, ◌+◌, List, Option, None, OnOk, OnErr};
+ghost use Rattle.std.specs.Prelude.{◌≡◌, ℕ, List, Option, None};
 ghost use Rattle.std.specs.Io.{ReadsAtMost};
 ghost use Rattle.std.specs.Io.KnownBytes.{ReadConsumes};
+ghost use Rattle.vb_script.specs.Fault.{CountsFault};
 
 use crate::fault::Fault;
 use ghost_count::GhostCount;
@@ -21,8 +22,7 @@ pub trait Source {
     fn read(&mut self, buf: &mut [u8]) -> Result<usize, Fault>
         ensures bound { ReadsAtMost result buf.new }
         ensures bytes { ReadConsumes (remaining self.old) (remaining self.new) result buf.new }
-        ensures ok { OnOk result (faults self.new ≡ faults self.old) }
-        ensures fault { OnErr result (faults self.new ≡ faults self.old + 1) };
+        ensures counts { CountsFault result (faults self.old) (faults self.new) };
 }
 
 /// The [`Source`] that reads from a reader of `std`. Each error of the reader is a fault.
