@@ -5,8 +5,8 @@ ghost use Rattle.use_columns.specs.Columns.{AreKnown, IsUnknownOrMemory};
 use std::alloc::Allocator;
 use vortex_buffer::{Buffer, BufferError, BufferMut, Result};
 
-/// The column whose values stand in the dictionary at the places that the codes are. Refused with
-/// `IndexOutOfRange` of the first code that is no place of the dictionary, and else with
+/// The column whose values stand in the dictionary at the places that the codes are. Refused by
+/// `IndexOutOfRange` of the first code that is no place of the dictionary, and else by
 /// `OutOfMemory`.
 pub fn decode_dictionary<A: Allocator + Clone>(
     alloc: A,

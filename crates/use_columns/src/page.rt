@@ -29,7 +29,7 @@ impl From<BufferError> for PageError {
 
 /// The column of a page: the number of rows in one byte, then the mask, then the values in four
 /// bytes each. The mask shares the page's storage, and the values are read into storage of their
-/// own. Refused with `Length` exactly where the page has too few or too many bytes, and else with
+/// own. Refused by `Length` exactly where the page has too few or too many bytes, and else by
 /// `Buffer` of `OutOfMemory`.
 pub fn read_page<A: Allocator + Clone>(page: &ByteBuffer<A>) -> Result<Column<A>, PageError>
     ensures ok { IfOk result (IsPage page.now.list) }

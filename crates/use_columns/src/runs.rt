@@ -15,7 +15,7 @@ pub struct Run {
     pub len: usize,
 }
 
-/// The column of these runs, one after the other. Refused with `OutOfMemory`.
+/// The column of these runs, one after the other. Refused by `OutOfMemory`.
 pub fn decode_runs<A: Allocator + Clone>(alloc: A, runs: &[Run]) -> Result<Buffer<u32, A>>
     ensures { Makes (λ column. column.list ≡ decoded runs.now) result }
 {

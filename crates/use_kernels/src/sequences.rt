@@ -6,7 +6,7 @@ ghost use Rattle.use_kernels.specs.Sequences.{greater_of};
 use std::alloc::Allocator;
 use vortex_buffer::{Buffer, Result, trusted_len};
 
-/// Half of each value. Refused with `OutOfMemory`, before the first value is looked at.
+/// Half of each value. Refused by `OutOfMemory`, before the first value is looked at.
 pub fn halved<A: Allocator + Clone>(alloc: A, values: &[u32]) -> Result<Buffer<u32, A>>
     ensures { Makes (λ b. b.list ≡ map (λ value. value / 2) values.now) result }
 {
@@ -14,7 +14,7 @@ pub fn halved<A: Allocator + Clone>(alloc: A, values: &[u32]) -> Result<Buffer<u
     Buffer::from_trusted_len_iter(alloc, halves)
 }
 
-/// Half of each value behind the first `n`, of which there may be none. Refused with `OutOfMemory`,
+/// Half of each value behind the first `n`, of which there may be none. Refused by `OutOfMemory`,
 /// before the first value is looked at.
 pub fn rest_halved<A: Allocator + Clone>(
     alloc: A,
@@ -28,7 +28,7 @@ pub fn rest_halved<A: Allocator + Clone>(
     Buffer::from_trusted_len_iter(alloc, halves)
 }
 
-/// The greater of the two values at each place of two columns of one length. Refused with
+/// The greater of the two values at each place of two columns of one length. Refused by
 /// `OutOfMemory`, before the first value is looked at.
 pub fn greater<A: Allocator + Clone>(
     alloc: A,

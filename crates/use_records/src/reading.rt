@@ -6,8 +6,8 @@ use crate::error::ReadError;
 use std::alloc::Allocator;
 use vortex_buffer::{AlignedBuf, BufferString};
 
-/// The next name, which is passed over. Refused with `CutShort` where the file ends before the name
-/// does, or where it can't be passed over, and with `Buffer` where it is no text or memory is
+/// The next name, which is passed over. Refused by `CutShort` where the file ends before the name
+/// does, or where it can't be passed over, and by `Buffer` where it is no text or memory is
 /// refused. Refused, it leaves the file as it was.
 pub fn read_name<B: AlignedBuf, A: Allocator + Clone>(
     alloc: A,

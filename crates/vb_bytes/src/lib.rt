@@ -16,7 +16,7 @@ pub use owned::{HasItems, OwnedItems};
 use std::alloc::Allocator;
 use vb_core::{BufferError, Element, Result};
 
-/// The number of bytes of so many items. Refused with `TooManyBytes` exactly where it passes
+/// The number of bytes of so many items. Refused by `TooManyBytes` exactly where it passes
 /// `usize`.
 pub fn byte_count<T: Element>(items: usize) -> Result<usize>
     ensures fits { items * T.SIZE < 2 ^ 64 → result ≡ Ok (items * T.SIZE) }
@@ -25,7 +25,7 @@ pub fn byte_count<T: Element>(items: usize) -> Result<usize>
     items.checked_mul(T::SIZE).ok_or(BufferError::TooManyBytes)
 }
 
-/// The number of items that `len` bytes are. Refused with `ByteLength` exactly where the size of an
+/// The number of items that `len` bytes are. Refused by `ByteLength` exactly where the size of an
 /// item doesn't divide it.
 pub fn item_count<T: Element>(len: usize) -> Result<usize>
     ensures items { IfOk result (λ items. items * T.SIZE ≡ len) }
@@ -78,8 +78,8 @@ pub fn read_items<T: Element, A: Allocator>(bytes: &[u8], items: &mut Vec<T, A>)
     }
 }
 
-/// The bytes of items, in a vector made for them. Refused with `TooManyBytes` where their number
-/// passes `usize`, which is looked at before memory is asked for, and else with `OutOfMemory`.
+/// The bytes of items, in a vector made for them. Refused by `TooManyBytes` where their number
+/// passes `usize`, which is looked at before memory is asked for, and else by `OutOfMemory`.
 pub fn bytes_of<T: Element, A: Allocator + Clone>(alloc: &A, items: &[T]) -> Result<Vec<u8, A>>
     ensures { MakesBytes (length items.now * T.SIZE)
         (λ bytes. bytes.items ≡ byteform T.form items.now) result }
@@ -90,9 +90,9 @@ pub fn bytes_of<T: Element, A: Allocator + Clone>(alloc: &A, items: &[T]) -> Res
     Ok(bytes)
 }
 
-/// The items whose bytes these are, in a vector made for them. Refused with `ByteLength` where the
+/// The items whose bytes these are, in a vector made for them. Refused by `ByteLength` where the
 /// size of an item doesn't divide the number of bytes, which is looked at before memory is asked
-/// for, and else with `OutOfMemory`.
+/// for, and else by `OutOfMemory`.
 pub fn items_of<T: Element, A: Allocator + Clone>(alloc: &A, bytes: &[u8]) -> Result<Vec<T, A>>
     ensures { ReadsBytes (length bytes.now) T.SIZE
         (λ items. IsReadFrom T.SIZE T.form T.is_in_type bytes.now items.items) result }

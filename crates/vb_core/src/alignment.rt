@@ -81,7 +81,7 @@ impl Alignment {
         Alignment { exponent }
     }
 
-    /// The alignment of `2^exponent` bytes. Refused with `ExponentTooLarge` exactly where the
+    /// The alignment of `2^exponent` bytes. Refused by `ExponentTooLarge` exactly where the
     /// exponent is 64 or more.
     pub fn try_from_exponent(exponent: u8) -> Result<Self>
         ensures fits { exponent < 64 → result ≡ Ok exponent }
@@ -94,8 +94,8 @@ impl Alignment {
     }
 
     /// The alignment of `2^exponent` bytes, where the exponent comes from input that isn't trusted
-    /// and so isn't to ask for more than `MAX_UNTRUSTED`. Refused with `ExponentTooLarge` exactly
-    /// where the exponent is 64 or more, and with `Untrusted` exactly where it is 17 to 63.
+    /// and so isn't to ask for more than `MAX_UNTRUSTED`. Refused by `ExponentTooLarge` exactly
+    /// where the exponent is 64 or more, and by `Untrusted` exactly where it is 17 to 63.
     pub fn try_from_untrusted_exponent(exponent: u8) -> Result<Self>
         ensures fits { exponent ≤ 16 → result ≡ Ok exponent }
         ensures untrusted { 16 < exponent → exponent < 64 →
@@ -109,8 +109,8 @@ impl Alignment {
         Ok(alignment)
     }
 
-    /// The alignment of `align` bytes. Refused with `AlignmentZero` exactly where `align` is 0, and
-    /// with `NotPowerOfTwo` exactly where it is another number that is no power of two.
+    /// The alignment of `align` bytes. Refused by `AlignmentZero` exactly where `align` is 0, and
+    /// by `NotPowerOfTwo` exactly where it is another number that is no power of two.
     pub fn try_from_u32(align: u32) -> Result<Self>
         ensures power { IsTrue (is_power_of_two align) →
             IsOkAnd result (λ alignment. 2 ^ alignment ≡ align) }
@@ -128,7 +128,7 @@ impl Alignment {
         Ok(Alignment::new(value))
     }
 
-    /// The alignment in bytes. Refused with `PastU32` exactly where the exponent is 32 or more.
+    /// The alignment in bytes. Refused by `PastU32` exactly where the exponent is 32 or more.
     pub fn to_u32(self) -> Result<u32>
         ensures fits { self < 32 → result ≡ Ok (2 ^ self) }
         ensures past { 32 ≤ self → IsErrOf result (BufferError.PastU32 self) }

@@ -146,7 +146,7 @@ impl<T: Element, A: Allocator> Buffer<T, A> {
 
 impl<T: Element, A: Allocator + Clone> Buffer<T, A> {
     /// The items of a range as [`Buffer::narrow`] keeps them; the part shares the storage. Refused
-    /// with `OutOfMemory` where a copy of the allocator finds no memory.
+    /// by `OutOfMemory` where a copy of the allocator finds no memory.
     pub fn slice(&self, range: Range<usize>) -> Result<Self>
         requires { CanNarrow T.SIZE T.align_exponent self.now range }
         ensures { Makes (ShowsPart T.SIZE self.now range self.now.alignment) result }

@@ -51,7 +51,7 @@ pub trait AlignedBuf {
     /// A copy of the next `len` bytes, for which [`AlignedBuf::can_advance`] holds, with an
     /// alignment, over-aligned to 256 bytes; they are passed over, as [`AlignedBuf::advance`] does.
     /// The copy stands in memory of the allocator that is handed in, and grows from it. Refused
-    /// with `OutOfMemory`, and then no byte is passed over.
+    /// by `OutOfMemory`, and then no byte is passed over.
     fn copy_to_aligned<A: Allocator + Clone>(
         &mut self,
         alloc: A,
@@ -127,7 +127,7 @@ impl<A: Allocator> AlignedBuf for Buffer<u8, A> {
 }
 
 /// A copy of the next `len` bytes, for which [`AlignedBuf::can_advance`] holds, aligned to `N`
-/// bytes, which are a power of two, over-aligned to 256 bytes; they are passed over. Refused with
+/// bytes, which are a power of two, over-aligned to 256 bytes; they are passed over. Refused by
 /// `OutOfMemory`, and then no byte is passed over.
 pub fn copy_to_const_aligned<const N: usize, B: AlignedBuf, A: Allocator + Clone>(
     buf: &mut B,

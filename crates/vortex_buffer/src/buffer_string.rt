@@ -49,7 +49,7 @@ impl<A: Allocator> BufferString<A> {
         }
     }
 
-    /// The text of bytes, in their storage. It takes no memory. Refused with `NotUtf8` exactly
+    /// The text of bytes, in their storage. It takes no memory. Refused by `NotUtf8` exactly
     /// where they aren't UTF-8; the buffer is gone then.
     pub fn try_from_buffer(bytes: ByteBuffer<A>) -> Result<Self>
         ensures ok { IfOk result (λ text. (text ≡ bytes) × IsUtf8 bytes.list) }
@@ -85,7 +85,7 @@ impl<A: Allocator> BufferString<A> {
 }
 
 impl<A: Allocator + Clone> BufferString<A> {
-    /// A copy of a text, of alignment 1, over-aligned to 256 bytes. Refused with `OutOfMemory`.
+    /// A copy of a text, of alignment 1, over-aligned to 256 bytes. Refused by `OutOfMemory`.
     pub fn from_str(alloc: A, text: &str) -> Result<Self>
         ensures { Makes (ShowsMade text.now 0) result }
     {
@@ -96,7 +96,7 @@ impl<A: Allocator + Clone> BufferString<A> {
     /// A text, of alignment 1, with which its storage is declared: nothing is copied, and nothing
     /// is over-aligned. What has to be asked now is asked of `alloc`, and so is what copies and
     /// further owners ask; the storage itself grows from the allocator of `text`, once it is moved
-    /// out by [`BufferString::into_inner`] and `into_mut`. Refused with `OutOfMemory`; the text is
+    /// out by [`BufferString::into_inner`] and `into_mut`. Refused by `OutOfMemory`; the text is
     /// gone then.
     pub fn from_string(alloc: A, text: String<A>) -> Result<Self>
         ensures { Makes (Shows (string_bytes text) 0 0 0) result }
@@ -105,8 +105,8 @@ impl<A: Allocator + Clone> BufferString<A> {
         Ok(BufferString { bytes })
     }
 
-    /// A copy of the text that bytes are, of alignment 1, over-aligned to 256 bytes. Refused with
-    /// `NotUtf8` exactly where they aren't UTF-8, before memory is asked, and else with
+    /// A copy of the text that bytes are, of alignment 1, over-aligned to 256 bytes. Refused by
+    /// `NotUtf8` exactly where they aren't UTF-8, before memory is asked, and else by
     /// `OutOfMemory`.
     pub fn try_from_slice(alloc: A, bytes: &[u8]) -> Result<Self>
         ensures ok { IfOk result (λ text. ShowsMade bytes.now 0 text × IsUtf8 bytes.now) }
@@ -117,7 +117,7 @@ impl<A: Allocator + Clone> BufferString<A> {
     }
 
     /// One more owner of the same text, in constant time and without memory for the storage.
-    /// Refused with `OutOfMemory` where a copy of the allocator finds no memory.
+    /// Refused by `OutOfMemory` where a copy of the allocator finds no memory.
     pub fn clone(&self) -> Result<Self>
         ensures { Makes (λ text. text ≡ self.now) result }
     {

@@ -44,7 +44,7 @@ impl<T: Element, const N: usize, A: Allocator> ConstBuffer<T, N, A> {
     }
 
     /// The buffer, where the alignment that it reports is a multiple of `N`. It takes no memory.
-    /// Refused with `NotPowerOfTwo` exactly where `N` is no power of two (so is 0), and with
+    /// Refused by `NotPowerOfTwo` exactly where `N` is no power of two (so is 0), and by
     /// `NotAligned` exactly where it is one and doesn't divide the reported alignment; the buffer
     /// is gone then.
     #[tactic(auto, using(crate::proofs::Exponents::is_power))]
@@ -100,7 +100,7 @@ impl<T: Element, const N: usize, A: Allocator> ConstBuffer<T, N, A> {
 
 impl<T: Element, const N: usize, A: Allocator + Clone> ConstBuffer<T, N, A> {
     /// A copy of a slice, aligned to `N` bytes, which are a power of two and at least the alignment
-    /// of an item. It reports `N`, and is over-aligned to 256 bytes. Refused with `OutOfMemory`.
+    /// of an item. It reports `N`, and is over-aligned to 256 bytes. Refused by `OutOfMemory`.
     pub fn copy_from(alloc: A, items: &[T]) -> Result<Self>
         requires power { IsPower N }
         requires at_least { T.ALIGN ≤ N }
@@ -113,7 +113,7 @@ impl<T: Element, const N: usize, A: Allocator + Clone> ConstBuffer<T, N, A> {
     /// A buffer, aligned to `N` bytes, which are a power of two and at least the alignment of an
     /// item: it reports `N`. Where [`Buffer::is_aligned`] holds of it, it keeps its storage, takes
     /// no memory and isn't refused; else the items are copied, over-aligned to 256 bytes. Refused
-    /// with `OutOfMemory`; the buffer is gone then.
+    /// by `OutOfMemory`; the buffer is gone then.
     pub fn align_from(buffer: Buffer<T, A>) -> Result<Self>
         requires power { IsPower N }
         requires at_least { T.ALIGN ≤ N }
@@ -130,7 +130,7 @@ impl<T: Element, const N: usize, A: Allocator + Clone> ConstBuffer<T, N, A> {
     }
 
     /// One more owner of the same items, in constant time and without memory for the storage.
-    /// Refused with `OutOfMemory` where a copy of the allocator finds no memory.
+    /// Refused by `OutOfMemory` where a copy of the allocator finds no memory.
     pub fn clone(&self) -> Result<Self>
         ensures { Makes (λ fixed. fixed ≡ self.now) result }
     {

@@ -14,7 +14,7 @@ use vb_core::{Alignment, Element};
 
 impl<T: Element, A: Allocator + Clone> Buffer<T, A> {
     /// The bytes of the items, of alignment 1, copied and over-aligned to 256 bytes. The buffer
-    /// stays. Refused with `TooManyBytes` where the number of bytes passes `usize`, and else with
+    /// stays. Refused by `TooManyBytes` where the number of bytes passes `usize`, and else by
     /// `OutOfMemory`.
     pub fn as_bytes(&self) -> Result<Buffer<u8, A>>
         ensures { MakesBytes (length self.now.list * T.SIZE)
@@ -49,8 +49,8 @@ impl<T: Element, A: Allocator + Clone> Buffer<T, A> {
 
     /// The items whose bytes a slice has, with an alignment, which is at least that of an item:
     /// read once into storage made for them, over-aligned to 256 bytes, which the buffer keeps with
-    /// the allocator. Refused with `ByteLength` exactly where the size of an item doesn't divide
-    /// the number of bytes, before memory is asked for, and else with `OutOfMemory`.
+    /// the allocator. Refused by `ByteLength` exactly where the size of an item doesn't divide
+    /// the number of bytes, before memory is asked for, and else by `OutOfMemory`.
     pub fn read_from(alloc: A, bytes: &[u8], alignment: Alignment) -> Result<Self>
         requires { T.align_exponent ≤ alignment }
         ensures { ReadsBytes (length bytes.now) T.SIZE
@@ -61,8 +61,8 @@ impl<T: Element, A: Allocator + Clone> Buffer<T, A> {
     }
 
     /// The items whose bytes a buffer has, of the alignment of an item, copied and over-aligned to
-    /// 256 bytes. Refused with `ByteLength` exactly where the size of an item doesn't divide the
-    /// number of bytes, and else with `OutOfMemory`; the bytes are gone then.
+    /// 256 bytes. Refused by `ByteLength` exactly where the size of an item doesn't divide the
+    /// number of bytes, and else by `OutOfMemory`; the bytes are gone then.
     pub fn from_byte_buffer(bytes: Buffer<u8, A>) -> Result<Self>
         ensures { ReadsBytes (length bytes.list) T.SIZE
             (ShowsRead T.SIZE T.form T.is_in_type bytes.list T.align_exponent) result }

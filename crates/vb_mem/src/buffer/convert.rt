@@ -45,7 +45,7 @@ impl<T: Element, A: Allocator> Buffer<T, A> {
     }
 
     /// The same buffer with another alignment, which is at least that of an item. It takes no
-    /// memory. Refused with `NotAligned` exactly where [`Buffer::is_aligned`] is false of it; the
+    /// memory. Refused by `NotAligned` exactly where [`Buffer::is_aligned`] is false of it; the
     /// buffer is gone then.
     pub fn ensure_aligned(self, alignment: Alignment) -> Result<Self>
         requires { T.align_exponent ≤ alignment }
@@ -81,7 +81,7 @@ impl<T: Element, A: Allocator + Clone> Clone for Buffer<T, A> {
 
 impl<T: Element, A: Allocator + Clone> Buffer<T, A> {
     /// One more owner of the same items, in constant time and without memory for the storage.
-    /// Refused with `OutOfMemory` where a copy of the allocator finds no memory.
+    /// Refused by `OutOfMemory` where a copy of the allocator finds no memory.
     pub fn clone(&self) -> Result<Self>
         ensures { Makes (λ b. b ≡ self.now) result }
     {
@@ -90,7 +90,7 @@ impl<T: Element, A: Allocator + Clone> Buffer<T, A> {
 
     /// The same items, to be changed; all other owners keep theirs. A lone owner's stay in their
     /// storage, as in [`Buffer::try_into_mut`]; where there are others, the items are copied and
-    /// over-aligned to 256 bytes. Refused with `OutOfMemory`; the buffer is gone then.
+    /// over-aligned to 256 bytes. Refused by `OutOfMemory`; the buffer is gone then.
     pub fn into_mut(self) -> Result<BufferMut<T, A>>
         ensures { Makes (λ b. KeepsItems self (shown b)) result }
     {
@@ -107,7 +107,7 @@ impl<T: Element, A: Allocator + Clone> Buffer<T, A> {
 
     /// The same items with another alignment, which is at least that of an item. Where
     /// [`Buffer::is_aligned`] holds of it, the buffer keeps its storage, takes no memory and isn't
-    /// refused; else the items are copied, over-aligned to 256 bytes. Refused with `OutOfMemory`;
+    /// refused; else the items are copied, over-aligned to 256 bytes. Refused by `OutOfMemory`;
     /// the buffer is gone then.
     pub fn aligned(self, alignment: Alignment) -> Result<Self>
         requires { T.align_exponent ≤ alignment }
@@ -131,7 +131,7 @@ impl<T: Element, A: Allocator + Clone> Buffer<T, A> {
     /// Where there are other owners the items are copied, over-aligned to 256 bytes.
     ///
     /// What is lent is the growing buffer that holds the items. In the end the buffer shows all
-    /// that is left there, from the front of its storage on. Refused with `OutOfMemory`, before
+    /// that is left there, from the front of its storage on. Refused by `OutOfMemory`, before
     /// anything is changed; the contract says so of the items and the reported alignment alone.
     pub fn items_mut(&mut self) -> Result<&mut BufferMut<T, A>>
         ensures* writes_back { sem 𝓛 (LendsAll T.row A.row T.Element A.Allocator

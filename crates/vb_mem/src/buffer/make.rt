@@ -37,14 +37,14 @@ impl<T: Element, A: Allocator> Buffer<T, A> {
 }
 
 impl<T: Element, A: Allocator + Clone> Buffer<T, A> {
-    /// A copy of a slice, as a block, over-aligned to 256 bytes. Refused with `OutOfMemory`.
+    /// A copy of a slice, as a block, over-aligned to 256 bytes. Refused by `OutOfMemory`.
     pub fn copy_from(alloc: A, items: &[T]) -> Result<Self>
         ensures { Makes (ShowsMade items.now T.align_exponent) result }
     {
         BufferMut::copy_from(alloc, items)?.freeze()
     }
 
-    /// A copy of a slice with an alignment, over-aligned to 256 bytes. Refused with `OutOfMemory`.
+    /// A copy of a slice with an alignment, over-aligned to 256 bytes. Refused by `OutOfMemory`.
     pub fn copy_from_aligned(alloc: A, items: &[T], alignment: Alignment) -> Result<Self>
         requires { T.align_exponent ≤ alignment }
         ensures { Makes (ShowsMade items.now alignment) result }
@@ -52,7 +52,7 @@ impl<T: Element, A: Allocator + Clone> Buffer<T, A> {
         BufferMut::copy_from_aligned(alloc, items, alignment)?.freeze()
     }
 
-    /// A copy of a slice, over-aligned to the preferred alignment. Refused with `OutOfMemory`.
+    /// A copy of a slice, over-aligned to the preferred alignment. Refused by `OutOfMemory`.
     pub fn copy_from_preferred_aligned(
         alloc: A,
         items: &[T],
@@ -65,14 +65,14 @@ impl<T: Element, A: Allocator + Clone> Buffer<T, A> {
         BufferMut::copy_from_preferred_aligned(alloc, items, alignment, preferred)?.freeze()
     }
 
-    /// `len` zeros, over-aligned to 256 bytes. Refused with `OutOfMemory`.
+    /// `len` zeros, over-aligned to 256 bytes. Refused by `OutOfMemory`.
     pub fn zeroed(alloc: A, len: usize) -> Result<Self>
         ensures { Makes (ShowsMade (replicate len T.zero) T.align_exponent) result }
     {
         BufferMut::zeroed(alloc, len)?.freeze()
     }
 
-    /// `len` zeros with an alignment, over-aligned to 256 bytes. Refused with `OutOfMemory`.
+    /// `len` zeros with an alignment, over-aligned to 256 bytes. Refused by `OutOfMemory`.
     pub fn zeroed_aligned(alloc: A, len: usize, alignment: Alignment) -> Result<Self>
         requires { T.align_exponent ≤ alignment }
         ensures { Makes (ShowsMade (replicate len T.zero) alignment) result }
@@ -80,7 +80,7 @@ impl<T: Element, A: Allocator + Clone> Buffer<T, A> {
         BufferMut::zeroed_aligned(alloc, len, alignment)?.freeze()
     }
 
-    /// `len` zeros, over-aligned to the preferred alignment. Refused with `OutOfMemory`.
+    /// `len` zeros, over-aligned to the preferred alignment. Refused by `OutOfMemory`.
     pub fn zeroed_preferred_aligned(
         alloc: A,
         len: usize,
@@ -94,14 +94,14 @@ impl<T: Element, A: Allocator + Clone> Buffer<T, A> {
         BufferMut::zeroed_preferred_aligned(alloc, len, alignment, preferred)?.freeze()
     }
 
-    /// `len` copies of an item, over-aligned to 256 bytes. Refused with `OutOfMemory`.
+    /// `len` copies of an item, over-aligned to 256 bytes. Refused by `OutOfMemory`.
     pub fn full(alloc: A, item: T, len: usize) -> Result<Self>
         ensures { Makes (ShowsMade (replicate len item) T.align_exponent) result }
     {
         BufferMut::full(alloc, item, len)?.freeze()
     }
 
-    /// The items that an iterator gives, over-aligned to 256 bytes. Refused with `OutOfMemory`.
+    /// The items that an iterator gives, over-aligned to 256 bytes. Refused by `OutOfMemory`.
     pub fn from_iter<I: IntoIterator<Item = T>>(alloc: A, iter: I) -> Result<Self>
         requires { IsFiniteIterable I.into_iter_gives I.IntoIter.can_next
             I.IntoIter.remaining iter }
@@ -113,7 +113,7 @@ impl<T: Element, A: Allocator + Clone> Buffer<T, A> {
         BufferMut::from_iter(alloc, iter)?.freeze()
     }
 
-    /// The items that an iterator of known length gives, over-aligned to 256 bytes. Refused with
+    /// The items that an iterator of known length gives, over-aligned to 256 bytes. Refused by
     /// `OutOfMemory`.
     pub fn from_trusted_len_iter<I: TrustedLen<Item = T>>(alloc: A, iter: I) -> Result<Self>
         requires { I.can_next iter }
@@ -127,7 +127,7 @@ impl<T: Element, A: Allocator + Clone> Buffer<T, A> {
     /// The items of a vector, of the alignment of an item, with which its storage is declared.
     /// Nothing is copied. The block that counts owners is asked of `alloc`, and so are copies;
     /// where a lone owner opens the buffer, the storage grows from the vector's allocator. Refused
-    /// with `OutOfMemory`; the vector is gone then.
+    /// by `OutOfMemory`; the vector is gone then.
     pub fn from_vec(alloc: A, items: Vec<T, A>) -> Result<Self>
         ensures { Makes (Shows items.items T.align_exponent 0 T.align_exponent) result }
     {
@@ -136,7 +136,7 @@ impl<T: Element, A: Allocator + Clone> Buffer<T, A> {
         Ok(Buffer { content, alloc })
     }
 
-    /// A growing buffer, to be shared, as [`BufferMut::freeze`] does. Refused with `OutOfMemory`;
+    /// A growing buffer, to be shared, as [`BufferMut::freeze`] does. Refused by `OutOfMemory`;
     /// the buffer is gone then.
     pub fn from_mut(growing: BufferMut<T, A>) -> Result<Self>
         ensures { Makes (Shows growing.list growing.alignment 0 growing.declared) result }

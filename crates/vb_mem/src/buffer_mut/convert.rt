@@ -24,7 +24,7 @@ impl<T: Element, A: Allocator + Clone> Clone for BufferMut<T, A> {
 
 impl<T: Element, A: Allocator + Clone> BufferMut<T, A> {
     /// Hands out the buffer, and leaves an empty one of the same alignment, over-aligned to 256
-    /// bytes. Refused with `OutOfMemory` where a copy of the allocator finds no memory; the buffer
+    /// bytes. Refused by `OutOfMemory` where a copy of the allocator finds no memory; the buffer
     /// is unchanged then.
     pub fn take(&mut self) -> Result<Self>
         ensures taken { Makes (λ b. b ≡ self.old) result }
@@ -36,7 +36,7 @@ impl<T: Element, A: Allocator + Clone> BufferMut<T, A> {
         Ok(std::mem::replace(self, empty))
     }
 
-    /// A copy of the same alignment, over-aligned to 256 bytes. Refused with `OutOfMemory`.
+    /// A copy of the same alignment, over-aligned to 256 bytes. Refused by `OutOfMemory`.
     pub fn clone(&self) -> Result<Self>
         ensures { Makes (HoldsMade self.now.list self.now.alignment) result }
     {
@@ -45,7 +45,7 @@ impl<T: Element, A: Allocator + Clone> BufferMut<T, A> {
 
     /// The same items with another alignment, which is at least that of an item. An empty buffer,
     /// and one that is declared with it or more, keeps its storage, takes no memory and isn't
-    /// refused; else the items are copied, over-aligned to 256 bytes. Refused with `OutOfMemory`;
+    /// refused; else the items are copied, over-aligned to 256 bytes. Refused by `OutOfMemory`;
     /// the buffer is gone then.
     pub fn aligned(self, alignment: Alignment) -> Result<Self>
         requires { T.align_exponent ≤ alignment }
@@ -71,7 +71,7 @@ impl<T: Element, A: Allocator + Clone> BufferMut<T, A> {
     }
 
     /// The same items, to be shared, in constant time: the storage is handed on, and memory is
-    /// taken for its count of owners alone. Refused with `OutOfMemory`; the buffer is gone then.
+    /// taken for its count of owners alone. Refused by `OutOfMemory`; the buffer is gone then.
     pub fn freeze(self) -> Result<Buffer<T, A>>
         ensures { Makes (Shows self.list self.alignment 0 self.declared) result }
     {

@@ -14,7 +14,7 @@ use std::alloc::Allocator;
 use vb_core::{BufferError, Element, ExtendError, TrustedLen};
 
 impl<T: Element, A: Allocator> BufferMut<T, A> {
-    /// Makes room for so many more items. Refused with `OutOfMemory`; the buffer is unchanged then.
+    /// Makes room for so many more items. Refused by `OutOfMemory`; the buffer is unchanged then.
     pub fn reserve(&mut self, additional: usize) -> Result<()>
         ensures ok { OnOk result (Lengthens [] self.old self.new) }
         ensures room { OnOk result (HasRoom self.new additional) }
@@ -24,7 +24,7 @@ impl<T: Element, A: Allocator> BufferMut<T, A> {
         Ok(())
     }
 
-    /// Adds an item. Within the capacity it takes no memory and succeeds; else it is refused with
+    /// Adds an item. Within the capacity it takes no memory and succeeds; else it is refused by
     /// `OutOfMemory`, and the buffer is unchanged then. Amortised, the cost of a push is constant.
     pub fn push(&mut self, item: T) -> Result<()>
         ensures ok { OnOk result (Lengthens (item ∷ []) self.old self.new) }
@@ -74,7 +74,7 @@ impl<T: Element, A: Allocator> BufferMut<T, A> {
 
     /// Adds the items that an iterator gives. Within the capacity it takes no memory and succeeds.
     ///
-    /// Else it may be refused with `OutOfMemory`: the items that came until the capacity was full
+    /// Else it may be refused by `OutOfMemory`: the items that came until the capacity was full
     /// stay then. The iterator's hint guides how much room is asked for, and decides no answer.
     pub fn extend<I: IntoIterator<Item = T>>(&mut self, iter: I) -> Result<()>
         requires { IsFiniteIterable I.into_iter_gives I.IntoIter.can_next
@@ -139,7 +139,7 @@ impl<T: Element, A: Allocator> BufferMut<T, A> {
 
     /// Adds the values that an iterator of known length gives, up to its first error.
     ///
-    /// Refused with `Memory` before the first item is asked for, and unchanged then; within the
+    /// Refused by `Memory` before the first item is asked for, and unchanged then; within the
     /// capacity it takes no memory. Stopped with `Item` at the first error; the values before it
     /// stay then.
     pub fn try_extend_trusted<E, I: TrustedLen<Item = Result<T, E>>>(

@@ -12,7 +12,7 @@ use std::alloc::Allocator;
 use vb_core::{Alignment, Element, ExtendError, TrustedLen};
 
 impl<T: Element, A: Allocator> BufferMut<T, A> {
-    /// Room for `capacity` items, over-aligned to 256 bytes. Refused with `OutOfMemory`.
+    /// Room for `capacity` items, over-aligned to 256 bytes. Refused by `OutOfMemory`.
     pub fn with_capacity(alloc: A, capacity: usize) -> Result<Self>
         ensures { Makes (λ b. HoldsMade [] T.align_exponent b × (capacity ≤ b.room)) result }
     {
@@ -43,14 +43,14 @@ impl<T: Element, A: Allocator> BufferMut<T, A> {
         Ok(buffer)
     }
 
-    /// `len` zeros, over-aligned to 256 bytes. Refused with `OutOfMemory`.
+    /// `len` zeros, over-aligned to 256 bytes. Refused by `OutOfMemory`.
     pub fn zeroed(alloc: A, len: usize) -> Result<Self>
         ensures { Makes (HoldsMade (replicate len T.zero) T.align_exponent) result }
     {
         BufferMut::zeroed_aligned(alloc, len, Alignment::of::<T>())
     }
 
-    /// `len` zeros with an alignment, over-aligned to 256 bytes. Refused with `OutOfMemory`.
+    /// `len` zeros with an alignment, over-aligned to 256 bytes. Refused by `OutOfMemory`.
     pub fn zeroed_aligned(alloc: A, len: usize, alignment: Alignment) -> Result<Self>
         requires { T.align_exponent ≤ alignment }
         ensures { Makes (HoldsMade (replicate len T.zero) alignment) result }
@@ -58,7 +58,7 @@ impl<T: Element, A: Allocator> BufferMut<T, A> {
         BufferMut::zeroed_preferred_aligned(alloc, len, alignment, DEFAULT)
     }
 
-    /// `len` zeros, over-aligned to the preferred alignment. Refused with `OutOfMemory`.
+    /// `len` zeros, over-aligned to the preferred alignment. Refused by `OutOfMemory`.
     pub fn zeroed_preferred_aligned(
         alloc: A,
         len: usize,
@@ -117,7 +117,7 @@ impl<T: Element, A: Allocator> BufferMut<T, A> {
         }
     }
 
-    /// `len` copies of an item, over-aligned to 256 bytes. Refused with `OutOfMemory`.
+    /// `len` copies of an item, over-aligned to 256 bytes. Refused by `OutOfMemory`.
     pub fn full(alloc: A, item: T, len: usize) -> Result<Self>
         ensures { Makes (HoldsMade (replicate len item) T.align_exponent) result }
     {
@@ -126,14 +126,14 @@ impl<T: Element, A: Allocator> BufferMut<T, A> {
         Ok(buffer)
     }
 
-    /// A copy of a slice, as a block, over-aligned to 256 bytes. Refused with `OutOfMemory`.
+    /// A copy of a slice, as a block, over-aligned to 256 bytes. Refused by `OutOfMemory`.
     pub fn copy_from(alloc: A, items: &[T]) -> Result<Self>
         ensures { Makes (HoldsMade items.now T.align_exponent) result }
     {
         BufferMut::copy_from_aligned(alloc, items, Alignment::of::<T>())
     }
 
-    /// A copy of a slice with an alignment, over-aligned to 256 bytes. Refused with `OutOfMemory`.
+    /// A copy of a slice with an alignment, over-aligned to 256 bytes. Refused by `OutOfMemory`.
     pub fn copy_from_aligned(alloc: A, items: &[T], alignment: Alignment) -> Result<Self>
         requires { T.align_exponent ≤ alignment }
         ensures { Makes (HoldsMade items.now alignment) result }
@@ -141,7 +141,7 @@ impl<T: Element, A: Allocator> BufferMut<T, A> {
         BufferMut::copy_from_preferred_aligned(alloc, items, alignment, DEFAULT)
     }
 
-    /// A copy of a slice, over-aligned to the preferred alignment. Refused with `OutOfMemory`.
+    /// A copy of a slice, over-aligned to the preferred alignment. Refused by `OutOfMemory`.
     pub fn copy_from_preferred_aligned(
         alloc: A,
         items: &[T],
@@ -166,7 +166,7 @@ impl<T: Element, A: Allocator> BufferMut<T, A> {
         BufferMut::copy_from_aligned(alloc.clone()?, items, alignment)
     }
 
-    /// The items that an iterator gives, over-aligned to 256 bytes. Refused with `OutOfMemory`.
+    /// The items that an iterator gives, over-aligned to 256 bytes. Refused by `OutOfMemory`.
     pub fn from_iter<I: IntoIterator<Item = T>>(alloc: A, iter: I) -> Result<Self>
         requires { IsFiniteIterable I.into_iter_gives I.IntoIter.can_next
             I.IntoIter.remaining iter }
@@ -193,8 +193,8 @@ impl<T: Element, A: Allocator> BufferMut<T, A> {
         Ok(buffer)
     }
 
-    /// The values that an iterator of known length gives, over-aligned to 256 bytes. Refused with
-    /// `Memory` before the first item is asked for, and with `Item` at the first error.
+    /// The values that an iterator of known length gives, over-aligned to 256 bytes. Refused by
+    /// `Memory` before the first item is asked for, and by `Item` at the first error.
     pub fn try_from_trusted_len_iter<E, I: TrustedLen<Item = Result<T, E>>>(
         alloc: A,
         iter: I,
