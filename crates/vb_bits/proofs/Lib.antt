@@ -3,6 +3,7 @@ pub mod BitsLemmas
 pub mod PlacesLemmas
 pub mod KeptLemmas
 pub mod DigitsLemmas
+pub mod SelectsLemmas
 pub mod BytesLemmas
 pub mod ReadLemmas
 pub mod ShiftLemmas

@@ -16,26 +16,9 @@ use Rattle.vb_bits.proofs.BitsLemmas.{bits-add, length-bits, count-append, count
 use Rattle.vb_bits.proofs.BitsLemmas.{count-take-mono, count-bits_none, count-negated}
 use Rattle.vb_bits.proofs.BitsLemmas.{count-negated_none}
 use Rattle.vb_bits.proofs.DigitsLemmas.{digits-add, count-digits_below}
+use Rattle.vb_bits.proofs.SelectsLemmas.{Selects-append_left, Selects-append_right}
 
 -- ---- a place in two lists, one after the other
--- found in the first
-pub Selects-append_left : (k l : List Bool) (n p : ℕ)
-    → Selects k n (Some p) → Selects (k ++ l) n (Some p)
-Selects-append_left k l n p s = (
-  omega (arith, s.0, length-append k l),
-  get_or_append_left k l false p s.0 ∙ s.1,
-  ap count (take-append-le p k l (omega (arith, s.0))) ∙ s.2,
-)
-
--- found in the second
-pub Selects-append_right : (k l : List Bool) (n left p : ℕ)
-    → n ≡ left + count k → Selects l left (Some p) → Selects (k ++ l) n (Some (length k + p))
-Selects-append_right k l n left p passed s = (
-  omega (arith, s.0, length-append k l),
-  get_or-append-add k l p false ∙ s.1,
-  ap count (take-append-add k l p) ∙ count-append k (take p l) ∙ omega (arith, s.2),
-)
-
 -- a rank below the first one's count is found there
 Selects-left : (k l : List Bool) (n p : ℕ)
     → n < count k → Selects (k ++ l) n (Some p) → Selects k n (Some p)
@@ -140,6 +123,16 @@ Searched_longer v b o m z n p within s =
     Selects-append_left (matching v (bits b o m)) (matching v (bits b (o + m) (z - m))) n p s in
     subst (λ x. Searched (matching v (bits b o x)) n (Break p)) e
     (subst (λ l. Searched l n (Break p)) (sym (matching-bits-add v b o m (z - m))) t)
+
+-- searched in a front of the window, which holds what is sought unless it is the whole
+pub Searched_front : (v : Bool) (b : List ℕ) (o m z n : ℕ) (r : ControlFlow ℕ ℕ)
+    → m ≤ z → (m < z → n < count (matching v (bits b o m)))
+    → Searched (matching v (bits b o m)) n r → Searched (matching v (bits b o z)) n r
+Searched_front v b o m z n (Break p) within held s = Searched_longer v b o m z n p within s
+Searched_front v b o m z n (Continue left) within held s =
+    let whole : m ≡ z = ⊎_elim (λ (short : m < z). absurd (omega (arith, held short, s)))
+    (λ (past : z ≤ m). omega arith) (cases_lt m z) in
+    subst (λ x. Searched (matching v (bits b o x)) n (Continue left)) whole s
 
 -- a window whose front was passed by is searched in what comes after it
 pub Searched_after : (v : Bool) (b : List ℕ) (o m k n left p : ℕ)

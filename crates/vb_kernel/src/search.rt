@@ -6,8 +6,9 @@ ghost use Rattle.vb_kernel.specs.Looks.{LooksExactly, LooksAtMost};
 
 use crate::glance::Glance;
 use crate::unit::Unit;
-use crate::word::{byte_part, select_in_byte};
+use crate::word::byte_part;
 use std::ops::ControlFlow;
+use vb_bits::select_in_byte;
 
 /// Where a search of a window stands, and what it seeks: of the bits from place `from` on that are
 /// `value`, the `n`-th.

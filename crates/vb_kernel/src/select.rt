@@ -1,5 +1,5 @@
 //! The place of a bit by its rank.
-ghost use Rattle.std.specs.Prelude.{◌≡◌, ◌+◌, ◌*◌, ◌/◌, ◌%◌, ◌^◌, ◌<◌, ◌≤◌, length};
+ghost use Rattle.std.specs.Prelude.{◌≡◌, ◌+◌, ◌-◌, ◌*◌, ◌/◌, ◌%◌, ◌^◌, ◌<◌, ◌≤◌, length};
 ghost use Rattle.vb_bits.specs.Bits.{bits, count, negated, Selects, AnswersEach};
 ghost use Rattle.vb_bits.specs.InBytes.{InBytes};
 ghost use Rattle.vb_kernel.specs.Looks.{looks, LooksExactly, LooksAtMost};
@@ -15,6 +15,55 @@ use std::ops::ControlFlow;
 /// Fewer chunks than these are searched by their words at once, which takes no longer than to count
 /// them first.
 const MANY: usize = 4;
+
+/// So many chunks are searched before any is counted where the rank is low: they have the bit, but
+/// where few bits are set.
+const FEW: usize = 16;
+
+/// Among so many chunks none is counted that may hold the bit: they are too few to gain by it.
+const SHORT: usize = 64;
+
+/// Some of the chunks of a window, in which a bit is sought.
+#[derive(Clone, Copy)]
+struct Stretch {
+    /// How many chunks were passed before it.
+    passed: usize,
+    /// How many it has.
+    chunks: usize,
+    /// What is left of the rank where it begins.
+    left: usize,
+}
+
+impl Stretch {
+    /// How many of its chunks to count next, where the `n`-th bit is sought.
+    ///
+    /// `left / 512` chunks have at most `left` bits, so the bit surely comes after them. Where few
+    /// bits are set those are few, and more are counted if the bit comes after them at the rate of
+    /// the chunks that were passed, but no more than those. At most half of the stretch is: should
+    /// they hold the bit, they are looked at again, and as many behind them never.
+    fn block(self, n: usize) -> usize
+        requires { self.left ≤ n }
+        ensures within { result ≤ self.chunks }
+        ensures paid { self.left < 512 * result → 2 * result ≤ self.chunks }
+    {
+        let sure = (self.left / 512).min(self.chunks);
+        let seen = self.passed.max(searched_first(n));
+        let mut unsure = seen.min(self.chunks / 2);
+        // No product is so large in truth that it would saturate.
+        while sure.max(FEW) <= unsure {
+            if (n - self.left).saturating_mul(unsure) <= self.left.saturating_mul(seen) {
+                return unsure;
+            }
+            unsure /= 2;
+        }
+        sure
+    }
+}
+
+/// How many chunks are searched before any is counted, where the `n`-th bit is sought.
+fn searched_first(n: usize) -> usize {
+    if n < 512 * MANY { FEW } else { 0 }
+}
 
 /// The place, relative to the window, of its `n`-th true bit, counted from 0; `None` where the
 /// window has at most `n`.
@@ -102,6 +151,9 @@ fn find_in_chunks<G: Glance>(
     ensures found { SearchAnswers (G.seen src.old).bytes search (512 * chunks) result }
     ensures looks { LooksAtMost chunks (G.seen src.old) (G.seen src.new) }
 {
+    if SHORT < chunks {
+        return find_in_long_run(src, search, chunks);
+    }
     if MANY <= chunks {
         return find_in_many_chunks(src, search, chunks);
     }
@@ -166,6 +218,64 @@ fn pass_chunks<G: Glance>(
         }
         left -= count_matching(src, at / 8 + 64 * passed, sure, value);
         passed += sure;
+    }
+}
+
+/// Searches more chunks than [`SHORT`] by counting also such as may hold the bit.
+#[inline(never)]
+fn find_in_long_run<G: Glance>(
+    src: &mut G,
+    mut search: Search,
+    chunks: usize,
+) -> ControlFlow<usize, usize>
+    requires aligned { 0 < chunks → (search.offset + search.from) % 8 ≡ 0 }
+    requires within { IsWithin (G.seen src.old).bytes search (512 * chunks) }
+    ensures found { SearchAnswers (G.seen src.old).bytes search (512 * chunks) result }
+    ensures looks { LooksAtMost chunks (G.seen src.old) (G.seen src.new) }
+{
+    let first = searched_first(search.n).min(chunks);
+    search.n = find_in_units::<[u8; 64], G>(src, search, first)?;
+    search.from += 512 * first;
+    let at = search.offset + search.from;
+    let stretch = narrow(src, at, chunks - first, search.n, search.value);
+    search.n = stretch.left;
+    search.from += 512 * stretch.passed;
+    find_in_units::<[u8; 64], G>(src, search, stretch.chunks)
+}
+
+/// Narrows so many chunks from bit `at` on to few, among which the `n`-th bit that is `value` is
+/// still to be sought.
+///
+/// Chunks are counted as fast as [`add_chunks`] does. Those that don't hold the bit are passed;
+/// those that do are narrowed further, and the chunks after them are never looked at.
+fn narrow<G: Glance>(src: &mut G, at: usize, chunks: usize, n: usize, value: bool) -> Stretch
+    requires aligned { 0 < chunks → at % 8 ≡ 0 }
+    requires window { InBytes (G.seen src.old).bytes at (512 * chunks) }
+    ensures within { result.passed + result.chunks ≤ chunks }
+    ensures passed { n ≡ result.left
+        + count (matching value (bits (G.seen src.old).bytes at (512 * result.passed))) }
+    ensures held { result.passed + result.chunks < chunks → result.left < count (matching value
+        (bits (G.seen src.old).bytes (at + 512 * result.passed) (512 * result.chunks))) }
+    ensures looks { LooksAtMost (chunks - result.chunks) (G.seen src.old) (G.seen src.new) }
+{
+    let mut stretch = Stretch {
+        passed: 0,
+        chunks,
+        left: n,
+    };
+    loop {
+        let block = stretch.block(n);
+        if block < MANY {
+            return stretch;
+        }
+        let here = count_matching(src, at / 8 + 64 * stretch.passed, block, value);
+        if stretch.left < here {
+            stretch.chunks = block;
+        } else {
+            stretch.passed += block;
+            stretch.chunks -= block;
+            stretch.left -= here;
+        }
     }
 }
 

@@ -7,7 +7,8 @@ ghost use Rattle.vb_kernel.specs.Searches.{matching};
 ghost use Rattle.vb_kernel.specs.Looks.{LooksExactly};
 
 use crate::glance::Glance;
-use crate::word::{byte_part, matching_word, select_in_byte, select_in_word};
+use crate::word::{byte_part, matching_word};
+use vb_bits::{select_in_byte, select_in_word};
 
 /// Bytes that one look reads, and that are then counted and searched without another look.
 ///

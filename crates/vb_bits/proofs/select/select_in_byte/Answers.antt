@@ -4,8 +4,8 @@ use Rattle.std.proofs.lemmas.Nat.{and_le_r}
 use Rattle.vb_bits.specs.Digits.{digits}
 use Rattle.vb_bits.proofs.BitsLemmas.{count-le}
 use Rattle.vb_bits.proofs.DigitsLemmas.{length-digits}
-use Rattle.vb_kernel.proofs.WordLemmas.{Selects-table, digits_low}
-use Rattle.vb_kernel.proofs.word.select_in_byte.Goals as goal
+use Rattle.vb_bits.proofs.SelectsLemmas.{Selects-table, digits_low}
+use Rattle.vb_bits.proofs.select.select_in_byte.Goals as goal
 
 pub overflow_add-result : goal.overflow_add-result
 overflow_add-result c =

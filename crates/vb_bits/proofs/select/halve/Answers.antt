@@ -3,8 +3,8 @@ use Rattle.std.specs.Prelude.{bit_and, count_ones}
 use Rattle.vb_bits.specs.Bits.{count, Selects}
 use Rattle.vb_bits.specs.Digits.{digits}
 use Rattle.vb_bits.proofs.DigitsLemmas.{count-digits-add, count-digits_none}
-use Rattle.vb_kernel.proofs.WordLemmas.{Selects-digits, digits_low, digits_shifted, ones_low}
-use Rattle.vb_kernel.proofs.word.halve.Goals as goal
+use Rattle.vb_bits.proofs.SelectsLemmas.{Selects-digits, digits_low, digits_shifted, ones_low}
+use Rattle.vb_bits.proofs.select.halve.Goals as goal
 
 pub returns-then-n-ones-clause-here : goal.returns-then-n-ones-clause-here
 returns-then-n-ones-clause-here c =

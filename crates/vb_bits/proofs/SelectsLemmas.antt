@@ -1,21 +1,40 @@
--- Selecting among the digits of a word.
+-- Selecting in lists that are joined, and among the digits of a word.
 use Rattle.std.proofs.Common.{◌≡◌, ℕ, zero, suc, ◌+◌, ◌-◌, ◌*◌, ◌/◌, ◌%◌, ◌^◌, ◌<◌, ◌≤◌, Bool, true}
-use Rattle.std.proofs.Common.{false, eqb, List, [], ◌∷◌, ◌++◌, length, get_or, map}
+use Rattle.std.proofs.Common.{false, eqb, List, [], ◌∷◌, ◌++◌, length, get_or, map, take}
 use Rattle.std.proofs.Common.{Some, refl, sym, ap, ◌∙◌, arith, subst, zero-add}
 use Rattle.std.specs.List.{range_with_len}
 use Rattle.std.specs.Prelude.{bit_and, count_ones}
 use Rattle.std.specs.Int.{bit_at}
 use Rattle.std.proofs.lemmas.Nat.{shr-shr, shr_split, and_mask, one_shl, mod_below, pow_pos}
 use Rattle.std.proofs.lemmas.Nat.Bits.{bit_at_cat_low}
-use Rattle.std.proofs.lemmas.List.{get_or-map}
+use Rattle.std.proofs.lemmas.List.{get_or-map, length-append, get_or_append_left}
+use Rattle.std.proofs.lemmas.List.{get_or-append-add, take-append-le}
+use Rattle.std.proofs.Math.Seq.{take-append-add}
 use Rattle.std.proofs.lemmas.List.FromFn.{get_or-map-range_with_len}
-use Rattle.vb_kernel.specs.declared.word.TheConstants.{PLACES}
+use Rattle.vb_bits.specs.declared.select.TheConstants.{PLACES}
 use Rattle.vb_bits.specs.Bits.{count, places, Selects}
 use Rattle.vb_bits.specs.Digits.{has_bit, digits}
-use Rattle.vb_bits.proofs.BitsLemmas.{count-cons, count-le}
+use Rattle.vb_bits.proofs.BitsLemmas.{count-cons, count-le, count-append}
 use Rattle.vb_bits.proofs.PlacesLemmas.{places_cons, length-places}
 use Rattle.vb_bits.proofs.DigitsLemmas.{length-digits, digits-add, same_digits, count-digits_below}
-use Rattle.vb_kernel.proofs.SearchesLemmas.{Selects-append_left, Selects-append_right}
+
+-- found in the first
+pub Selects-append_left : (k l : List Bool) (n p : ℕ)
+    → Selects k n (Some p) → Selects (k ++ l) n (Some p)
+Selects-append_left k l n p s = (
+  omega (arith, s.0, length-append k l),
+  get_or_append_left k l false p s.0 ∙ s.1,
+  ap count (take-append-le p k l (omega (arith, s.0))) ∙ s.2,
+)
+
+-- found in the second
+pub Selects-append_right : (k l : List Bool) (n left p : ℕ)
+    → n ≡ left + count k → Selects l left (Some p) → Selects (k ++ l) n (Some (length k + p))
+Selects-append_right k l n left p passed s = (
+  omega (arith, s.0, length-append k l),
+  get_or-append-add k l p false ∙ s.1,
+  ap count (take-append-add k l p) ∙ count-append k (take p l) ∙ omega (arith, s.2),
+)
 
 -- found among some of the z lowest digits of a word
 pub Selects-digits : (w z a k n left p : ℕ) → a + k ≤ z → n ≡ left + count (digits w 0 a)

@@ -1,6 +1,6 @@
 use Rattle.std.proofs.Common.{arith}
-use Rattle.vb_kernel.proofs.WordLemmas.{Selects-digits_inside}
-use Rattle.vb_kernel.proofs.word.select_in_word.Goals as goal
+use Rattle.vb_bits.proofs.SelectsLemmas.{Selects-digits_inside}
+use Rattle.vb_bits.proofs.select.select_in_word.Goals as goal
 
 pub overflow_add-result-3 : goal.overflow_add-result-3
 overflow_add-result-3 c =
