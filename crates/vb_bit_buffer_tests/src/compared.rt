@@ -5,7 +5,7 @@ use std::alloc::Allocator;
 use std::fmt::Debug;
 use std::process::Abort;
 use vb_bit_buffer::BitBuffer;
-use vb_core::BufferError;
+use vb_core::Result;
 
 /// The two values are equal.
 pub(crate) fn equal<T: Copy + PartialEq + Debug>(rt: &impl Abort, given: T, wanted: T) {
@@ -15,9 +15,9 @@ pub(crate) fn equal<T: Copy + PartialEq + Debug>(rt: &impl Abort, given: T, want
 /// The set that was made has these bits, `1` for a true one, and no others.
 pub(crate) fn shows<A: Allocator + Clone>(
     rt: &impl Abort,
-    made: Result<BitBuffer<A>, BufferError>,
+    made: Result<BitBuffer<A>>,
     bits: &str,
-) -> Result<(), BufferError> {
+) -> Result<()> {
     let set = made?;
     equal(rt, set.len(), bits.len());
     for (i, digit) in bits.bytes().enumerate() {

@@ -4,7 +4,7 @@ use crate::makers::{sliced, twin};
 use std::alloc::Allocator;
 use std::process::Abort;
 use vb_bit_buffer::BitBuffer;
-use vb_core::BufferError;
+use vb_core::Result;
 use vb_mem::ByteBuffer;
 use vb_testing::Refusing;
 
@@ -25,10 +25,7 @@ const CALLS: &[Call] = &[
 ];
 
 impl Call {
-    fn make<A: Allocator + Clone>(
-        &self,
-        made: Result<BitBuffer<A>, BufferError>,
-    ) -> Result<BitBuffer<A>, BufferError> {
+    fn make<A: Allocator + Clone>(&self, made: Result<BitBuffer<A>>) -> Result<BitBuffer<A>> {
         match self {
             Call::Clone => twin(made),
             Call::Slice => sliced(made, 13, 7000),
@@ -49,7 +46,7 @@ fn windowed<A: Allocator + Clone>(
 }
 
 /// What was made are nearly as many true bits.
-fn are_ones<A: Allocator + Clone>(rt: &impl Abort, made: Result<BitBuffer<A>, BufferError>) {
+fn are_ones<A: Allocator + Clone>(rt: &impl Abort, made: Result<BitBuffer<A>>) {
     let set = made.expect(rt, "a set");
     equal(rt, (set.false_count(), set.len() >= 6987), (0, true));
     drop(set);

@@ -3,7 +3,7 @@
 use crate::compared::{equal, shows};
 use std::alloc::Allocator;
 use vb_bit_buffer::BitBuffer;
-use vb_core::BufferError;
+use vb_core::{BufferError, Result};
 use vb_testing::{Handle, Refusing};
 
 /// A call that makes a set, of nine true bits where it is made of another one.
@@ -17,7 +17,7 @@ enum Call {
 }
 
 impl Call {
-    fn make<A: Allocator + Clone>(&self, alloc: A) -> Result<BitBuffer<A>, BufferError> {
+    fn make<A: Allocator + Clone>(&self, alloc: A) -> Result<BitBuffer<A>> {
         match self {
             Call::NewSet => BitBuffer::new_set(alloc, 9),
             Call::NewUnset => BitBuffer::new_unset(alloc, 9),
@@ -30,9 +30,7 @@ impl Call {
 }
 
 /// A second owner of the bytes of a set that was made.
-pub(crate) fn twin<A: Allocator + Clone>(
-    made: Result<BitBuffer<A>, BufferError>,
-) -> Result<BitBuffer<A>, BufferError> {
+pub(crate) fn twin<A: Allocator + Clone>(made: Result<BitBuffer<A>>) -> Result<BitBuffer<A>> {
     let set = made?;
     let twin = set.clone();
     drop(set);
@@ -41,10 +39,10 @@ pub(crate) fn twin<A: Allocator + Clone>(
 
 /// The bits from `start` up to `end` of a set that was made.
 pub(crate) fn sliced<A: Allocator + Clone>(
-    made: Result<BitBuffer<A>, BufferError>,
+    made: Result<BitBuffer<A>>,
     start: usize,
     end: usize,
-) -> Result<BitBuffer<A>, BufferError> {
+) -> Result<BitBuffer<A>> {
     let set = made?;
     let part = if start <= end && end <= set.len() {
         set.slice(start..end)

@@ -2,7 +2,7 @@
 use crate::masks::{ROWS, Row, mask};
 use std::alloc::Allocator;
 use vb_bit_buffer::BitBuffer;
-use vb_core::BufferError;
+use vb_core::{BufferError, Result};
 use vb_filter::Filter;
 use vb_testing::{Handle, Refusing};
 
@@ -18,7 +18,7 @@ fn is_plain<A: Allocator + Clone>(given: &BitBuffer<A>, row: &Row) -> bool {
 }
 
 /// The bits of a row, which begin with the bit of their bytes that its mask doesn't.
-fn filtered<A: Allocator + Clone>(alloc: A, row: &Row) -> Result<BitBuffer<A>, BufferError> {
+fn filtered<A: Allocator + Clone>(alloc: A, row: &Row) -> Result<BitBuffer<A>> {
     let whole = BitBuffer::from_iter(
         alloc.clone()?,
         (0..row.0.saturating_add(2)).map(|bit| value(bit.saturating_add(1))),
@@ -32,7 +32,7 @@ fn filtered<A: Allocator + Clone>(alloc: A, row: &Row) -> Result<BitBuffer<A>, B
 }
 
 #[test]
-fn kept_bits_are_those_of_a_plain_loop(rt: HostRuntime) -> Result<(), BufferError> {
+fn kept_bits_are_those_of_a_plain_loop(rt: HostRuntime) -> Result<()> {
     for row in ROWS {
         let kept = filtered(rt.alloc(), row)?;
         assert!(rt; is_plain(&kept, row));
@@ -42,7 +42,7 @@ fn kept_bits_are_those_of_a_plain_loop(rt: HostRuntime) -> Result<(), BufferErro
 }
 
 #[test]
-fn a_mask_of_another_length_is_refused_before_memory(rt: HostRuntime) -> Result<(), BufferError> {
+fn a_mask_of_another_length_is_refused_before_memory(rt: HostRuntime) -> Result<()> {
     let heap = Refusing::new(rt.alloc(), 0);
     let values = BitBuffer::new_set(&heap, 5)?;
     let mask = BitBuffer::new_set(&heap, 4)?;
@@ -55,7 +55,7 @@ fn a_mask_of_another_length_is_refused_before_memory(rt: HostRuntime) -> Result<
 }
 
 #[test]
-fn bytes_and_owners_are_one_request_each(rt: HostRuntime) -> Result<(), BufferError> {
+fn bytes_and_owners_are_one_request_each(rt: HostRuntime) -> Result<()> {
     let heap = Refusing::new(rt.alloc(), 0);
     let values = BitBuffer::new_set(&heap, 9)?;
     heap.refuse(0);

@@ -1,7 +1,7 @@
 //! Masks, each with how many values it is for.
 use std::alloc::Allocator;
 use vb_bit_buffer::BitBuffer;
-use vb_core::BufferError;
+use vb_core::Result;
 
 /// A mask: how many bits it has, the bit of its bytes with which it begins, and which bits of the
 /// bytes are true.
@@ -48,7 +48,7 @@ impl Kept {
 }
 
 /// The mask of a row.
-pub(crate) fn mask<A: Allocator + Clone>(alloc: A, row: &Row) -> Result<BitBuffer<A>, BufferError> {
+pub(crate) fn mask<A: Allocator + Clone>(alloc: A, row: &Row) -> Result<BitBuffer<A>> {
     let end = row.1.saturating_add(row.0);
     let whole = BitBuffer::from_iter(alloc, (0..end).map(|bit| row.2.has(bit)))?;
     let part = whole.slice(row.1.min(whole.len())..whole.len());

@@ -1,7 +1,7 @@
 //! Values of buffers at indices.
 use std::alloc::Allocator;
 use vb_bit_buffer::BitBuffer;
-use vb_core::{BitIndex, BufferError};
+use vb_core::{BitIndex, BufferError, Result};
 use vb_filter::Take;
 use vb_mem::Buffer;
 use vb_testing::{Handle, Refusing};
@@ -14,7 +14,7 @@ fn squares<A: Allocator + Clone, I: BitIndex>(
     alloc: A,
     indices: &[I],
     valid: &[bool],
-) -> Result<Buffer<u32, A>, BufferError> {
+) -> Result<Buffer<u32, A>> {
     let values = Buffer::copy_from(alloc.clone()?, SQUARES)?;
     let validity = BitBuffer::from_iter(alloc, valid.iter().copied())?;
     let taken = if validity.len() == indices.len() {
@@ -51,7 +51,7 @@ fn indices_are_of_each_whole_number_type(rt: HostRuntime) {
 }
 
 #[test]
-fn positions_that_are_null_give_zero(rt: HostRuntime) -> Result<(), BufferError> {
+fn positions_that_are_null_give_zero(rt: HostRuntime) -> Result<()> {
     let taken = squares(rt.alloc(), &[3i64, 99, -1, 2], &[true, false, false, true])?;
     assert!(rt; taken.as_slice() == [9, 0, 0, 4].as_slice());
     drop(taken);
@@ -66,7 +66,7 @@ fn the_first_valid_index_past_the_values_is_refused(rt: HostRuntime) {
 }
 
 #[test]
-fn values_and_owners_are_one_request_each(rt: HostRuntime) -> Result<(), BufferError> {
+fn values_and_owners_are_one_request_each(rt: HostRuntime) -> Result<()> {
     let heap = Refusing::new(rt.alloc(), 0);
     let values = Buffer::copy_from(&heap, SQUARES)?;
     heap.refuse(0);

@@ -2,7 +2,7 @@
 use crate::masks::{ROWS, Row, mask};
 use std::alloc::Allocator;
 use vb_bit_buffer::BitBuffer;
-use vb_core::BufferError;
+use vb_core::{BufferError, Result};
 use vb_filter::{Filter, filter_values_into};
 use vb_mem::Buffer;
 use vb_testing::{Handle, Refusing};
@@ -15,7 +15,7 @@ fn is_plain(given: &[u32], row: &Row) -> bool {
 }
 
 /// As many numbers as a row's mask has bits, from 0 on.
-fn numbers<A: Allocator + Clone>(alloc: A, row: &Row) -> Result<Buffer<u32, A>, BufferError> {
+fn numbers<A: Allocator + Clone>(alloc: A, row: &Row) -> Result<Buffer<u32, A>> {
     Buffer::from_trusted_len_iter(alloc, 0..u32::try_from(row.0).unwrap_or(0))
 }
 
@@ -30,7 +30,7 @@ fn writes_in_front(values: &[u32], mask: BitBufferView<'_>, row: &Row) -> bool {
     is_plain(&out[..len], row) && out[len..].iter().all(|item| *item == u32::MAX)
 }
 
-fn filtered<A: Allocator + Clone>(alloc: A, row: &Row) -> Result<Buffer<u32, A>, BufferError> {
+fn filtered<A: Allocator + Clone>(alloc: A, row: &Row) -> Result<Buffer<u32, A>> {
     let values = numbers(alloc.clone()?, row)?;
     let mask = mask(alloc, row)?;
     let kept = values.filtered(mask.as_view());
@@ -39,7 +39,7 @@ fn filtered<A: Allocator + Clone>(alloc: A, row: &Row) -> Result<Buffer<u32, A>,
 }
 
 #[test]
-fn kept_values_are_those_of_a_plain_loop(rt: HostRuntime) -> Result<(), BufferError> {
+fn kept_values_are_those_of_a_plain_loop(rt: HostRuntime) -> Result<()> {
     for row in ROWS {
         let kept = filtered(rt.alloc(), row)?;
         assert!(rt; is_plain(kept.as_slice(), row));
@@ -49,7 +49,7 @@ fn kept_values_are_those_of_a_plain_loop(rt: HostRuntime) -> Result<(), BufferEr
 }
 
 #[test]
-fn a_mask_of_another_length_is_refused_before_memory(rt: HostRuntime) -> Result<(), BufferError> {
+fn a_mask_of_another_length_is_refused_before_memory(rt: HostRuntime) -> Result<()> {
     let heap = Refusing::new(rt.alloc(), 0);
     let values = Buffer::copy_from(&heap, &[7u8, 8, 9])?;
     let mask = BitBuffer::new_set(&heap, 4)?;
@@ -62,7 +62,7 @@ fn a_mask_of_another_length_is_refused_before_memory(rt: HostRuntime) -> Result<
 }
 
 #[test]
-fn values_and_owners_are_one_request_each(rt: HostRuntime) -> Result<(), BufferError> {
+fn values_and_owners_are_one_request_each(rt: HostRuntime) -> Result<()> {
     let heap = Refusing::new(rt.alloc(), 0);
     let values = Buffer::copy_from(&heap, &[7u8, 8, 9])?;
     let mask = BitBuffer::from_iter(&heap, [true, false, true])?;
@@ -77,7 +77,7 @@ fn values_and_owners_are_one_request_each(rt: HostRuntime) -> Result<(), BufferE
 }
 
 #[test]
-fn kept_values_are_written_in_front(rt: HostRuntime) -> Result<(), BufferError> {
+fn kept_values_are_written_in_front(rt: HostRuntime) -> Result<()> {
     for row in ROWS {
         let values = numbers(rt.alloc(), row)?;
         let mask = mask(rt.alloc(), row)?;

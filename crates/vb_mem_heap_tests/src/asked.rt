@@ -3,7 +3,7 @@ use crate::compared::equal;
 use bytes::Bytes;
 use std::alloc::{AllocError, Allocator};
 use std::process::Abort;
-use vb_core::{Alignment, BufferError};
+use vb_core::{Alignment, BufferError, Result};
 use vb_mem::{Buffer, BufferMut, ByteBuffer};
 use vb_testing::Refusing;
 
@@ -32,7 +32,7 @@ enum Way {
     OpenClone,
 }
 
-type Made<A> = Result<BufferMut<u8, A>, BufferError>;
+type Made<A> = Result<BufferMut<u8, A>>;
 
 impl Way {
     fn make<A: Allocator + Clone>(&self, alloc: A, vector: Vec<u8, A>) -> Made<A> {
@@ -109,7 +109,7 @@ fn opened_of_two<A: Allocator + Clone>(buffer: ByteBuffer<A>) -> Made<A> {
     open
 }
 
-fn opened_twin<A: Allocator + Clone>(twin: Result<ByteBuffer<A>, BufferError>) -> Made<A> {
+fn opened_twin<A: Allocator + Clone>(twin: Result<ByteBuffer<A>>) -> Made<A> {
     twin?.into_mut()
 }
 
@@ -124,7 +124,7 @@ fn written_of_two<A: Allocator + Clone>(buffer: ByteBuffer<A>) -> Made<A> {
     open
 }
 
-fn written_twin<A: Allocator + Clone>(twin: Result<ByteBuffer<A>, BufferError>) -> Made<A> {
+fn written_twin<A: Allocator + Clone>(twin: Result<ByteBuffer<A>>) -> Made<A> {
     written(twin?)
 }
 

@@ -2,18 +2,18 @@
 use crate::compared::equal;
 use std::alloc::Allocator;
 use std::process::Abort;
-use vb_core::{Alignment, BufferError};
+use vb_core::{Alignment, BufferError, Result};
 use vb_mem::{Buffer, BufferMut};
 use vb_testing::{Handle, Refusing};
 
 /// The numbers below 256, of which the storage is declared with 1024 bytes.
-fn numbers<A: Allocator + Clone>(alloc: A) -> Result<Buffer<u32, A>, BufferError> {
+fn numbers<A: Allocator + Clone>(alloc: A) -> Result<Buffer<u32, A>> {
     let (four, wide) = (Alignment::of::<u32>(), Alignment::from_exponent(10));
     let made = BufferMut::with_capacity_preferred_aligned(alloc, 256, four, Some(wide));
     filled(made?)?.freeze()
 }
 
-fn filled<A: Allocator>(mut open: BufferMut<u32, A>) -> Result<BufferMut<u32, A>, BufferError> {
+fn filled<A: Allocator>(mut open: BufferMut<u32, A>) -> Result<BufferMut<u32, A>> {
     open.extend_trusted(0..256)?;
     Ok(open)
 }
@@ -35,10 +35,7 @@ fn is_upper_half<A: Allocator>(rt: &impl Abort, part: &Buffer<u32, A>) {
 }
 
 /// Writes sevens over a part. A refusal leaves the part as it is.
-fn write_part<A: Allocator + Clone>(
-    rt: &impl Abort,
-    made: Result<Buffer<u32, A>, BufferError>,
-) -> Result<(), BufferError> {
+fn write_part<A: Allocator + Clone>(rt: &impl Abort, made: Result<Buffer<u32, A>>) -> Result<()> {
     let mut part = made?;
     is_upper_half(rt, &part);
     let answer = match part.items_mut() {
@@ -59,10 +56,7 @@ fn write_part<A: Allocator + Clone>(
 }
 
 /// Writes the upper half of numbers that another buffer owns too, which keeps them.
-fn write_half<A: Allocator + Clone>(
-    rt: &impl Abort,
-    made: Result<Buffer<u32, A>, BufferError>,
-) -> Result<(), BufferError> {
+fn write_half<A: Allocator + Clone>(rt: &impl Abort, made: Result<Buffer<u32, A>>) -> Result<()> {
     let whole = made?;
     assert!(rt; whole.len() == 256);
     let answer = write_part(rt, whole.slice_unaligned(128..256));

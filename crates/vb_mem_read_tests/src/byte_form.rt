@@ -6,14 +6,14 @@ use std::alloc::Allocator;
 use std::fmt::Debug;
 use std::process::Abort;
 use vb_bytes::{byte_count, item_count};
-use vb_core::{Alignment, BufferError, Element};
+use vb_core::{Alignment, BufferError, Element, Result};
 use vb_mem::{Buffer, BufferMut};
 use vb_testing::{Handle, Refusing};
 
 /// The items that were made have these bytes.
 fn has_bytes<T: Element, A: Allocator + Clone>(
     rt: &impl Abort,
-    made: Result<Buffer<T, A>, BufferError>,
+    made: Result<Buffer<T, A>>,
     wanted: &[u8],
 ) {
     let items = made.expect(rt, "items");
@@ -31,11 +31,7 @@ fn bytes_stand_in_little_endian_order(rt: HostRuntime) {
 }
 
 /// Seven bytes are no items, in a buffer and as `Bytes`.
-fn seven_are_refused<A: Allocator + Clone>(
-    rt: &impl Abort,
-    made: Result<Buffer<u8, A>, BufferError>,
-    alloc: A,
-) {
+fn seven_are_refused<A: Allocator + Clone>(rt: &impl Abort, made: Result<Buffer<u8, A>>, alloc: A) {
     let seven = made.expect(rt, "bytes");
     let refused = Some(BufferError::ByteLength { len: 7, size: 4 });
     let twin = seven.clone().expect(rt, "bytes");
@@ -81,7 +77,7 @@ fn byte_counts_past_usize_are_refused(rt: HostRuntime) {
 /// The items that were made are these, and have this alignment in bytes.
 fn has_items<T: Element + PartialEq + Debug, A: Allocator>(
     rt: &impl Abort,
-    made: Result<Buffer<T, A>, BufferError>,
+    made: Result<Buffer<T, A>>,
     items: &[T],
     alignment: usize,
 ) {
@@ -94,8 +90,8 @@ fn has_items<T: Element + PartialEq + Debug, A: Allocator>(
 /// The bytes of two numbers, made of a growing buffer, with a wide alignment.
 fn read_wide<A: Allocator + Clone>(
     rt: &impl Abort,
-    made: Result<BufferMut<i64, A>, BufferError>,
-) -> Result<Buffer<i64, A>, BufferError> {
+    made: Result<BufferMut<i64, A>>,
+) -> Result<Buffer<i64, A>> {
     let open = made.expect(rt, "items").into_byte_buffer();
     let bytes = open.expect(rt, "bytes").freeze().expect(rt, "bytes");
     equal(rt, (bytes.len(), bytes.alignment().as_usize()), (16, 8));
@@ -111,9 +107,9 @@ fn bytes_go_both_ways(rt: HostRuntime) {
 /// Two numbers by `Bytes`.
 fn read_bytes<A: Allocator + Clone>(
     rt: &impl Abort,
-    made: Result<Buffer<u128, A>, BufferError>,
+    made: Result<Buffer<u128, A>>,
     alloc: A,
-) -> Result<Buffer<u128, A>, BufferError> {
+) -> Result<Buffer<u128, A>> {
     let bytes = made.expect(rt, "items").into_bytes().expect(rt, "bytes");
     equal(rt, bytes.len(), 32);
     Buffer::from_bytes(alloc, bytes)
@@ -135,7 +131,7 @@ enum Form {
 
 impl Form {
     /// The bytes of 1 and 2.
-    fn make<A: Allocator + Clone>(&self, alloc: A) -> Result<Buffer<u8, A>, BufferError> {
+    fn make<A: Allocator + Clone>(&self, alloc: A) -> Result<Buffer<u8, A>> {
         match self {
             Form::AsBytes => bytes_of(Buffer::copy_from(alloc, &[1, 2])?),
             Form::IntoByteBuffer => Buffer::copy_from(alloc, &[1u32, 2])?.into_byte_buffer(),
@@ -147,14 +143,14 @@ impl Form {
     }
 }
 
-fn bytes_of<A: Allocator + Clone>(items: Buffer<u32, A>) -> Result<Buffer<u8, A>, BufferError> {
+fn bytes_of<A: Allocator + Clone>(items: Buffer<u32, A>) -> Result<Buffer<u8, A>> {
     let bytes = items.as_bytes();
     drop(items);
     bytes
 }
 
 /// The bytes of 1 and 2 as `Bytes`.
-fn in_bytes<A: Allocator + Clone>(alloc: &A) -> Result<Bytes<A>, BufferError> {
+fn in_bytes<A: Allocator + Clone>(alloc: &A) -> Result<Bytes<A>> {
     Buffer::copy_from(alloc.clone()?, &[1u32, 2])?.into_bytes()
 }
 
@@ -172,7 +168,7 @@ enum Way {
 }
 
 impl Way {
-    fn make<A: Allocator + Clone>(&self, alloc: A) -> Result<Buffer<u32, A>, BufferError> {
+    fn make<A: Allocator + Clone>(&self, alloc: A) -> Result<Buffer<u32, A>> {
         let wide = Alignment::from_exponent(9);
         match self {
             Way::Buffer(form) => Buffer::from_byte_buffer(form.make(alloc)?),

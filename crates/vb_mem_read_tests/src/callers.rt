@@ -6,7 +6,7 @@ use std::alloc::{Allocator, Global};
 use std::fmt::Debug;
 use std::process::Abort;
 use std::test::Fail;
-use vb_core::{Alignment, BufferError};
+use vb_core::{Alignment, Result};
 use vb_mem::{Buffer, BufferMut, ByteBuffer};
 
 #[test]
@@ -26,9 +26,7 @@ fn numbers_of_a_range_are_as_many_as_it_has(rt: HostRuntime) -> Result<(), Fail>
 }
 
 /// The first two items, where there are two.
-fn first_two<A: Allocator + Clone>(
-    values: &Buffer<u32, A>,
-) -> Result<Option<Buffer<u32, A>>, BufferError> {
+fn first_two<A: Allocator + Clone>(values: &Buffer<u32, A>) -> Result<Option<Buffer<u32, A>>> {
     if values.len() >= 2 {
         return Ok(Some(values.slice(0..2)?));
     }

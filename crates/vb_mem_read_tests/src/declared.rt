@@ -2,11 +2,11 @@
 use crate::compared::{equal, equal_lists};
 use std::alloc::Allocator;
 use std::process::Abort;
-use vb_core::{Alignment, BufferError};
+use vb_core::{Alignment, Result};
 use vb_mem::Buffer;
 
 /// Four numbers, of which the storage is declared with 1024 bytes.
-fn declared_1024<A: Allocator + Clone>(alloc: A) -> Result<Buffer<u32, A>, BufferError> {
+fn declared_1024<A: Allocator + Clone>(alloc: A) -> Result<Buffer<u32, A>> {
     let (four, wide) = (Alignment::of::<u32>(), Alignment::from_exponent(10));
     Buffer::copy_from_preferred_aligned(alloc, &[1u32, 2, 3, 4], four, Some(wide))
 }
@@ -15,7 +15,7 @@ fn declared_1024<A: Allocator + Clone>(alloc: A) -> Result<Buffer<u32, A>, Buffe
 /// when they are written and when it is opened.
 fn keeps_declared<A: Allocator + Clone>(
     rt: &impl Abort,
-    made: Result<Buffer<u32, A>, BufferError>,
+    made: Result<Buffer<u32, A>>,
     items: &[u32],
 ) {
     let mut buffer = made.expect(rt, "a buffer");
@@ -34,8 +34,8 @@ fn keeps_declared<A: Allocator + Clone>(
 /// The second and the third number, once nothing else owns them.
 fn lone_part<A: Allocator + Clone>(
     rt: &impl Abort,
-    made: Result<Buffer<u32, A>, BufferError>,
-) -> Result<Buffer<u32, A>, BufferError> {
+    made: Result<Buffer<u32, A>>,
+) -> Result<Buffer<u32, A>> {
     let whole = made.expect(rt, "a buffer");
     assert!(rt; whole.len() == 4);
     let part = whole.slice_unaligned(1..3);
@@ -61,7 +61,7 @@ fn opened_declared<A: Allocator + Clone>(rt: &impl Abort, buffer: Buffer<u32, A>
 /// A buffer with another owner, which keeps how it is declared.
 fn copy_is_declared_256<A: Allocator + Clone>(
     rt: &impl Abort,
-    made: Result<Buffer<u32, A>, BufferError>,
+    made: Result<Buffer<u32, A>>,
 ) -> Buffer<u32, A> {
     let mut buffer = made.expect(rt, "a buffer");
     let twin = buffer.clone().expect(rt, "a clone");

@@ -4,7 +4,7 @@ use std::alloc::Allocator;
 use std::cmp::Ordering;
 use std::hash::{DefaultHasher, Hash, Hasher};
 use std::process::Abort;
-use vb_core::{Alignment, BufferError, TrustedLen};
+use vb_core::{Alignment, Result, TrustedLen};
 use vb_mem::{Buffer, BufferIterator, BufferMut, Iter};
 
 /// Lends 10, 20 and 30.
@@ -58,11 +58,7 @@ fn is_gone_over_open<A: Allocator>(rt: &impl Abort, buffer: &BufferMut<u32, A>) 
 }
 
 /// The items 10, 20 and 30 are lent, and then handed out.
-fn gives_in_turn<A: Allocator + Clone>(
-    rt: &impl Abort,
-    made: Result<Buffer<u32, A>, BufferError>,
-    alloc: A,
-) {
+fn gives_in_turn<A: Allocator + Clone>(rt: &impl Abort, made: Result<Buffer<u32, A>>, alloc: A) {
     let buffer = made.expect(rt, "a buffer");
     lends_in_turn(rt, buffer.iter());
     let ends = (buffer.iter().last().copied(), buffer.iter().count());
@@ -94,7 +90,7 @@ fn copied<T: Clone>(rt: &impl Abort, value: &T) -> T {
 fn compares<A: Allocator>(
     rt: &impl Abort,
     one: &Buffer<u32, A>,
-    two: Result<Buffer<u32, A>, BufferError>,
+    two: Result<Buffer<u32, A>>,
     ordering: Ordering,
 ) {
     let two = two.expect(rt, "a buffer");
@@ -119,7 +115,7 @@ fn buffers_compare_by_their_items(rt: HostRuntime) {
 fn are_equal<A: Allocator>(
     rt: &impl Abort,
     one: &BufferMut<u32, A>,
-    two: Result<BufferMut<u32, A>, BufferError>,
+    two: Result<BufferMut<u32, A>>,
     wanted: bool,
 ) {
     let two = two.expect(rt, "a buffer");
@@ -139,7 +135,7 @@ fn growing_buffers_compare_by_their_items(rt: HostRuntime) {
 }
 
 /// What is hashed as 1 and 2 are.
-fn hashes_as_items<A: Allocator>(rt: &impl Abort, made: Result<Buffer<u32, A>, BufferError>) {
+fn hashes_as_items<A: Allocator>(rt: &impl Abort, made: Result<Buffer<u32, A>>) {
     let buffer = made.expect(rt, "a buffer");
     let (mut of_buffer, mut of_items) = (DefaultHasher::new(), DefaultHasher::new());
     buffer.hash(&mut of_buffer);

@@ -2,14 +2,11 @@
 use crate::compared::{equal, equal_lists, shows};
 use std::alloc::Allocator;
 use std::process::Abort;
-use vb_core::{Alignment, BufferError, Element};
+use vb_core::{Alignment, BufferError, Element, Result};
 use vb_mem::{Buffer, BufferMut};
 
 /// The tail of a buffer of 1, 2 and 3, from its second item on.
-fn tail_of<A: Allocator + Clone>(
-    rt: &impl Abort,
-    made: Result<Buffer<u32, A>, BufferError>,
-) -> Buffer<u32, A> {
+fn tail_of<A: Allocator + Clone>(rt: &impl Abort, made: Result<Buffer<u32, A>>) -> Buffer<u32, A> {
     let buffer = made.expect(rt, "a buffer");
     assert!(rt; buffer.len() == 3);
     equal(rt, buffer.alignment().as_usize(), 4);
@@ -24,7 +21,7 @@ fn tail_of<A: Allocator + Clone>(
 fn tail_is_copied<A: Allocator + Clone>(
     rt: &impl Abort,
     tail: Buffer<u32, A>,
-) -> Result<Buffer<u32, A>, BufferError> {
+) -> Result<Buffer<u32, A>> {
     equal(rt, tail.is_aligned(Alignment::of::<u32>()), true);
     let eight = Alignment::of::<u64>();
     let twin = tail.clone().expect(rt, "a part");
@@ -36,8 +33,8 @@ fn tail_is_copied<A: Allocator + Clone>(
 /// Eight bytes on they are there.
 fn half_is_there<A: Allocator + Clone>(
     rt: &impl Abort,
-    made: Result<Buffer<u32, A>, BufferError>,
-) -> Result<Buffer<u32, A>, BufferError> {
+    made: Result<Buffer<u32, A>>,
+) -> Result<Buffer<u32, A>> {
     let four = made.expect(rt, "a buffer");
     assert!(rt; four.len() == 4);
     let half = four.slice_unaligned(2..4).expect(rt, "a part");
@@ -58,7 +55,7 @@ fn a_slice_keeps_its_place(rt: HostRuntime) {
 /// What was sliced has no items, and is aligned to so many bytes.
 fn is_nothing<T: Element, A: Allocator>(
     rt: &impl Abort,
-    made: Result<Buffer<T, A>, BufferError>,
+    made: Result<Buffer<T, A>>,
     alignment: usize,
 ) {
     let nothing = made.expect(rt, "a part");
@@ -81,7 +78,7 @@ fn a_slice_of_nothing_keeps_its_alignment(rt: HostRuntime) {
 /// The alignments of what was made: the reported and the declared one.
 fn aligned_to<T: Element, A: Allocator>(
     rt: &impl Abort,
-    made: Result<Buffer<T, A>, BufferError>,
+    made: Result<Buffer<T, A>>,
     wanted: (usize, usize),
 ) {
     let buffer = made.expect(rt, "a buffer");
@@ -109,7 +106,7 @@ fn storage_is_over_aligned_unless_asked(rt: HostRuntime) {
 /// The bytes of five numbers, from the second byte on.
 fn tail_of_bytes<A: Allocator + Clone>(
     rt: &impl Abort,
-    made: Result<Buffer<i32, A>, BufferError>,
+    made: Result<Buffer<i32, A>>,
 ) -> Buffer<u8, A> {
     let numbers = made.expect(rt, "a buffer");
     let bytes = numbers.into_byte_buffer().expect(rt, "bytes");

@@ -3,7 +3,7 @@
 use crate::compared::{each, equal, equal_lists};
 use std::alloc::Allocator;
 use std::process::Abort;
-use vb_core::{BufferError, ExtendError, trusted_len};
+use vb_core::{BufferError, ExtendError, Result, trusted_len};
 use vb_mem::{Buffer, BufferMut};
 use vb_testing::{Handle, Refusing};
 
@@ -20,10 +20,7 @@ enum Change {
 }
 
 impl Change {
-    fn make<A: Allocator + Clone>(
-        &self,
-        buffer: &mut BufferMut<u32, A>,
-    ) -> Result<(), BufferError> {
+    fn make<A: Allocator + Clone>(&self, buffer: &mut BufferMut<u32, A>) -> Result<()> {
         match self {
             Change::Reserve => {
                 buffer.reserve(3)?;
@@ -44,7 +41,7 @@ impl Change {
     }
 }
 
-fn try_extend<A: Allocator>(buffer: &mut BufferMut<u32, A>) -> Result<(), BufferError> {
+fn try_extend<A: Allocator>(buffer: &mut BufferMut<u32, A>) -> Result<()> {
     let values = [Ok::<u32, BufferError>(8)];
     match buffer.try_extend_trusted(trusted_len(values.iter().copied(), 1)) {
         Ok(()) => Ok(()),
@@ -67,7 +64,7 @@ enum Trial {
 
 impl Trial {
     /// Makes the change. What its refusal leaves is compared here.
-    fn make<A: Allocator + Clone>(&self, rt: &impl Abort, alloc: A) -> Result<(), BufferError> {
+    fn make<A: Allocator + Clone>(&self, rt: &impl Abort, alloc: A) -> Result<()> {
         match self {
             Trial::Full(change) => change_sevens(rt, alloc, change),
             Trial::Extend => extend(rt, BufferMut::copy_from(alloc, &[0, 1, 2])?),
@@ -77,11 +74,7 @@ impl Trial {
     }
 }
 
-fn change_sevens<A: Allocator + Clone>(
-    rt: &impl Abort,
-    alloc: A,
-    change: &Change,
-) -> Result<(), BufferError> {
+fn change_sevens<A: Allocator + Clone>(rt: &impl Abort, alloc: A, change: &Change) -> Result<()> {
     let mut buffer = BufferMut::with_capacity(alloc, 4)?;
     let room = buffer.capacity();
     buffer.push_n(7, room)?;
@@ -97,10 +90,7 @@ fn change_sevens<A: Allocator + Clone>(
 }
 
 /// Adds items of which each is its place. Those that came before a refusal stay.
-fn extend<A: Allocator>(
-    rt: &impl Abort,
-    mut buffer: BufferMut<usize, A>,
-) -> Result<(), BufferError> {
+fn extend<A: Allocator>(rt: &impl Abort, mut buffer: BufferMut<usize, A>) -> Result<()> {
     let answer = buffer.extend((3..100usize).filter(each));
     let kept = match answer {
         Ok(()) => 100,
@@ -111,10 +101,7 @@ fn extend<A: Allocator>(
     answer
 }
 
-fn open_clone<A: Allocator + Clone>(
-    rt: &impl Abort,
-    original: Buffer<u32, A>,
-) -> Result<(), BufferError> {
+fn open_clone<A: Allocator + Clone>(rt: &impl Abort, original: Buffer<u32, A>) -> Result<()> {
     let opened = opened(original.clone());
     equal_lists(rt, original.as_slice(), &[1, 2, 3]);
     drop(original);
@@ -125,16 +112,11 @@ fn open_clone<A: Allocator + Clone>(
 }
 
 /// A buffer that was made, to be changed.
-pub fn opened<A: Allocator + Clone>(
-    made: Result<Buffer<u32, A>, BufferError>,
-) -> Result<BufferMut<u32, A>, BufferError> {
+pub fn opened<A: Allocator + Clone>(made: Result<Buffer<u32, A>>) -> Result<BufferMut<u32, A>> {
     made?.into_mut()
 }
 
-fn write_clone<A: Allocator + Clone>(
-    rt: &impl Abort,
-    original: Buffer<u32, A>,
-) -> Result<(), BufferError> {
+fn write_clone<A: Allocator + Clone>(rt: &impl Abort, original: Buffer<u32, A>) -> Result<()> {
     let answer = clear_items(rt, original.clone());
     equal_lists(rt, original.as_slice(), &[1, 2, 3]);
     drop(original);
@@ -142,10 +124,7 @@ fn write_clone<A: Allocator + Clone>(
 }
 
 /// Clears the items of a buffer. A refusal leaves them.
-fn clear_items<A: Allocator + Clone>(
-    rt: &impl Abort,
-    made: Result<Buffer<u32, A>, BufferError>,
-) -> Result<(), BufferError> {
+fn clear_items<A: Allocator + Clone>(rt: &impl Abort, made: Result<Buffer<u32, A>>) -> Result<()> {
     let mut buffer = made?;
     let (answer, kept) = match buffer.items_mut() {
         Ok(items) => {

@@ -4,7 +4,7 @@
 use std::alloc::Allocator;
 use std::fmt::Debug;
 use std::process::Abort;
-use vb_core::BufferError;
+use vb_core::Result;
 use vb_mem::Buffer;
 
 /// The two values are equal.
@@ -20,10 +20,10 @@ pub fn equal_lists<T: PartialEq + Debug>(rt: &impl Abort, given: &[T], wanted: &
 /// What was made has these items, and these alignments in bytes: the reported and the declared one.
 pub fn shows<A: Allocator>(
     rt: &impl Abort,
-    made: Result<Buffer<u32, A>, BufferError>,
+    made: Result<Buffer<u32, A>>,
     items: &[u32],
     (alignment, declared): (usize, usize),
-) -> Result<(), BufferError> {
+) -> Result<()> {
     let buffer = made?;
     equal_lists(rt, buffer.as_slice(), items);
     let alignments = (buffer.alignment().as_usize(), buffer.declared().as_usize());

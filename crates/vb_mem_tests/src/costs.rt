@@ -5,7 +5,7 @@ use crate::compared::equal_lists;
 use crate::makers::{cloned, frozen, sliced, twin};
 use std::alloc::Allocator;
 use std::process::Abort;
-use vb_core::{Alignment, BufferError};
+use vb_core::{Alignment, Result};
 use vb_mem::{Buffer, BufferMut};
 use vb_testing::Refusing;
 
@@ -29,7 +29,7 @@ impl Growing {
     fn make<A: Allocator + Clone>(
         &self,
         mut buffer: BufferMut<u32, A>,
-    ) -> Result<BufferMut<u32, A>, BufferError> {
+    ) -> Result<BufferMut<u32, A>> {
         match self {
             Growing::Freeze => opened(buffer.freeze()),
             Growing::Take => buffer.take(),
@@ -72,7 +72,7 @@ const GROWING: &[(Growing, usize, usize)] = &[
 /// Makes a call on a buffer of a thousand sevens. What it makes is sevens.
 fn grow_sevens<A: Allocator + Clone>(
     rt: &impl Abort,
-    made: Result<BufferMut<u32, A>, BufferError>,
+    made: Result<BufferMut<u32, A>>,
     call: &Growing,
 ) {
     let made = call.make(made.expect(rt, "room")).expect(rt, "room");
@@ -109,10 +109,7 @@ enum Shared {
 }
 
 impl Shared {
-    fn make<A: Allocator + Clone>(
-        &self,
-        buffer: Buffer<u32, A>,
-    ) -> Result<Buffer<u32, A>, BufferError> {
+    fn make<A: Allocator + Clone>(&self, buffer: Buffer<u32, A>) -> Result<Buffer<u32, A>> {
         match self {
             Shared::Clone => twin(Ok(buffer)),
             Shared::Slice => sliced(Ok(buffer), 64, 1000),
@@ -139,9 +136,7 @@ impl Shared {
 }
 
 /// Writes the items of a buffer that was made.
-fn written<A: Allocator + Clone>(
-    made: Result<Buffer<u32, A>, BufferError>,
-) -> Result<Buffer<u32, A>, BufferError> {
+fn written<A: Allocator + Clone>(made: Result<Buffer<u32, A>>) -> Result<Buffer<u32, A>> {
     let mut buffer = made?;
     buffer.items_mut()?.as_mut_slice().fill(7);
     Ok(buffer)
@@ -168,7 +163,7 @@ const SHARED: &[(Shared, usize, usize)] = &[
 /// Makes a call on a buffer of a thousand sevens. What it makes is sevens.
 fn share_sevens<A: Allocator + Clone>(
     rt: &impl Abort,
-    made: Result<Buffer<u32, A>, BufferError>,
+    made: Result<Buffer<u32, A>>,
     call: &Shared,
 ) {
     let made = call.make(made.expect(rt, "room")).expect(rt, "room");

@@ -1,7 +1,7 @@
 //! Calls that make a buffer: what they make, and each of their requests for memory refused in turn.
 use crate::compared::{each, equal, shows};
 use std::alloc::Allocator;
-use vb_core::{Alignment, BufferError, ExtendError, trusted_len};
+use vb_core::{Alignment, BufferError, ExtendError, Result, trusted_len};
 use vb_mem::{Buffer, BufferMut};
 use vb_testing::{Handle, Refusing};
 
@@ -26,7 +26,7 @@ enum Growing {
 }
 
 impl Growing {
-    fn make<A: Allocator + Clone>(&self, alloc: A) -> Result<BufferMut<u32, A>, BufferError> {
+    fn make<A: Allocator + Clone>(&self, alloc: A) -> Result<BufferMut<u32, A>> {
         let (four, wide) = (Alignment::of::<u32>(), Alignment::from_exponent(9));
         match self {
             Growing::WithCapacity => BufferMut::with_capacity(alloc, 3),
@@ -56,16 +56,14 @@ impl Growing {
 }
 
 /// The clone of a buffer that was made.
-pub fn cloned<A: Allocator + Clone>(
-    made: Result<BufferMut<u32, A>, BufferError>,
-) -> Result<BufferMut<u32, A>, BufferError> {
+pub fn cloned<A: Allocator + Clone>(made: Result<BufferMut<u32, A>>) -> Result<BufferMut<u32, A>> {
     let buffer = made?;
     let clone = buffer.clone();
     drop(buffer);
     clone
 }
 
-fn try_collected<A: Allocator>(alloc: A) -> Result<BufferMut<u32, A>, BufferError> {
+fn try_collected<A: Allocator>(alloc: A) -> Result<BufferMut<u32, A>> {
     let values = [Ok::<u32, BufferError>(20)];
     let values = trusted_len(values.iter().copied(), 1);
     match BufferMut::try_from_trusted_len_iter(alloc, values) {
@@ -96,7 +94,7 @@ enum Shared {
 }
 
 impl Shared {
-    fn make<A: Allocator + Clone>(&self, alloc: A) -> Result<Buffer<u32, A>, BufferError> {
+    fn make<A: Allocator + Clone>(&self, alloc: A) -> Result<Buffer<u32, A>> {
         let (four, wide) = (Alignment::of::<u32>(), Alignment::from_exponent(9));
         match self {
             Shared::Frozen(call) => frozen(call.make(alloc)),
@@ -124,30 +122,24 @@ impl Shared {
 }
 
 /// The buffer that was made, to be shared.
-pub fn frozen<A: Allocator + Clone>(
-    made: Result<BufferMut<u32, A>, BufferError>,
-) -> Result<Buffer<u32, A>, BufferError> {
+pub fn frozen<A: Allocator + Clone>(made: Result<BufferMut<u32, A>>) -> Result<Buffer<u32, A>> {
     made?.freeze()
 }
 
 /// A second owner of the storage of a buffer that was made.
-pub fn twin<A: Allocator + Clone>(
-    made: Result<Buffer<u32, A>, BufferError>,
-) -> Result<Buffer<u32, A>, BufferError> {
+pub fn twin<A: Allocator + Clone>(made: Result<Buffer<u32, A>>) -> Result<Buffer<u32, A>> {
     let buffer = made?;
     let twin = buffer.clone();
     drop(buffer);
     twin
 }
 
-fn of_vector<A: Allocator + Clone>(alloc: A) -> Result<Buffer<u32, A>, BufferError> {
+fn of_vector<A: Allocator + Clone>(alloc: A) -> Result<Buffer<u32, A>> {
     let vector = [1u32, 2].to_vec(alloc.clone()?)?;
     Buffer::from_vec(alloc, vector)
 }
 
-fn unaligned_part<A: Allocator + Clone>(
-    made: Result<Buffer<u32, A>, BufferError>,
-) -> Result<Buffer<u32, A>, BufferError> {
+fn unaligned_part<A: Allocator + Clone>(made: Result<Buffer<u32, A>>) -> Result<Buffer<u32, A>> {
     let whole = made?;
     let part = if whole.len() < 2 {
         Err(BufferError::NotAligned)
@@ -160,10 +152,10 @@ fn unaligned_part<A: Allocator + Clone>(
 
 /// The items from `start` up to `end` of a buffer that was made, which share the storage.
 pub fn sliced<A: Allocator + Clone>(
-    made: Result<Buffer<u32, A>, BufferError>,
+    made: Result<Buffer<u32, A>>,
     start: usize,
     end: usize,
-) -> Result<Buffer<u32, A>, BufferError> {
+) -> Result<Buffer<u32, A>> {
     let whole = made?;
     let part = if whole.can_slice(start..end, whole.alignment()) {
         whole.slice(start..end)
@@ -174,9 +166,7 @@ pub fn sliced<A: Allocator + Clone>(
     part
 }
 
-fn aligned_part<A: Allocator + Clone>(
-    made: Result<Buffer<u32, A>, BufferError>,
-) -> Result<Buffer<u32, A>, BufferError> {
+fn aligned_part<A: Allocator + Clone>(made: Result<Buffer<u32, A>>) -> Result<Buffer<u32, A>> {
     let four = Alignment::of::<u32>();
     let whole = made?;
     let part = if whole.can_slice(3..4, four) {

@@ -2,13 +2,13 @@
 use crate::compared::{equal, equal_lists};
 use std::alloc::Allocator;
 use std::process::Abort;
-use vb_core::BufferError;
+use vb_core::Result;
 use vb_mem::{Buffer, BufferMut};
 
 /// Writes 42 over the first item.
 fn open_and_write<A: Allocator + Clone>(
     rt: &impl Abort,
-    made: Result<Buffer<u32, A>, BufferError>,
+    made: Result<Buffer<u32, A>>,
 ) -> BufferMut<u32, A> {
     let mut copy = made.expect(rt, "a clone").into_mut().expect(rt, "a copy");
     if let Some(first) = copy.as_mut_slice().first_mut() {
@@ -17,10 +17,7 @@ fn open_and_write<A: Allocator + Clone>(
     copy
 }
 
-fn clone_is_apart<A: Allocator + Clone>(
-    rt: &impl Abort,
-    made: Result<BufferMut<u32, A>, BufferError>,
-) {
+fn clone_is_apart<A: Allocator + Clone>(rt: &impl Abort, made: Result<BufferMut<u32, A>>) {
     let original = made.expect(rt, "a buffer").freeze().expect(rt, "a buffer");
     let copy = open_and_write(rt, original.clone());
     equal_lists(rt, original.as_slice(), &[1, 2, 3]);
@@ -34,7 +31,7 @@ fn a_clone_made_mutable_leaves_the_original(rt: HostRuntime) {
 }
 
 /// The numbers below a hundred.
-fn hundred<A: Allocator + Clone>(alloc: A) -> Result<Buffer<u32, A>, BufferError> {
+fn hundred<A: Allocator + Clone>(alloc: A) -> Result<Buffer<u32, A>> {
     Buffer::from_iter(alloc, 0..100)
 }
 
@@ -74,10 +71,7 @@ fn push_item<A: Allocator + Clone>(rt: &impl Abort, buffer: &mut Buffer<u32, A>)
     items.push(8).expect(rt, "room");
 }
 
-fn written_for_one<A: Allocator + Clone>(
-    rt: &impl Abort,
-    made: Result<Buffer<u32, A>, BufferError>,
-) {
+fn written_for_one<A: Allocator + Clone>(rt: &impl Abort, made: Result<Buffer<u32, A>>) {
     let mut buffer = made.expect(rt, "a buffer");
     let twin = buffer.clone().expect(rt, "a clone");
     fill_items(rt, &mut buffer);
@@ -116,10 +110,7 @@ fn a_buffer_is_opened_or_given_back(rt: HostRuntime) {
     open_or_same(&rt, buffer, &[1, 2, 3]);
 }
 
-fn narrowed_and_cleared<A: Allocator + Clone>(
-    rt: &impl Abort,
-    made: Result<Buffer<u32, A>, BufferError>,
-) {
+fn narrowed_and_cleared<A: Allocator + Clone>(rt: &impl Abort, made: Result<Buffer<u32, A>>) {
     let mut buffer = made.expect(rt, "a buffer");
     let twin = buffer.clone().expect(rt, "a clone");
     assert!(rt; buffer.can_slice(1..3, buffer.alignment()));

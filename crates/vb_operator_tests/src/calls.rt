@@ -1,7 +1,7 @@
 //! The calls, as data, each with what it makes of two bits, or of one.
 use std::alloc::Allocator;
 use vb_bit_buffer::BitBuffer;
-use vb_core::BufferError;
+use vb_core::Result;
 
 /// An operator whose right value is lent.
 pub(crate) enum Operator {
@@ -15,7 +15,7 @@ impl Operator {
         &self,
         left: BitBuffer<A>,
         right: &BitBuffer<A>,
-    ) -> Result<BitBuffer<A>, BufferError> {
+    ) -> Result<BitBuffer<A>> {
         match self {
             Operator::And => left & right,
             Operator::Or => left | right,
@@ -27,7 +27,7 @@ impl Operator {
         &self,
         left: &BitBuffer<A>,
         right: &BitBuffer<A>,
-    ) -> Result<BitBuffer<A>, BufferError> {
+    ) -> Result<BitBuffer<A>> {
         match self {
             Operator::And => left & right,
             Operator::Or => left | right,
@@ -79,7 +79,7 @@ impl Two {
         &self,
         left: BitBuffer<A>,
         right: BitBuffer<A>,
-    ) -> Result<BitBuffer<A>, BufferError> {
+    ) -> Result<BitBuffer<A>> {
         match self {
             Two::AndOwned => left & right,
             Two::OrOwned => left | right,
@@ -113,10 +113,7 @@ pub(crate) enum One {
 pub(crate) const ONE: &[One] = &[One::Not, One::NotLent, One::Sliced, One::ShrinkOffset];
 
 impl One {
-    pub(crate) fn make<A: Allocator + Clone>(
-        &self,
-        set: BitBuffer<A>,
-    ) -> Result<BitBuffer<A>, BufferError> {
+    pub(crate) fn make<A: Allocator + Clone>(&self, set: BitBuffer<A>) -> Result<BitBuffer<A>> {
         match self {
             One::Not => !set,
             One::NotLent => !&set,

@@ -6,7 +6,7 @@ use std::alloc::Allocator;
 use std::fmt::Debug;
 use std::process::Abort;
 use vb_bit_buffer::BitBuffer;
-use vb_core::BufferError;
+use vb_core::Result;
 
 /// The two values are equal.
 pub(crate) fn equal<T: Copy + PartialEq + Debug>(rt: &impl Abort, given: T, wanted: T) {
@@ -16,9 +16,9 @@ pub(crate) fn equal<T: Copy + PartialEq + Debug>(rt: &impl Abort, given: T, want
 /// The set that was made has these bits and no others.
 pub(crate) fn shows<A: Allocator + Clone>(
     rt: &impl Abort,
-    made: Result<BitBuffer<A>, BufferError>,
+    made: Result<BitBuffer<A>>,
     bits: &[bool],
-) -> Result<(), BufferError> {
+) -> Result<()> {
     let set = made?;
     equal(rt, set.len(), bits.len());
     for (i, bit) in bits.iter().enumerate() {
@@ -31,9 +31,7 @@ pub(crate) fn shows<A: Allocator + Clone>(
 }
 
 /// How many bits the set has that was made.
-pub(crate) fn len_of<A: Allocator + Clone>(
-    made: Result<BitBuffer<A>, BufferError>,
-) -> Result<usize, BufferError> {
+pub(crate) fn len_of<A: Allocator + Clone>(made: Result<BitBuffer<A>>) -> Result<usize> {
     let set = made?;
     let len = set.len();
     drop(set);
@@ -44,9 +42,9 @@ pub(crate) fn len_of<A: Allocator + Clone>(
 pub(crate) fn len_of_two<A: Allocator + Clone>(
     rt: &impl Abort,
     call: &Two,
-    left: Result<BitBuffer<A>, BufferError>,
-    right: Result<BitBuffer<A>, BufferError>,
-) -> Result<usize, BufferError> {
+    left: Result<BitBuffer<A>>,
+    right: Result<BitBuffer<A>>,
+) -> Result<usize> {
     let (left, right) = (left.expect(rt, "a set"), right.expect(rt, "a set"));
     len_of(call.make(left, right))
 }
@@ -55,7 +53,7 @@ pub(crate) fn len_of_two<A: Allocator + Clone>(
 pub(crate) fn compares<A: Allocator + Clone>(
     rt: &impl Abort,
     set: &BitBuffer<A>,
-    made: Result<BitBuffer<A>, BufferError>,
+    made: Result<BitBuffer<A>>,
     wanted: bool,
 ) {
     let other = made.expect(rt, "a set");

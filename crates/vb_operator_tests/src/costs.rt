@@ -7,7 +7,7 @@ use std::alloc::Allocator;
 use std::process::Abort;
 use std::test::Fail;
 use vb_bit_buffer::BitBuffer;
-use vb_core::BufferError;
+use vb_core::Result;
 use vb_testing::Refusing;
 
 /// A body that copies the bytes makes a second request, which is refused.
@@ -37,8 +37,8 @@ const REQUESTS: &[(One, u64)] = &[
 fn len_of_one<A: Allocator + Clone>(
     rt: &impl Abort,
     call: &One,
-    made: Result<BitBuffer<A>, BufferError>,
-) -> Result<usize, BufferError> {
+    made: Result<BitBuffer<A>>,
+) -> Result<usize> {
     len_of(call.make(made.expect(rt, "a set")))
 }
 
@@ -60,7 +60,7 @@ fn part<A: Allocator + Clone>(
     rt: &impl Abort,
     all: &BitBuffer<A>,
     start: usize,
-) -> Result<BitBuffer<A>, BufferError> {
+) -> Result<BitBuffer<A>> {
     let end = start.saturating_add(200);
     assert!(rt; start <= end && end <= all.len());
     all.slice(start..end)
@@ -71,7 +71,7 @@ fn copies_are_of_windows<A: Allocator + Clone>(
     rt: &impl Abort,
     call: &Two,
     all: &BitBuffer<A>,
-) -> Result<usize, BufferError> {
+) -> Result<usize> {
     len_of_two(rt, call, part(rt, all, 803), part(rt, all, 2005))
 }
 

@@ -10,14 +10,12 @@ use std::alloc::{Allocator, Global};
 use std::process::Abort;
 use std::test::Fail;
 use vb_bit_buffer::BitBuffer;
-use vb_core::BufferError;
+use vb_core::{BufferError, Result};
 use vb_testing::{Handle, Refusing};
 
 /// A second owner of a set that was made, and then its bytes, to which some are added. Answers how
 /// many bits the set has.
-fn grown<A: Allocator + Clone>(
-    made: Result<BitBuffer<A>, BufferError>,
-) -> Result<usize, BufferError> {
+fn grown<A: Allocator + Clone>(made: Result<BitBuffer<A>>) -> Result<usize> {
     let set = made?;
     let twin = set.clone();
     drop(set);
@@ -31,9 +29,9 @@ fn grown<A: Allocator + Clone>(
 
 fn combined<A: Allocator + Clone>(
     call: &Two,
-    left: Result<BitBuffer<A>, BufferError>,
+    left: Result<BitBuffer<A>>,
     right: BitBuffer<A>,
-) -> Result<BitBuffer<A>, BufferError> {
+) -> Result<BitBuffer<A>> {
     match left {
         Ok(left) => call.make(left, right),
         Err(error) => {

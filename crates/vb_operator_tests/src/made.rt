@@ -4,7 +4,7 @@ use std::alloc::{Allocator, Global};
 use std::test::Fail;
 use vb_bit_buffer::BitBuffer;
 use vb_bits::set_bit_to;
-use vb_core::BufferError;
+use vb_core::{BufferError, Result};
 use vb_mem::{BufferMut, ByteBuffer};
 
 /// Enough bytes for the longest list of a table, at the greatest offset.
@@ -33,7 +33,7 @@ pub(crate) fn set<A: Allocator + Clone>(
     alloc: A,
     list: &[bool],
     offset: usize,
-) -> Result<BitBuffer<A>, BufferError> {
+) -> Result<BitBuffer<A>> {
     let mut bytes = BufferMut::zeroed(alloc, BYTES)?;
     write(bytes.as_mut_slice(), list, offset);
     window(bytes.freeze()?, offset, list.len())
@@ -57,7 +57,7 @@ pub(crate) fn window<A: Allocator + Clone>(
     bytes: ByteBuffer<A>,
     offset: usize,
     len: usize,
-) -> Result<BitBuffer<A>, BufferError> {
+) -> Result<BitBuffer<A>> {
     let bits = bytes.len().saturating_mul(8);
     if offset <= bits && len <= bits - offset {
         return Ok(BitBuffer::new_with_offset(bytes, len, offset));

@@ -6,7 +6,7 @@ use std::alloc::{Allocator, Global};
 use std::process::Abort;
 use std::test::Fail;
 use vb_bit_buffer::BitBuffer;
-use vb_core::BufferError;
+use vb_core::Result;
 
 /// The places of the first bit on either side.
 const OFFSETS: [usize; 4] = [0, 3, 5, 7];
@@ -28,7 +28,7 @@ fn made_of_two(
     call: &Two,
     (lefts, rights): (&[bool], &[bool]),
     (left, right): (usize, usize),
-) -> Result<BitBuffer, BufferError> {
+) -> Result<BitBuffer> {
     call.make(set(alloc, lefts, left)?, set(alloc, rights, right)?)
 }
 
@@ -72,12 +72,7 @@ fn turned(alloc: Global, call: &One, list: &[bool]) -> Result<Vec<bool>, Fail> {
 }
 
 /// What a call makes of the set of a list.
-fn made_of_one(
-    alloc: Global,
-    call: &One,
-    list: &[bool],
-    offset: usize,
-) -> Result<BitBuffer, BufferError> {
+fn made_of_one(alloc: Global, call: &One, list: &[bool], offset: usize) -> Result<BitBuffer> {
     call.make(set(alloc, list, offset)?)
 }
 
@@ -131,7 +126,7 @@ fn equality_is_that_of_bits(rt: HostRuntime) -> Result<(), Fail> {
 fn negated_and<A: Allocator + Clone>(
     one: &BitBuffer<A>,
     two: &BitBuffer<A>,
-) -> Result<BitBuffer<A>, BufferError> {
+) -> Result<BitBuffer<A>> {
     let both = (one & two)?;
     !both
 }
@@ -139,14 +134,14 @@ fn negated_and<A: Allocator + Clone>(
 fn or_of_negated<A: Allocator + Clone>(
     one: &BitBuffer<A>,
     two: &BitBuffer<A>,
-) -> Result<BitBuffer<A>, BufferError> {
+) -> Result<BitBuffer<A>> {
     (!one)? | (!two)?
 }
 
 fn negated_or<A: Allocator + Clone>(
     one: &BitBuffer<A>,
     two: &BitBuffer<A>,
-) -> Result<BitBuffer<A>, BufferError> {
+) -> Result<BitBuffer<A>> {
     let either = (one | two)?;
     !either
 }
@@ -154,11 +149,11 @@ fn negated_or<A: Allocator + Clone>(
 fn and_of_negated<A: Allocator + Clone>(
     one: &BitBuffer<A>,
     two: &BitBuffer<A>,
-) -> Result<BitBuffer<A>, BufferError> {
+) -> Result<BitBuffer<A>> {
     (!one)? & (!two)?
 }
 
-fn negated_twice<A: Allocator + Clone>(set: &BitBuffer<A>) -> Result<BitBuffer<A>, BufferError> {
+fn negated_twice<A: Allocator + Clone>(set: &BitBuffer<A>) -> Result<BitBuffer<A>> {
     let negated = (!set)?;
     !negated
 }
@@ -166,8 +161,8 @@ fn negated_twice<A: Allocator + Clone>(set: &BitBuffer<A>) -> Result<BitBuffer<A
 /// Both sets that were made have the same bits.
 fn same<A: Allocator + Clone>(
     rt: &impl Abort,
-    one: Result<BitBuffer<A>, BufferError>,
-    two: Result<BitBuffer<A>, BufferError>,
+    one: Result<BitBuffer<A>>,
+    two: Result<BitBuffer<A>>,
 ) {
     let one = one.expect(rt, "a set");
     compares(rt, &one, two, true);
@@ -177,8 +172,8 @@ fn same<A: Allocator + Clone>(
 /// Both laws of De Morgan, and that what is negated twice is as it was.
 fn laws_hold<A: Allocator + Clone>(
     rt: &impl Abort,
-    one: Result<BitBuffer<A>, BufferError>,
-    two: Result<BitBuffer<A>, BufferError>,
+    one: Result<BitBuffer<A>>,
+    two: Result<BitBuffer<A>>,
 ) {
     let (one, two) = (one.expect(rt, "a set"), two.expect(rt, "a set"));
     same(rt, negated_and(&one, &two), or_of_negated(&one, &two));

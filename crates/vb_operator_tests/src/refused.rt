@@ -5,14 +5,14 @@ use crate::made::{list, set};
 use std::alloc::{Allocator, Global};
 use std::process::Abort;
 use std::test::Fail;
-use vb_core::BufferError;
+use vb_core::{BufferError, Result};
 use vb_testing::{Handle, Refusing};
 
 fn made_of_two<A: Allocator + Clone>(
     alloc: A,
     call: &Two,
     lists: (&[bool], &[bool]),
-) -> Result<usize, BufferError> {
+) -> Result<usize> {
     let left = set(alloc.clone()?, lists.0, 3)?;
     let right = match set(alloc, lists.1, 5) {
         Ok(right) => right,
@@ -24,11 +24,7 @@ fn made_of_two<A: Allocator + Clone>(
     len_of(call.make(left, right))
 }
 
-fn made_of_one<A: Allocator + Clone>(
-    alloc: A,
-    call: &One,
-    bits: &[bool],
-) -> Result<usize, BufferError> {
+fn made_of_one<A: Allocator + Clone>(alloc: A, call: &One, bits: &[bool]) -> Result<usize> {
     len_of(call.make(set(alloc, bits, 3)?))
 }
 

@@ -6,7 +6,7 @@ use crate::compared::{equal, shows};
 use std::alloc::Allocator;
 use std::process::Abort;
 use std::test::Fail;
-use vb_set::{BitBuffer, BufferError};
+use vb_set::{BitBuffer, Result};
 
 /// The number `noted` with one place more.
 fn note(noted: u64, place: usize) -> u64 {
@@ -64,10 +64,7 @@ fn notes_of_even<A: Allocator + Clone>(set: &BitBuffer<A>) -> u64 {
 }
 
 #[tactic(auto, using(vb_pack::proofs::AnswersLemmas::CanAsk_always))]
-fn calls_are_plain<A: Allocator + Clone>(
-    rt: &impl Abort,
-    set: &BitBuffer<A>,
-) -> Result<(), BufferError> {
+fn calls_are_plain<A: Allocator + Clone>(rt: &impl Abort, set: &BitBuffer<A>) -> Result<()> {
     equal(rt, notes_of_calls(set), notes_of_loop(set));
     let even = set.map_cmp(&mut |i, bit| bit == (i % 2 == 0))?;
     equal(rt, even.len(), set.len());

@@ -4,7 +4,7 @@ use crate::compared::shows;
 use std::alloc::Allocator;
 use std::process::Abort;
 use std::test::Fail;
-use vb_set::{BitBuffer, BitBufferMut, BufferError};
+use vb_set::{BitBuffer, BitBufferMut, BufferError, Result};
 use vb_testing::{Handle, answers_refusal, each_refused};
 
 /// A call that makes a set.
@@ -22,7 +22,7 @@ enum Call {
 }
 
 impl Call {
-    fn make<A: Allocator + Clone>(&self, alloc: A) -> Result<BitBuffer<A>, BufferError> {
+    fn make<A: Allocator + Clone>(&self, alloc: A) -> Result<BitBuffer<A>> {
         match self {
             Call::Collect => collected(alloc),
             Call::CollectShared => collected_shared(alloc),
@@ -48,7 +48,7 @@ impl Call {
 
 /// Four bits that a closure answers; `NotAligned` where it was asked though memory was refused.
 #[tactic(auto, using(vb_pack::proofs::AnswersLemmas::CanAsk_always))]
-fn collected<A: Allocator + Clone>(alloc: A) -> Result<BitBuffer<A>, BufferError> {
+fn collected<A: Allocator + Clone>(alloc: A) -> Result<BitBuffer<A>> {
     let mut asked = 0u32;
     let made = BitBufferMut::collect_bool(
         alloc,
@@ -66,7 +66,7 @@ fn collected<A: Allocator + Clone>(alloc: A) -> Result<BitBuffer<A>, BufferError
 
 /// The same of a shared set.
 #[tactic(auto, using(vb_pack::proofs::AnswersLemmas::CanAsk_always))]
-fn collected_shared<A: Allocator + Clone>(alloc: A) -> Result<BitBuffer<A>, BufferError> {
+fn collected_shared<A: Allocator + Clone>(alloc: A) -> Result<BitBuffer<A>> {
     let mut asked = 0u32;
     let made = BitBuffer::collect_bool(
         alloc,
@@ -84,7 +84,7 @@ fn collected_shared<A: Allocator + Clone>(alloc: A) -> Result<BitBuffer<A>, Buff
 
 /// Four bits, each true where the bit that it was asked with is true exactly at an even place.
 #[tactic(auto, using(vb_pack::proofs::AnswersLemmas::CanAsk_always))]
-fn mapped<A: Allocator + Clone>(alloc: A) -> Result<BitBuffer<A>, BufferError> {
+fn mapped<A: Allocator + Clone>(alloc: A) -> Result<BitBuffer<A>> {
     let set = BitBuffer::from_bools(alloc, &[true, false, false, true])?;
     let mut asked = 0u32;
     let made = set.map_cmp(&mut |i, bit| {
@@ -98,7 +98,7 @@ fn mapped<A: Allocator + Clone>(alloc: A) -> Result<BitBuffer<A>, BufferError> {
 }
 
 /// The refusal, where nothing was asked; else another one, which no call here answers.
-fn refused_unasked<T>(error: BufferError, asked: u32) -> Result<T, BufferError> {
+fn refused_unasked<T>(error: BufferError, asked: u32) -> Result<T> {
     if asked == 0 {
         Err(error)
     } else {
@@ -122,9 +122,9 @@ const ROWS: &[(Call, &str, u64)] = &[
 
 fn makes<A: Allocator + Clone>(
     rt: &impl Abort,
-    made: Result<BitBuffer<A>, BufferError>,
+    made: Result<BitBuffer<A>>,
     bits: &str,
-) -> Result<(), BufferError> {
+) -> Result<()> {
     shows(rt, &made?, bits);
     Ok(())
 }

@@ -14,7 +14,7 @@ use crate::table::{move_entries, table_of};
 use std::alloc::{Allocator, Global};
 use std::marker::Model;
 use vb_kernel::Plain;
-use vb_set::{BitBufferMut, BitBufferView, BufferError};
+use vb_set::{BitBufferMut, BitBufferView, BufferError, Result};
 
 /// A set of bits that one owner edits, with the table of the true bits before each block of 512.
 /// Every edit keeps the table exact, so each question is answered as by a table made anew.
@@ -41,7 +41,7 @@ impl<A: Allocator + Clone> Model for Ranked<A> {
 impl<A: Allocator + Clone> Ranked<A> {
     /// The set with its table, which takes memory as [`table_of`] does. Refused by `OutOfMemory`
     /// alone; then the set is gone.
-    pub fn new(alloc: A, set: BitBufferMut<A>) -> Result<Self, BufferError>
+    pub fn new(alloc: A, set: BitBufferMut<A>) -> Result<Self>
         ensures set { IfOk result (λ r. r ≡ set) }
         ensures refused { IsOkUnless result BufferError.OutOfMemory }
     {
@@ -129,7 +129,7 @@ impl<A: Allocator + Clone> Ranked<A> {
     /// `OutOfMemory` where memory is. Then the set and its room are unchanged. Within the room of
     /// the set it takes no memory and succeeds, unless the length is a multiple of 512: then the
     /// table needs an entry more.
-    pub fn append(&mut self, v: bool) -> Result<(), BufferError>
+    pub fn append(&mut self, v: bool) -> Result<()>
         ensures ok { OnOk result (AddsBits (v ∷ []) self.old self.new) }
         ensures grows { Grows self.old self.new }
         ensures in_room { 0 < length self.old.bits % 512

@@ -9,16 +9,13 @@ ghost use Rattle.vb_set.specs.View.{bits_of};
 
 use std::alloc::Allocator;
 use vb_kernel::count_ones;
-use vb_set::{BitBufferView, BufferError};
+use vb_set::{BitBufferView, BufferError, Result};
 
 /// For each block of 512 bits, how many true bits are before it.
 ///
 /// It counts the bits once, and takes one request for memory: a `usize` a block, and none for no
 /// bits. Refused by `OutOfMemory` alone.
-pub fn table_of<A: Allocator>(
-    alloc: A,
-    bits: BitBufferView<'_>,
-) -> Result<Vec<usize, A>, BufferError>
+pub fn table_of<A: Allocator>(alloc: A, bits: BitBufferView<'_>) -> Result<Vec<usize, A>>
     ensures table { IfOk result (λ t. t.items ≡ block_counts (bits_of bits.entry)) }
     ensures size { IfOk result (λ t. length t.items ≡ blocks (length (bits_of bits.entry))) }
     ensures refused { IsOkUnless result BufferError.OutOfMemory }

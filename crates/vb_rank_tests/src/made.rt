@@ -2,13 +2,10 @@
 //! these facts at each of its calls.
 use std::alloc::{Allocator, Global};
 use std::process::Abort;
-use vb_set::{BitBufferMut, BufferError, ByteBufferMut};
+use vb_set::{BitBufferMut, ByteBufferMut, Result};
 
 /// True bits.
-pub(crate) fn ones<A: Allocator + Clone>(
-    alloc: A,
-    len: usize,
-) -> Result<BitBufferMut<A>, BufferError> {
+pub(crate) fn ones<A: Allocator + Clone>(alloc: A, len: usize) -> Result<BitBufferMut<A>> {
     BitBufferMut::new_set(alloc, len)
 }
 

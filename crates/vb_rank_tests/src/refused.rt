@@ -5,14 +5,11 @@ use crate::made::ones;
 use std::alloc::Allocator;
 use std::process::Abort;
 use vb_rank::{Ranked, table_of};
-use vb_set::{BitBufferMut, BitBufferView, BufferError};
+use vb_set::{BitBufferMut, BitBufferView, BufferError, Result};
 use vb_testing::Refusing;
 
 /// How many blocks the table of the bits has.
-fn table_len<A: Allocator + Clone>(
-    alloc: A,
-    bits: BitBufferView<'_>,
-) -> Result<usize, BufferError> {
+fn table_len<A: Allocator + Clone>(alloc: A, bits: BitBufferView<'_>) -> Result<usize> {
     let table = table_of(alloc, bits)?;
     let len = table.len();
     drop(table);
@@ -20,7 +17,7 @@ fn table_len<A: Allocator + Clone>(
 }
 
 /// Makes the table of five blocks, and a directory of them.
-fn make<A: Allocator + Clone + Copy>(rt: &impl Abort, alloc: A) -> Result<(), BufferError> {
+fn make<A: Allocator + Clone + Copy>(rt: &impl Abort, alloc: A) -> Result<()> {
     let set = ones(alloc, 2560)?;
     match table_len(alloc, set.as_view()) {
         Ok(len) => equal(rt, len, 5),
@@ -52,11 +49,7 @@ fn a_refused_request_refuses_the_directory(rt: HostRuntime) {
 
 /// Adds true bits to none. A refused append leaves the directory as it was, and the next one adds
 /// the bit.
-fn append<A: Allocator + Clone + Copy>(
-    rt: &impl Abort,
-    alloc: A,
-    count: usize,
-) -> Result<(), BufferError> {
+fn append<A: Allocator + Clone + Copy>(rt: &impl Abort, alloc: A, count: usize) -> Result<()> {
     let mut ranked = Ranked::new(alloc, BitBufferMut::empty(alloc))?;
     let mut answer = Ok(());
     for len in 0..count {

@@ -61,7 +61,8 @@ fn random_sessions_are_plain(
     compared
 }
 
-/// The same, with texts that take the lines.
+/// So many random lines, which these texts take, are plain with the memory of a heap, or with each
+/// request refused in turn.
 fn add_and_compare(
     rt: &impl Abort,
     global: Global,

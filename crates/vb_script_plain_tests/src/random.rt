@@ -26,7 +26,8 @@ const OTHER_WORDS: &[&str] = &[
 /// Lengths at the ends of words.
 pub(crate) const LENGTHS: &[&str] = &["63", "64", "65", "127", "128", "129", "200", "007", "512"];
 
-/// The same, and lengths for which there is no memory, or that aren't numbers of bits.
+/// Lengths at the ends of words, and ones for which there is no memory, or that aren't numbers of
+/// bits.
 pub(crate) const ALL_LENGTHS: &[&str] = &[
     "63",
     "64",

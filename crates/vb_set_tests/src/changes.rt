@@ -4,7 +4,7 @@ use crate::compared::equal;
 use crate::made::window;
 use std::alloc::{AllocError, Allocator, Global};
 use std::process::Abort;
-use vb_set::{BitBufferMut, BufferError};
+use vb_set::{BitBufferMut, BufferError, Result};
 use vb_testing::{Handle, Refusing};
 
 /// An edit that takes memory where there is no room left.
@@ -17,7 +17,7 @@ enum Edit {
 }
 
 impl Edit {
-    fn make<A: Allocator + Clone>(&self, set: &mut BitBufferMut<A>) -> Result<(), BufferError> {
+    fn make<A: Allocator + Clone>(&self, set: &mut BitBufferMut<A>) -> Result<()> {
         match self {
             Edit::Append => set.append(false),
             Edit::AppendTrue => set.append_true(),
@@ -86,10 +86,10 @@ fn is_longer<A: Allocator + Clone>(
 fn edit_ones<A: Allocator + Clone>(
     rt: &impl Abort,
     alloc: Global,
-    made: Result<BitBufferMut<A>, BufferError>,
+    made: Result<BitBufferMut<A>>,
     edit: &Edit,
     added: (usize, usize),
-) -> Result<(), BufferError> {
+) -> Result<()> {
     let mut set = made?;
     let filled = set.append_n(true, set.capacity() - set.len());
     equal(rt, filled, Ok(()));
@@ -126,8 +126,8 @@ fn a_refused_edit_leaves_the_set(rt: HostRuntime) {
 fn take<A: Allocator + Clone>(
     rt: &impl Abort,
     alloc: Global,
-    made: Result<BitBufferMut<A>, BufferError>,
-) -> Result<(), BufferError> {
+    made: Result<BitBufferMut<A>>,
+) -> Result<()> {
     let mut set = made?;
     let before = Before::of(alloc, &set).expect(rt, "memory");
     let answer = taken_nine(rt, set.take());
@@ -141,10 +141,7 @@ fn take<A: Allocator + Clone>(
 }
 
 /// What was taken are nine true bits at their offset.
-fn taken_nine<A: Allocator + Clone>(
-    rt: &impl Abort,
-    made: Result<BitBufferMut<A>, BufferError>,
-) -> Result<(), BufferError> {
+fn taken_nine<A: Allocator + Clone>(rt: &impl Abort, made: Result<BitBufferMut<A>>) -> Result<()> {
     let taken = made?;
     equal(rt, (taken.offset(), taken.len()), (11, 9));
     equal(rt, taken.as_view().true_count(), 9);

@@ -5,7 +5,7 @@ ghost use Rattle.vb_set.specs.Asked.{CanAsk, span};
 use crate::compared::{equal, shows};
 use std::alloc::Allocator;
 use std::process::Abort;
-use vb_set::{BitBuffer, BitBufferMut, BitBufferView, BufferError};
+use vb_set::{BitBuffer, BitBufferMut, BitBufferView, BufferError, Result};
 use vb_testing::{Handle, Refusing};
 
 /// A call that makes a set of what a closure answers.
@@ -30,7 +30,7 @@ impl Call {
         alloc: A,
         len: usize,
         f: &mut F,
-    ) -> Result<bool, BufferError>
+    ) -> Result<bool>
         requires { CanAsk (F.pre) (F.step) f.old (span 0 len) }
     {
         match self {
@@ -46,18 +46,14 @@ impl Call {
     }
 }
 
-fn open_is_even<A: Allocator + Clone>(
-    made: Result<BitBufferMut<A>, BufferError>,
-) -> Result<bool, BufferError> {
+fn open_is_even<A: Allocator + Clone>(made: Result<BitBufferMut<A>>) -> Result<bool> {
     let set = made?;
     let even = is_even(set.as_view());
     drop(set);
     Ok(even)
 }
 
-fn shared_is_even<A: Allocator + Clone>(
-    made: Result<BitBuffer<A>, BufferError>,
-) -> Result<bool, BufferError> {
+fn shared_is_even<A: Allocator + Clone>(made: Result<BitBuffer<A>>) -> Result<bool> {
     let set = made?;
     let even = is_even(set.as_view());
     drop(set);
@@ -76,7 +72,7 @@ fn is_even(view: BitBufferView<'_>) -> bool {
 /// A call of 130 places with a closure that is true at first and changes its answer each time, and
 /// how often it was asked.
 #[tactic(auto, using(vb_pack::proofs::AnswersLemmas::CanAsk_always))]
-fn alternating<A: Allocator + Clone>(call: &Call, alloc: A) -> (Result<bool, BufferError>, usize) {
+fn alternating<A: Allocator + Clone>(call: &Call, alloc: A) -> (Result<bool>, usize) {
     let (mut next, mut asked) = (true, 0usize);
     let answer = call.makes_even(
         alloc,
@@ -107,9 +103,9 @@ fn each_place_is_asked_for_once_or_none(rt: HostRuntime) {
 /// The bits of a part of a view of twenty bits, and those of the same part of the set.
 fn part_of_twenty<A: Allocator + Clone>(
     rt: &impl Abort,
-    made: Result<BitBuffer<A>, BufferError>,
+    made: Result<BitBuffer<A>>,
     bits: &str,
-) -> Result<BitBuffer<A>, BufferError> {
+) -> Result<BitBuffer<A>> {
     let set = made?;
     assert!(rt; set.len() == 20);
     let part = set.as_view().slice(5..17);

@@ -5,7 +5,7 @@ use crate::made::ones;
 use crate::makers::{cloned, copied, taken};
 use std::alloc::Allocator;
 use std::process::Abort;
-use vb_set::{BitBuffer, BitBufferMut, BufferError, TryIntoMut};
+use vb_set::{BitBuffer, BitBufferMut, BufferError, Result, TryIntoMut};
 use vb_testing::Refusing;
 
 /// A call on a set to edit of eight thousand true bits.
@@ -24,7 +24,7 @@ impl Open {
         &self,
         set: BitBufferMut<A>,
         alloc: &A,
-    ) -> Result<BitBufferMut<A>, BufferError> {
+    ) -> Result<BitBufferMut<A>> {
         match self {
             Open::Freeze => opened(set.freeze()),
             Open::Take => taken(Ok(set)),
@@ -37,9 +37,7 @@ impl Open {
     }
 }
 
-pub(crate) fn opened<A: Allocator + Clone>(
-    made: Result<BitBuffer<A>, BufferError>,
-) -> Result<BitBufferMut<A>, BufferError> {
+pub(crate) fn opened<A: Allocator + Clone>(made: Result<BitBuffer<A>>) -> Result<BitBufferMut<A>> {
     match made?.try_into_mut() {
         Ok(open) => Ok(open),
         Err(shared) => {
@@ -50,17 +48,13 @@ pub(crate) fn opened<A: Allocator + Clone>(
 }
 
 /// The set with room for as many bits again.
-fn reserved<A: Allocator + Clone>(
-    mut set: BitBufferMut<A>,
-) -> Result<BitBufferMut<A>, BufferError> {
+fn reserved<A: Allocator + Clone>(mut set: BitBufferMut<A>) -> Result<BitBufferMut<A>> {
     set.reserve(8000)?;
     Ok(set)
 }
 
 /// The set shortened, and lengthened within its room.
-fn lengthened<A: Allocator + Clone>(
-    mut set: BitBufferMut<A>,
-) -> Result<BitBufferMut<A>, BufferError> {
+fn lengthened<A: Allocator + Clone>(mut set: BitBufferMut<A>) -> Result<BitBufferMut<A>> {
     set.truncate(100);
     set.append_n(true, 7900)?;
     Ok(set)
@@ -83,7 +77,7 @@ const OPEN: &[(Open, usize, usize)] = &[
 /// Makes a call on a set of true bits. What it makes are eight thousand true bits.
 fn edit_ones<A: Allocator + Clone>(
     rt: &impl Abort,
-    made: Result<BitBufferMut<A>, BufferError>,
+    made: Result<BitBufferMut<A>>,
     call: &Open,
     alloc: &A,
 ) {

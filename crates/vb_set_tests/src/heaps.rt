@@ -8,19 +8,17 @@ use crate::costs::opened;
 use crate::made::window;
 use crate::makers::copied;
 use std::alloc::Allocator;
-use vb_set::{BitBuffer, BitBufferMut, BufferError, ToBitBuffer, take_bits};
+use vb_set::{BitBuffer, BitBufferMut, BufferError, Result, ToBitBuffer, take_bits};
 use vb_testing::{Handle, Refusing};
 
 /// Nine true bits of three bytes.
-fn nine<A: Allocator + Clone>(alloc: A) -> Result<BitBuffer<A>, BufferError> {
+fn nine<A: Allocator + Clone>(alloc: A) -> Result<BitBuffer<A>> {
     window(alloc, (0xFF, 3), 3, 9)?.freeze()
 }
 
 /// A second owner of a set that was made, to which false bits are added; then a copy of it. Answers
 /// how many bits there are, and how many of them are true.
-fn grown<A: Allocator + Clone>(
-    made: Result<BitBuffer<A>, BufferError>,
-) -> Result<(usize, usize), BufferError> {
+fn grown<A: Allocator + Clone>(made: Result<BitBuffer<A>>) -> Result<(usize, usize)> {
     let set = made?;
     let twin = set.clone();
     drop(set);
@@ -32,9 +30,7 @@ fn grown<A: Allocator + Clone>(
     counts(copy)
 }
 
-fn counts<A: Allocator + Clone>(
-    made: Result<BitBufferMut<A>, BufferError>,
-) -> Result<(usize, usize), BufferError> {
+fn counts<A: Allocator + Clone>(made: Result<BitBufferMut<A>>) -> Result<(usize, usize)> {
     let set = made?;
     let counts = (set.len(), set.as_view().true_count());
     drop(set);
@@ -61,9 +57,9 @@ const COPIES: &[Copy] = &[
 impl Copy {
     fn make<A: Allocator + Clone>(
         &self,
-        made: Result<BitBuffer<A>, BufferError>,
+        made: Result<BitBuffer<A>>,
         alloc: A,
-    ) -> Result<BitBuffer<A>, BufferError> {
+    ) -> Result<BitBuffer<A>> {
         match self {
             Copy::OfMutView => copy_of_mut_view(opened(made), alloc),
             Copy::From => copied(alloc, made)?.freeze(),
@@ -73,9 +69,9 @@ impl Copy {
 
     fn of_view<A: Allocator + Clone>(
         &self,
-        made: Result<BitBuffer<A>, BufferError>,
+        made: Result<BitBuffer<A>>,
         alloc: A,
-    ) -> Result<BitBuffer<A>, BufferError> {
+    ) -> Result<BitBuffer<A>> {
         let set = made?;
         let copy = match self {
             Copy::TakeValid => taken_valid(&set, alloc),
@@ -90,10 +86,7 @@ impl Copy {
 const PLACES: [u8; 9] = [8, 7, 6, 5, 4, 3, 2, 1, 0];
 
 /// The bits of nine at places that all count.
-fn taken_valid<A: Allocator + Clone>(
-    set: &BitBuffer<A>,
-    alloc: A,
-) -> Result<BitBuffer<A>, BufferError> {
+fn taken_valid<A: Allocator + Clone>(set: &BitBuffer<A>, alloc: A) -> Result<BitBuffer<A>> {
     let view = set.as_view();
     if view.len() == 9 {
         return take_bits(alloc, view, &PLACES, Some(view));
@@ -102,9 +95,9 @@ fn taken_valid<A: Allocator + Clone>(
 }
 
 fn copy_of_mut_view<A: Allocator + Clone>(
-    made: Result<BitBufferMut<A>, BufferError>,
+    made: Result<BitBufferMut<A>>,
     alloc: A,
-) -> Result<BitBuffer<A>, BufferError> {
+) -> Result<BitBuffer<A>> {
     let mut set = made?;
     let copy = set.as_mut_view().to_bit_buffer(alloc);
     drop(set);
@@ -132,7 +125,7 @@ fn of_vector<A: Allocator + Clone>(
     alloc: A,
     values: Vec<bool, A>,
     is_shared: bool,
-) -> Result<BitBuffer<A>, BufferError> {
+) -> Result<BitBuffer<A>> {
     if is_shared {
         return BitBuffer::from_bool_vec(alloc, values);
     }
@@ -169,9 +162,9 @@ const OWN: &[(Own, usize)] = &[(Own::Append, 18), (Own::Sliced, 9), (Own::Opened
 impl Own {
     fn make<A: Allocator + Clone>(
         &self,
-        made: Result<BitBuffer<A>, BufferError>,
+        made: Result<BitBuffer<A>>,
         other: &BitBuffer<A>,
-    ) -> Result<BitBuffer<A>, BufferError> {
+    ) -> Result<BitBuffer<A>> {
         match self {
             Own::Append => appended(opened(made), other),
             Own::Sliced => sliced(made),
@@ -181,17 +174,15 @@ impl Own {
 }
 
 fn appended<A: Allocator + Clone>(
-    made: Result<BitBufferMut<A>, BufferError>,
+    made: Result<BitBufferMut<A>>,
     other: &BitBuffer<A>,
-) -> Result<BitBuffer<A>, BufferError> {
+) -> Result<BitBuffer<A>> {
     let mut set = made?;
     set.append_buffer(other)?;
     set.freeze()
 }
 
-fn sliced<A: Allocator + Clone>(
-    made: Result<BitBuffer<A>, BufferError>,
-) -> Result<BitBuffer<A>, BufferError> {
+fn sliced<A: Allocator + Clone>(made: Result<BitBuffer<A>>) -> Result<BitBuffer<A>> {
     let set = made?;
     let front = set.sliced();
     drop(set);

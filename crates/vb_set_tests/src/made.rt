@@ -1,13 +1,10 @@
 //! Sets to start from. No clause says what they hold, since the proof of a test would search among
 //! these facts at each of its calls.
 use std::alloc::Allocator;
-use vb_set::{BitBufferMut, BufferError, ByteBufferMut};
+use vb_set::{BitBufferMut, BufferError, ByteBufferMut, Result};
 
 /// True bits.
-pub(crate) fn ones<A: Allocator + Clone>(
-    alloc: A,
-    len: usize,
-) -> Result<BitBufferMut<A>, BufferError> {
+pub(crate) fn ones<A: Allocator + Clone>(alloc: A, len: usize) -> Result<BitBufferMut<A>> {
     BitBufferMut::new_set(alloc, len)
 }
 
@@ -17,7 +14,7 @@ pub(crate) fn window<A: Allocator + Clone>(
     (byte, count): (u8, usize),
     offset: usize,
     len: usize,
-) -> Result<BitBufferMut<A>, BufferError> {
+) -> Result<BitBufferMut<A>> {
     let bytes = ByteBufferMut::full(alloc, byte, count)?;
     let bits = bytes.len().saturating_mul(8);
     if offset <= bits && len <= bits - offset {

@@ -3,7 +3,7 @@
 use crate::compared::{equal, shows};
 use crate::made::ones;
 use std::alloc::Allocator;
-use vb_set::{BitBuffer, BitBufferMut, BufferError};
+use vb_set::{BitBuffer, BitBufferMut, BufferError, Result};
 use vb_testing::{Handle, Refusing};
 
 /// A call that makes a set to edit.
@@ -18,7 +18,7 @@ enum Open {
 }
 
 impl Open {
-    fn make<A: Allocator + Clone>(&self, alloc: A) -> Result<BitBufferMut<A>, BufferError> {
+    fn make<A: Allocator + Clone>(&self, alloc: A) -> Result<BitBufferMut<A>> {
         match self {
             Open::NewSet => BitBufferMut::new_set(alloc, 9),
             Open::NewUnset => BitBufferMut::new_unset(alloc, 9),
@@ -33,8 +33,8 @@ impl Open {
 
 /// The clone of a set that was made.
 pub(crate) fn cloned<A: Allocator + Clone>(
-    made: Result<BitBufferMut<A>, BufferError>,
-) -> Result<BitBufferMut<A>, BufferError> {
+    made: Result<BitBufferMut<A>>,
+) -> Result<BitBufferMut<A>> {
     let set = made?;
     let clone = set.clone();
     drop(set);
@@ -44,8 +44,8 @@ pub(crate) fn cloned<A: Allocator + Clone>(
 /// A copy of a shared set that was made.
 pub(crate) fn copied<A: Allocator + Clone>(
     alloc: A,
-    made: Result<BitBuffer<A>, BufferError>,
-) -> Result<BitBufferMut<A>, BufferError> {
+    made: Result<BitBuffer<A>>,
+) -> Result<BitBufferMut<A>> {
     let set = made?;
     let copy = BitBufferMut::copy_from(alloc, &set);
     drop(set);
@@ -54,8 +54,8 @@ pub(crate) fn copied<A: Allocator + Clone>(
 
 /// What is taken of a set that was made.
 pub(crate) fn taken<A: Allocator + Clone>(
-    made: Result<BitBufferMut<A>, BufferError>,
-) -> Result<BitBufferMut<A>, BufferError> {
+    made: Result<BitBufferMut<A>>,
+) -> Result<BitBufferMut<A>> {
     let mut set = made?;
     let taken = set.take();
     drop(set);
@@ -63,9 +63,7 @@ pub(crate) fn taken<A: Allocator + Clone>(
 }
 
 /// The set that was made, to be shared.
-fn frozen<A: Allocator + Clone>(
-    made: Result<BitBufferMut<A>, BufferError>,
-) -> Result<BitBuffer<A>, BufferError> {
+fn frozen<A: Allocator + Clone>(made: Result<BitBufferMut<A>>) -> Result<BitBuffer<A>> {
     made?.freeze()
 }
 

@@ -3,7 +3,7 @@ use crate::compared::{equal, shows};
 use crate::made::{ones, window};
 use std::alloc::Allocator;
 use std::process::Abort;
-use vb_set::{BitBuffer, BitBufferMut, BitBufferView, BufferError, ToBitBuffer};
+use vb_set::{BitBuffer, BitBufferMut, BitBufferView, BufferError, Result, ToBitBuffer};
 
 /// An edit of a set.
 enum Edit {
@@ -13,7 +13,7 @@ enum Edit {
 }
 
 impl Edit {
-    fn make<A: Allocator + Clone>(&self, set: &mut BitBufferMut<A>) -> Result<(), BufferError> {
+    fn make<A: Allocator + Clone>(&self, set: &mut BitBufferMut<A>) -> Result<()> {
         match self {
             Edit::Append(v) => set.append(*v),
             Edit::AppendN(v, n) => set.append_n(*v, *n),
@@ -26,7 +26,7 @@ impl Edit {
 }
 
 /// How many true bits are edited, the edits, what the last one answers, and the bits behind it.
-const EDITED: &[(usize, &[Edit], Result<(), BufferError>, &str)] = &[
+const EDITED: &[(usize, &[Edit], Result<()>, &str)] = &[
     (4, &[Edit::Append(false)], Ok(()), "11110"),
     (
         1,
@@ -45,10 +45,10 @@ const EDITED: &[(usize, &[Edit], Result<(), BufferError>, &str)] = &[
 /// Makes the edits of a row.
 fn edited<A: Allocator + Clone>(
     rt: &impl Abort,
-    made: Result<BitBufferMut<A>, BufferError>,
+    made: Result<BitBufferMut<A>>,
     edits: &[Edit],
-    last: Result<(), BufferError>,
-) -> Result<BitBuffer<A>, BufferError> {
+    last: Result<()>,
+) -> Result<BitBuffer<A>> {
     let mut set = made?;
     let mut answer = Ok(());
     for edit in edits {
@@ -109,8 +109,8 @@ fn truncate_leaves_bytes_and_clear_none(rt: HostRuntime) {
 /// Edits sixteen false bits.
 fn edited_by_view<A: Allocator + Clone>(
     rt: &impl Abort,
-    made: Result<BitBufferMut<A>, BufferError>,
-) -> Result<BitBuffer<A>, BufferError> {
+    made: Result<BitBufferMut<A>>,
+) -> Result<BitBuffer<A>> {
     let mut set = made.expect(rt, "a set");
     let mut view = set.as_mut_view();
     assert!(rt; view.len() == 16);
@@ -130,7 +130,7 @@ fn a_set_is_edited_through_a_view(rt: HostRuntime) {
     equal(&rt, shows(&rt, set, "0011100100000001"), Ok(()));
 }
 
-fn shows_ends<A: Allocator + Clone>(rt: &impl Abort, made: &Result<BitBuffer<A>, BufferError>) {
+fn shows_ends<A: Allocator + Clone>(rt: &impl Abort, made: &Result<BitBuffer<A>>) {
     if let Ok(set) = made {
         equal(rt, set.true_count(), 5);
         let ends = (set.last_set_index(), set.iter().next());
@@ -147,7 +147,7 @@ fn place(view: BitBufferView<'_>) -> (usize, usize, usize) {
 fn is_copy<A: Allocator + Clone>(
     rt: &impl Abort,
     view: BitBufferView<'_>,
-    made: Result<BitBuffer<A>, BufferError>,
+    made: Result<BitBuffer<A>>,
 ) {
     let copy = made.expect(rt, "a set");
     equal(rt, (copy.len(), copy.true_count()), (10, 0));

@@ -5,7 +5,7 @@ use crate::made::window;
 use std::alloc::Allocator;
 use std::process::Abort;
 use vb_kernel::{Tally, bit_select_by, bit_select_unset_by, count_ones_by, window_fits};
-use vb_set::{BitBuffer, BitBufferMut, BufferError};
+use vb_set::{BitBuffer, BitBufferMut, Result};
 
 /// How many true bits a tally over the bytes counts: in the window, and in its part from `start` up
 /// to `end`.
@@ -69,7 +69,7 @@ fn shared_is_tallied<A: Allocator + Clone>(
 /// two selects of a rank.
 fn answers_are_tallied<A: Allocator + Clone>(
     rt: &impl Abort,
-    made: Result<BitBufferMut<A>, BufferError>,
+    made: Result<BitBufferMut<A>>,
     part: (usize, usize),
 ) {
     let set = made.expect(rt, "a set");

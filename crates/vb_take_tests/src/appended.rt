@@ -4,7 +4,7 @@ use crate::made::bits;
 use std::alloc::Allocator;
 use std::process::Abort;
 use std::test::Fail;
-use vb_set::{BitBuffer, BitBufferMut, BufferError, ByteBufferMut};
+use vb_set::{BitBuffer, BitBufferMut, BufferError, ByteBufferMut, Result};
 use vb_testing::{Handle, Refusing};
 
 #[test]
@@ -28,10 +28,7 @@ fn stale_bits_are_written_over(rt: HostRuntime) -> Result<(), Fail> {
 }
 
 /// A set behind eleven bits, whose room is full of false bits, as all its bytes are.
-fn full_of_false<A: Allocator + Clone>(
-    rt: &impl Abort,
-    alloc: A,
-) -> Result<BitBufferMut<A>, BufferError> {
+fn full_of_false<A: Allocator + Clone>(rt: &impl Abort, alloc: A) -> Result<BitBufferMut<A>> {
     let bytes = ByteBufferMut::full(alloc, 0, 3)?;
     assert!(rt; bytes.len() == 3);
     let mut set = BitBufferMut::from_buffer(bytes, 11, 9);
@@ -47,7 +44,7 @@ fn is_clear(bytes: &[u8]) -> bool {
 
 /// Adds a set of a hundred true bits to one whose room is full of false ones. A refusal leaves the
 /// set, its bytes and its room.
-fn add_to_full<A: Allocator + Clone>(rt: &impl Abort, alloc: A) -> Result<(), BufferError> {
+fn add_to_full<A: Allocator + Clone>(rt: &impl Abort, alloc: A) -> Result<()> {
     let mut set = full_of_false(rt, alloc.clone()?)?;
     let (len, room) = (set.len(), set.capacity());
     let bytes = set.as_slice().len();

@@ -5,10 +5,10 @@ use crate::made::taken;
 use std::alloc::Global;
 use std::process::Abort;
 use std::test::Fail;
-use vb_set::{BitBuffer, BitBufferMut, BitIndex, BufferError};
+use vb_set::{BitBuffer, BitBufferMut, BitIndex, BufferError, Result};
 
 /// Bits without a pattern.
-fn scattered(alloc: Global, len: usize) -> Result<BitBuffer<Global>, BufferError> {
+fn scattered(alloc: Global, len: usize) -> Result<BitBuffer<Global>> {
     let mut set = BitBufferMut::empty(alloc);
     let mut state = 1u32;
     for _ in 0..len {
@@ -26,7 +26,7 @@ fn beside_a_loop<I: BitIndex>(
     set: &BitBuffer<Global>,
     indices: &[I],
     validity: Option<&BitBuffer<Global>>,
-) -> Result<(), BufferError> {
+) -> Result<()> {
     let made = taken(
         alloc,
         set.as_view(),
@@ -51,11 +51,7 @@ fn first<T>(items: &[T], count: usize) -> &[T] {
 }
 
 /// From 5000 bits, without validity and with it.
-fn in_blocks<I: BitIndex>(
-    rt: &impl Abort,
-    alloc: Global,
-    indices: &[I],
-) -> Result<(), BufferError> {
+fn in_blocks<I: BitIndex>(rt: &impl Abort, alloc: Global, indices: &[I]) -> Result<()> {
     let set = scattered(alloc, 5000)?;
     let validity = scattered(alloc, indices.len()).expect(rt, "memory");
     let plain = beside_a_loop(rt, alloc, &set, indices, None);

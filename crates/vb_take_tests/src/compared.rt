@@ -3,7 +3,7 @@
 use std::alloc::Allocator;
 use std::fmt::Debug;
 use std::process::Abort;
-use vb_set::{BitBuffer, BufferError};
+use vb_set::{BitBuffer, Result};
 
 /// The two values are equal.
 pub(crate) fn equal<T: Copy + PartialEq + Debug>(rt: &impl Abort, given: T, wanted: T) {
@@ -13,8 +13,8 @@ pub(crate) fn equal<T: Copy + PartialEq + Debug>(rt: &impl Abort, given: T, want
 /// The call made a set of these bits, `1` for a true one, or was refused so.
 pub(crate) fn answers<A: Allocator + Clone>(
     rt: &impl Abort,
-    made: Result<BitBuffer<A>, BufferError>,
-    wanted: Result<&str, BufferError>,
+    made: Result<BitBuffer<A>>,
+    wanted: Result<&str>,
 ) {
     match made {
         Ok(set) => {

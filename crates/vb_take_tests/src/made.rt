@@ -1,13 +1,10 @@
 //! Sets to start from, and calls on them. No clause says what they hold, since the proof of a test
 //! would search among these facts at each of its calls.
 use std::alloc::Allocator;
-use vb_set::{BitBuffer, BitBufferMut, BitBufferView, BitIndex, BufferError, take_bits};
+use vb_set::{BitBuffer, BitBufferMut, BitBufferView, BitIndex, BufferError, Result, take_bits};
 
 /// A set of these bits, `1` for a true one, behind three bits that are left out.
-pub(crate) fn bits<A: Allocator + Clone>(
-    alloc: A,
-    digits: &str,
-) -> Result<BitBuffer<A>, BufferError> {
+pub(crate) fn bits<A: Allocator + Clone>(alloc: A, digits: &str) -> Result<BitBuffer<A>> {
     let mut set = BitBufferMut::new_set(alloc, 3)?;
     for digit in digits.bytes() {
         set.append(digit == b'1')?;
@@ -15,7 +12,7 @@ pub(crate) fn bits<A: Allocator + Clone>(
     behind_three(set.freeze()?)
 }
 
-fn behind_three<A: Allocator + Clone>(set: BitBuffer<A>) -> Result<BitBuffer<A>, BufferError> {
+fn behind_three<A: Allocator + Clone>(set: BitBuffer<A>) -> Result<BitBuffer<A>> {
     if set.len() < 3 {
         return Err(BufferError::NotAligned);
     }
@@ -28,7 +25,7 @@ pub(crate) fn taken<A: Allocator + Clone, I: BitIndex>(
     bits: BitBufferView<'_>,
     indices: &[I],
     validity: Option<BitBufferView<'_>>,
-) -> Result<BitBuffer<A>, BufferError> {
+) -> Result<BitBuffer<A>> {
     match validity {
         Some(validity) if validity.len() == indices.len() => {
             take_bits(alloc, bits, indices, Some(validity))

@@ -3,7 +3,7 @@ use crate::compared::{answers, equal};
 use crate::made::taken;
 use std::alloc::Allocator;
 use std::process::Abort;
-use vb_set::{BitBuffer, BitBufferMut, BufferError};
+use vb_set::{BitBuffer, BitBufferMut, BufferError, Result};
 use vb_testing::{Handle, Refusing};
 
 /// A call that makes a set.
@@ -15,7 +15,7 @@ enum Call {
 }
 
 impl Call {
-    fn make<A: Allocator + Clone>(&self, alloc: A) -> Result<BitBuffer<A>, BufferError> {
+    fn make<A: Allocator + Clone>(&self, alloc: A) -> Result<BitBuffer<A>> {
         match self {
             Call::Take => take(alloc),
             Call::TakeValid => take_valid(alloc),
@@ -26,7 +26,7 @@ impl Call {
 }
 
 /// Takes four bits of four true ones.
-fn take<A: Allocator + Clone>(alloc: A) -> Result<BitBuffer<A>, BufferError> {
+fn take<A: Allocator + Clone>(alloc: A) -> Result<BitBuffer<A>> {
     let set = BitBuffer::new_set(alloc.clone()?, 4)?;
     let made = taken(alloc, set.as_view(), &[3u8, 2, 1, 0], None);
     drop(set);
@@ -34,7 +34,7 @@ fn take<A: Allocator + Clone>(alloc: A) -> Result<BitBuffer<A>, BufferError> {
 }
 
 /// Takes the second and the last of them.
-fn take_valid<A: Allocator + Clone>(alloc: A) -> Result<BitBuffer<A>, BufferError> {
+fn take_valid<A: Allocator + Clone>(alloc: A) -> Result<BitBuffer<A>> {
     let set = BitBuffer::from_indices(alloc.clone()?, 4, [1, 3])?;
     let made = taken(alloc, set.as_view(), &[9u8, 1, 9, 3], Some(set.as_view()));
     drop(set);
@@ -51,9 +51,9 @@ const ROWS: &[(Call, &str, u64)] = &[
 
 fn makes<A: Allocator + Clone>(
     rt: &impl Abort,
-    made: Result<BitBuffer<A>, BufferError>,
+    made: Result<BitBuffer<A>>,
     bits: &str,
-) -> Result<(), BufferError> {
+) -> Result<()> {
     let set = made?;
     answers(rt, Ok(set), Ok(bits));
     Ok(())

@@ -1,11 +1,11 @@
 //! Sets made of places: worked rows, and how far the iterator is asked.
 use crate::compared::{answers, equal};
 use std::alloc::Allocator;
-use vb_set::{BitBuffer, BitBufferMut, BufferError};
+use vb_set::{BitBuffer, BitBufferMut, BufferError, Result};
 use vb_testing::{Handle, Refusing};
 
 /// A length, places below it or not, and the bits or the refusal.
-const PLACES: &[(usize, &[usize], Result<&str, BufferError>)] = &[
+const PLACES: &[(usize, &[usize], Result<&str>)] = &[
     (4, &[1, 1, 3], Ok("0101")),
     (0, &[], Ok("")),
     (
@@ -26,7 +26,7 @@ fn made<A: Allocator + Clone>(
     is_shared: bool,
     len: usize,
     places: &[usize],
-) -> Result<BitBuffer<A>, BufferError> {
+) -> Result<BitBuffer<A>> {
     let places = places.iter().copied();
     if is_shared {
         return BitBuffer::from_indices(alloc, len, places);
@@ -57,7 +57,7 @@ fn number_left<A: Allocator + Clone>(
     (error, numbers.next())
 }
 
-fn error_of<S: Drop>(made: Result<S, BufferError>) -> Option<BufferError> {
+fn error_of<S: Drop>(made: Result<S>) -> Option<BufferError> {
     match made {
         Ok(set) => {
             drop(set);

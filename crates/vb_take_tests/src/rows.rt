@@ -3,7 +3,7 @@ use crate::compared::answers;
 use crate::made::{bits, taken};
 use std::alloc::Global;
 use std::test::Fail;
-use vb_set::{BitBuffer, BufferError};
+use vb_set::{BitBuffer, BufferError, Result};
 
 /// Indices of a type.
 enum Indices {
@@ -20,7 +20,7 @@ impl Indices {
         alloc: Global,
         set: &BitBuffer<Global>,
         validity: Option<&BitBuffer<Global>>,
-    ) -> Result<BitBuffer<Global>, BufferError> {
+    ) -> Result<BitBuffer<Global>> {
         let (from, counts) = (set.as_view(), validity.map(BitBuffer::as_view));
         match self {
             Indices::U8(indices) => taken(alloc, from, indices, counts),
@@ -32,10 +32,10 @@ impl Indices {
     }
 }
 
-const AT_0: Result<&str, BufferError> = Err(BufferError::TakeOutOfRange { position: 0 });
+const AT_0: Result<&str> = Err(BufferError::TakeOutOfRange { position: 0 });
 
 /// From which bits is taken, at which indices and with which validity, and the answer.
-const TAKEN: &[(&str, Indices, Option<&str>, Result<&str, BufferError>)] = &[
+const TAKEN: &[(&str, Indices, Option<&str>, Result<&str>)] = &[
     ("1111", Indices::U8(&[9]), None, AT_0),
     ("1", Indices::I16(&[0, -1]), Some("10"), Ok("10")),
     ("0101", Indices::I64(&[3, 0, -1]), Some("110"), Ok("100")),

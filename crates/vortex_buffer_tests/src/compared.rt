@@ -2,7 +2,7 @@
 use std::alloc::Allocator;
 use std::fmt::Debug;
 use std::process::Abort;
-use vortex_buffer::{BufferError, ByteBuffer};
+use vortex_buffer::{BufferError, ByteBuffer, Result};
 
 /// The two values are equal.
 pub fn equal<T: Copy + PartialEq + Debug>(rt: &impl Abort, given: T, wanted: T) {
@@ -12,10 +12,10 @@ pub fn equal<T: Copy + PartialEq + Debug>(rt: &impl Abort, given: T, wanted: T) 
 /// What was made has these bytes, and these alignments: the reported and the declared one.
 pub fn shows<A: Allocator>(
     rt: &impl Abort,
-    made: Result<ByteBuffer<A>, BufferError>,
+    made: Result<ByteBuffer<A>>,
     bytes: &[u8],
     alignments: (usize, usize),
-) -> Result<(), BufferError> {
+) -> Result<()> {
     let buffer = made?;
     assert_eq!(rt; buffer.as_slice(), bytes);
     let given = (buffer.alignment().as_usize(), buffer.declared().as_usize());
@@ -24,6 +24,6 @@ pub fn shows<A: Allocator>(
 }
 
 /// What a call answered, without the value.
-pub fn refusal<T: Drop>(answer: Result<T, BufferError>) -> Option<BufferError> {
+pub fn refusal<T: Drop>(answer: Result<T>) -> Option<BufferError> {
     answer.err()
 }

@@ -6,7 +6,7 @@ use std::test::Fail;
 use vb_testing::{Handle, Refusing, answers_refusal, each_refused};
 use vortex_buffer::{
     AlignedBuf, Alignment, Buffer, BufferError, BufferString, ByteBuffer, ConstBuffer,
-    ConstByteBuffer, copy_to_const_aligned,
+    ConstByteBuffer, Result, copy_to_const_aligned,
 };
 
 /// The allocator of the calls. What has a number in its type is proved for an allocator of known
@@ -29,11 +29,7 @@ enum Call {
 }
 
 impl Call {
-    fn make<'a>(
-        &self,
-        rt: &impl Abort,
-        alloc: Heap<'a>,
-    ) -> Result<ByteBuffer<Heap<'a>>, BufferError> {
+    fn make<'a>(&self, rt: &impl Abort, alloc: Heap<'a>) -> Result<ByteBuffer<Heap<'a>>> {
         match self {
             Call::FixedCopyFrom => Ok(fixed(alloc)?.into_inner()),
             Call::FixedAlignFrom => aligned(Buffer::copy_from(alloc, b"hello")?),
@@ -64,27 +60,25 @@ impl Call {
     }
 }
 
-fn fixed(alloc: Heap<'_>) -> Result<ConstByteBuffer<512, Heap<'_>>, BufferError> {
+fn fixed(alloc: Heap<'_>) -> Result<ConstByteBuffer<512, Heap<'_>>> {
     ConstBuffer::copy_from(alloc, b"hello")
 }
 
-fn aligned<'a>(bytes: ByteBuffer<Heap<'a>>) -> Result<ByteBuffer<Heap<'a>>, BufferError> {
+fn aligned<'a>(bytes: ByteBuffer<Heap<'a>>) -> Result<ByteBuffer<Heap<'a>>> {
     let fixed: ConstByteBuffer<16, Heap<'a>> = ConstBuffer::align_from(bytes)?;
     Ok(fixed.into_inner())
 }
 
-fn fixed_clone<'a>(
-    bytes: ConstByteBuffer<512, Heap<'a>>,
-) -> Result<ByteBuffer<Heap<'a>>, BufferError> {
+fn fixed_clone<'a>(bytes: ConstByteBuffer<512, Heap<'a>>) -> Result<ByteBuffer<Heap<'a>>> {
     Ok(bytes.clone()?.into_inner())
 }
 
-fn text_clone<A: Allocator + Clone>(text: BufferString<A>) -> Result<ByteBuffer<A>, BufferError> {
+fn text_clone<A: Allocator + Clone>(text: BufferString<A>) -> Result<ByteBuffer<A>> {
     Ok(text.clone()?.into_inner())
 }
 
 // What is left of "hello, world" behind a copy of its first five bytes; refused, that leaves all.
-fn left<T>(copy: &Result<T, BufferError>) -> &'static [u8] {
+fn left<T>(copy: &Result<T>) -> &'static [u8] {
     if copy.is_ok() {
         b", world"
     } else {
@@ -96,7 +90,7 @@ fn copied<A: Allocator + Clone, B: AlignedBuf + Drop>(
     rt: &impl Abort,
     alloc: A,
     mut bytes: B,
-) -> Result<ByteBuffer<A>, BufferError> {
+) -> Result<ByteBuffer<A>> {
     let sixteen = Alignment::new(16);
     if !bytes.can_advance(5) {
         return Err(BufferError::NotAligned);
@@ -106,7 +100,7 @@ fn copied<A: Allocator + Clone, B: AlignedBuf + Drop>(
     copy
 }
 
-fn fixed_copied<'a>(rt: &impl Abort, alloc: Heap<'a>) -> Result<ByteBuffer<Heap<'a>>, BufferError> {
+fn fixed_copied<'a>(rt: &impl Abort, alloc: Heap<'a>) -> Result<ByteBuffer<Heap<'a>>> {
     let mut bytes: &[u8] = b"hello, world";
     let copy = copy_to_const_aligned::<1024, _, _>(&mut bytes, alloc, 5);
     assert_eq!(rt; bytes.chunk(), left(&copy));
