@@ -1,6 +1,6 @@
 //! What the lines of an input are run on.
 ghost use Rattle.std.specs.Prelude.{◌≡◌, ◌<◌, ◌-◌, ◌^◌, ◌⊎◌, None, option_map, IfOk, IfSome};
-ghost use Rattle.std.specs.Prelude.{IsErrOf, IsSomeAnd, IsTrue};
+ghost use Rattle.std.specs.Prelude.{IsErrOf, IsSomeAnd, IsTrue, OnErr};
 ghost use Rattle.std.specs.Option.{option_copied};
 ghost use Rattle.vb_command.specs.Machine.{empty_slots};
 ghost use Rattle.vb_command.specs.Reading.{asks_memory, reading};
@@ -39,6 +39,7 @@ impl<A: Allocator + Clone> Session<A> {
             self.old.pool (option_map reply answer) self.new.pool) }
         ensures numbered { IfOk result (λ _.
             IfSome (option_copied line.entry) (λ _. number < 2 ^ 64 - 1)) }
+        ensures err { OnErr result (self.new.pool ≡ self.old.pool) }
         ensures unreadable { IsErrOf result Unread.Unreadable →
             IsSomeAnd (option_copied line.entry)
             (λ bytes. (number ≡ 2 ^ 64 - 1) ⊎ (reading bytes ≡ None)) }
