@@ -1,8 +1,8 @@
 //! A column of numbers of which some are null.
 ghost use Rattle.std.specs.Prelude.{◌≡◌, ◌^◌, ◌<◌, length, sum};
 ghost use Rattle.use_columns.specs.Columns.{AreEnds};
-ghost use Rattle.vortex_buffer.specs.Bits.{count, negated};
-ghost use Rattle.vortex_buffer.specs.Kept.{kept};
+ghost use Rattle.vortex_buffer.specs.Bits.{count, complement};
+ghost use Rattle.vortex_buffer.specs.Kept.{kept_by};
 
 use crate::masked::{masked_min_max, masked_sum};
 use std::alloc::{Allocator, Global};
@@ -66,7 +66,7 @@ impl<A: Allocator + Clone> Column<A> {
 
     /// How many values are null.
     pub fn null_count(&self) -> usize
-        ensures { result ≡ count (negated self.now.valid) }
+        ensures { result ≡ count (complement self.now.valid) }
     {
         self.valid.false_count()
     }
@@ -74,14 +74,14 @@ impl<A: Allocator + Clone> Column<A> {
     /// The sum of the values that aren't null. The column has fewer than `2^32` rows.
     pub fn sum(&self) -> u64
         requires few { length self.now.values < 2 ^ 32 }
-        ensures { result ≡ sum (kept self.now.valid self.now.values) }
+        ensures { result ≡ sum (kept_by self.now.valid self.now.values) }
     {
         masked_sum(&self.values, &self.valid)
     }
 
     /// The least and the greatest value that isn't null; `None` where all are.
     pub fn min_max(&self) -> Option<(u32, u32)>
-        ensures { AreEnds (kept self.now.valid self.now.values) result }
+        ensures { AreEnds (kept_by self.now.valid self.now.values) result }
     {
         masked_min_max(&self.values, &self.valid)
     }

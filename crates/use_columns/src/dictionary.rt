@@ -6,8 +6,8 @@ use std::alloc::Allocator;
 use vortex_buffer::{Buffer, BufferError, BufferMut, Result};
 
 /// The column whose values stand in the dictionary at the places that the codes are. Refused by
-/// `IndexOutOfRange` of the first code that is no place of the dictionary, and else by
-/// `OutOfMemory`.
+/// `IndexOutOfRange` of the first code that is no place of the dictionary, or by `OutOfMemory`,
+/// which may come first.
 pub fn decode_dictionary<A: Allocator + Clone>(
     alloc: A,
     dictionary: &[u32],

@@ -1,7 +1,7 @@
 //! The values of a column that a mask keeps: their sum, the least and the greatest of them.
 ghost use Rattle.std.specs.Prelude.{◌≡◌, ◌^◌, ◌<◌, ℕ, List, [], ◌∷◌, ◌++◌, Some, sum, length};
 ghost use Rattle.use_columns.specs.Columns.{AreEnds};
-ghost use Rattle.vortex_buffer.specs.Kept.{kept};
+ghost use Rattle.vortex_buffer.specs.Kept.{kept_by};
 
 use std::alloc::Allocator;
 use vortex_buffer::{BitBuffer, Buffer};
@@ -11,7 +11,7 @@ use vortex_buffer::{BitBuffer, Buffer};
 pub fn masked_sum<A: Allocator + Clone>(values: &Buffer<u32, A>, valid: &BitBuffer<A>) -> u64
     requires same_len { length valid.now.bits ≡ length values.now.list }
     requires few { length values.now.list < 2 ^ 32 }
-    ensures { result ≡ sum (kept valid.now.bits values.now.list) }
+    ensures { result ≡ sum (kept_by valid.now.bits values.now.list) }
 {
     let items = values.as_slice();
     let mut sum = 0;
@@ -27,7 +27,7 @@ pub fn masked_min_max<A: Allocator + Clone>(
     valid: &BitBuffer<A>,
 ) -> Option<(u32, u32)>
     requires same_len { length valid.now.bits ≡ length values.now.list }
-    ensures { AreEnds (kept valid.now.bits values.now.list) result }
+    ensures { AreEnds (kept_by valid.now.bits values.now.list) result }
 {
     let items = values.as_slice();
     let mut ends = None;

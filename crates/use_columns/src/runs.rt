@@ -1,7 +1,7 @@
 //! A column that is stored as its runs.
 ghost use Rattle.std.specs.Prelude.{◌≡◌};
-ghost use Rattle.vortex_buffer.specs.Answers.{Makes};
-ghost use Rattle.use_columns.specs.Decoded.{decoded};
+ghost use Rattle.vortex_buffer.specs.Makes.{Makes};
+ghost use Rattle.use_columns.specs.Decoded.{run_values};
 
 use std::alloc::Allocator;
 use vortex_buffer::{Buffer, BufferMut, Result};
@@ -17,7 +17,7 @@ pub struct Run {
 
 /// The column of these runs, one after the other. Refused by `OutOfMemory`.
 pub fn decode_runs<A: Allocator + Clone>(alloc: A, runs: &[Run]) -> Result<Buffer<u32, A>>
-    ensures { Makes (λ column. column.list ≡ decoded runs.now) result }
+    ensures { Makes (λ column. column.list ≡ run_values runs.now) result }
 {
     let mut column = BufferMut::empty(alloc);
     for run in runs {

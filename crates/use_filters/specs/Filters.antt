@@ -10,7 +10,7 @@ is_met (AtLeast number) value = nat_le number value
 is_met (Equals number) value = value == number
 
 -- the rows that are valid and whose value passes the test
-abbrev pub matched : (ℕ → Bool) → List Bool → List ℕ → List Bool
-matched test [] values = []
-matched test (bit ∷ bits) [] = []
-matched test (bit ∷ bits) (value ∷ values) = (test value && bit) ∷ matched test bits values
+abbrev pub matches_of : (ℕ → Bool) → List Bool → List ℕ → List Bool
+matches_of test [] values = []
+matches_of test (bit ∷ bits) [] = []
+matches_of test (bit ∷ bits) (value ∷ values) = (test value && bit) ∷ matches_of test bits values

@@ -1,8 +1,8 @@
 //! A filter over a column of numbers, some of which may be null.
 ghost use Rattle.std.specs.Prelude.{◌≡◌, length, map, filter};
-ghost use Rattle.use_filters.specs.Filters.{is_met, matched};
-ghost use Rattle.vortex_buffer.specs.Answers.{Makes};
-ghost use Rattle.vortex_buffer.specs.Kept.{kept};
+ghost use Rattle.use_filters.specs.Filters.{is_met, matches_of};
+ghost use Rattle.vortex_buffer.specs.Makes.{Makes};
+ghost use Rattle.vortex_buffer.specs.Kept.{kept_by};
 
 use crate::condition::Condition;
 use std::alloc::Allocator;
@@ -34,7 +34,7 @@ pub fn matching_rows<A: Allocator + Clone>(
 ) -> Result<BitBuffer<A>>
     requires { length valid.now.bits ≡ length values.now.list }
     ensures { Makes (λ rows. rows.bits
-        ≡ matched (is_met condition) valid.now.bits values.now.list) result }
+        ≡ matches_of (is_met condition) valid.now.bits values.now.list) result }
 {
     rows_where(alloc, values, condition)? & valid
 }
@@ -48,7 +48,7 @@ pub fn filtered<A: Allocator + Clone>(
 ) -> Result<Buffer<u32, A>>
     requires { length valid.now.bits ≡ length values.now.list }
     ensures { Makes (λ found. found.list
-        ≡ filter (is_met condition) (kept valid.now.bits values.now.list)) result }
+        ≡ filter (is_met condition) (kept_by valid.now.bits values.now.list)) result }
 {
     let rows = matching_rows(alloc, values, valid, condition)?;
     let found = values.filtered(rows.as_view());

@@ -1,6 +1,6 @@
 //! Buffers of what adapters of iterators give, whose length is known.
 ghost use Rattle.std.specs.Prelude.{◌≡◌, ◌/◌, length, map, drop};
-ghost use Rattle.vortex_buffer.specs.Answers.{Makes};
+ghost use Rattle.vortex_buffer.specs.Makes.{Makes};
 ghost use Rattle.use_kernels.specs.Sequences.{greater_of};
 
 use std::alloc::Allocator;

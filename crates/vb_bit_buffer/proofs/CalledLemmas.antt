@@ -11,7 +11,7 @@ use Rattle.std.proofs.lemmas.List.{length-map, get_or-map, append-nil}
 use Rattle.std.proofs.lemmas.List.Elements.{filter-append}
 use Rattle.std.proofs.lemmas.Nat.{and_le_r}
 use Rattle.std.proofs.lemmas.Nat.Bits.{bit_at-trailing_zeros, bit_at_above, bit_at_ones}
-use Rattle.vb_bits.specs.Bits.{at, bit_of, bits, holes, negated, places}
+use Rattle.vb_bits.specs.Bits.{at, bit_of, bits, holes, complement, places}
 use Rattle.vb_bits.specs.Digits.{digits, has_bit}
 use Rattle.vb_bits.proofs.BitsLemmas.{length-bits, at-bits}
 use Rattle.vb_bits.proofs.DigitsLemmas.{at-digits, has_bit-and, has_bit-bit_not}
@@ -57,7 +57,7 @@ places_in-holes b o n =
     same_filter-range_with_len (λ i. not (bit_of b (o + i))) (at (negated l)) 0 n
     (λ i lo hi. sym (get_or-map not l i false false (omega (arith, length-bits b o n))
     ∙ ap not (at-bits b o n i false (omega arith))))
-    ∙ ap (λ k. filter (at (negated l)) (range_with_len 0 k)) (sym long)
+    ∙ ap (λ k. filter (at (complement l)) (range_with_len 0 k)) (sym long)
 
 -- ---- places whose bit is a given value
 -- a bit of the other value

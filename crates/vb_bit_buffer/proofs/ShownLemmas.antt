@@ -6,7 +6,7 @@ use Rattle.std.proofs.lemmas.List.{take_more, append-nil, length-take, take_min}
 use Rattle.std.proofs.lemmas.Grind.{flat_map-append}
 use Rattle.std.proofs.lemmas.Option.{get_or_from_slice_get}
 use Rattle.std.specs.List.{flat_map}
-use Rattle.vb_bits.specs.Shown.{truth_word, truth_words, shown}
+use Rattle.vb_bits.specs.Shown.{truth_word, truth_words, bits_text}
 
 -- nothing stands in front of the first word, and a comma and a space in front of each other one
 words_push : (xs : List Bool) (b : Bool) (gap : List ℕ) → (length xs ≡ 0 → gap ≡ [])
@@ -33,8 +33,8 @@ words_more xs i b gap s h first other =
 -- the head, the first words and the tail, as they are written one after the other
 pub shown_parts : (xs : List Bool) (i : ℕ) → i ≡ min 16 (length xs)
     → ((codes "BitBuffer { len: " ++ (decimal (length xs) ++ codes ", buffer: ["))
-    ++ truth_words (take i xs)) ++ codes "] }" ≡ shown xs
-unfolding shown
+    ++ truth_words (take i xs)) ++ codes "] }" ≡ bits_text xs
+unfolding bits_text
 shown_parts xs i e =
     let head : List ℕ =
     codes "BitBuffer { len: " ++ (decimal (length xs) ++ codes ", buffer: [") in

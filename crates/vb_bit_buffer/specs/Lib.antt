@@ -9,7 +9,7 @@ pub use Rattle.vb_bits.specs.InBytes
 pub use Rattle.vb_bits.specs.Operators
 pub use Rattle.vb_bits.specs.Runs
 pub use Rattle.vb_bits.specs.Shown
-pub use Rattle.vb_mem.specs.Answers
+pub use Rattle.vb_mem.specs.Makes
 pub use Rattle.vb_mem.specs.Collected
 pub use Rattle.vb_mem.specs.SharedBuffer
 pub use Rattle.vb_pack.specs.Asked

@@ -4,10 +4,10 @@ ghost use Rattle.std.specs.Prelude.{ℕ, [], true, false, length, take, drop, re
 ghost use Rattle.std.specs.Prelude.{slice_get, slice_range, IsSome, IfSome, IfOk, IsOkUnless};
 ghost use Rattle.std.specs.Int.{div_ceil};
 ghost use Rattle.vb_bit_buffer.specs.SharedSet.{IsFreshSet, SharesFrom};
-ghost use Rattle.vb_bits.specs.Bits.{bits, count, negated, places, Selects, AnswersEach};
+ghost use Rattle.vb_bits.specs.Bits.{bits, count, complement, places, Selects, InvertsCount};
 ghost use Rattle.vb_bits.specs.InBytes.{InBytes};
 ghost use Rattle.vb_bits.specs.Runs.{last_place, runs};
-ghost use Rattle.vb_mem.specs.Answers.{Makes};
+ghost use Rattle.vb_mem.specs.Makes.{Makes};
 ghost use Rattle.vb_view.specs.View.{bits_of, offset_of, bytes_of};
 ghost use Rattle.vb_view.specs.Windows.{IsWindow};
 ghost use Rattle.vb_walk.specs.Cut.{IsCut};
@@ -307,7 +307,7 @@ impl<A: Allocator + Clone> BitBuffer<A> {
 
     /// How many bits are false, at the cost of [`true_count`](Self::true_count).
     pub fn false_count(&self) -> usize
-        ensures { result ≡ count (negated self.now.bits) }
+        ensures { result ≡ count (complement self.now.bits) }
     {
         self.as_view().false_count()
     }
@@ -328,7 +328,7 @@ impl<A: Allocator + Clone> BitBuffer<A> {
     /// counts from the front, 64 bytes at a time, up to the bytes that have it.
     pub fn select(&self, n: usize) -> Option<usize>
         ensures place { Selects self.now.bits n result }
-        ensures each { AnswersEach self.now.bits n result }
+        ensures each { InvertsCount self.now.bits n result }
     {
         self.as_view().select(n)
     }
@@ -336,8 +336,8 @@ impl<A: Allocator + Clone> BitBuffer<A> {
     /// The place of the `n`-th false bit, counted from 0; `None` where at most `n` bits are false,
     /// at the cost of [`select`](Self::select).
     pub fn select_unset(&self, n: usize) -> Option<usize>
-        ensures place { Selects (negated self.now.bits) n result }
-        ensures each { AnswersEach (negated self.now.bits) n result }
+        ensures place { Selects (complement self.now.bits) n result }
+        ensures each { InvertsCount (complement self.now.bits) n result }
     {
         self.as_view().select_unset(n)
     }

@@ -1,7 +1,7 @@
 //! Views copied into sets.
 ghost use Rattle.std.specs.Prelude.{Bool, List};
 ghost use Rattle.vb_bit_buffer.specs.SharedSet.{HoldsAlone};
-ghost use Rattle.vb_mem.specs.Answers.{Makes};
+ghost use Rattle.vb_mem.specs.Makes.{Makes};
 ghost use Rattle.vb_view.specs.MutView.{mut_bits_of};
 ghost use Rattle.vb_view.specs.View.{bits_of};
 

@@ -1,7 +1,7 @@
 -- What writes of bits make of byte buffers.
 use Rattle.std.proofs.Common.{◌≡◌, ℕ, List, ap, sym, ◌∙◌}
 use Rattle.vb_bits.specs.Bits.{bits}
-use Rattle.vb_bits.specs.Operators.{bit_op, combined}
+use Rattle.vb_bits.specs.Operators.{bit_op, combined_by}
 use Rattle.vb_bits.specs.Writes.{Writes}
 use Rattle.vb_bits.specs.declared.zip.BitOp.{BitOp}
 use Rattle.vb_bits.proofs.BitsLemmas.{length-bits}
@@ -10,9 +10,10 @@ use Rattle.vb_bits.proofs.WindowLemmas.{windows}
 use Rattle.vb_bits.proofs.WritesLemmas.{writes}
 
 -- a window combined with another one
-pub bits-combined : (op : BitOp) (b c r : List ℕ) (o p n : ℕ) → Writes b c o
-    (combined op (bits b o n) (bits r p n)) → bits c o n ≡ combined op (bits b o n) (bits r p n)
-bits-combined op b c r o p n w =
+pub bits-combined_by : (op : BitOp) (b c r : List ℕ) (o p n : ℕ) → Writes b c o
+    (combined_by op (bits b o n) (bits r p n))
+    → bits c o n ≡ combined_by op (bits b o n) (bits r p n)
+bits-combined_by op b c r o p n w =
     ap (bits c o) (sym (length-merged_bits (bit_op op) b r o p n)) ∙ w.window
 
 -- a window copied from another one
@@ -20,4 +21,4 @@ pub bits-copied : (b c r : List ℕ) (o p n : ℕ) → Writes b c o (bits r p n)
 bits-copied b c r o p n w = ap (bits c o) (sym (length-bits r p n)) ∙ w.window
 
 -- ---- for `#[tactic(auto, using(..))]`
-pub ruleset edits = (windows, writes, bits-combined, bits-copied)
+pub ruleset edits = (windows, writes, bits-combined_by, bits-copied)

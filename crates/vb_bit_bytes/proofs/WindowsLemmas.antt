@@ -6,14 +6,14 @@ use Rattle.std.proofs.lemmas.Bool.{cases_lt}
 use Rattle.std.proofs.lemmas.List.{length-append, get_or-take, get_or-drop, get_or-append_right}
 use Rattle.vb_bits.specs.Bits.{bit_of, bits}
 use Rattle.vb_bits.specs.Digits.{has_bit}
-use Rattle.vb_bits.specs.Writes.{Writes, lengthened}
+use Rattle.vb_bits.specs.Writes.{Writes, extension}
 use Rattle.vb_bits.proofs.BitsLemmas.{length-bits, at-bits}
 use Rattle.vb_bits.proofs.WindowLemmas.{bit_of-append}
 use Rattle.vb_bits.proofs.WritesLemmas.{Writes-at, Writes_behind}
 
 -- bytes are added, and a window is written that ends in them
 pub Writes-pushed : (b x more c : List ℕ) (o : ℕ) (m : List Bool) → more ≡ b ++ x → o ≤ 8 * length b
-    → 8 * length b ≤ o + length m → Writes more c o m → Writes (lengthened b c) c o m
+    → 8 * length b ≤ o + length m → Writes more c o m → Writes (extension b c) c o m
 Writes-pushed b x more c o m is low high w =
     Writes_behind b c o m (omega (arith, w.same_len, ap length is, length-append b x)) low high
     (λ i h. w.others i (inl h) ∙ ap (λ y. bit_of y i) is ∙ bit_of-append b x i (omega arith))
@@ -23,7 +23,7 @@ Writes-pushed b x more c o m is low high w =
 pub Writes-pushed_bytes : (b source more c : List ℕ) (o s n t from end : ℕ)
     → more ≡ b ++ slice_range source from end → o + t ≡ 8 * length b → s + t ≡ 8 * from
     → t ≤ n → o + n ≤ 8 * (length b + (end - from)) → end ≤ length source → from ≤ end
-    → Writes more c o (bits source s t) → Writes (lengthened b c) c o (bits source s n)
+    → Writes more c o (bits source s t) → Writes (extension b c) c o (bits source s n)
 Writes-pushed_bytes b source more c o s n t from end is at place some enough within order w =
     let x : List ℕ = slice_range source from end in
     let part : length (bits source s t) ≡ t = length-bits source s t in

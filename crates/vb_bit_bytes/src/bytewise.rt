@@ -4,7 +4,7 @@ ghost use Rattle.std.specs.Prelude.{length, IfOk, IsOkUnless};
 ghost use Rattle.std.specs.Int.{div_ceil};
 ghost use Rattle.vb_bits.specs.Bits.{bits};
 ghost use Rattle.vb_bits.specs.InBytes.{InBytes};
-ghost use Rattle.vb_bits.specs.Operators.{combined, merged};
+ghost use Rattle.vb_bits.specs.Operators.{combined_by, merged_by};
 ghost use Rattle.vb_mem.specs.OpenBuffer.{HasRoom};
 
 use crate::edit::combine;
@@ -34,7 +34,7 @@ pub fn combine_into<A: Allocator + Clone>(
     requires window { InBytes left.now l len }
     requires right { InBytes right.now r len }
     ensures bits { IfOk result (λ b. bits b.list l len
-        ≡ combined op (bits left.now l len) (bits right.now r len)) }
+        ≡ combined_by op (bits left.now l len) (bits right.now r len)) }
     ensures len { IfOk result (λ b. length b.list ≡ div_ceil (l + len) 8) }
     ensures alignment { IfOk result (λ b. b.alignment ≡ room.alignment) }
     ensures refused { IsOkUnless result BufferError.OutOfMemory }
@@ -60,7 +60,7 @@ fn push_combined<A: Allocator + Clone>(
     requires room { HasRoom room (length left.now) }
     requires same_len { length right.now ≡ length left.now }
     ensures bits { (o n : ℕ) → o + n ≤ 8 * length left.now → bits result.list o n
-        ≡ combined op (bits left.now o n) (bits right.now o n) }
+        ≡ combined_by op (bits left.now o n) (bits right.now o n) }
     ensures len { length result.list ≡ length left.now }
     ensures alignment { result.alignment ≡ room.alignment }
 {
@@ -85,7 +85,7 @@ fn push_bytes<M: Merge, A: Allocator + Clone>(
     requires room { HasRoom room (length left.now) }
     requires same_len { length right.now ≡ length left.now }
     ensures bits { (o n : ℕ) → o + n ≤ 8 * length left.now → bits result.list o n
-        ≡ merged (M.bit) (bits left.now o n) (bits right.now o n) }
+        ≡ merged_by (M.bit) (bits left.now o n) (bits right.now o n) }
     ensures len { length result.list ≡ length left.now }
     ensures alignment { result.alignment ≡ room.alignment }
 {

@@ -1,9 +1,9 @@
 //! Edits in place.
 ghost use Rattle.std.specs.Prelude.{◌≡◌, ◌+◌, ◌-◌, ◌*◌, ◌/◌, ◌^◌, ◌<◌, ◌≤◌, [], ◌∷◌};
 ghost use Rattle.std.specs.Prelude.{length, replicate};
-ghost use Rattle.vb_bits.specs.Bits.{bits, negated};
+ghost use Rattle.vb_bits.specs.Bits.{bits, complement};
 ghost use Rattle.vb_bits.specs.InBytes.{InBytes};
-ghost use Rattle.vb_bits.specs.Operators.{combined};
+ghost use Rattle.vb_bits.specs.Operators.{combined_by};
 ghost use Rattle.vb_bits.specs.Writes.{Writes};
 
 use std::alloc::Allocator;
@@ -33,7 +33,7 @@ pub fn fill<A: Allocator + Clone>(bytes: &mut ByteBufferMut<A>, start: usize, en
 pub fn negate<A: Allocator + Clone>(bytes: &mut ByteBufferMut<A>, offset: usize, len: usize)
     requires window { InBytes bytes.old.list offset len }
     ensures bits { Writes bytes.old.list bytes.new.list offset
-        (negated (bits bytes.old.list offset len)) }
+        (complement (bits bytes.old.list offset len)) }
     ensures keeps { bytes.new ≡ record bytes.old { list = bytes.new.list } }
 {
     map_words(bytes.as_mut_slice(), offset, len);
@@ -52,7 +52,7 @@ pub fn combine<A: Allocator + Clone>(
     requires window { InBytes bytes.old.list offset len }
     requires right { InBytes right.now start len }
     ensures bits { Writes bytes.old.list bytes.new.list offset
-        (combined op (bits bytes.old.list offset len) (bits right.now start len)) }
+        (combined_by op (bits bytes.old.list offset len) (bits right.now start len)) }
     ensures keeps { bytes.new ≡ record bytes.old { list = bytes.new.list } }
 {
     zip_words(bytes.as_mut_slice(), offset, right, start, len, op);

@@ -2,7 +2,7 @@
 ghost use Rattle.std.specs.Prelude.{◌≡◌, ◌+◌, ◌*◌, ◌^◌, ◌<◌, ◌≤◌, [], ◌∷◌};
 ghost use Rattle.std.specs.Prelude.{length, max, replicate, IsOk, IsOkUnless, OnOk, OnErr};
 ghost use Rattle.std.specs.Int.{div_ceil};
-ghost use Rattle.vb_bits.specs.Writes.{Writes, lengthened};
+ghost use Rattle.vb_bits.specs.Writes.{Writes, extension};
 
 use crate::edit::{fill, write_bit};
 use crate::make::byte_of;
@@ -24,7 +24,7 @@ pub fn push_bit<A: Allocator + Clone>(
     requires { end ≤ 8 * length bytes.old.list }
     ensures len { OnOk result (length bytes.new.list
         ≡ max (length bytes.old.list) (div_ceil (end + 1) 8)) }
-    ensures bits { OnOk result (Writes (lengthened bytes.old.list bytes.new.list) bytes.new.list
+    ensures bits { OnOk result (Writes (extension bytes.old.list bytes.new.list) bytes.new.list
         end (v ∷ [])) }
     ensures alignment { bytes.new.alignment ≡ bytes.old.alignment }
     ensures room { bytes.old.room ≤ bytes.new.room }
@@ -56,7 +56,7 @@ pub fn push_bits<A: Allocator + Clone>(
     requires fits { start + n < 2 ^ 64 }
     ensures len { OnOk result (length bytes.new.list
         ≡ max (length bytes.old.list) (div_ceil (start + n) 8)) }
-    ensures bits { OnOk result (Writes (lengthened bytes.old.list bytes.new.list) bytes.new.list
+    ensures bits { OnOk result (Writes (extension bytes.old.list bytes.new.list) bytes.new.list
         start (replicate n v)) }
     ensures alignment { bytes.new.alignment ≡ bytes.old.alignment }
     ensures room { bytes.old.room ≤ bytes.new.room }

@@ -4,7 +4,7 @@ ghost use Rattle.std.specs.Prelude.{length, max, IsOk, IsOkUnless, OnOk, OnErr};
 ghost use Rattle.std.specs.Int.{div_ceil};
 ghost use Rattle.vb_bits.specs.Bits.{bits};
 ghost use Rattle.vb_bits.specs.InBytes.{InBytes};
-ghost use Rattle.vb_bits.specs.Writes.{Writes, lengthened};
+ghost use Rattle.vb_bits.specs.Writes.{Writes, extension};
 
 use crate::edit::copy;
 use std::alloc::Allocator;
@@ -30,7 +30,7 @@ pub fn push_window<A: Allocator + Clone>(
     requires source { InBytes source.now offset n }
     ensures len { OnOk result (length bytes.new.list
         ≡ max (length bytes.old.list) (div_ceil (start + n) 8)) }
-    ensures bits { OnOk result (Writes (lengthened bytes.old.list bytes.new.list) bytes.new.list
+    ensures bits { OnOk result (Writes (extension bytes.old.list bytes.new.list) bytes.new.list
         start (bits source.now offset n)) }
     ensures alignment { bytes.new.alignment ≡ bytes.old.alignment }
     ensures room { bytes.old.room ≤ bytes.new.room }

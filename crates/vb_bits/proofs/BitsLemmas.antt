@@ -8,7 +8,7 @@ use Rattle.std.proofs.lemmas.List.FromFn.{take-map-range_with_len, map-range_wit
 use Rattle.std.proofs.lemmas.List.Sums.{sum_by-append, sum_by_push, sum_by-cons, sum_by-take-le}
 use Rattle.std.proofs.lemmas.List.Sums.{count_by-le-length, count_by_more_yes}
 use Rattle.std.proofs.lemmas.Bool.{cases_order, cond_both, cond-true, cond-false}
-use Rattle.vb_bits.specs.Bits.{bit_of, bits, at, count, negated, Selects, AnswersEach}
+use Rattle.vb_bits.specs.Bits.{bit_of, bits, at, count, complement, Selects, InvertsCount}
 use Rattle.vb_bits.proofs.RangeLemmas.{map-range_with_len-add, same_map-range_with_len}
 
 -- ---- windows
@@ -87,20 +87,20 @@ count-take-lt l i h t = omega (arith, count-take_more l i h t, count-take-le (i 
 
 -- ---- values negated
 -- a value negated
-pub at-negated : (l : List Bool) (i : ℕ) → i < length l → at (negated l) i ≡ not (at l i)
-at-negated l i h = get_or-map not l i false false h
+pub at-complement : (l : List Bool) (i : ℕ) → i < length l → at (complement l) i ≡ not (at l i)
+at-complement l i h = get_or-map not l i false false h
 
 -- the front of a list negated
-pub take-negated : (l : List Bool) (i : ℕ) → take i (negated l) ≡ negated (take i l)
-take-negated l i = take-map not i l
+pub take-complement : (l : List Bool) (i : ℕ) → take i (complement l) ≡ complement (take i l)
+take-complement l i = take-map not i l
 
 -- the true and the false values are all values
-pub count-negated : (l : List Bool) → count (negated l) + count l ≡ length l
-count-negated [] = refl
-count-negated (true ∷ l) =
-    rw (count-cons true l, count-cons false (negated l)) (omega (arith, count-negated l))
-count-negated (false ∷ l) =
-    rw (count-cons false l, count-cons true (negated l)) (omega (arith, count-negated l))
+pub count-complement : (l : List Bool) → count (complement l) + count l ≡ length l
+count-complement [] = refl
+count-complement (true ∷ l) =
+    rw (count-cons true l, count-cons false (complement l)) (omega (arith, count-complement l))
+count-complement (false ∷ l) =
+    rw (count-cons false l, count-cons true (complement l)) (omega (arith, count-complement l))
 
 -- ---- counts of windows
 -- the count of a window of no bits
@@ -123,19 +123,19 @@ pub count-bits-le : (b : List ℕ) (o n : ℕ) → count (bits b o n) ≤ n
 count-bits-le b o n = omega (arith, count-le (bits b o n), length-bits b o n)
 
 -- the false bits of a window of no bits
-pub count-negated_none : (b : List ℕ) (o : ℕ) → count (negated (bits b o 0)) ≡ 0
-count-negated_none b o = ap (λ l. count (negated l)) (bits_none b o)
+pub count-complement_none : (b : List ℕ) (o : ℕ) → count (complement (bits b o 0)) ≡ 0
+count-complement_none b o = ap (λ l. count (complement l)) (bits_none b o)
 
 -- the false bits of a window that is longer by one bit
-pub count-negated_more : (b : List ℕ) (o n : ℕ) → count (negated (bits b o (n + 1)))
-    ≡ count (negated (bits b o n)) + cond (bit_of b (o + n)) 0 1
-count-negated_more b o n =
-    let longer = count-negated (bits b o (n + 1)) in
-    let shorter = count-negated (bits b o n) in
+pub count-complement_more : (b : List ℕ) (o n : ℕ) → count (complement (bits b o (n + 1)))
+    ≡ count (complement (bits b o n)) + cond (bit_of b (o + n)) 0 1
+count-complement_more b o n =
+    let longer = count-complement (bits b o (n + 1)) in
+    let shorter = count-complement (bits b o n) in
     let more = count-bits_more b o n in
     let m = length-bits b o (n + 1) in let k = length-bits b o n in
     cond_both (bit_of b (o + n)) 0 1
-    (λ x. count (negated (bits b o (n + 1))) ≡ count (negated (bits b o n)) + x)
+    (λ x. count (complement (bits b o (n + 1))) ≡ count (complement (bits b o n)) + x)
     (λ t. let one : cond (bit_of b (o + n)) 1 0 ≡ 1 =
     cond-true {A = ℕ} (bit_of b (o + n)) 1 0 t in omega arith)
     (λ t. let none : cond (bit_of b (o + n)) 1 0 ≡ 0 =
@@ -152,9 +152,10 @@ same_place l i j hi ti hj tj e =
     other)) (cases_order i j)
 
 -- what selects a rank is the answer at each place of that rank
-pub Selects-AnswersEach : (l : List Bool) (n : ℕ) (r : Option ℕ) → Selects l n r → AnswersEach l n r
-Selects-AnswersEach l n None s i h t e = absurd (omega (arith, count-take-lt l i h t))
-Selects-AnswersEach l n (Some p) s i h t e = ap Some (same_place l p i s.0 s.1 h t (s.2 ∙ sym e))
+pub Selects-InvertsCount : (l : List Bool) (n : ℕ) (r : Option ℕ)
+    → Selects l n r → InvertsCount l n r
+Selects-InvertsCount l n None s i h t e = absurd (omega (arith, count-take-lt l i h t))
+Selects-InvertsCount l n (Some p) s i h t e = ap Some (same_place l p i s.0 s.1 h t (s.2 ∙ sym e))
 
 -- ---- for `#[tactic(auto, using(..))]`
 -- loops over the bits of a window
@@ -165,9 +166,9 @@ pub ruleset windows = (
   length-bits,
   at-bits,
   take-bits,
-  count-negated_more,
-  count-negated_none,
-  at-negated,
-  take-negated,
+  count-complement_more,
+  count-complement_none,
+  at-complement,
+  take-complement,
   length-map,
 )

@@ -14,7 +14,7 @@ use Rattle.std.proofs.lemmas.Nat.{ones_le_self, shr_split, shr-shr, mod_below, p
 use Rattle.std.proofs.lemmas.Nat.{one_shl}
 use Rattle.std.proofs.Math.Nat.{pow-suc}
 use Rattle.std.proofs.lemmas.Bool.{cond_both, eqb-true, eqb-false}
-use Rattle.vb_bits.specs.Bits.{count, negated}
+use Rattle.vb_bits.specs.Bits.{count, complement}
 use Rattle.vb_bits.specs.Digits.{has_bit, digits}
 use Rattle.vb_bits.proofs.BitsLemmas.{count-cons, count-append}
 use Rattle.vb_bits.proofs.RangeLemmas.{map-range_with_len-add, same_map-range_with_len}
@@ -119,16 +119,16 @@ ones_masked w a k h = ap count_ones (masked w a k h) ∙ sym (count-digits w a k
 pub has_bit-bit_not : (v : Width) (w i : ℕ) → w < 2 ^ width v → i < width v
     → has_bit (bit_not v w) i ≡ not (has_bit w i)
 has_bit-bit_not v w i small h =
-    ap (λ x. eqb x 1) (bit_at_not v w i small h) ∙ negated_digit (bit_at w i) (bit_at-lt w i)
+    ap (λ x. eqb x 1) (bit_at_not v w i small h) ∙ complement_digit (bit_at w i) (bit_at-lt w i)
   where
-    negated_digit : (x : ℕ) → x < 2 → eqb (1 - x) 1 ≡ not (eqb x 1)
-    negated_digit zero h = refl
-    negated_digit (suc zero) h = refl
-    negated_digit (suc (suc x)) h = absurd (omega arith)
+    complement_digit : (x : ℕ) → x < 2 → eqb (1 - x) 1 ≡ not (eqb x 1)
+    complement_digit zero h = refl
+    complement_digit (suc zero) h = refl
+    complement_digit (suc (suc x)) h = absurd (omega arith)
 
 -- the digits of a number negated
 pub digits-bit_not : (v : Width) (w a k : ℕ)
-    → w < 2 ^ width v → a + k ≤ width v → digits (bit_not v w) a k ≡ negated (digits w a k)
+    → w < 2 ^ width v → a + k ≤ width v → digits (bit_not v w) a k ≡ complement (digits w a k)
 digits-bit_not v w a k small within =
     same_lists _ _ (length-digits (bit_not v w) a k
     ∙ sym (length-map (digits w a k) not ∙ length-digits w a k))

@@ -6,7 +6,7 @@ use Rattle.std.proofs.lemmas.List.{length-map}
 use Rattle.std.proofs.lemmas.List.Elements.{All-head, All-tail}
 use Rattle.std.proofs.lemmas.List.Sums.{sum-map, sum_by-cons}
 use Rattle.vb_bits.specs.Bits.{count, places}
-use Rattle.vb_bits.specs.Kept.{kept}
+use Rattle.vb_bits.specs.Kept.{kept_by}
 use Rattle.vb_bits.proofs.PlacesLemmas.{places_none, places_cons, length-places}
 
 module _ {T : Type 0} (d : T) where
@@ -22,7 +22,7 @@ module _ {T : Type 0} (d : T) where
 
   -- the values at the true places
   pub map-places : (bits : List Bool) (xs : List T)
-      → length bits ≡ length xs → map (λ i. get_or xs i d) (places bits) ≡ kept bits xs
+      → length bits ≡ length xs → map (λ i. get_or xs i d) (places bits) ≡ kept_by bits xs
   map-places [] xs same = rw places_none refl
   map-places (b ∷ bits) [] same = absurd (omega arith)
   map-places (true ∷ bits) (x ∷ xs) same = rw places_cons
@@ -31,38 +31,38 @@ module _ {T : Type 0} (d : T) where
       rw places_cons (shifted x xs (places bits) ∙ map-places bits xs (omega arith))
 
   -- as many as there are true bits
-  pub length-kept : (bits : List Bool) (xs : List T)
-      → length bits ≡ length xs → length (kept bits xs) ≡ count bits
-  length-kept bits xs same = ap length (sym (map-places bits xs same))
+  pub length-kept_by : (bits : List Bool) (xs : List T)
+      → length bits ≡ length xs → length (kept_by bits xs) ≡ count bits
+  length-kept_by bits xs same = ap length (sym (map-places bits xs same))
       ∙ length-map (places bits) (λ i. get_or xs i d) ∙ length-places bits
 
 -- of two lists, one after the other
-pub kept-append : {T : Type 0} (k l : List Bool) (xs ys : List T) → length k ≡ length xs
-    → kept (k ++ l) (xs ++ ys) ≡ kept k xs ++ kept l ys
-kept-append [] l [] ys same = refl
-kept-append [] l (x ∷ xs) ys same = absurd (omega arith)
-kept-append (b ∷ k) l [] ys same = absurd (omega arith)
-kept-append (true ∷ k) l (x ∷ xs) ys same =
-    ap (λ zs. x ∷ zs) (kept-append k l xs ys (omega arith))
-kept-append (false ∷ k) l (x ∷ xs) ys same = kept-append k l xs ys (omega arith)
+pub kept_by-append : {T : Type 0} (k l : List Bool) (xs ys : List T) → length k ≡ length xs
+    → kept_by (k ++ l) (xs ++ ys) ≡ kept_by k xs ++ kept_by l ys
+kept_by-append [] l [] ys same = refl
+kept_by-append [] l (x ∷ xs) ys same = absurd (omega arith)
+kept_by-append (b ∷ k) l [] ys same = absurd (omega arith)
+kept_by-append (true ∷ k) l (x ∷ xs) ys same =
+    ap (λ zs. x ∷ zs) (kept_by-append k l xs ys (omega arith))
+kept_by-append (false ∷ k) l (x ∷ xs) ys same = kept_by-append k l xs ys (omega arith)
 
 -- the sum of the numbers at the true places
 pub sum_by-places : (bits : List Bool) (xs : List ℕ)
-    → length bits ≡ length xs → sum_by (slice_index xs) (places bits) ≡ sum (kept bits xs)
+    → length bits ≡ length xs → sum_by (slice_index xs) (places bits) ≡ sum (kept_by bits xs)
 sum_by-places bits xs same = sym (sum-map (slice_index xs) (places bits))
     ∙ ap (λ (l : List ℕ). sum l) (map-places 0 bits xs same)
 
 -- a sum of numbers of which none is above m
-pub sum-kept-le : (m : ℕ) (bits : List Bool) (xs : List ℕ)
-    → All (λ x. x ≤ m) xs → sum (kept bits xs) ≤ length xs * m
-sum-kept-le m [] xs small = omega arith
-sum-kept-le m (b ∷ bits) [] small = omega arith
-sum-kept-le m (true ∷ bits) (x ∷ xs) small =
-    let rest = sum-kept-le m bits xs (All-tail (λ y. y ≤ m) x xs small) in
+pub sum-kept_by-le : (m : ℕ) (bits : List Bool) (xs : List ℕ)
+    → All (λ x. x ≤ m) xs → sum (kept_by bits xs) ≤ length xs * m
+sum-kept_by-le m [] xs small = omega arith
+sum-kept_by-le m (b ∷ bits) [] small = omega arith
+sum-kept_by-le m (true ∷ bits) (x ∷ xs) small =
+    let rest = sum-kept_by-le m bits xs (All-tail (λ y. y ≤ m) x xs small) in
     let here : x ≤ m = All-head (λ y. y ≤ m) x xs small in
-    let first : sum (x ∷ kept bits xs) ≡ x + sum (kept bits xs) =
-    sum_by-cons (λ y. y) x (kept bits xs) in
+    let first : sum (x ∷ kept_by bits xs) ≡ x + sum (kept_by bits xs) =
+    sum_by-cons (λ y. y) x (kept_by bits xs) in
     omega arith
-sum-kept-le m (false ∷ bits) (x ∷ xs) small =
-    let rest = sum-kept-le m bits xs (All-tail (λ y. y ≤ m) x xs small) in
+sum-kept_by-le m (false ∷ bits) (x ∷ xs) small =
+    let rest = sum-kept_by-le m bits xs (All-tail (λ y. y ≤ m) x xs small) in
     omega arith

@@ -13,16 +13,16 @@ use Rattle.std.specs.Prelude.{bit_or, bit_xor}
 use Rattle.std.specs.Int.{bit_at}
 use Rattle.std.specs.Simd.Lanes.{Each1, zip2, number_l, digits_l, put_chunk}
 use borrow.Rule.Slice.PartMut.{put_mid}
-use Rattle.vb_bits.specs.Bits.{bit_of, bits, negated}
+use Rattle.vb_bits.specs.Bits.{bit_of, bits, complement}
 use Rattle.vb_bits.specs.Writes.{Writes}
 use Rattle.vb_bits.specs.Digits.{has_bit, digits, lane_bit, lane_bits}
-use Rattle.vb_bits.specs.Operators.{merged}
+use Rattle.vb_bits.specs.Operators.{merged_by}
 use Rattle.vb_bits.proofs.BitsLemmas.{length-bits, at-bits}
 use Rattle.vb_bits.proofs.ShiftLemmas.{has_bit_shr, bit_at_cut}
 use Rattle.vb_bits.proofs.DigitsLemmas.{has_bit-xor}
 use Rattle.vb_bits.proofs.ReadLemmas.{digits-bits, has_bit-bits, digits_overlapped}
 use Rattle.vb_bits.proofs.WritesLemmas.{Writes-put_mid}
-use Rattle.vb_bits.proofs.OperatorsLemmas.{length-merged, at-merged}
+use Rattle.vb_bits.proofs.OperatorsLemmas.{length-merged_by, at-merged_by}
 
 -- ---- digits of four words
 pub length-lane_bits : (v : List ℕ) → length (lane_bits v) ≡ 256
@@ -101,29 +101,29 @@ bit_of_lanes vs i f h =
 
 -- ---- operators
 -- words combined lane by lane
-pub lane_bits-merged : (f : Bool → Bool → Bool) (g : ℕ → ℕ → ℕ) (xs ys : List ℕ) → length xs ≡ 4
+pub lane_bits-merged_by : (f : Bool → Bool → Bool) (g : ℕ → ℕ → ℕ) (xs ys : List ℕ) → length xs ≡ 4
     → length ys ≡ 4
     → ((v w i : ℕ) → i < 64 → has_bit (g v w) i ≡ f (has_bit v i) (has_bit w i))
-    → lane_bits (zip2 g xs ys) ≡ merged f (lane_bits xs) (lane_bits ys)
-lane_bits-merged f g xs ys lx ly h =
+    → lane_bits (zip2 g xs ys) ≡ merged_by f (lane_bits xs) (lane_bits ys)
+lane_bits-merged_by f g xs ys lx ly h =
     let same : length (lane_bits xs) ≡ length (lane_bits ys) = length-lane_bits xs
     ∙ sym (length-lane_bits ys) in
     same_lists _ _ (length-lane_bits (zip2 g xs ys)
-    ∙ sym (length-merged f (lane_bits xs) (lane_bits ys) same ∙ length-lane_bits xs)) (λ i d l.
+    ∙ sym (length-merged_by f (lane_bits xs) (lane_bits ys) same ∙ length-lane_bits xs)) (λ i d l.
     let inside : i < 256 = omega (arith, length-lane_bits (zip2 g xs ys)) in
     at-lane_bits (zip2 g xs ys) i d inside
     ∙ ap (λ w. has_bit w (i % 64)) (get_or-zip2 g xs ys (i / 64) 0 0 0 (omega arith) (omega arith))
     ∙ h (get_or xs (i / 64) 0) (get_or ys (i / 64) 0) (i % 64) (omega arith)
-    ∙ sym (at-merged f (lane_bits xs) (lane_bits ys) i d d d (omega (arith, length-lane_bits xs))
+    ∙ sym (at-merged_by f (lane_bits xs) (lane_bits ys) i d d d (omega (arith, length-lane_bits xs))
     (omega (arith, length-lane_bits ys))
     ∙ ap (λ x. f x (get_or (lane_bits ys) i d)) (at-lane_bits xs i d inside)
     ∙ ap (f (lane_bit xs i)) (at-lane_bits ys i d inside)))
 
 -- of two values the left one without the right one, as an exclusive or
 pub merged_and_not : (l r : List Bool) → length l ≡ length r
-    → merged (λ a b. cond a (not b) b) l (merged (λ a b. a && b) l r) ≡ merged
+    → merged_by (λ a b. cond a (not b) b) l (merged_by (λ a b. a && b) l r) ≡ merged_by
     (λ a b. a && not b) l r
-unfolding merged
+unfolding merged_by
 merged_and_not [] [] e = refl
 merged_and_not [] (y ∷ r) e = absurd (omega arith)
 merged_and_not (x ∷ l) [] e = absurd (omega arith)
@@ -136,9 +136,9 @@ merged_and_not (x ∷ l) (y ∷ r) e = ap (λ z. cond x (not (x && y)) (x && y) 
     one false y = refl
 
 -- words negated
-pub lane_bits-negated : (xs : List ℕ) → length xs ≡ 4
-    → lane_bits (zip2 bit_xor xs (replicate 4 (2 ^ 64 - 1))) ≡ negated (lane_bits xs)
-lane_bits-negated xs long =
+pub lane_bits-complement : (xs : List ℕ) → length xs ≡ 4
+    → lane_bits (zip2 bit_xor xs (replicate 4 (2 ^ 64 - 1))) ≡ complement (lane_bits xs)
+lane_bits-complement xs long =
     let ones : List ℕ = replicate 4 (2 ^ 64 - 1) in
     same_lists _ _ (length-lane_bits (zip2 bit_xor xs ones)
     ∙ sym (length-map (lane_bits xs) not ∙ length-lane_bits xs)) (λ i d l.
@@ -204,12 +204,12 @@ lane_bits-overlapped xs ys b a s lx ly small ex ey few =
 -- a window combined with another, and negated, four words at once
 pub Writes_merged_lanes : (f : Bool → Bool → Bool) (b c t w x y : List ℕ) (o p q : ℕ)
     → lane_bits x ≡ bits b p 256 → lane_bits y ≡ bits t q 256
-    → lane_bits w ≡ merged f (lane_bits x) (lane_bits y)
-    → Writes b c o (lane_bits w) → o ≡ p → Writes b c p (merged f (bits b p 256) (bits t q 256))
+    → lane_bits w ≡ merged_by f (lane_bits x) (lane_bits y)
+    → Writes b c o (lane_bits w) → o ≡ p → Writes b c p (merged_by f (bits b p 256) (bits t q 256))
 Writes_merged_lanes f b c t w x y o p q left right h written at =
-    subst (λ z. Writes b c z (merged f (bits b p 256) (bits t q 256))) at
-    (subst (Writes b c o) (h ∙ ap (λ z. merged f z (lane_bits y)) left
-    ∙ ap (merged f (bits b p 256)) right) written)
+    subst (λ z. Writes b c z (merged_by f (bits b p 256) (bits t q 256))) at
+    (subst (Writes b c o) (h ∙ ap (λ z. merged_by f z (lane_bits y)) left
+    ∙ ap (merged_by f (bits b p 256)) right) written)
 
 -- the parts of a number
 pub parts_below : (k n x : ℕ) → Each1 (λ y. y < 2 ^ k) (digits_l (2 ^ k) n x)

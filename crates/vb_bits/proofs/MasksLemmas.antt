@@ -15,7 +15,7 @@ use Rattle.std.proofs.Math.Pow.{pow_mono}
 use Rattle.std.specs.Int.{bit_at, bit_not, from_bool, w8}
 use Rattle.std.specs.Int.Bits.{or_zero_r}
 use Rattle.std.specs.Prelude.{bit_and, bit_or, bit_xor}
-use Rattle.vb_bits.specs.Bits.{bit_of, bits, negated}
+use Rattle.vb_bits.specs.Bits.{bit_of, bits, complement}
 use Rattle.vb_bits.specs.Digits.{has_bit, digits}
 use Rattle.vb_bits.specs.Writes.{Writes}
 use Rattle.vb_bits.proofs.BitsLemmas.{at-bits, length-bits}
@@ -188,14 +188,15 @@ flipped (suc (suc x)) h = absurd (omega arith)
 
 -- the bits under a mask are negated
 pub Writes_xor_mask : (b : List ℕ) (o n : ℕ) → o % 8 + n ≤ 8 → o / 8 < length b → Writes b (set b
-    (o / 8) (bit_xor (get_or b (o / 8) 0) (2 ^ (o % 8 + n) - 2 ^ (o % 8)))) o (negated (bits b o n))
+    (o / 8) (bit_xor (get_or b (o / 8) 0) (2 ^ (o % 8 + n) - 2 ^ (o % 8)))) o
+    (complement (bits b o n))
 Writes_xor_mask b o n within there =
     let x : ℕ = get_or b (o / 8) 0 in let lo : ℕ = o % 8 in let hi : ℕ = o % 8 + n in
-    let long : length (negated (bits b o n)) ≡ n =
+    let long : length (complement (bits b o n)) ≡ n =
     length-map (bits b o n) not ∙ length-bits b o n in
     let size = length-bits b o n in
     let low : (r : ℕ) → bit_at x r < 2 = bit_at-lt x in
-    Writes-in_byte b o _ (negated (bits b o n)) (omega arith) there
+    Writes-in_byte b o _ (complement (bits b o n)) (omega arith) there
     (λ i d l.
     let one : bit_at (2 ^ hi - 2 ^ lo) (lo + i) ≡ 1 =
     bit_at_mask_inside lo hi (lo + i) (omega arith) (omega arith) in

@@ -5,99 +5,100 @@ use Rattle.std.proofs.lemmas.List.{same_lists}
 use Rattle.std.proofs.lemmas.Simd.{get_or-zip2, length-zip2}
 use Rattle.vb_bits.specs.Bits.{bits}
 use Rattle.vb_bits.specs.Digits.{has_bit, digits}
-use Rattle.vb_bits.specs.Operators.{merged}
+use Rattle.vb_bits.specs.Operators.{merged_by}
 use Rattle.vb_bits.specs.Writes.{Writes}
 use Rattle.vb_bits.proofs.BitsLemmas.{length-bits, bits-add}
 use Rattle.vb_bits.proofs.DigitsLemmas.{length-digits, at-digits}
 use Rattle.vb_bits.proofs.WritesLemmas.{Writes_none, Writes-add, bits_outside}
 
 -- as many values as in one of the lists
-pub length-merged : (f : Bool → Bool → Bool) (l r : List Bool)
-    → length l ≡ length r → length (merged f l r) ≡ length l
-unfolding merged
-length-merged f l r e = length-zip2 f l r e
+pub length-merged_by : (f : Bool → Bool → Bool) (l r : List Bool)
+    → length l ≡ length r → length (merged_by f l r) ≡ length l
+unfolding merged_by
+length-merged_by f l r e = length-zip2 f l r e
 
 -- one of the values
-pub at-merged : (f : Bool → Bool → Bool) (l r : List Bool) (i : ℕ) (c d e : Bool)
-    → i < length l → i < length r → get_or (merged f l r) i e ≡ f (get_or l i c) (get_or r i d)
-unfolding merged
-at-merged f l r i c d e a b = get_or-zip2 f l r i c d e a b
+pub at-merged_by : (f : Bool → Bool → Bool) (l r : List Bool) (i : ℕ) (c d e : Bool)
+    → i < length l → i < length r → get_or (merged_by f l r) i e ≡ f (get_or l i c) (get_or r i d)
+unfolding merged_by
+at-merged_by f l r i c d e a b = get_or-zip2 f l r i c d e a b
 
 -- lists behind lists of one length
-pub merged-append : (f : Bool → Bool → Bool) (k l m r : List Bool)
-    → length k ≡ length m → merged f (k ++ l) (m ++ r) ≡ merged f k m ++ merged f l r
-unfolding merged
-merged-append f [] l [] r e = refl
-merged-append f [] l (y ∷ m) r e = absurd (omega arith)
-merged-append f (x ∷ k) l [] r e = absurd (omega arith)
-merged-append f (x ∷ k) l (y ∷ m) r e = ap (λ z. f x y ∷ z) (merged-append f k l m r (omega arith))
+pub merged_by-append : (f : Bool → Bool → Bool) (k l m r : List Bool)
+    → length k ≡ length m → merged_by f (k ++ l) (m ++ r) ≡ merged_by f k m ++ merged_by f l r
+unfolding merged_by
+merged_by-append f [] l [] r e = refl
+merged_by-append f [] l (y ∷ m) r e = absurd (omega arith)
+merged_by-append f (x ∷ k) l [] r e = absurd (omega arith)
+merged_by-append f (x ∷ k) l (y ∷ m) r e =
+    ap (λ z. f x y ∷ z) (merged_by-append f k l m r (omega arith))
 
 -- of two values the right one
-pub merged_right : (l r : List Bool) → length l ≡ length r → merged (λ a b. b) l r ≡ r
-unfolding merged
+pub merged_right : (l r : List Bool) → length l ≡ length r → merged_by (λ a b. b) l r ≡ r
+unfolding merged_by
 merged_right [] [] e = refl
 merged_right [] (y ∷ r) e = absurd (omega arith)
 merged_right (x ∷ l) [] e = absurd (omega arith)
 merged_right (x ∷ l) (y ∷ r) e = ap (λ z. y ∷ z) (merged_right l r (omega arith))
 
 -- numbers whose digits are combined
-pub digits-merged : (f : Bool → Bool → Bool) (w a b n : ℕ)
+pub digits-merged_by : (f : Bool → Bool → Bool) (w a b n : ℕ)
     → n ≤ 64 → ((i : ℕ) → i < 64 → has_bit w i ≡ f (has_bit a i) (has_bit b i))
-    → digits w 0 n ≡ merged f (digits a 0 n) (digits b 0 n)
-digits-merged f w a b n small h =
+    → digits w 0 n ≡ merged_by f (digits a 0 n) (digits b 0 n)
+digits-merged_by f w a b n small h =
     let one = length-digits a 0 n in
     let other = length-digits b 0 n in
-    let whole : length (merged f (digits a 0 n) (digits b 0 n)) ≡ length (digits a 0 n) =
-    length-merged f (digits a 0 n) (digits b 0 n) (omega arith) in
+    let whole : length (merged_by f (digits a 0 n) (digits b 0 n)) ≡ length (digits a 0 n) =
+    length-merged_by f (digits a 0 n) (digits b 0 n) (omega arith) in
     same_lists _ _ (omega (arith, length-digits w 0 n)) (λ i d l.
     let inside : i < n = omega (arith, length-digits w 0 n) in
     at-digits w 0 n i d inside ∙ h (0 + i) (omega arith)
-    ∙ sym (at-merged f (digits a 0 n) (digits b 0 n) i d d d (omega arith) (omega arith)
+    ∙ sym (at-merged_by f (digits a 0 n) (digits b 0 n) i d d d (omega arith) (omega arith)
     ∙ ap (λ x. f x (get_or (digits b 0 n) i d)) (at-digits a 0 n i d inside)
     ∙ ap (f (has_bit a (0 + i))) (at-digits b 0 n i d inside)))
 
 -- the bits of a window are combined with those of another: as many as there are
 pub length-merged_bits : (f : Bool → Bool → Bool) (b s : List ℕ) (o p n : ℕ)
-    → length (merged f (bits b o n) (bits s p n)) ≡ n
+    → length (merged_by f (bits b o n) (bits s p n)) ≡ n
 length-merged_bits f b s o p n =
-    length-merged f (bits b o n) (bits s p n) (length-bits b o n ∙ sym (length-bits s p n))
+    length-merged_by f (bits b o n) (bits s p n) (length-bits b o n ∙ sym (length-bits s p n))
     ∙ length-bits b o n
 
 -- none are
 pub Writes_merged_none : (f : Bool → Bool → Bool) (b s : List ℕ) (o p n : ℕ)
-    → n ≡ 0 → Writes b b o (merged f (bits b o n) (bits s p n))
+    → n ≡ 0 → Writes b b o (merged_by f (bits b o n) (bits s p n))
 Writes_merged_none f b s o p n e =
-    Writes_none b o (merged f (bits b o n) (bits s p n)) (length-merged_bits f b s o p n ∙ e)
+    Writes_none b o (merged_by f (bits b o n) (bits s p n)) (length-merged_bits f b s o p n ∙ e)
 
 -- two windows, one right behind the other
-pub Writes-merged : (f : Bool → Bool → Bool) (b c d s : List ℕ) (o p u v m n k : ℕ)
-    → Writes b c o (merged f (bits b o m) (bits s u m))
-    → Writes c d p (merged f (bits c p n) (bits s v n))
-    → p ≡ o + m → v ≡ u + m → k ≡ m + n → Writes b d o (merged f (bits b o k) (bits s u k))
-Writes-merged f b c d s o p u v m n k one two at from whole =
+pub Writes-merged_by : (f : Bool → Bool → Bool) (b c d s : List ℕ) (o p u v m n k : ℕ)
+    → Writes b c o (merged_by f (bits b o m) (bits s u m))
+    → Writes c d p (merged_by f (bits c p n) (bits s v n))
+    → p ≡ o + m → v ≡ u + m → k ≡ m + n → Writes b d o (merged_by f (bits b o k) (bits s u k))
+Writes-merged_by f b c d s o p u v m n k one two at from whole =
     let long = length-merged_bits f b s o u m in
     let left : bits c p n ≡ bits b (o + m) n =
-    bits_outside b c o p n (merged f (bits b o m) (bits s u m)) one (omega arith)
+    bits_outside b c o p n (merged_by f (bits b o m) (bits s u m)) one (omega arith)
     ∙ ap (λ x. bits b x n) at in
     let right : bits s v n ≡ bits s (u + m) n = ap (λ x. bits s x n) from in
     subst (Writes b d o)
-    (ap (λ x. merged f (bits b o m) (bits s u m) ++ merged f x (bits s v n)) left
-    ∙ ap (λ x. merged f (bits b o m) (bits s u m) ++ merged f (bits b (o + m) n) x) right
-    ∙ sym (merged-append f (bits b o m) (bits b (o + m) n)
+    (ap (λ x. merged_by f (bits b o m) (bits s u m) ++ merged_by f x (bits s v n)) left
+    ∙ ap (λ x. merged_by f (bits b o m) (bits s u m) ++ merged_by f (bits b (o + m) n) x) right
+    ∙ sym (merged_by-append f (bits b o m) (bits b (o + m) n)
     (bits s u m) (bits s (u + m) n) (length-bits b o m ∙ sym (length-bits s u m)))
-    ∙ ap (λ x. merged f x (bits s u m ++ bits s (u + m) n))
+    ∙ ap (λ x. merged_by f x (bits s u m ++ bits s (u + m) n))
     (sym (bits-add b o m n) ∙ ap (bits b o) (sym whole))
-    ∙ ap (merged f (bits b o k)) (sym (bits-add s u m n) ∙ ap (bits s u) (sym whole)))
-    (Writes-add b c d o p (merged f (bits b o m) (bits s u m))
-    (merged f (bits c p n) (bits s v n)) (omega arith) one two)
+    ∙ ap (merged_by f (bits b o k)) (sym (bits-add s u m n) ∙ ap (bits s u) (sym whole)))
+    (Writes-add b c d o p (merged_by f (bits b o m) (bits s u m))
+    (merged_by f (bits c p n) (bits s v n)) (omega arith) one two)
 
 -- numbers whose digits are windows, and one that is combined of them and written to the first
 -- window
 pub Writes_merged_digits : (f : Bool → Bool → Bool) (b c s : List ℕ) (o p q n w x y : ℕ) → n ≤ 64
     → digits x 0 n ≡ bits b p n → digits y 0 n ≡ bits s q n
     → ((i : ℕ) → i < 64 → has_bit w i ≡ f (has_bit x i) (has_bit y i))
-    → Writes b c o (digits w 0 n) → o ≡ p → Writes b c p (merged f (bits b p n) (bits s q n))
+    → Writes b c o (digits w 0 n) → o ≡ p → Writes b c p (merged_by f (bits b p n) (bits s q n))
 Writes_merged_digits f b c s o p q n w x y small left right h written at =
-    subst (λ z. Writes b c z (merged f (bits b p n) (bits s q n))) at
-    (subst (Writes b c o) (digits-merged f w x y n small h
-    ∙ ap (λ z. merged f z (digits y 0 n)) left ∙ ap (merged f (bits b p n)) right) written)
+    subst (λ z. Writes b c z (merged_by f (bits b p n) (bits s q n))) at
+    (subst (Writes b c o) (digits-merged_by f w x y n small h
+    ∙ ap (λ z. merged_by f z (digits y 0 n)) left ∙ ap (merged_by f (bits b p n)) right) written)

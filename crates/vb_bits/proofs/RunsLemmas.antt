@@ -7,7 +7,7 @@ use Rattle.std.proofs.lemmas.Bool.{cases_lt, cases_eq}
 use Rattle.std.proofs.lemmas.List.{get_or_past}
 use Rattle.std.proofs.lemmas.List.Elements.{All-cons, All-nil}
 use Rattle.vb_bits.specs.Bits.{at}
-use Rattle.vb_bits.specs.Runs.{before, runs, moved}
+use Rattle.vb_bits.specs.Runs.{value_before, runs, shift_run}
 
 -- P is the runs of t among the places from a below e: nothing is true before the first one, all of
 -- it is, and the place behind it is the end or isn't
@@ -145,9 +145,10 @@ pub AreRuns-runs : (l : List Bool) → AreRuns (at l) 0 (length l) (runs l)
 unfolding runs rise fall
 AreRuns-runs l =
     let t : ℕ → Bool = at l in
-    let u : ℕ → Bool = before l in
+    let u : ℕ → Bool = value_before l in
     let more : suc (length l) ≡ length l + 1 = omega arith in
-    let later : (i : ℕ) → before l (i + 1) ≡ at l i = λ i. let e : i + 1 ≡ suc i = omega arith in
+    let later : (i : ℕ) → value_before l (i + 1) ≡ at l i =
+    λ i. let e : i + 1 ≡ suc i = omega arith in
     ap u e in
     subst (λ n. AreRuns t 0 (length l) (zip (filter (λ i. t i && not (u i)) (range_with_len 0 n))
     (filter (λ i. u i && not (t i)) (range_with_len 0 n)))) more
@@ -246,14 +247,14 @@ AreRuns-same t u a e (p ∷ ps) same h = (
 )
 
 -- runs that lie m places further on
-pub AreRuns-moved : (t u : ℕ → Bool) (m a e : ℕ) (P : List (ℕ × ℕ))
+pub AreRuns-shift_run : (t u : ℕ → Bool) (m a e : ℕ) (P : List (ℕ × ℕ))
     → ((i : ℕ) → a ≤ i → i < e → t (m + i) ≡ u i)
-    → AreRuns u a e P → AreRuns t (m + a) (m + e) (map (moved m) P)
-AreRuns-moved t u m a e [] same h = λ i l r.
+    → AreRuns u a e P → AreRuns t (m + a) (m + e) (map (shift_run m) P)
+AreRuns-shift_run t u m a e [] same h = λ i l r.
     let place : m + (i - m) ≡ i = omega arith in
     ap t (sym place)
     ∙ same (i - m) (omega arith) (omega arith) ∙ h (i - m) (omega arith) (omega arith)
-AreRuns-moved t u m a e (p ∷ ps) same h = (
+AreRuns-shift_run t u m a e (p ∷ ps) same h = (
   omega (arith, h.0),
   omega (arith, h.1),
   omega (arith, h.2),
@@ -272,5 +273,5 @@ AreRuns-moved t u m a e (p ∷ ps) same h = (
     ])
     | inr last ↦ inl (omega (arith, h.2))
   ],
-  AreRuns-moved t u m p.1 e ps (λ i l r. same i (omega (arith, h.0, h.1)) r) h.6,
+  AreRuns-shift_run t u m p.1 e ps (λ i l r. same i (omega (arith, h.0, h.1)) r) h.6,
 )

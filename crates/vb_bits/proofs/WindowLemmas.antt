@@ -10,9 +10,9 @@ use Rattle.std.proofs.Math.Seq.{take-add}
 use Rattle.std.proofs.lemmas.Nat.Bits.{bit_at_ones, bit_at-zero}
 use Rattle.vb_bits.specs.Bits.{bit_of, bits, count}
 use Rattle.vb_bits.specs.Digits.{has_bit}
-use Rattle.vb_bits.specs.Writes.{lengthened}
+use Rattle.vb_bits.specs.Writes.{extension}
 use Rattle.vb_bits.proofs.BitsLemmas.{length-bits, at-bits, take-bits, bits_none, same_bits}
-use Rattle.vb_bits.proofs.BitsLemmas.{count-append, count-negated, count-le}
+use Rattle.vb_bits.proofs.BitsLemmas.{count-append, count-complement, count-le}
 
 -- ---- parts of a window
 -- no bits
@@ -76,9 +76,9 @@ bit_of-drop m b k =
     ∙ ap (has_bit (get_or b ((8 * m + k) / 8) 0)) digit
 
 -- a bit behind the bytes that were lengthened
-pub bit_of-lengthened : (b c : List ℕ) (k : ℕ)
-    → 8 * length b ≤ k → bit_of (lengthened b c) k ≡ bit_of c k
-bit_of-lengthened b c k h =
+pub bit_of-extension : (b c : List ℕ) (k : ℕ)
+    → 8 * length b ≤ k → bit_of (extension b c) k ≡ bit_of c k
+bit_of-extension b c k h =
     let byte : length b + (k / 8 - length b) ≡ k / 8 = omega arith in
     ap (λ y. has_bit y (k % 8))
     (get_or-append_right b (drop (length b) c) (length b) (k / 8) 0 refl (omega arith)
@@ -136,7 +136,7 @@ pub ruleset windows = (
   bits-replicate,
   length-replicate,
   count_parts,
-  count-negated,
+  count-complement,
   count-le,
 )
 

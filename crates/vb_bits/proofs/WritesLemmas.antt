@@ -12,17 +12,17 @@ use Rattle.std.proofs.lemmas.Bool.{cases_lt}
 use Rattle.std.specs.Int.{bit_not, from_bool, w64, to_le_bytes}
 use Rattle.std.specs.Prelude.{slice_range}
 use borrow.Rule.Slice.PartMut.{put_mid}
-use Rattle.vb_bits.specs.Bits.{bit_of, bits, negated}
+use Rattle.vb_bits.specs.Bits.{bit_of, bits, complement}
 use Rattle.vb_bits.specs.Digits.{has_bit, digits}
-use Rattle.vb_bits.specs.Edits.{replaced, filled}
-use Rattle.vb_bits.specs.Writes.{Writes, lengthened}
+use Rattle.vb_bits.specs.Edits.{with_part, with_fill}
+use Rattle.vb_bits.specs.Writes.{Writes, extension}
 use Rattle.vb_bits.proofs.BitsLemmas.{at-bits, length-bits, take-bits, drop-bits, bits-add}
 use Rattle.vb_bits.proofs.BitsLemmas.{same_bits}
 use Rattle.vb_bits.proofs.BytesLemmas.{bits-to_le_bytes, bits_of_read}
 use Rattle.vb_bits.proofs.DigitsLemmas.{digits-bit_not}
 use Rattle.vb_bits.proofs.WrittenLemmas.{IsWindowed, Written, Written_by_values, Written-at}
 use Rattle.vb_bits.proofs.WrittenLemmas.{Written-add}
-use Rattle.vb_bits.proofs.WindowLemmas.{bits-append, bit_of-append, bit_of-lengthened}
+use Rattle.vb_bits.proofs.WindowLemmas.{bits-append, bit_of-append, bit_of-extension}
 
 -- ---- writes by their bits
 -- bits stand one behind the other in bytes
@@ -76,23 +76,23 @@ bits_outside b c o p n m w behind =
     same_bits c b p p n (λ i h. w.others (p + i) (inr (omega arith)))
 
 -- no bits are negated
-pub Writes_negated_none : (b : List ℕ) (o n : ℕ) → n ≡ 0 → Writes b b o (negated (bits b o n))
+pub Writes_negated_none : (b : List ℕ) (o n : ℕ) → n ≡ 0 → Writes b b o (complement (bits b o n))
 Writes_negated_none b o n e =
-    Writes_none b o (negated (bits b o n)) (length-map (bits b o n) not ∙ length-bits b o n ∙ e)
+    Writes_none b o (complement (bits b o n)) (length-map (bits b o n) not ∙ length-bits b o n ∙ e)
 
 -- two windows negated
-pub Writes-negated : (b c d : List ℕ) (o p m n k : ℕ)
-    → Writes b c o (negated (bits b o m)) → Writes c d p (negated (bits c p n))
-    → p ≡ o + m → k ≡ m + n → Writes b d o (negated (bits b o k))
-Writes-negated b c d o p m n k one two at whole =
-    let long : length (negated (bits b o m)) ≡ m =
+pub Writes-complement : (b c d : List ℕ) (o p m n k : ℕ)
+    → Writes b c o (complement (bits b o m)) → Writes c d p (complement (bits c p n))
+    → p ≡ o + m → k ≡ m + n → Writes b d o (complement (bits b o k))
+Writes-complement b c d o p m n k one two at whole =
+    let long : length (complement (bits b o m)) ≡ m =
     length-map (bits b o m) not ∙ length-bits b o m in
     let second : bits c p n ≡ bits b (o + m) n =
-    bits_outside b c o p n (negated (bits b o m)) one (omega arith) ∙ ap (λ x. bits b x n) at in
+    bits_outside b c o p n (complement (bits b o m)) one (omega arith) ∙ ap (λ x. bits b x n) at in
     subst (Writes b d o)
-    (ap (λ x. negated (bits b o m) ++ negated x) second ∙ sym (map-append not (bits b o m)
-    (bits b (o + m) n)) ∙ ap negated (sym (bits-add b o m n) ∙ ap (bits b o) (sym whole)))
-    (Writes-add b c d o p (negated (bits b o m)) (negated (bits c p n)) (omega arith) one two)
+    (ap (λ x. complement (bits b o m) ++ complement x) second ∙ sym (map-append not (bits b o m)
+    (bits b (o + m) n)) ∙ ap complement (sym (bits-add b o m n) ∙ ap (bits b o) (sym whole)))
+    (Writes-add b c d o p (complement (bits b o m)) (complement (bits c p n)) (omega arith) one two)
 
 -- ---- runs of bytes
 -- a byte of a run that was written
@@ -132,18 +132,18 @@ Writes-put_mid b ys a k m long within e =
 -- a word is negated
 pub Writes_not_word : (b c : List ℕ) (a w : ℕ) → w < 2 ^ 64
     → to_le_bytes w64 w ≡ slice_range b a (a + 8) → Writes b c (8 * a) (digits (bit_not w64 w) 0 64)
-    → Writes b c (8 * a) (negated (bits b (8 * a) 64))
+    → Writes b c (8 * a) (complement (bits b (8 * a) 64))
 Writes_not_word b c a w small read written =
     subst (Writes b c (8 * a))
-    (digits-bit_not w64 w 0 64 small (omega arith) ∙ ap negated (sym (bits-to_le_bytes w 0 64
+    (digits-bit_not w64 w 0 64 small (omega arith) ∙ ap complement (sym (bits-to_le_bytes w 0 64
     (omega arith)) ∙ bits_of_read b b (to_le_bytes w64 w) a 8 (8 * a) refl read refl))
     written
 
 -- ---- what a write makes of a window of the bytes
 -- a part inside
-pub bits-replaced : (b c : List ℕ) (o n i : ℕ) (m : List Bool)
-    → Writes b c (o + i) m → i + length m ≤ n → bits c o n ≡ replaced (bits b o n) i m
-bits-replaced b c o n i m w h =
+pub bits-with_part : (b c : List ℕ) (o n i : ℕ) (m : List Bool)
+    → Writes b c (o + i) m → i + length m ≤ n → bits c o n ≡ with_part (bits b o n) i m
+bits-with_part b c o n i m w h =
     let k : ℕ = i + length m in
     let rest : ℕ = n - k in
     let whole : n ≡ k + rest = omega arith in
@@ -165,27 +165,28 @@ pub bits-set : (b c : List ℕ) (o n i : ℕ) (v : Bool)
 bits-set b c o n i v w h =
     let l : List Bool = bits b o n in
     let next : i + 1 ≡ suc i = omega arith in
-    bits-replaced b c o n i (v ∷ []) w (omega arith) ∙ append_assoc (take i l)
+    bits-with_part b c o n i (v ∷ []) w (omega arith) ∙ append_assoc (take i l)
     (v ∷ []) (drop (i + 1) l) ∙ ap (λ x. take i l ++ v ∷ drop x l) next
     ∙ sym (set_split l i v (omega (arith, length-bits b o n)))
 
 -- a run inside
-pub bits-filled : (b c : List ℕ) (o n i j : ℕ) (v : Bool) → Writes b c (o + i) (replicate (j - i) v)
-    → i ≤ j → j ≤ n → bits c o n ≡ filled (bits b o n) i j v
-bits-filled b c o n i j v w h le =
-    bits-replaced b c o n i (replicate (j - i) v) w (omega (arith, length-replicate (j - i) v))
+pub bits-with_fill : (b c : List ℕ) (o n i j : ℕ) (v : Bool)
+    → Writes b c (o + i) (replicate (j - i) v)
+    → i ≤ j → j ≤ n → bits c o n ≡ with_fill (bits b o n) i j v
+bits-with_fill b c o n i j v w h le =
+    bits-with_part b c o n i (replicate (j - i) v) w (omega (arith, length-replicate (j - i) v))
 
 -- every bit negated
-pub bits-negated : (b c : List ℕ) (o n : ℕ)
-    → Writes b c o (negated (bits b o n)) → bits c o n ≡ negated (bits b o n)
-bits-negated b c o n w =
+pub bits-complement : (b c : List ℕ) (o n : ℕ)
+    → Writes b c o (complement (bits b o n)) → bits c o n ≡ complement (bits b o n)
+bits-complement b c o n w =
     ap (bits c o) (sym (length-map (bits b o n) not ∙ length-bits b o n)) ∙ w.window
 
 -- ---- bytes that are lengthened
 -- a write in the bytes that are there
-pub Writes-lengthened : (b c : List ℕ) (o : ℕ) (m : List Bool)
-    → Writes b c o m → Writes (lengthened b c) c o m
-Writes-lengthened b c o m w =
+pub Writes-extension : (b c : List ℕ) (o : ℕ) (m : List Bool)
+    → Writes b c o m → Writes (extension b c) c o m
+Writes-extension b c o m w =
     let none : drop (length b) c ≡ [] = drop_all (length b) c (omega (arith, w.same_len)) in
     subst (λ (x : List ℕ). Writes x c o m) (sym (ap (λ x. b ++ x) none ∙ append-nil b)) w
 
@@ -193,13 +194,13 @@ Writes-lengthened b c o m w =
 pub Writes_behind : (b c : List ℕ) (o : ℕ) (m : List Bool) → length b ≤ length c
     → o ≤ 8 * length b → 8 * length b ≤ o + length m → ((i : ℕ) → i < o → bit_of c i ≡ bit_of b i)
     → ((i : ℕ) (d : Bool) → i < length m → bit_of c (o + i) ≡ get_or m i d)
-    → Writes (lengthened b c) c o m
+    → Writes (extension b c) c o m
 Writes_behind b c o m more low high kept inside =
-    Writes_by_bits (lengthened b c) c o m
+    Writes_by_bits (extension b c) c o m
     (omega (arith, length-append b (drop (length b) c), length-drop (length b) c)) inside
     (λ i h. elim h [
       | inl before ↦ kept i before ∙ sym (bit_of-append b (drop (length b) c) i (omega arith))
-      | inr after ↦ sym (bit_of-lengthened b c i (omega arith))
+      | inr after ↦ sym (bit_of-extension b c i (omega arith))
     ])
 
 -- a bit of bytes that were added, whose digits are all v
@@ -212,7 +213,7 @@ bit_of_added b k y i v h low high =
 
 -- a byte is added whose lowest digit is v
 pub Writes_push : (b c : List ℕ) (o y : ℕ) (v : Bool)
-    → c ≡ b ++ y ∷ [] → y ≡ from_bool v → o ≡ 8 * length b → Writes (lengthened b c) c o (v ∷ [])
+    → c ≡ b ++ y ∷ [] → y ≡ from_bool v → o ≡ 8 * length b → Writes (extension b c) c o (v ∷ [])
 Writes_push b c o y v e f at =
     let byte : length b ≡ o / 8 = omega arith in
     let digit : o % 8 ≡ 0 = omega arith in
@@ -237,7 +238,7 @@ Writes_push b c o y v e f at =
 pub Writes_push_run : (b with_more c : List ℕ) (o n k y e : ℕ) (v : Bool)
     → with_more ≡ b ++ replicate k y → ((j : ℕ) → j < 8 → has_bit y j ≡ v) → e ≡ 8 * length b
     → o ≤ e → e ≤ o + n → o + n ≤ 8 * (length b + k)
-    → Writes with_more c o (replicate (e - o) v) → Writes (lengthened b c) c o (replicate n v)
+    → Writes with_more c o (replicate (e - o) v) → Writes (extension b c) c o (replicate n v)
 Writes_push_run b with_more c o n k y e v more h whole low high fits w =
     let size : length (replicate n v) ≡ n = length-replicate n v in
     let part : length (replicate (e - o) v) ≡ e - o = length-replicate (e - o) v in
@@ -256,21 +257,21 @@ Writes_push_run b with_more c o n k y e v more h whole low high fits w =
     ∙ sym (get_or-replicate n i v d (omega arith)))
 
 -- a window that is lengthened by what was written behind it
-pub bits_behind : (b c : List ℕ) (o n : ℕ) (m : List Bool) → Writes (lengthened b c) c (o + n) m
+pub bits_behind : (b c : List ℕ) (o n : ℕ) (m : List Bool) → Writes (extension b c) c (o + n) m
     → o + n ≤ 8 * length b → bits c o (n + length m) ≡ bits b o n ++ m
 bits_behind b c o n m w h =
     bits-add c o n (length m)
-    ∙ ap (λ x. x ++ bits c (o + n) (length m)) (same_bits c (lengthened b c) o o n
+    ∙ ap (λ x. x ++ bits c (o + n) (length m)) (same_bits c (extension b c) o o n
     (λ i l. w.others (o + i) (inl (omega arith))) ∙ bits-append b (drop (length b) c) o n h)
     ∙ ap (λ x. bits b o n ++ x) w.window
 
 -- by one bit
-pub bits-pushed : (b c : List ℕ) (o n : ℕ) (v : Bool) → Writes (lengthened b c) c (o + n) (v ∷ [])
+pub bits-pushed : (b c : List ℕ) (o n : ℕ) (v : Bool) → Writes (extension b c) c (o + n) (v ∷ [])
     → o + n ≤ 8 * length b → bits c o (n + 1) ≡ bits b o n ++ v ∷ []
 bits-pushed b c o n v w h = bits_behind b c o n (v ∷ []) w h
 
 -- by a run
-pub bits-extended : (b c : List ℕ) (o n k : ℕ) (v : Bool) → Writes (lengthened b c) c
+pub bits-extended : (b c : List ℕ) (o n k : ℕ) (v : Bool) → Writes (extension b c) c
     (o + n) (replicate k v) → o + n ≤ 8 * length b → bits c o (n + k) ≡ bits b o n ++ replicate k v
 bits-extended b c o n k v w h = ap (λ x. bits c o (n + x)) (sym (length-replicate k v))
     ∙ bits_behind b c o n (replicate k v) w h
@@ -279,10 +280,10 @@ bits-extended b c o n k v w h = ap (λ x. bits c o (n + x)) (sym (length-replica
 -- what writes make of windows, and of bytes that are lengthened
 pub ruleset writes = (
   bits-set,
-  bits-filled,
-  bits-negated,
+  bits-with_fill,
+  bits-complement,
   bits-pushed,
   bits-extended,
-  Writes-lengthened,
+  Writes-extension,
   Writes_push,
 )

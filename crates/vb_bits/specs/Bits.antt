@@ -22,8 +22,8 @@ abbrev pub count : List Bool → ℕ
 count l = count_by (λ b. b) l
 
 -- each value negated
-abbrev pub negated : List Bool → List Bool
-negated l = map not l
+abbrev pub complement : List Bool → List Bool
+complement l = map not l
 
 -- the places that are true, in ascending order
 unfoldable pub places : List Bool → List ℕ
@@ -31,7 +31,7 @@ places l = filter (at l) (range_with_len 0 (length l))
 
 -- the places that are false, in ascending order
 abbrev pub holes : List Bool → List ℕ
-holes l = places (negated l)
+holes l = places (complement l)
 
 -- r is the place of the n-th true value, counted from 0, or None where there are at most n
 abbrev pub Selects : List Bool → ℕ → Option ℕ → Type 0
@@ -39,5 +39,5 @@ Selects l n None = count l ≤ n
 Selects l n (Some p) = (p < length l) × IsTrue (at l p) × (count (take p l) ≡ n)
 
 -- each true place with n true ones before it is r: the inverse of counting
-abbrev pub AnswersEach : List Bool → ℕ → Option ℕ → Type 0
-AnswersEach l n r = (i : ℕ) → i < length l → IsTrue (at l i) → count (take i l) ≡ n → r ≡ Some i
+abbrev pub InvertsCount : List Bool → ℕ → Option ℕ → Type 0
+InvertsCount l n r = (i : ℕ) → i < length l → IsTrue (at l i) → count (take i l) ≡ n → r ≡ Some i

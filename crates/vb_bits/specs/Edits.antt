@@ -2,9 +2,9 @@
 use Rattle.std.specs.Prelude.{ℕ, ◌+◌, ◌-◌, List, ◌++◌, length, take, drop, replicate}
 
 -- the list with m in place of as many items from place a on
-abbrev pub replaced : {T : Type 0} → List T → ℕ → List T → List T
-replaced l a m = take a l ++ m ++ drop (a + length m) l
+abbrev pub with_part : {T : Type 0} → List T → ℕ → List T → List T
+with_part l a m = take a l ++ m ++ drop (a + length m) l
 
 -- the list with v from place a up to b, b excluded
-abbrev pub filled : {T : Type 0} → List T → ℕ → ℕ → T → List T
-filled l a b v = replaced l a (replicate (b - a) v)
+abbrev pub with_fill : {T : Type 0} → List T → ℕ → ℕ → T → List T
+with_fill l a b v = with_part l a (replicate (b - a) v)

@@ -2,8 +2,8 @@
 use Rattle.std.specs.Prelude.{Bool, true, false, List, [], ◌∷◌}
 
 -- the values whose bit is true
-abbrev pub kept : {T : Type 0} → List Bool → List T → List T
-kept [] values = []
-kept (bit ∷ bits) [] = []
-kept (true ∷ bits) (value ∷ values) = value ∷ kept bits values
-kept (false ∷ bits) (value ∷ values) = kept bits values
+abbrev pub kept_by : {T : Type 0} → List Bool → List T → List T
+kept_by [] values = []
+kept_by (bit ∷ bits) [] = []
+kept_by (true ∷ bits) (value ∷ values) = value ∷ kept_by bits values
+kept_by (false ∷ bits) (value ∷ values) = kept_by bits values

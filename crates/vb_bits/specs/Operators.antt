@@ -12,9 +12,9 @@ bit_op Xor a b = cond a (not b) b
 bit_op AndNot a b = a && not b
 
 -- the values of two lists of one length combined, place by place
-unfoldable pub merged : (Bool → Bool → Bool) → List Bool → List Bool → List Bool
-merged f l r = zip2 f l r
+unfoldable pub merged_by : (Bool → Bool → Bool) → List Bool → List Bool → List Bool
+merged_by f l r = zip2 f l r
 
 -- the same by an operator
-abbrev pub combined : BitOp → List Bool → List Bool → List Bool
-combined op l r = merged (bit_op op) l r
+abbrev pub combined_by : BitOp → List Bool → List Bool → List Bool
+combined_by op l r = merged_by (bit_op op) l r

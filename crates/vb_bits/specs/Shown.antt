@@ -13,7 +13,7 @@ truth_words [] = []
 truth_words (b ∷ bs) = truth_word b ++ flat_map (λ c. codes ", " ++ truth_word c) bs
 
 -- how many truth values there are, and the first 16 of them
-unfoldable pub shown : List Bool → List ℕ
-shown l =
+unfoldable pub bits_text : List Bool → List ℕ
+bits_text l =
     codes "BitBuffer { len: " ++ decimal (length l)
     ++ codes ", buffer: [" ++ truth_words (take 16 l) ++ codes "] }"

@@ -15,5 +15,5 @@ pub record KeepsBehind (n : ℕ) (old new : List ℕ) : Type 0 where
   pub others : (i : ℕ) → n ≤ i → bit_of new i ≡ bit_of old i
 
 -- the old bytes, and behind them those that the new bytes have more
-abbrev pub lengthened : List ℕ → List ℕ → List ℕ
-lengthened old new = old ++ drop (length old) new
+abbrev pub extension : List ℕ → List ℕ → List ℕ
+extension old new = old ++ drop (length old) new

@@ -1,6 +1,6 @@
 //! Windows negated.
 ghost use Rattle.std.specs.Prelude.{ℕ, ◌+◌, ◌-◌, ◌*◌, ◌%◌, ◌^◌, ◌<◌, ◌≤◌, length};
-ghost use Rattle.vb_bits.specs.Bits.{bits, negated};
+ghost use Rattle.vb_bits.specs.Bits.{bits, complement};
 ghost use Rattle.vb_bits.specs.InBytes.{InBytes};
 ghost use Rattle.vb_bits.specs.Writes.{Writes};
 
@@ -14,7 +14,7 @@ use std::simd::prelude::*;
 /// at a time where there are so many, and then by bytes.
 pub fn map_words(bytes: &mut [u8], offset: usize, len: usize)
     requires window { InBytes bytes.old offset len }
-    ensures { Writes bytes.old bytes.new offset (negated (bits bytes.old offset len)) }
+    ensures { Writes bytes.old bytes.new offset (complement (bits bytes.old offset len)) }
 {
     let end = offset + len;
     let first = offset.div_ceil(8);
@@ -35,7 +35,7 @@ fn negate_in_byte(bytes: &mut [u8], start: usize, end: usize)
     requires ordered { start ≤ end }
     requires in_byte { start % 8 + (end - start) ≤ 8 }
     requires inside { end ≤ 8 * length bytes.old }
-    ensures { Writes bytes.old bytes.new start (negated (bits bytes.old start (end - start))) }
+    ensures { Writes bytes.old bytes.new start (complement (bits bytes.old start (end - start))) }
 {
     if start == end {
         return;
@@ -47,7 +47,7 @@ fn negate_in_byte(bytes: &mut [u8], start: usize, end: usize)
 /// Negates `n` words from byte `at` on: four at a time, and those left.
 fn negate_words(bytes: &mut [u8], at: usize, n: usize)
     requires { at + 8 * n ≤ length bytes.old }
-    ensures { Writes bytes.old bytes.new (8 * at) (negated (bits bytes.old (8 * at) (64 * n))) }
+    ensures { Writes bytes.old bytes.new (8 * at) (complement (bits bytes.old (8 * at) (64 * n))) }
 {
     if n < 4 {
         negate_few_words(bytes, at, n);
@@ -61,7 +61,7 @@ fn negate_words(bytes: &mut [u8], at: usize, n: usize)
 /// Negates `n` times four words from byte `at` on.
 fn negate_blocks(bytes: &mut [u8], at: usize, n: usize)
     requires { at + 32 * n ≤ length bytes.old }
-    ensures { Writes bytes.old bytes.new (8 * at) (negated (bits bytes.old (8 * at) (256 * n))) }
+    ensures { Writes bytes.old bytes.new (8 * at) (complement (bits bytes.old (8 * at) (256 * n))) }
 {
     for k in 0..n {
         let words = words_at(bytes, at + 32 * k);
@@ -74,7 +74,7 @@ fn negate_blocks(bytes: &mut [u8], at: usize, n: usize)
 fn negate_few_words(bytes: &mut [u8], at: usize, n: usize)
     requires few { n < 4 }
     requires inside { at + 8 * n ≤ length bytes.old }
-    ensures { Writes bytes.old bytes.new (8 * at) (negated (bits bytes.old (8 * at) (64 * n))) }
+    ensures { Writes bytes.old bytes.new (8 * at) (complement (bits bytes.old (8 * at) (64 * n))) }
 {
     if n == 0 {
         return;
@@ -94,7 +94,7 @@ fn negate_few_words(bytes: &mut [u8], at: usize, n: usize)
 #[inline(always)]
 fn negate_word(bytes: &mut [u8], at: usize)
     requires { at + 8 ≤ length bytes.old }
-    ensures { Writes bytes.old bytes.new (8 * at) (negated (bits bytes.old (8 * at) 64)) }
+    ensures { Writes bytes.old bytes.new (8 * at) (complement (bits bytes.old (8 * at) 64)) }
 {
     let word = word_at(bytes, at);
     write_word(bytes, at, !word);
@@ -106,7 +106,7 @@ fn negate_bytes(bytes: &mut [u8], first: usize, last: usize)
     requires inside { last ≤ length bytes.old }
     requires fits { 8 * last < 2 ^ 64 }
     ensures { Writes bytes.old bytes.new (8 * first)
-        (negated (bits bytes.old (8 * first) (8 * (last - first)))) }
+        (complement (bits bytes.old (8 * first) (8 * (last - first)))) }
 {
     for k in first..last {
         negate_in_byte(bytes, 8 * k, 8 * k + 8);

@@ -2,7 +2,7 @@
 ghost use Rattle.std.specs.Prelude.{◌≡◌, ◌+◌, ◌*◌, ◌%◌, ◌^◌, ◌<◌, ◌≤◌, length};
 ghost use Rattle.vb_bits.specs.Bits.{bits};
 ghost use Rattle.vb_bits.specs.InBytes.{InBytes};
-ghost use Rattle.vb_bits.specs.Operators.{merged};
+ghost use Rattle.vb_bits.specs.Operators.{merged_by};
 ghost use Rattle.vb_bits.specs.Writes.{Writes};
 
 use crate::bytes::{word_at, write_word};
@@ -21,7 +21,7 @@ pub(crate) fn merge_bits<M: Merge>(dst: &mut [u8], d: usize, src: &[u8], s: usiz
     requires into { InBytes dst.old d len }
     requires from { InBytes src.now s len }
     ensures { Writes dst.old dst.new d
-        (merged (M.bit) (bits dst.old d len) (bits src.now s len)) }
+        (merged_by (M.bit) (bits dst.old d len) (bits src.now s len)) }
 {
     if len < LONG || d % 256 == 0 {
         merge_run::<M>(dst, d, src, s, len);
@@ -38,7 +38,7 @@ fn merge_run<M: Merge>(dst: &mut [u8], d: usize, src: &[u8], s: usize, len: usiz
     requires into { InBytes dst.old d len }
     requires from { InBytes src.now s len }
     ensures { Writes dst.old dst.new d
-        (merged (M.bit) (bits dst.old d len) (bits src.now s len)) }
+        (merged_by (M.bit) (bits dst.old d len) (bits src.now s len)) }
 {
     let head = len.min((8 - d % 8) % 8);
     merge_in_byte::<M>(dst, d, src, s, head);
@@ -54,7 +54,7 @@ fn merge_in_byte<M: Merge>(dst: &mut [u8], d: usize, src: &[u8], s: usize, len: 
     requires into { d + len ≤ 8 * length dst.old }
     requires from { s + len ≤ 8 * length src.now }
     ensures { Writes dst.old dst.new d
-        (merged (M.bit) (bits dst.old d len) (bits src.now s len)) }
+        (merged_by (M.bit) (bits dst.old d len) (bits src.now s len)) }
 {
     let left = read_bits(dst, d, len);
     let right = read_bits(src, s, len);
@@ -67,7 +67,7 @@ fn merge_words<M: Merge>(dst: &mut [u8], d: usize, src: &[u8], s: usize, n: usiz
     requires into { InBytes dst.old d (64 * n) }
     requires from { InBytes src.now s (64 * n) }
     ensures { Writes dst.old dst.new d
-        (merged (M.bit) (bits dst.old d (64 * n)) (bits src.now s (64 * n))) }
+        (merged_by (M.bit) (bits dst.old d (64 * n)) (bits src.now s (64 * n))) }
 {
     let blocks = n / 4;
     merge_blocks::<M>(dst, d, src, s, blocks);
@@ -81,7 +81,7 @@ fn merge_blocks<M: Merge>(dst: &mut [u8], d: usize, src: &[u8], s: usize, n: usi
     requires into { d + 256 * n ≤ 8 * length dst.old }
     requires from { s + 256 * n ≤ 8 * length src.now }
     ensures { Writes dst.old dst.new d
-        (merged (M.bit) (bits dst.old d (256 * n)) (bits src.now s (256 * n))) }
+        (merged_by (M.bit) (bits dst.old d (256 * n)) (bits src.now s (256 * n))) }
 {
     if s % 8 == 0 {
         merge_whole_blocks::<M>(dst, d, src, s, n);
@@ -97,7 +97,7 @@ fn merge_whole_blocks<M: Merge>(dst: &mut [u8], d: usize, src: &[u8], s: usize, 
     requires into { d + 256 * n ≤ 8 * length dst.old }
     requires from { s + 256 * n ≤ 8 * length src.now }
     ensures { Writes dst.old dst.new d
-        (merged (M.bit) (bits dst.old d (256 * n)) (bits src.now s (256 * n))) }
+        (merged_by (M.bit) (bits dst.old d (256 * n)) (bits src.now s (256 * n))) }
 {
     for k in 0..n {
         let left = words_at(dst, d / 8 + 32 * k);
@@ -113,7 +113,7 @@ fn merge_shifted_blocks<M: Merge>(dst: &mut [u8], d: usize, src: &[u8], s: usize
     requires into { d + 256 * n ≤ 8 * length dst.old }
     requires from { s + 256 * n ≤ 8 * length src.now }
     ensures { Writes dst.old dst.new d
-        (merged (M.bit) (bits dst.old d (256 * n)) (bits src.now s (256 * n))) }
+        (merged_by (M.bit) (bits dst.old d (256 * n)) (bits src.now s (256 * n))) }
 {
     for k in 0..n {
         let left = words_at(dst, d / 8 + 32 * k);
@@ -130,7 +130,7 @@ fn merge_few_words<M: Merge>(dst: &mut [u8], d: usize, src: &[u8], s: usize, n: 
     requires into { InBytes dst.old d (64 * n) }
     requires from { InBytes src.now s (64 * n) }
     ensures { Writes dst.old dst.new d
-        (merged (M.bit) (bits dst.old d (64 * n)) (bits src.now s (64 * n))) }
+        (merged_by (M.bit) (bits dst.old d (64 * n)) (bits src.now s (64 * n))) }
 {
     if n == 0 {
         return;
@@ -153,7 +153,7 @@ fn merge_word<M: Merge>(dst: &mut [u8], d: usize, src: &[u8], s: usize)
     requires into { d + 64 ≤ 8 * length dst.old }
     requires from { s + 64 ≤ 8 * length src.now }
     ensures { Writes dst.old dst.new d
-        (merged (M.bit) (bits dst.old d 64) (bits src.now s 64)) }
+        (merged_by (M.bit) (bits dst.old d 64) (bits src.now s 64)) }
 {
     let left = word_at(dst, d / 8);
     let right = full_word(src, s / 8, s % 8);
@@ -167,7 +167,7 @@ fn merge_rest<M: Merge>(dst: &mut [u8], d: usize, src: &[u8], s: usize, len: usi
     requires into { InBytes dst.old d len }
     requires from { s + len ≤ 8 * length src.now }
     ensures { Writes dst.old dst.new d
-        (merged (M.bit) (bits dst.old d len) (bits src.now s len)) }
+        (merged_by (M.bit) (bits dst.old d len) (bits src.now s len)) }
 {
     let left = read_bits(dst, d, len);
     let right = read_bits(src, s, len);

@@ -1,7 +1,7 @@
 //! What two bits are combined to.
 ghost use Rattle.std.specs.Prelude.{◌≡◌, ℕ, ◌<◌, Bool, length};
 ghost use Rattle.vb_bits.specs.Digits.{has_bit, lane_bits};
-ghost use Rattle.vb_bits.specs.Operators.{merged};
+ghost use Rattle.vb_bits.specs.Operators.{merged_by};
 
 use std::simd::prelude::*;
 
@@ -20,7 +20,7 @@ pub trait Merge {
         requires left { length left ≡ 4 }
         requires right { length right ≡ 4 }
         ensures len { length result ≡ 4 }
-        ensures digits { lane_bits result ≡ merged bit (lane_bits left) (lane_bits right) };
+        ensures digits { lane_bits result ≡ merged_by bit (lane_bits left) (lane_bits right) };
 
     /// [`word`](Merge::word) of eight digits.
     fn byte(left: u8, right: u8) -> u8

@@ -27,11 +27,11 @@ pub fn read_bits(bytes: &[u8], at: usize, count: usize) -> u64
     ensures digits { digits result 0 count ≡ bits bytes.now at count }
     ensures clear { result < 2 ^ count }
 {
-    low_digits(realigned(bytes, at, count), count)
+    low_digits(read_shifted(bytes, at, count), count)
 }
 
 /// [`read_bits`], with any digits from `count` on.
-fn realigned(bytes: &[u8], at: usize, count: usize) -> u64
+fn read_shifted(bytes: &[u8], at: usize, count: usize) -> u64
     requires in_word { count ≤ 64 }
     requires inside { at + count ≤ 8 * length bytes.now }
     ensures { digits result 0 count ≡ bits bytes.now at count }

@@ -2,7 +2,7 @@
 ghost use Rattle.std.specs.Prelude.{◌+◌, ◌*◌, ◌^◌, ◌<◌, ◌≤◌, length};
 ghost use Rattle.vb_bits.specs.Bits.{bits};
 ghost use Rattle.vb_bits.specs.InBytes.{InBytes};
-ghost use Rattle.vb_bits.specs.Operators.{combined};
+ghost use Rattle.vb_bits.specs.Operators.{combined_by};
 ghost use Rattle.vb_bits.specs.Writes.{Writes};
 
 use crate::merge::merge_bits;
@@ -29,7 +29,7 @@ pub fn zip_words(dst: &mut [u8], d: usize, src: &[u8], s: usize, len: usize, op:
     requires into { InBytes dst.old d len }
     requires from { InBytes src.now s len }
     ensures { Writes dst.old dst.new d
-        (combined op (bits dst.old d len) (bits src.now s len)) }
+        (combined_by op (bits dst.old d len) (bits src.now s len)) }
 {
     match op {
         BitOp::And => merge_bits::<And>(dst, d, src, s, len),

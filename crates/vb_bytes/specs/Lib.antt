@@ -1,2 +1,2 @@
-pub mod Answers
+pub mod MakesBytes
 pub mod ByteForm

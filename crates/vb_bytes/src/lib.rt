@@ -7,7 +7,7 @@
 
 ghost use Rattle.std.specs.Prelude.{◌≡◌, ◌≢◌, ◌+◌, ◌*◌, ◌%◌, ◌^◌, ◌<◌, ◌≤◌, [], ◌++◌};
 ghost use Rattle.std.specs.Prelude.{length, vec_capacity, IfOk, IsOk, IsErrOf};
-ghost use Rattle.vb_bytes.specs.Answers.{MakesBytes, ReadsBytes};
+ghost use Rattle.vb_bytes.specs.MakesBytes.{MakesBytes, ReadsBytes};
 ghost use Rattle.vb_bytes.specs.ByteForm.{byteform, IsReadFrom};
 
 mod owned;

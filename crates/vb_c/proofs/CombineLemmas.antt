@@ -2,10 +2,10 @@
 use Rattle.std.proofs.Common.{◌≡◌, ℕ, ◌+◌, ◌<◌, ◌≤◌, ◌⊎◌, Bool, List, ◌++◌, length}
 use Rattle.std.proofs.Common.{sym, ap, subst, ◌∙◌, arith}
 use Rattle.vb_bits.specs.Bits.{bits}
-use Rattle.vb_bits.specs.Operators.{merged}
+use Rattle.vb_bits.specs.Operators.{merged_by}
 use Rattle.vb_bits.specs.Writes.{Writes}
 use Rattle.vb_bits.proofs.BitsLemmas.{length-bits, bits-add}
-use Rattle.vb_bits.proofs.OperatorsLemmas.{length-merged_bits, merged-append}
+use Rattle.vb_bits.proofs.OperatorsLemmas.{length-merged_bits, merged_by-append}
 use Rattle.vb_bits.proofs.WritesLemmas.{Writes-add}
 
 -- a window that is written twice
@@ -20,22 +20,22 @@ Writes-over b c d o l m e one two = record {
 
 -- n bits of s are copied behind m that are done, and then combined in place with those of t
 pub Writes-block : (f : Bool → Bool → Bool) (b c d e s t : List ℕ) (o u v m n : ℕ)
-    → Writes b c o (merged f (bits s u m) (bits t v m))
+    → Writes b c o (merged_by f (bits s u m) (bits t v m))
     → Writes c d (o + m) (bits s (u + m) n)
-    → Writes d e (o + m) (merged f (bits d (o + m) n) (bits t (v + m) n))
-    → Writes b e o (merged f (bits s u (m + n)) (bits t v (m + n)))
+    → Writes d e (o + m) (merged_by f (bits d (o + m) n) (bits t (v + m) n))
+    → Writes b e o (merged_by f (bits s u (m + n)) (bits t v (m + n)))
 Writes-block f b c d e s t o u v m n done copied combined =
     let k = bits s u m in let l = bits t v m in
     let left = bits s (u + m) n in let right = bits t (v + m) n in
     let same : bits d (o + m) n ≡ left =
     ap (bits d (o + m)) (sym (length-bits s (u + m) n)) ∙ copied.window in
-    let block : Writes c e (o + m) (merged f left right) =
-    Writes-over c d e (o + m) left (merged f left right)
+    let block : Writes c e (o + m) (merged_by f left right) =
+    Writes-over c d e (o + m) left (merged_by f left right)
     (length-bits s (u + m) n ∙ sym (length-merged_bits f s t (u + m) (v + m) n)) copied
-    (subst (λ x. Writes d e (o + m) (merged f x right)) same combined) in
+    (subst (λ x. Writes d e (o + m) (merged_by f x right)) same combined) in
     subst (Writes b e o)
-    (sym (merged-append f k left l right (length-bits s u m ∙ sym (length-bits t v m)))
-    ∙ ap (λ x. merged f x (l ++ right)) (sym (bits-add s u m n))
-    ∙ ap (merged f (bits s u (m + n))) (sym (bits-add t v m n)))
-    (Writes-add b c e o (o + m) (merged f k l) (merged f left right)
+    (sym (merged_by-append f k left l right (length-bits s u m ∙ sym (length-bits t v m)))
+    ∙ ap (λ x. merged_by f x (l ++ right)) (sym (bits-add s u m n))
+    ∙ ap (merged_by f (bits s u (m + n))) (sym (bits-add t v m n)))
+    (Writes-add b c e o (o + m) (merged_by f k l) (merged_by f left right)
     (omega (arith, length-merged_bits f s t u v m)) done block)

@@ -2,7 +2,7 @@
 ghost use Rattle.std.specs.Prelude.{◌≡◌};
 ghost use Rattle.vb_bits.specs.Bits.{bits};
 ghost use Rattle.vb_c.specs.Combined.{Combines};
-ghost use Rattle.vb_c.specs.Fits.{Checks};
+ghost use Rattle.vb_c.specs.Fits.{DoneIf};
 ghost use Rattle.vb_c.specs.Windows.{AllInBytes, BothInBytes};
 
 use vb_bits::{BitOp, copy_bits, window_fits, zip_words};
@@ -60,7 +60,7 @@ pub extern "C" fn vb_try_and_bits(
     s: usize,
     len: usize,
 ) -> bool
-    ensures { Checks (BothInBytes dst.old d src.now s len)
+    ensures { DoneIf (BothInBytes dst.old d src.now s len)
         (Combines BitOp.And dst.old dst.new d (bits dst.old d len) (bits src.now s len))
         (dst.new ≡ dst.old) result }
 {
@@ -74,7 +74,7 @@ pub extern "C" fn vb_try_and_bits(
 /// Whether both windows lie in their bytes; [`vb_or_bits`] is then done, else nothing.
 #[unsafe(no_mangle)]
 pub extern "C" fn vb_try_or_bits(dst: &mut [u8], d: usize, src: &[u8], s: usize, len: usize) -> bool
-    ensures { Checks (BothInBytes dst.old d src.now s len)
+    ensures { DoneIf (BothInBytes dst.old d src.now s len)
         (Combines BitOp.Or dst.old dst.new d (bits dst.old d len) (bits src.now s len))
         (dst.new ≡ dst.old) result }
 {
@@ -94,7 +94,7 @@ pub extern "C" fn vb_try_xor_bits(
     s: usize,
     len: usize,
 ) -> bool
-    ensures { Checks (BothInBytes dst.old d src.now s len)
+    ensures { DoneIf (BothInBytes dst.old d src.now s len)
         (Combines BitOp.Xor dst.old dst.new d (bits dst.old d len) (bits src.now s len))
         (dst.new ≡ dst.old) result }
 {
@@ -114,7 +114,7 @@ pub extern "C" fn vb_try_and_not_bits(
     s: usize,
     len: usize,
 ) -> bool
-    ensures { Checks (BothInBytes dst.old d src.now s len)
+    ensures { DoneIf (BothInBytes dst.old d src.now s len)
         (Combines BitOp.AndNot dst.old dst.new d (bits dst.old d len) (bits src.now s len))
         (dst.new ≡ dst.old) result }
 {
@@ -212,7 +212,7 @@ pub extern "C" fn vb_try_and_into(
     r: usize,
     len: usize,
 ) -> bool
-    ensures { Checks (AllInBytes out.old o left.now l right.now r len)
+    ensures { DoneIf (AllInBytes out.old o left.now l right.now r len)
         (Combines BitOp.And out.old out.new o (bits left.now l len) (bits right.now r len))
         (out.new ≡ out.old) result }
 {
@@ -234,7 +234,7 @@ pub extern "C" fn vb_try_or_into(
     r: usize,
     len: usize,
 ) -> bool
-    ensures { Checks (AllInBytes out.old o left.now l right.now r len)
+    ensures { DoneIf (AllInBytes out.old o left.now l right.now r len)
         (Combines BitOp.Or out.old out.new o (bits left.now l len) (bits right.now r len))
         (out.new ≡ out.old) result }
 {
@@ -256,7 +256,7 @@ pub extern "C" fn vb_try_xor_into(
     r: usize,
     len: usize,
 ) -> bool
-    ensures { Checks (AllInBytes out.old o left.now l right.now r len)
+    ensures { DoneIf (AllInBytes out.old o left.now l right.now r len)
         (Combines BitOp.Xor out.old out.new o (bits left.now l len) (bits right.now r len))
         (out.new ≡ out.old) result }
 {
@@ -278,7 +278,7 @@ pub extern "C" fn vb_try_and_not_into(
     r: usize,
     len: usize,
 ) -> bool
-    ensures { Checks (AllInBytes out.old o left.now l right.now r len)
+    ensures { DoneIf (AllInBytes out.old o left.now l right.now r len)
         (Combines BitOp.AndNot out.old out.new o (bits left.now l len) (bits right.now r len))
         (out.new ≡ out.old) result }
 {

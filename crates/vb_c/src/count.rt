@@ -2,7 +2,7 @@
 ghost use Rattle.std.specs.Prelude.{◌≡◌};
 ghost use Rattle.vb_bits.specs.Bits.{bits, count};
 ghost use Rattle.vb_bits.specs.InBytes.{InBytes};
-ghost use Rattle.vb_c.specs.Fits.{Checks};
+ghost use Rattle.vb_c.specs.Fits.{DoneIf};
 
 /// How many of the `len` bits from bit `offset` on are true. The window is read once, 64 bytes at a
 /// time.
@@ -22,7 +22,7 @@ pub extern "C" fn vb_try_count_ones(
     len: usize,
     ones: &mut usize,
 ) -> bool
-    ensures { Checks (InBytes bytes.now offset len)
+    ensures { DoneIf (InBytes bytes.now offset len)
         (ones.new ≡ count (bits bytes.now offset len)) (ones.new ≡ ones.old) result }
 {
     if !vb_bits::window_fits(bytes, offset, len) {

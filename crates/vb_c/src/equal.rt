@@ -1,7 +1,7 @@
 //! Windows compared.
 ghost use Rattle.std.specs.Prelude.{◌≡◌, ◌↔◌, IsTrue};
 ghost use Rattle.vb_bits.specs.Bits.{bits};
-ghost use Rattle.vb_c.specs.Fits.{Checks};
+ghost use Rattle.vb_c.specs.Fits.{DoneIf};
 ghost use Rattle.vb_c.specs.Windows.{BothInBytes};
 
 /// Whether the `len` bits of `left` from bit `l` on are those of `right` from bit `r` on. No block
@@ -24,7 +24,7 @@ pub extern "C" fn vb_try_equal_bits(
     len: usize,
     equal: &mut bool,
 ) -> bool
-    ensures { Checks (BothInBytes left.now l right.now r len)
+    ensures { DoneIf (BothInBytes left.now l right.now r len)
         (IsTrue equal.new ↔ (bits left.now l len ≡ bits right.now r len))
         (equal.new ≡ equal.old) result }
 {

@@ -2,8 +2,8 @@
 ghost use Rattle.std.specs.Prelude.{◌≡◌, ◌*◌, length};
 ghost use Rattle.vb_bits.specs.Bits.{bits};
 ghost use Rattle.vb_bits.specs.InBytes.{InBytes};
-ghost use Rattle.vb_c.specs.Filtered.{Filters, FiltersBits, HasRoom};
-ghost use Rattle.vb_c.specs.Fits.{Checks};
+ghost use Rattle.vb_c.specs.Filtered.{Filters, FiltersBits, KeptFits};
+ghost use Rattle.vb_c.specs.Fits.{DoneIf};
 
 use vb_bits::window_fits;
 use vb_filter::{filter_into, filter_values_into};
@@ -33,7 +33,7 @@ pub extern "C" fn vb_filter_bits(
     len: usize,
 ) -> usize
     requires values { InBytes values.now v len }
-    requires mask { HasRoom mask.now m len (8 * length out.old) }
+    requires mask { KeptFits mask.now m len (8 * length out.old) }
     ensures { FiltersBits (bits mask.now m len) (bits values.now v len) out.old out.new result }
 {
     filter_into(
@@ -55,7 +55,7 @@ pub extern "C" fn vb_try_filter_bits(
     len: usize,
     written: &mut usize,
 ) -> bool
-    ensures { Checks (InBytes values.now v len × HasRoom mask.now m len (8 * length out.old))
+    ensures { DoneIf (InBytes values.now v len × KeptFits mask.now m len (8 * length out.old))
         (FiltersBits (bits mask.now m len) (bits values.now v len) out.old out.new written.new)
         ((out.new ≡ out.old) × (written.new ≡ written.old)) result }
 {
@@ -74,7 +74,7 @@ pub extern "C" fn vb_try_filter_bits(
 /// behind them stay.
 #[unsafe(no_mangle)]
 pub extern "C" fn vb_filter_u8(out: &mut [u8], values: &[u8], mask: &[u8], m: usize) -> usize
-    requires { HasRoom mask.now m (length values.now) (length out.old) }
+    requires { KeptFits mask.now m (length values.now) (length out.old) }
     ensures { Filters (bits mask.now m (length values.now)) values.now out.old out.new result }
 {
     filter_values(out, values, mask, m)
@@ -90,7 +90,7 @@ pub extern "C" fn vb_try_filter_u8(
     m: usize,
     written: &mut usize,
 ) -> bool
-    ensures { Checks (HasRoom mask.now m (length values.now) (length out.old))
+    ensures { DoneIf (KeptFits mask.now m (length values.now) (length out.old))
         (Filters (bits mask.now m (length values.now)) values.now out.old out.new written.new)
         ((out.new ≡ out.old) × (written.new ≡ written.old)) result }
 {
@@ -102,7 +102,7 @@ pub extern "C" fn vb_try_filter_u8(
 /// The items of `out` behind them stay.
 #[unsafe(no_mangle)]
 pub extern "C" fn vb_filter_u16(out: &mut [u16], values: &[u16], mask: &[u8], m: usize) -> usize
-    requires { HasRoom mask.now m (length values.now) (length out.old) }
+    requires { KeptFits mask.now m (length values.now) (length out.old) }
     ensures { Filters (bits mask.now m (length values.now)) values.now out.old out.new result }
 {
     filter_values(out, values, mask, m)
@@ -118,7 +118,7 @@ pub extern "C" fn vb_try_filter_u16(
     m: usize,
     written: &mut usize,
 ) -> bool
-    ensures { Checks (HasRoom mask.now m (length values.now) (length out.old))
+    ensures { DoneIf (KeptFits mask.now m (length values.now) (length out.old))
         (Filters (bits mask.now m (length values.now)) values.now out.old out.new written.new)
         ((out.new ≡ out.old) × (written.new ≡ written.old)) result }
 {
@@ -130,7 +130,7 @@ pub extern "C" fn vb_try_filter_u16(
 /// The items of `out` behind them stay.
 #[unsafe(no_mangle)]
 pub extern "C" fn vb_filter_u32(out: &mut [u32], values: &[u32], mask: &[u8], m: usize) -> usize
-    requires { HasRoom mask.now m (length values.now) (length out.old) }
+    requires { KeptFits mask.now m (length values.now) (length out.old) }
     ensures { Filters (bits mask.now m (length values.now)) values.now out.old out.new result }
 {
     filter_values(out, values, mask, m)
@@ -146,7 +146,7 @@ pub extern "C" fn vb_try_filter_u32(
     m: usize,
     written: &mut usize,
 ) -> bool
-    ensures { Checks (HasRoom mask.now m (length values.now) (length out.old))
+    ensures { DoneIf (KeptFits mask.now m (length values.now) (length out.old))
         (Filters (bits mask.now m (length values.now)) values.now out.old out.new written.new)
         ((out.new ≡ out.old) × (written.new ≡ written.old)) result }
 {
@@ -158,7 +158,7 @@ pub extern "C" fn vb_try_filter_u32(
 /// The items of `out` behind them stay.
 #[unsafe(no_mangle)]
 pub extern "C" fn vb_filter_u64(out: &mut [u64], values: &[u64], mask: &[u8], m: usize) -> usize
-    requires { HasRoom mask.now m (length values.now) (length out.old) }
+    requires { KeptFits mask.now m (length values.now) (length out.old) }
     ensures { Filters (bits mask.now m (length values.now)) values.now out.old out.new result }
 {
     filter_values(out, values, mask, m)
@@ -174,7 +174,7 @@ pub extern "C" fn vb_try_filter_u64(
     m: usize,
     written: &mut usize,
 ) -> bool
-    ensures { Checks (HasRoom mask.now m (length values.now) (length out.old))
+    ensures { DoneIf (KeptFits mask.now m (length values.now) (length out.old))
         (Filters (bits mask.now m (length values.now)) values.now out.old out.new written.new)
         ((out.new ≡ out.old) × (written.new ≡ written.old)) result }
 {
@@ -186,7 +186,7 @@ pub extern "C" fn vb_try_filter_u64(
 /// The items of `out` behind them stay.
 #[unsafe(no_mangle)]
 pub extern "C" fn vb_filter_u128(out: &mut [Wide], values: &[Wide], mask: &[u8], m: usize) -> usize
-    requires { HasRoom mask.now m (length values.now) (length out.old) }
+    requires { KeptFits mask.now m (length values.now) (length out.old) }
     ensures { Filters (bits mask.now m (length values.now)) values.now out.old out.new result }
 {
     filter_values(out, values, mask, m)
@@ -202,7 +202,7 @@ pub extern "C" fn vb_try_filter_u128(
     m: usize,
     written: &mut usize,
 ) -> bool
-    ensures { Checks (HasRoom mask.now m (length values.now) (length out.old))
+    ensures { DoneIf (KeptFits mask.now m (length values.now) (length out.old))
         (Filters (bits mask.now m (length values.now)) values.now out.old out.new written.new)
         ((out.new ≡ out.old) × (written.new ≡ written.old)) result }
 {
@@ -212,7 +212,7 @@ pub extern "C" fn vb_try_filter_u128(
 /// Writes those of the values whose bit of `mask` from bit `m` on is true to the front of `out`,
 /// and answers how many they are.
 fn filter_values<T: Copy>(out: &mut [T], values: &[T], mask: &[u8], m: usize) -> usize
-    requires { HasRoom mask.now m (length values.now) (length out.old) }
+    requires { KeptFits mask.now m (length values.now) (length out.old) }
     ensures { Filters (bits mask.now m (length values.now)) values.now out.old out.new result }
 {
     let mask = BitBufferView::new_with_offset(mask, values.len(), m);
@@ -228,7 +228,7 @@ fn try_filter_values<T: Copy>(
     m: usize,
     written: &mut usize,
 ) -> bool
-    ensures { Checks (HasRoom mask.now m (length values.now) (length out.old))
+    ensures { DoneIf (KeptFits mask.now m (length values.now) (length out.old))
         (Filters (bits mask.now m (length values.now)) values.now out.old out.new written.new)
         ((out.new ≡ out.old) × (written.new ≡ written.old)) result }
 {

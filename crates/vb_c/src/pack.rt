@@ -1,6 +1,6 @@
 //! Truth values packed into bits.
 ghost use Rattle.std.specs.Prelude.{◌≡◌, ◌*◌, ◌≤◌, ◌==◌, not, length, map};
-ghost use Rattle.vb_c.specs.Fits.{Checks};
+ghost use Rattle.vb_c.specs.Fits.{DoneIf};
 ghost use Rattle.vb_c.specs.Packed.{Packs};
 
 /// Packs truth values into the first bytes of `out`, eight into each; the bits of the last one
@@ -16,7 +16,7 @@ pub extern "C" fn vb_pack_bools(out: &mut [u8], bools: &[bool])
 /// Whether `out` has room for the values; [`vb_pack_bools`] is then done, and else it is as it was.
 #[unsafe(no_mangle)]
 pub extern "C" fn vb_try_pack_bools(out: &mut [u8], bools: &[bool]) -> bool
-    ensures { Checks (length bools.now ≤ 8 * length out.old)
+    ensures { DoneIf (length bools.now ≤ 8 * length out.old)
         (Packs bools.now out.old out.new) (out.new ≡ out.old) result }
 {
     if !vb_bits::window_fits(out, 0, bools.len()) {
@@ -40,7 +40,7 @@ pub extern "C" fn vb_pack_truthy(out: &mut [u8], truthy: &[u8])
 /// was.
 #[unsafe(no_mangle)]
 pub extern "C" fn vb_try_pack_truthy(out: &mut [u8], truthy: &[u8]) -> bool
-    ensures { Checks (length truthy.now ≤ 8 * length out.old)
+    ensures { DoneIf (length truthy.now ≤ 8 * length out.old)
         (Packs (map (λ x. not (x == 0)) truthy.now) out.old out.new) (out.new ≡ out.old) result }
 {
     if !vb_bits::window_fits(out, 0, truthy.len()) {

@@ -1,8 +1,8 @@
 //! Ranks, and places of ranks, over a table of counts that the caller keeps.
 ghost use Rattle.std.specs.Prelude.{◌≡◌, ◌≤◌, ◌↔◌, IsTrue, take};
-ghost use Rattle.vb_bits.specs.Bits.{bits, count, negated, Selects};
+ghost use Rattle.vb_bits.specs.Bits.{bits, count, complement, Selects};
 ghost use Rattle.vb_bits.specs.InBytes.{InBytes};
-ghost use Rattle.vb_c.specs.Fits.{Checks};
+ghost use Rattle.vb_c.specs.Fits.{DoneIf};
 ghost use Rattle.vb_c.specs.Place.{answered_place};
 ghost use Rattle.vb_c.specs.Ranked.{HasTable};
 ghost use Rattle.vb_rank.specs.Fills.{Fills};
@@ -38,7 +38,7 @@ pub extern "C" fn vb_try_block_counts(
     table: &mut [usize],
     written: &mut usize,
 ) -> bool
-    ensures { Checks (InBytes bytes.now offset len)
+    ensures { DoneIf (InBytes bytes.now offset len)
         (Fills (block_counts (bits bytes.now offset len)) table.old table.new written.new)
         ((table.new ≡ table.old) × (written.new ≡ written.old)) result }
 {
@@ -79,7 +79,7 @@ pub extern "C" fn vb_try_rank(
     i: usize,
     rank: &mut usize,
 ) -> bool
-    ensures { Checks (HasTable bytes.now offset len table.now × (i ≤ len))
+    ensures { DoneIf (HasTable bytes.now offset len table.now × (i ≤ len))
         (table.now ≡ block_counts (bits bytes.now offset len)
         → rank.new ≡ count (take i (bits bytes.now offset len)))
         (rank.new ≡ rank.old) result }
@@ -121,7 +121,7 @@ pub extern "C" fn vb_try_ranked_select(
     n: usize,
     place: &mut Place,
 ) -> bool
-    ensures { Checks (HasTable bytes.now offset len table.now)
+    ensures { DoneIf (HasTable bytes.now offset len table.now)
         (table.now ≡ block_counts (bits bytes.now offset len)
         → Selects (bits bytes.now offset len) n (answered_place place.new))
         (place.new ≡ place.old) result }
@@ -146,7 +146,7 @@ pub extern "C" fn vb_ranked_select_unset(
 ) -> Place
     requires { HasTable bytes.now offset len table.now }
     ensures { table.now ≡ block_counts (bits bytes.now offset len)
-        → Selects (negated (bits bytes.now offset len)) n (answered_place result) }
+        → Selects (complement (bits bytes.now offset len)) n (answered_place result) }
 {
     let table = &mut PlainTable::new(table);
     vb_rank::select_unset_by(&mut Plain::new(bytes), offset, len, table, n).into()
@@ -163,9 +163,9 @@ pub extern "C" fn vb_try_ranked_select_unset(
     n: usize,
     place: &mut Place,
 ) -> bool
-    ensures { Checks (HasTable bytes.now offset len table.now)
+    ensures { DoneIf (HasTable bytes.now offset len table.now)
         (table.now ≡ block_counts (bits bytes.now offset len)
-        → Selects (negated (bits bytes.now offset len)) n (answered_place place.new))
+        → Selects (complement (bits bytes.now offset len)) n (answered_place place.new))
         (place.new ≡ place.old) result }
 {
     if !has_table(bytes, offset, len, table) {

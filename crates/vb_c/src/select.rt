@@ -1,9 +1,9 @@
 //! The places of bits.
 ghost use Rattle.std.specs.Prelude.{◌≡◌};
-ghost use Rattle.vb_bits.specs.Bits.{bits, negated, Selects, AnswersEach};
+ghost use Rattle.vb_bits.specs.Bits.{bits, complement, Selects, InvertsCount};
 ghost use Rattle.vb_bits.specs.InBytes.{InBytes};
 ghost use Rattle.vb_bits.specs.Runs.{last_place};
-ghost use Rattle.vb_c.specs.Fits.{Checks};
+ghost use Rattle.vb_c.specs.Fits.{DoneIf};
 ghost use Rattle.vb_c.specs.Place.{answered_place};
 
 use crate::place::Place;
@@ -15,7 +15,7 @@ use crate::place::Place;
 pub extern "C" fn vb_bit_select(bytes: &[u8], offset: usize, len: usize, n: usize) -> Place
     requires window { InBytes bytes.now offset len }
     ensures place { Selects (bits bytes.now offset len) n (answered_place result) }
-    ensures each { AnswersEach (bits bytes.now offset len) n (answered_place result) }
+    ensures each { InvertsCount (bits bytes.now offset len) n (answered_place result) }
 {
     vb_kernel::bit_select(bytes, offset, len, n).into()
 }
@@ -25,8 +25,8 @@ pub extern "C" fn vb_bit_select(bytes: &[u8], offset: usize, len: usize, n: usiz
 #[unsafe(no_mangle)]
 pub extern "C" fn vb_bit_select_unset(bytes: &[u8], offset: usize, len: usize, n: usize) -> Place
     requires window { InBytes bytes.now offset len }
-    ensures place { Selects (negated (bits bytes.now offset len)) n (answered_place result) }
-    ensures each { AnswersEach (negated (bits bytes.now offset len)) n (answered_place result) }
+    ensures place { Selects (complement (bits bytes.now offset len)) n (answered_place result) }
+    ensures each { InvertsCount (complement (bits bytes.now offset len)) n (answered_place result) }
 {
     vb_kernel::bit_select_unset(bytes, offset, len, n).into()
 }
@@ -50,7 +50,7 @@ pub extern "C" fn vb_try_bit_select(
     n: usize,
     place: &mut Place,
 ) -> bool
-    ensures { Checks (InBytes bytes.now offset len)
+    ensures { DoneIf (InBytes bytes.now offset len)
         (Selects (bits bytes.now offset len) n (answered_place place.new))
         (place.new ≡ place.old) result }
 {
@@ -71,8 +71,8 @@ pub extern "C" fn vb_try_bit_select_unset(
     n: usize,
     place: &mut Place,
 ) -> bool
-    ensures { Checks (InBytes bytes.now offset len)
-        (Selects (negated (bits bytes.now offset len)) n (answered_place place.new))
+    ensures { DoneIf (InBytes bytes.now offset len)
+        (Selects (complement (bits bytes.now offset len)) n (answered_place place.new))
         (place.new ≡ place.old) result }
 {
     if !vb_bits::window_fits(bytes, offset, len) {
@@ -90,7 +90,7 @@ pub extern "C" fn vb_try_last_set_index(
     len: usize,
     place: &mut Place,
 ) -> bool
-    ensures { Checks (InBytes bytes.now offset len)
+    ensures { DoneIf (InBytes bytes.now offset len)
         (answered_place place.new ≡ last_place (bits bytes.now offset len))
         (place.new ≡ place.old) result }
 {

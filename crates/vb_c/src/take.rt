@@ -3,7 +3,7 @@ ghost use Rattle.std.specs.Prelude.{◌≡◌, ◌*◌, ◌≤◌, Some, None, l
 ghost use Rattle.std.specs.Option.{ForSome, option_map};
 ghost use Rattle.vb_bits.specs.Bits.{bits};
 ghost use Rattle.vb_bits.specs.InBytes.{InBytes};
-ghost use Rattle.vb_c.specs.Fits.{Checks};
+ghost use Rattle.vb_c.specs.Fits.{DoneIf};
 ghost use Rattle.vb_c.specs.Taken.{Takes};
 ghost use Rattle.vb_view.specs.View.{bits_of};
 
@@ -43,7 +43,7 @@ pub extern "C" fn vb_try_take_u32(
     indices: &[u32],
     past: &mut Place,
 ) -> bool
-    ensures { Checks ((length indices.now ≤ 8 * length out.old) × InBytes bytes.now offset len)
+    ensures { DoneIf ((length indices.now ≤ 8 * length out.old) × InBytes bytes.now offset len)
         (Takes (bits bytes.now offset len) (map pos indices.now) None out.old out.new past.new)
         ((out.new ≡ out.old) × (past.new ≡ past.old)) result }
 {
@@ -93,7 +93,7 @@ pub extern "C" fn vb_try_take_valid_u32(
     v: usize,
     past: &mut Place,
 ) -> bool
-    ensures { Checks ((length indices.now ≤ 8 * length out.old) × InBytes bytes.now offset len
+    ensures { DoneIf ((length indices.now ≤ 8 * length out.old) × InBytes bytes.now offset len
         × InBytes validity.now v (length indices.now))
         (Takes (bits bytes.now offset len) (map pos indices.now)
         (Some (bits validity.now v (length indices.now))) out.old out.new past.new)
@@ -140,7 +140,7 @@ pub extern "C" fn vb_try_take_u64(
     indices: &[u64],
     past: &mut Place,
 ) -> bool
-    ensures { Checks ((length indices.now ≤ 8 * length out.old) × InBytes bytes.now offset len)
+    ensures { DoneIf ((length indices.now ≤ 8 * length out.old) × InBytes bytes.now offset len)
         (Takes (bits bytes.now offset len) (map pos indices.now) None out.old out.new past.new)
         ((out.new ≡ out.old) × (past.new ≡ past.old)) result }
 {
@@ -191,7 +191,7 @@ pub extern "C" fn vb_try_take_valid_u64(
     v: usize,
     past: &mut Place,
 ) -> bool
-    ensures { Checks ((length indices.now ≤ 8 * length out.old) × InBytes bytes.now offset len
+    ensures { DoneIf ((length indices.now ≤ 8 * length out.old) × InBytes bytes.now offset len
         × InBytes validity.now v (length indices.now))
         (Takes (bits bytes.now offset len) (map pos indices.now)
         (Some (bits validity.now v (length indices.now))) out.old out.new past.new)

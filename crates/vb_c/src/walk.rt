@@ -4,7 +4,7 @@ ghost use Rattle.vb_bits.specs.Bits.{bits, places};
 ghost use Rattle.vb_bits.specs.InBytes.{InBytes};
 ghost use Rattle.vb_bits.specs.Runs.{runs};
 ghost use Rattle.vb_c.specs.Filled.{run_of};
-ghost use Rattle.vb_c.specs.Fits.{Checks};
+ghost use Rattle.vb_c.specs.Fits.{DoneIf};
 ghost use Rattle.vb_rank.specs.Fills.{Fills};
 
 use vb_walk::{BitIndexIterator, BitSliceIterator};
@@ -73,7 +73,7 @@ pub extern "C" fn vb_try_set_indices(
     out: &mut [usize],
     count: &mut usize,
 ) -> bool
-    ensures { Checks (InBytes bytes.now offset len)
+    ensures { DoneIf (InBytes bytes.now offset len)
         (Fills (places (bits bytes.now offset len)) out.old out.new count.new)
         ((out.new ≡ out.old) × (count.new ≡ count.old)) result }
 {
@@ -94,7 +94,7 @@ pub extern "C" fn vb_try_set_slices(
     out: &mut [Run],
     count: &mut usize,
 ) -> bool
-    ensures { Checks (InBytes bytes.now offset len)
+    ensures { DoneIf (InBytes bytes.now offset len)
         (Fills (map run_of (runs (bits bytes.now offset len))) out.old out.new count.new)
         ((out.new ≡ out.old) × (count.new ≡ count.old)) result }
 {

@@ -1,9 +1,9 @@
 //! Bits filled, negated and copied.
 ghost use Rattle.std.specs.Prelude.{◌≡◌, ◌-◌, ◌*◌, ◌≤◌, length, replicate};
-ghost use Rattle.vb_bits.specs.Bits.{bits, negated};
+ghost use Rattle.vb_bits.specs.Bits.{bits, complement};
 ghost use Rattle.vb_bits.specs.InBytes.{InBytes};
 ghost use Rattle.vb_bits.specs.Writes.{Writes};
-ghost use Rattle.vb_c.specs.Fits.{Checks};
+ghost use Rattle.vb_c.specs.Fits.{DoneIf};
 ghost use Rattle.vb_c.specs.Windows.{BothInBytes};
 
 /// Makes the bits from `start` up to `end`, `end` excluded, `v`, and leaves every other bit;
@@ -20,7 +20,7 @@ pub extern "C" fn vb_fill_bits(bytes: &mut [u8], start: usize, end: usize, v: bo
 /// are as they were.
 #[unsafe(no_mangle)]
 pub extern "C" fn vb_try_fill_bits(bytes: &mut [u8], start: usize, end: usize, v: bool) -> bool
-    ensures { Checks (end ≤ 8 * length bytes.old)
+    ensures { DoneIf (end ≤ 8 * length bytes.old)
         (Writes bytes.old bytes.new start (replicate (end - start) v))
         (bytes.new ≡ bytes.old) result }
 {
@@ -35,7 +35,7 @@ pub extern "C" fn vb_try_fill_bits(bytes: &mut [u8], start: usize, end: usize, v
 #[unsafe(no_mangle)]
 pub extern "C" fn vb_negate_bits(bytes: &mut [u8], offset: usize, len: usize)
     requires window { InBytes bytes.old offset len }
-    ensures { Writes bytes.old bytes.new offset (negated (bits bytes.old offset len)) }
+    ensures { Writes bytes.old bytes.new offset (complement (bits bytes.old offset len)) }
 {
     vb_bits::map_words(bytes, offset, len);
 }
@@ -44,8 +44,8 @@ pub extern "C" fn vb_negate_bits(bytes: &mut [u8], offset: usize, len: usize)
 /// they were.
 #[unsafe(no_mangle)]
 pub extern "C" fn vb_try_negate_bits(bytes: &mut [u8], offset: usize, len: usize) -> bool
-    ensures { Checks (InBytes bytes.old offset len)
-        (Writes bytes.old bytes.new offset (negated (bits bytes.old offset len)))
+    ensures { DoneIf (InBytes bytes.old offset len)
+        (Writes bytes.old bytes.new offset (complement (bits bytes.old offset len)))
         (bytes.new ≡ bytes.old) result }
 {
     if !vb_bits::window_fits(bytes, offset, len) {
@@ -75,7 +75,7 @@ pub extern "C" fn vb_try_copy_bits(
     s: usize,
     len: usize,
 ) -> bool
-    ensures { Checks (BothInBytes dst.old d src.now s len)
+    ensures { DoneIf (BothInBytes dst.old d src.now s len)
         (Writes dst.old dst.new d (bits src.now s len)) (dst.new ≡ dst.old) result }
 {
     if !vb_bits::window_fits(dst, d, len) || !vb_bits::window_fits(src, s, len) {

@@ -5,11 +5,11 @@ use Rattle.std.specs.Prelude.{slice_range, Option, Some, None, MatchOption, Matc
 use Rattle.std.specs.Prelude.{◌⊎◌, ◌↔◌, nat_lt, nat_le}
 use Rattle.std.specs.List.{list_all}
 use Rattle.std.specs.Option.{option_and_then, option_map, option_map_or}
-use Rattle.vb_bits.specs.Bits.{bits, at, count, negated, places, Selects}
-use Rattle.vb_bits.specs.Edits.{filled}
-use Rattle.vb_bits.specs.Operators.{combined}
+use Rattle.vb_bits.specs.Bits.{bits, at, count, complement, places, Selects}
+use Rattle.vb_bits.specs.Edits.{with_fill}
+use Rattle.vb_bits.specs.Operators.{combined_by}
 use Rattle.vb_bits.specs.Runs.{runs, last_place}
-use Rattle.vb_bits.specs.Shown.{shown}
+use Rattle.vb_bits.specs.Shown.{bits_text}
 use Rattle.vb_bits.specs.declared.zip.BitOp.{BitOp}
 use Rattle.vb_bits.specs.declared.zip.BitOp.TheVariants.{And, Or, Xor, AndNot}
 use Rattle.vb_command.specs.declared.answer.Refusal.{Refusal}
@@ -70,42 +70,42 @@ pub data Order : Type 0 where
   Eq : ℕ → ℕ → Order
 
 -- the order of a command
-abbrev pub order : {A : Type 0} → Command A → Order
-order (commands.Import t o n bytes) = Import t o n bytes.items
-order (commands.Full t v n) = Full t v n
-order (commands.Indices t n numbers) = Indices t n numbers.items
-order (commands.Set k i v) = Set k i v
-order (commands.Append k v) = Append k v
-order (commands.Appendn k v n) = Appendn k v n
-order (commands.Appendset k j) = Appendset k j
-order (commands.Fill k a b v) = Fill k a b v
-order (commands.Truncate k n) = Truncate k n
-order (commands.Clear k) = Clear k
-order (commands.Flip k) = Flip k
-order (commands.Freeze k) = Freeze k
-order (commands.Thaw k) = Thaw k
-order (commands.Clone k t) = Clone k t
-order (commands.Slice k a b t) = Slice k a b t
-order (commands.Sliced k t) = Sliced k t
-order (commands.Drop k) = Drop k
-order (commands.And mode l r t) = Combine And mode l r t
-order (commands.Or mode l r t) = Combine Or mode l r t
-order (commands.Xor mode l r t) = Combine Xor mode l r t
-order (commands.Andnot mode l r t) = Combine AndNot mode l r t
-order (commands.Not mode l t) = Not mode l t
-order (commands.Take k t m indices) = Take k t m indices.items
-order (commands.Len k) = Len k
-order (commands.Count k) = Count k
-order (commands.Get k i) = Get k i
-order (commands.Countrange k a b) = Countrange k a b
-order (commands.Select k n) = Select k n
-order (commands.Selectunset k n) = Selectunset k n
-order (commands.Last k) = Last k
-order (commands.Bits k) = Bits k
-order (commands.Places k) = Places k
-order (commands.Runs k) = Runs k
-order (commands.Show k) = Show k
-order (commands.Eq k j) = Eq k j
+abbrev pub order_of : {A : Type 0} → Command A → Order
+order_of (commands.Import t o n bytes) = Import t o n bytes.items
+order_of (commands.Full t v n) = Full t v n
+order_of (commands.Indices t n numbers) = Indices t n numbers.items
+order_of (commands.Set k i v) = Set k i v
+order_of (commands.Append k v) = Append k v
+order_of (commands.Appendn k v n) = Appendn k v n
+order_of (commands.Appendset k j) = Appendset k j
+order_of (commands.Fill k a b v) = Fill k a b v
+order_of (commands.Truncate k n) = Truncate k n
+order_of (commands.Clear k) = Clear k
+order_of (commands.Flip k) = Flip k
+order_of (commands.Freeze k) = Freeze k
+order_of (commands.Thaw k) = Thaw k
+order_of (commands.Clone k t) = Clone k t
+order_of (commands.Slice k a b t) = Slice k a b t
+order_of (commands.Sliced k t) = Sliced k t
+order_of (commands.Drop k) = Drop k
+order_of (commands.And mode l r t) = Combine And mode l r t
+order_of (commands.Or mode l r t) = Combine Or mode l r t
+order_of (commands.Xor mode l r t) = Combine Xor mode l r t
+order_of (commands.Andnot mode l r t) = Combine AndNot mode l r t
+order_of (commands.Not mode l t) = Not mode l t
+order_of (commands.Take k t m indices) = Take k t m indices.items
+order_of (commands.Len k) = Len k
+order_of (commands.Count k) = Count k
+order_of (commands.Get k i) = Get k i
+order_of (commands.Countrange k a b) = Countrange k a b
+order_of (commands.Select k n) = Select k n
+order_of (commands.Selectunset k n) = Selectunset k n
+order_of (commands.Last k) = Last k
+order_of (commands.Bits k) = Bits k
+order_of (commands.Places k) = Places k
+order_of (commands.Runs k) = Runs k
+order_of (commands.Show k) = Show k
+order_of (commands.Eq k j) = Eq k j
 
 -- what an order is answered
 pub data Reply : Type 0 where
@@ -241,12 +241,12 @@ EditsWithin k within edit s r t =
     Needs (open_at s k) (λ l. Checks (within l) OutOfRange (Puts k (Open (edit l)))) s r t
 
 -- truth values are added to the open list l at k, whose new length has to be a number of 64 bits
-abbrev pub Lengthens : ℕ → List Bool → List Bool → Effect
-Lengthens k l more s r t = (length l + length more < 2 ^ 64) × Puts k (Open (l ++ more)) s r t
+abbrev pub GrowsBy : ℕ → List Bool → List Bool → Effect
+GrowsBy k l more s r t = (length l + length more < 2 ^ 64) × Puts k (Open (l ++ more)) s r t
 
 -- truth values are added to the open list at k
 abbrev pub AppendsValues : ℕ → List Bool → Effect
-AppendsValues k more s r t = Needs (open_at s k) (λ l. Lengthens k l more) s r t
+AppendsValues k more s r t = Needs (open_at s k) (λ l. GrowsBy k l more) s r t
 
 -- slot j is filled with the values that indices take from a list, or the order is refused at the
 -- first position that takes nothing
@@ -283,11 +283,11 @@ Step s (Set k i v) r t = EditsWithin k (λ l. nat_lt i (length l)) (λ l. slice_
 Step s (Append k v) r t = AppendsValues k (v ∷ []) s r t
 Step s (Appendn k v n) r t = AppendsValues k (replicate n v) s r t
 Step s (Appendset k j) r t =
-    Needs (open_at s k) (λ l. Needs (frozen_at s j) (λ m. Lengthens k l m)) s r t
-Step s (Fill k a b v) r t = EditsWithin k (is_range a b) (λ l. filled l a b v) s r t
+    Needs (open_at s k) (λ l. Needs (frozen_at s j) (λ m. GrowsBy k l m)) s r t
+Step s (Fill k a b v) r t = EditsWithin k (is_range a b) (λ l. with_fill l a b v) s r t
 Step s (Truncate k n) r t = Edits k (take n) s r t
 Step s (Clear k) r t = Edits k (λ l. []) s r t
-Step s (Flip k) r t = Edits k negated s r t
+Step s (Flip k) r t = Edits k complement s r t
 Step s (Freeze k) r t = Needs (open_at s k) (λ l. Puts k (Frozen l)) s r t
 Step s (Thaw k) r t = Needs (frozen_at s k) (λ l. Puts k (Open l)) s r t
 Step s (Clone k j) r t =
@@ -301,10 +301,10 @@ Step s (Combine op mode k j i) r t =
     Needs (frozen_at s k) (λ l. Needs (frozen_at (after_release mode k s) j) (λ m.
     Checks (vacant_at (after_release mode k s) i) BadSlot
     (Checks (length l == length m) LengthMismatch
-    (Releases mode k (Puts i (Frozen (combined op l m))))))) s r t
+    (Releases mode k (Puts i (Frozen (combined_by op l m))))))) s r t
 Step s (Not mode k j) r t =
     Needs (frozen_at s k) (λ l. Checks (vacant_at (after_release mode k s) j) BadSlot
-    (Releases mode k (Puts j (Frozen (negated l))))) s r t
+    (Releases mode k (Puts j (Frozen (complement l))))) s r t
 Step s (Take k j m indices) r t =
     Needs (frozen_at s k) (λ l. Checks (vacant_at s j) BadSlot (Needs (validity_at s m) (λ v.
     Checks (is_as_long (length indices) v) LengthMismatch (PutsTaken j l indices v)))) s r t
@@ -314,12 +314,12 @@ Step s (Count k) r t = Asks k (λ l a. a ≡ Number (count l)) s r t
 Step s (Get k i) r t = Asks k (Gets i) s r t
 Step s (Countrange k a b) r t = Asks k (CountsRange a b) s r t
 Step s (Select k n) r t = Asks k (Finds n) s r t
-Step s (Selectunset k n) r t = Asks k (λ l. Finds n (negated l)) s r t
+Step s (Selectunset k n) r t = Asks k (λ l. Finds n (complement l)) s r t
 Step s (Last k) r t = Asks k (λ l a. a ≡ Place (last_place l)) s r t
 Step s (Bits k) r t = Asks k (λ l a. a ≡ Listed l) s r t
 Step s (Places k) r t = Asks k (λ l a. a ≡ ListedPlaces (places l)) s r t
 Step s (Runs k) r t = Asks k (λ l a. a ≡ ListedRuns (runs l)) s r t
-Step s (Show k) r t = Needs (frozen_at s k) (λ l s r t. (r ≡ Text (shown l)) × (t ≡ s)) s r t
+Step s (Show k) r t = Needs (frozen_at s k) (λ l s r t. (r ≡ Text (bits_text l)) × (t ≡ s)) s r t
 Step s (Eq k j) r t = Needs (list_at s k) (λ l. Needs (list_at s j) (Compares l)) s r t
 
 -- something follows where a check passes

@@ -5,7 +5,7 @@ use Rattle.std.specs.Prelude.{if◌then◌else◌}
 use Rattle.std.specs.List.{list_all}
 use Rattle.vb_command.specs.Machine.{Order, Import, Indices, Take}
 use Rattle.vb_command.specs.Optional.{◌>>=◌}
-use Rattle.vb_command.specs.Words.{words}
+use Rattle.vb_command.specs.Words.{line_words}
 use Rattle.vb_command.specs.Arguments.{arguments_of}
 use Rattle.vb_command.specs.declared.unread.Unread.{Unread}
 use Rattle.vb_command.specs.declared.unread.Unread.TheVariants as unread
@@ -52,7 +52,7 @@ asks_memory (Some (Some c)) = holds_list c
 
 -- what a line asks for, if it can be read: a command, or nothing
 abbrev pub reading : List ℕ → Option (Option Order)
-reading line = if all_ascii line then request_of (words line) else None
+reading line = if all_ascii line then request_of (line_words line) else None
 
 -- an order, if there is one, before others
 abbrev pub with_order : Option Order → List Order → List Order

@@ -17,8 +17,8 @@ abbrev pub is_word : List ℕ → Bool
 is_word part = nat_lt 0 (length part)
 
 -- the words of a line
-abbrev pub words : List ℕ → List (List ℕ)
-words line = filter is_word (slice_split is_space line)
+abbrev pub line_words : List ℕ → List (List ℕ)
+line_words line = filter is_word (slice_split is_space line)
 
 -- whether a word is a number: it has decimal digits alone, and what they write fits 64 bits
 abbrev pub is_number : List ℕ → Bool

@@ -9,51 +9,52 @@ use mir.Val.{bits}
 use Rattle.vb_core.specs.Elements.{AreBytes}
 
 -- the n lowest bytes of x, the lowest first
-abbrev digits : ℕ → ℕ → List ℕ
-digits zero x = []
-digits (suc n) x = (x % 256) ∷ digits n (x / 256)
+abbrev byte_digits : ℕ → ℕ → List ℕ
+byte_digits zero x = []
+byte_digits (suc n) x = (x % 256) ∷ byte_digits n (x / 256)
 
 -- the number that bytes stand for, the lowest first
-abbrev number : List ℕ → ℕ
-number [] = 0
-number (b ∷ bs) = b + 256 * number bs
+abbrev bytes_number : List ℕ → ℕ
+bytes_number [] = 0
+bytes_number (b ∷ bs) = b + 256 * bytes_number bs
 
 -- as many bytes as asked for
-length-digits : (n x : ℕ) → length (digits n x) ≡ n
-length-digits zero x = refl
-length-digits (suc n) x = let rest = length-digits n (x / 256) in omega arith
+length-byte_digits : (n x : ℕ) → length (byte_digits n x) ≡ n
+length-byte_digits zero x = refl
+length-byte_digits (suc n) x = let rest = length-byte_digits n (x / 256) in omega arith
 
 -- each from 0 to 255
-digits_are_bytes : (n x : ℕ) → AreBytes (digits n x)
+digits_are_bytes : (n x : ℕ) → AreBytes (byte_digits n x)
 digits_are_bytes zero x = All-nil (λ b. b < 256)
 digits_are_bytes (suc n) x =
-    All-cons (λ b. b < 256) (x % 256) (digits n (x / 256)) (omega arith)
+    All-cons (λ b. b < 256) (x % 256) (byte_digits n (x / 256)) (omega arith)
     (digits_are_bytes n (x / 256))
 
 -- the bytes of a number that fits stand for it
-number-digits : (n x : ℕ) → x < 256 ^ n → number (digits n x) ≡ x
-number-digits zero x fits = omega arith
-number-digits (suc n) x fits =
+bytes_number-byte_digits : (n x : ℕ) → x < 256 ^ n → bytes_number (byte_digits n x) ≡ x
+bytes_number-byte_digits zero x fits = omega arith
+bytes_number-byte_digits (suc n) x fits =
     let power : 256 ^ suc n ≡ 256 ^ n * 256 = pow-suc 256 n in
     let rest_fits : x / 256 < 256 ^ n = omega arith in
-    let rest = number-digits n (x / 256) rest_fits in omega arith
+    let rest = bytes_number-byte_digits n (x / 256) rest_fits in omega arith
 
 -- the number that bytes stand for has these bytes
-digits-number : (bs : List ℕ) → AreBytes bs → digits (length bs) (number bs) ≡ bs
-digits-number [] all = refl
-digits-number (b ∷ bs) all =
+byte_digits-bytes_number : (bs : List ℕ) → AreBytes bs
+    → byte_digits (length bs) (bytes_number bs) ≡ bs
+byte_digits-bytes_number [] all = refl
+byte_digits-bytes_number (b ∷ bs) all =
     let fits : b < 256 = All-head (λ y. y < 256) b bs all in
-    let low : (b + 256 * number bs) % 256 ≡ b = omega arith in
-    let high : (b + 256 * number bs) / 256 ≡ number bs = omega arith in
-    rw (low, high, digits-number bs (All-tail (λ y. y < 256) b bs all)) refl
+    let low : (b + 256 * bytes_number bs) % 256 ≡ b = omega arith in
+    let high : (b + 256 * bytes_number bs) / 256 ≡ bytes_number bs = omega arith in
+    rw (low, high, byte_digits-bytes_number bs (All-tail (λ y. y < 256) b bs all)) refl
 
 -- n bytes stand for a number below `256 ^ n`
-number_fits : (bs : List ℕ) → AreBytes bs → number bs < 256 ^ length bs
-number_fits [] all = omega arith
-number_fits (b ∷ bs) all =
+bytes_number_fits : (bs : List ℕ) → AreBytes bs → bytes_number bs < 256 ^ length bs
+bytes_number_fits [] all = omega arith
+bytes_number_fits (b ∷ bs) all =
     let power : 256 ^ suc (length bs) ≡ 256 ^ length bs * 256 = pow-suc 256 (length bs) in
     let fits : b < 256 = All-head (λ y. y < 256) b bs all in
-    let rest = number_fits bs (All-tail (λ y. y < 256) b bs all) in omega arith
+    let rest = bytes_number_fits bs (All-tail (λ y. y < 256) b bs all) in omega arith
 
 -- std's byte k of a number, by a power
 byte_at-pow : (k x : ℕ) → byte_at k x ≡ x / 256 ^ k % 256
@@ -61,12 +62,12 @@ byte_at-pow zero x = ap (λ (y : ℕ). y % 256) (sym (div-one x))
 byte_at-pow (suc k) x = refl
 
 -- std's bytes of a number are its digits
-bytes_low_first-digits : (i k x : ℕ) → bytes_low_first i k x ≡ digits k (x / 256 ^ i)
-bytes_low_first-digits i zero x = refl
-bytes_low_first-digits i (suc k) x =
+bytes_low_first-byte_digits : (i k x : ℕ) → bytes_low_first i k x ≡ byte_digits k (x / 256 ^ i)
+bytes_low_first-byte_digits i zero x = refl
+bytes_low_first-byte_digits i (suc k) x =
     let shift : x / 256 ^ suc i ≡ x / 256 ^ i / 256 =
     ap (λ (p : ℕ). x / p) (pow-suc 256 i) ∙ sym (div-div-eq-div-mul x (256 ^ i) 256) in
-    rw (byte_at-pow i x, bytes_low_first-digits (suc i) k x, shift) refl
+    rw (byte_at-pow i x, bytes_low_first-byte_digits (suc i) k x, shift) refl
 
 -- a sum with its first term in front
 sum_through-first : (f : ℕ → ℕ) (k : ℕ)
@@ -90,26 +91,26 @@ sum_through-up g (suc k) =
     let top = byte_worth-suc (suc k) (g (suc k)) in omega arith
 
 -- std's sum over bytes is the number that they stand for
-sum_through-number : (bs : List ℕ) (k : ℕ) → length bs ≡ suc k
-    → sum_through (λ i. byte_worth i (slice_index bs i)) k ≡ number bs
-sum_through-number [] k len = absurd (omega arith)
-sum_through-number (b ∷ []) zero len = omega arith
-sum_through-number (b ∷ []) (suc k) len = absurd (omega arith)
-sum_through-number (b ∷ c ∷ bs) zero len = absurd (omega arith)
-sum_through-number (b ∷ c ∷ bs) (suc k) len =
-    let rest = sum_through-number (c ∷ bs) k (omega arith) in
+sum_through-bytes_number : (bs : List ℕ) (k : ℕ) → length bs ≡ suc k
+    → sum_through (λ i. byte_worth i (slice_index bs i)) k ≡ bytes_number bs
+sum_through-bytes_number [] k len = absurd (omega arith)
+sum_through-bytes_number (b ∷ []) zero len = omega arith
+sum_through-bytes_number (b ∷ []) (suc k) len = absurd (omega arith)
+sum_through-bytes_number (b ∷ c ∷ bs) zero len = absurd (omega arith)
+sum_through-bytes_number (b ∷ c ∷ bs) (suc k) len =
+    let rest = sum_through-bytes_number (c ∷ bs) k (omega arith) in
     let first = sum_through-first (λ i. byte_worth i (slice_index (b ∷ c ∷ bs) i)) k in
     let up = sum_through-up (λ i. slice_index (c ∷ bs) i) k in
     omega arith
 
 -- what is read of as many bytes as a width has is their number
-from_le_bytes-number : (w : Width) (bs : List ℕ) → length bs ≡ byte_len w
-    → from_le_bytes w bs ≡ number bs
-from_le_bytes-number w8 bs len = sum_through-number bs 0 len
-from_le_bytes-number w16 bs len = sum_through-number bs 1 len
-from_le_bytes-number w32 bs len = sum_through-number bs 3 len
-from_le_bytes-number w64 bs len = sum_through-number bs 7 len
-from_le_bytes-number w128 bs len = sum_through-number bs 15 len
+from_le_bytes-bytes_number : (w : Width) (bs : List ℕ) → length bs ≡ byte_len w
+    → from_le_bytes w bs ≡ bytes_number bs
+from_le_bytes-bytes_number w8 bs len = sum_through-bytes_number bs 0 len
+from_le_bytes-bytes_number w16 bs len = sum_through-bytes_number bs 1 len
+from_le_bytes-bytes_number w32 bs len = sum_through-bytes_number bs 3 len
+from_le_bytes-bytes_number w64 bs len = sum_through-bytes_number bs 7 len
+from_le_bytes-bytes_number w128 bs len = sum_through-bytes_number bs 15 len
 
 -- a width holds as many numbers in bits as in bytes
 pow-bits : (w : Width) → 2 ^ bits w ≡ 256 ^ byte_len w
@@ -120,36 +121,36 @@ pow-bits w64 = refl
 pow-bits w128 = refl
 
 -- what is written of a number are its bytes
-to_le_bytes-digits : (w : Width) (x : ℕ) → to_le_bytes w x ≡ digits (byte_len w) x
-to_le_bytes-digits w x =
-    bytes_low_first-digits 0 (byte_len w) x ∙ ap (digits (byte_len w)) (div-one x)
+to_le_bytes-byte_digits : (w : Width) (x : ℕ) → to_le_bytes w x ≡ byte_digits (byte_len w) x
+to_le_bytes-byte_digits w x =
+    bytes_low_first-byte_digits 0 (byte_len w) x ∙ ap (byte_digits (byte_len w)) (div-one x)
 
 -- as many bytes as the width has
 pub length-to_le_bytes : (w : Width) (x : ℕ) → length (to_le_bytes w x) ≡ byte_len w
-length-to_le_bytes w x = rw (to_le_bytes-digits w x) (length-digits (byte_len w) x)
+length-to_le_bytes w x = rw (to_le_bytes-byte_digits w x) (length-byte_digits (byte_len w) x)
 
 -- each from 0 to 255
 pub to_le_bytes_are_bytes : (w : Width) (x : ℕ) → AreBytes (to_le_bytes w x)
-to_le_bytes_are_bytes w x = rw (to_le_bytes-digits w x) (digits_are_bytes (byte_len w) x)
+to_le_bytes_are_bytes w x = rw (to_le_bytes-byte_digits w x) (digits_are_bytes (byte_len w) x)
 
 -- reading after writing gives the number
 pub from_le_bytes-to_le_bytes : (w : Width) (x : ℕ) → x < 2 ^ bits w
     → from_le_bytes w (to_le_bytes w x) ≡ x
 from_le_bytes-to_le_bytes w x fits =
-    from_le_bytes-number w (to_le_bytes w x) (length-to_le_bytes w x)
-    ∙ ap number (to_le_bytes-digits w x)
-    ∙ number-digits (byte_len w) x (rw (← pow-bits w) fits)
+    from_le_bytes-bytes_number w (to_le_bytes w x) (length-to_le_bytes w x)
+    ∙ ap bytes_number (to_le_bytes-byte_digits w x)
+    ∙ bytes_number-byte_digits (byte_len w) x (rw (← pow-bits w) fits)
 
 -- writing after reading gives the bytes
 pub to_le_bytes-from_le_bytes : (w : Width) (bs : List ℕ) → length bs ≡ byte_len w → AreBytes bs
     → to_le_bytes w (from_le_bytes w bs) ≡ bs
 to_le_bytes-from_le_bytes w bs len all =
-    to_le_bytes-digits w (from_le_bytes w bs)
-    ∙ ap (digits (byte_len w)) (from_le_bytes-number w bs len)
-    ∙ ap (λ k. digits k (number bs)) (sym len) ∙ digits-number bs all
+    to_le_bytes-byte_digits w (from_le_bytes w bs)
+    ∙ ap (byte_digits (byte_len w)) (from_le_bytes-bytes_number w bs len)
+    ∙ ap (λ k. byte_digits k (bytes_number bs)) (sym len) ∙ byte_digits-bytes_number bs all
 
 -- what is read is a number of the width
 pub from_le_bytes_fits : (w : Width) (bs : List ℕ) → length bs ≡ byte_len w → AreBytes bs
     → from_le_bytes w bs < 2 ^ bits w
 from_le_bytes_fits w bs len all =
-    rw (from_le_bytes-number w bs len, pow-bits w, ← len) (number_fits bs all)
+    rw (from_le_bytes-bytes_number w bs len, pow-bits w, ← len) (bytes_number_fits bs all)

@@ -8,29 +8,29 @@ use Rattle.std.proofs.lemmas.List.{append-nil, take_all}
 use Rattle.std.proofs.lemmas.Bool.{cases_lt}
 use Rattle.vb_bits.specs.Bits.{count}
 use Rattle.vb_bits.specs.Digits.{digits}
-use Rattle.vb_bits.specs.Kept.{kept}
+use Rattle.vb_bits.specs.Kept.{kept_by}
 use Rattle.vb_bits.proofs.DigitsLemmas.{digits-add, length-digits, count-digits_below, digits_none}
 use Rattle.vb_bits.proofs.BitsLemmas.{count-append, count-take-le}
-use Rattle.vb_bits.proofs.KeptLemmas.{kept-append}
+use Rattle.vb_bits.proofs.KeptLemmas.{kept_by-append}
 use Rattle.vb_pack.proofs.WordsLemmas.{digits_above}
 
 -- a mask that is false keeps nothing
-pub kept_none : {T : Type 0} (n : ℕ) (xs : List T) → kept (replicate n false) xs ≡ []
+pub kept_none : {T : Type 0} (n : ℕ) (xs : List T) → kept_by (replicate n false) xs ≡ []
 kept_none zero xs = refl
 kept_none (suc n) [] = refl
 kept_none (suc n) (x ∷ xs) = kept_none n xs
 
 -- a mask of n digits keeps none behind them
-pub kept-narrow : (keep w n : ℕ) → keep < 2 ^ n → n ≤ 64
-    → kept (digits keep 0 64) (digits w 0 64) ≡ kept (digits keep 0 n) (digits w 0 n)
-kept-narrow keep w n clear few =
+pub kept_by-narrow : (keep w n : ℕ) → keep < 2 ^ n → n ≤ 64
+    → kept_by (digits keep 0 64) (digits w 0 64) ≡ kept_by (digits keep 0 n) (digits w 0 n)
+kept_by-narrow keep w n clear few =
     let all : 64 ≡ n + (64 - n) = omega arith in
-    let front = kept (digits keep 0 n) (digits w 0 n) in
+    let front = kept_by (digits keep 0 n) (digits w 0 n) in
     let behind = digits w (0 + n) (64 - n) in
-    ap (λ l. kept l (digits w 0 64)) (digits_above keep n 64 clear few)
-    ∙ ap (λ l. kept (digits keep 0 n ++ replicate (64 - n) false) l)
+    ap (λ l. kept_by l (digits w 0 64)) (digits_above keep n 64 clear few)
+    ∙ ap (λ l. kept_by (digits keep 0 n ++ replicate (64 - n) false) l)
     (ap (digits w 0) all ∙ digits-add w 0 n (64 - n))
-    ∙ kept-append (digits keep 0 n) (replicate (64 - n) false) (digits w 0 n) behind
+    ∙ kept_by-append (digits keep 0 n) (replicate (64 - n) false) (digits w 0 n) behind
     (length-digits keep 0 n ∙ sym (length-digits w 0 n))
     ∙ ap (λ l. front ++ l) (kept_none (64 - n) behind) ∙ append-nil front
 
@@ -51,15 +51,15 @@ same_fronts (x ∷ k) [] (suc i) e = absurd (omega arith)
 same_fronts (x ∷ k) (y ∷ l) (suc i) e = ap suc (same_fronts k l i (omega arith))
 
 -- what n bits more of a mask keep
-pub kept-add : {T : Type 0} (mask : List Bool) (values : List T) (a n : ℕ)
+pub kept_by-add : {T : Type 0} (mask : List Bool) (values : List T) (a n : ℕ)
     → length values ≡ length mask
-    → kept (take (a + n) mask) (take (a + n) values)
-    ≡ kept (take a mask) (take a values)
-    ++ kept (slice_range mask a (a + n)) (slice_range values a (a + n))
-kept-add mask values a n same =
-    ap (λ l. kept l (take (a + n) values)) (front-add mask a n)
-    ∙ ap (λ l. kept (take a mask ++ slice_range mask a (a + n)) l) (front-add values a n)
-    ∙ kept-append (take a mask) (slice_range mask a (a + n)) (take a values)
+    → kept_by (take (a + n) mask) (take (a + n) values)
+    ≡ kept_by (take a mask) (take a values)
+    ++ kept_by (slice_range mask a (a + n)) (slice_range values a (a + n))
+kept_by-add mask values a n same =
+    ap (λ l. kept_by l (take (a + n) values)) (front-add mask a n)
+    ∙ ap (λ l. kept_by (take a mask ++ slice_range mask a (a + n)) l) (front-add values a n)
+    ∙ kept_by-append (take a mask) (slice_range mask a (a + n)) (take a values)
     (slice_range values a (a + n)) (same_fronts mask values a same)
 
 -- the end of a word, or of the list
@@ -72,17 +72,17 @@ word_end l t n e = elim (cases_lt (length l) (64 * (t + 1))) [
 
 -- what n bits from bit 64 t on keep, and how many they are, with those before them
 pub record WordKept {T : Type 0} (mask : List Bool) (values : List T) (t n : ℕ) : Type 0 where
-  pub front : kept (take (64 * (t + 1)) mask) (take (64 * (t + 1)) values)
-      ≡ kept (take (64 * t) mask) (take (64 * t) values)
-      ++ kept (slice_range mask (64 * t) (64 * t + n)) (slice_range values (64 * t) (64 * t + n))
+  pub front : kept_by (take (64 * (t + 1)) mask) (take (64 * (t + 1)) values)
+      ≡ kept_by (take (64 * t) mask) (take (64 * t) values)
+      ++ kept_by (slice_range mask (64 * t) (64 * t + n)) (slice_range values (64 * t) (64 * t + n))
   pub number : count (take (64 * t) mask) + count (slice_range mask (64 * t) (64 * t + n))
       ≡ count (take (64 * (t + 1)) mask)
   pub room : count (take (64 * t) mask) + count (slice_range mask (64 * t) (64 * t + n))
       ≤ count mask
 
-pub word-kept : {T : Type 0} (mask : List Bool) (values : List T) (t n : ℕ)
+pub word-kept_by : {T : Type 0} (mask : List Bool) (values : List T) (t n : ℕ)
     → length values ≡ length mask → n ≡ min (length mask - 64 * t) 64 → WordKept mask values t n
-word-kept mask values t n same e =
+word-kept_by mask values t n same e =
     let there : n ≡ min (length values - 64 * t) 64 =
     e ∙ ap (λ k. min (k - 64 * t) 64) (sym same) in
     let more : count (take (64 * t + n) mask)
@@ -90,9 +90,9 @@ word-kept mask values t n same e =
     ap count (front-add mask (64 * t) n) ∙ count-append (take (64 * t) mask) _ in
     let number = sym more ∙ ap count (sym (word_end mask t n e)) in
     record {
-      front = ap (λ l. kept l (take (64 * (t + 1)) values)) (word_end mask t n e)
-          ∙ ap (kept (take (64 * t + n) mask)) (word_end values t n there)
-          ∙ kept-add mask values (64 * t) n same;
+      front = ap (λ l. kept_by l (take (64 * (t + 1)) values)) (word_end mask t n e)
+          ∙ ap (kept_by (take (64 * t + n) mask)) (word_end values t n there)
+          ∙ kept_by-add mask values (64 * t) n same;
       number = number;
       room = omega (arith, number, count-take-le (64 * (t + 1)) mask);
     }
@@ -104,20 +104,20 @@ pub ones-of : (mask : List Bool) (keep a n : ℕ) → keep < 2 ^ n
 ones-of mask keep a n clear same = ap count (sym same) ∙ count-digits_below keep n clear
 
 -- what it keeps of a word of bits
-pub kept-of : (mask values : List Bool) (keep w a n : ℕ) → keep < 2 ^ n → n ≤ 64
+pub kept_by-of : (mask values : List Bool) (keep w a n : ℕ) → keep < 2 ^ n → n ≤ 64
     → digits keep 0 n ≡ slice_range mask a (a + n)
     → digits w 0 n ≡ slice_range values a (a + n)
-    → kept (digits keep 0 64) (digits w 0 64)
-    ≡ kept (slice_range mask a (a + n)) (slice_range values a (a + n))
-kept-of mask values keep w a n clear few of_mask of_values =
-    kept-narrow keep w n clear few ∙ ap (λ l. kept l (digits w 0 n)) of_mask
-    ∙ ap (kept (slice_range mask a (a + n))) of_values
+    → kept_by (digits keep 0 64) (digits w 0 64)
+    ≡ kept_by (slice_range mask a (a + n)) (slice_range values a (a + n))
+kept_by-of mask values keep w a n clear few of_mask of_values =
+    kept_by-narrow keep w n clear few ∙ ap (λ l. kept_by l (digits w 0 n)) of_mask
+    ∙ ap (kept_by (slice_range mask a (a + n))) of_values
 
 -- a word without a one keeps nothing
-pub kept-zero : {T : Type 0} (keep n : ℕ) (xs : List T) → keep ≡ 0
-    → kept (digits keep 0 n) xs ≡ []
-kept-zero keep n xs gone =
+pub kept_by-zero : {T : Type 0} (keep n : ℕ) (xs : List T) → keep ≡ 0
+    → kept_by (digits keep 0 n) xs ≡ []
+kept_by-zero keep n xs gone =
     let small : keep < 2 ^ 0 = omega arith in
-    ap (λ l. kept l xs) (digits_above keep 0 n small (omega arith))
-    ∙ ap (λ l. kept (l ++ replicate (n - 0) false) xs) (digits_none keep 0)
+    ap (λ l. kept_by l xs) (digits_above keep 0 n small (omega arith))
+    ∙ ap (λ l. kept_by (l ++ replicate (n - 0) false) xs) (digits_none keep 0)
     ∙ kept_none (n - 0) xs

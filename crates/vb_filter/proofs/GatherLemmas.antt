@@ -12,7 +12,7 @@ use Rattle.std.specs.Int.Bits.{bit_and}
 use Rattle.std.specs.List.{range_with_len}
 use Rattle.vb_bits.specs.Bits.{at, count, places}
 use Rattle.vb_bits.specs.Digits.{has_bit, digits}
-use Rattle.vb_bits.specs.Kept.{kept}
+use Rattle.vb_bits.specs.Kept.{kept_by}
 use Rattle.vb_bits.proofs.BitsLemmas.{count-le, count-append}
 use Rattle.vb_bits.proofs.DigitsLemmas.{length-digits, at-digits, count-digits_below}
 use Rattle.vb_bits.proofs.KeptLemmas.{map-places, length-kept}
@@ -69,7 +69,7 @@ places-digits w n =
 
 -- the values at them
 pub map-ones : {T : Type 0} (d : T) (w : ℕ) (xs : List T)
-    → map (λ i. get_or xs i d) (ones (length xs) w) ≡ kept (digits w 0 (length xs)) xs
+    → map (λ i. get_or xs i d) (ones (length xs) w) ≡ kept_by (digits w 0 (length xs)) xs
 map-ones d w xs =
     ap (map (λ i. get_or xs i d)) (sym (places-digits w (length xs)))
     ∙ map-places d (digits w 0 (length xs)) xs (length-digits w 0 (length xs))
@@ -81,23 +81,23 @@ length-ones n w clear =
     ∙ count-digits_below w n clear
 
 -- as many as the mask has true bits
-pub length-kept_any : {T : Type 0} (bits : List Bool) (xs : List T) → length bits ≡ length xs
-    → length (kept bits xs) ≡ count bits
-length-kept_any [] [] same = refl
-length-kept_any [] (x ∷ xs) same = refl
-length-kept_any (b ∷ bits) [] same = absurd (omega arith)
-length-kept_any (b ∷ bits) (x ∷ xs) same = length-kept x (b ∷ bits) (x ∷ xs) same
+pub length-kept_by_any : {T : Type 0} (bits : List Bool) (xs : List T) → length bits ≡ length xs
+    → length (kept_by bits xs) ≡ count bits
+length-kept_by_any [] [] same = refl
+length-kept_by_any [] (x ∷ xs) same = refl
+length-kept_by_any (b ∷ bits) [] same = absurd (omega arith)
+length-kept_by_any (b ∷ bits) (x ∷ xs) same = length-kept_by x (b ∷ bits) (x ∷ xs) same
 
 -- as many values as the word has ones
-pub length-kept_ones : {T : Type 0} (xs : List T) (w : ℕ) → w < 2 ^ length xs
-    → length (kept (digits w 0 (length xs)) xs) ≡ count_ones w
-length-kept_ones xs w clear =
-    length-kept_any (digits w 0 (length xs)) xs (length-digits w 0 (length xs))
+pub length-kept_by_ones : {T : Type 0} (xs : List T) (w : ℕ) → w < 2 ^ length xs
+    → length (kept_by (digits w 0 (length xs)) xs) ≡ count_ones w
+length-kept_by_ones xs w clear =
+    length-kept_by_any (digits w 0 (length xs)) xs (length-digits w 0 (length xs))
     ∙ count-digits_below w (length xs) clear
 
 -- a mask that is true keeps all
 pub kept_all : {T : Type 0} (bits : List Bool) (xs : List T) → length bits ≡ length xs
-    → count bits ≡ length bits → kept bits xs ≡ xs
+    → count bits ≡ length bits → kept_by bits xs ≡ xs
 kept_all [] [] same full = refl
 kept_all [] (x ∷ xs) same full = absurd (omega arith)
 kept_all (b ∷ bits) [] same full = absurd (omega arith)
@@ -143,17 +143,17 @@ puts_front xs old new n same put =
 pub puts_ones : {T : Type 0} (xs old new : List T) (w s end : ℕ) → length new ≡ length old
     → w < 2 ^ length xs → s + count_ones w ≤ length old → end ≡ s + count_ones w
     → ((d : T) → take end new ≡ take s old ++ map (λ i. get_or xs i d) (ones (length xs) w))
-    → drop end new ≡ drop end old → PutsAt s (kept (digits w 0 (length xs)) xs) old new
+    → drop end new ≡ drop end old → PutsAt s (kept_by (digits w 0 (length xs)) xs) old new
 puts_ones xs [] new w s end same clear room place front behind =
-    let many = length-kept_ones xs w clear in
-    let nothing : kept (digits w 0 (length xs)) xs ≡ [] =
-    nil_from_length (kept (digits w 0 (length xs)) xs) (omega (arith, many, room)) in
+    let many = length-kept_by_ones xs w clear in
+    let nothing : kept_by (digits w 0 (length xs)) xs ≡ [] =
+    nil_from_length (kept_by (digits w 0 (length xs)) xs) (omega (arith, many, room)) in
     let empty : new ≡ [] = nil_from_length new same in
     subst (λ l. PutsAt s l [] new) (sym nothing)
     (subst (λ l. PutsAt s [] [] l) (sym empty) (puts_none s []))
 puts_ones xs (y ∷ old) new w s end same clear room place front behind =
-    let at : end ≡ s + length (kept (digits w 0 (length xs)) xs) =
-    place ∙ ap (λ k. s + k) (sym (length-kept_ones xs w clear)) in
+    let at : end ≡ s + length (kept_by (digits w 0 (length xs)) xs) =
+    place ∙ ap (λ k. s + k) (sym (length-kept_by_ones xs w clear)) in
     record {
       front = ap (λ k. take k new) (sym at) ∙ front y
           ∙ ap (λ l. take s (y ∷ old) ++ l) (map-ones y w xs);

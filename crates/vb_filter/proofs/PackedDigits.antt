@@ -9,22 +9,22 @@ use Rattle.std.proofs.lemmas.Nat.{shl_whole}
 use Rattle.std.proofs.lemmas.Simd.{mask_l-lt}
 use Rattle.vb_bits.specs.Bits.{count}
 use Rattle.vb_bits.specs.Digits.{digits}
-use Rattle.vb_bits.specs.Kept.{kept}
+use Rattle.vb_bits.specs.Kept.{kept_by}
 use Rattle.vb_bits.proofs.BitsLemmas.{count-le}
 use Rattle.vb_bits.proofs.DigitsLemmas.{digits-add, length-digits}
-use Rattle.vb_bits.proofs.KeptLemmas.{kept-append, length-kept}
+use Rattle.vb_bits.proofs.KeptLemmas.{kept_by-append, length-kept_by}
 use Rattle.vb_pack.proofs.MaskLemmas.{mask_l-append}
 use Rattle.vb_filter.specs.declared.digits.TheConstants.{KEPT}
 
 -- the k digits of the word from digit a on that the mask keeps
 abbrev pub kept_digits : ℕ → ℕ → ℕ → ℕ → List Bool
-kept_digits mask word a k = kept (digits mask a k) (digits word a k)
+kept_digits mask word a k = kept_by (digits mask a k) (digits word a k)
 
 -- there are as many as the mask has digits that are 1
 pub length-kept_digits : (mask word a k : ℕ)
     → length (kept_digits mask word a k) ≡ count (digits mask a k)
 length-kept_digits mask word a k =
-    length-kept false (digits mask a k) (digits word a k)
+    length-kept_by false (digits mask a k) (digits word a k)
     (length-digits mask a k ∙ sym (length-digits word a k))
 
 -- the table has the numbers of those of all masks and words of four digits
@@ -43,10 +43,10 @@ in_table mask word a m w few small same_mask same_word =
     ap (λ t. get_or t i 0) (sym kept_table)
     ∙ get_or-map-range_with_len (λ i. mask_l (kept_digits (i / 16) (i % 16) 0 4)) 0 256 i i 0
     (omega arith) (zero-add i)
-    ∙ ap (λ x. mask_l (kept (digits x 0 4) (digits (i % 16) 0 4))) row
-    ∙ ap (λ x. mask_l (kept (digits m 0 4) (digits x 0 4))) column
-    ∙ ap (λ l. mask_l (kept l (digits w 0 4))) same_mask
-    ∙ ap (λ l. mask_l (kept (digits mask a 4) l)) same_word
+    ∙ ap (λ x. mask_l (kept_by (digits x 0 4) (digits (i % 16) 0 4))) row
+    ∙ ap (λ x. mask_l (kept_by (digits m 0 4) (digits x 0 4))) column
+    ∙ ap (λ l. mask_l (kept_by l (digits w 0 4))) same_mask
+    ∙ ap (λ l. mask_l (kept_by (digits mask a 4) l)) same_word
 
 -- four digits more
 pub packed-more : (mask word n k : ℕ) → k < 16 → n ≡ count (digits mask 0 (4 * k))
@@ -63,9 +63,9 @@ packed-more mask word n k inside many =
     λ v. ap (digits v 0) next ∙ digits-add v 0 a 4
     ∙ ap (λ x. digits v 0 a ++ digits v x 4) place in
     let parts : kept_digits mask word 0 (4 * (k + 1)) ≡ front ++ four =
-    ap (λ l. kept l (digits word 0 (4 * (k + 1)))) (cut mask)
-    ∙ ap (λ l. kept (digits mask 0 a ++ digits mask a 4) l) (cut word)
-    ∙ kept-append (digits mask 0 a) (digits mask a 4) (digits word 0 a) (digits word a 4)
+    ap (λ l. kept_by l (digits word 0 (4 * (k + 1)))) (cut mask)
+    ∙ ap (λ l. kept_by (digits mask 0 a ++ digits mask a 4) l) (cut word)
+    ∙ kept_by-append (digits mask 0 a) (digits mask a 4) (digits word 0 a) (digits word a 4)
     (length-digits mask 0 a ∙ sym (length-digits word 0 a)) in
     let len : length front ≡ n = length-kept_digits mask word 0 a ∙ sym many in
     let few : length four ≤ 4 =

@@ -6,7 +6,7 @@ use Rattle.std.specs.Int.{trailing_zeros, w64}
 use Rattle.std.specs.Int.Bits.{bit_and}
 use Rattle.vb_bits.specs.Bits.{count}
 use Rattle.vb_bits.specs.Digits.{has_bit, digits}
-use Rattle.vb_bits.specs.Kept.{kept}
+use Rattle.vb_bits.specs.Kept.{kept_by}
 use Rattle.vb_bits.proofs.BitsLemmas.{count-le}
 use Rattle.vb_bits.proofs.DigitsLemmas.{length-digits, at-digits}
 use Rattle.vb_filter.proofs.GatherLemmas.{ones, ones_none, ones_first, lowest_below, map-ones}
@@ -19,7 +19,7 @@ module _ (word : ℕ) where
   -- the digits at the ones of a mask
   at_ones : (w : ℕ) → map value (ones 64 w) ≡ kept_digits w word 0 64
   at_ones w =
-      subst (λ n. map value (ones n w) ≡ kept (digits w 0 n) (digits word 0 64))
+      subst (λ n. map value (ones n w) ≡ kept_by (digits w 0 n) (digits word 0 64))
       (length-digits word 0 64) (map-ones false w (digits word 0 64))
 
   -- none at 0

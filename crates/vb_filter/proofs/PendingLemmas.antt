@@ -13,7 +13,7 @@ use Rattle.vb_bits.proofs.BitsLemmas.{bits-add, same_bits, length-bits}
 use Rattle.vb_bits.proofs.DigitsLemmas.{digits-add, same_digits, has_bit-or, length-digits}
 use Rattle.vb_bits.proofs.ShiftLemmas.{shl_low, shl_high, bit_at_cut, digits_shr}
 use Rattle.vb_pack.proofs.WordsLemmas.{has_bit_above}
-use Rattle.vb_filter.specs.Pending.{written}
+use Rattle.vb_filter.specs.Pending.{first_bits}
 
 or_none : (b : Bool) → (b || false) ≡ b
 or_none true = refl
@@ -67,9 +67,9 @@ module _ (p w s : ℕ) (clear : p < 2 ^ s) where
       or_lt (s + n) p (w * 2 ^ s % 2 ^ 64) (omega arith) (omega arith)
 
 -- digits that are added within the pending word
-pub written-in_word : (b : List ℕ) (p w len n : ℕ) → p < 2 ^ (len % 64) → len % 64 + n < 64
-    → written b (joined p w (len % 64)) (len + n) ≡ written b p len ++ digits w 0 n
-written-in_word b p w len n clear within =
+pub first_bits-in_word : (b : List ℕ) (p w len n : ℕ) → p < 2 ^ (len % 64) → len % 64 + n < 64
+    → first_bits b (joined p w (len % 64)) (len + n) ≡ first_bits b p len ++ digits w 0 n
+first_bits-in_word b p w len n clear within =
     let s = len % 64 in
     let word : (len + n) / 64 ≡ len / 64 = omega arith in
     let place : (len + n) % 64 ≡ s + n = omega arith in
@@ -94,11 +94,11 @@ bits-word b c x q w =
     (ap (bits c (64 * q)) (sym len) ∙ w.window)
 
 -- digits that are added across the end of the pending word
-pub written-past_word : (b c : List ℕ) (p w len n : ℕ) → p < 2 ^ (len % 64)
+pub first_bits-past_word : (b c : List ℕ) (p w len n : ℕ) → p < 2 ^ (len % 64)
     → 64 ≤ len % 64 + n → n ≤ 64
     → Writes b c (64 * (len / 64)) (digits (joined p w (len % 64)) 0 64)
-    → written c (w / 2 ^ (64 - len % 64)) (len + n) ≡ written b p len ++ digits w 0 n
-written-past_word b c p w len n clear past few write =
+    → first_bits c (w / 2 ^ (64 - len % 64)) (len + n) ≡ first_bits b p len ++ digits w 0 n
+first_bits-past_word b c p w len n clear past few write =
     let s = len % 64 in
     let q = len / 64 in
     let x = joined p w s in

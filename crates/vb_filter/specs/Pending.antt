@@ -5,5 +5,5 @@ use Rattle.vb_bits.specs.Digits.{digits}
 
 -- the first n bits: those of the whole words are in the bytes, and those behind them are the digits
 -- of the pending word
-abbrev pub written : List ℕ → ℕ → ℕ → List Bool
-written bytes pending n = bits bytes 0 (64 * (n / 64)) ++ digits pending 0 (n % 64)
+abbrev pub first_bits : List ℕ → ℕ → ℕ → List Bool
+first_bits bytes pending n = bits bytes 0 (64 * (n / 64)) ++ digits pending 0 (n % 64)

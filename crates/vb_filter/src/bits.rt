@@ -2,9 +2,9 @@
 ghost use Rattle.std.specs.Prelude.{◌≡◌, ◌+◌, ◌*◌, ◌^◌, ◌<◌, ◌≤◌, length, slice_range};
 ghost use Rattle.vb_bits.specs.Bits.{bits, count};
 ghost use Rattle.vb_bits.specs.Digits.{digits};
-ghost use Rattle.vb_bits.specs.Kept.{kept};
+ghost use Rattle.vb_bits.specs.Kept.{kept_by};
 ghost use Rattle.vb_bits.specs.Writes.{Writes};
-ghost use Rattle.vb_filter.specs.Pending.{written};
+ghost use Rattle.vb_filter.specs.Pending.{first_bits};
 ghost use Rattle.vb_view.specs.View.{bits_of};
 
 use crate::digits::pack_digits;
@@ -52,7 +52,7 @@ pub fn filter_into(out: &mut [u8], values: BitBufferView<'_>, mask: BitBufferVie
     requires same_len { length (bits_of values) ≡ length (bits_of mask) }
     requires room { count (bits_of mask) ≤ 8 * length out.old }
     ensures count { result ≡ count (bits_of mask.entry) }
-    ensures kept { Writes out.old out.new 0 (kept (bits_of mask.entry) (bits_of values.entry)) }
+    ensures kept { Writes out.old out.new 0 (kept_by (bits_of mask.entry) (bits_of values.entry)) }
 {
     let total = mask.len();
     let whole = total / 64;
@@ -84,7 +84,7 @@ fn kept_digits(
     requires same_len { length (bits_of values) ≡ length (bits_of mask) }
     ensures count { result.1 ≡ count (slice_range (bits_of mask.entry) start (start + n)) }
     ensures few { result.1 ≤ 64 }
-    ensures kept { digits result.0 0 result.1 ≡ kept
+    ensures kept { digits result.0 0 result.1 ≡ kept_by
         (slice_range (bits_of mask.entry) start (start + n))
         (slice_range (bits_of values.entry) start (start + n)) }
     ensures clear { result.0 < 2 ^ result.1 }

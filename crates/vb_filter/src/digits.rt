@@ -2,7 +2,7 @@
 ghost use Rattle.std.specs.Prelude.{◌≡◌, ◌^◌, ◌<◌};
 ghost use Rattle.vb_bits.specs.Bits.{count};
 ghost use Rattle.vb_bits.specs.Digits.{digits};
-ghost use Rattle.vb_bits.specs.Kept.{kept};
+ghost use Rattle.vb_bits.specs.Kept.{kept_by};
 
 use vb_bits::digit;
 
@@ -13,7 +13,7 @@ use vb_bits::digit;
 #[inline(always)]
 pub(crate) fn pack_digits(word: u64, mask: u64) -> u64
     ensures kept { digits result 0 (count (digits mask 0 64))
-        ≡ kept (digits mask 0 64) (digits word 0 64) }
+        ≡ kept_by (digits mask 0 64) (digits word 0 64) }
     ensures clear { result < 2 ^ count (digits mask 0 64) }
 {
     if mask.count_ones() <= FEW {
@@ -30,7 +30,7 @@ const FEW: u32 = 12;
 #[inline(always)]
 fn pack_ones(word: u64, mask: u64) -> u64
     ensures kept { digits result 0 (count (digits mask 0 64))
-        ≡ kept (digits mask 0 64) (digits word 0 64) }
+        ≡ kept_by (digits mask 0 64) (digits word 0 64) }
     ensures clear { result < 2 ^ count (digits mask 0 64) }
 {
     let mut packed = 0u64;
@@ -49,7 +49,7 @@ fn pack_ones(word: u64, mask: u64) -> u64
 #[inline(always)]
 fn pack_fours(word: u64, mask: u64) -> u64
     ensures kept { digits result 0 (count (digits mask 0 64))
-        ≡ kept (digits mask 0 64) (digits word 0 64) }
+        ≡ kept_by (digits mask 0 64) (digits word 0 64) }
     ensures clear { result < 2 ^ count (digits mask 0 64) }
 {
     let mut packed = 0;

@@ -2,7 +2,7 @@
 ghost use Rattle.std.specs.Prelude.{◌≡◌, ◌+◌, ◌^◌, ◌<◌, ◌≤◌, ◌++◌, count_ones, length, drop};
 ghost use Rattle.vb_bits.specs.Bits.{count};
 ghost use Rattle.vb_bits.specs.Digits.{digits};
-ghost use Rattle.vb_bits.specs.Kept.{kept};
+ghost use Rattle.vb_bits.specs.Kept.{kept_by};
 ghost use Rattle.vb_filter.specs.Gathered.{PutsAt};
 ghost use Rattle.vb_view.specs.View.{bits_of};
 
@@ -19,7 +19,7 @@ pub fn filter_values_into<T: Copy>(out: &mut [T], values: &[T], mask: BitBufferV
     requires same_len { length values.now ≡ length (bits_of mask) }
     requires room { count (bits_of mask) ≤ length out.old }
     ensures count { result ≡ count (bits_of mask.entry) }
-    ensures kept { out.new ≡ kept (bits_of mask.entry) values.now ++ drop result out.old }
+    ensures kept { out.new ≡ kept_by (bits_of mask.entry) values.now ++ drop result out.old }
 {
     let mut len = 0;
     for t in 0..mask.len().div_ceil(64) {
@@ -38,7 +38,7 @@ fn put_word<T: Copy>(out: &mut [T], len: usize, values: &[T], keep: u64) -> usiz
     requires clear { keep < 2 ^ length values.now }
     requires room { len + count_ones keep ≤ length out.old }
     ensures count { result ≡ count_ones keep }
-    ensures kept { PutsAt len (kept (digits keep 0 (length values.now)) values.now)
+    ensures kept { PutsAt len (kept_by (digits keep 0 (length values.now)) values.now)
         out.old out.new }
 {
     let count = keep.count_ones() as usize;
@@ -56,7 +56,7 @@ fn put_places<T: Copy>(out: &mut [T], len: usize, values: &[T], keep: u64)
     requires few { length values.now ≤ 64 }
     requires clear { keep < 2 ^ length values.now }
     requires room { len + count_ones keep ≤ length out.old }
-    ensures { PutsAt len (kept (digits keep 0 (length values.now)) values.now) out.old out.new }
+    ensures { PutsAt len (kept_by (digits keep 0 (length values.now)) values.now) out.old out.new }
 {
     let mut end = len;
     let mut left = keep;

@@ -4,7 +4,7 @@ ghost use Rattle.vb_bits.specs.Bits.{bits};
 ghost use Rattle.vb_bits.specs.Digits.{digits};
 ghost use Rattle.vb_bits.specs.InBytes.{InBytes};
 ghost use Rattle.vb_bits.specs.Writes.{Writes};
-ghost use Rattle.vb_filter.specs.Pending.{written};
+ghost use Rattle.vb_filter.specs.Pending.{first_bits};
 
 use vb_bits::{copy_bits, write_word};
 
@@ -15,8 +15,8 @@ pub(crate) fn push_digits(out: &mut [u8], pending: u64, len: usize, word: u64, n
     requires clear { word < 2 ^ n }
     requires pending { pending < 2 ^ (len % 64) }
     requires room { InBytes out.old len n }
-    ensures written { written out.new result (len + n)
-        ≡ written out.old pending len ++ digits word 0 n }
+    ensures written { first_bits out.new result (len + n)
+        ≡ first_bits out.old pending len ++ digits word 0 n }
     ensures clear { result < 2 ^ ((len + n) % 64) }
     ensures others { Writes out.old out.new 0 (bits out.new 0 (64 * ((len + n) / 64))) }
 {

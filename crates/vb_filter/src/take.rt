@@ -24,8 +24,8 @@ pub trait Take: Sized {
     /// where it is true: the others give 0, and their indices aren't looked at.
     ///
     /// Refused by `TakeOutOfRange` with the first position that counts and whose index names no
-    /// value, else by `OutOfMemory` alone. It asks for the memory of the new values by one request,
-    /// before it looks at an index, and by another for the count of their owners.
+    /// value, or by `OutOfMemory`. It asks for the memory of the new values by one request before
+    /// it looks at an index, and then by another for the count of their owners.
     fn taken<I: BitIndex>(&self, indices: &[I], validity: Option<BitBufferView<'_>>) -> Result<Self>
         requires { ForSome validity (λ v. length (bits_of v) ≡ length indices.now) }
         ensures { takes self.now (map I.number indices.now) (option_map bits_of validity.entry)

@@ -9,12 +9,12 @@ use vb_view::BitBufferView;
 
 impl<T: Element, A: Allocator + Clone> Filter for Buffer<T, A> {
     ghost use Rattle.std.specs.Prelude.{length};
-    ghost use Rattle.vb_bits.specs.Kept.{kept};
+    ghost use Rattle.vb_bits.specs.Kept.{kept_by};
     ghost use Rattle.vb_mem.specs.SharedBuffer.{ShowsMade};
 
     ghost len = { λ b. length b.list };
 
-    ghost keeps = { λ b mask k. ShowsMade (kept mask b.list) b.alignment k };
+    ghost keeps = { λ b mask k. ShowsMade (kept_by mask b.list) b.alignment k };
 
     fn filtered(&self, mask: BitBufferView<'_>) -> Result<Self> {
         let items = self.as_slice();

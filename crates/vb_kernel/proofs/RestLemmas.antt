@@ -8,7 +8,7 @@ use Rattle.vb_bits.specs.Bits.{bits, count}
 use Rattle.vb_bits.proofs.BytesLemmas.{bits_of_byte, bits_of_read_byte}
 use Rattle.vb_bits.proofs.DigitsLemmas.{count-digits_below}
 use Rattle.vb_bits.proofs.ShiftLemmas.{digits_shr}
-use Rattle.vb_kernel.proofs.SearchesLemmas.{count-matching-bits_split}
+use Rattle.vb_kernel.proofs.SearchesLemmas.{count-hits-bits_split}
 
 -- the first bits of byte a, which was read
 pub bits_of_byte_at : (b : List ℕ) (x a n : ℕ)
@@ -52,7 +52,7 @@ ones_of_two b x y a first second p q = omega (
   ones_above x y p,
   ones_of_byte b x a first p,
   ones_of_byte b y (a + 1) second q,
-  count-matching-bits_split true b (8 * a) 8 16 (8 * (a + 1)) 8 (omega arith) refl,
+  count-hits-bits_split true b (8 * a) 8 16 (8 * (a + 1)) 8 (omega arith) refl,
 )
 
 -- four bytes as one number
@@ -72,6 +72,6 @@ ones_of_four b x y z w a first second third fourth p q r s =
       ones_of_byte b x a first p,
       ones_of_byte b y (a + 1) second q,
       ones_of_two b z w (a + 2) third (fourth ∙ ap (λ j. get_or b j 0) next) r s,
-      count-matching-bits_split true b (8 * a) 8 16 (8 * (a + 1)) 8 (omega arith) refl,
-      count-matching-bits_split true b (8 * a) 16 32 (8 * (a + 2)) 16 (omega arith) refl,
+      count-hits-bits_split true b (8 * a) 8 16 (8 * (a + 1)) 8 (omega arith) refl,
+      count-hits-bits_split true b (8 * a) 16 32 (8 * (a + 2)) 16 (omega arith) refl,
     )

@@ -1,20 +1,20 @@
 -- Searches that go from list to list.
 use Rattle.std.proofs.Common.{◌≡◌, ℕ, ◌+◌, ◌-◌, ◌^◌, ◌<◌, ◌≤◌, Bool, true, false, not, List, ◌++◌}
-use Rattle.std.proofs.Common.{length, take, Option, None, Some, IsSome, refl, sym, ap, ◌∙◌, arith}
+use Rattle.std.proofs.Common.{length, Option, None, Some, IsSome, refl, sym, ap, ◌∙◌, arith}
 use Rattle.std.proofs.Common.{subst, ⊎_elim, pow_mono}
 use Rattle.std.below.core.specs.declared.ops.ControlFlow.{ControlFlow}
 use Rattle.std.below.core.specs.declared.ops.ControlFlow.TheVariants.{Continue, Break}
 use Rattle.std.specs.ControlFlow.{break_value}
-use Rattle.std.proofs.lemmas.List.{length-map, map-append, length-append, get_or_append_left}
-use Rattle.std.proofs.lemmas.List.{get_or-append-add, take-append-le}
-use Rattle.std.proofs.Math.Seq.{take-append_seam, take-append-add}
+use Rattle.std.proofs.lemmas.List.{length-map, map-append, get_or_append_left}
+use Rattle.std.proofs.lemmas.List.{take-append-le}
+use Rattle.std.proofs.Math.Seq.{take-append_seam}
 use Rattle.std.proofs.lemmas.Bool.{cases_lt}
-use Rattle.vb_bits.specs.Bits.{bits, count, negated, Selects}
+use Rattle.vb_bits.specs.Bits.{bits, count, complement, Selects}
 use Rattle.vb_bits.specs.Digits.{digits}
-use Rattle.vb_kernel.specs.Searches.{matching, Searched}
+use Rattle.vb_kernel.specs.Searches.{hits, Searched}
 use Rattle.vb_bits.proofs.BitsLemmas.{bits-add, length-bits, count-append, count-le, count-take-lt}
-use Rattle.vb_bits.proofs.BitsLemmas.{count-take-mono, count-bits_none, count-negated}
-use Rattle.vb_bits.proofs.BitsLemmas.{count-negated_none}
+use Rattle.vb_bits.proofs.BitsLemmas.{count-take-mono, count-bits_none, count-complement}
+use Rattle.vb_bits.proofs.BitsLemmas.{count-complement_none}
 use Rattle.vb_bits.proofs.DigitsLemmas.{digits-add, count-digits_below}
 use Rattle.vb_bits.proofs.SelectsLemmas.{Selects-append_left, Selects-append_right}
 
@@ -38,127 +38,127 @@ Selects-left k l n p low s =
 
 -- ---- the values that are v
 -- there are as many values
-length-matching : (v : Bool) (l : List Bool) → length (matching v l) ≡ length l
-length-matching true l = refl
-length-matching false l = length-map l not
+length-hits : (v : Bool) (l : List Bool) → length (hits v l) ≡ length l
+length-hits true l = refl
+length-hits false l = length-map l not
 
 -- in two lists, one after the other
-matching-append : (v : Bool) (k l : List Bool) → matching v (k ++ l) ≡ matching v k ++ matching v l
-matching-append true k l = refl
-matching-append false k l = map-append not k l
+hits-append : (v : Bool) (k l : List Bool) → hits v (k ++ l) ≡ hits v k ++ hits v l
+hits-append true k l = refl
+hits-append false k l = map-append not k l
 
 -- in a window cut in two
-matching-bits-add : (v : Bool) (b : List ℕ) (o m n : ℕ)
-    → matching v (bits b o (m + n)) ≡ matching v (bits b o m) ++ matching v (bits b (o + m) n)
-matching-bits-add v b o m n =
-    ap (matching v) (bits-add b o m n) ∙ matching-append v (bits b o m) (bits b (o + m) n)
+hits-bits-add : (v : Bool) (b : List ℕ) (o m n : ℕ)
+    → hits v (bits b o (m + n)) ≡ hits v (bits b o m) ++ hits v (bits b (o + m) n)
+hits-bits-add v b o m n =
+    ap (hits v) (bits-add b o m n) ∙ hits-append v (bits b o m) (bits b (o + m) n)
 
 -- how many they are in a window cut in two
-pub count-matching-bits-add : (v : Bool) (b : List ℕ) (o m n : ℕ) → count (matching v
-    (bits b o (m + n))) ≡ count (matching v (bits b o m)) + count (matching v (bits b (o + m) n))
-count-matching-bits-add v b o m n = ap count (matching-bits-add v b o m n)
-    ∙ count-append (matching v (bits b o m)) (matching v (bits b (o + m) n))
+pub count-hits-bits-add : (v : Bool) (b : List ℕ) (o m n : ℕ) → count (hits v
+    (bits b o (m + n))) ≡ count (hits v (bits b o m)) + count (hits v (bits b (o + m) n))
+count-hits-bits-add v b o m n = ap count (hits-bits-add v b o m n)
+    ∙ count-append (hits v (bits b o m)) (hits v (bits b (o + m) n))
 
 -- the same, with the place and the length of the second part as the code has them
-pub count-matching-bits_split : (v : Bool) (b : List ℕ) (o m z p k : ℕ)
-    → p ≡ o + m → z ≡ m + k → count (matching v (bits b o z))
-    ≡ count (matching v (bits b o m)) + count (matching v (bits b p k))
-count-matching-bits_split v b o m z p k place end =
-    ap (λ n. count (matching v (bits b o n))) end ∙ count-matching-bits-add v b o m k
-    ∙ ap (λ x. count (matching v (bits b o m)) + count (matching v (bits b x k))) (sym place)
+pub count-hits-bits_split : (v : Bool) (b : List ℕ) (o m z p k : ℕ)
+    → p ≡ o + m → z ≡ m + k → count (hits v (bits b o z))
+    ≡ count (hits v (bits b o m)) + count (hits v (bits b p k))
+count-hits-bits_split v b o m z p k place end =
+    ap (λ n. count (hits v (bits b o n))) end ∙ count-hits-bits-add v b o m k
+    ∙ ap (λ x. count (hits v (bits b o m)) + count (hits v (bits b x k))) (sym place)
 
 -- none in a window of no bits
-pub count-matching-bits_none : (v : Bool) (b : List ℕ) (o : ℕ) → count (matching v (bits b o 0)) ≡ 0
-count-matching-bits_none true b o = count-bits_none b o
-count-matching-bits_none false b o = count-negated_none b o
+pub count-hits-bits_none : (v : Bool) (b : List ℕ) (o : ℕ) → count (hits v (bits b o 0)) ≡ 0
+count-hits-bits_none true b o = count-bits_none b o
+count-hits-bits_none false b o = count-complement_none b o
 
 -- the true ones, where true is sought
-pub matching_true : (v : Bool) (l : List Bool) → v ≡ true → matching v l ≡ l
+pub matching_true : (v : Bool) (l : List Bool) → v ≡ true → hits v l ≡ l
 matching_true true l e = refl
 matching_true false l e = cc
 
 -- the false ones, where false is sought
-pub matching_false : (v : Bool) (l : List Bool) → v ≡ false → matching v l ≡ negated l
+pub matching_false : (v : Bool) (l : List Bool) → v ≡ false → hits v l ≡ complement l
 matching_false true l e = cc
 matching_false false l e = refl
 
 -- no more than the window has bits
-pub count-matching-bits-le : (v : Bool) (b : List ℕ) (o n : ℕ) → count (matching v (bits b o n)) ≤ n
-count-matching-bits-le v b o n = omega (
+pub count-hits-bits-le : (v : Bool) (b : List ℕ) (o n : ℕ) → count (hits v (bits b o n)) ≤ n
+count-hits-bits-le v b o n = omega (
   arith,
-  count-le (matching v (bits b o n)),
-  length-matching v (bits b o n),
+  count-le (hits v (bits b o n)),
+  length-hits v (bits b o n),
   length-bits b o n,
 )
 
 -- how many they are in a window, where true is sought
-pub count-matching-bits_true : (v : Bool) (b : List ℕ) (o n : ℕ)
-    → v ≡ true → count (matching v (bits b o n)) ≡ count (bits b o n)
-count-matching-bits_true v b o n e = ap count (matching_true v (bits b o n) e)
+pub count-hits-bits_true : (v : Bool) (b : List ℕ) (o n : ℕ)
+    → v ≡ true → count (hits v (bits b o n)) ≡ count (bits b o n)
+count-hits-bits_true v b o n e = ap count (matching_true v (bits b o n) e)
 
 -- how many they are in a window, where false is sought
-pub count-matching-bits_false : (v : Bool) (b : List ℕ) (o n : ℕ)
-    → v ≡ false → count (matching v (bits b o n)) ≡ n - count (bits b o n)
-count-matching-bits_false v b o n e = omega (
+pub count-hits-bits_false : (v : Bool) (b : List ℕ) (o n : ℕ)
+    → v ≡ false → count (hits v (bits b o n)) ≡ n - count (bits b o n)
+count-hits-bits_false v b o n e = omega (
   arith,
   ap count (matching_false v (bits b o n) e),
-  count-negated (bits b o n),
+  count-complement (bits b o n),
   length-bits b o n,
 )
 
 -- ---- searches of windows
 -- a place that was found is one of the window
 pub Searched_inside : (v : Bool) (b : List ℕ) (o z n p : ℕ)
-    → Searched (matching v (bits b o z)) n (Break p) → p < z
+    → Searched (hits v (bits b o z)) n (Break p) → p < z
 Searched_inside v b o z n p s =
-    omega (arith, s.0, length-matching v (bits b o z), length-bits b o z)
+    omega (arith, s.0, length-hits v (bits b o z), length-bits b o z)
 
 -- found in a front of the window
 pub Searched_longer : (v : Bool) (b : List ℕ) (o m z n p : ℕ)
-    → m ≤ z → Searched (matching v (bits b o m)) n (Break p)
-    → Searched (matching v (bits b o z)) n (Break p)
+    → m ≤ z → Searched (hits v (bits b o m)) n (Break p)
+    → Searched (hits v (bits b o z)) n (Break p)
 Searched_longer v b o m z n p within s =
     let e : m + (z - m) ≡ z = omega arith in
     let t =
-    Selects-append_left (matching v (bits b o m)) (matching v (bits b (o + m) (z - m))) n p s in
-    subst (λ x. Searched (matching v (bits b o x)) n (Break p)) e
-    (subst (λ l. Searched l n (Break p)) (sym (matching-bits-add v b o m (z - m))) t)
+    Selects-append_left (hits v (bits b o m)) (hits v (bits b (o + m) (z - m))) n p s in
+    subst (λ x. Searched (hits v (bits b o x)) n (Break p)) e
+    (subst (λ l. Searched l n (Break p)) (sym (hits-bits-add v b o m (z - m))) t)
 
 -- searched in a front of the window, which holds what is sought unless it is the whole
 pub Searched_front : (v : Bool) (b : List ℕ) (o m z n : ℕ) (r : ControlFlow ℕ ℕ)
-    → m ≤ z → (m < z → n < count (matching v (bits b o m)))
-    → Searched (matching v (bits b o m)) n r → Searched (matching v (bits b o z)) n r
+    → m ≤ z → (m < z → n < count (hits v (bits b o m)))
+    → Searched (hits v (bits b o m)) n r → Searched (hits v (bits b o z)) n r
 Searched_front v b o m z n (Break p) within held s = Searched_longer v b o m z n p within s
 Searched_front v b o m z n (Continue left) within held s =
     let whole : m ≡ z = ⊎_elim (λ (short : m < z). absurd (omega (arith, held short, s)))
     (λ (past : z ≤ m). omega arith) (cases_lt m z) in
-    subst (λ x. Searched (matching v (bits b o x)) n (Continue left)) whole s
+    subst (λ x. Searched (hits v (bits b o x)) n (Continue left)) whole s
 
 -- a window whose front was passed by is searched in what comes after it
 pub Searched_after : (v : Bool) (b : List ℕ) (o m k n left p : ℕ)
-    → n ≡ left + count (matching v (bits b o m)) → Searched (matching v (bits b (o + m) k)) left
-    (Break p) → Searched (matching v (bits b o (m + k))) n (Break (m + p))
+    → n ≡ left + count (hits v (bits b o m)) → Searched (hits v (bits b (o + m) k)) left
+    (Break p) → Searched (hits v (bits b o (m + k))) n (Break (m + p))
 Searched_after v b o m k n left p passed s =
-    let long : length (matching v (bits b o m)) ≡ m =
-    length-matching v (bits b o m) ∙ length-bits b o m in
-    let t = Selects-append_right (matching v (bits b o m))
-    (matching v (bits b (o + m) k)) n left p passed s in
-    subst (λ x. Searched (matching v (bits b o (m + k))) n (Break (x + p))) long
-    (subst (λ l. Searched l n (Break (length (matching v (bits b o m)) + p)))
-    (sym (matching-bits-add v b o m k)) t)
+    let long : length (hits v (bits b o m)) ≡ m =
+    length-hits v (bits b o m) ∙ length-bits b o m in
+    let t = Selects-append_right (hits v (bits b o m))
+    (hits v (bits b (o + m) k)) n left p passed s in
+    subst (λ x. Searched (hits v (bits b o (m + k))) n (Break (x + p))) long
+    (subst (λ l. Searched l n (Break (length (hits v (bits b o m)) + p)))
+    (sym (hits-bits-add v b o m k)) t)
 
 -- a search of the part from place a to place y, of a source that stayed as it was, goes on with the
 -- search of the window
 pub Searched_on : (v : Bool) (b c : List ℕ) (o a y z n left : ℕ) (r : ControlFlow ℕ ℕ)
-    → c ≡ b → y ≡ z → n ≡ left + count (matching v (bits b o a))
-    → Searched (matching v (bits c o y)) (left + count (matching v (bits c o a))) r
-    → Searched (matching v (bits b o z)) n r
+    → c ≡ b → y ≡ z → n ≡ left + count (hits v (bits b o a))
+    → Searched (hits v (bits c o y)) (left + count (hits v (bits c o a))) r
+    → Searched (hits v (bits b o z)) n r
 Searched_on v b c o a y z n left r same end passed s =
     let here =
-    subst (λ x. Searched (matching v (bits x o y)) (left + count (matching v (bits x o a))) r)
+    subst (λ x. Searched (hits v (bits x o y)) (left + count (hits v (bits x o a))) r)
     same s in
-    subst (λ x. Searched (matching v (bits b o x)) n r) end
-    (subst (λ m. Searched (matching v (bits b o y)) m r) (sym passed) here)
+    subst (λ x. Searched (hits v (bits b o x)) n r) end
+    (subst (λ m. Searched (hits v (bits b o y)) m r) (sym passed) here)
 
 -- the place that a whole search gives
 pub Searched-Selects : (l : List Bool) (n : ℕ) (r : ControlFlow ℕ ℕ)

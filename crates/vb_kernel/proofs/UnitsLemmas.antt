@@ -6,9 +6,9 @@ use Rattle.std.proofs.lemmas.Nat.{column_fits}
 use Rattle.std.below.core.specs.declared.ops.ControlFlow.TheVariants.{Break}
 use Rattle.std.specs.Prelude.{slice_range}
 use Rattle.vb_bits.specs.Bits.{bits, count}
-use Rattle.vb_kernel.specs.Searches.{matching, Searched}
+use Rattle.vb_kernel.specs.Searches.{hits, Searched}
 use Rattle.vb_bits.proofs.BytesLemmas.{bits_of_read}
-use Rattle.vb_kernel.proofs.SearchesLemmas.{count-matching-bits-add, Searched_after}
+use Rattle.vb_kernel.proofs.SearchesLemmas.{count-hits-bits-add, Searched_after}
 use Rattle.vb_kernel.proofs.SearchesLemmas.{Searched_longer}
 
 -- no unit has bits
@@ -33,18 +33,18 @@ bits_of_unit b c xs o p w s k same size aligned place read =
 -- how many are v in a window that is longer by one unit
 pub count_unit_more : (v : Bool) (b xs : List ℕ) (o m z w : ℕ)
     → z ≡ m + 8 * w → bits xs 0 (8 * w) ≡ bits b (o + m) (8 * w)
-    → count (matching v (bits b o z))
-    ≡ count (matching v (bits b o m)) + count (matching v (bits xs 0 (8 * w)))
+    → count (hits v (bits b o z))
+    ≡ count (hits v (bits b o m)) + count (hits v (bits xs 0 (8 * w)))
 count_unit_more v b xs o m z w longer is =
-    ap (λ n. count (matching v (bits b o n))) longer ∙ count-matching-bits-add v b o m (8 * w)
-    ∙ ap (λ l. count (matching v (bits b o m)) + count (matching v l)) (sym is)
+    ap (λ n. count (hits v (bits b o n))) longer ∙ count-hits-bits-add v b o m (8 * w)
+    ∙ ap (λ l. count (hits v (bits b o m)) + count (hits v l)) (sym is)
 
 -- found in the unit at place m of a window
 pub found_in_unit : (v : Bool) (b xs : List ℕ) (o m z w n left p : ℕ)
     → m + 8 * w ≤ z → bits xs 0 (8 * w) ≡ bits b (o + m) (8 * w)
-    → n ≡ left + count (matching v (bits b o m)) → Searched (matching v (bits xs 0 (8 * w))) left
-    (Break p) → Searched (matching v (bits b o z)) n (Break (m + p))
+    → n ≡ left + count (hits v (bits b o m)) → Searched (hits v (bits xs 0 (8 * w))) left
+    (Break p) → Searched (hits v (bits b o z)) n (Break (m + p))
 found_in_unit v b xs o m z w n left p within is passed found =
     Searched_longer v b o (m + 8 * w) z n (m + p) within
     (Searched_after v b o m (8 * w) n left p passed
-    (subst (λ l. Searched (matching v l) left (Break p)) is found))
+    (subst (λ l. Searched (hits v l) left (Break p)) is found))

@@ -4,12 +4,12 @@ use Rattle.std.specs.Prelude.{length}
 use Rattle.std.below.core.specs.declared.ops.ControlFlow.{ControlFlow}
 use Rattle.std.below.core.specs.declared.ops.ControlFlow.TheVariants.{Continue, Break}
 use Rattle.vb_kernel.specs.declared.search.Search.{Search}
-use Rattle.vb_bits.specs.Bits.{bits, count, negated, Selects}
+use Rattle.vb_bits.specs.Bits.{bits, count, complement, Selects}
 
 -- for each value, whether it is v
-abbrev pub matching : Bool → List Bool → List Bool
-matching true l = l
-matching false l = negated l
+abbrev pub hits : Bool → List Bool → List Bool
+hits true l = l
+hits false l = complement l
 
 -- the place of the n-th true value of the list, or the rank that is left for what comes after the
 -- list
@@ -25,6 +25,6 @@ pub record IsWithin (bytes : List ℕ) (s : Search) (n : ℕ) : Type 0 where
 -- what the search of the n bits from where it stands answers
 abbrev pub SearchAnswers : List ℕ → Search → ℕ → ControlFlow ℕ ℕ → Type 0
 SearchAnswers bytes s n r = Searched
-    (matching s.value (bits bytes s.offset (s.from + n)))
-    (s.n + count (matching s.value (bits bytes s.offset s.from)))
+    (hits s.value (bits bytes s.offset (s.from + n)))
+    (s.n + count (hits s.value (bits bytes s.offset s.from)))
     r

@@ -1,7 +1,7 @@
 //! Counting and selecting within a chunk of 64 bytes.
 ghost use Rattle.std.specs.Prelude.{◌≡◌, ℕ, ◌+◌, ◌*◌, ◌^◌, ◌<◌, ◌≤◌, Some, length};
 ghost use Rattle.vb_bits.specs.Bits.{bits, count, Selects};
-ghost use Rattle.vb_kernel.specs.Searches.{matching, Searched};
+ghost use Rattle.vb_kernel.specs.Searches.{hits, Searched};
 
 use crate::glance::{Glance, Plain};
 use crate::search::{Search, find_in_units};
@@ -99,8 +99,8 @@ pub(crate) fn chunk_ones(chunk: &[u8; 64]) -> usize
 /// chunk that is only counted is copied to memory.
 #[inline(never)]
 pub(crate) fn select_in_chunk(chunk: u8x64, n: usize, value: bool) -> usize
-    requires { n < count (matching value (bits chunk 0 512)) }
-    ensures { Selects (matching value (bits chunk 0 512)) n (Some result) }
+    requires { n < count (hits value (bits chunk 0 512)) }
+    ensures { Selects (hits value (bits chunk 0 512)) n (Some result) }
 {
     find_in_chunk(&chunk.to_array(), n, value)
         .break_value()
@@ -110,7 +110,7 @@ pub(crate) fn select_in_chunk(chunk: u8x64, n: usize, value: bool) -> usize
 /// Searches the chunk, word by word, for the `n`-th bit that is `value`.
 #[inline(always)]
 pub(crate) fn find_in_chunk(chunk: &[u8; 64], n: usize, value: bool) -> ControlFlow<usize, usize>
-    ensures { Searched (matching value (bits chunk.now 0 512)) n result }
+    ensures { Searched (hits value (bits chunk.now 0 512)) n result }
 {
     let search = Search {
         offset: 0,

@@ -1,9 +1,9 @@
 //! The place of a bit by its rank.
 ghost use Rattle.std.specs.Prelude.{◌≡◌, ◌+◌, ◌-◌, ◌*◌, ◌/◌, ◌%◌, ◌^◌, ◌<◌, ◌≤◌, length};
-ghost use Rattle.vb_bits.specs.Bits.{bits, count, negated, Selects, AnswersEach};
+ghost use Rattle.vb_bits.specs.Bits.{bits, count, complement, Selects, InvertsCount};
 ghost use Rattle.vb_bits.specs.InBytes.{InBytes};
 ghost use Rattle.vb_kernel.specs.Looks.{looks, LooksExactly, LooksAtMost};
-ghost use Rattle.vb_kernel.specs.Searches.{matching, Searched, IsWithin, SearchAnswers};
+ghost use Rattle.vb_kernel.specs.Searches.{hits, Searched, IsWithin, SearchAnswers};
 
 use crate::chunk::find_in_chunk;
 use crate::count::add_chunks;
@@ -70,7 +70,7 @@ fn searched_first(n: usize) -> usize {
 pub fn bit_select(bytes: &[u8], offset: usize, len: usize, n: usize) -> Option<usize>
     requires window { InBytes bytes.now offset len }
     ensures place { Selects (bits bytes.now offset len) n result }
-    ensures each { AnswersEach (bits bytes.now offset len) n result }
+    ensures each { InvertsCount (bits bytes.now offset len) n result }
 {
     bit_select_by(&mut Plain::new(bytes), offset, len, n)
 }
@@ -79,8 +79,8 @@ pub fn bit_select(bytes: &[u8], offset: usize, len: usize, n: usize) -> Option<u
 /// window has at most `n`.
 pub fn bit_select_unset(bytes: &[u8], offset: usize, len: usize, n: usize) -> Option<usize>
     requires window { InBytes bytes.now offset len }
-    ensures place { Selects (negated (bits bytes.now offset len)) n result }
-    ensures each { AnswersEach (negated (bits bytes.now offset len)) n result }
+    ensures place { Selects (complement (bits bytes.now offset len)) n result }
+    ensures each { InvertsCount (complement (bits bytes.now offset len)) n result }
 {
     bit_select_unset_by(&mut Plain::new(bytes), offset, len, n)
 }
@@ -89,7 +89,7 @@ pub fn bit_select_unset(bytes: &[u8], offset: usize, len: usize, n: usize) -> Op
 pub fn bit_select_by<G: Glance>(src: &mut G, offset: usize, len: usize, n: usize) -> Option<usize>
     requires window { InBytes (G.seen src.old).bytes offset len }
     ensures place { Selects (bits (G.seen src.old).bytes offset len) n result }
-    ensures each { AnswersEach (bits (G.seen src.old).bytes offset len) n result }
+    ensures each { InvertsCount (bits (G.seen src.old).bytes offset len) n result }
     ensures looks { LooksAtMost (looks offset len) (G.seen src.old) (G.seen src.new) }
 {
     find(src, offset, len, n, true).break_value()
@@ -103,8 +103,8 @@ pub fn bit_select_unset_by<G: Glance>(
     n: usize,
 ) -> Option<usize>
     requires window { InBytes (G.seen src.old).bytes offset len }
-    ensures place { Selects (negated (bits (G.seen src.old).bytes offset len)) n result }
-    ensures each { AnswersEach (negated (bits (G.seen src.old).bytes offset len)) n result }
+    ensures place { Selects (complement (bits (G.seen src.old).bytes offset len)) n result }
+    ensures each { InvertsCount (complement (bits (G.seen src.old).bytes offset len)) n result }
     ensures looks { LooksAtMost (looks offset len) (G.seen src.old) (G.seen src.new) }
 {
     find(src, offset, len, n, false).break_value()
@@ -122,7 +122,7 @@ fn find<G: Glance>(
     value: bool,
 ) -> ControlFlow<usize, usize>
     requires window { InBytes (G.seen src.old).bytes offset len }
-    ensures found { Searched (matching value (bits (G.seen src.old).bytes offset len)) n result }
+    ensures found { Searched (hits value (bits (G.seen src.old).bytes offset len)) n result }
     ensures looks { LooksAtMost (looks offset len) (G.seen src.old) (G.seen src.new) }
 {
     let parts = Parts::of(offset, len);
@@ -206,7 +206,7 @@ fn pass_chunks<G: Glance>(
     requires window { InBytes (G.seen src.old).bytes at (512 * chunks) }
     ensures within { result.0 ≤ chunks }
     ensures passed { n ≡ result.1
-        + count (matching value (bits (G.seen src.old).bytes at (512 * result.0))) }
+        + count (hits value (bits (G.seen src.old).bytes at (512 * result.0))) }
     ensures looks { LooksExactly result.0 (G.seen src.old) (G.seen src.new) }
 {
     let mut passed = 0;
@@ -253,8 +253,8 @@ fn narrow<G: Glance>(src: &mut G, at: usize, chunks: usize, n: usize, value: boo
     requires window { InBytes (G.seen src.old).bytes at (512 * chunks) }
     ensures within { result.passed + result.chunks ≤ chunks }
     ensures passed { n ≡ result.left
-        + count (matching value (bits (G.seen src.old).bytes at (512 * result.passed))) }
-    ensures held { result.passed + result.chunks < chunks → result.left < count (matching value
+        + count (hits value (bits (G.seen src.old).bytes at (512 * result.passed))) }
+    ensures held { result.passed + result.chunks < chunks → result.left < count (hits value
         (bits (G.seen src.old).bytes (at + 512 * result.passed) (512 * result.chunks))) }
     ensures looks { LooksAtMost (chunks - result.chunks) (G.seen src.old) (G.seen src.new) }
 {
@@ -285,7 +285,7 @@ fn count_matching<G: Glance>(src: &mut G, at: usize, n: usize, value: bool) -> u
     requires inside { at + 64 * n ≤ length (G.seen src.old).bytes }
     requires fits { 8 * at + 512 * n < 2 ^ 64 }
     ensures value { result
-        ≡ count (matching value (bits (G.seen src.old).bytes (8 * at) (512 * n))) }
+        ≡ count (hits value (bits (G.seen src.old).bytes (8 * at) (512 * n))) }
     ensures looks { LooksExactly n (G.seen src.old) (G.seen src.new) }
 {
     let ones = add_chunks(src, at, n, 0);

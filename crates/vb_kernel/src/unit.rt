@@ -3,7 +3,7 @@ ghost use Rattle.std.specs.Prelude.{◌≡◌, ℕ, ◌+◌, ◌*◌, ◌<◌, �
 ghost use Rattle.std.specs.Prelude.{slice_range};
 ghost use Rattle.std.specs.Int.{w64, to_le_bytes};
 ghost use Rattle.vb_bits.specs.Bits.{bits, count, Selects};
-ghost use Rattle.vb_kernel.specs.Searches.{matching};
+ghost use Rattle.vb_kernel.specs.Searches.{hits};
 ghost use Rattle.vb_kernel.specs.Looks.{LooksExactly};
 
 use crate::glance::Glance;
@@ -29,12 +29,12 @@ pub(crate) trait Unit: Copy {
 
     /// How many bits are `value`.
     fn count(self, value: bool) -> usize
-        ensures { result ≡ count (matching value (bits (bytes self) 0 (8 * SIZE))) };
+        ensures { result ≡ count (hits value (bits (bytes self) 0 (8 * SIZE))) };
 
     /// The place of the `n`-th bit that is `value`.
     fn select(self, n: usize, value: bool) -> usize
-        requires { n < count (matching value (bits (bytes self) 0 (8 * SIZE))) }
-        ensures { Selects (matching value (bits (bytes self) 0 (8 * SIZE))) n (Some result) };
+        requires { n < count (hits value (bits (bytes self) 0 (8 * SIZE))) }
+        ensures { Selects (hits value (bits (bytes self) 0 (8 * SIZE))) n (Some result) };
 }
 
 impl Unit for u8 {

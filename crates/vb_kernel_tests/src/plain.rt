@@ -1,7 +1,7 @@
 //! Counting and selecting bit by bit, as the definitions say it.
 ghost use Rattle.std.specs.Prelude.{◌≡◌, ◌+◌, ◌*◌, ◌^◌, ◌<◌, ◌≤◌, length};
 ghost use Rattle.vb_bits.specs.InBytes.{InBytes};
-ghost use Rattle.vb_kernel.specs.Bits.{bits, count, negated, Selects};
+ghost use Rattle.vb_kernel.specs.Bits.{bits, count, complement, Selects};
 
 use vb_kernel::get_bit;
 
@@ -42,7 +42,7 @@ pub(crate) fn bit_select(bytes: &[u8], offset: usize, len: usize, n: usize) -> O
 #[tactic(auto, using(vb_bits::proofs::BitsLemmas::windows))]
 pub(crate) fn bit_select_unset(bytes: &[u8], offset: usize, len: usize, n: usize) -> Option<usize>
     requires window { InBytes bytes.now offset len }
-    ensures { Selects (negated (bits bytes.now offset len)) n result }
+    ensures { Selects (complement (bits bytes.now offset len)) n result }
 {
     let mut left = n;
     for i in 0..len {

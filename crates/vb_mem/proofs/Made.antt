@@ -1,7 +1,7 @@
 -- What was made, and what is made of it.
 use Rattle.std.proofs.Common.{ℕ, ◌<◌, List, length, Result, Ok, Err, subst, sym, ◌∙◌}
 use Rattle.vb_core.specs.declared.error.BufferError.{BufferError}
-use Rattle.vb_mem.specs.Answers.{Makes}
+use Rattle.vb_mem.specs.Makes.{Makes}
 use Rattle.vb_mem.specs.OpenBuffer.{OpenBuffer, Holds}
 use Rattle.vb_mem.specs.SharedBuffer.{SharedBuffer, Shows}
 

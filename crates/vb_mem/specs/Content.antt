@@ -4,7 +4,7 @@ use Rattle.vb_mem.specs.declared.content.Content.{Content}
 use Rattle.vb_mem.specs.declared.content.Content.TheVariants.{Nothing, Stored}
 use Rattle.std.specs.Rc.{rc_with_value}
 use Rattle.vb_mem.specs.OpenBuffer.{OpenBuffer}
-use Rattle.vb_mem.specs.SharedBuffer.{SharedBuffer, IsPlaceAligned, shown}
+use Rattle.vb_mem.specs.SharedBuffer.{SharedBuffer, IsPlaceAligned, as_shared}
 
 module _ {T A : Type 0} where
   -- what is seen, where an item has so many bytes
@@ -15,7 +15,7 @@ module _ {T A : Type 0} where
     declared = exponent;
     place = 0;
   }
-  seen size (Stored rc None) = shown rc.value
+  seen size (Stored rc None) = as_shared rc.value
   seen size (Stored rc (Some window)) = record {
     list = take window.len (drop window.start rc.value.list);
     alignment = window.alignment;

@@ -1,4 +1,4 @@
-pub mod Answers
+pub mod Makes
 pub mod Collected
 pub mod Content
 pub mod Loans

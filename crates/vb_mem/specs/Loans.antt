@@ -5,7 +5,7 @@ use Rattle.std.specs.declared.alloc.Allocator.{Ghosts as OfAllocator}
 use Rattle.vb_core.specs.declared.element.Element.{Ghosts as OfElement}
 use Rattle.vb_mem.specs.Content.{with_stored}
 use Rattle.vb_mem.specs.OpenBuffer.{OpenBuffer}
-use Rattle.vb_mem.specs.SharedBuffer.{SharedBuffer, shown, KeepsItems}
+use Rattle.vb_mem.specs.SharedBuffer.{SharedBuffer, as_shared, KeepsItems}
 use Rattle.vb_mem.specs.declared.content.Content.{Content}
 use Rattle.vb_mem.specs.contracts.content.Content.{the_row as content_row}
 use Rattle.vb_mem.specs.contracts.buffer.Buffer.{the_row as shared_row}
@@ -24,4 +24,4 @@ module _ (T A : RattleType) (t : OfElement T.Denot) (a : OfAllocator A.Denot) wh
       → Result (MutBor (OpenBuffer T.Denot)) E → Fml
   LendsAll buffer lent =
       LendsSoOk (shared_row T A t a) (open_row T A t a) buffer lent
-      (λ b growing. b ≡ shown growing) (KeepsItems buffer.now)
+      (λ b growing. b ≡ as_shared growing) (KeepsItems buffer.now)

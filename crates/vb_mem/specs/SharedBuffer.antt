@@ -50,8 +50,8 @@ CanSlice size least b range alignment =
     ⊎ IsPlaceAligned (b.place + range.start * size) b.declared alignment)
 
 -- the buffer that shows all that a growing one holds
-abbrev pub shown : {T : Type 0} → OpenBuffer T → SharedBuffer T
-shown growing = record {
+abbrev pub as_shared : {T : Type 0} → OpenBuffer T → SharedBuffer T
+as_shared growing = record {
   list = growing.list;
   alignment = growing.alignment;
   declared = growing.declared;

@@ -1,6 +1,6 @@
 //! A buffer that shares its storage, and its parts, which are made in constant time.
 ghost use Rattle.std.specs.Prelude.{◌≡◌, ◌==◌, ◌↔◌, ◌≤◌, [], length, IsTrue};
-ghost use Rattle.vb_mem.specs.Answers.{Makes};
+ghost use Rattle.vb_mem.specs.Makes.{Makes};
 ghost use Rattle.vb_mem.specs.SharedBuffer.{IsAlignedTo, ShowsPart, CanSlice, CanNarrow};
 
 use crate::Result;

@@ -2,7 +2,7 @@
 ghost use Rattle.std.specs.Prelude.{◌≡◌, ◌↔◌, ◌+◌, ◌*◌, ◌%◌, ◌^◌, ⊤, IsTrue, IfOk, IsOkUnless};
 ghost use Rattle.std.specs.Bool.{OnTrue, OnFalse};
 ghost use Rattle.std.specs.Borrow.{sem};
-ghost use Rattle.vb_mem.specs.SharedBuffer.{ShowsPart, CanSlice, shown};
+ghost use Rattle.vb_mem.specs.SharedBuffer.{ShowsPart, CanSlice, as_shared};
 ghost use Rattle.vb_mem.specs.Loans.{LendsStorage};
 
 use crate::Result;
@@ -79,7 +79,7 @@ impl<T: Element, A: Allocator> Content<T, A> {
     pub(crate) fn narrow_lone(&mut self) -> bool
         requires { IsSound T.SIZE T.align_exponent self.old }
         ensures narrowed { OnTrue result (IsWhole
-            (λ stored. shown stored ≡ record (seen T.SIZE self.old) { place = 0 }) self.new) }
+            (λ stored. as_shared stored ≡ record (seen T.SIZE self.old) { place = 0 }) self.new) }
         ensures shared { OnFalse result (self.new ≡ self.old) }
     {
         let Content::Stored(storage, shown) = self else {

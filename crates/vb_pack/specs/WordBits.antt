@@ -20,5 +20,5 @@ pub record WritesWords (old new : List ℕ) (o : ℕ) (m : List Bool) : Type 0 w
   pub others : (i : ℕ) → (i < o) ⊎ (o + length m ≤ i) → word_bit new i ≡ word_bit old i
 
 -- the list filled up with false to a multiple of n values
-abbrev pub filled_up : ℕ → List Bool → List Bool
-filled_up n l = l ++ replicate ((n - length l % n) % n) false
+abbrev pub filled_to : ℕ → List Bool → List Bool
+filled_to n l = l ++ replicate ((n - length l % n) % n) false

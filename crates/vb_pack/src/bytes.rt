@@ -3,7 +3,7 @@ ghost use Rattle.std.specs.Prelude.{◌≡◌, ◌+◌, ◌*◌, ◌≤◌, ◌=
 ghost use Rattle.vb_pack.specs.Asked.{Answers, CanAsk, span};
 ghost use Rattle.vb_pack.specs.Bits.{bits};
 ghost use Rattle.vb_pack.specs.Digits.{digits};
-ghost use Rattle.vb_pack.specs.WordBits.{filled_up};
+ghost use Rattle.vb_pack.specs.WordBits.{filled_to};
 ghost use Rattle.vb_pack.specs.Writes.{Writes};
 
 use crate::collect::{collect_full, collect_part};
@@ -17,7 +17,7 @@ pub fn collect_bool_bytes<F: FnMut(usize) -> bool>(bytes: &mut [u8], len: usize,
     requires room { len ≤ 8 * length bytes.old }
     requires callable { CanAsk (F.pre) (F.step) f.old (span 0 len) }
     ensures answered { Answers (F.step) f.old (span 0 len) (bits bytes.new 0 len) f.new }
-    ensures written { Writes bytes.old bytes.new 0 (filled_up 8 (bits bytes.new 0 len)) }
+    ensures written { Writes bytes.old bytes.new 0 (filled_to 8 (bits bytes.new 0 len)) }
 {
     let full = len / 64;
     for k in 0..full {
@@ -34,7 +34,7 @@ pub fn collect_bool_bytes<F: FnMut(usize) -> bool>(bytes: &mut [u8], len: usize,
 pub fn pack_bools(bytes: &mut [u8], bools: &[bool])
     requires { length bools.now ≤ 8 * length bytes.old }
     ensures packed { bits bytes.new 0 (length bools.now) ≡ bools.now }
-    ensures written { Writes bytes.old bytes.new 0 (filled_up 8 (bools.now)) }
+    ensures written { Writes bytes.old bytes.new 0 (filled_to 8 (bools.now)) }
 {
     collect_bool_bytes(bytes, bools.len(), &mut |i| bools[i]);
 }
@@ -44,7 +44,7 @@ pub fn pack_truthy(bytes: &mut [u8], truthy: &[u8])
     requires { length truthy.now ≤ 8 * length bytes.old }
     ensures packed { bits bytes.new 0 (length truthy.now) ≡ map (λ x. not (x == 0)) truthy.now }
     ensures written { Writes bytes.old bytes.new 0
-        (filled_up 8 (map (λ x. not (x == 0)) truthy.now)) }
+        (filled_to 8 (map (λ x. not (x == 0)) truthy.now)) }
 {
     collect_bool_bytes(bytes, truthy.len(), &mut |i| truthy[i] != 0);
 }

@@ -4,7 +4,7 @@ ghost use Rattle.vb_bits.specs.InBytes.{InBytes};
 ghost use Rattle.vb_pack.specs.Asked.{Answers, CanAsk, span};
 ghost use Rattle.vb_pack.specs.Bits.{at, bit_of, bits};
 ghost use Rattle.vb_pack.specs.Digits.{digits};
-ghost use Rattle.vb_pack.specs.WordBits.{filled_up};
+ghost use Rattle.vb_pack.specs.WordBits.{filled_to};
 ghost use Rattle.vb_pack.specs.Writes.{Writes};
 
 use crate::bytes::write_front;
@@ -29,7 +29,7 @@ pub fn map_bool_bytes<F: FnMut(usize, bool) -> bool>(
         (λ p i b q. F.step p i (at (bits src.now offset len) i) b q) f.old (span 0 len) }
     ensures answered { Answers (λ p i b q. F.step p i (at (bits src.now offset len) i) b q)
         f.old (span 0 len) (bits dst.new 0 len) f.new }
-    ensures written { Writes dst.old dst.new 0 (filled_up 8 (bits dst.new 0 len)) }
+    ensures written { Writes dst.old dst.new 0 (filled_to 8 (bits dst.new 0 len)) }
 {
     let full = len / 64;
     for k in 0..full {

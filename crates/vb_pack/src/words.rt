@@ -3,7 +3,7 @@ ghost use Rattle.std.specs.Prelude.{◌≡◌, ℕ, ◌+◌, ◌-◌, ◌*◌, �
 ghost use Rattle.std.specs.Prelude.{length};
 ghost use Rattle.vb_pack.specs.Asked.{Answers, CanAsk, span};
 ghost use Rattle.vb_pack.specs.Digits.{digits};
-ghost use Rattle.vb_pack.specs.WordBits.{WritesWords, filled_up, word_bit, word_bits};
+ghost use Rattle.vb_pack.specs.WordBits.{WritesWords, filled_to, word_bit, word_bits};
 
 use crate::collect::{collect_full, collect_part};
 use crate::pack::{Lanes, Multiply, Pack};
@@ -17,7 +17,7 @@ pub fn collect_bool_words<F: FnMut(usize) -> bool>(words: &mut [u64], len: usize
     requires callable { CanAsk (F.pre) (F.step) f.old (span 0 len) }
     ensures answered { Answers (F.step) f.old (span 0 len) (word_bits words.new 0 len) f.new }
     ensures written { WritesWords words.old words.new 0
-        (filled_up 64 (word_bits words.new 0 len)) }
+        (filled_to 64 (word_bits words.new 0 len)) }
 {
     collect_words::<Multiply, F>(words, len, f);
 }
@@ -34,7 +34,7 @@ pub fn collect_bool_words_multiversioned<F: FnMut(usize) -> bool>(
     requires callable { CanAsk (F.pre) (F.step) f.old (span 0 len) }
     ensures answered { Answers (F.step) f.old (span 0 len) (word_bits words.new 0 len) f.new }
     ensures written { WritesWords words.old words.new 0
-        (filled_up 64 (word_bits words.new 0 len)) }
+        (filled_to 64 (word_bits words.new 0 len)) }
 {
     collect_words::<Lanes, F>(words, len, f);
 }
@@ -46,7 +46,7 @@ fn collect_words<P: Pack, F: FnMut(usize) -> bool>(words: &mut [u64], len: usize
     requires callable { CanAsk (F.pre) (F.step) f.old (span 0 len) }
     ensures answered { Answers (F.step) f.old (span 0 len) (word_bits words.new 0 len) f.new }
     ensures written { WritesWords words.old words.new 0
-        (filled_up 64 (word_bits words.new 0 len)) }
+        (filled_to 64 (word_bits words.new 0 len)) }
 {
     let full = len / 64;
     for k in 0..full {

@@ -8,7 +8,7 @@ use Rattle.std.proofs.lemmas.List.{length-drop, length-take, take_all, take-appe
 use Rattle.std.proofs.lemmas.List.{take-append-drop}
 use Rattle.std.proofs.lemmas.Nat.Bits.{bit_at_lowest}
 use Rattle.vb_bits.specs.Digits.{digits, has_bit}
-use Rattle.vb_set.specs.Words.{number, word, words}
+use Rattle.vb_set.specs.Words.{bits_number, word, words}
 use Rattle.vb_set.proofs.DigitsLemmas.{digits_none, digits-suc, digits-add, length-digits}
 use Rattle.vb_set.proofs.WordsLemmas.{words_none, words_push}
 
@@ -27,14 +27,14 @@ others_are true n = omega arith
 others_are false n = omega arith
 
 -- the digits of a list's number
-digits-number : (l : List Bool) → digits (number l) 0 (length l) ≡ l
-digits-number [] = digits_none 0 0
-digits-number (b ∷ l) =
-    let w = cond b 1 0 + 2 * number l in
+digits-bits_number : (l : List Bool) → digits (bits_number l) 0 (length l) ≡ l
+digits-bits_number [] = digits_none 0 0
+digits-bits_number (b ∷ l) =
+    let w = cond b 1 0 + 2 * bits_number l in
     digits-suc w (length l)
-    ∙ ap (λ d. d ∷ digits (w / 2) 0 (length l)) (lowest_is b (number l))
-    ∙ ap (λ n. b ∷ digits n 0 (length l)) (others_are b (number l))
-    ∙ ap (λ d. b ∷ d) (digits-number l)
+    ∙ ap (λ d. d ∷ digits (w / 2) 0 (length l)) (lowest_is b (bits_number l))
+    ∙ ap (λ n. b ∷ digits n 0 (length l)) (others_are b (bits_number l))
+    ∙ ap (λ d. b ∷ d) (digits-bits_number l)
 
 -- the first digits of 64
 take-digits : (w k : ℕ) → k ≤ 64 → take k (digits w 0 64) ≡ digits w 0 k
@@ -49,7 +49,7 @@ take-digits w k few =
 digits-word : (l : List Bool) (k n : ℕ) → length (take 64 (drop (64 * k) l)) ≡ n
     → digits (word l k) 0 n ≡ take 64 (drop (64 * k) l)
 digits-word l k n e =
-    ap (digits (word l k) 0) (sym e) ∙ digits-number (take 64 (drop (64 * k) l))
+    ap (digits (word l k) 0) (sym e) ∙ digits-bits_number (take 64 (drop (64 * k) l))
 
 -- those of full words
 digits-words : (l : List Bool) (n : ℕ) → 64 * n ≤ length l

@@ -6,8 +6,8 @@
 #![tactic(auto)]
 
 mod edit;
+mod freeze;
 mod import;
-mod kinds;
 mod lists;
 mod make;
 mod open_bits;

@@ -1,7 +1,7 @@
 //! What a set holds, as lists and as a text in memory of an allocator.
 ghost use Rattle.std.specs.Prelude.{◌≡◌, string_bytes};
-ghost use Rattle.vb_bits.specs.Shown.{shown};
-ghost use Rattle.vb_set.specs.Answers.{Makes};
+ghost use Rattle.vb_bits.specs.Shown.{bits_text};
+ghost use Rattle.vb_set.specs.Makes.{Makes};
 ghost use Rattle.vb_bits.specs.Digits.{digits};
 ghost use Rattle.vb_bits.specs.Bits.{places};
 ghost use Rattle.vb_bits.specs.Runs.{runs};
@@ -71,7 +71,7 @@ pub(crate) fn list_runs<A: Allocator + Clone>(
 
 /// The text that shows a set. Refused by `OutOfMemory` alone.
 pub(crate) fn text<A: Allocator + Clone>(alloc: &A, set: &BitBuffer<A>) -> Result<String<A>>
-    ensures { Makes (λ text. string_bytes text ≡ shown set.now.bits) result }
+    ensures { Makes (λ text. string_bytes text ≡ bits_text set.now.bits) result }
 {
     Ok(format!(in alloc.clone()?; "{set}")?)
 }

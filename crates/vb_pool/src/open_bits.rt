@@ -2,12 +2,12 @@
 ghost use Rattle.std.specs.Prelude.{◌≡◌, ◌+◌, ◌*◌, ◌^◌, ◌<◌, ◌≤◌, [], ◌∷◌, ◌++◌, length, take};
 ghost use Rattle.std.specs.Prelude.{replicate, slice_set, false, IsTrue};
 ghost use Rattle.std.specs.Prelude.{OnOk, OnErr};
-ghost use Rattle.vb_bits.specs.Bits.{bits, negated};
-ghost use Rattle.vb_bits.specs.Edits.{filled};
+ghost use Rattle.vb_bits.specs.Bits.{bits, complement};
+ghost use Rattle.vb_bits.specs.Edits.{with_fill};
 ghost use Rattle.vb_bits.specs.InBytes.{InBytes};
 ghost use Rattle.vb_command.specs.Machine.{all_below};
 ghost use Rattle.vb_pool.specs.OpenBits.{LimitsLength};
-ghost use Rattle.vb_set.specs.Answers.{Makes};
+ghost use Rattle.vb_set.specs.Makes.{Makes};
 ghost use Rattle.vb_set.specs.Takes.{with_true};
 
 use std::alloc::Allocator;
@@ -148,7 +148,7 @@ impl<A: Allocator + Clone> OpenBits<A> {
     pub fn fill_range(&mut self, start: usize, end: usize, v: bool)
         requires order { start ≤ end }
         requires within { end ≤ length self.old }
-        ensures { self.new ≡ filled self.old start end v }
+        ensures { self.new ≡ with_fill self.old start end v }
     {
         self.set.fill_range(start, end, v);
     }
@@ -197,7 +197,7 @@ impl<A: Allocator + Clone> OpenBits<A> {
 
     /// Each bit negated, in place.
     pub fn flip(self) -> Self
-        ensures { result ≡ negated self }
+        ensures { result ≡ complement self }
     {
         OpenBits::new(!self.set)
     }

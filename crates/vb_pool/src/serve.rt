@@ -1,6 +1,6 @@
 //! Commands, one or many.
 ghost use Rattle.std.specs.Prelude.{◌≡◌, map, IfOk, OnErr, IsOkUnless};
-ghost use Rattle.vb_command.specs.Machine.{Outcome, Run, order};
+ghost use Rattle.vb_command.specs.Machine.{Outcome, Run, order_of};
 ghost use Rattle.vb_command.specs.Views.{reply};
 ghost use Rattle.vb_pool.specs.Answered.{reply_of};
 ghost use Rattle.vb_set.specs.declared.BufferError.TheVariants.{OutOfMemory};
@@ -23,7 +23,7 @@ impl<A: Allocator + Clone> Pool<A> {
     /// with `own` where their left set's storage has no other owner. A frozen set that is made asks
     /// for its owner too.
     pub fn serve(&mut self, alloc: &A, command: &Command<A>) -> Answer<A>
-        ensures { Outcome self.old (order command.now) (reply result) self.new }
+        ensures { Outcome self.old (order_of command.now) (reply result) self.new }
     {
         answer_of(self.carry_out(alloc, command))
     }
@@ -31,7 +31,7 @@ impl<A: Allocator + Clone> Pool<A> {
     /// Carries out one command that is given away, as [`serve`](Self::serve) does one that is lent.
     /// The bytes of an `import` become those of its set, which asks for an owner of them alone.
     pub fn serve_owned(&mut self, alloc: &A, command: Command<A>) -> Answer<A>
-        ensures { Outcome self.old (order command) (reply result) self.new }
+        ensures { Outcome self.old (order_of command) (reply result) self.new }
     {
         match command {
             Command::Import(k, offset, len, bytes) => {
@@ -47,7 +47,7 @@ impl<A: Allocator + Clone> Pool<A> {
 
     /// Carries out one command: what it is answered, or why it is refused.
     fn carry_out(&mut self, alloc: &A, command: &Command<A>) -> Result<Answer<A>, Refusal>
-        ensures { Outcome self.old (order command.now) (reply_of result) self.new }
+        ensures { Outcome self.old (order_of command.now) (reply_of result) self.new }
     {
         match *command {
             Command::Import(k, offset, len, ref bytes) => {
@@ -112,7 +112,7 @@ pub fn run<A: Allocator + Clone>(
     commands: &[Command<A>],
 ) -> Result<Vec<Answer<A>, A>>
     ensures ok { IfOk result (λ answers.
-        Run pool.old (map order commands.now) (map reply answers.items) pool.new) }
+        Run pool.old (map order_of commands.now) (map reply answers.items) pool.new) }
     ensures refused { IsOkUnless result OutOfMemory }
     ensures err { OnErr result (pool.new ≡ pool.old) }
 {

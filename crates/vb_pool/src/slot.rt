@@ -5,7 +5,7 @@ ghost use Rattle.std.specs.Option.{option_copied_mut, option_map};
 ghost use Rattle.vb_command.specs.Machine.{open_list, frozen_list};
 ghost use Rattle.vb_pool.specs.contracts.open_bits.OpenBits.{the_row as open_row};
 ghost use Rattle.vb_pool.specs.contracts.slot.Slot.{the_row};
-ghost use Rattle.vb_set.specs.Answers.{Makes};
+ghost use Rattle.vb_set.specs.Makes.{Makes};
 
 use crate::open_bits::OpenBits;
 use std::alloc::Allocator;

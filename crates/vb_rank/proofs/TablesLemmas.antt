@@ -8,12 +8,12 @@ use Rattle.std.proofs.lemmas.Bool.{cases_lt}
 use Rattle.std.proofs.lemmas.Int.Digits.{length-digits_of_step}
 use Rattle.vb_bits.specs.Bits.{bits, count, Selects}
 use Rattle.vb_kernel.specs.Looks.{looks}
-use Rattle.vb_kernel.specs.Searches.{matching}
+use Rattle.vb_kernel.specs.Searches.{hits}
 use Rattle.vb_kernel.proofs.BitsLemmas.{length-bits, take-bits, count-bits-le}
-use Rattle.vb_kernel.proofs.SearchesLemmas.{count-matching-bits_split, count-matching-bits_false}
+use Rattle.vb_kernel.proofs.SearchesLemmas.{count-hits-bits_split, count-hits-bits_false}
 use Rattle.vb_kernel.proofs.SearchesLemmas.{Searched_after, Searched_longer}
 use Rattle.vb_rank.specs.Tables.{CountedEntries, ProbesAtMost, blocks, block_counts, binary_digits}
-use Rattle.vb_rank.specs.Tables.{passed, BeginsBefore, Rises}
+use Rattle.vb_rank.specs.Tables.{count_before, BeginsBefore, Rises}
 
 -- ---- looks
 -- a block takes at most 16 looks, wherever it begins
@@ -67,33 +67,35 @@ entry-le b t o n e j h = rw e (omega
     (arith, at-block_counts-bits b o n j (inside b t o n e j h), count-bits-le b o (512 * j)))
 
 -- what the table says of a block is the count of a front of the window
-pub passed-table : (v : Bool) (b t : List ℕ) (o n : ℕ) → t ≡ block_counts (bits b o n)
-    → (j : ℕ) → j < length t → passed v t j ≡ count (matching v (bits b o (512 * j)))
-passed-table true b t o n e j h =
+pub count_before-table : (v : Bool) (b t : List ℕ) (o n : ℕ) → t ≡ block_counts (bits b o n)
+    → (j : ℕ) → j < length t → count_before v t j ≡ count (hits v (bits b o (512 * j)))
+count_before-table true b t o n e j h =
     ap (λ x. get_or x j 0) e ∙ at-block_counts-bits b o n j (inside b t o n e j h)
-passed-table false b t o n e j h =
+count_before-table false b t o n e j h =
     omega (
       arith,
       ap (λ x. get_or x j 0) e ∙ at-block_counts-bits b o n j (inside b t o n e j h),
-      count-matching-bits_false false b o (512 * j) refl,
+      count-hits-bits_false false b o (512 * j) refl,
     )
 
 -- a later block has no fewer values before it
-pub passed-mono : (v : Bool) (b t : List ℕ) (o n : ℕ)
-    → t ≡ block_counts (bits b o n) → (i j : ℕ) → i ≤ j → j < length t → passed v t i ≤ passed v t j
-passed-mono v b t o n e i j order h =
-    let more = count-matching-bits_split v b o
+pub count_before-mono : (v : Bool) (b t : List ℕ) (o n : ℕ)
+    → t ≡ block_counts (bits b o n) → (i j : ℕ) → i ≤ j → j < length t
+    → count_before v t i ≤ count_before v t j
+count_before-mono v b t o n e i j order h =
+    let more = count-hits-bits_split v b o
     (512 * i) (512 * j) (o + 512 * i) (512 * j - 512 * i) refl (omega arith) in
     omega (
       arith,
       more,
-      passed-table v b t o n e i (omega (arith, order, h)),
-      passed-table v b t o n e j h,
+      count_before-table v b t o n e i (omega (arith, order, h)),
+      count_before-table v b t o n e j h,
     )
 
 -- the table of a window can be searched by halves
 pub Rises-table : (v : Bool) (b t : List ℕ) (o n : ℕ) → t ≡ block_counts (bits b o n) → Rises v t
-Rises-table v b t o n e = record { small = entry-le b t o n e; rising = passed-mono v b t o n e }
+Rises-table v b t o n e =
+    record { small = entry-le b t o n e; rising = count_before-mono v b t o n e }
 
 -- ---- the block of a rank
 -- it begins in the window
@@ -104,10 +106,10 @@ block-begins v b t o n r j m e f = omega (arith, inside b t o n e j f.within)
 -- what its search finds is found in the window
 pub Selects-block_some : (v : Bool) (b t : List ℕ) (o n r j m k p : ℕ)
     → t ≡ block_counts (bits b o n) → BeginsBefore v t r j m → k ≡ min (n - 512 * j) 512
-    → Selects (matching v (bits b (o + 512 * j) k)) (r - m) (Some p)
-    → Selects (matching v (bits b o n)) r (Some (512 * j + p))
+    → Selects (hits v (bits b (o + 512 * j) k)) (r - m) (Some p)
+    → Selects (hits v (bits b o n)) r (Some (512 * j + p))
 Selects-block_some v b t o n r j m k p e f cut s =
-    let before = passed-table v b t o n e j f.within in
+    let before = count_before-table v b t o n e j f.within in
     let found =
     Searched_after v b o (512 * j) k r (r - m) p (omega (arith, before, f.before, f.low)) s in
     Searched_longer v b o
@@ -116,13 +118,13 @@ Selects-block_some v b t o n r j m k p e f cut s =
 -- where it finds nothing, the window has no more
 pub Selects-block_none : (v : Bool) (b t : List ℕ) (o n r j m k : ℕ)
     → t ≡ block_counts (bits b o n) → BeginsBefore v t r j m → k ≡ min (n - 512 * j) 512
-    → Selects (matching v (bits b (o + 512 * j) k)) (r - m) None
-    → Selects (matching v (bits b o n)) r None
+    → Selects (hits v (bits b (o + 512 * j) k)) (r - m) None
+    → Selects (hits v (bits b o n)) r None
 Selects-block_none v b t o n r j m k e f cut s =
-    let before = passed-table v b t o n e j f.within in
+    let before = count_before-table v b t o n e j f.within in
     let block = inside b t o n e j f.within in
     let long = length-block_counts-bits b o n in
-    let whole = count-matching-bits_split v b o (512 * j) (512 * j + k) (o + 512 * j) k refl refl in
+    let whole = count-hits-bits_split v b o (512 * j) (512 * j + k) (o + 512 * j) k refl refl in
     ⊎_elim
     (λ (more : j + 1 < length t).
     let full : 512 * j + k ≡ 512 * (j + 1) = omega (arith, cut, inside b t o n e (j + 1) more) in
@@ -134,13 +136,13 @@ Selects-block_none v b t o n r j m k e f cut s =
       before,
       whole,
       f.high more,
-      passed-table v b t o n e (j + 1) more,
-      ap (λ x. count (matching v (bits b o x))) full,
+      count_before-table v b t o n e (j + 1) more,
+      ap (λ x. count (hits v (bits b o x))) full,
     )))
     (λ (last : length t ≤ j + 1).
     let full : 512 * j + k ≡ n = omega (arith, cut, block, last, ap length e, long) in
     omega
-    (arith, s, f.before, f.low, before, whole, ap (λ x. count (matching v (bits b o x))) full))
+    (arith, s, f.before, f.low, before, whole, ap (λ x. count (hits v (bits b o x))) full))
     (cases_lt (j + 1) (length t))
 
 -- ---- ranks
@@ -153,8 +155,8 @@ rank-block b t o n i j m k e h from to before here =
       arith,
       before,
       here,
-      passed-table true b t o n e j h,
-      count-matching-bits_split true b o
+      count_before-table true b t o n e j h,
+      count-hits-bits_split true b o
           (512 * j) i (o + 512 * j) (i - 512 * j) refl (omega arith),
       ap count (take-bits b o n i to),
     )

@@ -38,22 +38,22 @@ abbrev pub binary_digits : ℕ → ℕ
 binary_digits n = length (digits_of 2 n)
 
 -- how many values that are v are before block j, by the table
-abbrev pub passed : Bool → List ℕ → ℕ → ℕ
-passed true t j = slice_index t j
-passed false t j = 512 * j - slice_index t j
+abbrev pub count_before : Bool → List ℕ → ℕ → ℕ
+count_before true t j = slice_index t j
+count_before false t j = 512 * j - slice_index t j
 
 -- no entry is greater than the number of values before its block, and no later block has fewer
 -- values that are v before it
 pub record Rises (v : Bool) (t : List ℕ) : Type 0 where
   pub small : (j : ℕ) → j < length t → slice_index t j ≤ 512 * j
-  pub rising : (i j : ℕ) → i ≤ j → j < length t → passed v t i ≤ passed v t j
+  pub rising : (i j : ℕ) → i ≤ j → j < length t → count_before v t i ≤ count_before v t j
 
 -- before block j are m values that are v, at most n, and before the next one more than n
 pub record BeginsBefore (v : Bool) (t : List ℕ) (n j m : ℕ) : Type 0 where
   pub within : j < length t
-  pub before : m ≡ passed v t j
+  pub before : m ≡ count_before v t j
   pub low : m ≤ n
-  pub high : j + 1 < length t → n < passed v t (j + 1)
+  pub high : j + 1 < length t → n < count_before v t (j + 1)
 
 -- one more, or one fewer
 abbrev pub bump : Bool → ℕ → ℕ

@@ -1,6 +1,7 @@
 //! The block of a rank.
 ghost use Rattle.std.specs.Prelude.{◌≡◌, ℕ, ◌+◌, ◌*◌, ◌^◌, ◌<◌, ◌≤◌, length, slice_index};
-ghost use Rattle.vb_rank.specs.Tables.{passed, BeginsBefore, Rises, ProbesExactly, ProbesAtMost};
+ghost use Rattle.vb_rank.specs.Tables.{count_before, BeginsBefore, Rises};
+ghost use Rattle.vb_rank.specs.Tables.{ProbesExactly, ProbesAtMost};
 
 use crate::probe::Probe;
 
@@ -40,7 +41,7 @@ fn bits_before<T: Probe>(table: &mut T, j: usize, value: bool) -> usize
     requires within { j < length (T.seen table.old).entries }
     requires fits { 512 * j < 2 ^ 64 }
     ensures value { slice_index (T.seen table.old).entries j ≤ 512 * j
-        → result ≡ passed value (T.seen table.old).entries j }
+        → result ≡ count_before value (T.seen table.old).entries j }
     ensures probe { ProbesExactly 1 (T.seen table.old) (T.seen table.new) }
 {
     let ones = table.entry(j);

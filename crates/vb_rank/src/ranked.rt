@@ -1,10 +1,10 @@
 //! A set of bits with its table.
 ghost use Rattle.std.specs.Prelude.{◌≡◌, ◌+◌, ◌/◌, ◌%◌, ◌^◌, ◌<◌, ◌≤◌, ◌∷◌, [], length, take, drop};
 ghost use Rattle.std.specs.Prelude.{slice_set, IfOk, IsOk, IsOkUnless, IsErrOf, OnOk, OnErr};
-ghost use Rattle.vb_bits.specs.Bits.{count, negated, Selects, AnswersEach};
+ghost use Rattle.vb_bits.specs.Bits.{count, complement, Selects, InvertsCount};
 ghost use Rattle.vb_bits.specs.Writes.{Writes};
 ghost use Rattle.vb_rank.specs.Tables.{block_counts, blocks};
-ghost use Rattle.vb_set.specs.OpenSet.{AddsBits, Grows, KeepsLayout};
+ghost use Rattle.vb_set.specs.OpenSet.{AddsBits, KeepsStart, KeepsLayout};
 ghost use Rattle.vb_set.specs.View.{bits_of, offset_of, bytes_of};
 
 use crate::probe::PlainTable;
@@ -88,7 +88,7 @@ impl<A: Allocator + Clone> Ranked<A> {
     /// [`select_by`] of the set and its table, whose blocks it halves until one is left.
     pub fn select(&self, n: usize) -> Option<usize>
         ensures place { Selects self.now.bits n result }
-        ensures each { AnswersEach self.now.bits n result }
+        ensures each { InvertsCount self.now.bits n result }
     {
         let bits = self.as_view();
         let src = &mut Plain::new(bits.inner());
@@ -98,8 +98,8 @@ impl<A: Allocator + Clone> Ranked<A> {
     /// The place of the `n`-th false bit, counted from 0; `None` where at most `n` bits are false,
     /// at the cost of [`select`](Self::select).
     pub fn select_unset(&self, n: usize) -> Option<usize>
-        ensures place { Selects (negated self.now.bits) n result }
-        ensures each { AnswersEach (negated self.now.bits) n result }
+        ensures place { Selects (complement self.now.bits) n result }
+        ensures each { InvertsCount (complement self.now.bits) n result }
     {
         let bits = self.as_view();
         let src = &mut Plain::new(bits.inner());
@@ -131,7 +131,7 @@ impl<A: Allocator + Clone> Ranked<A> {
     /// table needs an entry more.
     pub fn append(&mut self, v: bool) -> Result<()>
         ensures ok { OnOk result (AddsBits (v ∷ []) self.old self.new) }
-        ensures grows { Grows self.old self.new }
+        ensures grows { KeepsStart self.old self.new }
         ensures in_room { 0 < length self.old.bits % 512
             → length self.old.bits + 1 ≤ self.old.room → IsOk result }
         ensures fits { self.old.offset + length self.old.bits + 1 < 2 ^ 64

@@ -1,9 +1,9 @@
 //! The place of a bit by its rank, over a table.
 ghost use Rattle.std.specs.Prelude.{◌≡◌, ◌+◌, ◌*◌, ◌^◌, ◌<◌, ◌≤◌, length};
-ghost use Rattle.vb_bits.specs.Bits.{bits, negated, Selects, AnswersEach};
+ghost use Rattle.vb_bits.specs.Bits.{bits, complement, Selects, InvertsCount};
 ghost use Rattle.vb_bits.specs.InBytes.{InBytes};
 ghost use Rattle.vb_kernel.specs.Looks.{LooksAtMost};
-ghost use Rattle.vb_kernel.specs.Searches.{matching};
+ghost use Rattle.vb_kernel.specs.Searches.{hits};
 ghost use Rattle.vb_rank.specs.Tables.{blocks, binary_digits, ProbesAtMost, IsTableOf};
 
 use crate::block::find_block;
@@ -29,7 +29,7 @@ pub fn select_by<G: Glance, T: Probe>(
     ensures place { IsTableOf (T.seen table.old) (bits (G.seen src.old).bytes offset len)
         → Selects (bits (G.seen src.old).bytes offset len) n result }
     ensures each { IsTableOf (T.seen table.old) (bits (G.seen src.old).bytes offset len)
-        → AnswersEach (bits (G.seen src.old).bytes offset len) n result }
+        → InvertsCount (bits (G.seen src.old).bytes offset len) n result }
     ensures looks { LooksAtMost 16 (G.seen src.old) (G.seen src.new) }
     ensures probes { ProbesAtMost (binary_digits (blocks len + 1))
         (T.seen table.old) (T.seen table.new) }
@@ -50,9 +50,9 @@ pub fn select_unset_by<G: Glance, T: Probe>(
     requires window { InBytes (G.seen src.old).bytes offset len }
     requires size { length (T.seen table.old).entries ≡ blocks len }
     ensures place { IsTableOf (T.seen table.old) (bits (G.seen src.old).bytes offset len)
-        → Selects (negated (bits (G.seen src.old).bytes offset len)) n result }
+        → Selects (complement (bits (G.seen src.old).bytes offset len)) n result }
     ensures each { IsTableOf (T.seen table.old) (bits (G.seen src.old).bytes offset len)
-        → AnswersEach (negated (bits (G.seen src.old).bytes offset len)) n result }
+        → InvertsCount (complement (bits (G.seen src.old).bytes offset len)) n result }
     ensures looks { LooksAtMost 16 (G.seen src.old) (G.seen src.new) }
     ensures probes { ProbesAtMost (binary_digits (blocks len + 1))
         (T.seen table.old) (T.seen table.new) }
@@ -73,7 +73,7 @@ fn select_value_by<G: Glance, T: Probe>(
     requires window { InBytes (G.seen src.old).bytes offset len }
     requires size { length (T.seen table.old).entries ≡ blocks len }
     ensures place { IsTableOf (T.seen table.old) (bits (G.seen src.old).bytes offset len)
-        → Selects (matching value (bits (G.seen src.old).bytes offset len)) n result }
+        → Selects (hits value (bits (G.seen src.old).bytes offset len)) n result }
     ensures looks { LooksAtMost 16 (G.seen src.old) (G.seen src.new) }
     ensures probes { ProbesAtMost (binary_digits (blocks len + 1))
         (T.seen table.old) (T.seen table.new) }
@@ -98,7 +98,7 @@ fn select_in_block<G: Glance>(
 ) -> Option<usize>
     requires window { InBytes (G.seen src.old).bytes offset len }
     requires block { len ≤ 512 }
-    ensures place { Selects (matching value (bits (G.seen src.old).bytes offset len)) n result }
+    ensures place { Selects (hits value (bits (G.seen src.old).bytes offset len)) n result }
     ensures looks { LooksAtMost 16 (G.seen src.old) (G.seen src.new) }
 {
     if value {

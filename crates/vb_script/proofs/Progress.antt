@@ -13,7 +13,7 @@ use Rattle.vb_command.specs.Reading.{asks_memory, reading, script, with_order}
 use Rattle.vb_pool.proofs.Runs.{Run-append}
 use Rattle.vb_script.specs.Feed.{next_line}
 use Rattle.vb_script.specs.DriveError.{UnlessWrite, line_error, stream_error}
-use Rattle.vb_script.specs.Session.{Answers, reading_any, line_of_any, lines_of, AnswersRun}
+use Rattle.vb_script.specs.Session.{RepliesTo, reading_any, line_of_any, lines_of, AnswersRun}
 use Rattle.vb_script.specs.Session.{AnswersLines, AnswersSome, AnswersEnded, StopsAt, SessionEnds}
 use Rattle.vb_script.specs.Session.{count_ended}
 use Rattle.vb_script.specs.declared.error.DriveError.{DriveError}
@@ -64,7 +64,7 @@ lines_of-append replies r = flat_map-append line_of replies (r ∷ [])
 pub Ran-append : (commands : List Order) (first written : Option (List ℕ)) (out : List ℕ)
     (slots : List Slot) (o : Option (Option Order)) (r : Option Reply) (written' : Option (List ℕ))
     (out' : List ℕ) (slots' : List Slot)
-    → Ran commands first written out slots → Answers o slots r slots'
+    → Ran commands first written out slots → RepliesTo o slots r slots'
     → Appends (append_known written out) (append_known written' out') (line_of_any r)
     → (c : Option Order) × (o ≡ Some c)
     × Ran (commands ++ with_order c []) first written' out' slots'
@@ -122,7 +122,7 @@ RanAny first written out slots = (commands : List Order) × Ran commands first w
 -- what a line asked for was answered
 pub RanAny-next : (first written : Option (List ℕ)) (out : List ℕ) (slots : List Slot)
     (o : Option (Option Order)) (r : Option Reply) (written' : Option (List ℕ)) (out' : List ℕ)
-    (slots' : List Slot) → RanAny first written out slots → Answers o slots r slots'
+    (slots' : List Slot) → RanAny first written out slots → RepliesTo o slots r slots'
     → Appends (append_known written out) (append_known written' out') (line_of_any r)
     → RanAny first written' out' slots'
 RanAny-next first written out slots o r written' out' slots' (commands, a) served told =
@@ -195,7 +195,7 @@ pub Answered-append : (ls : List (List ℕ)) (first written : Option (List ℕ))
     (slots : List Slot) (line : List ℕ) (r : Option Reply) (written' : Option (List ℕ))
     (out' : List ℕ) (slots' : List Slot)
     → Answered ls first written out slots → 1 + length ls < 2 ^ 64 - 1
-    → Answers (reading line) slots r slots' → Appends (append_known written out)
+    → RepliesTo (reading line) slots r slots' → Appends (append_known written out)
     (append_known written' out') (line_of_any r) → Answered (ls ++ line ∷ []) first written'
     out' slots'
 Answered-append ls first written out slots line r written' out' slots' a small served told =
@@ -211,7 +211,7 @@ Answered-append ls first written out slots line r written' out' slots' a small s
 pub Answered-same : (ls : List (List ℕ)) (first written : Option (List ℕ)) (out : List ℕ)
     (slots : List Slot) (r : Option Reply) (written' : Option (List ℕ)) (out' : List ℕ)
     (slots' : List Slot)
-    → Answered ls first written out slots → Answers (reading_any None) slots r slots'
+    → Answered ls first written out slots → RepliesTo (reading_any None) slots r slots'
     → Appends (append_known written out) (append_known written' out') (line_of_any r)
     → Answered ls first written' out' slots'
 Answered-same ls first written out slots r written' out' slots' a served told =
@@ -268,7 +268,7 @@ module _ {input : List ℕ} {first : Option (List ℕ)} where
       → Progress input first n fed remaining written out slots
       → IfSome (next_line (Some k) fed) (λ line. n < 2 ^ 64 - 1)
       → Some k ≡ position (λ b. eqb b 10) fed
-      → Answers (reading_any (next_line (Some k) fed)) slots r slots'
+      → RepliesTo (reading_any (next_line (Some k) fed)) slots r slots'
       → Appends (append_known written out) (append_known written' out') (line_of_any r)
       → fed' ≡ drop (k + 1) fed → Progress input first (n + 1) fed' remaining written' out'
       slots'
@@ -292,7 +292,7 @@ module _ {input : List ℕ} {first : Option (List ℕ)} where
       → Progress input first n fed remaining written out slots
       → IfSome (next_line None fed) (λ line. n < 2 ^ 64 - 1)
       → None ≡ position (λ b. eqb b 10) fed → IsAtEnd remaining
-      → Answers (reading_any (next_line None fed)) slots r slots'
+      → RepliesTo (reading_any (next_line None fed)) slots r slots'
       → Appends (append_known written out) (append_known written' out') (line_of_any r)
       → Appends written' written'' out' → AnswersLines (lines input) first written''
   Progress-last n [] remaining written out slots r written' out' slots' written'' p small here end
@@ -320,7 +320,7 @@ module _ {input : List ℕ} {first : Option (List ℕ)} where
       → Progress input first n fed remaining written out slots
       → IfSome (next_line None fed) (λ line. n < 2 ^ 64 - 1)
       → None ≡ position (λ b. eqb b 10) fed → IsAtEnd remaining
-      → Answers (reading_any (next_line None fed)) slots r slots'
+      → RepliesTo (reading_any (next_line None fed)) slots r slots'
       → Appends (append_known written out) (append_known written' out') (line_of_any r)
       → Appends written' written'' out'
       → IsSomeAnd remaining (λ rest. SessionEnds {X = Unit {0}} (Ok tt) input rest first written'')

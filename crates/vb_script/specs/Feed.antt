@@ -5,9 +5,9 @@ use Rattle.std.specs.Str.Lines.{strip_carriage_return}
 use Rattle.std.specs.Io.KnownBytes.{IsAtEnd}
 
 -- more bytes came, or the input is at its end
-abbrev pub Fills : List ℕ → List ℕ → Option (List ℕ) → Bool → Type 0
-Fills old new remaining true = (length old < length new) × (length new < 2 ^ 64)
-Fills old new remaining false = (new ≡ old) × IsAtEnd remaining
+abbrev pub FeedsMore : List ℕ → List ℕ → Option (List ℕ) → Bool → Type 0
+FeedsMore old new remaining true = (length old < length new) × (length new < 2 ^ 64)
+FeedsMore old new remaining false = (new ≡ old) × IsAtEnd remaining
 
 -- the line at the front, which ends at the line feed at this place; at the end of the input all
 -- bytes, if there are any

@@ -18,10 +18,10 @@ reading_any (Some line) = reading line
 
 -- what a line that asks for this does to the slots, and what it is answered: nothing, or what its
 -- command does
-abbrev pub Answers : Option (Option Order) → List Slot → Option Reply → List Slot → Type 0
-Answers None s r t = ⊥
-Answers (Some None) s r t = (r ≡ None) × (t ≡ s)
-Answers (Some (Some c)) s r t = IsSomeAnd r (λ answer. Outcome s c answer t)
+abbrev pub RepliesTo : Option (Option Order) → List Slot → Option Reply → List Slot → Type 0
+RepliesTo None s r t = ⊥
+RepliesTo (Some None) s r t = (r ≡ None) × (t ≡ s)
+RepliesTo (Some (Some c)) s r t = IsSomeAnd r (λ answer. Outcome s c answer t)
 
 -- the line of an answer, if there is one
 abbrev pub line_of_any : Option Reply → List ℕ
@@ -99,7 +99,7 @@ SessionEnds (Err Write) input rest old new = Unit {0}
 SessionEnds (Err Memory) input rest old new = AnswersSome input rest old new
 
 -- how a session ended, of an input and an output that tell their bytes
-abbrev pub EndsAsTold : {X : Type 0} → Result X DriveError → Option (List ℕ) → Option (List ℕ)
+abbrev pub EndsIfKnown : {X : Type 0} → Result X DriveError → Option (List ℕ) → Option (List ℕ)
     → Option (List ℕ) → Option (List ℕ) → Type 0
-EndsAsTold r remaining remaining' old new = IfSome remaining (λ input.
+EndsIfKnown r remaining remaining' old new = IfSome remaining (λ input.
     IsSomeAnd remaining' (λ rest. SessionEnds r input rest old new))

@@ -2,7 +2,7 @@
 ghost use Rattle.std.specs.Prelude.{◌≡◌, [], IfOk};
 ghost use Rattle.vb_command.specs.Machine.{empty_slots};
 ghost use Rattle.vb_script.specs.DriveError.{FailsReads, FailsWrites, UnlessWrite, line_error};
-ghost use Rattle.vb_script.specs.Session.{AnswersRun, EndsAsTold};
+ghost use Rattle.vb_script.specs.Session.{AnswersRun, EndsIfKnown};
 
 use crate::error::DriveError;
 use crate::feed::Feed;
@@ -37,7 +37,7 @@ pub fn drive<A: Allocator + Clone, R: Source, W: Sink>(
     input: &mut R,
     output: &mut W,
 ) -> Result<(), DriveError>
-    ensures ends { EndsAsTold result (R.remaining input.old) (R.remaining input.new)
+    ensures ends { EndsIfKnown result (R.remaining input.old) (R.remaining input.new)
         (W.contents output.old) (W.contents output.new) }
     ensures ran { UnlessWrite result (AnswersRun (W.contents output.old) (W.contents output.new)) }
     ensures reads { FailsReads result (R.faults input.old) (R.faults input.new) }
@@ -72,7 +72,7 @@ fn answer_all<A: Allocator + Clone, R: Source, W: Sink>(
     requires slots { session.old.pool ≡ empty_slots }
     requires feed { feed.old ≡ [] }
     requires out { out.old ≡ [] }
-    ensures ends { EndsAsTold result (R.remaining input.old) (R.remaining input.new)
+    ensures ends { EndsIfKnown result (R.remaining input.old) (R.remaining input.new)
         (W.contents output.old) (W.contents output.new) }
     ensures ran { UnlessWrite result (AnswersRun (W.contents output.old) (W.contents output.new)) }
     ensures reads { FailsReads result (R.faults input.old) (R.faults input.new) }

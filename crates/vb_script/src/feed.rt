@@ -5,7 +5,7 @@ ghost use Rattle.std.specs.Io.KnownBytes.{prepend_known, IsAtEnd, Keeps};
 ghost use Rattle.std.specs.List.{position_or_len};
 ghost use Rattle.vb_script.specs.DriveError.{FailsReads, fill_error, told_as};
 ghost use Rattle.vb_script.specs.Fault.{CountsFault};
-ghost use Rattle.vb_script.specs.Feed.{Fills};
+ghost use Rattle.vb_script.specs.Feed.{FeedsMore};
 
 use crate::fault::Fault;
 use crate::source::Source;
@@ -127,7 +127,8 @@ impl<A: Allocator> Feed<A> {
         ensures kept { Keeps
             (prepend_known self.old (R.remaining input.old))
             (prepend_known self.new (R.remaining input.new)) }
-        ensures fills { IfOk result (λ more. Fills self.old self.new (R.remaining input.new) more) }
+        ensures fills { IfOk result (λ more. FeedsMore self.old self.new
+            (R.remaining input.new) more) }
         ensures err { OnErr result (self.new ≡ self.old) }
         ensures reads { FailsReads (told_as fill_error result)
             (R.faults input.old) (R.faults input.new) }

@@ -5,7 +5,7 @@ ghost use Rattle.std.specs.Option.{option_copied};
 ghost use Rattle.vb_command.specs.Machine.{empty_slots};
 ghost use Rattle.vb_command.specs.Reading.{asks_memory, reading};
 ghost use Rattle.vb_command.specs.Views.{reply};
-ghost use Rattle.vb_script.specs.Session.{Answers, reading_any};
+ghost use Rattle.vb_script.specs.Session.{RepliesTo, reading_any};
 
 use std::alloc::Allocator;
 use vb_command::{Answer, Unread, command_of};
@@ -35,7 +35,7 @@ impl<A: Allocator + Clone> Session<A> {
     /// Refused by `Unreadable`, where the line is no command or its number is 18446744073709551615,
     /// and by `Memory`, where that is refused to read it. Then nothing changes.
     pub fn answer(&mut self, line: Option<&[u8]>, number: u64) -> Result<Option<Answer<A>>, Unread>
-        ensures ok { IfOk result (λ answer. Answers (reading_any (option_copied line.entry))
+        ensures ok { IfOk result (λ answer. RepliesTo (reading_any (option_copied line.entry))
             self.old.pool (option_map reply answer) self.new.pool) }
         ensures numbered { IfOk result (λ _.
             IfSome (option_copied line.entry) (λ _. number < 2 ^ 64 - 1)) }

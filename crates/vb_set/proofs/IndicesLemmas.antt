@@ -1,5 +1,5 @@
 -- Sets made of an iterator's numbers, where it is known which list of numbers it gives.
-use Rattle.std.proofs.Common.{◌≡◌, ℕ, ◌<◌, List, length, get_or, Option, Some, None, refl, ◌∙◌, sym}
+use Rattle.std.proofs.Common.{◌≡◌, ℕ, ◌<◌, List, length, Option, Some, None, refl, ◌∙◌, sym}
 use Rattle.std.proofs.Common.{arith, map-id}
 use Rattle.std.proofs.lemmas.Grind.{get_or_default_zero}
 use Rattle.std.proofs.lemmas.Iterator.{YieldsList}

@@ -12,7 +12,7 @@ pub use Rattle.vb_bits.specs.Operators
 pub use Rattle.vb_bits.specs.Runs
 pub use Rattle.vb_bits.specs.Shown
 pub use Rattle.vb_bits.specs.Writes
-pub use Rattle.vb_mem.specs.Answers
+pub use Rattle.vb_mem.specs.Makes
 pub use Rattle.vb_mem.specs.Collected
 pub use Rattle.vb_mem.specs.OpenBuffer
 pub use Rattle.vb_mem.specs.SharedBuffer

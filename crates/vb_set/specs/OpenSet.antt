@@ -7,7 +7,7 @@ use Rattle.vb_bit_buffer.specs.SharedSet.{SharedSet}
 use Rattle.vb_core.specs.declared.error.BufferError.{BufferError}
 use Rattle.vb_core.specs.declared.error.BufferError.TheVariants.{OutOfMemory, TooManyBits}
 use Rattle.vb_bits.specs.Bits.{bits}
-use Rattle.vb_bits.specs.Writes.{Writes, lengthened}
+use Rattle.vb_bits.specs.Writes.{Writes, extension}
 
 -- a set that one owner edits: its bits, the place of the first one in the bytes, the bytes with the
 -- exponent of their alignment, and for how many bits there is room
@@ -60,7 +60,7 @@ pub record KeepsLayout (old new : OpenSet) : Type 0 where
   pub room : new.room ≡ old.room
 
 -- growth: offset and alignment stay, and the room does not shrink
-pub record Grows (old new : OpenSet) : Type 0 where
+pub record KeepsStart (old new : OpenSet) : Type 0 where
   pub offset : new.offset ≡ old.offset
   pub alignment : new.alignment ≡ old.alignment
   pub room : old.room ≤ new.room
@@ -70,7 +70,7 @@ pub record Grows (old new : OpenSet) : Type 0 where
 pub record AddsBits (added : List Bool) (old new : OpenSet) : Type 0 where
   pub bits : new.bits ≡ old.bits ++ added
   pub len : length new.bits ≡ length old.bits + length added
-  pub bytes : Writes (lengthened old.bytes new.bytes) new.bytes (old.offset + length old.bits) added
+  pub bytes : Writes (extension old.bytes new.bytes) new.bytes (old.offset + length old.bits) added
   pub byte_len : length new.bytes
       ≡ max (length old.bytes) (div_ceil (old.offset + length old.bits + length added) 8)
 

@@ -6,14 +6,14 @@ ghost use Rattle.std.specs.Borrow.{sem};
 ghost use Rattle.std.specs.Int.{div_ceil};
 ghost use Rattle.vb_bit_buffer.specs.SharedSet.{SharesFrom};
 ghost use Rattle.vb_bits.specs.Bits.{bits};
-ghost use Rattle.vb_bits.specs.Edits.{filled};
+ghost use Rattle.vb_bits.specs.Edits.{with_fill};
 ghost use Rattle.vb_bits.specs.InBytes.{InBytes};
 ghost use Rattle.vb_bits.specs.Writes.{Writes};
-ghost use Rattle.vb_mem.specs.Answers.{Makes};
+ghost use Rattle.vb_mem.specs.Makes.{Makes};
 ghost use Rattle.vb_set.specs.Lends.{LendsBytes};
 ghost use Rattle.vb_set.specs.OpenSet.{bit_room, HoldsShared, IsEmptySet, IsFreshOpenSet};
 ghost use Rattle.vb_set.specs.OpenSet.{KeepsLayout};
-ghost use Rattle.vb_view.specs.MutView.{store_of, IsThisLoan, ShowsWindow};
+ghost use Rattle.vb_view.specs.MutView.{store_of, IsSameReference, ShowsWindow};
 ghost use Rattle.vb_view.specs.View.{bits_of, offset_of, bytes_of};
 ghost use Rattle.vb_view.specs.Windows.{IsWindow};
 
@@ -244,7 +244,7 @@ impl<A: Allocator + Clone> BitBufferMut<A> {
     /// The bits for writing, in constant time. What the view holds at its end is what the set then
     /// holds.
     pub fn as_mut_view(&mut self) -> BitBufferMutView<&mut BitBufferMut<A>>
-        ensures lends { IsThisLoan (store_of result) self.entry }
+        ensures lends { IsSameReference (store_of result) self.entry }
         ensures window { ShowsWindow self.old.offset self.old.bits result }
     {
         let offset = self.offset();
@@ -295,7 +295,7 @@ impl<A: Allocator + Clone> BitBufferMut<A> {
     pub fn fill_range(&mut self, start: usize, end: usize, v: bool)
         requires order { start ≤ end }
         requires within { end ≤ length self.old.bits }
-        ensures bits { self.new.bits ≡ filled self.old.bits start end v }
+        ensures bits { self.new.bits ≡ with_fill self.old.bits start end v }
         ensures bytes { Writes self.old.bytes self.new.bytes (self.old.offset + start)
             (replicate (end - start) v) }
         ensures keeps { KeepsLayout self.old self.new }

@@ -2,7 +2,7 @@
 //! view is proved here.
 ghost use Rattle.std.specs.Prelude.{◌≡◌, ◌<◌, ◌≤◌, length, slice_set, true, false};
 ghost use Rattle.vb_set.specs.Bits.{bits, count};
-ghost use Rattle.vb_set.specs.Edits.{filled};
+ghost use Rattle.vb_set.specs.Edits.{with_fill};
 ghost use Rattle.vb_set.specs.OpenSet.{KeepsLayout};
 
 use std::alloc::Allocator;
@@ -20,7 +20,7 @@ pub(crate) fn edit_through_view<A: Allocator + Clone>(set: &mut BitBufferMut<A>)
 /// Edits a set and asks through one view.
 pub(crate) fn edit_and_count<A: Allocator + Clone>(set: &mut BitBufferMut<A>, i: usize) -> usize
     requires { i < length set.old.bits }
-    ensures bits { set.new.bits ≡ filled (slice_set set.old.bits i false) 0 i true }
+    ensures bits { set.new.bits ≡ with_fill (slice_set set.old.bits i false) 0 i true }
     ensures count { result ≡ count set.new.bits }
 {
     let mut view = set.as_mut_view();

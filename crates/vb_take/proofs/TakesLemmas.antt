@@ -15,7 +15,7 @@ use Rattle.vb_bits.proofs.BitsLemmas.{length-bits, at-bits}
 use Rattle.vb_bits.proofs.DigitsLemmas.{length-digits, at-digits}
 use Rattle.vb_bits.proofs.WritesLemmas.{Writes-at}
 use Rattle.vb_take.specs.Takes.{is_valid, value_at, taken_at, IsTaken, IsFirstPast}
-use Rattle.vb_take.specs.Blocks.{narrowed, TakesBlock, TakenTo}
+use Rattle.vb_take.specs.Blocks.{narrow_place, TakesBlock, TakenTo}
 
 -- ---- one position
 -- the value at a place, which may be any number
@@ -29,9 +29,9 @@ at_narrowed l (Some p) few = elim (cases_lt p (2 ^ 32 - 1)) [
 ]
 
 -- the value that an index names, by its place as 32 bits
-value_at-narrowed : (l : List Bool) (index : ℤ)
-    → length l < 2 ^ 32 → value_at l index ≡ slice_get l (narrowed index)
-value_at-narrowed l index few = at_narrowed l (place_of index) few
+value_at-narrow_place : (l : List Bool) (index : ℤ)
+    → length l < 2 ^ 32 → value_at l index ≡ slice_get l (narrow_place index)
+value_at-narrow_place l index few = at_narrowed l (place_of index) few
 
 -- something is taken
 some_taken : (o : Option Bool) (b : Bool) → o ≡ Some b → IsSome o
@@ -73,18 +73,19 @@ IsFirstPast-here k l xs v out before h none = record {
 -- ---- blocks of 64
 -- what a position of a block takes
 taken_in_block : (l : List Bool) (xs : List ℤ) (v : Option (List Bool)) (block : List ℕ)
-    (valid a k : ℕ) → length l < 2 ^ 32 → get_or block k 0 ≡ narrowed (get_or xs (a + k) (negsuc 0))
+    (valid a k : ℕ) → length l < 2 ^ 32
+    → get_or block k 0 ≡ narrow_place (get_or xs (a + k) (negsuc 0))
     → has_bit valid k ≡ is_valid v (a + k)
     → taken_at l xs v (a + k) ≡ cond (has_bit valid k) (slice_get l (get_or block k 0)) (Some false)
 taken_in_block l xs v block valid a k few narrow counts =
     ap (λ o. cond (is_valid v (a + k)) o (Some false))
-    (value_at-narrowed l (get_or xs (a + k) (negsuc 0)) few ∙ ap (slice_get l) (sym narrow))
+    (value_at-narrow_place l (get_or xs (a + k) (negsuc 0)) few ∙ ap (slice_get l) (sym narrow))
     ∙ ap (λ b. cond b (slice_get l (get_or block k 0)) (Some false)) (sym counts)
 
 -- 64 more positions have what they take
 pub TakenTo-word : (t : ℕ) (l : List Bool) (xs : List ℤ)
     (v : Option (List Bool)) (out new block : List ℕ) (valid word : ℕ) → length l < 2 ^ 32
-    → ((k : ℕ) → k < 64 → get_or block k 0 ≡ narrowed (get_or xs (64 * t + k) (negsuc 0)))
+    → ((k : ℕ) → k < 64 → get_or block k 0 ≡ narrow_place (get_or xs (64 * t + k) (negsuc 0)))
     → ((k : ℕ) → k < 64 → has_bit valid k ≡ is_valid v (64 * t + k))
     → TakenTo (64 * t) l xs v out → TakesBlock l block valid (Ok word)
     → Writes out new (8 * (8 * t)) (digits word 0 64) → TakenTo (64 * (t + 1)) l xs v new
@@ -108,7 +109,7 @@ TakenTo-word t l xs v out new block valid word few narrow counts before takes w 
 -- the first position of a block that takes nothing
 pub IsFirstPast-block : (t p : ℕ) (l : List Bool)
     (xs : List ℤ) (v : Option (List Bool)) (out block : List ℕ) (valid : ℕ) → length l < 2 ^ 32
-    → ((k : ℕ) → k < 64 → get_or block k 0 ≡ narrowed (get_or xs (64 * t + k) (negsuc 0)))
+    → ((k : ℕ) → k < 64 → get_or block k 0 ≡ narrow_place (get_or xs (64 * t + k) (negsuc 0)))
     → ((k : ℕ) → k < 64 → has_bit valid k ≡ is_valid v (64 * t + k))
     → TakenTo (64 * t) l xs v out → 64 * t + 64 ≤ length xs
     → TakesBlock l block valid (Err p) → IsFirstPast l xs v (64 * t + p)

@@ -1,5 +1,5 @@
 -- Blocks of 64 indices.
-use Rattle.std.specs.Prelude.{◌≡◌, ℕ, ℤ, ◌-◌, ◌^◌, ◌<◌, ◌≤◌, ◌||◌, ◌==◌, Bool, false, List, length}
+use Rattle.std.specs.Prelude.{◌≡◌, ℕ, ℤ, ◌-◌, ◌^◌, ◌<◌, ◌≤◌, Bool, false, List, length}
 use Rattle.std.specs.Prelude.{min, slice_get, slice_index, Option, Some, Result, Ok, Err}
 use Rattle.std.specs.Prelude.{IsTrue, if◌then◌else◌}
 use Rattle.std.specs.Option.{unwrap_or}
@@ -10,8 +10,8 @@ use Rattle.vb_take.specs.Takes.{taken_at}
 
 -- the place that a number names as one of 32 bits; the greatest of these where it names none, or
 -- none below that
-abbrev pub narrowed : ℤ → ℕ
-narrowed index = min (unwrap_or (place_of index) (2 ^ 32 - 1)) (2 ^ 32 - 1)
+abbrev pub narrow_place : ℤ → ℕ
+narrow_place index = min (unwrap_or (place_of index) (2 ^ 32 - 1)) (2 ^ 32 - 1)
 
 -- the word has the bits at the block's places, and false where `valid` has no digit; or position p
 -- is the first that `valid` has and whose place is past the list

@@ -3,7 +3,7 @@ ghost use Rattle.std.specs.Prelude.{◌≡◌, ◌==◌, ℕ, negsuc, ◌+◌, �
 ghost use Rattle.std.specs.Prelude.{bit_and, nat_lt, length, map, slice_index, slice_index_or};
 ghost use Rattle.vb_bits.specs.Bits.{bit_of};
 ghost use Rattle.vb_bits.specs.Digits.{has_bit};
-ghost use Rattle.vb_take.specs.Blocks.{narrowed, TakesBlock};
+ghost use Rattle.vb_take.specs.Blocks.{narrow_place, TakesBlock};
 ghost use Rattle.vb_view.specs.View.{bits_of};
 
 use std::simd::prelude::*;
@@ -15,7 +15,7 @@ use vb_view::BitBufferView;
 pub(crate) fn narrow_block<I: BitIndex>(indices: &[I], at: usize) -> [u32; 64]
     requires { at + 64 ≤ length indices.now }
     ensures { (k : ℕ) → k < 64 → slice_index result k
-        ≡ narrowed (slice_index_or (map I.number indices.now) (at + k) (negsuc 0)) }
+        ≡ narrow_place (slice_index_or (map I.number indices.now) (at + k) (negsuc 0)) }
 {
     let mut block = [0; 64];
     for k in 0..64 {
@@ -27,7 +27,7 @@ pub(crate) fn narrow_block<I: BitIndex>(indices: &[I], at: usize) -> [u32; 64]
 /// The place that an index names as 32 bits; `u32::MAX` where it names none, or none below that.
 #[inline(always)]
 fn narrow<I: BitIndex>(index: I) -> u32
-    ensures { result ≡ narrowed (I.number index) }
+    ensures { result ≡ narrow_place (I.number index) }
 {
     match index.place() {
         Some(place) => place.min(u32::MAX as usize) as u32,

@@ -5,7 +5,7 @@ use Rattle.vb_view.specs.declared.mut_view.BitStore.{Ghosts}
 use Rattle.vb_view.specs.declared.mut_view.BitBufferMutView.{BitBufferMutView}
 
 -- what is written to is this reference, with the value that it has
-pub record IsThisLoan {T : Type 0} (store reference : MutBor T) : Type 0 where
+pub record IsSameReference {T : Type 0} (store reference : MutBor T) : Type 0 where
   pub same_reference : store.ghost_name ≡ reference.ghost_name
   pub value : store.now ≡ reference.now
 
@@ -23,8 +23,8 @@ module _ {S : Type 0} {g : Ghosts S} where
   mut_bytes_of v = g.bytes v.store
 
   -- the place of its first bit in these bytes
-  abbrev pub place_of : BitBufferMutView S g → ℕ
-  place_of v = v.offset
+  abbrev pub mut_place_of : BitBufferMutView S g → ℕ
+  mut_place_of v = v.offset
 
   -- how many bits there are
   abbrev pub mut_len_of : BitBufferMutView S g → ℕ
@@ -33,7 +33,7 @@ module _ {S : Type 0} {g : Ghosts S} where
   -- it shows these bits, of which the first lies at this place
   pub record ShowsWindow (first : ℕ) (shown : List Bool) (v : BitBufferMutView S g) : Type 0 where
     pub bits : mut_bits_of v ≡ shown
-    pub place : place_of v ≡ first
+    pub place : mut_place_of v ≡ first
     pub len : mut_len_of v ≡ length shown
 
   -- nothing but bits changed

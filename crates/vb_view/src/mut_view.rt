@@ -3,8 +3,8 @@ ghost use Rattle.std.specs.Prelude.{◌≡◌, ◌+◌, ◌-◌, ◌*◌, ◌/�
 ghost use Rattle.std.specs.Prelude.{List, [], ◌∷◌, Bool, true, false, Some};
 ghost use Rattle.std.specs.Prelude.{length, drop, replicate, slice_get, slice_set};
 ghost use Rattle.std.specs.Borrow.{GName};
-ghost use Rattle.vb_bits.specs.Bits.{bits as window, count, negated};
-ghost use Rattle.vb_bits.specs.Edits.{filled};
+ghost use Rattle.vb_bits.specs.Bits.{bits as window, count, complement};
+ghost use Rattle.vb_bits.specs.Edits.{with_fill};
 ghost use Rattle.vb_bits.specs.InBytes.{InBytes};
 ghost use Rattle.vb_bits.specs.Writes.{Writes};
 ghost use Rattle.vb_view.specs.View.{bits_of, offset_of, bytes_of};
@@ -57,7 +57,7 @@ pub trait BitStore {
         requires fits { fits self.old offset len }
         requires order { start ≤ end }
         requires within { end ≤ len }
-        ensures bits { bits self.new offset len ≡ filled (bits self.old offset len) start end v }
+        ensures bits { bits self.new offset len ≡ with_fill (bits self.old offset len) start end v }
         ensures bytes { Writes (bytes self.old) (bytes self.new) (offset + start)
             (replicate (end - start) v) }
         ensures fits { fits self.new offset len }
@@ -80,7 +80,7 @@ pub struct BitBufferMutView<S: BitStore> {
 }
 
 impl<S: BitStore> BitBufferMutView<S> {
-    ghost use Rattle.vb_view.specs.MutView.{mut_bits_of, store_of, mut_bytes_of, place_of};
+    ghost use Rattle.vb_view.specs.MutView.{mut_bits_of, store_of, mut_bytes_of, mut_place_of};
     ghost use Rattle.vb_view.specs.MutView.{mut_len_of, KeepsWindow};
 
     /// The `len` bits from bit `offset` on of what `store` lends. It has to allow this window.
@@ -88,7 +88,7 @@ impl<S: BitStore> BitBufferMutView<S> {
         requires { S.fits store offset len }
         ensures bits { mut_bits_of result ≡ S.bits store offset len }
         ensures store { store_of result ≡ store }
-        ensures place { place_of result ≡ offset }
+        ensures place { mut_place_of result ≡ offset }
         ensures len { mut_len_of result ≡ len }
         ensures bit_len { length (mut_bits_of result) ≡ len }
     {
@@ -98,8 +98,8 @@ impl<S: BitStore> BitBufferMutView<S> {
     /// The bits for questions.
     pub fn as_view(&self) -> BitBufferView<'_>
         ensures bits { bits_of result ≡ mut_bits_of self.now }
-        ensures offset { offset_of result ≡ place_of self.now % 8 }
-        ensures bytes { bytes_of result ≡ drop (place_of self.now / 8) (mut_bytes_of self.now) }
+        ensures offset { offset_of result ≡ mut_place_of self.now % 8 }
+        ensures bytes { bytes_of result ≡ drop (mut_place_of self.now / 8) (mut_bytes_of self.now) }
     {
         let bytes = self.store.as_slice(self.offset, self.len);
         BitBufferView::new_with_offset(bytes, self.len, self.offset)
@@ -122,7 +122,7 @@ impl<S: BitStore> BitBufferMutView<S> {
 
     /// The place of the first bit in the bytes of [`as_slice`](Self::as_slice), in bits.
     pub fn offset(&self) -> usize
-        ensures value { result ≡ place_of self.now % 8 }
+        ensures value { result ≡ mut_place_of self.now % 8 }
         ensures below { result < 8 }
     {
         self.offset % 8
@@ -130,8 +130,8 @@ impl<S: BitStore> BitBufferMutView<S> {
 
     /// The bytes from that of the first bit on.
     pub fn as_slice(&self) -> &[u8]
-        ensures bytes { result.now ≡ drop (place_of self.now / 8) (mut_bytes_of self.now) }
-        ensures window { IsWindow result.now (place_of self.now % 8) (mut_bits_of self.now) }
+        ensures bytes { result.now ≡ drop (mut_place_of self.now / 8) (mut_bytes_of self.now) }
+        ensures window { IsWindow result.now (mut_place_of self.now % 8) (mut_bits_of self.now) }
     {
         self.as_view().inner()
     }
@@ -153,7 +153,7 @@ impl<S: BitStore> BitBufferMutView<S> {
 
     /// How many bits are false, at the cost of [`true_count`](Self::true_count).
     pub fn false_count(&self) -> usize
-        ensures { result ≡ count (negated (mut_bits_of self.now)) }
+        ensures { result ≡ count (complement (mut_bits_of self.now)) }
     {
         self.as_view().false_count()
     }
@@ -170,7 +170,7 @@ impl<S: BitStore> BitBufferMutView<S> {
         requires { i < length (mut_bits_of self.old) }
         ensures bits { mut_bits_of self.new ≡ slice_set (mut_bits_of self.old) i v }
         ensures bytes { Writes (mut_bytes_of self.old) (mut_bytes_of self.new)
-            (place_of self.old + i) (v ∷ []) }
+            (mut_place_of self.old + i) (v ∷ []) }
         ensures keeps { KeepsWindow self.old self.new }
     {
         self.store.set_to(self.offset, self.len, i, v);
@@ -181,7 +181,7 @@ impl<S: BitStore> BitBufferMutView<S> {
         requires { i < length (mut_bits_of self.old) }
         ensures bits { mut_bits_of self.new ≡ slice_set (mut_bits_of self.old) i true }
         ensures bytes { Writes (mut_bytes_of self.old) (mut_bytes_of self.new)
-            (place_of self.old + i) (true ∷ []) }
+            (mut_place_of self.old + i) (true ∷ []) }
         ensures keeps { KeepsWindow self.old self.new }
     {
         self.set_to(i, true);
@@ -192,7 +192,7 @@ impl<S: BitStore> BitBufferMutView<S> {
         requires { i < length (mut_bits_of self.old) }
         ensures bits { mut_bits_of self.new ≡ slice_set (mut_bits_of self.old) i false }
         ensures bytes { Writes (mut_bytes_of self.old) (mut_bytes_of self.new)
-            (place_of self.old + i) (false ∷ []) }
+            (mut_place_of self.old + i) (false ∷ []) }
         ensures keeps { KeepsWindow self.old self.new }
     {
         self.set_to(i, false);
@@ -203,9 +203,9 @@ impl<S: BitStore> BitBufferMutView<S> {
     pub fn fill_range(&mut self, start: usize, end: usize, v: bool)
         requires order { start ≤ end }
         requires within { end ≤ length (mut_bits_of self.old) }
-        ensures bits { mut_bits_of self.new ≡ filled (mut_bits_of self.old) start end v }
+        ensures bits { mut_bits_of self.new ≡ with_fill (mut_bits_of self.old) start end v }
         ensures bytes { Writes (mut_bytes_of self.old) (mut_bytes_of self.new)
-            (place_of self.old + start) (replicate (end - start) v) }
+            (mut_place_of self.old + start) (replicate (end - start) v) }
         ensures keeps { KeepsWindow self.old self.new }
     {
         self.store.fill_range(self.offset, self.len, start, end, v);
@@ -251,12 +251,12 @@ impl<'a> BitStore for &'a mut [u8] {
 #[tactic(auto, using(vb_bits::proofs::WindowLemmas::windows))]
 impl<'a> BitBufferMutView<&'a mut [u8]> {
     ghost use Rattle.vb_view.specs.MutView.{mut_bits_of, store_of, mut_len_of};
-    ghost use Rattle.vb_view.specs.MutView.{IsThisLoan, ShowsWindow};
+    ghost use Rattle.vb_view.specs.MutView.{IsSameReference, ShowsWindow};
 
     /// The first `len` bits of the bytes, in which they have to lie.
     pub fn new(bytes: &'a mut [u8], len: usize) -> Self
         requires { len ≤ 8 * length bytes.old }
-        ensures lends { IsThisLoan (store_of result) bytes.entry }
+        ensures lends { IsSameReference (store_of result) bytes.entry }
         ensures window { ShowsWindow 0 (window bytes.old 0 len) result }
         ensures len { mut_len_of result ≡ len }
         ensures bit_len { length (mut_bits_of result) ≡ len }
@@ -268,7 +268,7 @@ impl<'a> BitBufferMutView<&'a mut [u8]> {
     /// to be a `usize`.
     pub fn new_with_offset(bytes: &'a mut [u8], len: usize, offset: usize) -> Self
         requires window { InBytes bytes.old offset len }
-        ensures lends { IsThisLoan (store_of result) bytes.entry }
+        ensures lends { IsSameReference (store_of result) bytes.entry }
         ensures window { ShowsWindow offset (window bytes.old offset len) result }
         ensures len { mut_len_of result ≡ len }
         ensures bit_len { length (mut_bits_of result) ≡ len }

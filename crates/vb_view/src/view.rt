@@ -1,7 +1,7 @@
 //! Bits over borrowed bytes.
 ghost use Rattle.std.specs.Prelude.{◌≡◌, ◌+◌, ◌-◌, ◌*◌, ◌/◌, ◌%◌, ◌^◌, ◌<◌, ◌≤◌, ◌==◌};
 ghost use Rattle.std.specs.Prelude.{ℕ, length, drop, slice_get, slice_range, Some, All};
-ghost use Rattle.vb_bits.specs.Bits.{bits, count, negated, places, Selects, AnswersEach};
+ghost use Rattle.vb_bits.specs.Bits.{bits, count, complement, places, Selects, InvertsCount};
 ghost use Rattle.vb_bits.specs.InBytes.{InBytes};
 ghost use Rattle.vb_bits.specs.Runs.{runs, last_place};
 ghost use Rattle.vb_view.specs.Windows.{IsWindow};
@@ -184,7 +184,7 @@ impl<'a> BitBufferView<'a> {
 
     /// How many bits are false, at the cost of [`true_count`](Self::true_count).
     pub fn false_count(&self) -> usize
-        ensures { result ≡ count (negated (bits_of self.now)) }
+        ensures { result ≡ count (complement (bits_of self.now)) }
     {
         self.len() - self.true_count()
     }
@@ -206,7 +206,7 @@ impl<'a> BitBufferView<'a> {
     /// counts from the front, 64 bytes at a time, up to the bytes that have it.
     pub fn select(&self, n: usize) -> Option<usize>
         ensures place { Selects (bits_of self.now) n result }
-        ensures each { AnswersEach (bits_of self.now) n result }
+        ensures each { InvertsCount (bits_of self.now) n result }
     {
         bit_select(self.bytes, self.offset, self.len, n)
     }
@@ -214,8 +214,8 @@ impl<'a> BitBufferView<'a> {
     /// The place of the `n`-th false bit, counted from 0; `None` where at most `n` bits are false,
     /// at the cost of [`select`](Self::select).
     pub fn select_unset(&self, n: usize) -> Option<usize>
-        ensures place { Selects (negated (bits_of self.now)) n result }
-        ensures each { AnswersEach (negated (bits_of self.now)) n result }
+        ensures place { Selects (complement (bits_of self.now)) n result }
+        ensures each { InvertsCount (complement (bits_of self.now)) n result }
     {
         bit_select_unset(self.bytes, self.offset, self.len, n)
     }

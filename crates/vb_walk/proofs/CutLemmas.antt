@@ -16,19 +16,20 @@ use Rattle.vb_bits.proofs.BitsLemmas.{length-bits, drop-bits, same_bits}
 use Rattle.vb_bits.proofs.BytesLemmas.{bits-slice_range}
 use Rattle.vb_bits.proofs.ReadLemmas.{digits_of_word}
 use Rattle.vb_bits.proofs.WindowLemmas.{bits-take_bytes, bit_of-drop}
-use Rattle.vb_walk.specs.Words.{number, word, words, item_of}
-use Rattle.vb_walk.specs.Cut.{cut, word_of, IsCut}
+use Rattle.vb_walk.specs.Words.{bits_number, word, words, item_of}
+use Rattle.vb_walk.specs.Cut.{cut_words, word_of, IsCut}
 use Rattle.vb_walk.proofs.WordsLemmas.{number_is, length-words, words_none, words_cons, words_push}
 use Rattle.vb_walk.proofs.WordsLemmas.{words_front, word-bits, word_read, take-window}
 
 -- ---- values behind false ones
 -- their number
-number-behind : (s : ℕ) (l : List Bool) → number (replicate s false ++ l) ≡ number l * 2 ^ s
-number-behind zero l = omega arith
-number-behind (suc s) l =
-    let twice : number l * 2 ^ s * 2 ≡ number l * 2 ^ suc s =
-    mul_assoc (number l) (2 ^ s) 2 ∙ ap (λ x. number l * x) (sym (pow-suc 2 s)) in
-    omega (arith, number-behind s l)
+bits_number-behind : (s : ℕ) (l : List Bool)
+    → bits_number (replicate s false ++ l) ≡ bits_number l * 2 ^ s
+bits_number-behind zero l = omega arith
+bits_number-behind (suc s) l =
+    let twice : bits_number l * 2 ^ s * 2 ≡ bits_number l * 2 ^ suc s =
+    mul_assoc (bits_number l) (2 ^ s) 2 ∙ ap (λ x. bits_number l * x) (sym (pow-suc 2 s)) in
+    omega (arith, bits_number-behind s l)
 
 -- the first word of a window behind s false values
 pub first_word : (b : List ℕ) (o n s w : ℕ) → s < 8 → digits w 0 (min n (64 - s)) ≡ bits b o
@@ -37,11 +38,11 @@ first_word b o n s w small read clear =
     let size : 64 ≡ length (replicate s false) + (64 - s) =
     omega (arith, length-replicate s false) in
     let least : min (64 - s) n ≡ min n (64 - s) = omega arith in
-    ap (λ k. number (take k (replicate s false ++ bits b o n))) size
-    ∙ ap number (take-append-add (replicate s false) (bits b o n)
+    ap (λ k. bits_number (take k (replicate s false ++ bits b o n))) size
+    ∙ ap bits_number (take-append-add (replicate s false) (bits b o n)
     (64 - s) ∙ ap (λ l. replicate s false ++ l) (take-window b o n (64 - s)))
-    ∙ number-behind s (bits b o (min (64 - s) n))
-    ∙ ap (λ k. number (bits b o k) * 2 ^ s) least
+    ∙ bits_number-behind s (bits b o (min (64 - s) n))
+    ∙ ap (λ k. bits_number (bits b o k) * 2 ^ s) least
     ∙ ap (λ x. x * 2 ^ s) (number_is w (min n (64 - s)) (bits b o (min n (64 - s))) read clear)
 
 -- the words behind the first are those of the window behind them
@@ -53,8 +54,8 @@ word_behind b o n s k e long =
     omega (arith, length-replicate s false) in
     let whole : n ≡ m + (s + n - 64) = omega arith in
     let at : o + m ≡ 8 * (o / 8 + 8) = omega arith in
-    ap (λ x. number (take 64 (drop x (replicate s false ++ bits b o n)))) size
-    ∙ ap (λ l. number (take 64 l))
+    ap (λ x. bits_number (take 64 (drop x (replicate s false ++ bits b o n)))) size
+    ∙ ap (λ l. bits_number (take 64 l))
     (drop-append-add
     (replicate s false) (bits b o n) (m + 64 * k) ∙ sym (drop-drop (64 * k) m (bits b o n))
     ∙ ap (λ x. drop (64 * k) (drop m (bits b o x))) whole
@@ -80,8 +81,8 @@ chunk_words xs zero = sym (words_none (bits xs 0 (64 * zero)))
 chunk_words xs (suc k) =
     let size : min 64 (64 * suc k - 64 * 0) ≡ 64 = omega arith in
     let first : word (bits xs 0 (64 * suc k)) 0 ≡ word_of (take 8 xs) =
-    word-bits xs 0 (64 * suc k) 0 (omega arith) ∙ ap (λ x. number (bits xs 0 x)) size
-    ∙ ap number (sym (bits-take_bytes 8 xs 0 64 (omega arith))) in
+    word-bits xs 0 (64 * suc k) 0 (omega arith) ∙ ap (λ x. bits_number (bits xs 0 x)) size
+    ∙ ap bits_number (sym (bits-take_bytes 8 xs 0 64 (omega arith))) in
     ap (λ ws. word_of (take 8 xs) ∷ ws) (chunk_words (drop 8 xs) k)
     ∙ ap (λ x. x ∷ words (bits (drop 8 xs) 0 (64 * k)) k) (sym first)
     ∙ sym (words_cons (bits xs 0 (64 * suc k)) (bits (drop 8 xs) 0 (64 * k)) k
@@ -89,9 +90,9 @@ chunk_words xs (suc k) =
     let rest : min 64 (64 * suc k - 64 * suc i) ≡ min 64 (64 * k - 64 * i) = omega arith in
     let at : 0 + 64 * suc i ≡ 64 + (0 + 64 * i) = omega arith in
     word-bits xs 0 (64 * suc k) (suc i) (omega arith)
-    ∙ ap (λ x. number (bits xs (0 + 64 * suc i) x)) rest
-    ∙ ap (λ x. number (bits xs x (min 64 (64 * k - 64 * i)))) at
-    ∙ ap number (sym (bits_behind xs (0 + 64 * i) (min 64 (64 * k - 64 * i))))
+    ∙ ap (λ x. bits_number (bits xs (0 + 64 * suc i) x)) rest
+    ∙ ap (λ x. bits_number (bits xs x (min 64 (64 * k - 64 * i)))) at
+    ∙ ap bits_number (sym (bits_behind xs (0 + 64 * i) (min 64 (64 * k - 64 * i))))
     ∙ sym (word-bits (drop 8 xs) 0 (64 * k) i (omega arith))))
 
 -- those of a run of bytes
@@ -125,12 +126,12 @@ words_apart b start n k end w cs some full at within read rest clear =
 -- ---- all words of a window
 -- the words of values are those of a list that is not empty
 cut_some : (s : ℕ) (l : List Bool)
-    → length l ≢ 0 → cut s l ≡ words (replicate s false ++ l) (div_ceil (s + length l) 64)
+    → length l ≢ 0 → cut_words s l ≡ words (replicate s false ++ l) (div_ceil (s + length l) 64)
 cut_some s [] h = absurd (h refl)
 cut_some s (b ∷ l) h = refl
 
 -- none of no values
-cut_none : (s : ℕ) (l : List Bool) → length l ≡ 0 → cut s l ≡ []
+cut_none : (s : ℕ) (l : List Bool) → length l ≡ 0 → cut_words s l ≡ []
 cut_none s [] h = refl
 cut_none s (b ∷ l) h = absurd (omega arith)
 

@@ -4,9 +4,9 @@ use Rattle.std.proofs.Common.{length, map, refl, sym, ◌∙◌, subst, arith}
 use Rattle.std.specs.List.{range_with_len}
 use Rattle.std.proofs.lemmas.List.FromFn.{length-map-range_with_len, get_or-map-range_with_len}
 use Rattle.vb_bits.specs.Bits.{bit_of, bits, at}
-use Rattle.vb_bits.specs.Runs.{runs, moved}
+use Rattle.vb_bits.specs.Runs.{runs, shift_run}
 use Rattle.vb_bits.proofs.BitsLemmas.{length-bits, at-bits}
-use Rattle.vb_bits.proofs.RunsLemmas.{AreRuns, AreRuns-runs, AreRuns-moved, AreRuns-front}
+use Rattle.vb_bits.proofs.RunsLemmas.{AreRuns, AreRuns-runs, AreRuns-shift_run, AreRuns-front}
 use Rattle.vb_bits.proofs.RunsLemmas.{AreRuns-same, same_runs}
 use Rattle.vb_walk.specs.Walks.{runs_in}
 
@@ -19,9 +19,9 @@ AreRuns-runs_in t a n e at_end =
     let same : (i : ℕ) → 0 ≤ i → i < n → t (a + i) ≡ at l i =
     λ i lo hi. sym (get_or-map-range_with_len t a n i (a + i) false hi refl) in
     let here : a + 0 ≡ a = omega arith in
-    subst (λ x. AreRuns t x e (map (moved a) (runs l))) here
-    (subst (λ x. AreRuns t (a + 0) x (map (moved a) (runs l))) (sym at_end)
-    (AreRuns-moved t (at l) a 0 n
+    subst (λ x. AreRuns t x e (map (shift_run a) (runs l))) here
+    (subst (λ x. AreRuns t (a + 0) x (map (shift_run a) (runs l))) (sym at_end)
+    (AreRuns-shift_run t (at l) a 0 n
     (runs l) same (subst (λ x. AreRuns (at l) 0 x (runs l)) size (AreRuns-runs l))))
 
 -- there are none where nothing is true

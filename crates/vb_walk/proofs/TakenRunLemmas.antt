@@ -9,7 +9,8 @@ use Rattle.vb_bits.specs.Runs.{runs}
 use Rattle.vb_walk.specs.declared.cursor.Cursor.{Cursor}
 use Rattle.vb_walk.specs.declared.slices.TakenRun.{TakenRun}
 use Rattle.vb_walk.specs.Ones.{CutsOnes}
-use Rattle.vb_walk.specs.Walks.{ahead, stop, pending, runs_in, runs_left, IsCursor, IsRefilled}
+use Rattle.vb_walk.specs.Walks.{bits_ahead, stop, pending_bit, runs_in, runs_left, IsCursor}
+use Rattle.vb_walk.specs.Walks.{IsRefilled}
 use Rattle.vb_walk.specs.Walks.{IsSkipped, TakesRun}
 use Rattle.vb_walk.proofs.RunsInLemmas.{runs_in_none, runs_in_first, runs_in_skip, runs_in-bits}
 use Rattle.vb_walk.proofs.WalkLemmas.{pending_below, pending_ahead, pending_zero}
@@ -57,15 +58,15 @@ module _ (b : List ℕ) (c : Cursor) (s z rest : ℕ) (v : IsCursor b c) (some :
   end_within =
       omega (arith, ones_within c.word s z rest (c.next - c.base) cut some v.clear, v.walked)
 
-  front_off : (i : ℕ) → c.base ≤ i → i < c.base + s → pending b c i ≡ false
+  front_off : (i : ℕ) → c.base ≤ i → i < c.base + s → pending_bit b c i ≡ false
   front_off i lo hi =
       pending_below b c i (omega (arith, end_within)) ∙ below (i - c.base) (omega arith)
 
-  front_on : (i : ℕ) → c.base + s ≤ i → i < c.base + z → pending b c i ≡ true
+  front_on : (i : ℕ) → c.base + s ≤ i → i < c.base + z → pending_bit b c i ≡ true
   front_on i lo hi = pending_below b c i (omega (arith, end_within))
       ∙ cut.ones (i - c.base) (omega arith) (omega arith)
 
-  pub TakesRun-here : (c.base + z < c.next) ⊎ (ahead c ≡ 0) → TakesRun b c
+  pub TakesRun-here : (c.base + z < c.next) ⊎ (bits_ahead c ≡ 0) → TakesRun b c
       (record { cursor = record c { word = rest }; start = c.base + s; end = c.base + z })
   TakesRun-here last = record {
     valid = IsCursor-fewer b c rest v cut.fewer;
@@ -146,26 +147,27 @@ module _ (b : List ℕ) (c : Cursor) (s z rest : ℕ) (v : IsCursor b c) (some :
 -- ---- what is left
 -- the runs of the front of a window
 pub runs_left_front : (b : List ℕ) (c : Cursor) (o n : ℕ) → c.base ≡ 0 → stop c
-    ≡ n → ((i : ℕ) → i < n → pending b c i ≡ bit_of b (o + i)) → runs_left b c ≡ runs (bits b o n)
+    ≡ n → ((i : ℕ) → i < n → pending_bit b c i ≡ bit_of b (o + i))
+    → runs_left b c ≡ runs (bits b o n)
 runs_left_front b c o n front all h =
     let size : stop c - c.base ≡ n = omega arith in
-    ap (runs_in (pending b c) c.base) size
-    ∙ ap (λ a. runs_in (pending b c) a n) front ∙ runs_in-bits (pending b c) b o n h
+    ap (runs_in (pending_bit b c) c.base) size
+    ∙ ap (λ a. runs_in (pending_bit b c) a n) front ∙ runs_in-bits (pending_bit b c) b o n h
 
 -- zeros that were passed over
 pub runs_left-skip : (b : List ℕ) (c d : Cursor) → IsSkipped b c d → runs_left b c ≡ runs_left b d
 runs_left-skip b c d s =
-    runs_in_skip (pending b c) (pending b d) c.base d.base (stop c) s.later (omega (
+    runs_in_skip (pending_bit b c) (pending_bit b d) c.base d.base (stop c) s.later (omega (
       arith,
       s.ends,
       s.valid.walked,
     )) s.passed (λ i l r. sym (s.same i l (omega (arith, s.ends))))
-    ∙ ap (λ e. runs_in (pending b d) d.base (e - d.base)) (sym s.ends)
+    ∙ ap (λ e. runs_in (pending_bit b d) d.base (e - d.base)) (sym s.ends)
 
 -- nothing is left where the word in hand is 0 and nothing is ahead
 pub runs_left_none : (b : List ℕ) (c : Cursor)
-    → IsCursor b c → c.word ≡ 0 → ahead c ≡ 0 → runs_left b c ≡ []
-runs_left_none b c v z none = runs_in_none (pending b c) c.base
+    → IsCursor b c → c.word ≡ 0 → bits_ahead c ≡ 0 → runs_left b c ≡ []
+runs_left_none b c v z none = runs_in_none (pending_bit b c) c.base
     (stop c - c.base) (λ i l r. pending_zero b c i z (omega (arith, v.walked)))
 
 -- a run that is taken
@@ -173,9 +175,9 @@ pub runs_left-step : (b : List ℕ) (c : Cursor) (r : TakenRun)
     → TakesRun b c r → runs_left b c ≡ (r.start, r.end) ∷ runs_left b r.cursor
 runs_left-step b c r t =
     let d : Cursor = r.cursor in
-    runs_in_first (pending b c) c.base
+    runs_in_first (pending_bit b c) c.base
     (stop c) r.start r.end t.from t.some t.within t.off t.on t.over
     ∙ ap (λ x. (r.start, r.end) ∷ x)
-    (sym (runs_in_skip (pending b d)
-    (pending b c) d.base r.end (stop c) t.later t.within t.gone t.same)
-    ∙ ap (λ e. runs_in (pending b d) d.base (e - d.base)) (sym t.ends))
+    (sym (runs_in_skip (pending_bit b d)
+    (pending_bit b c) d.base r.end (stop c) t.later t.within t.gone t.same)
+    ∙ ap (λ e. runs_in (pending_bit b d) d.base (e - d.base)) (sym t.ends))

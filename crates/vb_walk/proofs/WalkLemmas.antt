@@ -11,7 +11,8 @@ use Rattle.vb_bits.specs.Digits.{has_bit}
 use Rattle.vb_bits.proofs.WindowLemmas.{digits-clear}
 use Rattle.vb_walk.specs.declared.cursor.Cursor.{Cursor}
 use Rattle.vb_walk.specs.declared.other.OtherWord.{OtherWord}
-use Rattle.vb_walk.specs.Walks.{ahead, stop, at_word, pending, places_in, places_left, AreAll}
+use Rattle.vb_walk.specs.Walks.{bits_ahead, stop, at_word, pending_bit, places_in, places_left}
+use Rattle.vb_walk.specs.Walks.{AreAll}
 use Rattle.vb_walk.specs.Walks.{IsOther, IsAtRest, IsCursor, IsRefilled, IsSkipped}
 use Rattle.vb_walk.proofs.OnesLemmas.{lowest_off}
 use Rattle.vb_walk.proofs.PlacesLemmas.{places_in_skip, places_in_empty, places_in_first}
@@ -19,18 +20,18 @@ use Rattle.vb_walk.proofs.PlacesLemmas.{places-bits, same_places_in}
 
 -- what is to come below `next`, and from there on
 pub pending_below : (b : List ℕ) (c : Cursor) (i : ℕ)
-    → i < c.next → pending b c i ≡ has_bit c.word (i - c.base)
+    → i < c.next → pending_bit b c i ≡ has_bit c.word (i - c.base)
 pending_below b c i l =
     ap (λ x. cond x (has_bit c.word (i - c.base)) (bit_of b (c.offset + i))) (lt-ltb i c.next l)
 
 pub pending_ahead : (b : List ℕ) (c : Cursor) (i : ℕ)
-    → c.next ≤ i → pending b c i ≡ bit_of b (c.offset + i)
+    → c.next ≤ i → pending_bit b c i ≡ bit_of b (c.offset + i)
 pending_ahead b c i l =
     ap (λ x. cond x (has_bit c.word (i - c.base)) (bit_of b (c.offset + i))) (le-ltb i c.next l)
 
 -- nothing is to come of a word that is 0
 pub pending_zero : (b : List ℕ) (c : Cursor) (i : ℕ)
-    → c.word ≡ 0 → i < c.next → pending b c i ≡ false
+    → c.word ≡ 0 → i < c.next → pending_bit b c i ≡ false
 pending_zero b c i z l =
     pending_below b c i l ∙ ap (λ w. has_bit w (i - c.base)) z ∙ digits-clear (i - c.base)
 
@@ -69,7 +70,7 @@ refilled_by_word b c v o d valid other e =
 
 -- what is behind the whole words, which have no digit but v
 pub refilled_by_rest : (b : List ℕ) (c : Cursor) (v : Bool) (d : Cursor) → IsCursor b c
-    → 0 < ahead c → AreAll b v (8 * c.byte) (8 * c.end) → IsAtRest b c d → IsRefilled b c v d
+    → 0 < bits_ahead c → AreAll b v (8 * c.byte) (8 * c.end) → IsAtRest b c d → IsRefilled b c v d
 refilled_by_rest b c v d valid more all rest =
     let here = valid.here more in
     record {
@@ -105,26 +106,28 @@ skipped b c d v z r = record {
 -- ---- places
 -- the places of the front of a window
 pub places_left_front : (b : List ℕ) (c : Cursor) (o n : ℕ) → c.base ≡ 0 → stop c ≡ n
-    → ((i : ℕ) → i < n → pending b c i ≡ bit_of b (o + i)) → places_left b c ≡ places (bits b o n)
+    → ((i : ℕ) → i < n → pending_bit b c i ≡ bit_of b (o + i))
+    → places_left b c ≡ places (bits b o n)
 places_left_front b c o n front all h =
     let size : stop c - c.base ≡ n = omega arith in
-    ap (places_in (pending b c) c.base) size
-    ∙ ap (λ a. places_in (pending b c) a n) front ∙ places-bits (pending b c) b o n h
+    ap (places_in (pending_bit b c) c.base) size
+    ∙ ap (λ a. places_in (pending_bit b c) a n) front ∙ places-bits (pending_bit b c) b o n h
 
 -- zeros that were passed over
 pub places_left-skip : (b : List ℕ) (c d : Cursor)
     → IsSkipped b c d → places_left b c ≡ places_left b d
 places_left-skip b c d s =
     let v = s.valid in
-    places_in_skip (pending b c) c.base (d.base - c.base) (stop c - c.base) d.base (stop d - d.base)
+    places_in_skip (pending_bit b c) c.base (d.base - c.base) (stop c - c.base) d.base
+    (stop d - d.base)
     (omega (arith, s.later)) (omega (arith, s.later, s.ends, v.walked)) s.passed
-    ∙ sym (same_places_in (pending b d)
-    (pending b c) d.base (stop d - d.base) (λ i l r. s.same i l (omega (arith, v.walked))))
+    ∙ sym (same_places_in (pending_bit b d)
+    (pending_bit b c) d.base (stop d - d.base) (λ i l r. s.same i l (omega (arith, v.walked))))
 
 -- nothing is left where the word in hand is 0 and nothing is ahead
 pub places_left_none : (b : List ℕ) (c : Cursor)
-    → IsCursor b c → c.word ≡ 0 → ahead c ≡ 0 → places_left b c ≡ []
-places_left_none b c v z none = places_in_empty (pending b c) c.base
+    → IsCursor b c → c.word ≡ 0 → bits_ahead c ≡ 0 → places_left b c ≡ []
+places_left_none b c v z none = places_in_empty (pending_bit b c) c.base
     (stop c - c.base) (λ i l r. pending_zero b c i z (omega (arith, v.walked)))
 
 -- the lowest 1 of the word in hand
@@ -151,7 +154,7 @@ places_left-step b c d v some fits e =
     let off = lowest_off w low z.1 z.2 in
     let inside : low < c.next - c.base = lowest_inside b c v some fits in
     let place : c.base + low - c.base ≡ low = omega arith in
-    places_in_first (pending b c) (pending b next) c.base
+    places_in_first (pending_bit b c) (pending_bit b next) c.base
     (stop c - c.base) (c.base + low) (omega arith) (omega (arith, v.walked))
     (λ i l r. pending_below b c i (omega (arith, v.walked))
     ∙ ap (λ x. eqb x 1) (z.2 (i - c.base) (omega arith)))

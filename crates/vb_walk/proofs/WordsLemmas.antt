@@ -11,19 +11,19 @@ use Rattle.vb_bits.specs.Digits.{digits}
 use Rattle.vb_bits.proofs.BitsLemmas.{length-bits, take-bits, drop-bits}
 use Rattle.vb_bits.proofs.DigitsLemmas.{digits_none, digits-suc, lowest}
 use Rattle.vb_bits.proofs.RangeLemmas.{same_map-range_with_len}
-use Rattle.vb_walk.specs.Words.{number, word, words, full_words}
+use Rattle.vb_walk.specs.Words.{bits_number, word, words, full_words}
 
 -- ---- numbers
 -- a number is that of its digits
-pub number-digits : (w n : ℕ) → w < 2 ^ n → number (digits w 0 n) ≡ w
-number-digits w zero h = ap number (digits_none w 0) ∙ omega arith
-number-digits w (suc n) h =
+pub bits_number-digits : (w n : ℕ) → w < 2 ^ n → bits_number (digits w 0 n) ≡ w
+bits_number-digits w zero h = ap bits_number (digits_none w 0) ∙ omega arith
+bits_number-digits w (suc n) h =
     let small : w / 2 < 2 ^ n = omega (arith, pow-suc 2 n) in
-    ap number (digits-suc w n) ∙ omega (arith, lowest w, number-digits (w / 2) n small)
+    ap bits_number (digits-suc w n) ∙ omega (arith, lowest w, bits_number-digits (w / 2) n small)
 
 -- a number whose digits are a list
-pub number_is : (w n : ℕ) (l : List Bool) → digits w 0 n ≡ l → w < 2 ^ n → number l ≡ w
-number_is w n l e h = ap number (sym e) ∙ number-digits w n h
+pub number_is : (w n : ℕ) (l : List Bool) → digits w 0 n ≡ l → w < 2 ^ n → bits_number l ≡ w
+number_is w n l e h = ap bits_number (sym e) ∙ bits_number-digits w n h
 
 -- ---- words
 -- as many as asked for
@@ -69,19 +69,19 @@ take-window b o n k = elim (cases_lt k n) [
 
 -- a word of a window
 pub word-bits : (b : List ℕ) (o n k : ℕ)
-    → 64 * k ≤ n → word (bits b o n) k ≡ number (bits b (o + 64 * k) (min 64 (n - 64 * k)))
+    → 64 * k ≤ n → word (bits b o n) k ≡ bits_number (bits b (o + 64 * k) (min 64 (n - 64 * k)))
 word-bits b o n k h =
     let e : n ≡ 64 * k + (n - 64 * k) = omega arith in
-    ap (λ x. number (take 64 (drop (64 * k) (bits b o x)))) e
-    ∙ ap (λ l. number (take 64 l)) (drop-bits b o (64 * k) (n - 64 * k))
-    ∙ ap number (take-window b (o + 64 * k) (n - 64 * k) 64)
+    ap (λ x. bits_number (take 64 (drop (64 * k) (bits b o x)))) e
+    ∙ ap (λ l. bits_number (take 64 l)) (drop-bits b o (64 * k) (n - 64 * k))
+    ∙ ap bits_number (take-window b (o + 64 * k) (n - 64 * k) 64)
 
 -- a word of a window, as a number that was read
 pub word_read : (b : List ℕ) (o n k w p m : ℕ) → digits w 0 m ≡ bits b p m
     → w < 2 ^ m → 64 * k ≤ n → p ≡ o + 64 * k → m ≡ min 64 (n - 64 * k) → word (bits b o n) k ≡ w
 word_read b o n k w p m read clear h at size =
-    word-bits b o n k h ∙ ap (λ x. number (bits b x (min 64 (n - 64 * k)))) (sym at)
-    ∙ ap (λ x. number (bits b p x)) (sym size)
+    word-bits b o n k h ∙ ap (λ x. bits_number (bits b x (min 64 (n - 64 * k)))) (sym at)
+    ∙ ap (λ x. bits_number (bits b p x)) (sym size)
     ∙ number_is w m (bits b p m) read clear
 
 -- the first word of full words, and those behind it
@@ -93,8 +93,8 @@ words_step b o n w read clear =
     let at : o + 64 * suc k ≡ o + 64 + 64 * k = omega arith in
     let size : min 64 (64 * suc n - 64 * suc k) ≡ min 64 (64 * n - 64 * k) = omega arith in
     word-bits b o (64 * suc n) (suc k) (omega arith)
-    ∙ ap (λ x. number (bits b x (min 64 (64 * suc n - 64 * suc k)))) at
-    ∙ ap (λ x. number (bits b (o + 64 + 64 * k) x)) size
+    ∙ ap (λ x. bits_number (bits b x (min 64 (64 * suc n - 64 * suc k)))) at
+    ∙ ap (λ x. bits_number (bits b (o + 64 + 64 * k) x)) size
     ∙ sym (word-bits b (o + 64) (64 * n) k (omega arith)))
     ∙ ap (λ x. x ∷ words (bits b (o + 64) (64 * n)) n)
     (word_read b o (64 * suc n) 0 w o 64 read clear (omega arith) (omega arith) (omega arith))
@@ -106,7 +106,7 @@ words_front b o n k h =
     same_words (bits b o n) (bits b o (64 * k)) k
     (λ i lt.
     let size : min 64 (n - 64 * i) ≡ min 64 (64 * k - 64 * i) = omega arith in
-    word-bits b o n i (omega arith) ∙ ap (λ x. number (bits b (o + 64 * i) x)) size
+    word-bits b o n i (omega arith) ∙ ap (λ x. bits_number (bits b (o + 64 * i) x)) size
     ∙ sym (word-bits b o (64 * k) i (omega arith)))
 
 -- the full words, and the word behind them

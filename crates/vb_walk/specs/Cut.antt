@@ -3,17 +3,17 @@ use Rattle.std.specs.Prelude.{◌≡◌, ◌≢◌, ℕ, ◌+◌, ◌*◌, Bool,
 use Rattle.std.specs.Prelude.{replicate, Option, None}
 use Rattle.std.specs.Int.{div_ceil}
 use Rattle.vb_bits.specs.Bits.{bits}
-use Rattle.vb_walk.specs.Words.{number, words, item_of}
+use Rattle.vb_walk.specs.Words.{bits_number, words, item_of}
 
 -- the values behind s false ones, as words of which the last is filled with false; none of no
 -- values
-abbrev pub cut : ℕ → List Bool → List ℕ
-cut s [] = []
-cut s (b ∷ l) = words (replicate s false ++ b ∷ l) (div_ceil (s + length (b ∷ l)) 64)
+abbrev pub cut_words : ℕ → List Bool → List ℕ
+cut_words s [] = []
+cut_words s (b ∷ l) = words (replicate s false ++ b ∷ l) (div_ceil (s + length (b ∷ l)) 64)
 
 -- the word of eight bytes
 abbrev pub word_of : List ℕ → ℕ
-word_of bytes = number (bits bytes 0 64)
+word_of bytes = bits_number (bits bytes 0 64)
 
 -- what contracts see of an `UnalignedBitChunk`: the digits before its bits in the first word and
 -- behind them in the last one, and its words in three parts
@@ -31,7 +31,7 @@ all_words u = item_of u.prefix ++ u.chunks ++ item_of u.suffix
 -- the n bits from bit s of their first byte on are cut into these words: the first is the prefix,
 -- the last of two or more is the suffix
 pub record IsCut (s : ℕ) (l : List Bool) (u : UnalignedWords) : Type 0 where
-  pub words : all_words u ≡ cut s l
+  pub words : all_words u ≡ cut_words s l
   pub prefix : u.prefix ≡ None → (u.chunks ≡ []) × (u.suffix ≡ None)
   pub suffix : u.suffix ≡ None → u.chunks ≡ []
   pub lead : length l ≢ 0 → u.lead_padding ≡ s

@@ -7,7 +7,7 @@ use Rattle.std.specs.List.{range_with_len}
 use Rattle.vb_bits.specs.Bits.{bit_of}
 use Rattle.vb_bits.specs.Digits.{has_bit}
 use Rattle.vb_walk.specs.declared.cursor.Cursor.{Cursor}
-use Rattle.vb_bits.specs.Runs.{runs, moved}
+use Rattle.vb_bits.specs.Runs.{runs, shift_run}
 use Rattle.vb_walk.specs.declared.other.OtherWord.{OtherWord}
 use Rattle.vb_walk.specs.declared.slices.TakenRun.{TakenRun}
 
@@ -37,12 +37,12 @@ FindsOther bytes at end v (Some o) = IsOther bytes at end v o
 
 -- ---- where a walk stands
 -- how many bits are behind the word in hand
-abbrev pub ahead : Cursor → ℕ
-ahead c = 8 * (c.end - c.byte) + c.left
+abbrev pub bits_ahead : Cursor → ℕ
+bits_ahead c = 8 * (c.end - c.byte) + c.left
 
 -- the place behind the window
 abbrev pub stop : Cursor → ℕ
-stop c = c.next + ahead c
+stop c = c.next + bits_ahead c
 
 -- the numbers of a walk fit together: the word in hand has the places from `base` below `next`, and
 -- what is ahead begins at byte `byte`
@@ -56,11 +56,11 @@ pub record IsCursor (bytes : List ℕ) (c : Cursor) : Type 0 where
   pub inside : c.end ≤ length bytes
   pub whole : (c.end - c.byte) % 8 ≡ 0
   pub short : c.left < 64
-  pub here : 0 < ahead c → 8 * c.byte ≡ c.offset + c.next
+  pub here : 0 < bits_ahead c → 8 * c.byte ≡ c.offset + c.next
 
 -- what is still to come at place i: below `next` a digit of the word in hand, and then the bit
-abbrev pub pending : List ℕ → Cursor → ℕ → Bool
-pending bytes c i =
+abbrev pub pending_bit : List ℕ → Cursor → ℕ → Bool
+pending_bit bytes c i =
     cond (nat_lt i c.next) (has_bit c.word (i - c.base)) (bit_of bytes (c.offset + i))
 
 -- c with a word in hand of those that are ahead
@@ -80,7 +80,7 @@ pub record IsAtRest (bytes : List ℕ) (c d : Cursor) : Type 0 where
   pub base : d.offset + d.base ≡ 8 * c.end
   pub read : (i : ℕ) → d.base ≤ i → i < d.next
       → has_bit d.word (i - d.base) ≡ bit_of bytes (c.offset + i)
-  pub last : ahead d ≡ 0
+  pub last : bits_ahead d ≡ 0
   pub short : d.next < d.base + 64
 
 -- d is c with another word in hand: the next one with a digit that isn't v, or else what is behind
@@ -94,7 +94,7 @@ pub record IsRefilled (bytes : List ℕ) (c : Cursor) (v : Bool) (d : Cursor) : 
   pub read : (i : ℕ) → d.base ≤ i → i < d.next
       → has_bit d.word (i - d.base) ≡ bit_of bytes (c.offset + i)
   pub other : ((others v d.word ≢ 0) × (d.next ≡ d.base + 64))
-      ⊎ ((ahead d ≡ 0) × (d.next < d.base + 64))
+      ⊎ ((bits_ahead d ≡ 0) × (d.next < d.base + 64))
 
 -- d is c with a word in hand that isn't 0, if one is to come: the same is to come, and nothing
 -- before
@@ -102,9 +102,9 @@ pub record IsSkipped (bytes : List ℕ) (c d : Cursor) : Type 0 where
   pub valid : IsCursor bytes d
   pub ends : stop d ≡ stop c
   pub later : c.base ≤ d.base
-  pub passed : (i : ℕ) → c.base ≤ i → i < d.base → pending bytes c i ≡ false
-  pub same : (i : ℕ) → d.base ≤ i → i < stop d → pending bytes d i ≡ pending bytes c i
-  pub last : d.word ≡ 0 → ahead d ≡ 0
+  pub passed : (i : ℕ) → c.base ≤ i → i < d.base → pending_bit bytes c i ≡ false
+  pub same : (i : ℕ) → d.base ≤ i → i < stop d → pending_bit bytes d i ≡ pending_bit bytes c i
+  pub last : d.word ≡ 0 → bits_ahead d ≡ 0
 
 -- ---- places
 -- the numbers from a below a + n at which t is true, in ascending order
@@ -113,16 +113,16 @@ places_in t a n = filter t (range_with_len a n)
 
 -- the places that are still to come
 abbrev pub places_left : List ℕ → Cursor → List ℕ
-places_left bytes c = places_in (pending bytes c) c.base (stop c - c.base)
+places_left bytes c = places_in (pending_bit bytes c) c.base (stop c - c.base)
 
 -- ---- runs
 -- the runs of t among the n places from a on
 unfoldable pub runs_in : (ℕ → Bool) → ℕ → ℕ → List (ℕ × ℕ)
-runs_in t a n = map (moved a) (runs (map t (range_with_len a n)))
+runs_in t a n = map (shift_run a) (runs (map t (range_with_len a n)))
 
 -- the runs that are still to come
 abbrev pub runs_left : List ℕ → Cursor → List (ℕ × ℕ)
-runs_left bytes c = runs_in (pending bytes c) c.base (stop c - c.base)
+runs_left bytes c = runs_in (pending_bit bytes c) c.base (stop c - c.base)
 
 -- r is the first run that is to come, and r.cursor is c without it
 pub record TakesRun (bytes : List ℕ) (c : Cursor) (r : TakenRun) : Type 0 where
@@ -132,8 +132,8 @@ pub record TakesRun (bytes : List ℕ) (c : Cursor) (r : TakenRun) : Type 0 wher
   pub some : r.start < r.end
   pub within : r.end ≤ stop c
   pub later : r.cursor.base ≤ r.end
-  pub off : (i : ℕ) → c.base ≤ i → i < r.start → pending bytes c i ≡ false
-  pub on : (i : ℕ) → r.start ≤ i → i < r.end → pending bytes c i ≡ true
-  pub over : (r.end ≡ stop c) ⊎ (pending bytes c r.end ≡ false)
-  pub gone : (i : ℕ) → r.cursor.base ≤ i → i < r.end → pending bytes r.cursor i ≡ false
-  pub same : (i : ℕ) → r.end ≤ i → i < stop c → pending bytes r.cursor i ≡ pending bytes c i
+  pub off : (i : ℕ) → c.base ≤ i → i < r.start → pending_bit bytes c i ≡ false
+  pub on : (i : ℕ) → r.start ≤ i → i < r.end → pending_bit bytes c i ≡ true
+  pub over : (r.end ≡ stop c) ⊎ (pending_bit bytes c r.end ≡ false)
+  pub gone : (i : ℕ) → r.cursor.base ≤ i → i < r.end → pending_bit bytes r.cursor i ≡ false
+  pub same : (i : ℕ) → r.end ≤ i → i < stop c → pending_bit bytes r.cursor i ≡ pending_bit bytes c i

@@ -4,13 +4,13 @@ use Rattle.std.specs.Prelude.{Option, Some, None}
 use Rattle.std.specs.List.{range_with_len}
 
 -- the number whose digits are the values, lowest first
-abbrev pub number : List Bool → ℕ
-number [] = 0
-number (b ∷ l) = cond b 1 0 + 2 * number l
+abbrev pub bits_number : List Bool → ℕ
+bits_number [] = 0
+bits_number (b ∷ l) = cond b 1 0 + 2 * bits_number l
 
 -- word k: the number of the values from place 64 * k on, of which it takes at most 64
 abbrev pub word : List Bool → ℕ → ℕ
-word l k = number (take 64 (drop (64 * k) l))
+word l k = bits_number (take 64 (drop (64 * k) l))
 
 -- the first n words
 unfoldable pub words : List Bool → ℕ → List ℕ
@@ -21,8 +21,8 @@ abbrev pub full_words : List Bool → List ℕ
 full_words l = words l (length l / 64)
 
 -- the full words, and then always one word more, of the values behind them
-abbrev pub padded : List Bool → List ℕ
-padded l = words l (length l / 64 + 1)
+abbrev pub padded_words : List Bool → List ℕ
+padded_words l = words l (length l / 64 + 1)
 
 -- the item, if there is one
 abbrev pub item_of : Option ℕ → List ℕ

@@ -5,7 +5,7 @@ ghost use Rattle.std.specs.Iterator.SizeHint.{IsWithinCount};
 ghost use Rattle.vb_bits.specs.Bits.{bits};
 ghost use Rattle.vb_bits.specs.InBytes.{InBytes};
 ghost use Rattle.vb_core.specs.ExactCounts.{list_counts};
-ghost use Rattle.vb_walk.specs.Words.{word, full_words, padded};
+ghost use Rattle.vb_walk.specs.Words.{word, full_words, padded_words};
 
 use std::marker::Model;
 use vb_bits::{full_word, read_bits};
@@ -78,7 +78,7 @@ impl<'a> BitChunks<'a> {
 
     /// The full words, and then always one more, the remainder.
     pub fn iter_padded(&self) -> PaddedChunkIterator<'a>
-        ensures { result ≡ padded self.now }
+        ensures { result ≡ padded_words self.now }
     {
         PaddedChunkIterator {
             chunks: self.iter(),

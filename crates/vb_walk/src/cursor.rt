@@ -5,10 +5,10 @@ ghost use Rattle.vb_bits.specs.Bits.{bit_of, bits};
 ghost use Rattle.vb_bits.specs.Digits.{digits};
 ghost use Rattle.vb_bits.specs.InBytes.{InBytes};
 ghost use Rattle.vb_walk.specs.Walks.{
-  ahead,
+  bits_ahead,
   stop,
   at_word,
-  pending,
+  pending_bit,
   IsAtRest,
   IsCursor,
   IsRefilled,
@@ -48,7 +48,7 @@ impl Cursor {
         ensures base { result.base ≡ 0 }
         ensures stop { stop result ≡ len }
         ensures bits { (i : ℕ) → i < len
-            → pending bytes.now result i ≡ bit_of bytes.now (offset + i) }
+            → pending_bit bytes.now result i ≡ bit_of bytes.now (offset + i) }
     {
         let count = len.min(64 - offset % 8);
         let byte = (offset + count) / 8;
@@ -67,7 +67,7 @@ impl Cursor {
     #[inline(always)]
     pub(crate) fn has_more(self) -> bool
         requires { self.byte ≤ self.end }
-        ensures { IsTrue result ↔ (0 < ahead self) }
+        ensures { IsTrue result ↔ (0 < bits_ahead self) }
     {
         self.byte < self.end || self.left > 0
     }
@@ -93,7 +93,7 @@ impl Cursor {
     #[inline(always)]
     fn at_rest(self, bytes: &[u8]) -> Cursor
         requires valid { IsCursor bytes.now self }
-        requires more { 0 < ahead self }
+        requires more { 0 < bits_ahead self }
         ensures { IsAtRest bytes.now self result }
     {
         let base = 8 * self.end - self.offset;
@@ -111,7 +111,7 @@ impl Cursor {
     #[inline(always)]
     pub(crate) fn refill(self, bytes: &[u8], value: bool) -> Cursor
         requires valid { IsCursor bytes.now self }
-        requires more { 0 < ahead self }
+        requires more { 0 < bits_ahead self }
         ensures { IsRefilled bytes.now self value result }
     {
         match first_other(bytes, self.byte, self.end, value) {

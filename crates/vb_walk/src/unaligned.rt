@@ -7,7 +7,7 @@ ghost use Rattle.std.specs.Iterator.SizeHint.{IsWithinCount};
 ghost use Rattle.vb_bits.specs.Bits.{bits};
 ghost use Rattle.vb_bits.specs.InBytes.{InBytes};
 ghost use Rattle.vb_core.specs.ExactCounts.{list_counts};
-ghost use Rattle.vb_walk.specs.Cut.{word_of, all_words, cut, IsCut};
+ghost use Rattle.vb_walk.specs.Cut.{word_of, all_words, cut_words, IsCut};
 ghost use Rattle.vb_walk.specs.Words.{words, item_of};
 
 use std::marker::Model;
@@ -173,7 +173,7 @@ impl<'a> UnalignedBitChunkIterator<'a> {
     /// have to lie in the bytes, and `offset + len` has to be a `usize`.
     pub fn new(bytes: &'a [u8], offset: usize, len: usize) -> Self
         requires window { InBytes bytes.now offset len }
-        ensures { result ≡ cut (offset % 8) (bits bytes.now offset len) }
+        ensures { result ≡ cut_words (offset % 8) (bits bytes.now offset len) }
     {
         UnalignedBitChunk::new(bytes, offset, len).iter()
     }

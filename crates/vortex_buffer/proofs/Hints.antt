@@ -2,9 +2,9 @@
 -- `using(vortex_buffer::proofs::Hints::..)`,
 -- can name: it looks into files of one crate, and not into what that crate hands on.
 pub use Rattle.vb_bits.proofs.BitsLemmas.{length-bits, at-bits, bits-add, count-append, count-le}
-pub use Rattle.vb_bits.proofs.BitsLemmas.{count-negated}
-pub use Rattle.vb_bits.proofs.KeptLemmas.{map-places, length-kept, sum_by-places, sum-kept-le}
-pub use Rattle.vb_bits.proofs.OperatorsLemmas.{length-merged, at-merged}
+pub use Rattle.vb_bits.proofs.BitsLemmas.{count-complement}
+pub use Rattle.vb_bits.proofs.KeptLemmas.{map-places, length-kept_by, sum_by-places, sum-kept_by-le}
+pub use Rattle.vb_bits.proofs.OperatorsLemmas.{length-merged_by, at-merged_by}
 pub use Rattle.vb_bits.proofs.PlacesLemmas.{places_cons, length-places, places_below}
 pub use Rattle.vb_bits.proofs.RunsLemmas.{runs_within}
 pub use Rattle.vb_core.specs.ElementLaws.{unsigned_laws, signed_laws}

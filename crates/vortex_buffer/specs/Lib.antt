@@ -27,7 +27,7 @@ pub use Rattle.vb_filter.specs.Filtered
 pub use Rattle.vb_filter.specs.ItemsTaken
 pub use Rattle.vb_kernel.specs.Looks
 pub use Rattle.vb_kernel.specs.Searches
-pub use Rattle.vb_mem.specs.Answers
+pub use Rattle.vb_mem.specs.Makes
 pub use Rattle.vb_mem.specs.Collected
 pub use Rattle.vb_mem.specs.Loans
 pub use Rattle.vb_mem.specs.OpenBuffer

@@ -2,7 +2,7 @@
 ghost use Rattle.std.specs.Prelude.{◌≡◌, ◌%◌, ◌^◌, ◌≤◌, ◌↔◌, ℕ, List, length, take, drop};
 ghost use Rattle.std.specs.Prelude.{IsTrue, OnOk, OnErr};
 ghost use Rattle.vb_core.specs.Alignments.{IsPower};
-ghost use Rattle.vb_mem.specs.Answers.{Makes};
+ghost use Rattle.vb_mem.specs.Makes.{Makes};
 ghost use Rattle.vb_mem.specs.SharedBuffer.{ShowsMade, ShowsPart};
 ghost use Rattle.vortex_buffer.specs.Fixed.{ShowsFixed};
 ghost use Rattle.vortex_buffer.specs.Steps.{AreSteps, rest_of, list_steps, buffer_steps};

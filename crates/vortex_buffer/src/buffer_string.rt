@@ -1,6 +1,6 @@
 //! A buffer of text.
 ghost use Rattle.std.specs.Prelude.{◌≡◌, [], IsUtf8, IfOk, IfErr, string_bytes, ◌⊎◌};
-ghost use Rattle.vb_mem.specs.Answers.{Makes};
+ghost use Rattle.vb_mem.specs.Makes.{Makes};
 ghost use Rattle.vb_mem.specs.SharedBuffer.{Shows, ShowsMade};
 ghost use Rattle.vortex_buffer.specs.Text.{IsNoText};
 
@@ -55,7 +55,7 @@ impl<A: Allocator> BufferString<A> {
         ensures ok { IfOk result (λ text. (text ≡ bytes) × IsUtf8 bytes.list) }
         ensures err { IfErr result (IsNoText bytes.list) }
     {
-        tested(bytes.as_slice())?;
+        text_of(bytes.as_slice())?;
         Ok(BufferString { bytes })
     }
 
@@ -113,7 +113,7 @@ impl<A: Allocator + Clone> BufferString<A> {
         ensures err { IfErr result (λ e. IsNoText bytes.now e
             ⊎ (IsUtf8 bytes.now × (e ≡ BufferError.OutOfMemory))) }
     {
-        BufferString::from_str(alloc, tested(bytes)?)
+        BufferString::from_str(alloc, text_of(bytes)?)
     }
 
     /// One more owner of the same text, in constant time and without memory for the storage.
@@ -137,7 +137,7 @@ impl<A: Allocator + Clone> Clone for BufferString<A> {
 }
 
 // The bytes as text, where they are UTF-8.
-fn tested(bytes: &[u8]) -> Result<&str>
+fn text_of(bytes: &[u8]) -> Result<&str>
     ensures ok { IfOk result (λ text. (text.now ≡ bytes.now) × IsUtf8 bytes.now) }
     ensures err { IfErr result (IsNoText bytes.now) }
 {

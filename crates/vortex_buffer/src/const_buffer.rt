@@ -2,7 +2,7 @@
 ghost use Rattle.std.specs.Prelude.{◌≡◌, ◌≢◌, ◌%◌, ◌^◌, ◌≤◌};
 ghost use Rattle.std.specs.Prelude.{IfOk, IsOkAnd, IsErrOf, IsOkUnless};
 ghost use Rattle.vb_core.specs.Alignments.{IsPower};
-ghost use Rattle.vb_mem.specs.Answers.{Makes};
+ghost use Rattle.vb_mem.specs.Makes.{Makes};
 ghost use Rattle.vb_mem.specs.SharedBuffer.{IsAlignedTo, Shows, ShowsMade};
 ghost use Rattle.vortex_buffer.specs.Fixed.{HasAlignment, OfBytes, ShowsFixed};
 

@@ -6,7 +6,7 @@ ghost use Rattle.vb_bit_buffer.specs.SharedSet.{IsFreshSet};
 ghost use Rattle.vb_bit_bytes.specs.AskedOf.{asked_of};
 ghost use Rattle.vb_bit_bytes.specs.Given.{GivesPast};
 ghost use Rattle.vb_bits.specs.Bits.{at};
-ghost use Rattle.vb_mem.specs.Answers.{Makes};
+ghost use Rattle.vb_mem.specs.Makes.{Makes};
 ghost use Rattle.vb_mem.specs.Collected.{OfItems};
 ghost use Rattle.vb_pack.specs.Asked.{Answers, CanAsk, span};
 ghost use Rattle.vb_take.specs.Takes.{with_true, IndexRefused};

@@ -5,7 +5,7 @@
 //! those of the window alone, which takes memory for these too. All of it is asked of the left
 //! value's allocator. Lengths are compared before memory is asked for.
 ghost use Rattle.std.specs.Prelude.{◌≡◌, ◌≢◌, ◌≤◌, [], length, IsOk, IsErrOf};
-ghost use Rattle.vb_mem.specs.Answers.{Makes};
+ghost use Rattle.vb_mem.specs.Makes.{Makes};
 ghost use Rattle.vb_mem.specs.OpenBuffer.{HoldsMade};
 ghost use Rattle.vb_bit_buffer.specs.Gives.{GivesCombined, GivesNegated};
 
@@ -25,7 +25,7 @@ impl<A: Allocator + Clone> BitBuffer<A> {
     pub fn bitand_not(&self, right: &Self) -> Result<Self>
         ensures { GivesCombined BitOp.AndNot self.now right.now result }
     {
-        self.combined(right, BitOp::AndNot)
+        self.combine_with(right, BitOp::AndNot)
     }
 
     /// The bits that are true here and not in `right`, in the same storage where no other owner
@@ -38,7 +38,7 @@ impl<A: Allocator + Clone> BitBuffer<A> {
     }
 
     /// The bits combined with those of another set, in bytes of their own.
-    fn combined(&self, right: &Self, op: BitOp) -> Result<Self>
+    fn combine_with(&self, right: &Self, op: BitOp) -> Result<Self>
         ensures { GivesCombined op self.now right.now result }
     {
         self.compare_len(right)?;
@@ -114,7 +114,7 @@ impl<A: Allocator + Clone> BitBuffer<A> {
     }
 
     /// The bits negated, in bytes of their own.
-    fn negated_apart(&self) -> Result<Self>
+    fn negate_apart(&self) -> Result<Self>
         ensures { GivesNegated self.now result }
     {
         let (offset, len) = (self.offset, self.len);
@@ -131,7 +131,7 @@ impl<A: Allocator + Clone> BitBuffer<A> {
     }
 
     /// The bits negated, in their storage where no other owner has it.
-    fn negated(self) -> Result<Self>
+    fn into_negated(self) -> Result<Self>
         ensures { GivesNegated self result }
     {
         let (offset, len) = (self.offset, self.len);
@@ -189,7 +189,7 @@ impl<A: Allocator + Clone> BitAnd<BitBuffer<A>> for &BitBuffer<A> {
     ghost bitand_gives = { λ l r s. GivesCombined And l.now r s };
 
     fn bitand(self, rhs: BitBuffer<A>) -> Result<BitBuffer<A>> {
-        let set = self.combined(&rhs, BitOp::And);
+        let set = self.combine_with(&rhs, BitOp::And);
         drop(rhs);
         set
     }
@@ -207,7 +207,7 @@ impl<A: Allocator + Clone> BitAnd<&BitBuffer<A>> for &BitBuffer<A> {
     ghost bitand_gives = { λ l r s. GivesCombined And l.now r.now s };
 
     fn bitand(self, rhs: &BitBuffer<A>) -> Result<BitBuffer<A>> {
-        self.combined(rhs, BitOp::And)
+        self.combine_with(rhs, BitOp::And)
     }
 }
 
@@ -259,7 +259,7 @@ impl<A: Allocator + Clone> BitOr<&BitBuffer<A>> for &BitBuffer<A> {
     ghost bitor_gives = { λ l r s. GivesCombined Or l.now r.now s };
 
     fn bitor(self, rhs: &BitBuffer<A>) -> Result<BitBuffer<A>> {
-        self.combined(rhs, BitOp::Or)
+        self.combine_with(rhs, BitOp::Or)
     }
 }
 
@@ -292,7 +292,7 @@ impl<A: Allocator + Clone> BitXor<&BitBuffer<A>> for &BitBuffer<A> {
     ghost bitxor_gives = { λ l r s. GivesCombined Xor l.now r.now s };
 
     fn bitxor(self, rhs: &BitBuffer<A>) -> Result<BitBuffer<A>> {
-        self.combined(rhs, BitOp::Xor)
+        self.combine_with(rhs, BitOp::Xor)
     }
 }
 
@@ -307,7 +307,7 @@ impl<A: Allocator + Clone> Not for BitBuffer<A> {
     ghost not_gives = { GivesNegated };
 
     fn not(self) -> Result<BitBuffer<A>> {
-        self.negated()
+        self.into_negated()
     }
 }
 
@@ -321,6 +321,6 @@ impl<A: Allocator + Clone> Not for &BitBuffer<A> {
     ghost not_gives = { λ s t. GivesNegated s.now t };
 
     fn not(self) -> Result<BitBuffer<A>> {
-        self.negated_apart()
+        self.negate_apart()
     }
 }

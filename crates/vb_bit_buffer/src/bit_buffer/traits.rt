@@ -45,9 +45,9 @@ impl<A: Allocator + Clone> fmt::Debug for BitBuffer<A> {
 /// false] }` on one line.
 impl<A: Allocator + Clone> fmt::Display for BitBuffer<A> {
     ghost use Rattle.std.specs.Prelude.{Some};
-    ghost use Rattle.vb_bits.specs.Shown.{shown};
+    ghost use Rattle.vb_bits.specs.Shown.{bits_text};
 
-    ghost output = { λ s. Some (shown s.bits) };
+    ghost output = { λ s. Some (bits_text s.bits) };
 
     fn fmt<W: fmt::Write>(&self, f: &mut fmt::Formatter<W>) -> fmt::Result {
         let len = self.len();

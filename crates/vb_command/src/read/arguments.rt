@@ -6,7 +6,7 @@ ghost use Rattle.vb_command.specs.Arguments.{countrange_of, value_of, import_of,
 ghost use Rattle.vb_command.specs.Arguments.{slice_of, operator_of, two_numbers, three_numbers};
 ghost use Rattle.vb_command.specs.Arguments.{of_number, question_of_number, of_numbers};
 ghost use Rattle.vb_command.specs.Arguments.{question_of_numbers, of_value, of_operator};
-ghost use Rattle.vb_command.specs.Machine.{order};
+ghost use Rattle.vb_command.specs.Machine.{order_of};
 ghost use Rattle.vb_command.specs.Reading.{Gives, Tells, asks_memory};
 
 use crate::command::{Command, Mode};
@@ -25,7 +25,7 @@ pub fn arguments<A: Allocator + Clone>(
     name: &str,
     words: &mut Words<'_>,
 ) -> Result<Command<A>, Unread>
-    ensures read { Gives order result (arguments_of name.now words.old) }
+    ensures read { Gives order_of result (arguments_of name.now words.old) }
     ensures memory { IsErrOf result Unread.Memory →
         IsTrue (asks_memory (option_map Some (arguments_of name.now words.old))) }
 {
@@ -50,7 +50,7 @@ pub fn arguments<A: Allocator + Clone>(
 /// The command of this name with one word after it.
 #[tactic(auto, unfolding(crate::specs::Arguments::one_word))]
 fn one_word<A: Allocator>(name: &str, a: &str) -> Result<Command<A>, Unread>
-    ensures { Tells order result (one_word name.now a.now) }
+    ensures { Tells order_of result (one_word name.now a.now) }
 {
     of_number(name, usize::read(a)?)
 }
@@ -58,7 +58,7 @@ fn one_word<A: Allocator>(name: &str, a: &str) -> Result<Command<A>, Unread>
 /// The command of this name with two words after it.
 #[tactic(auto, unfolding(crate::specs::Arguments::two_words))]
 fn two_words<A: Allocator>(name: &str, a: &str, b: &str) -> Result<Command<A>, Unread>
-    ensures { Tells order result (two_words name.now a.now b.now) }
+    ensures { Tells order_of result (two_words name.now a.now b.now) }
 {
     if name == "append" {
         return append(a, b);
@@ -76,7 +76,7 @@ fn three_words<A: Allocator + Clone>(
     b: &str,
     c: &str,
 ) -> Result<Command<A>, Unread>
-    ensures read { Gives order result (three_words name.now a.now b.now c.now) }
+    ensures read { Gives order_of result (three_words name.now a.now b.now c.now) }
     ensures memory { IsErrOf result Unread.Memory →
         IsTrue (asks_memory (option_map Some (three_words name.now a.now b.now c.now))) }
 {
@@ -99,7 +99,7 @@ fn four_words<A: Allocator + Clone>(
     c: &str,
     d: &str,
 ) -> Result<Command<A>, Unread>
-    ensures read { Gives order result (four_words name.now a.now b.now c.now d.now) }
+    ensures read { Gives order_of result (four_words name.now a.now b.now c.now d.now) }
     ensures memory { IsErrOf result Unread.Memory →
         IsTrue (asks_memory (option_map Some (four_words name.now a.now b.now c.now d.now))) }
 {
@@ -115,7 +115,7 @@ fn four_words<A: Allocator + Clone>(
 /// The command of this name with a number after it.
 #[tactic(auto, unfolding(crate::specs::Arguments::of_number))]
 fn of_number<A: Allocator>(name: &str, k: usize) -> Result<Command<A>, Unread>
-    ensures { Tells order result (of_number name.now k) }
+    ensures { Tells order_of result (of_number name.now k) }
 {
     match name {
         "clear" => Ok(Command::Clear(k)),
@@ -130,7 +130,7 @@ fn of_number<A: Allocator>(name: &str, k: usize) -> Result<Command<A>, Unread>
 /// The question of this name to the set in one slot.
 #[tactic(auto, unfolding(crate::specs::Arguments::question_of_number))]
 fn question_of_number<A: Allocator>(name: &str, k: usize) -> Result<Command<A>, Unread>
-    ensures { Tells order result (question_of_number name.now k) }
+    ensures { Tells order_of result (question_of_number name.now k) }
 {
     match name {
         "len" => Ok(Command::Len(k)),
@@ -147,7 +147,7 @@ fn question_of_number<A: Allocator>(name: &str, k: usize) -> Result<Command<A>, 
 /// The command of this name with two numbers after it.
 #[tactic(auto, unfolding(crate::specs::Arguments::of_numbers))]
 fn of_numbers<A: Allocator>(name: &str, k: usize, n: usize) -> Result<Command<A>, Unread>
-    ensures { Tells order result (of_numbers name.now k n) }
+    ensures { Tells order_of result (of_numbers name.now k n) }
 {
     match name {
         "truncate" => Ok(Command::Truncate(k, n)),
@@ -161,7 +161,7 @@ fn of_numbers<A: Allocator>(name: &str, k: usize, n: usize) -> Result<Command<A>
 /// The question of this name to the set in one slot, with a number.
 #[tactic(auto, unfolding(crate::specs::Arguments::question_of_numbers))]
 fn question_of_numbers<A: Allocator>(name: &str, k: usize, n: usize) -> Result<Command<A>, Unread>
-    ensures { Tells order result (question_of_numbers name.now k n) }
+    ensures { Tells order_of result (question_of_numbers name.now k n) }
 {
     match name {
         "get" => Ok(Command::Get(k, n)),
@@ -175,7 +175,7 @@ fn question_of_numbers<A: Allocator>(name: &str, k: usize, n: usize) -> Result<C
 /// The command of this name with a number, a truth value and a number after it.
 #[tactic(auto, unfolding(crate::specs::Arguments::of_value))]
 fn of_value<A: Allocator>(name: &str, k: usize, v: bool, n: usize) -> Result<Command<A>, Unread>
-    ensures { Tells order result (of_value name.now k v n) }
+    ensures { Tells order_of result (of_value name.now k v n) }
 {
     match name {
         "full" => Ok(Command::Full(k, v, n)),
@@ -193,7 +193,7 @@ fn of_operator<A: Allocator>(
     r: usize,
     t: usize,
 ) -> Result<Command<A>, Unread>
-    ensures { Tells order result (of_operator name.now m l r t) }
+    ensures { Tells order_of result (of_operator name.now m l r t) }
 {
     match name {
         "and" => Ok(Command::And(m, l, r, t)),
@@ -207,7 +207,7 @@ fn of_operator<A: Allocator>(
 /// An `append` of these words.
 #[tactic(auto, unfolding(crate::specs::Arguments::append_of))]
 fn append<A: Allocator>(a: &str, b: &str) -> Result<Command<A>, Unread>
-    ensures { Tells order result (append_of a.now b.now) }
+    ensures { Tells order_of result (append_of a.now b.now) }
 {
     Ok(Command::Append(usize::read(a)?, bool::read(b)?))
 }
@@ -215,7 +215,7 @@ fn append<A: Allocator>(a: &str, b: &str) -> Result<Command<A>, Unread>
 /// An `indices` of these words.
 #[tactic(auto, unfolding(crate::specs::Arguments::indices_of))]
 fn indices<A: Allocator + Clone>(alloc: &A, a: &str, b: &str, c: &str) -> Result<Command<A>, Unread>
-    ensures read { Gives order result (indices_of a.now b.now c.now) }
+    ensures read { Gives order_of result (indices_of a.now b.now c.now) }
     ensures memory { IsErrOf result Unread.Memory →
         IsTrue (asks_memory (option_map Some (indices_of a.now b.now c.now))) }
 {
@@ -226,7 +226,7 @@ fn indices<A: Allocator + Clone>(alloc: &A, a: &str, b: &str, c: &str) -> Result
 /// A `set` of these words.
 #[tactic(auto, unfolding(crate::specs::Arguments::set_of))]
 fn set<A: Allocator>(a: &str, b: &str, c: &str) -> Result<Command<A>, Unread>
-    ensures { Tells order result (set_of a.now b.now c.now) }
+    ensures { Tells order_of result (set_of a.now b.now c.now) }
 {
     let (k, i) = two_numbers(a, b)?;
     Ok(Command::Set(k, i, bool::read(c)?))
@@ -235,7 +235,7 @@ fn set<A: Allocator>(a: &str, b: &str, c: &str) -> Result<Command<A>, Unread>
 /// A `not` of these words.
 #[tactic(auto, unfolding(crate::specs::Arguments::not_of))]
 fn not<A: Allocator>(a: &str, b: &str, c: &str) -> Result<Command<A>, Unread>
-    ensures { Tells order result (not_of a.now b.now c.now) }
+    ensures { Tells order_of result (not_of a.now b.now c.now) }
 {
     let m = Mode::read(a)?;
     let (l, t) = two_numbers(b, c)?;
@@ -245,7 +245,7 @@ fn not<A: Allocator>(a: &str, b: &str, c: &str) -> Result<Command<A>, Unread>
 /// A `countrange` of these words.
 #[tactic(auto, unfolding(crate::specs::Arguments::countrange_of))]
 fn countrange<A: Allocator>(a: &str, b: &str, c: &str) -> Result<Command<A>, Unread>
-    ensures { Tells order result (countrange_of a.now b.now c.now) }
+    ensures { Tells order_of result (countrange_of a.now b.now c.now) }
 {
     let (k, i, j) = three_numbers(a, b, c)?;
     Ok(Command::Countrange(k, i, j))
@@ -254,7 +254,7 @@ fn countrange<A: Allocator>(a: &str, b: &str, c: &str) -> Result<Command<A>, Unr
 /// The command of this name with a number, a truth value and a number, which these words write.
 #[tactic(auto, unfolding(crate::specs::Arguments::value_of))]
 fn value<A: Allocator>(name: &str, a: &str, b: &str, c: &str) -> Result<Command<A>, Unread>
-    ensures { Tells order result (value_of name.now a.now b.now c.now) }
+    ensures { Tells order_of result (value_of name.now a.now b.now c.now) }
 {
     of_value(name, usize::read(a)?, bool::read(b)?, usize::read(c)?)
 }
@@ -268,7 +268,7 @@ fn import<A: Allocator + Clone>(
     c: &str,
     d: &str,
 ) -> Result<Command<A>, Unread>
-    ensures read { Gives order result (import_of a.now b.now c.now d.now) }
+    ensures read { Gives order_of result (import_of a.now b.now c.now d.now) }
     ensures memory { IsErrOf result Unread.Memory →
         IsTrue (asks_memory (option_map Some (import_of a.now b.now c.now d.now))) }
 {
@@ -286,7 +286,7 @@ fn take<A: Allocator + Clone>(
     c: &str,
     d: &str,
 ) -> Result<Command<A>, Unread>
-    ensures read { Gives order result (take_of a.now b.now c.now d.now) }
+    ensures read { Gives order_of result (take_of a.now b.now c.now d.now) }
     ensures memory { IsErrOf result Unread.Memory →
         IsTrue (asks_memory (option_map Some (take_of a.now b.now c.now d.now))) }
 {
@@ -298,7 +298,7 @@ fn take<A: Allocator + Clone>(
 /// A `fill` of these words.
 #[tactic(auto, unfolding(crate::specs::Arguments::fill_of))]
 fn fill<A: Allocator>(a: &str, b: &str, c: &str, d: &str) -> Result<Command<A>, Unread>
-    ensures { Tells order result (fill_of a.now b.now c.now d.now) }
+    ensures { Tells order_of result (fill_of a.now b.now c.now d.now) }
 {
     let (k, i, j) = three_numbers(a, b, c)?;
     Ok(Command::Fill(k, i, j, bool::read(d)?))
@@ -307,7 +307,7 @@ fn fill<A: Allocator>(a: &str, b: &str, c: &str, d: &str) -> Result<Command<A>, 
 /// A `slice` of these words.
 #[tactic(auto, unfolding(crate::specs::Arguments::slice_of))]
 fn slice<A: Allocator>(a: &str, b: &str, c: &str, d: &str) -> Result<Command<A>, Unread>
-    ensures { Tells order result (slice_of a.now b.now c.now d.now) }
+    ensures { Tells order_of result (slice_of a.now b.now c.now d.now) }
 {
     let (k, i, j) = three_numbers(a, b, c)?;
     Ok(Command::Slice(k, i, j, usize::read(d)?))
@@ -322,7 +322,7 @@ fn operator<A: Allocator>(
     c: &str,
     d: &str,
 ) -> Result<Command<A>, Unread>
-    ensures { Tells order result (operator_of name.now a.now b.now c.now d.now) }
+    ensures { Tells order_of result (operator_of name.now a.now b.now c.now d.now) }
 {
     let m = Mode::read(a)?;
     let (l, r, t) = three_numbers(b, c, d)?;

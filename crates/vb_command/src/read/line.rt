@@ -1,8 +1,8 @@
 //! Lines as commands.
 ghost use Rattle.std.specs.Prelude.{◌≡◌, true, false, MatchOption, option_map, IsErrOf, IsTrue};
-ghost use Rattle.vb_command.specs.Words.{words};
+ghost use Rattle.vb_command.specs.Words.{line_words};
 ghost use Rattle.vb_command.specs.Reading.{Gives, all_ascii, request_of, asks_memory, reading};
-ghost use Rattle.vb_command.specs.Machine.{order};
+ghost use Rattle.vb_command.specs.Machine.{order_of};
 
 use crate::command::Command;
 use crate::read::arguments::arguments;
@@ -27,9 +27,9 @@ fn ascii_text(line: &[u8]) -> Option<&str>
 /// What the words of a text ask for.
 #[tactic(auto, unfolding(crate::specs::Reading::request_of))]
 fn request<A: Allocator + Clone>(alloc: &A, text: &str) -> Result<Option<Command<A>>, Unread>
-    ensures read { Gives (option_map order) result (request_of (words text.now)) }
+    ensures read { Gives (option_map order_of) result (request_of (line_words text.now)) }
     ensures memory { IsErrOf result Unread.Memory →
-        IsTrue (asks_memory (request_of (words text.now))) }
+        IsTrue (asks_memory (request_of (line_words text.now))) }
 {
     let mut words = Words::new(text);
     let Some(name) = words.next() else {
@@ -65,7 +65,7 @@ pub fn command_of<A: Allocator + Clone>(
     alloc: &A,
     line: &[u8],
 ) -> Result<Option<Command<A>>, Unread>
-    ensures read { Gives (option_map order) result (reading line.now) }
+    ensures read { Gives (option_map order_of) result (reading line.now) }
     ensures memory { IsErrOf result Unread.Memory → IsTrue (asks_memory (reading line.now)) }
 {
     let text = ascii_text(line).ok_or(Unread::Unreadable)?;

@@ -1,6 +1,6 @@
 //! The words of a line: its parts between spaces that aren't empty.
 ghost use Rattle.std.specs.Prelude.{◌≡◌, [], ◌∷◌, MatchOption};
-ghost use Rattle.vb_command.specs.Words.{words};
+ghost use Rattle.vb_command.specs.Words.{line_words};
 
 use std::marker::Model;
 
@@ -12,17 +12,17 @@ pub struct Words<'a> {
 
 impl<'a> Model for Words<'a> {
     ghost use Rattle.std.specs.Prelude.{ℕ, List};
-    ghost use Rattle.vb_command.specs.Words.{words};
+    ghost use Rattle.vb_command.specs.Words.{line_words};
 
     ghost Value = { List (List ℕ) };
 
-    ghost view = { λ w. words w.rest.now };
+    ghost view = { λ w. line_words w.rest.now };
 }
 
 impl<'a> Words<'a> {
     /// The words of a text.
     pub fn new(text: &'a str) -> Self
-        ensures { result ≡ words text.now }
+        ensures { result ≡ line_words text.now }
     {
         Words { rest: text }
     }
@@ -43,8 +43,8 @@ impl<'a> Words<'a> {
 #[tactic(auto, using(crate::proofs::WordLists::parts))]
 fn next_word(text: &str) -> Option<(&str, &str)>
     ensures { MatchOption result
-        (words text.now ≡ [])
-        (λ (word, rest). words text.now ≡ word.now ∷ words rest.now) }
+        (line_words text.now ≡ [])
+        (λ (word, rest). line_words text.now ≡ word.now ∷ line_words rest.now) }
 {
     let mut rest = text;
     while let Some((word, after)) = rest.split_once(' ') {

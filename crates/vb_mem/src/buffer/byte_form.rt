@@ -1,7 +1,7 @@
 //! The items of buffers as bytes, and back.
 ghost use Rattle.std.specs.Prelude.{◌≡◌, ◌*◌, ◌≤◌, length};
 ghost use Rattle.vb_bytes.specs.ByteForm.{byteform};
-ghost use Rattle.vb_mem.specs.Answers.{MakesBytes, ReadsBytes};
+ghost use Rattle.vb_mem.specs.Makes.{MakesBytes, ReadsBytes};
 ghost use Rattle.vb_mem.specs.SharedBuffer.{ShowsMade, ShowsRead};
 
 use super::Buffer;

@@ -2,9 +2,9 @@
 ghost use Rattle.std.specs.Prelude.{◌≡◌, ◌≤◌};
 ghost use Rattle.std.specs.Prelude.{IfOk, IfErr, IsOk, IsOkAnd, IsErrOf, IsOkUnless};
 ghost use Rattle.std.specs.Borrow.{sem};
-ghost use Rattle.vb_mem.specs.Answers.{Makes};
+ghost use Rattle.vb_mem.specs.Makes.{Makes};
 ghost use Rattle.vb_mem.specs.OpenBuffer.{Holds};
-ghost use Rattle.vb_mem.specs.SharedBuffer.{Shows, ShowsMade, IsAlignedTo, KeepsItems, shown};
+ghost use Rattle.vb_mem.specs.SharedBuffer.{Shows, ShowsMade, IsAlignedTo, KeepsItems, as_shared};
 ghost use Rattle.vb_mem.specs.Loans.{LendsAll};
 
 use super::Buffer;
@@ -92,7 +92,7 @@ impl<T: Element, A: Allocator + Clone> Buffer<T, A> {
     /// storage, as in [`Buffer::try_into_mut`]; where there are others, the items are copied and
     /// over-aligned to 256 bytes. Refused by `OutOfMemory`; the buffer is gone then.
     pub fn into_mut(self) -> Result<BufferMut<T, A>>
-        ensures { Makes (λ b. KeepsItems self (shown b)) result }
+        ensures { Makes (λ b. KeepsItems self (as_shared b)) result }
     {
         match self.try_into_mut() {
             Ok(growing) => Ok(growing),
@@ -136,7 +136,7 @@ impl<T: Element, A: Allocator + Clone> Buffer<T, A> {
     pub fn items_mut(&mut self) -> Result<&mut BufferMut<T, A>>
         ensures* writes_back { sem 𝓛 (LendsAll T.row A.row T.Element A.Allocator
             self.entry result) }
-        ensures value { Makes (λ growing. KeepsItems self.old (shown growing.now)) result }
+        ensures value { Makes (λ growing. KeepsItems self.old (as_shared growing.now)) result }
     {
         if self.content.narrow_lone() {
             return self.content.whole_mut();

@@ -1,7 +1,7 @@
 //! Buffers made from nothing, of equal items, of copies and of what grew.
 ghost use Rattle.std.specs.Prelude.{◌≡◌, ◌≤◌, length, List, [], replicate, IfOk};
 ghost use Rattle.std.specs.Iterator.{Drains, IsFiniteIterable};
-ghost use Rattle.vb_mem.specs.Answers.{Makes};
+ghost use Rattle.vb_mem.specs.Makes.{Makes};
 ghost use Rattle.vb_mem.specs.Collected.{OfItems, OfRun};
 ghost use Rattle.vb_mem.specs.OpenBuffer.{preferred_over};
 ghost use Rattle.vb_mem.specs.SharedBuffer.{Shows, ShowsMade};

@@ -2,7 +2,7 @@
 ghost use Rattle.std.specs.Prelude.{◌≡◌, ◌<◌, ◌≤◌, ◌⊎◌, ◌*◌, max, [], length};
 ghost use Rattle.std.specs.Prelude.{IfOk, OnOk, OnErr, IsOkAnd, IsOkUnless};
 ghost use Rattle.vb_bytes.specs.ByteForm.{byteform};
-ghost use Rattle.vb_mem.specs.Answers.{Makes, MakesBytes};
+ghost use Rattle.vb_mem.specs.Makes.{Makes, MakesBytes};
 ghost use Rattle.vb_mem.specs.OpenBuffer.{HoldsMade};
 ghost use Rattle.vb_mem.specs.SharedBuffer.{Shows};
 

@@ -3,7 +3,7 @@ ghost use Rattle.std.specs.Prelude.{◌≡◌, ◌≢◌, ◌+◌, List, [], ◌
 ghost use Rattle.std.specs.Prelude.{OnOk, OnErr, IsOk, IsOkUnless, IfSome};
 ghost use Rattle.std.specs.Iterator.{Drains, ExtendsWithItems, HoldsAlong};
 ghost use Rattle.std.specs.Iterator.{IsFinite, IsFiniteIterable};
-ghost use Rattle.vb_mem.specs.Answers.{NeedsRoom};
+ghost use Rattle.vb_mem.specs.Makes.{NeedsRoom};
 ghost use Rattle.vb_mem.specs.OpenBuffer.{Lengthens, HasRoom};
 ghost use Rattle.vb_mem.specs.Collected.{IfItem, OnMemory};
 ghost use Rattle.vb_mem.specs.Collected.{GivesThen, GivesValues, GivesError};

@@ -1,7 +1,7 @@
 //! Buffers made from nothing, of equal items, of copies and of what iterators give.
 ghost use Rattle.std.specs.Prelude.{◌≡◌, ◌≤◌, ⊤, List, [], length, replicate, IfOk};
 ghost use Rattle.std.specs.Iterator.{Drains, IsFiniteIterable};
-ghost use Rattle.vb_mem.specs.Answers.{Makes};
+ghost use Rattle.vb_mem.specs.Makes.{Makes};
 ghost use Rattle.vb_mem.specs.Collected.{OfItems, OfRun};
 ghost use Rattle.vb_mem.specs.Collected.{GivesValues, GivesError, IfItem};
 ghost use Rattle.vb_mem.specs.OpenBuffer.{Holds, HoldsMade, preferred_over};

@@ -1,6 +1,6 @@
 //! Room, and bits added at the end.
 ghost use Rattle.std.specs.Prelude.{◌≡◌, ◌+◌, ◌≤◌, ◌∷◌, [], length, replicate, true, false, OnOk};
-ghost use Rattle.vb_set.specs.OpenSet.{AddsBits, Grows, NeedsBits};
+ghost use Rattle.vb_set.specs.OpenSet.{AddsBits, KeepsStart, NeedsBits};
 
 use super::BitBufferMut;
 use std::alloc::Allocator;
@@ -32,7 +32,7 @@ impl<A: Allocator + Clone> BitBufferMut<A> {
     /// Refused as [`reserve`](Self::reserve) of one bit is.
     pub fn append(&mut self, v: bool) -> Result<()>
         ensures ok { OnOk result (AddsBits (v ∷ []) self.old self.new) }
-        ensures grows { Grows self.old self.new }
+        ensures grows { KeepsStart self.old self.new }
         ensures needs { NeedsBits 1 result self.old self.new }
     {
         let end = self.offset + self.len;
@@ -47,7 +47,7 @@ impl<A: Allocator + Clone> BitBufferMut<A> {
     /// Adds a true bit: [`append`](Self::append) of `true`.
     pub fn append_true(&mut self) -> Result<()>
         ensures ok { OnOk result (AddsBits (true ∷ []) self.old self.new) }
-        ensures grows { Grows self.old self.new }
+        ensures grows { KeepsStart self.old self.new }
         ensures needs { NeedsBits 1 result self.old self.new }
     {
         self.append(true)
@@ -56,7 +56,7 @@ impl<A: Allocator + Clone> BitBufferMut<A> {
     /// Adds a false bit: [`append`](Self::append) of `false`.
     pub fn append_false(&mut self) -> Result<()>
         ensures ok { OnOk result (AddsBits (false ∷ []) self.old self.new) }
-        ensures grows { Grows self.old self.new }
+        ensures grows { KeepsStart self.old self.new }
         ensures needs { NeedsBits 1 result self.old self.new }
     {
         self.append(false)
@@ -67,7 +67,7 @@ impl<A: Allocator + Clone> BitBufferMut<A> {
     /// Refused as [`reserve`](Self::reserve) of `n` bits is.
     pub fn append_n(&mut self, v: bool, n: usize) -> Result<()>
         ensures ok { OnOk result (AddsBits (replicate n v) self.old self.new) }
-        ensures grows { Grows self.old self.new }
+        ensures grows { KeepsStart self.old self.new }
         ensures needs { NeedsBits n result self.old self.new }
     {
         let end = self.offset + self.len;
@@ -84,7 +84,7 @@ impl<A: Allocator + Clone> BitBufferMut<A> {
     /// Refused as [`reserve`](Self::reserve) of the other set's length is.
     pub fn append_buffer(&mut self, set: &BitBuffer<A>) -> Result<()>
         ensures ok { OnOk result (AddsBits set.now.bits self.old self.new) }
-        ensures grows { Grows self.old self.new }
+        ensures grows { KeepsStart self.old self.new }
         ensures needs { NeedsBits (length set.now.bits) result self.old self.new }
     {
         let end = self.offset + self.len;

@@ -3,7 +3,7 @@ ghost use Rattle.std.specs.Prelude.{◌≡◌, ◌⊎◌, ◌==◌, ⊤, not, fa
 ghost use Rattle.std.specs.Prelude.{◌<◌, All, IfOk, IfErr, MatchResult, OnErr};
 ghost use Rattle.std.specs.Iterator.{IsFiniteIterable};
 ghost use Rattle.vb_bit_bytes.specs.Given.{GivesPast};
-ghost use Rattle.vb_mem.specs.Answers.{Makes};
+ghost use Rattle.vb_mem.specs.Makes.{Makes};
 ghost use Rattle.vb_mem.specs.Collected.{OfItems};
 ghost use Rattle.vb_pack.specs.Asked.{Answers, CanAsk, span};
 ghost use Rattle.vb_set.specs.OpenSet.{IsFreshOpenSet};

@@ -18,14 +18,14 @@ impl<A: Allocator + Clone> fmt::Debug for BitBufferMut<A> {
 #[tactic(auto, using(vb_bit_bytes::proofs::BytesLemmas::edits))]
 impl<A: Allocator + Clone> Not for BitBufferMut<A> {
     ghost use Rattle.std.specs.Prelude.{◌≡◌};
-    ghost use Rattle.vb_bits.specs.Bits.{negated};
+    ghost use Rattle.vb_bits.specs.Bits.{complement};
     ghost use Rattle.vb_bits.specs.Writes.{Writes};
     ghost use Rattle.vb_set.specs.OpenSet.{KeepsLayout};
 
     type Output = BitBufferMut<A>;
 
-    ghost not_gives = { λ s t. (t.bits ≡ negated s.bits)
-        × Writes s.bytes t.bytes s.offset (negated s.bits) × KeepsLayout s t };
+    ghost not_gives = { λ s t. (t.bits ≡ complement s.bits)
+        × Writes s.bytes t.bytes s.offset (complement s.bits) × KeepsLayout s t };
 
     fn not(mut self) -> BitBufferMut<A> {
         negate(&mut self.buffer, self.offset, self.len);

@@ -4,7 +4,7 @@ use Rattle.std.proofs.Common.{arith}
 use Rattle.std.specs.List.{All, sum_by}
 use Rattle.std.proofs.lemmas.List.Elements.{All-from_get_or, All-rest}
 use Rattle.std.proofs.lemmas.List.Sums.{sum_by-cons}
-use Rattle.vortex_buffer.proofs.KeptLemmas.{sum_by-places, sum-kept-le}
+use Rattle.vortex_buffer.proofs.KeptLemmas.{sum_by-places, sum-kept_by-le}
 use Rattle.vortex_buffer.specs.Bits.{places}
 use Rattle.use_columns.proofs.masked.masked_sum.Goals as goal
 
@@ -23,7 +23,7 @@ loop-place-init g c =
     let small : All (λ x. x ≤ 4294967295) items =
     All-from_get_or (λ x. x ≤ 4294967295) items 0
     (λ k h. omega (arith, (c.type_inv.items k).fits)) in
-    let bound = sum-kept-le 4294967295 valid items small in
+    let bound = sum-kept_by-le 4294967295 valid items small in
     record {
       whole = omega (
         arith,

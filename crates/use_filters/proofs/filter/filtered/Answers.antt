@@ -1,9 +1,9 @@
 -- The values of the matching rows are the valid ones that meet the condition.
 use Rattle.std.proofs.Common.{length, sym, ap, ◌∙◌}
 use Rattle.std.proofs.lemmas.Result.{IfOk-weaker}
-use Rattle.vortex_buffer.specs.Kept.{kept}
+use Rattle.vortex_buffer.specs.Kept.{kept_by}
 use Rattle.use_filters.specs.Filters.{is_met}
-use Rattle.use_filters.proofs.FilterLemmas.{length-matched, kept_matched}
+use Rattle.use_filters.proofs.FilterLemmas.{length-matches_of, kept_by_matches_of}
 use Rattle.use_filters.proofs.filter.filtered.Goals as goal
 
 pub returns : goal.returns
@@ -13,10 +13,10 @@ returns g c =
     let values = c.args.values.now.list in
     let rows = c.in_ok-rows.ensures.ok in
     let same = ap length c.as_view.ensures.bits ∙ ap length rows
-    ∙ length-matched test valid values c.requires in
+    ∙ length-matches_of test valid values c.requires in
     record {
       ok = IfOk-weaker c.filtered-found.result _ _
-          (λ found e. e.list ∙ ap (λ l. kept l values) (c.as_view.ensures.bits ∙ rows)
-          ∙ kept_matched test valid values) c.filtered-found.ensures.ok;
+          (λ found e. e.list ∙ ap (λ l. kept_by l values) (c.as_view.ensures.bits ∙ rows)
+          ∙ kept_by_matches_of test valid values) c.filtered-found.ensures.ok;
       refused = c.filtered-found.ensures.same_len (sym same);
     }

@@ -2,9 +2,9 @@
 use Rattle.std.proofs.Common.{arith, ◌≡◌, ◌&&◌, length, ap, ◌∙◌}
 use Rattle.std.proofs.lemmas.List.{length-map}
 use Rattle.std.proofs.lemmas.Result.{IfOk-weaker}
-use Rattle.vortex_buffer.specs.Operators.{merged}
+use Rattle.vortex_buffer.specs.Operators.{merged_by}
 use Rattle.use_filters.specs.Filters.{is_met}
-use Rattle.use_filters.proofs.FilterLemmas.{merged_matched}
+use Rattle.use_filters.proofs.FilterLemmas.{merged_matches_of}
 use Rattle.use_filters.proofs.filter.matching_rows.Goals as goal
 
 pub returns : goal.returns
@@ -16,7 +16,8 @@ returns g c =
     let len : length c.in_ok-rows_where.field-0.bits ≡ length valid =
     omega (arith, ap length met, length-map values test, c.requires) in
     record {
-      ok = IfOk-weaker c.bitand.result _ _ (λ s e. e ∙ ap (λ l. merged (λ a b. a && b) l valid) met
-          ∙ merged_matched test valid values c.requires) c.bitand.ensures.ok;
+      ok = IfOk-weaker c.bitand.result _ _ (λ s e. e
+          ∙ ap (λ l. merged_by (λ a b. a && b) l valid) met
+          ∙ merged_matches_of test valid values c.requires) c.bitand.ensures.ok;
       refused = c.bitand.ensures.same_len len;
     }

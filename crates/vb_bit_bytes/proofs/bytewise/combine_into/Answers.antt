@@ -1,9 +1,9 @@
 use Rattle.std.proofs.Common.{◌≡◌, ◌++◌, take, ap, ◌∙◌, arith}
 use Rattle.std.proofs.lemmas.List.{length-take}
 use Rattle.vb_bits.specs.Bits.{bits}
-use Rattle.vb_bits.specs.Operators.{combined}
+use Rattle.vb_bits.specs.Operators.{combined_by}
 use Rattle.vb_bits.proofs.WindowLemmas.{bits-take_bytes}
-use Rattle.vb_bit_bytes.proofs.BytesLemmas.{bits-combined}
+use Rattle.vb_bit_bytes.proofs.BytesLemmas.{bits-combined_by}
 use Rattle.vb_bit_bytes.proofs.bytewise.combine_into.Goals as goal
 
 pub returns-then-l-r-clause-bits : goal.returns-then-l-r-clause-bits
@@ -12,8 +12,9 @@ returns-then-l-r-clause-bits g c =
     let o = c.args.l in let n = c.args.len in
     let same : o ≡ c.args.r = omega arith in
     c.push_combined.ensures.bits o n (omega (arith, length-take m b))
-    ∙ ap (λ x. combined c.args.op x (bits (take m t) o n)) (bits-take_bytes m b o n (omega arith))
-    ∙ ap (combined c.args.op (bits b o n))
+    ∙ ap (λ x. combined_by c.args.op x (bits (take m t) o n))
+    (bits-take_bytes m b o n (omega arith))
+    ∙ ap (combined_by c.args.op (bits b o n))
     (bits-take_bytes m t o n (omega arith) ∙ ap (λ p. bits t p n) same)
 
 pub returns-clause-bits : goal.returns-clause-bits
@@ -24,6 +25,6 @@ returns-clause-bits g c =
     let o = c.args.l in let n = c.args.len in let other = bits c.args.right.now c.args.r n in
     let copied : old ≡ take m b =
     c.in_ok-extend_from_slice.ensures.ok.list ∙ ap (λ x. x ++ take m b) c.requires.empty in
-    bits-combined c.args.op old _ c.args.right.now o c.args.r n c.combine.ensures.bits
-    ∙ ap (λ x. combined c.args.op x other)
+    bits-combined_by c.args.op old _ c.args.right.now o c.args.r n c.combine.ensures.bits
+    ∙ ap (λ x. combined_by c.args.op x other)
     (ap (λ x. bits x o n) copied ∙ bits-take_bytes m b o n (omega arith))

@@ -1,5 +1,5 @@
 use Rattle.std.proofs.Common.{◌≡◌, ◌+◌, ◌-◌, refl, arith}
-use Rattle.vb_bits.proofs.WritesLemmas.{Writes-negated}
+use Rattle.vb_bits.proofs.WritesLemmas.{Writes-complement}
 use Rattle.vb_bits.proofs.map.map_words.Goals as goal
 
 pub returns-then-last-first : goal.returns-then-last-first
@@ -9,7 +9,7 @@ returns-then-last-first c =
 
 pub returns : goal.returns
 returns c =
-    let words = Writes-negated _ _ _ _ _ _ _ _ c.negate_in_byte-2.ensures c.negate_words.ensures
+    let words = Writes-complement _ _ _ _ _ _ _ _ c.negate_in_byte-2.ensures c.negate_words.ensures
     (omega arith) refl in
-    let bytes = Writes-negated _ _ _ _ _ _ _ _ words c.negate_bytes.ensures (omega arith) refl in
-    Writes-negated _ _ _ _ _ _ _ _ bytes c.negate_in_byte-3.ensures (omega arith) (omega arith)
+    let bytes = Writes-complement _ _ _ _ _ _ _ _ words c.negate_bytes.ensures (omega arith) refl in
+    Writes-complement _ _ _ _ _ _ _ _ bytes c.negate_in_byte-3.ensures (omega arith) (omega arith)

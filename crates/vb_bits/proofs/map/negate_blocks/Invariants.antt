@@ -1,8 +1,8 @@
 use Rattle.std.proofs.Common.{◌*◌}
-use Rattle.vb_bits.specs.Bits.{bits, negated}
+use Rattle.vb_bits.specs.Bits.{bits, complement}
 use Rattle.vb_bits.specs.Writes.{Writes}
 use Rattle.vb_bits.proofs.map.negate_blocks.Given as goal
 
 abbrev pub invariant-loop-k : goal.invariant-loop-k
 invariant-loop-k l = Writes l.initial.bytes l.bytes (8 * l.at)
-    (negated (bits l.initial.bytes (8 * l.at) (256 * l.k)))
+    (complement (bits l.initial.bytes (8 * l.at) (256 * l.k)))

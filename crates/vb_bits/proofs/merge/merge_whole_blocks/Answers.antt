@@ -1,7 +1,7 @@
 use Rattle.std.proofs.Common.{◌≡◌, ◌+◌, ◌*◌, ◌/◌, ◌∙◌, refl, ap, arith}
 use Rattle.vb_bits.specs.Bits.{bits}
 use Rattle.vb_bits.proofs.LanesLemmas.{Writes_merged_lanes}
-use Rattle.vb_bits.proofs.OperatorsLemmas.{Writes_merged_none, Writes-merged}
+use Rattle.vb_bits.proofs.OperatorsLemmas.{Writes_merged_none, Writes-merged_by}
 use Rattle.vb_bits.proofs.merge.merge_whole_blocks.Goals as goal
 
 pub loop-k-init : goal.loop-k-init
@@ -18,5 +18,5 @@ loop-k-preserved g c =
     let right = c.words_at-right.ensures.digits ∙ ap (λ o. bits t o 256) from in
     let word = Writes_merged_lanes g.M.Merge.bit b _ t _ _ _ _ _ _ left right c.words.ensures.digits
     c.write_words.ensures to in
-    Writes-merged g.M.Merge.bit _ _ _ _ _ _ _ _ _ _ _ c.loop-k.invariant word refl refl
+    Writes-merged_by g.M.Merge.bit _ _ _ _ _ _ _ _ _ _ _ c.loop-k.invariant word refl refl
     (omega arith)

@@ -1,6 +1,6 @@
 use Rattle.std.proofs.Common.{arith}
 use Rattle.vb_bits.specs.Bits.{bits}
-use Rattle.vb_bits.specs.Operators.{combined}
+use Rattle.vb_bits.specs.Operators.{combined_by}
 use Rattle.vb_bits.specs.Operators.{bit_op}
 use Rattle.vb_bits.proofs.OperatorsLemmas.{length-merged_bits}
 use Rattle.vb_bits.proofs.WritesLemmas.{Writes_none}
@@ -10,7 +10,7 @@ use Rattle.vb_c.proofs.combine.combine_into.Goals as goal
 pub loop-done-init : goal.loop-done-init
 loop-done-init c =
     let s = c.args.left.now in let t = c.args.right.now in
-    let none = combined c.args.op (bits s c.args.l 0) (bits t c.args.r 0) in
+    let none = combined_by c.args.op (bits s c.args.l 0) (bits t c.args.r 0) in
     record {
       inside = omega arith;
       written = Writes_none c.args.out.now c.args.o none

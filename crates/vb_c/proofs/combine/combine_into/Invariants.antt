@@ -1,6 +1,6 @@
 use Rattle.std.proofs.Common.{◌-◌, ◌≤◌}
 use Rattle.vb_bits.specs.Bits.{bits}
-use Rattle.vb_bits.specs.Operators.{combined}
+use Rattle.vb_bits.specs.Operators.{combined_by}
 use Rattle.vb_bits.specs.Writes.{Writes}
 use Rattle.vb_c.proofs.combine.combine_into.Given as goal
 
@@ -9,7 +9,7 @@ abbrev pub invariant-loop-done : goal.invariant-loop-done
 invariant-loop-done l = record {
   inside : l.done ≤ l.len;
   written : Writes l.initial.out l.out l.o
-      (combined l.op (bits l.left l.l l.done) (bits l.right l.r l.done));
+      (combined_by l.op (bits l.left l.l l.done) (bits l.right l.r l.done));
 }
 
 abbrev pub decreases-loop-done : goal.decreases-loop-done

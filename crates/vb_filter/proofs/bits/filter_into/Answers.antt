@@ -3,14 +3,14 @@ use Rattle.std.proofs.Common.{length, take, refl, sym, ap, subst, ◌∙◌, ari
 use Rattle.std.proofs.lemmas.List.{take_all}
 use Rattle.vb_bits.specs.Bits.{bits, count}
 use Rattle.vb_bits.specs.Digits.{digits}
-use Rattle.vb_bits.specs.Kept.{kept}
+use Rattle.vb_bits.specs.Kept.{kept_by}
 use Rattle.vb_bits.specs.Writes.{Writes}
 use Rattle.vb_bits.proofs.BitsLemmas.{bits_none, length-bits, count-le}
 use Rattle.vb_bits.proofs.DigitsLemmas.{digits_none}
 use Rattle.vb_bits.proofs.WritesLemmas.{Writes-add}
 use Rattle.vb_view.specs.View.{bits_of}
-use Rattle.vb_filter.specs.Pending.{written}
-use Rattle.vb_filter.proofs.FilteredBits.{word-kept}
+use Rattle.vb_filter.specs.Pending.{first_bits}
+use Rattle.vb_filter.proofs.FilteredBits.{word-kept_by}
 use Rattle.vb_filter.proofs.PendingLemmas.{Writes_up_to, Writes_up_to-more}
 use Rattle.vb_filter.proofs.bits.filter_into.Goals as goal
 
@@ -28,11 +28,11 @@ loop-t-preserved c =
     let t = c.loop-t.t in
     let added : ℕ = c.kept_digits-packed.result.1 in
     let inv = c.loop-t.invariant in
-    let word = word-kept mask (bits_of c.args.values) t 64 c.requires.same_len (omega arith) in
+    let word = word-kept_by mask (bits_of c.args.values) t 64 c.requires.same_len (omega arith) in
     record {
       written = c.push_digits-pending.ensures.written
           ∙ ap (λ l. l ++ digits c.kept_digits-packed.result.0 0 added) inv.written
-          ∙ ap (λ l. kept (take (64 * t) mask) (take (64 * t) (bits_of c.args.values)) ++ l)
+          ∙ ap (λ l. kept_by (take (64 * t) mask) (take (64 * t) (bits_of c.args.values)) ++ l)
           c.kept_digits-packed.ensures.kept
           ∙ sym word.front;
       number = ap (λ k. k + added) inv.number
@@ -46,7 +46,7 @@ loop-t-preserved c =
 
 pub push_digits-pending-requires-clause-room : goal.push_digits-pending-requires-clause-room
 push_digits-pending-requires-clause-room c =
-    let word = word-kept (bits_of c.args.mask) (bits_of c.args.values) c.loop-t.t 64
+    let word = word-kept_by (bits_of c.args.mask) (bits_of c.args.values) c.loop-t.t 64
     c.requires.same_len (omega arith) in
     record {
       inside = omega (
@@ -70,7 +70,7 @@ push_digits-pending-requires-clause-room c =
 
 pub overflow_add-len : goal.overflow_add-len
 overflow_add-len c =
-    let word = word-kept (bits_of c.args.mask) (bits_of c.args.values) c.loop-t.t 64
+    let word = word-kept_by (bits_of c.args.mask) (bits_of c.args.values) c.loop-t.t 64
     c.requires.same_len (omega arith) in
     omega (
       arith,
@@ -87,7 +87,7 @@ push_digits-pending-requires-2-clause-room c =
     let mask = bits_of c.args.mask in
     let q : ℕ = c.len-total.result / 64 in
     let end : c.loop-t.t ≡ q = omega arith in
-    let word = word-kept mask (bits_of c.args.values) q (c.len-total.result % 64)
+    let word = word-kept_by mask (bits_of c.args.values) q (c.len-total.result % 64)
     c.requires.same_len (omega (arith, c.len-total.ensures)) in
     record {
       inside = omega (
@@ -116,7 +116,7 @@ write_pending-requires c =
     let mask = bits_of c.args.mask in
     let q : ℕ = c.len-total.result / 64 in
     let end : c.loop-t.t ≡ q = omega arith in
-    let word = word-kept mask (bits_of c.args.values) q (c.len-total.result % 64)
+    let word = word-kept_by mask (bits_of c.args.values) q (c.len-total.result % 64)
     c.requires.same_len (omega (arith, c.len-total.ensures)) in
     omega (
       arith,
@@ -134,7 +134,7 @@ returns-clause-count c =
     let mask = bits_of c.args.mask in
     let q : ℕ = c.len-total.result / 64 in
     let end : c.loop-t.t ≡ q = omega arith in
-    let word = word-kept mask (bits_of c.args.values) q (c.len-total.result % 64)
+    let word = word-kept_by mask (bits_of c.args.values) q (c.len-total.result % 64)
     c.requires.same_len (omega (arith, c.len-total.ensures)) in
     omega (
       arith,
@@ -152,20 +152,21 @@ returns-clause-kept c =
     let q : ℕ = c.len-total.result / 64 in
     let end : c.loop-t.t ≡ q = omega arith in
     let total : length mask ≤ 64 * (q + 1) = omega (arith, c.len-total.ensures) in
-    let word = word-kept mask values q (c.len-total.result % 64) c.requires.same_len
+    let word = word-kept_by mask values q (c.len-total.result % 64) c.requires.same_len
     (omega (arith, c.len-total.ensures)) in
     let before : ℕ = c.loop-t.len in
     let added : ℕ = c.kept_digits-packed-2.result.1 in
     let len : ℕ = before + added in
     let out = c.push_digits-pending-2.new.out in
-    let front = kept (take (64 * q) mask) (take (64 * q) values) in
-    let all : written out c.push_digits-pending-2.result len ≡ kept mask values =
+    let front = kept_by (take (64 * q) mask) (take (64 * q) values) in
+    let all : first_bits out c.push_digits-pending-2.result len ≡ kept_by mask values =
     c.push_digits-pending-2.ensures.written
     ∙ ap (λ l. l ++ digits c.kept_digits-packed-2.result.0 0 added)
-    (c.loop-t.invariant.written ∙ ap (λ t. kept (take (64 * t) mask) (take (64 * t) values)) end)
+    (c.loop-t.invariant.written ∙ ap (λ t. kept_by (take (64 * t) mask) (take (64 * t) values)) end)
     ∙ ap (λ l. front ++ l) c.kept_digits-packed-2.ensures.kept ∙ sym word.front
-    ∙ ap (λ l. kept l (take (64 * (q + 1)) values)) (take_all (64 * (q + 1)) mask total)
-    ∙ ap (kept mask) (take_all (64 * (q + 1)) values (omega (arith, total, c.requires.same_len))) in
+    ∙ ap (λ l. kept_by l (take (64 * (q + 1)) values)) (take_all (64 * (q + 1)) mask total)
+    ∙ ap (kept_by mask) (take_all (64 * (q + 1)) values
+    (omega (arith, total, c.requires.same_len))) in
     subst (Writes c.args.out.now c.write_pending.new.out 0) all
     (Writes-add c.args.out.now out c.write_pending.new.out 0 (64 * (len / 64))
     (bits out 0 (64 * (len / 64))) (digits c.push_digits-pending-2.result 0 (len % 64))

@@ -3,10 +3,10 @@ use Rattle.std.specs.Prelude.{count_ones, slice_range}
 use Rattle.std.proofs.lemmas.Nat.{ones_le_self}
 use Rattle.vb_bits.specs.Bits.{count}
 use Rattle.vb_bits.specs.Digits.{digits}
-use Rattle.vb_bits.specs.Kept.{kept}
+use Rattle.vb_bits.specs.Kept.{kept_by}
 use Rattle.vb_bits.proofs.DigitsLemmas.{digits_none, count-digits_below}
 use Rattle.vb_view.specs.View.{bits_of}
-use Rattle.vb_filter.proofs.FilteredBits.{ones-of, kept-of, kept-zero}
+use Rattle.vb_filter.proofs.FilteredBits.{ones-of, kept_by-of, kept_by-zero}
 use Rattle.vb_filter.proofs.bits.kept_digits.Goals as goal
 
 pub returns-then-keep-eq0-clause-count : goal.returns-then-keep-eq0-clause-count
@@ -26,8 +26,8 @@ returns-then-keep-eq0-clause-kept c =
     let n = c.args.n in
     let values = slice_range (bits_of c.args.values) a (a + n) in
     digits_none 0 0
-    ∙ sym (ap (λ l. kept l values) (sym c.view_digits-keep.ensures.digits)
-    ∙ kept-zero c.view_digits-keep.result n values c.if-keep-eq0.true)
+    ∙ sym (ap (λ l. kept_by l values) (sym c.view_digits-keep.ensures.digits)
+    ∙ kept_by-zero c.view_digits-keep.result n values c.if-keep-eq0.true)
 
 pub returns-clause-count : goal.returns-clause-count
 returns-clause-count c =
@@ -40,7 +40,7 @@ returns-clause-kept c =
     let many : count (digits keep 0 64) ≡ count_ones keep =
     count-digits_below keep 64 (omega arith) in
     ap (digits c.pack_digits-packed.result 0) (sym many) ∙ c.pack_digits-packed.ensures.kept
-    ∙ kept-of (bits_of c.args.mask) (bits_of c.args.values) keep c.view_digits.result
+    ∙ kept_by-of (bits_of c.args.mask) (bits_of c.args.values) keep c.view_digits.result
     c.args.start c.args.n c.view_digits-keep.ensures.clear c.requires.few
     c.view_digits-keep.ensures.digits c.view_digits.ensures.digits
 

@@ -1,7 +1,7 @@
 use Rattle.std.proofs.Common.{◌≡◌, ℕ, ◌++◌, length, take, sym, ap, ◌∙◌, arith}
 use Rattle.std.proofs.lemmas.Slice.{take-put_mid, drop-put_mid}
 use Rattle.vb_bits.specs.Digits.{digits}
-use Rattle.vb_bits.specs.Kept.{kept}
+use Rattle.vb_bits.specs.Kept.{kept_by}
 use Rattle.vb_bits.proofs.DigitsLemmas.{length-digits, count-digits_below}
 use Rattle.vb_filter.proofs.GatherLemmas.{kept_all}
 use Rattle.vb_filter.proofs.gather.put_word.Goals as goal
@@ -15,7 +15,7 @@ returns-then-count-values-clause-kept g c =
     let out = c.args.out.now in
     let ys = c.copy_from_slice.new.self in
     let full = count-digits_below keep n c.requires.clear in
-    let all : ys ≡ kept (digits keep 0 n) values =
+    let all : ys ≡ kept_by (digits keep 0 n) values =
     c.copy_from_slice.ensures.after ∙ sym (kept_all (digits keep 0 n) values
     (length-digits keep 0 n) (omega (arith, full, length-digits keep 0 n))) in
     record {

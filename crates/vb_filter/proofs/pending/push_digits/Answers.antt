@@ -4,14 +4,15 @@ use Rattle.std.proofs.lemmas.Nat.{shr-shr}
 use Rattle.vb_bits.specs.Digits.{digits}
 use Rattle.vb_bits.specs.Writes.{Writes}
 use Rattle.vb_bits.proofs.DigitsLemmas.{length-digits}
-use Rattle.vb_filter.specs.Pending.{written}
-use Rattle.vb_filter.proofs.PendingLemmas.{joined, joined-lt, written-in_word, written-past_word}
+use Rattle.vb_filter.specs.Pending.{first_bits}
+use Rattle.vb_filter.proofs.PendingLemmas.{joined, joined-lt, first_bits-in_word}
+use Rattle.vb_filter.proofs.PendingLemmas.{first_bits-past_word}
 use Rattle.vb_filter.proofs.PendingLemmas.{rest-lt, Writes_up_to}
 use Rattle.vb_filter.proofs.pending.push_digits.Goals as goal
 
 pub returns-then-shift-n-lt64-clause-written : goal.returns-then-shift-n-lt64-clause-written
 returns-then-shift-n-lt64-clause-written c =
-    written-in_word c.args.out.now c.args.pending c.args.word c.args.len c.args.n
+    first_bits-in_word c.args.out.now c.args.pending c.args.word c.args.len c.args.n
     c.requires.pending c.if-shift-n-lt64.true
 
 pub returns-then-shift-n-lt64-clause-clear : goal.returns-then-shift-n-lt64-clause-clear
@@ -39,9 +40,9 @@ returns-clause-written c =
     let place : 8 * (8 * (c.args.len / 64)) ≡ 64 * (c.args.len / 64) = omega arith in
     let write = subst (λ k. Writes c.args.out.now c.write_word.new.bytes k
     (digits (joined c.args.pending c.args.word s) 0 64)) place c.write_word.ensures in
-    ap (λ r. written c.write_word.new.bytes r (c.args.len + c.args.n))
+    ap (λ r. first_bits c.write_word.new.bytes r (c.args.len + c.args.n))
     (rest_is c.args.word s (omega arith))
-    ∙ written-past_word c.args.out.now c.write_word.new.bytes c.args.pending c.args.word
+    ∙ first_bits-past_word c.args.out.now c.write_word.new.bytes c.args.pending c.args.word
     c.args.len c.args.n c.requires.pending c.if-shift-n-lt64.false c.requires.few write
 
 pub returns-clause-clear : goal.returns-clause-clear

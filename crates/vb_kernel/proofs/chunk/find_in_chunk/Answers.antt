@@ -1,5 +1,5 @@
 use Rattle.std.proofs.Common.{ℕ, List, Bool, arith, refl}
-use Rattle.vb_kernel.proofs.SearchesLemmas.{Searched_on, count-matching-bits_none}
+use Rattle.vb_kernel.proofs.SearchesLemmas.{Searched_on, count-hits-bits_none}
 use Rattle.vb_kernel.proofs.chunk.find_in_chunk.Goals as goal
 
 pub returns : goal.returns
@@ -7,4 +7,4 @@ returns c =
     let chunk : List ℕ = c.args.chunk.now in let v : Bool = c.args.value in
     Searched_on v chunk c.new.result.bytes 0 0
     512 512 c.args.n c.args.n c.find_in_units.result c.new.ensures.bytes refl
-    (omega (arith, count-matching-bits_none v chunk 0)) c.find_in_units.ensures.found
+    (omega (arith, count-hits-bits_none v chunk 0)) c.find_in_units.ensures.found

@@ -1,5 +1,5 @@
 use Rattle.std.proofs.Common.{◌+◌, ◌-◌, ◌*◌, ◌/◌, ℕ, List, true, arith}
-use Rattle.vb_kernel.proofs.SearchesLemmas.{count-matching-bits_split}
+use Rattle.vb_kernel.proofs.SearchesLemmas.{count-hits-bits_split}
 use Rattle.vb_kernel.proofs.count.add_chunks.Goals as goal
 
 pub returns-clause-value : goal.returns-clause-value
@@ -11,6 +11,6 @@ returns-clause-value g c =
       arith,
       c.add_few-rest.ensures.value,
       rw c.add_few-rest.ensures.looks.same at c.count_quarters.ensures.value,
-      count-matching-bits_split true b o (8192 * t) (512 * c.args.n)
+      count-hits-bits_split true b o (8192 * t) (512 * c.args.n)
           (8 * (c.args.at + 1024 * t)) (512 * (c.args.n - 16 * t)) (omega arith) (omega arith),
     )

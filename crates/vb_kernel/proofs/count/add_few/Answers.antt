@@ -1,6 +1,6 @@
 use Rattle.std.proofs.Common.{◌+◌, ◌*◌, ◌/◌, ◌%◌, ℕ, List, true, ap, arith, ◌∙◌}
 use Rattle.vb_bits.specs.Bits.{bits, count}
-use Rattle.vb_kernel.proofs.SearchesLemmas.{count-matching-bits_split}
+use Rattle.vb_kernel.proofs.SearchesLemmas.{count-hits-bits_split}
 use Rattle.vb_kernel.proofs.count.add_few.Goals as goal
 
 pub loop-k-preserved : goal.loop-k-preserved
@@ -15,7 +15,7 @@ loop-k-preserved g c =
         c.loop-k.invariant.value,
         c.sum_chunks.ensures.value,
         ap (λ x. count (bits x place 1024)) c.loop-k.invariant.looks.same,
-        count-matching-bits_split true b
+        count-hits-bits_split true b
             (8 * c.args.at) m (1024 * (c.loop-k.k + 1)) place 1024 (omega arith) (omega arith),
       );
       looks = record {
@@ -37,6 +37,6 @@ returns-clause-value g c =
       c.loop-k.invariant.value,
       c.sum_chunks-2.ensures.value,
       ap (λ x. count (bits x place rest)) c.loop-k.invariant.looks.same,
-      count-matching-bits_split true b
+      count-hits-bits_split true b
           (8 * c.args.at) m (512 * c.args.n) place rest (omega arith) (omega arith),
     )

@@ -1,7 +1,7 @@
 use Rattle.std.proofs.Common.{◌≡◌, ◌+◌, ◌-◌, ◌*◌, ◌/◌, ◌%◌, ℕ, List, true, ap, arith, ◌∙◌}
 use Rattle.vb_bits.specs.Bits.{bits, count}
 use Rattle.vb_bits.proofs.BitsLemmas.{count-bits_none}
-use Rattle.vb_kernel.proofs.SearchesLemmas.{count-matching-bits_split}
+use Rattle.vb_kernel.proofs.SearchesLemmas.{count-hits-bits_split}
 use Rattle.vb_kernel.proofs.count.count_long.Goals as goal
 use Rattle.vb_kernel.proofs.count.count_long.Goals.{After-add_chunks, then-rest-eq0, else-rest-eq0}
 
@@ -42,7 +42,7 @@ returns-clause-value g c =
       counted.0,
       c.count_head-ones.ensures.value,
       rw counted.1 at c.add_chunks.ensures.value,
-      count-matching-bits_split true b o head (head + chunks) (8 * at) chunks aligned (omega arith),
-      count-matching-bits_split true b o
+      count-hits-bits_split true b o head (head + chunks) (8 * at) chunks aligned (omega arith),
+      count-hits-bits_split true b o
           (head + chunks) c.args.len place (left % 512) (omega arith) (omega arith),
     )

@@ -1,5 +1,5 @@
 use Rattle.std.proofs.Common.{◌+◌, ◌*◌, ℕ, List, true, arith, ◌∙◌}
-use Rattle.vb_kernel.proofs.SearchesLemmas.{count-matching-bits_split}
+use Rattle.vb_kernel.proofs.SearchesLemmas.{count-hits-bits_split}
 use Rattle.vb_kernel.proofs.count.count_quarters.Goals as goal
 
 pub loop-k-preserved : goal.loop-k-preserved
@@ -14,13 +14,13 @@ loop-k-preserved g c =
         arith,
         c.loop-k.invariant.value,
         rw same at c.add-sum.ensures.value,
-        count-matching-bits_split true b (8 * at) (2048 * k)
+        count-hits-bits_split true b (8 * at) (2048 * k)
             (2048 * (k + 1)) (8 * (at + 256 * k)) 2048 (omega arith) (omega arith),
-        count-matching-bits_split true b (8 * (at + 256 * p)) (2048 * k)
+        count-hits-bits_split true b (8 * (at + 256 * p)) (2048 * k)
             (2048 * (k + 1)) (8 * (at + 256 * k + 256 * p)) 2048 (omega arith) (omega arith),
-        count-matching-bits_split true b (8 * (at + 256 * (2 * p))) (2048 * k)
+        count-hits-bits_split true b (8 * (at + 256 * (2 * p))) (2048 * k)
             (2048 * (k + 1)) (8 * (at + 256 * k + 2 * (256 * p))) 2048 (omega arith) (omega arith),
-        count-matching-bits_split true b (8 * (at + 256 * (3 * p))) (2048 * k)
+        count-hits-bits_split true b (8 * (at + 256 * (3 * p))) (2048 * k)
             (2048 * (k + 1)) (8 * (at + 256 * k + 3 * (256 * p))) 2048 (omega arith) (omega arith),
       );
       looks = record {
@@ -40,10 +40,10 @@ returns-clause-value g c =
       arith,
       c.total.ensures,
       c.loop-k.invariant.value,
-      count-matching-bits_split true b
+      count-hits-bits_split true b
           (8 * at) m (2 * m) (8 * (at + 256 * p)) m (omega arith) (omega arith),
-      count-matching-bits_split true b
+      count-hits-bits_split true b
           (8 * at) (2 * m) (3 * m) (8 * (at + 256 * (2 * p))) m (omega arith) (omega arith),
-      count-matching-bits_split true b
+      count-hits-bits_split true b
           (8 * at) (3 * m) (8192 * p) (8 * (at + 256 * (3 * p))) m (omega arith) (omega arith),
     )

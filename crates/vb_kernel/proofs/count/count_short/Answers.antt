@@ -1,7 +1,7 @@
 use Rattle.std.proofs.Common.{◌≡◌, ◌+◌, ◌-◌, ◌*◌, ◌/◌, ◌%◌, ℕ, List, true, refl, ap, arith}
 use Rattle.vb_bits.specs.Bits.{count}
 use Rattle.vb_bits.proofs.BytesLemmas.{bits_of_read}
-use Rattle.vb_kernel.proofs.SearchesLemmas.{count-matching-bits_split}
+use Rattle.vb_kernel.proofs.SearchesLemmas.{count-hits-bits_split}
 use Rattle.vb_kernel.proofs.count.count_short.Goals as goal
 
 pub returns-then-len-head-lt512-clause-value : goal.returns-then-len-head-lt512-clause-value
@@ -14,7 +14,7 @@ returns-then-len-head-lt512-clause-value g c =
       arith,
       c.count_head-ones.ensures.value,
       rw c.count_head-ones.ensures.looks.same at c.add_rest.ensures.value,
-      count-matching-bits_split true b o head c.args.len
+      count-hits-bits_split true b o head c.args.len
           (8 * ((o + head) / 8)) (c.args.len - head) aligned (omega arith),
     )
 
@@ -32,5 +32,5 @@ returns-else-len-head-lt512-clause-value g c =
       c.count_head-ones.ensures.value,
       c.chunk_ones.ensures,
       ap count chunk,
-      count-matching-bits_split true b o head c.args.len (8 * at) 512 aligned (omega arith),
+      count-hits-bits_split true b o head c.args.len (8 * at) 512 aligned (omega arith),
     )

@@ -1,5 +1,5 @@
 use Rattle.std.proofs.Common.{◌+◌, ◌*◌, ℕ, List, true, refl, arith, ◌∙◌}
-use Rattle.vb_kernel.proofs.SearchesLemmas.{count-matching-bits_split}
+use Rattle.vb_kernel.proofs.SearchesLemmas.{count-hits-bits_split}
 use Rattle.vb_kernel.proofs.counter.add_four.Goals as goal
 
 pub returns-clause-value : goal.returns-clause-value
@@ -17,7 +17,7 @@ returns-clause-value g c =
       rw same1 at c.ones_at-second.ensures.value,
       rw same2 at c.ones_at-third.ensures.value,
       rw same3 at c.ones_at-fourth.ensures.value,
-      count-matching-bits_split true b (8 * at) 512 1024 (8 * (at + 64)) 512 (omega arith) refl,
-      count-matching-bits_split true b (8 * at) 1024 1536 (8 * (at + 128)) 512 (omega arith) refl,
-      count-matching-bits_split true b (8 * at) 1536 2048 (8 * (at + 192)) 512 (omega arith) refl,
+      count-hits-bits_split true b (8 * at) 512 1024 (8 * (at + 64)) 512 (omega arith) refl,
+      count-hits-bits_split true b (8 * at) 1024 1536 (8 * (at + 128)) 512 (omega arith) refl,
+      count-hits-bits_split true b (8 * at) 1536 2048 (8 * (at + 192)) 512 (omega arith) refl,
     )

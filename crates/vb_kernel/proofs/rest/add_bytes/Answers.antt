@@ -1,7 +1,7 @@
 use Rattle.std.proofs.Common.{◌-◌, ◌+◌, ◌*◌, ◌/◌, ◌%◌, ℕ, List, true, arith, ◌∙◌}
 use Rattle.vb_bits.proofs.BitsLemmas.{count-bits-le}
 use Rattle.vb_kernel.proofs.RestLemmas.{ones_of_byte}
-use Rattle.vb_kernel.proofs.SearchesLemmas.{count-matching-bits_split}
+use Rattle.vb_kernel.proofs.SearchesLemmas.{count-hits-bits_split}
 use Rattle.vb_kernel.proofs.rest.add_bytes.Goals as goal
 
 pub returns-then-n-eq0-clause-value : goal.returns-then-n-eq0-clause-value
@@ -13,7 +13,7 @@ returns-then-n-eq0-clause-value g c =
       arith,
       c.add_four_bytes-four.ensures.value,
       rw c.add_four_bytes-four.ensures.looks.same at c.add_two_bytes-six.ensures.value,
-      count-matching-bits_split true b (8 * at) (32 * (n / 4))
+      count-hits-bits_split true b (8 * at) (32 * (n / 4))
           (8 * n) (8 * (at + n / 4 * 4)) (16 * (n % 4 / 2)) (omega arith) (omega arith),
     )
 
@@ -29,9 +29,9 @@ returns-else-n-eq0-clause-value g c =
       c.add_four_bytes-four.ensures.value,
       rw same1 at c.add_two_bytes-six.ensures.value,
       ones_of_byte b c.byte.result (at + n - 1) (rw same2 at c.byte.ensures.value) c.byte.type_inv,
-      count-matching-bits_split true b (8 * at) (32 * (n / 4)) (8 * (n - 1))
+      count-hits-bits_split true b (8 * at) (32 * (n / 4)) (8 * (n - 1))
           (8 * (at + n / 4 * 4)) (16 * (n % 4 / 2)) (omega arith) (omega arith),
-      count-matching-bits_split true b
+      count-hits-bits_split true b
           (8 * at) (8 * (n - 1)) (8 * n) (8 * (at + n - 1)) 8 (omega arith) (omega arith),
     )
 

@@ -1,5 +1,5 @@
 use Rattle.std.proofs.Common.{◌+◌, ◌*◌, ℕ, List, true, min, arith}
-use Rattle.vb_kernel.proofs.SearchesLemmas.{count-matching-bits_split}
+use Rattle.vb_kernel.proofs.SearchesLemmas.{count-hits-bits_split}
 use Rattle.vb_kernel.proofs.rest.add_pair.Goals as goal
 
 pub returns-clause-value : goal.returns-clause-value
@@ -13,7 +13,7 @@ returns-clause-value g c =
       arith,
       c.count_word-first.ensures.value,
       rw c.count_word-first.ensures.looks.same at c.count_word-second.ensures.value,
-      count-matching-bits_split true b o before after place 128 (omega arith) (omega arith),
-      count-matching-bits_split true b place 64 128 (8 * (c.args.at + 16 * k + 8)) 64
+      count-hits-bits_split true b o before after place 128 (omega arith) (omega arith),
+      count-hits-bits_split true b place 64 128 (8 * (c.args.at + 16 * k + 8)) 64
           (omega arith) (omega arith),
     )

@@ -1,5 +1,5 @@
 use Rattle.std.proofs.Common.{◌+◌, ◌*◌, ◌/◌, ◌%◌, ℕ, List, true, arith, ◌∙◌}
-use Rattle.vb_kernel.proofs.SearchesLemmas.{count-matching-bits_split}
+use Rattle.vb_kernel.proofs.SearchesLemmas.{count-hits-bits_split}
 use Rattle.vb_kernel.proofs.rest.add_rest.Goals as goal
 
 pub returns-clause-value : goal.returns-clause-value
@@ -15,8 +15,8 @@ returns-clause-value g c =
       c.add_words-words.ensures.value,
       rw same1 at c.add_bytes-bytes.ensures.value,
       rw same2 at c.add_tail.ensures.value,
-      count-matching-bits_split true b (8 * at) words whole
+      count-hits-bits_split true b (8 * at) words whole
           (8 * (at + len / 64 * 8)) (8 * (len % 64 / 8)) (omega arith) (omega arith),
-      count-matching-bits_split true b
+      count-hits-bits_split true b
           (8 * at) whole len (8 * (at + len / 8)) (len % 8) (omega arith) (omega arith),
     )

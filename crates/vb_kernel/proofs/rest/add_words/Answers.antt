@@ -1,7 +1,7 @@
 use Rattle.std.proofs.Common.{◌≡◌, ◌+◌, ◌-◌, ◌*◌, ◌/◌, ℕ, List, true, min, ap, arith, ◌∙◌}
 use Rattle.vb_bits.specs.Bits.{bits, count}
 use Rattle.vb_bits.proofs.BitsLemmas.{count-bits_none}
-use Rattle.vb_kernel.proofs.SearchesLemmas.{count-matching-bits_split}
+use Rattle.vb_kernel.proofs.SearchesLemmas.{count-hits-bits_split}
 use Rattle.vb_kernel.proofs.rest.add_words.Goals as goal
 
 pub returns-else-n-eq0-clause-value : goal.returns-else-n-eq0-clause-value
@@ -23,6 +23,6 @@ returns-else-n-eq0-clause-value g c =
       ap (λ m. count (bits b o m)) none,
       count-bits_none b o,
       ap (λ m. count (bits b o m)) all,
-      count-matching-bits_split true b o
+      count-hits-bits_split true b o
           (64 * (n - 1)) (64 * n) (8 * (c.args.at + 8 * n - 8)) 64 (omega arith) (omega arith),
     )

@@ -2,10 +2,10 @@ use Rattle.std.proofs.Common.{◌+◌, ◌^◌, ◌≤◌, ℕ, List, Bool, Some
 use Rattle.std.proofs.Common.{pow_mono}
 use Rattle.std.below.core.specs.declared.ops.ControlFlow.TheVariants.{Break}
 use Rattle.vb_bits.specs.Bits.{bits, count, Selects}
-use Rattle.vb_kernel.specs.Searches.{matching, Searched}
+use Rattle.vb_kernel.specs.Searches.{hits, Searched}
 use Rattle.vb_bits.proofs.BytesLemmas.{bits_of_read_byte}
 use Rattle.vb_bits.proofs.DigitsLemmas.{count-digits_below}
-use Rattle.vb_kernel.proofs.SearchesLemmas.{count-matching-bits-add, Searched_inside}
+use Rattle.vb_kernel.proofs.SearchesLemmas.{count-hits-bits-add, Searched_inside}
 use Rattle.vb_kernel.proofs.SearchesLemmas.{Searched_after, Selects-digits_below}
 use Rattle.vb_kernel.proofs.search.find_in_part.Given.{Over}
 use Rattle.vb_kernel.proofs.search.find_in_part.Goals as goal
@@ -23,9 +23,9 @@ select_in_byte-requires g c =
 
 -- what was found in the byte is what is sought in the window
 found : (g : Over) (c : After-struct_known-then-search-here-1 g)
-    → Searched (matching c.args.search.value (bits
+    → Searched (hits c.args.search.value (bits
     (g.G.Glance.seen c.args.src.now).bytes c.args.search.offset (c.args.search.from + c.args.len)))
-    (c.args.search.n + count (matching c.args.search.value
+    (c.args.search.n + count (hits c.args.search.value
     (bits (g.G.Glance.seen c.args.src.now).bytes c.args.search.offset c.args.search.from)))
     (Break (c.args.search.from + c.select_in_byte.result))
 found g c =
@@ -35,7 +35,7 @@ found g c =
     let len : ℕ = c.args.len in
     let in_byte = c.requires.in_byte (omega arith) in let place : ℕ = c.select_in_byte.result in
     let sought = c.byte_part-part.ensures.digits
-    ∙ ap (matching v) (bits_of_read_byte b c.byte.result at len c.byte.ensures.value in_byte) in
+    ∙ ap (hits v) (bits_of_read_byte b c.byte.result at len c.byte.ensures.value in_byte) in
     let here = Selects-digits_below c.byte_part-part.result len 8 c.args.search.n place
     (omega arith) c.byte_part-part.ensures.clear c.select_in_byte.ensures in
     Searched_after v b c.args.search.offset c.args.search.from len _ c.args.search.n place refl
@@ -59,11 +59,11 @@ returns-else-search-here-clause-found g c =
     let v : Bool = c.args.search.value in
     let at : ℕ = c.args.search.offset + c.args.search.from in
     let len : ℕ = c.args.len in
-    let sought = c.byte_part-part.ensures.digits ∙ ap (matching v) (bits_of_read_byte
+    let sought = c.byte_part-part.ensures.digits ∙ ap (hits v) (bits_of_read_byte
     b c.byte.result at len c.byte.ensures.value (c.requires.in_byte (omega arith))) in
     omega (
       arith,
       count-digits_below c.byte_part-part.result len c.byte_part-part.ensures.clear,
       ap count sought,
-      count-matching-bits-add v b c.args.search.offset c.args.search.from len,
+      count-hits-bits-add v b c.args.search.offset c.args.search.from len,
     )

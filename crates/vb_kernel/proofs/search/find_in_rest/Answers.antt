@@ -1,7 +1,7 @@
 use Rattle.std.proofs.Common.{◌+◌, ◌*◌, ◌/◌, ◌%◌, ℕ, List, Bool, refl, arith, ◌∙◌}
 use Rattle.std.below.core.specs.declared.ops.ControlFlow.TheVariants.{Continue, Break}
 use Rattle.vb_bits.specs.Bits.{bits, count}
-use Rattle.vb_kernel.specs.Searches.{matching}
+use Rattle.vb_kernel.specs.Searches.{hits}
 use Rattle.vb_kernel.proofs.SearchesLemmas.{Searched_on, Searched_longer}
 use Rattle.vb_kernel.proofs.search.find_in_rest.Goals as goal
 
@@ -12,7 +12,7 @@ returns-in_err-search-clause-found g c =
     let o : ℕ = c.args.search.offset in
     let from : ℕ = c.args.search.from in
     let len : ℕ = c.args.len in
-    let n : ℕ = c.args.search.n + count (matching v (bits b o from)) in
+    let n : ℕ = c.args.search.n + count (hits v (bits b o from)) in
     let place : ℕ = c.in_err-search.field-0.0 in
     rw c.from_residual.ensures (Searched_longer v b o (from + 8 * (8 * (len / 64))) (from + len) n
     place (omega arith) c.in_err-search.ensures.found)
@@ -24,7 +24,7 @@ returns-in_err-search-2-clause-found g c =
     let o : ℕ = c.args.search.offset in
     let from : ℕ = c.args.search.from in
     let len : ℕ = c.args.len in
-    let n : ℕ = c.args.search.n + count (matching v (bits b o from)) in
+    let n : ℕ = c.args.search.n + count (hits v (bits b o from)) in
     let place : ℕ = c.in_err-search-2.field-0.0 in
     let bytes : ℕ = from + len / 64 * 64 in let tail : ℕ = from + len / 8 * 8 in
     let after_words = Searched_on v b b o from (from + 8 * (8 * (len / 64))) bytes n c.args.search.n
@@ -43,7 +43,7 @@ returns-clause-found g c =
     let o : ℕ = c.args.search.offset in
     let from : ℕ = c.args.search.from in
     let len : ℕ = c.args.len in
-    let n : ℕ = c.args.search.n + count (matching v (bits b o from)) in
+    let n : ℕ = c.args.search.n + count (hits v (bits b o from)) in
     let bytes : ℕ = from + len / 64 * 64 in let tail : ℕ = from + len / 8 * 8 in
     let after_words = Searched_on v b b o from (from + 8 * (8 * (len / 64))) bytes n c.args.search.n
     (Continue c.in_ok-search.field-0) refl (omega arith) refl c.in_ok-search.ensures.found in

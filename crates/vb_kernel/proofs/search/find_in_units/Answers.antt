@@ -1,7 +1,7 @@
 use Rattle.std.proofs.Common.{◌+◌, ◌*◌, ℕ, List, refl, arith, ◌∙◌, ap}
 use Rattle.std.below.core.specs.declared.ops.ControlFlow.TheVariants.{Break}
 use Rattle.vb_bits.specs.Bits.{bits, count}
-use Rattle.vb_kernel.specs.Searches.{matching, Searched}
+use Rattle.vb_kernel.specs.Searches.{hits, Searched}
 use Rattle.vb_kernel.proofs.SearchesLemmas.{Searched_inside}
 use Rattle.vb_kernel.proofs.UnitsLemmas.{units_none, units_more, units_within, bits_of_unit}
 use Rattle.vb_kernel.proofs.UnitsLemmas.{count_unit_more, found_in_unit}
@@ -11,16 +11,16 @@ use Rattle.vb_kernel.proofs.search.find_in_units.Goals.{After-struct_known-then-
 
 pub loop-k-init : goal.loop-k-init
 loop-k-init g c = record {
-  passed = ap (λ x. c.args.search.n + count (matching c.args.search.value (bits (g.G.Glance.seen
+  passed = ap (λ x. c.args.search.n + count (hits c.args.search.value (bits (g.G.Glance.seen
       c.args.src.now).bytes c.args.search.offset x))) (omega (arith, units_none g.U.Unit.SIZE));
   looks = record { same = refl; looks = omega arith };
 }
 
 -- what was found in a unit is what is sought in the window
 found : (g : Over) (c : After-struct_known-then-left-here-1 g)
-    → Searched (matching c.args.search.value (bits (g.G.Glance.seen c.args.src.now).bytes
+    → Searched (hits c.args.search.value (bits (g.G.Glance.seen c.args.src.now).bytes
     c.args.search.offset (c.args.search.from + 8 * (g.U.Unit.SIZE * c.args.units))))
-    (c.args.search.n + count (matching c.args.search.value
+    (c.args.search.n + count (hits c.args.search.value
     (bits (g.G.Glance.seen c.args.src.now).bytes c.args.search.offset c.args.search.from)))
     (Break (c.args.search.from + 8 * (c.SIZE.result * c.loop-k.k) + c.select-place.result))
 found g c =
@@ -35,7 +35,7 @@ found g c =
     (c.requires.aligned (omega arith)) (omega arith) c.read-unit.ensures.value in
     rw c.SIZE.ensures
     (found_in_unit c.args.search.value b xs c.args.search.offset at (c.args.search.from
-    + 8 * (w * c.args.units)) w (c.args.search.n + count (matching c.args.search.value
+    + 8 * (w * c.args.units)) w (c.args.search.n + count (hits c.args.search.value
     (bits b c.args.search.offset c.args.search.from))) c.loop-k.left c.select-place.result
     (omega (arith, units_within w k c.args.units (omega arith)))
     is c.loop-k.invariant.passed c.select-place.ensures)

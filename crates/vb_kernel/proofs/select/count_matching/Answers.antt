@@ -1,5 +1,5 @@
 use Rattle.std.proofs.Common.{◌*◌, arith}
-use Rattle.vb_kernel.proofs.SearchesLemmas.{count-matching-bits_true, count-matching-bits_false}
+use Rattle.vb_kernel.proofs.SearchesLemmas.{count-hits-bits_true, count-hits-bits_false}
 use Rattle.vb_kernel.proofs.select.count_matching.Goals as goal
 
 pub returns-then-value-clause-value : goal.returns-then-value-clause-value
@@ -7,7 +7,7 @@ returns-then-value-clause-value g c =
     omega (
       arith,
       c.add_chunks-ones.ensures.value,
-      count-matching-bits_true c.args.value
+      count-hits-bits_true c.args.value
           (g.G.Glance.seen c.args.src.now).bytes (8 * c.args.at) (512 * c.args.n) c.if-value.true,
     )
 
@@ -16,6 +16,6 @@ returns-else-value-clause-value g c =
     omega (
       arith,
       c.add_chunks-ones.ensures.value,
-      count-matching-bits_false c.args.value
+      count-hits-bits_false c.args.value
           (g.G.Glance.seen c.args.src.now).bytes (8 * c.args.at) (512 * c.args.n) c.if-value.false,
     )

@@ -1,8 +1,8 @@
 use Rattle.std.proofs.Common.{◌≡◌, ◌+◌, ◌*◌, ℕ, List, Bool, refl, arith, ◌∙◌}
 use Rattle.std.below.core.specs.declared.ops.ControlFlow.TheVariants.{Continue, Break}
 use Rattle.vb_bits.specs.Bits.{bits, count}
-use Rattle.vb_kernel.specs.Searches.{matching}
-use Rattle.vb_kernel.proofs.SearchesLemmas.{count-matching-bits_none, Searched_on, Searched_longer}
+use Rattle.vb_kernel.specs.Searches.{hits}
+use Rattle.vb_kernel.proofs.SearchesLemmas.{count-hits-bits_none, Searched_on, Searched_longer}
 use Rattle.vb_kernel.proofs.select.find.Goals as goal
 
 pub returns-in_err-search-clause-found : goal.returns-in_err-search-clause-found
@@ -12,8 +12,8 @@ returns-in_err-search-clause-found g c =
     let o : ℕ = c.args.offset in
     let n : ℕ = c.args.n in
     let head : ℕ = c.of-parts.result.head in let place : ℕ = c.in_err-search.field-0.0 in
-    let all : n ≡ n + count (matching v (bits b o 0)) =
-    omega (arith, count-matching-bits_none v b o) in
+    let all : n ≡ n + count (hits v (bits b o 0)) =
+    omega (arith, count-hits-bits_none v b o) in
     let found = Searched_on v b b o 0 (0 + head) head n n (Break place) refl
     (omega arith) all c.in_err-search.ensures.found in
     rw c.from_residual.ensures (Searched_longer v b o head c.args.len n place (omega arith) found)
@@ -27,8 +27,8 @@ returns-in_err-search-2-clause-found g c =
     let head : ℕ = c.of-parts.result.head in
     let chunks : ℕ = c.of-parts.result.chunks in
     let place : ℕ = c.in_err-search-2.field-0.0 in
-    let all : n ≡ n + count (matching v (bits b o 0)) =
-    omega (arith, count-matching-bits_none v b o) in
+    let all : n ≡ n + count (hits v (bits b o 0)) =
+    omega (arith, count-hits-bits_none v b o) in
     let after_head = Searched_on v b b o 0 (0 + head) head n n
     (Continue c.in_ok-search.field-0) refl (omega arith) all c.in_ok-search.ensures.found in
     let found = Searched_on v b (g.G.Glance.seen c.find_in_part.new.src).bytes o head
@@ -46,8 +46,8 @@ returns-clause-found g c =
     let head : ℕ = c.of-parts.result.head in
     let chunks : ℕ = c.of-parts.result.chunks in
     let rest : ℕ = head + 512 * chunks in
-    let all : n ≡ n + count (matching v (bits b o 0)) =
-    omega (arith, count-matching-bits_none v b o) in
+    let all : n ≡ n + count (hits v (bits b o 0)) =
+    omega (arith, count-hits-bits_none v b o) in
     let after_head = Searched_on v b b o 0 (0 + head) head n n
     (Continue c.in_ok-search.field-0) refl (omega arith) all c.in_ok-search.ensures.found in
     let after_chunks = Searched_on v b (g.G.Glance.seen c.find_in_part.new.src).bytes

@@ -1,7 +1,7 @@
 use Rattle.std.proofs.Common.{◌+◌, ◌*◌, ℕ, List, Bool, refl, arith, ◌∙◌}
 use Rattle.std.below.core.specs.declared.ops.ControlFlow.TheVariants.{Break}
 use Rattle.vb_bits.specs.Bits.{bits, count}
-use Rattle.vb_kernel.specs.Searches.{matching, Searched}
+use Rattle.vb_kernel.specs.Searches.{hits, Searched}
 use Rattle.vb_kernel.proofs.SearchesLemmas.{Searched_inside}
 use Rattle.vb_kernel.proofs.UnitsLemmas.{bits_of_unit, count_unit_more, found_in_unit}
 use Rattle.vb_kernel.proofs.select.find_in_chunks.Given.{Over}
@@ -10,9 +10,9 @@ use Rattle.vb_kernel.proofs.select.find_in_chunks.Goals.{After-struct_known-in-B
 
 -- what was found in a chunk is what is sought in the window
 found : (g : Over) (c : After-struct_known-in-Break-1 g)
-    → Searched (matching c.args.search.value (bits (g.G.Glance.seen c.args.src.now).bytes
+    → Searched (hits c.args.search.value (bits (g.G.Glance.seen c.args.src.now).bytes
     c.args.search.offset (c.args.search.from + 512 * c.args.chunks)))
-    (c.args.search.n + count (matching c.args.search.value
+    (c.args.search.n + count (hits c.args.search.value
     (bits (g.G.Glance.seen c.args.src.now).bytes c.args.search.offset c.args.search.from)))
     (Break (c.args.search.from + 512 * c.loop-k.k + c.in-Break.place))
 found g c =
@@ -26,7 +26,7 @@ found g c =
     (o + c.args.search.from) (o + at) 64 64 k c.loop-k.invariant.looks.same refl
     (c.requires.aligned (omega arith)) (omega arith) c.chunk-chunk.ensures.value in
     found_in_unit v b xs o at (c.args.search.from + 512 * c.args.chunks) 64 (c.args.search.n
-    + count (matching v (bits b o c.args.search.from))) c.loop-k.left c.in-Break.place
+    + count (hits v (bits b o c.args.search.from))) c.loop-k.left c.in-Break.place
     (omega arith) is c.loop-k.invariant.passed c.in-Break.ensures
 
 pub overflow_add-result-in-Break : goal.overflow_add-result-in-Break

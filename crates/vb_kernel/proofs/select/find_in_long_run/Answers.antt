@@ -1,9 +1,9 @@
 use Rattle.std.proofs.Common.{◌≡◌, ◌+◌, ◌*◌, ℕ, List, Bool, refl, arith, ◌∙◌}
 use Rattle.std.below.core.specs.declared.ops.ControlFlow.TheVariants.{Continue}
 use Rattle.vb_bits.specs.Bits.{bits, count}
-use Rattle.vb_kernel.specs.Searches.{matching}
+use Rattle.vb_kernel.specs.Searches.{hits}
 use Rattle.vb_kernel.proofs.SearchesLemmas.{Searched_on, Searched_longer, Searched_front}
-use Rattle.vb_kernel.proofs.SearchesLemmas.{count-matching-bits-add, count-matching-bits_split}
+use Rattle.vb_kernel.proofs.SearchesLemmas.{count-hits-bits-add, count-hits-bits_split}
 use Rattle.vb_kernel.proofs.select.find_in_long_run.Goals as goal
 
 pub returns-in_err-search-clause-found : goal.returns-in_err-search-clause-found
@@ -13,7 +13,7 @@ returns-in_err-search-clause-found g c =
     let o : ℕ = c.args.search.offset in
     let from : ℕ = c.args.search.from in
     rw c.from_residual.ensures (Searched_longer v b o (from + 8 * (64 * c.min-first.result))
-    (from + 512 * c.args.chunks) (c.args.search.n + count (matching v (bits b o from)))
+    (from + 512 * c.args.chunks) (c.args.search.n + count (hits v (bits b o from)))
     c.in_err-search.field-0.0 (omega arith) c.in_err-search.ensures.found)
 
 pub returns-clause-found : goal.returns-clause-found
@@ -28,15 +28,15 @@ returns-clause-found g c =
     let k : ℕ = 512 * c.narrow-stretch.result.chunks in
     let at : ℕ = from + 512 * first in
     let begin : ℕ = at + 512 * passed in
-    let n : ℕ = c.args.search.n + count (matching v (bits b o from)) in
+    let n : ℕ = c.args.search.n + count (hits v (bits b o from)) in
     let after_first = Searched_on v b b o from (from + 8 * (64 * first)) at n c.args.search.n
     (Continue c.in_ok-search.field-0) refl (omega arith) refl c.in_ok-search.ensures.found in
     let same = c.in_ok-search.ensures.looks.same in
-    let after : n ≡ left + count (matching v (bits b o begin)) = omega (
+    let after : n ≡ left + count (hits v (bits b o begin)) = omega (
       arith,
       after_first,
       rw same at c.narrow-stretch.ensures.passed,
-      count-matching-bits-add v b o at (512 * passed),
+      count-hits-bits-add v b o at (512 * passed),
     ) in
     let found = Searched_on v b (g.G.Glance.seen c.narrow-stretch.new.src).bytes o begin
     (begin + 8 * (64 * c.narrow-stretch.result.chunks)) (begin + k) n left c.find_in_units-2.result
@@ -47,6 +47,6 @@ returns-clause-found g c =
       arith,
       after,
       rw same at c.narrow-stretch.ensures.held (omega arith),
-      count-matching-bits_split v b o begin (begin + k) (o + at + 512 * passed) k
+      count-hits-bits_split v b o begin (begin + k) (o + at + 512 * passed) k
           (omega arith) (omega arith),
     )) found

@@ -1,7 +1,7 @@
 use Rattle.std.proofs.Common.{◌≡◌, ◌+◌, ◌-◌, ◌*◌, ℕ, List, Bool, arith}
 use Rattle.vb_bits.specs.Bits.{bits, count}
-use Rattle.vb_kernel.specs.Searches.{matching}
-use Rattle.vb_kernel.proofs.SearchesLemmas.{Searched_on, count-matching-bits-add}
+use Rattle.vb_kernel.specs.Searches.{hits}
+use Rattle.vb_kernel.proofs.SearchesLemmas.{Searched_on, count-hits-bits-add}
 use Rattle.vb_kernel.proofs.select.find_in_many_chunks.Goals as goal
 
 pub returns-clause-found : goal.returns-clause-found
@@ -14,11 +14,11 @@ returns-clause-found g c =
     let left : ℕ = c.pass_chunks-passed.result.1 in
     let chunks : ℕ = c.args.chunks in
     let others : ℕ = from + 512 * passed in
-    let n : ℕ = c.args.search.n + count (matching v (bits b o from)) in
-    let after : n ≡ left + count (matching v (bits b o others)) = omega (
+    let n : ℕ = c.args.search.n + count (hits v (bits b o from)) in
+    let after : n ≡ left + count (hits v (bits b o others)) = omega (
       arith,
       c.pass_chunks-passed.ensures.passed,
-      count-matching-bits-add v b o from (512 * passed),
+      count-hits-bits-add v b o from (512 * passed),
     ) in
     Searched_on v b (g.G.Glance.seen c.pass_chunks-passed.new.src).bytes o others
     (others + 8 * (64 * (chunks - passed))) (from + 512 * chunks) n left c.find_in_units.result

@@ -1,8 +1,8 @@
 use Rattle.std.proofs.Common.{◌≡◌, ◌+◌, ◌-◌, ◌*◌, ◌/◌, ℕ, List, Bool, refl, arith, ap, ◌∙◌}
 use Rattle.vb_bits.specs.Bits.{bits, count}
-use Rattle.vb_kernel.specs.Searches.{matching}
-use Rattle.vb_kernel.proofs.SearchesLemmas.{count-matching-bits-le, count-matching-bits_none}
-use Rattle.vb_kernel.proofs.SearchesLemmas.{count-matching-bits_split}
+use Rattle.vb_kernel.specs.Searches.{hits}
+use Rattle.vb_kernel.proofs.SearchesLemmas.{count-hits-bits-le, count-hits-bits_none}
+use Rattle.vb_kernel.proofs.SearchesLemmas.{count-hits-bits_split}
 use Rattle.vb_kernel.proofs.select.narrow.Goals as goal
 
 pub loop-stretch-init : goal.loop-stretch-init
@@ -10,7 +10,7 @@ loop-stretch-init g c = record {
   within = omega arith;
   passed = omega (
     arith,
-    count-matching-bits_none c.args.value (g.G.Glance.seen c.args.src.now).bytes c.args.at,
+    count-hits-bits_none c.args.value (g.G.Glance.seen c.args.src.now).bytes c.args.at,
   );
   held = λ short. absurd (omega arith);
   looks = record { same = refl; looks = omega arith };
@@ -23,10 +23,10 @@ loop-stretch-preserved-then-stretch-here g c =
     let at : ℕ = c.args.at + 512 * c.loop-stretch.stretch.passed in
     let aligned = c.requires.aligned (omega arith) in
     let place : 8 * (c.args.at / 8 + 64 * c.loop-stretch.stretch.passed) ≡ at = omega arith in
-    let here : c.count_matching-here.result ≡ count (matching v (bits b at k)) =
+    let here : c.count_matching-here.result ≡ count (hits v (bits b at k)) =
     rw (← c.loop-stretch.invariant.looks.same) c.count_matching-here.ensures.value
-    ∙ ap (λ p. count (matching v (bits b p k))) place in
-    let paid = c.block-block.ensures.paid (omega (arith, here, count-matching-bits-le v b at k)) in
+    ∙ ap (λ p. count (hits v (bits b p k))) place in
+    let paid = c.block-block.ensures.paid (omega (arith, here, count-hits-bits-le v b at k)) in
     record {
       within = omega arith;
       passed = c.loop-stretch.invariant.passed;
@@ -52,22 +52,22 @@ loop-stretch-preserved g c =
     let at : ℕ = c.args.at + 512 * passed in
     let aligned = c.requires.aligned (omega arith) in
     let place : 8 * (c.args.at / 8 + 64 * passed) ≡ at = omega arith in
-    let here : c.count_matching-here.result ≡ count (matching v (bits b at k)) =
+    let here : c.count_matching-here.result ≡ count (hits v (bits b at k)) =
     rw (← c.loop-stretch.invariant.looks.same) c.count_matching-here.ensures.value
-    ∙ ap (λ p. count (matching v (bits b p k))) place in
+    ∙ ap (λ p. count (hits v (bits b p k))) place in
     record {
       within = omega arith;
       passed = omega (
         arith,
         c.loop-stretch.invariant.passed,
-        count-matching-bits_split v b c.args.at (512 * passed) (512 * (passed + block)) at k
+        count-hits-bits_split v b c.args.at (512 * passed) (512 * (passed + block)) at k
             (omega arith) (omega arith),
         here,
       );
       held = λ short. omega (
         arith,
         c.loop-stretch.invariant.held (omega arith),
-        count-matching-bits_split v b at k (512 * chunks)
+        count-hits-bits_split v b at k (512 * chunks)
             (c.args.at + 512 * (passed + block)) (512 * (chunks - block))
             (omega arith) (omega arith),
         here,
@@ -87,7 +87,7 @@ loop-stretch-smaller-then-stretch-here g c =
     let paid = c.block-block.ensures.paid (omega (
       arith,
       c.count_matching-here.ensures.value,
-      count-matching-bits-le c.args.value (g.G.Glance.seen c.loop-stretch.src).bytes
+      count-hits-bits-le c.args.value (g.G.Glance.seen c.loop-stretch.src).bytes
           (8 * (c.args.at / 8 + 64 * c.loop-stretch.stretch.passed)) (512 * c.block-block.result),
     )) in
     omega (arith, paid)

@@ -1,6 +1,6 @@
 use Rattle.std.proofs.Common.{◌≡◌, ◌+◌, ◌-◌, ◌*◌, ◌<◌, ◌≤◌}
 use Rattle.vb_bits.specs.Bits.{bits, count}
-use Rattle.vb_kernel.specs.Searches.{matching}
+use Rattle.vb_kernel.specs.Searches.{hits}
 use Rattle.vb_kernel.specs.Looks.{LooksAtMost}
 use Rattle.vb_kernel.proofs.select.narrow.Given as goal
 
@@ -8,8 +8,8 @@ abbrev pub invariant-loop-stretch : goal.invariant-loop-stretch
 invariant-loop-stretch g l = record {
   within : l.stretch.passed + l.stretch.chunks ≤ l.chunks;
   passed : l.n ≡ l.stretch.left + count
-      (matching l.value (bits (g.G.Glance.seen l.initial.src).bytes l.at (512 * l.stretch.passed)));
-  held : l.stretch.passed + l.stretch.chunks < l.chunks → l.stretch.left < count (matching l.value
+      (hits l.value (bits (g.G.Glance.seen l.initial.src).bytes l.at (512 * l.stretch.passed)));
+  held : l.stretch.passed + l.stretch.chunks < l.chunks → l.stretch.left < count (hits l.value
       (bits (g.G.Glance.seen l.initial.src).bytes (l.at + 512 * l.stretch.passed)
       (512 * l.stretch.chunks)));
   looks : LooksAtMost (l.chunks - l.stretch.chunks)

@@ -1,8 +1,8 @@
 use Rattle.std.proofs.Common.{◌≡◌, ◌+◌, ◌*◌, ◌/◌, ℕ, List, Bool, refl, arith, ◌∙◌}
 use Rattle.vb_bits.specs.Bits.{bits, count}
-use Rattle.vb_kernel.specs.Searches.{matching}
-use Rattle.vb_kernel.proofs.SearchesLemmas.{count-matching-bits-le, count-matching-bits_none}
-use Rattle.vb_kernel.proofs.SearchesLemmas.{count-matching-bits_split}
+use Rattle.vb_kernel.specs.Searches.{hits}
+use Rattle.vb_kernel.proofs.SearchesLemmas.{count-hits-bits-le, count-hits-bits_none}
+use Rattle.vb_kernel.proofs.SearchesLemmas.{count-hits-bits_split}
 use Rattle.vb_kernel.proofs.select.pass_chunks.Goals as goal
 
 pub loop-at-init : goal.loop-at-init
@@ -10,7 +10,7 @@ loop-at-init g c = record {
   within = omega arith;
   passed = omega (
     arith,
-    count-matching-bits_none c.args.value (g.G.Glance.seen c.args.src.now).bytes c.args.at,
+    count-hits-bits_none c.args.value (g.G.Glance.seen c.args.src.now).bytes c.args.at,
   );
   looks = record { same = refl; looks = omega arith };
 }
@@ -20,7 +20,7 @@ overflow_sub-left g c =
     omega (
       arith,
       c.count_matching-left.ensures.value,
-      count-matching-bits-le c.args.value (g.G.Glance.seen c.loop-at.src).bytes
+      count-hits-bits-le c.args.value (g.G.Glance.seen c.loop-at.src).bytes
           (8 * (c.args.at / 8 + 64 * c.loop-at.passed)) (512 * c.min-sure.result),
     )
 
@@ -30,17 +30,17 @@ loop-at-preserved g c =
     let m : ℕ = 512 * c.loop-at.passed in let k : ℕ = 512 * c.min-sure.result in
     let place : ℕ = 8 * (c.args.at / 8 + 64 * c.loop-at.passed) in
     let aligned = c.requires.aligned (omega arith) in
-    let here : c.count_matching-left.result ≡ count (matching v (bits b place k)) =
+    let here : c.count_matching-left.result ≡ count (hits v (bits b place k)) =
     rw (← c.loop-at.invariant.looks.same) c.count_matching-left.ensures.value in
     record {
       within = omega arith;
       passed = omega (
         arith,
         c.loop-at.invariant.passed,
-        count-matching-bits_split v b c.args.at m
+        count-hits-bits_split v b c.args.at m
             (512 * (c.loop-at.passed + c.min-sure.result)) place k (omega arith) (omega arith),
         here,
-        count-matching-bits-le v b place k,
+        count-hits-bits-le v b place k,
       );
       looks =
           record {

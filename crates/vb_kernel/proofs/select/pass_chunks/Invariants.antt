@@ -1,6 +1,6 @@
 use Rattle.std.proofs.Common.{◌≡◌, ◌+◌, ◌-◌, ◌*◌, ◌≤◌}
 use Rattle.vb_bits.specs.Bits.{bits, count}
-use Rattle.vb_kernel.specs.Searches.{matching}
+use Rattle.vb_kernel.specs.Searches.{hits}
 use Rattle.vb_kernel.specs.Looks.{LooksExactly}
 use Rattle.vb_kernel.proofs.select.pass_chunks.Given as goal
 
@@ -8,7 +8,7 @@ abbrev pub invariant-loop-at : goal.invariant-loop-at
 invariant-loop-at g l = record {
   within : l.passed ≤ l.chunks;
   passed : l.n ≡ l.left + count
-      (matching l.value (bits (g.G.Glance.seen l.initial.src).bytes l.at (512 * l.passed)));
+      (hits l.value (bits (g.G.Glance.seen l.initial.src).bytes l.at (512 * l.passed)));
   looks : LooksExactly l.passed (g.G.Glance.seen l.initial.src) (g.G.Glance.seen l.src);
 }
 

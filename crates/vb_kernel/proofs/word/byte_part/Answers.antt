@@ -1,6 +1,6 @@
 use Rattle.std.proofs.Common.{ap, sym, arith, ◌∙◌}
 use Rattle.std.specs.Int.{w8}
-use Rattle.vb_bits.specs.Bits.{negated}
+use Rattle.vb_bits.specs.Bits.{complement}
 use Rattle.vb_bits.specs.Digits.{digits}
 use Rattle.vb_bits.proofs.BytesLemmas.{bits_of_byte}
 use Rattle.vb_bits.proofs.DigitsLemmas.{digits_masked, digits-bit_not}
@@ -19,5 +19,5 @@ returns-clause-digits c =
       | else-value w ↦
           ap (λ x. digits x from len) (c.from.ensures ∙ w.byte-is)
           ∙ digits-bit_not w8 c.args.byte from len c.ranges.byte.fits c.requires
-          ∙ ap negated bits ∙ sym (matching_false c.args.value _ w.if-value.false)
+          ∙ ap complement bits ∙ sym (matching_false c.args.value _ w.if-value.false)
     ]

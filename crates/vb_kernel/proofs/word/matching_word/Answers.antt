@@ -1,6 +1,6 @@
 use Rattle.std.proofs.Common.{sym, arith, ap, ◌∙◌}
 use Rattle.std.specs.Int.{w64}
-use Rattle.vb_bits.specs.Bits.{negated}
+use Rattle.vb_bits.specs.Bits.{complement}
 use Rattle.vb_bits.proofs.BytesLemmas.{bits-to_le_bytes}
 use Rattle.vb_bits.proofs.DigitsLemmas.{digits-bit_not}
 use Rattle.vb_kernel.proofs.SearchesLemmas.{matching_true, matching_false}
@@ -14,4 +14,4 @@ pub returns-else-value : goal.returns-else-value
 returns-else-value c =
     digits-bit_not w64 c.args.word 0 64 c.ranges.word.fits (omega arith)
     ∙ sym (matching_false c.args.value _ c.if-value.false
-    ∙ ap negated (bits-to_le_bytes c.args.word 0 64 (omega arith)))
+    ∙ ap complement (bits-to_le_bytes c.args.word 0 64 (omega arith)))

@@ -1,6 +1,6 @@
 use Rattle.std.proofs.Common.{◌≡◌, ◌+◌}
-use Rattle.vb_kernel.specs.Bits.{bits, count, negated}
+use Rattle.vb_kernel.specs.Bits.{bits, count, complement}
 use Rattle.vb_kernel_tests.proofs.plain.bit_select_unset.Given as goal
 
 abbrev pub invariant-loop-i : goal.invariant-loop-i
-invariant-loop-i l = l.left + count (negated (bits l.bytes l.offset l.i)) ≡ l.n
+invariant-loop-i l = l.left + count (complement (bits l.bytes l.offset l.i)) ≡ l.n

@@ -1,5 +1,5 @@
 use Rattle.std.proofs.Common.{rules, arith, ◌≡◌, ◌<◌, false, length, get_or, subst, refl, ap, ◌∙◌}
-use Rattle.vb_pack.specs.WordBits.{filled_up}
+use Rattle.vb_pack.specs.WordBits.{filled_to}
 use Rattle.vb_pack.specs.Writes.{Writes}
 use Rattle.vb_pack.proofs.AnswersLemmas.{Answers-from, CanAsk-from, map-span}
 use Rattle.vb_pack.proofs.bytes.pack_bools.Goals as goal
@@ -23,6 +23,6 @@ returns c =
     record {
       packed = all;
       written =
-          subst (λ m. Writes c.args.bytes.now c.collect_bool_bytes.new.bytes 0 (filled_up 8 m))
+          subst (λ m. Writes c.args.bytes.now c.collect_bool_bytes.new.bytes 0 (filled_to 8 m))
           all c.collect_bool_bytes.ensures.written;
     }

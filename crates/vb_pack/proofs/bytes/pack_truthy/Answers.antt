@@ -1,7 +1,7 @@
 use Rattle.std.proofs.Common.{rules, arith, ◌≡◌, ◌<◌, ◌==◌, not, false, length, map, get_or, subst}
 use Rattle.std.proofs.Common.{refl, sym, ap, ◌∙◌}
 use Rattle.std.proofs.lemmas.List.{length-map, get_or-map}
-use Rattle.vb_pack.specs.WordBits.{filled_up}
+use Rattle.vb_pack.specs.WordBits.{filled_to}
 use Rattle.vb_pack.specs.Writes.{Writes}
 use Rattle.vb_pack.proofs.AnswersLemmas.{Answers-from, CanAsk-from, map-span}
 use Rattle.vb_pack.proofs.bytes.pack_truthy.Goals as goal
@@ -26,6 +26,6 @@ returns c =
     record {
       packed = all;
       written =
-          subst (λ m. Writes c.args.bytes.now c.collect_bool_bytes.new.bytes 0 (filled_up 8 m))
+          subst (λ m. Writes c.args.bytes.now c.collect_bool_bytes.new.bytes 0 (filled_to 8 m))
           all c.collect_bool_bytes.ensures.written;
     }

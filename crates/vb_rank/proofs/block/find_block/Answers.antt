@@ -1,5 +1,5 @@
 use Rattle.std.proofs.Common.{◌≡◌, ℕ, List, ◌+◌, ◌-◌, ◌/◌, ◌<◌, arith, ap, sym, subst, ◌∙◌}
-use Rattle.vb_rank.specs.Tables.{passed, Rises}
+use Rattle.vb_rank.specs.Tables.{count_before, Rises}
 use Rattle.vb_rank.proofs.TablesLemmas.{halves-step}
 use Rattle.vb_rank.proofs.block.find_block.Goals as goal
 use Rattle.vb_rank.proofs.block.find_block.Goals.{then-here-n, else-here-n}
@@ -10,7 +10,7 @@ loop-left-preserved g c =
     let low : ℕ = c.loop-left.low in let left : ℕ = c.loop-left.left in let half : ℕ = left / 2 in
     let n : ℕ = c.args.n in
     let here : Rises c.args.value t
-    → c.bits_before-here.result ≡ passed c.args.value t (low + half) = λ r.
+    → c.bits_before-here.result ≡ count_before c.args.value t (low + half) = λ r.
     (rw c.loop-left.invariant.same at c.bits_before-here.ensures.value)
     (r.small (low + half) (omega arith)) in
     let same = c.bits_before-here.ensures.probe.same ∙ c.loop-left.invariant.same in
@@ -20,11 +20,11 @@ loop-left-preserved g c =
       | then-here-n w ↦ record {
         some = omega arith;
         within = omega (arith, w.low-is);
-        before = λ r. w.before-is ∙ here r ∙ ap (passed c.args.value t) (sym w.low-is);
+        before = λ r. w.before-is ∙ here r ∙ ap (count_before c.args.value t) (sym w.low-is);
         below = omega (arith, w.before-is, w.if-here-n.true);
         above = λ r more.
             let e : c.if-here-n.low + (left - half) ≡ low + left = omega (arith, w.low-is) in
-            subst (λ x. n < passed c.args.value t x) (sym e)
+            subst (λ x. n < count_before c.args.value t x) (sym e)
             (c.loop-left.invariant.above r (omega (arith, more, e)));
         same = same;
         halves = halves;
@@ -33,7 +33,7 @@ loop-left-preserved g c =
         some = omega arith;
         within = omega (arith, w.low-is);
         before = λ r. w.before-is
-            ∙ c.loop-left.invariant.before r ∙ ap (passed c.args.value t) (sym w.low-is);
+            ∙ c.loop-left.invariant.before r ∙ ap (count_before c.args.value t) (sym w.low-is);
         below = omega (arith, w.before-is);
         above = λ r more.
             let up =

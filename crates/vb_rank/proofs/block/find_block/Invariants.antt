@@ -1,5 +1,5 @@
 use Rattle.std.proofs.Common.{◌-◌, ◌≡◌, ℕ, ◌+◌, ◌^◌, ◌<◌, ◌≤◌, length}
-use Rattle.vb_rank.specs.Tables.{passed, Rises}
+use Rattle.vb_rank.specs.Tables.{count_before, Rises}
 use Rattle.vb_rank.proofs.block.find_block.Given as goal
 
 -- block low reaches at most n, and block low + left, if there is one, more than n
@@ -9,10 +9,10 @@ invariant-loop-left g l = record {
   within : l.low + l.left ≤ length (g.T.Probe.seen l.initial.table).entries;
   below : l.before ≤ l.n;
   before : Rises l.value (g.T.Probe.seen l.initial.table).entries
-      → l.before ≡ passed l.value (g.T.Probe.seen l.initial.table).entries l.low;
+      → l.before ≡ count_before l.value (g.T.Probe.seen l.initial.table).entries l.low;
   above : Rises l.value (g.T.Probe.seen l.initial.table).entries
       → l.low + l.left < length (g.T.Probe.seen l.initial.table).entries
-      → l.n < passed l.value (g.T.Probe.seen l.initial.table).entries (l.low + l.left);
+      → l.n < count_before l.value (g.T.Probe.seen l.initial.table).entries (l.low + l.left);
   same : (g.T.Probe.seen l.table).entries ≡ (g.T.Probe.seen l.initial.table).entries;
   -- where k halvings bring the table to one entry, those that are left bring the range to one
   halves : (k : ℕ) → length (g.T.Probe.seen l.initial.table).entries ≤ 2 ^ k

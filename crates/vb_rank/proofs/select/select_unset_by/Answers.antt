@@ -1,8 +1,8 @@
-use Rattle.vb_bits.specs.Bits.{bits, negated}
-use Rattle.vb_kernel.proofs.BitsLemmas.{Selects-AnswersEach}
+use Rattle.vb_bits.specs.Bits.{bits, complement}
+use Rattle.vb_kernel.proofs.BitsLemmas.{Selects-InvertsCount}
 use Rattle.vb_rank.proofs.select.select_unset_by.Goals as goal
 
 pub returns-clause-each : goal.returns-clause-each
 returns-clause-each g c =
-    λ e. Selects-AnswersEach (negated (bits (g.G.Glance.seen c.args.src.now).bytes c.args.offset
+    λ e. Selects-InvertsCount (complement (bits (g.G.Glance.seen c.args.src.now).bytes c.args.offset
     c.args.len)) c.args.n c.select_value_by.result (c.select_value_by.ensures.place e)

@@ -1,5 +1,5 @@
 use Rattle.std.proofs.Common.{ℕ, List, arith}
-use Rattle.vb_kernel.proofs.SearchesLemmas.{count-matching-bits-le, Searched_inside}
+use Rattle.vb_kernel.proofs.SearchesLemmas.{count-hits-bits-le, Searched_inside}
 use Rattle.vb_rank.proofs.TablesLemmas.{Rises-table, Selects-block_some, Selects-block_none}
 use Rattle.vb_rank.proofs.TablesLemmas.{probes-le}
 use Rattle.vb_rank.proofs.select.select_value_by.Goals as goal
@@ -7,7 +7,7 @@ use Rattle.vb_rank.proofs.select.select_value_by.Goals as goal
 pub returns-then-len-eq0-clause-place : goal.returns-then-len-eq0-clause-place
 returns-then-len-eq0-clause-place g c = λ _. omega (
   arith,
-  count-matching-bits-le c.args.value
+  count-hits-bits-le c.args.value
       (g.G.Glance.seen c.args.src.now).bytes c.args.offset c.args.len,
 )
 

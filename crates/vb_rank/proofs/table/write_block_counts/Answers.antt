@@ -1,7 +1,6 @@
 use Rattle.std.proofs.Common.{◌≡◌, ℕ, ◌+◌, ◌-◌, ◌*◌, ◌<◌, Bool, List, [], ◌∷◌, ◌++◌, length, take}
 use Rattle.std.proofs.Common.{drop, get_or, min, sym, ap, ◌∙◌, arith}
 use Rattle.std.proofs.Math.Seq.{take-length}
-use Rattle.std.specs.List.{slice_range}
 use Rattle.std.proofs.lemmas.List.{take_more, length-set, length-take, drop_all, append-nil}
 use Rattle.vb_bits.proofs.BitsLemmas.{length-bits, count-le, count-take-le}
 use Rattle.vb_bits.proofs.WindowLemmas.{bits-part}

@@ -1,6 +1,6 @@
 use Rattle.std.proofs.Common.{inl, inr, arith}
 use Rattle.std.proofs.lemmas.Bool.{cases_lt}
-use Rattle.vb_walk.specs.Walks.{ahead}
+use Rattle.vb_walk.specs.Walks.{bits_ahead}
 use Rattle.vb_walk.proofs.TakenRunLemmas.{clash, end_within, ones_in_hand, TakesRun-here}
 use Rattle.vb_walk.proofs.TakenRunLemmas.{TakesRun-far}
 use Rattle.vb_walk.proofs.slices.take_run.Goals as goal
@@ -38,7 +38,7 @@ returns-then-end-cursor c =
     (elim c.then-end-cursor.branch [
       | then-end-cursor-via-then-end-cursor w ↦ inl w.if-end-cursor.true
       | then-end-cursor-via-else-end-cursor+then-not-has_more w ↦
-          elim (cases_lt 0 (ahead c.args.cursor)) [
+          elim (cases_lt 0 (bits_ahead c.args.cursor)) [
             | inl more ↦
                 absurd (clash w.has_more.result (w.has_more.ensures.1 more) w.if-not-has_more.true)
             | inr none ↦ inr (omega arith)

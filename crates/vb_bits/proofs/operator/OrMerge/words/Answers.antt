@@ -2,7 +2,7 @@ use Rattle.std.proofs.Common.{◌||◌, sym, ◌∙◌}
 use Rattle.std.proofs.lemmas.Simd.{length-zip2}
 use Rattle.std.specs.Prelude.{bit_or}
 use Rattle.vb_bits.proofs.DigitsLemmas.{has_bit-or}
-use Rattle.vb_bits.proofs.LanesLemmas.{lane_bits-merged}
+use Rattle.vb_bits.proofs.LanesLemmas.{lane_bits-merged_by}
 use Rattle.vb_bits.proofs.operator.OrMerge.words.Goals as goal
 
 pub returns-clause-len : goal.returns-clause-len
@@ -10,5 +10,5 @@ returns-clause-len c = length-zip2 bit_or c.args.left c.args.right
     (c.requires.left ∙ sym c.requires.right) ∙ c.requires.left
 
 pub returns-clause-digits : goal.returns-clause-digits
-returns-clause-digits c = lane_bits-merged (λ a b. a || b) bit_or c.args.left c.args.right
+returns-clause-digits c = lane_bits-merged_by (λ a b. a || b) bit_or c.args.left c.args.right
     c.requires.left c.requires.right (λ v w i h. has_bit-or v w i)

@@ -4,8 +4,8 @@ use Rattle.std.specs.Int.{div_ceil}
 use Rattle.std.specs.List.{refill}
 use Rattle.std.proofs.lemmas.List.{append-nil, drop_all, length-replicate, take_all}
 use Rattle.vb_bits.specs.Bits.{bits}
-use Rattle.vb_bits.specs.Kept.{kept}
-use Rattle.vb_bits.proofs.KeptLemmas.{length-kept}
+use Rattle.vb_bits.specs.Kept.{kept_by}
+use Rattle.vb_bits.proofs.KeptLemmas.{length-kept_by}
 use Rattle.vb_view.specs.View.{bits_of}
 use Rattle.vb_filter.proofs.bits.BitBufferFilter.filtered.Goals as goal
 
@@ -25,11 +25,11 @@ returns g c =
     let same : length values ≡ length mask = omega (arith, c.len.ensures, c.len-2.ensures) in
     let frozen = c.in_ok-freeze.ensures.ok.list ∙ refilled room out
     (c.filter_into.ensures.kept.same_len ∙ ap length c.as_mut_slice.ensures.value) in
-    let many : length (kept mask values) ≡ count =
-    length-kept false mask values (sym same) ∙ sym c.true_count-count.ensures in
-    let seen : kept mask (bits_of c.as_view.result) ≡ kept mask values =
-    ap (kept mask) c.as_view.ensures.bits in
-    let first : bits out 0 count ≡ kept mask values =
+    let many : length (kept_by mask values) ≡ count =
+    length-kept_by false mask values (sym same) ∙ sym c.true_count-count.ensures in
+    let seen : kept_by mask (bits_of c.as_view.result) ≡ kept_by mask values =
+    ap (kept_by mask) c.as_view.ensures.bits in
+    let first : bits out 0 count ≡ kept_by mask values =
     ap (bits out 0) (sym many ∙ ap length (sym seen)) ∙ c.filter_into.ensures.kept.window
     ∙ seen in
     let size : ℕ = c.div_ceil-byte_len.result in

@@ -1,7 +1,7 @@
 use Rattle.std.proofs.Common.{◌≡◌, length, sym, ap, subst, ◌∙◌, arith}
 use Rattle.std.proofs.lemmas.Result.{IfOk-weaker}
 use Rattle.vb_bits.specs.Bits.{count}
-use Rattle.vb_bits.specs.Kept.{kept}
+use Rattle.vb_bits.specs.Kept.{kept_by}
 use Rattle.vb_mem.specs.SharedBuffer.{ShowsMade}
 use Rattle.vb_view.specs.View.{bits_of}
 use Rattle.vb_filter.proofs.GatherLemmas.{kept_all}
@@ -18,7 +18,7 @@ returns-then-count-items g c =
     let all = given ∙ sym (kept_all mask list same full) in
     record {
       ok = IfOk-weaker c.copy_from_aligned.result _ _ (λ k made.
-          subst (λ a. ShowsMade (kept mask list) a k) c.alignment-alignment.ensures.value
+          subst (λ a. ShowsMade (kept_by mask list) a k) c.alignment-alignment.ensures.value
           (subst (λ l. ShowsMade l c.alignment-alignment.result k) all made))
           c.copy_from_aligned.ensures.ok;
       same_len = λ _. c.copy_from_aligned.ensures.refused;

@@ -3,7 +3,7 @@ use Rattle.vb_bits.proofs.BitsLemmas.{length-bits}
 use Rattle.vb_bits.proofs.WritesLemmas.{bits_behind}
 use Rattle.vb_bit_bytes.proofs.BytesLemmas.{edits}
 use Rattle.vb_bits.specs.Bits.{bits}
-use Rattle.vb_bits.specs.Writes.{Writes, lengthened}
+use Rattle.vb_bits.specs.Writes.{Writes, extension}
 use Rattle.vb_set.proofs.bit_buffer_mut.BitBufferMut.append_buffer.Goals as goal
 
 pub returns-in_err-push_window-clause-needs : goal.returns-in_err-push_window-clause-needs
@@ -26,8 +26,8 @@ returns-clause-ok g c =
     ∙ ap (λ p. bits c.inner.result.now.list p c.len-2.result) c.offset.ensures.value
     ∙ ap (bits c.inner.result.now.list c.args.set.now.offset) c.len-2.ensures
     ∙ c.inner.ensures.window.same in
-    let written : Writes (lengthened old new) new (o + n) added =
-    subst (Writes (lengthened old new) new (o + n)) same c.in_ok-push_window.ensures.bits in
+    let written : Writes (extension old new) new (o + n) added =
+    subst (Writes (extension old new) new (o + n)) same c.in_ok-push_window.ensures.bits in
     let longer : n + c.len-3.result ≡ n + length added = omega arith in
     let size = length-bits old o n in
     let joined : bits new o (n + c.len-3.result) ≡ bits old o n ++ added =

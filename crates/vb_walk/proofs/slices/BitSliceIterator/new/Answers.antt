@@ -1,4 +1,4 @@
-use Rattle.std.proofs.Common.{◌≡◌, ℕ, ◌<◌, ◌≤◌, List, length, ap, sym, subst, ◌∙◌, arith}
+use Rattle.std.proofs.Common.{◌≡◌, ℕ, ◌<◌, ◌≤◌, List, length, ap, sym, subst, arith}
 use Rattle.std.specs.List.{All}
 use Rattle.vb_bits.specs.Bits.{bits}
 use Rattle.vb_bits.specs.Runs.{runs}

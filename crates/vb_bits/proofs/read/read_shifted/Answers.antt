@@ -1,6 +1,6 @@
 use Rattle.std.proofs.Common.{◌/◌, ◌%◌, arith}
 use Rattle.vb_bits.proofs.ReadLemmas.{digits_shifted, digits_joined}
-use Rattle.vb_bits.proofs.read.realigned.Goals as goal
+use Rattle.vb_bits.proofs.read.read_shifted.Goals as goal
 
 pub returns-then-shift-count-gt64 : goal.returns-then-shift-count-gt64
 returns-then-shift-count-gt64 c =
