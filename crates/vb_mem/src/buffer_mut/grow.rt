@@ -149,6 +149,7 @@ impl<T: Element, A: Allocator> BufferMut<T, A> {
         requires { I.can_next iter }
         ensures ok { OnOk result
             (GivesValues I.next_gives iter (λ items. Lengthens items self.old self.new)) }
+        ensures len { OnOk result (length self.new.list ≡ length self.old.list + I.left iter) }
         ensures in_place { HasRoom self.old (I.left iter) → result ≢ Err ExtendError.Memory }
         ensures item { IfItem result (λ e. GivesError I.next_gives iter e
             (λ items. Lengthens items self.old self.new)) }

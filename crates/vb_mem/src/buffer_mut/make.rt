@@ -1,5 +1,5 @@
 //! Buffers made from nothing, of equal items, of copies and of what iterators give.
-ghost use Rattle.std.specs.Prelude.{◌≡◌, ◌≤◌, ⊤, List, [], length, replicate, IfOk};
+ghost use Rattle.std.specs.Prelude.{◌≡◌, ◌≢◌, ◌≤◌, ⊤, List, [], length, replicate, IfOk, Err};
 ghost use Rattle.std.specs.Iterator.{Drains, IsFiniteIterable};
 ghost use Rattle.vb_mem.specs.Makes.{Makes};
 ghost use Rattle.vb_mem.specs.Collected.{OfItems, OfRun};
@@ -194,7 +194,8 @@ impl<T: Element, A: Allocator> BufferMut<T, A> {
     }
 
     /// The values that an iterator of known length gives, over-aligned to 256 bytes. Refused by
-    /// `Memory` before the first item is asked for, and by `Item` at the first error.
+    /// `Memory` before the first item is asked for, and by `Item` at the first error. An iterator
+    /// that has nothing to give takes no memory.
     pub fn try_from_trusted_len_iter<E, I: TrustedLen<Item = Result<T, E>>>(
         alloc: A,
         iter: I,
@@ -202,6 +203,8 @@ impl<T: Element, A: Allocator> BufferMut<T, A> {
         requires { I.can_next iter }
         ensures ok { IfOk result (λ b. GivesValues I.next_gives iter
             (λ items. HoldsMade items T.align_exponent b)) }
+        ensures len { IfOk result (λ b. length b.list ≡ I.left iter) }
+        ensures none { I.left iter ≡ 0 → result ≢ Err ExtendError.Memory }
         ensures item { IfItem result (λ e. GivesError I.next_gives iter e (λ _. ⊤)) }
     {
         let mut buffer = BufferMut::empty(alloc);
