@@ -4,6 +4,7 @@ use Rattle.std.proofs.Common.{not, cond, true, false, ◌&&◌, eqb, List, [], �
 use Rattle.std.proofs.Common.{get_or, filter, refl}
 use Rattle.std.proofs.Common.{sym, ap, ◌∙◌, arith}
 use Rattle.std.specs.Int.{trailing_zeros, w64}
+use Rattle.std.specs.Prelude.{count_ones}
 use Rattle.std.specs.Int.Bits.{bit_and}
 use Rattle.std.specs.List.{range_with_len}
 use Rattle.std.proofs.lemmas.Bool.{cases_lt, false≢true}
@@ -15,6 +16,8 @@ use Rattle.vb_bits.specs.Bits.{at, bit_of, bits, holes, complement, places}
 use Rattle.vb_bits.specs.Digits.{digits, has_bit}
 use Rattle.vb_bits.proofs.BitsLemmas.{length-bits, at-bits}
 use Rattle.vb_bits.proofs.DigitsLemmas.{at-digits, has_bit-and, has_bit-bit_not}
+use Rattle.vb_bits.proofs.DigitsLemmas.{count-digits_below}
+use Rattle.vb_bits.proofs.PlacesLemmas.{length-places}
 use Rattle.vb_bits.proofs.RangeLemmas.{range_with_len-add, same_filter-range_with_len}
 use Rattle.vb_bits.proofs.ReadLemmas.{has_bit-bits}
 use Rattle.vb_bits.proofs.WindowLemmas.{digits-clear}
@@ -23,7 +26,8 @@ use Rattle.vb_pack.specs.Asked.{span}
 use Rattle.vb_walk.specs.Walks.{places_in, others, AreAll, IsOther}
 use Rattle.vb_walk.specs.declared.other.OtherWord.{OtherWord}
 use Rattle.vb_walk.proofs.OnesLemmas.{lowest_off}
-use Rattle.vb_walk.proofs.PlacesLemmas.{places_in_empty, places_in_first, same_places_in}
+use Rattle.vb_walk.proofs.PlacesLemmas.{places_in_none, places_in_cons, places_in_empty}
+use Rattle.vb_walk.proofs.PlacesLemmas.{places_in_first, same_places_in, places-digits}
 
 -- places cut in two
 places_in-add : (t : ℕ → Bool) (a m n : ℕ)
@@ -53,8 +57,8 @@ pub places_in-holes : (b : List ℕ) (o n : ℕ)
 unfolding places places_in
 places_in-holes b o n =
     let l : List Bool = bits b o n in
-    let long : length (negated l) ≡ n = length-map l not ∙ length-bits b o n in
-    same_filter-range_with_len (λ i. not (bit_of b (o + i))) (at (negated l)) 0 n
+    let long : length (complement l) ≡ n = length-map l not ∙ length-bits b o n in
+    same_filter-range_with_len (λ i. not (bit_of b (o + i))) (at (complement l)) 0 n
     (λ i lo hi. sym (get_or-map not l i false false (omega (arith, length-bits b o n))
     ∙ ap not (at-bits b o n i false (omega arith))))
     ∙ ap (λ k. filter (at (complement l)) (range_with_len 0 k)) (sym long)
@@ -217,3 +221,34 @@ ones_of_first w a some fits =
 -- a word without its lowest one is less
 pub ones_fewer : (w : ℕ) → 0 < w → bit_and w (w - 1) < w
 ones_fewer w some = omega (arith, and_le_r w (w - 1))
+
+-- as many places where two tests agree, wherever these begin
+same_length-places_in : (t u : ℕ → Bool) (a b n : ℕ)
+    → ((i : ℕ) → i < n → t (a + i) ≡ u (b + i))
+    → length (places_in t a n) ≡ length (places_in u b n)
+same_length-places_in t u a b zero same =
+    ap length (places_in_none t a) ∙ sym (ap length (places_in_none u b))
+same_length-places_in t u a b (suc n) same =
+    let front : a ≡ a + 0 = omega arith in let other : b + 0 ≡ b = omega arith in
+    let here : t a ≡ u b = ap t front ∙ same 0 (omega arith) ∙ ap u other in
+    let rest = same_length-places_in t u (a + 1) (b + 1) n
+    (λ i l. let left : a + 1 + i ≡ a + (i + 1) = omega arith in
+    let right : b + (i + 1) ≡ b + 1 + i = omega arith in
+    ap t left ∙ same (i + 1) (omega arith) ∙ ap u right) in
+    ap length (places_in_cons t a n)
+    ∙ ap (λ x. length (cond x (a ∷ places_in t (a + 1) n) (places_in t (a + 1) n))) here
+    ∙ both (u b) (places_in t (a + 1) n) (places_in u (b + 1) n) rest
+    ∙ sym (ap length (places_in_cons u b n))
+  where
+    both : (x : Bool) (p q : List ℕ) → length p ≡ length q
+        → length (cond x (a ∷ p) p) ≡ length (cond x (b ∷ q) q)
+    both true p q e = omega (arith, e)
+    both false p q e = e
+
+-- as many as the word has ones
+pub length-ones_of : (w a : ℕ) → w < 2 ^ 64 → length (ones_of w a) ≡ count_ones w
+length-ones_of w a fits =
+    same_length-places_in (λ i. has_bit w (i - a)) (has_bit w) a 0 64
+    (λ i l. let place : a + i - a ≡ 0 + i = omega arith in ap (has_bit w) place)
+    ∙ ap length (sym (places-digits w 64)) ∙ length-places (digits w 0 64)
+    ∙ count-digits_below w 64 fits

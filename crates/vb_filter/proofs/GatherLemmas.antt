@@ -1,7 +1,7 @@
 -- The values at the digits of a word, and items that are put behind others.
 use Rattle.std.proofs.Common.{◌≡◌, ℕ, ◌+◌, ◌-◌, ◌<◌, ◌≤◌, ◌^◌, inl, inr, Bool, true, false, List}
-use Rattle.std.proofs.Common.{[], ◌∷◌, ◌++◌, eqb, filter, length, map, get_or, take, drop, refl}
-use Rattle.std.proofs.Common.{sym, ap, subst, ◌∙◌, arith, zero-add, append_assoc, length-append}
+use Rattle.std.proofs.Common.{[], ◌∷◌, ◌++◌, eqb, length, map, get_or, take, drop, refl}
+use Rattle.std.proofs.Common.{sym, ap, subst, ◌∙◌, arith, append_assoc, length-append}
 use Rattle.std.proofs.Math.Pow.{pow_mono}
 use Rattle.std.proofs.lemmas.Bool.{cases_lt}
 use Rattle.std.proofs.lemmas.List.{nil_from_length, append-nil, drop-drop, take-append-drop}
@@ -9,19 +9,17 @@ use Rattle.std.proofs.lemmas.Nat.Bits.{bit_at-zero, bit_at_above, bit_at-trailin
 use Rattle.std.specs.Int.{bit_at, trailing_zeros, w64}
 use Rattle.std.specs.Prelude.{count_ones}
 use Rattle.std.specs.Int.Bits.{bit_and}
-use Rattle.std.specs.List.{range_with_len}
-use Rattle.vb_bits.specs.Bits.{at, count, places}
+use Rattle.vb_bits.specs.Bits.{count}
 use Rattle.vb_bits.specs.Digits.{has_bit, digits}
 use Rattle.vb_bits.specs.Kept.{kept_by}
 use Rattle.vb_bits.proofs.BitsLemmas.{count-le, count-append}
-use Rattle.vb_bits.proofs.DigitsLemmas.{length-digits, at-digits, count-digits_below}
-use Rattle.vb_bits.proofs.KeptLemmas.{map-places, length-kept}
+use Rattle.vb_bits.proofs.DigitsLemmas.{length-digits, count-digits_below}
+use Rattle.vb_bits.proofs.KeptLemmas.{map-places, length-kept_by}
 use Rattle.vb_bits.proofs.PlacesLemmas.{length-places}
-use Rattle.vb_bits.proofs.RangeLemmas.{same_filter-range_with_len}
 use Rattle.vb_filter.specs.Gathered.{PutsAt}
 use Rattle.vb_walk.specs.Walks.{places_in}
 use Rattle.vb_walk.proofs.OnesLemmas.{lowest_off}
-use Rattle.vb_walk.proofs.PlacesLemmas.{places_in_first, places_in_empty}
+use Rattle.vb_walk.proofs.PlacesLemmas.{places_in_first, places_in_empty, places-digits}
 
 -- the places of the digits that are 1, of the first n of a word
 abbrev pub ones : ℕ → ℕ → List ℕ
@@ -58,14 +56,6 @@ module _ (n w : ℕ) (some : 0 < w) (clear : w < 2 ^ n) (few : n ≤ 64) where
       (omega (arith, lowest_below)) (λ i lo hi. ap (λ x. eqb x 1) (z.2 i hi))
       (ap (λ x. eqb x 1) z.1) (λ i lo hi. ap (λ x. eqb x 1) (off.0 i hi))
       (λ i lo hi. ap (λ x. eqb x 1) (off.1 i lo))
-
--- the true places of the first n digits
-pub places-digits : (w n : ℕ) → places (digits w 0 n) ≡ ones n w
-unfolding places places_in
-places-digits w n =
-    ap (λ k. filter (at (digits w 0 n)) (range_with_len 0 k)) (length-digits w 0 n)
-    ∙ same_filter-range_with_len (at (digits w 0 n)) (has_bit w) 0 n
-    (λ i lo hi. at-digits w 0 n i false (omega arith) ∙ ap (has_bit w) (zero-add i))
 
 -- the values at them
 pub map-ones : {T : Type 0} (d : T) (w : ℕ) (xs : List T)

@@ -1,9 +1,11 @@
 -- The places at which a test is true.
 use Rattle.std.proofs.Common.{◌≡◌, ℕ, zero, suc, ◌+◌, ◌-◌, ◌<◌, ◌≤◌, Bool, true, false, cond, List}
-use Rattle.std.proofs.Common.{[], ◌∷◌, filter, refl, sym, ap, ◌∙◌, arith}
+use Rattle.std.proofs.Common.{[], ◌∷◌, filter, refl, sym, ap, ◌∙◌, arith, zero-add}
 use Rattle.std.specs.List.{range_with_len}
 use Rattle.vb_bits.specs.Bits.{bit_of, bits, places, at}
+use Rattle.vb_bits.specs.Digits.{has_bit, digits}
 use Rattle.vb_bits.proofs.BitsLemmas.{length-bits, at-bits}
+use Rattle.vb_bits.proofs.DigitsLemmas.{length-digits, at-digits}
 use Rattle.vb_bits.proofs.RangeLemmas.{same_filter-range_with_len}
 use Rattle.vb_walk.specs.Walks.{places_in}
 
@@ -13,7 +15,7 @@ unfolding places_in
 places_in_none t a = refl
 
 -- the first place and the others
-places_in_cons : (t : ℕ → Bool) (a n : ℕ)
+pub places_in_cons : (t : ℕ → Bool) (a n : ℕ)
     → places_in t a (suc n) ≡ cond (t a) (a ∷ places_in t (a + 1) n) (places_in t (a + 1) n)
 unfolding places_in
 places_in_cons t a n = refl
@@ -74,3 +76,11 @@ places-bits t b o n h =
     same_filter-range_with_len t p 0 n
     (λ i lo hi. h i (omega arith) ∙ sym (at-bits b o n i false (omega arith)))
     ∙ ap (λ k. filter p (range_with_len 0 k)) (sym (length-bits b o n))
+
+-- the true places of the first n digits
+pub places-digits : (w n : ℕ) → places (digits w 0 n) ≡ places_in (has_bit w) 0 n
+unfolding places places_in
+places-digits w n =
+    ap (λ k. filter (at (digits w 0 n)) (range_with_len 0 k)) (length-digits w 0 n)
+    ∙ same_filter-range_with_len (at (digits w 0 n)) (has_bit w) 0 n
+    (λ i lo hi. at-digits w 0 n i false (omega arith) ∙ ap (has_bit w) (zero-add i))

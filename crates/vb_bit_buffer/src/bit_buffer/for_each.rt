@@ -163,6 +163,9 @@ fn all<F: FnMut(usize)>(base: usize, f: &mut F)
 }
 
 /// Calls `f` at the places of a word's ones, of which the lowest digit has the place `base`.
+///
+/// It goes by their count, which is known before the first call, and so costs a processor less than
+/// to see after each whether one is left.
 #[inline(always)]
 fn ones<F: FnMut(usize)>(word: u64, base: usize, f: &mut F)
     requires fits { (i : ℕ) → has_bit word i ≡ true → base + i < 2 ^ 64 }
@@ -170,7 +173,7 @@ fn ones<F: FnMut(usize)>(word: u64, base: usize, f: &mut F)
     ensures { FoldsTo (λ p i q. F.step p i tt q) f.old (ones_of word base) f.new }
 {
     let mut left = word;
-    while left != 0 {
+    for _ in 0..word.count_ones() {
         f(base + left.trailing_zeros() as usize);
         left &= left - 1;
     }
