@@ -146,7 +146,8 @@ impl<T: Element, A: Allocator> Buffer<T, A> {
 
 impl<T: Element, A: Allocator + Clone> Buffer<T, A> {
     /// The items of a range as [`Buffer::narrow`] keeps them; the part shares the storage. Refused
-    /// by `OutOfMemory` where a copy of the allocator finds no memory.
+    /// by `OutOfMemory` where a copy of the allocator finds no memory, or the storage has as many
+    /// owners as can be counted.
     pub fn slice(&self, range: Range<usize>) -> Result<Self>
         requires { CanNarrow T.SIZE T.align_exponent self.now range }
         ensures { Makes (ShowsPart T.SIZE self.now range self.now.alignment) result }
@@ -155,8 +156,14 @@ impl<T: Element, A: Allocator + Clone> Buffer<T, A> {
         self.slice_with_alignment(range, alignment)
     }
 
-    /// The items of a range with an alignment, for which [`Buffer::can_slice`] holds; the part
-    /// shares the storage, and an empty one may lie anywhere. Refused as [`Buffer::slice`] is.
+    /// The items of a range; the part reports `alignment` and shares the storage. The range has to
+    /// lie within the buffer, and `alignment` to be at least that of an item; and unless the range
+    /// is empty, the place in bytes of its first item in the storage has to be a multiple of
+    /// `alignment`, and the storage declared with it or more. [`Buffer::can_slice`] is the test.
+    ///
+    /// Of an empty part no clause tells the place or the storage's declared alignment. Refused by
+    /// `OutOfMemory` alone, where a copy of the allocator finds no memory, or the storage has as
+    /// many owners as can be counted.
     pub fn slice_with_alignment(&self, range: Range<usize>, alignment: Alignment) -> Result<Self>
         requires { CanSlice T.SIZE T.align_exponent self.now range alignment }
         ensures { Makes (ShowsPart T.SIZE self.now range alignment) result }

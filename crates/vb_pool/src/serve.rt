@@ -101,11 +101,14 @@ fn answer_of<A: Allocator>(outcome: Result<Answer<A>, Refusal>) -> Answer<A>
     }
 }
 
-/// Carries out the commands in their order and gives one answer a command.
+/// Carries out the commands in their order and gives one answer a command. In contracts a pool is
+/// the list of what its sixteen slots hold.
 ///
 /// The room for all answers is asked from a copy of `alloc` first. Refused by `OutOfMemory` alone,
 /// where that is refused; then nothing was done. A command that is refused later, for want of
-/// memory too, has its refusal among the answers, and the commands after it are carried out.
+/// memory too, has its refusal among the answers, and the commands after it are carried out. It
+/// changes nothing; but `freeze`, `thaw` and operators with `own` that are refused memory leave the
+/// slot empty whose set they took.
 pub fn run<A: Allocator + Clone>(
     alloc: A,
     pool: &mut Pool<A>,

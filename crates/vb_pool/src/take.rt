@@ -61,7 +61,7 @@ fn is_as_long(n: usize, validity: Option<BitBufferView<'_>>) -> bool
 }
 
 /// The bits at these indices. Refused by `TakeOutOfRange` with the first position that counts and
-/// whose index names no place, else by `OutOfMemory` alone.
+/// whose index names no place, or by `OutOfMemory`, which comes before an index is looked at.
 #[tactic(auto, using(crate::proofs::Takes::validities))]
 fn take_at<A: Allocator + Clone>(
     alloc: &A,

@@ -106,8 +106,8 @@ impl<A: Allocator + Clone> Ranked<A> {
         select_unset_by(src, bits.offset(), bits.len(), &mut self.entries(), n)
     }
 
-    /// Makes the bit at place `i`, which has to be below the length, `v`. No other bit of the bytes
-    /// changes. It takes no memory.
+    /// Sets the bit at place `i` to `v`. Ranks are then those of the new list. The place has to be
+    /// below the length. No other bit of the bytes changes. It takes no memory.
     ///
     /// Where the bit changes, the entries of all later blocks move by one: one pass over them.
     pub fn set_to(&mut self, i: usize, v: bool)

@@ -15,8 +15,10 @@ use vb_kernel::{Glance, bit_select_by, bit_select_unset_by};
 /// many probes of it as `m + 1` has binary digits.
 ///
 /// The window has to lie in the bytes, its end has to be a `usize`, and the table has to have an
-/// entry for each of its blocks of 512 bits. Where its entries aren't those that
-/// [`table_of`](crate::table_of) makes, the place says nothing.
+/// entry for each of the window's blocks of 512 bits. The answer is right where each entry says how
+/// many true bits of the window come before its block, as in the table that
+/// [`table_of`](crate::table_of) makes; else it may be any, also a place past the window. Looks and
+/// probes are bounded for any table.
 pub fn select_by<G: Glance, T: Probe>(
     src: &mut G,
     offset: usize,

@@ -19,19 +19,26 @@ use vb_command::Unread;
 ///
 /// The answers to all whole lines that were read are written before more bytes are asked for.
 /// Memory is taken for the sets and what a command answers, for 65536 bytes of the input or at most
-/// twice the longest line, and once for 65536 bytes of answers: none is taken to print them. What
-/// clause `ends` says of the bytes read and written it says of streams that tell them; where the
-/// sink alone tells them, or none does, `ran` holds: the answers of some commands were written, run
-/// from empty slots on.
+/// twice the longest line, and once for 65536 bytes of answers: none is taken to print them.
 ///
-/// - `Ok`: the input ended, and each of its lines was answered.
-/// - `Unreadable`: this line can't be read and did nothing; the lines before it were answered.
+/// A stream tells its bytes where `R.remaining` or `W.contents` is `Some`, as that of a slice and
+/// of a vector is. Clause `ends` says how the session ended, of a source that tells them. Clause
+/// `ran` says of any source, and a sink that tells them, that what was written are the answers of
+/// some commands, run from empty slots on. Of a sink that doesn't, no clause says what was written.
+///
+/// A line that is blank or a comment asks for nothing, and has no answer. A line has ended where
+/// its line feed was read.
+///
+/// - `Ok`: the input ended, and each line that asks for something was answered.
+/// - `Unreadable`: this line can't be read, or its number is `usize::MAX`, and it did nothing;
+///   those before it were answered.
 /// - `Read`: a read failed, as the source's count of faults tells; the lines that had ended were
 ///   answered.
-/// - `Write`: a write failed, as the sink's count of faults tells; what was written is open.
-/// - `Memory`: a request for memory was refused outside of a command; some first ones of the lines
-///   that had ended were answered. If the next one had ended too, it is an `import`, `indices` or
-///   `take` that can be read.
+/// - `Write`: a write failed, as the sink's count of faults tells; what was read and written is
+///   open.
+/// - `Memory`: a request for memory was refused outside of a command; of the lines that had ended
+///   some first ones were answered, perhaps none. If any of them was left unanswered, the first
+///   that was is an `import`, `indices` or `take` that can be read.
 pub fn drive<A: Allocator + Clone, R: Source, W: Sink>(
     alloc: A,
     input: &mut R,

@@ -241,8 +241,9 @@ impl<A: Allocator + Clone> BitBufferMut<A> {
         BitBufferView::new_with_offset(self.buffer.as_slice(), self.len, self.offset)
     }
 
-    /// The bits for writing, in constant time. What the view holds at its end is what the set then
-    /// holds.
+    /// The bits for writing, in constant time. The view writes through this very reference, as
+    /// clause `lends` says: the bits that it has at its end are then the set's. In contracts its
+    /// bytes are those of the set, and its place is the set's offset, which may be 8 or more.
     pub fn as_mut_view(&mut self) -> BitBufferMutView<&mut BitBufferMut<A>>
         ensures lends { IsSameReference (store_of result) self.entry }
         ensures window { ShowsWindow self.old.offset self.old.bits result }

@@ -137,11 +137,13 @@ impl<T: Element, A: Allocator> BufferMut<T, A> {
         Ok(())
     }
 
-    /// Adds the values that an iterator of known length gives, up to its first error.
+    /// Adds the values that an iterator of known length gives, up to its first error. `Ok` says
+    /// that all its items were values, and that all were added. The iterator has to be one that may
+    /// be called; `I.left` is how many items it has still to give.
     ///
-    /// Refused by `Memory` before the first item is asked for, and unchanged then; within the
-    /// capacity it takes no memory. Stopped with `Item` at the first error; the values before it
-    /// stay then.
+    /// Refused by `Memory` before the first item is asked for, and the buffer is unchanged then;
+    /// within the capacity it takes no memory. Stopped with `Item` at the first error; the values
+    /// before it stay then.
     pub fn try_extend_trusted<E, I: TrustedLen<Item = Result<T, E>>>(
         &mut self,
         iter: I,

@@ -79,9 +79,12 @@ impl<A: Allocator + Clone> BitBufferMut<A> {
         Ok(())
     }
 
-    /// Adds the bits of a shared set, by words, whatever stood in the bytes past the end.
+    /// Adds the bits of a shared set behind the last bit, whatever stood in the bytes there. It
+    /// goes by words. The offset and the alignment stay, and the room doesn't shrink.
     ///
-    /// Refused as [`reserve`](Self::reserve) of the other set's length is.
+    /// Refused by `TooManyBits` where the offset and both lengths together pass `usize::MAX`, else
+    /// by `OutOfMemory` where memory is. Then the set and its room are unchanged. Where both
+    /// lengths together are at most `capacity()`, it takes no memory and succeeds.
     pub fn append_buffer(&mut self, set: &BitBuffer<A>) -> Result<()>
         ensures ok { OnOk result (AddsBits set.now.bits self.old self.new) }
         ensures grows { KeepsStart self.old self.new }

@@ -15,8 +15,9 @@ use vb_core::{BufferError, Result};
 
 #[tactic(auto, using(vb_bit_bytes::proofs::BytesLemmas::edits))]
 impl<A: Allocator + Clone> BitBufferMut<A> {
-    /// What `f` answers at the places from 0 up to `len`, asked in order and once each. Full words
-    /// go by vectors of bytes, the rest bit by bit.
+    /// A set, of offset 0, of what `f` answers at the places from 0 up to `len`, `len` excluded. It
+    /// is asked in order and once each, and has to be callable at each place, whatever it answered
+    /// before. Full words go by vectors of bytes, the rest bit by bit.
     ///
     /// It takes memory for the bytes of the bits. Refused by `OutOfMemory` alone, before the first
     /// question.
