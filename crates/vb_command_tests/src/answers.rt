@@ -35,18 +35,20 @@ fn answers_are_printed(rt: HostRuntime) -> Result<(), AllocError> {
     Ok(())
 }
 
+const REFUSALS: &[(Refusal, &str)] = &[
+    (Refusal::BadSlot, "refused BadSlot"),
+    (Refusal::BadWindow, "refused BadWindow"),
+    (Refusal::OutOfRange, "refused OutOfRange"),
+    (Refusal::LengthMismatch, "refused LengthMismatch"),
+    (Refusal::TakeOutOfRange(0), "refused TakeOutOfRange 0"),
+    (Refusal::TooManyBits, "refused TooManyBits"),
+    (Refusal::OutOfMemory, "refused OutOfMemory"),
+];
+
 #[test]
 fn refusals_are_printed(rt: HostRuntime) -> Result<(), AllocError> {
-    for (refusal, text) in [
-        (Refusal::BadSlot, "refused BadSlot"),
-        (Refusal::BadWindow, "refused BadWindow"),
-        (Refusal::OutOfRange, "refused OutOfRange"),
-        (Refusal::LengthMismatch, "refused LengthMismatch"),
-        (Refusal::TakeOutOfRange(0), "refused TakeOutOfRange 0"),
-        (Refusal::TooManyBits, "refused TooManyBits"),
-        (Refusal::OutOfMemory, "refused OutOfMemory"),
-    ] {
-        prints(&rt, rt.alloc(), &Answer::Refused(refusal), text)?;
+    for (refusal, text) in REFUSALS {
+        prints(&rt, rt.alloc(), &Answer::Refused(*refusal), text)?;
     }
     Ok(())
 }

@@ -26,19 +26,22 @@ fn asks(rt: &impl Abort, alloc: Global, line: &str, wanted: (usize, Option<usize
     equal_at(rt, given, Some(wanted), line);
 }
 
+/// Lines of one number or two, with these.
+const NUMBERS: &[(&str, (usize, Option<usize>))] = &[
+    ("len 3", (3, None)),
+    ("len 16", (16, None)),
+    ("get 0 0", (0, Some(0))),
+    (
+        "get 0 00018446744073709551615",
+        (0, Some(18446744073709551615)),
+    ),
+    ("   get   15  7 ", (15, Some(7))),
+];
+
 #[test]
 fn numbers_are_read(rt: HostRuntime) {
-    for (line, wanted) in [
-        ("len 3", (3, None)),
-        ("len 16", (16, None)),
-        ("get 0 0", (0, Some(0))),
-        (
-            "get 0 00018446744073709551615",
-            (0, Some(18446744073709551615)),
-        ),
-        ("   get   15  7 ", (15, Some(7))),
-    ] {
-        asks(&rt, rt.alloc(), line, wanted);
+    for (line, wanted) in NUMBERS {
+        asks(&rt, rt.alloc(), line, *wanted);
     }
 }
 
@@ -202,67 +205,70 @@ fn is_unreadable(rt: &impl Abort, alloc: Global, line: &[u8]) {
     equal_at(rt, is, true, str::from_utf8(line).ok());
 }
 
+/// Lines that no command is written as.
+const UNREADABLE: &[&str] = &[
+    "import 0 0 8 1",
+    "import 0 0 8 1g",
+    "import 0 0 8 --",
+    "import 0 0 8",
+    "import 0 0 8 14 14",
+    "get 0 18446744073709551616",
+    "get 0 +1",
+    "get 0 -1",
+    "get 0 1x",
+    "get 0",
+    "get 0 1 2",
+    "len",
+    "len x",
+    "len 0 #",
+    "len\t0",
+    "len 0\r",
+    "Len 0",
+    "length 0",
+    "selectunse 0 1",
+    "1",
+    "set 0 1",
+    "set 0 1 2",
+    "set 0 1 01",
+    "append 0",
+    "append 0 -",
+    "full 0 10 1",
+    "full 0 1 10 1",
+    "fill 0 1 7",
+    "slice 0 3 2",
+    "countrange 0 3",
+    "freeze",
+    "drop 0 1",
+    "and 0 1 2",
+    "or Own 0 1 2",
+    "xor own 0 1",
+    "not ref 0 1 2",
+    "sliced 0",
+    "eq 0",
+    "appendset 0",
+    "appendset 0 -",
+    "indices 0 4",
+    "indices 0 4 1,,3",
+    "indices 0 4 ,1",
+    "indices 0 4 1,",
+    "indices 0 4 1,-",
+    "indices 0 4 -1",
+    "indices 0 4 1, 3",
+    "indices 0 4 +1",
+    "indices 0 4 18446744073709551616",
+    "take 0 4 3,0",
+    "take 0 4 -- 3,0",
+    "take 0 4 -1 3,0",
+    "take 0 4 - 3,-",
+    "take 0 4 - +3",
+    "take 0 4 - --3",
+    "take 0 4 - 9223372036854775808",
+    "take 0 4 - -9223372036854775809",
+];
+
 #[test]
 fn other_lines_cannot_be_read(rt: HostRuntime) {
-    for line in [
-        "import 0 0 8 1",
-        "import 0 0 8 1g",
-        "import 0 0 8 --",
-        "import 0 0 8",
-        "import 0 0 8 14 14",
-        "get 0 18446744073709551616",
-        "get 0 +1",
-        "get 0 -1",
-        "get 0 1x",
-        "get 0",
-        "get 0 1 2",
-        "len",
-        "len x",
-        "len 0 #",
-        "len\t0",
-        "len 0\r",
-        "Len 0",
-        "length 0",
-        "selectunse 0 1",
-        "1",
-        "set 0 1",
-        "set 0 1 2",
-        "set 0 1 01",
-        "append 0",
-        "append 0 -",
-        "full 0 10 1",
-        "full 0 1 10 1",
-        "fill 0 1 7",
-        "slice 0 3 2",
-        "countrange 0 3",
-        "freeze",
-        "drop 0 1",
-        "and 0 1 2",
-        "or Own 0 1 2",
-        "xor own 0 1",
-        "not ref 0 1 2",
-        "sliced 0",
-        "eq 0",
-        "appendset 0",
-        "appendset 0 -",
-        "indices 0 4",
-        "indices 0 4 1,,3",
-        "indices 0 4 ,1",
-        "indices 0 4 1,",
-        "indices 0 4 1,-",
-        "indices 0 4 -1",
-        "indices 0 4 1, 3",
-        "indices 0 4 +1",
-        "indices 0 4 18446744073709551616",
-        "take 0 4 3,0",
-        "take 0 4 -- 3,0",
-        "take 0 4 -1 3,0",
-        "take 0 4 - 3,-",
-        "take 0 4 - +3",
-        "take 0 4 - --3",
-        "take 0 4 - 9223372036854775808",
-        "take 0 4 - -9223372036854775809",
-    ] {
+    for line in UNREADABLE {
         is_unreadable(&rt, rt.alloc(), line.as_bytes());
     }
 }

@@ -11,9 +11,18 @@ use vb_testing::Refusing;
 enum Way {
     CopyFrom,
     CopyFromFrozen,
-    FromVec,
-    TryIntoMut,
+    FromBytes,
+    /// By the shared buffer that is made of both.
+    Shared(OfShared),
+    /// By the growing one that this becomes.
+    Open(OfOpen),
+}
+
+/// A way on from a shared buffer.
+enum OfShared {
+    IntoMut,
     IntoMutOfTwo,
+    TryIntoMut,
     ItemsMut,
     ItemsMutOfTwo,
     Aligned,
@@ -21,15 +30,18 @@ enum Way {
     IntoByteBuffer,
     IntoBytes,
     FromByteBuffer,
-    FromBytes,
-    FromMut,
     Allocator,
+}
+
+/// A way on from a growing buffer.
+enum OfOpen {
+    FromMut,
+    Frozen,
+    Aligned,
+    IntoByteBuffer,
+    Clone,
     Taken,
     LeftByTake,
-    OpenAligned,
-    OpenIntoByteBuffer,
-    Frozen,
-    OpenClone,
 }
 
 type Made<A> = Result<BufferMut<u8, A>>;
@@ -39,44 +51,41 @@ impl Way {
         match self {
             Way::CopyFrom => copy_of(alloc, vector),
             Way::CopyFromFrozen => frozen_copy_of(alloc, vector),
-            Way::FromVec => Buffer::from_vec(alloc, vector)?.into_mut(),
-            Way::TryIntoMut => opened(Buffer::from_vec(alloc, vector)?),
-            Way::IntoMutOfTwo => opened_of_two(Buffer::from_vec(alloc, vector)?),
-            Way::ItemsMut => written(Buffer::from_vec(alloc, vector)?),
-            Way::ItemsMutOfTwo => written_of_two(Buffer::from_vec(alloc, vector)?),
-            Way::Aligned => aligned(Buffer::from_vec(alloc, vector)?),
-            Way::AsBytes => bytes_of(Buffer::from_vec(alloc, vector)?),
-            Way::IntoByteBuffer => {
-                Buffer::from_vec(alloc, vector)?
-                    .into_byte_buffer()?
-                    .into_mut()
-            }
-            Way::IntoBytes => by_bytes(Buffer::from_vec(alloc, vector)?),
-            Way::FromByteBuffer => {
-                ByteBuffer::from_byte_buffer(Buffer::from_vec(alloc, vector)?)?.into_mut()
-            }
             Way::FromBytes => Buffer::from_bytes(alloc, Bytes::from_vec(vector)?)?.into_mut(),
-            Way::FromMut => Buffer::from_mut(Buffer::from_vec(
-                alloc, vector,
-            )?.into_mut()?)?.into_mut(),
-            Way::Allocator => room_beside(Buffer::from_vec(alloc, vector)?),
-            Way::Taken => taken(Buffer::from_vec(alloc, vector)?.into_mut()?),
-            Way::LeftByTake => left_by_take(Buffer::from_vec(alloc, vector)?.into_mut()?),
-            Way::OpenAligned => {
-                Buffer::from_vec(alloc, vector)?
-                    .into_mut()?
-                    .aligned(Alignment::from_exponent(9))
-            }
-            Way::OpenIntoByteBuffer => {
-                Buffer::from_vec(alloc, vector)?
-                    .into_mut()?
-                    .into_byte_buffer()
-            }
-            Way::Frozen => Buffer::from_vec(alloc, vector)?
-                .into_mut()?
-                .freeze()?
-                .into_mut(),
-            Way::OpenClone => cloned(Buffer::from_vec(alloc, vector)?.into_mut()?),
+            Way::Shared(way) => way.make(Buffer::from_vec(alloc, vector)?),
+            Way::Open(way) => way.make(Buffer::from_vec(alloc, vector)?.into_mut()?),
+        }
+    }
+}
+
+impl OfShared {
+    fn make<A: Allocator + Clone>(&self, buffer: ByteBuffer<A>) -> Made<A> {
+        match self {
+            OfShared::IntoMut => buffer.into_mut(),
+            OfShared::IntoMutOfTwo => opened_of_two(buffer),
+            OfShared::TryIntoMut => opened(buffer),
+            OfShared::ItemsMut => written(buffer),
+            OfShared::ItemsMutOfTwo => written_of_two(buffer),
+            OfShared::Aligned => aligned(buffer),
+            OfShared::AsBytes => bytes_of(buffer),
+            OfShared::IntoByteBuffer => buffer.into_byte_buffer()?.into_mut(),
+            OfShared::IntoBytes => by_bytes(buffer),
+            OfShared::FromByteBuffer => ByteBuffer::from_byte_buffer(buffer)?.into_mut(),
+            OfShared::Allocator => room_beside(buffer),
+        }
+    }
+}
+
+impl OfOpen {
+    fn make<A: Allocator + Clone>(&self, open: BufferMut<u8, A>) -> Made<A> {
+        match self {
+            OfOpen::FromMut => Buffer::from_mut(open)?.into_mut(),
+            OfOpen::Frozen => open.freeze()?.into_mut(),
+            OfOpen::Aligned => open.aligned(Alignment::from_exponent(9)),
+            OfOpen::IntoByteBuffer => open.into_byte_buffer(),
+            OfOpen::Clone => cloned(open),
+            OfOpen::Taken => taken(open),
+            OfOpen::LeftByTake => left_by_take(open),
         }
     }
 }
@@ -181,29 +190,29 @@ const BOTH: Heaps = (true, true);
 const WAYS: &[(Way, Heaps, Heaps)] = &[
     (Way::CopyFrom, GIVEN, GIVEN),
     (Way::CopyFromFrozen, GIVEN, GIVEN),
-    // The storage is the vector's.
-    (Way::FromVec, GIVEN, VECTORS),
-    (Way::TryIntoMut, GIVEN, VECTORS),
-    (Way::ItemsMut, GIVEN, VECTORS),
-    // What is copied is the buffer's.
-    (Way::IntoMutOfTwo, GIVEN, GIVEN),
-    (Way::ItemsMutOfTwo, GIVEN, GIVEN),
-    (Way::Aligned, GIVEN, GIVEN),
-    (Way::AsBytes, GIVEN, GIVEN),
-    (Way::IntoByteBuffer, GIVEN, GIVEN),
-    (Way::IntoBytes, GIVEN, GIVEN),
-    (Way::FromByteBuffer, GIVEN, GIVEN),
-    (Way::Allocator, GIVEN, GIVEN),
     // `Bytes` keep a block of their own.
     (Way::FromBytes, BOTH, GIVEN),
+    // The storage is the vector's.
+    (Way::Shared(OfShared::IntoMut), GIVEN, VECTORS),
+    (Way::Shared(OfShared::TryIntoMut), GIVEN, VECTORS),
+    (Way::Shared(OfShared::ItemsMut), GIVEN, VECTORS),
+    // What is copied is the buffer's.
+    (Way::Shared(OfShared::IntoMutOfTwo), GIVEN, GIVEN),
+    (Way::Shared(OfShared::ItemsMutOfTwo), GIVEN, GIVEN),
+    (Way::Shared(OfShared::Aligned), GIVEN, GIVEN),
+    (Way::Shared(OfShared::AsBytes), GIVEN, GIVEN),
+    (Way::Shared(OfShared::IntoByteBuffer), GIVEN, GIVEN),
+    (Way::Shared(OfShared::IntoBytes), GIVEN, GIVEN),
+    (Way::Shared(OfShared::FromByteBuffer), GIVEN, GIVEN),
+    (Way::Shared(OfShared::Allocator), GIVEN, GIVEN),
     // The open buffer has the vector's storage.
-    (Way::FromMut, BOTH, VECTORS),
-    (Way::Frozen, BOTH, VECTORS),
-    (Way::OpenClone, BOTH, VECTORS),
-    (Way::OpenAligned, BOTH, VECTORS),
-    (Way::OpenIntoByteBuffer, BOTH, VECTORS),
-    (Way::Taken, GIVEN, VECTORS),
-    (Way::LeftByTake, GIVEN, VECTORS),
+    (Way::Open(OfOpen::FromMut), BOTH, VECTORS),
+    (Way::Open(OfOpen::Frozen), BOTH, VECTORS),
+    (Way::Open(OfOpen::Clone), BOTH, VECTORS),
+    (Way::Open(OfOpen::Aligned), BOTH, VECTORS),
+    (Way::Open(OfOpen::IntoByteBuffer), BOTH, VECTORS),
+    (Way::Open(OfOpen::Taken), GIVEN, VECTORS),
+    (Way::Open(OfOpen::LeftByTake), GIVEN, VECTORS),
 ];
 
 /// Which heaps were asked since this was told the last time.

@@ -5,7 +5,6 @@ use crate::compared::equal;
 use std::alloc::{Allocator, Global};
 use std::fmt::Debug;
 use std::process::Abort;
-use std::test::Fail;
 use vb_core::{Alignment, Result};
 use vb_mem::{Buffer, BufferMut, ByteBuffer};
 
@@ -17,12 +16,12 @@ fn a_literal_power_of_two_is_an_alignment(rt: HostRuntime) {
 }
 
 #[test]
-fn numbers_of_a_range_are_as_many_as_it_has(rt: HostRuntime) -> Result<(), Fail> {
-    let hundred = Buffer::from_trusted_len_iter(rt.alloc(), 0..100u32)?;
-    let part = hundred.slice(64..96)?;
-    assert_eq!(rt; part.len(), 32);
-    assert_eq!(rt; part.as_slice().first().copied(), Some(64));
-    Ok(())
+fn numbers_of_a_range_are_as_many_as_it_has(rt: HostRuntime) {
+    let hundred = Buffer::from_trusted_len_iter(rt.alloc(), 0..100u32).expect(&rt, "numbers");
+    let part = hundred.slice(64..96).expect(&rt, "a part");
+    equal(&rt, part.len(), 32);
+    equal(&rt, part.as_slice().first().copied(), Some(64));
+    drop((hundred, part));
 }
 
 /// The first two items, where there are two.
@@ -34,16 +33,18 @@ fn first_two<A: Allocator + Clone>(values: &Buffer<u32, A>) -> Result<Option<Buf
 }
 
 #[test]
-fn a_front_is_sliced_after_a_look_at_the_length(rt: HostRuntime) -> Result<(), Fail> {
-    let values = Buffer::copy_from(rt.alloc(), &[1u32, 2, 3])?;
-    let front = first_two(&values)?;
-    assert_eq!(rt; front.map(|part| part.len()), Some(2));
-    let mut part = values.slice(1..3)?;
+fn a_front_is_sliced_after_a_look_at_the_length(rt: HostRuntime) {
+    let values = Buffer::copy_from(rt.alloc(), &[1u32, 2, 3]).expect(&rt, "values");
+    let front = first_two(&values)
+        .expect(&rt, "memory")
+        .expect(&rt, "two items");
+    equal(&rt, front.len(), 2);
+    let mut part = values.slice(1..3).expect(&rt, "a part");
     if part.len() >= 1 {
         part.narrow(0..1);
     }
-    assert_eq!(rt; part.as_slice().first().copied(), Some(2));
-    Ok(())
+    equal(&rt, part.as_slice().first().copied(), Some(2));
+    drop((values, front, part));
 }
 
 /// A value is printed so.
