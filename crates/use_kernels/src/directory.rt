@@ -1,7 +1,6 @@
 //! A directory of counts in half the memory, for sets of fewer than `2^32` bits.
 ghost use Rattle.std.specs.Prelude.{◌≡◌, ◌*◌, ◌^◌, ◌<◌, ◌≤◌, length};
-ghost use Rattle.vortex_buffer.specs.Bits.{bits};
-ghost use Rattle.vortex_buffer.specs.Bits.{Selects};
+ghost use Rattle.vortex_buffer.specs.Bits.{bits, Selects};
 ghost use Rattle.vortex_buffer.specs.Tables.{block_counts, blocks};
 
 use std::marker::Model;

@@ -1,7 +1,6 @@
 //! The sets that commands edit.
 ghost use Rattle.std.specs.Prelude.{◌≡◌, ◌+◌, ◌*◌, ◌^◌, ◌<◌, ◌≤◌, [], ◌∷◌, ◌++◌, length, take};
-ghost use Rattle.std.specs.Prelude.{replicate, slice_set, false, IsTrue};
-ghost use Rattle.std.specs.Prelude.{OnOk, OnErr};
+ghost use Rattle.std.specs.Prelude.{replicate, slice_set, false, IsTrue, OnOk, OnErr};
 ghost use Rattle.vb_bits.specs.Bits.{bits, complement};
 ghost use Rattle.vb_bits.specs.Edits.{with_fill};
 ghost use Rattle.vb_bits.specs.InBytes.{InBytes};

@@ -1,6 +1,5 @@
 //! A buffer whose alignment is part of its type.
-ghost use Rattle.std.specs.Prelude.{◌≡◌, ◌≢◌, ◌%◌, ◌^◌, ◌≤◌};
-ghost use Rattle.std.specs.Prelude.{IfOk, IsOkAnd, IsErrOf, IsOkUnless};
+ghost use Rattle.std.specs.Prelude.{◌≡◌, ◌≢◌, ◌%◌, ◌^◌, ◌≤◌, IfOk, IsOkAnd, IsErrOf, IsOkUnless};
 ghost use Rattle.vb_core.specs.Alignments.{IsPower};
 ghost use Rattle.vb_mem.specs.Makes.{Makes};
 ghost use Rattle.vb_mem.specs.SharedBuffer.{IsAlignedTo, Shows, ShowsMade};

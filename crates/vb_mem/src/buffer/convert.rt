@@ -1,6 +1,5 @@
 //! More owners of a buffer, other alignments, and items to be written.
-ghost use Rattle.std.specs.Prelude.{◌≡◌, ◌≤◌};
-ghost use Rattle.std.specs.Prelude.{IfOk, IfErr, IsOk, IsOkAnd, IsErrOf, IsOkUnless};
+ghost use Rattle.std.specs.Prelude.{◌≡◌, ◌≤◌, IfOk, IfErr, IsOk, IsOkAnd, IsErrOf, IsOkUnless};
 ghost use Rattle.std.specs.Borrow.{sem};
 ghost use Rattle.vb_mem.specs.Makes.{Makes};
 ghost use Rattle.vb_mem.specs.OpenBuffer.{Holds};

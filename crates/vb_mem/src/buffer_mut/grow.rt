@@ -5,8 +5,7 @@ ghost use Rattle.std.specs.Iterator.{Drains, ExtendsWithItems, HoldsAlong};
 ghost use Rattle.std.specs.Iterator.{IsFinite, IsFiniteIterable};
 ghost use Rattle.vb_mem.specs.Makes.{NeedsRoom};
 ghost use Rattle.vb_mem.specs.OpenBuffer.{Lengthens, HasRoom};
-ghost use Rattle.vb_mem.specs.Collected.{IfItem, OnMemory};
-ghost use Rattle.vb_mem.specs.Collected.{GivesThen, GivesValues, GivesError};
+ghost use Rattle.vb_mem.specs.Collected.{IfItem, OnMemory, GivesThen, GivesValues, GivesError};
 
 use super::BufferMut;
 use crate::Result;

@@ -2,8 +2,7 @@
 ghost use Rattle.std.specs.Prelude.{◌≡◌, ◌≢◌, ◌≤◌, ⊤, List, [], length, replicate, IfOk, Err};
 ghost use Rattle.std.specs.Iterator.{Drains, IsFiniteIterable};
 ghost use Rattle.vb_mem.specs.Makes.{Makes};
-ghost use Rattle.vb_mem.specs.Collected.{OfItems, OfRun};
-ghost use Rattle.vb_mem.specs.Collected.{GivesValues, GivesError, IfItem};
+ghost use Rattle.vb_mem.specs.Collected.{OfItems, OfRun, GivesValues, GivesError, IfItem};
 ghost use Rattle.vb_mem.specs.OpenBuffer.{Holds, HoldsMade, preferred_over};
 
 use super::{BufferMut, DEFAULT};
