@@ -1,5 +1,5 @@
 //! Growth at the end: of single items, of slices, and of what iterators give.
-ghost use Rattle.std.specs.Prelude.{◌≡◌, ◌≢◌, ◌+◌, List, [], ◌∷◌, length, replicate};
+ghost use Rattle.std.specs.Prelude.{◌≡◌, ◌≢◌, ◌+◌, ◌≤◌, List, [], ◌∷◌, length, replicate};
 ghost use Rattle.std.specs.Prelude.{OnOk, OnErr, IsOk, IsOkUnless, IfSome};
 ghost use Rattle.std.specs.Iterator.{Drains, ExtendsWithItems, HoldsAlong};
 ghost use Rattle.std.specs.Iterator.{IsFinite, IsFiniteIterable};
@@ -155,6 +155,7 @@ impl<T: Element, A: Allocator> BufferMut<T, A> {
         ensures item { IfItem result (λ e. GivesError I.next_gives iter e
             (λ items. Lengthens items self.old self.new)) }
         ensures memory { OnMemory result (self.new ≡ self.old) }
+        ensures room { IfItem result (λ _. length self.old.list + I.left iter ≤ self.new.room) }
     {
         if self.reserve(iter.exact_len()).is_err() {
             return Err(ExtendError::Memory);

@@ -9,6 +9,7 @@ invariant-loop-item g l = record {
       × (l.self-inside.items.items ≡ l.fn.self.list ++ values);
   room : length l.self-inside.items.items + g.I.TrustedLen.left l.item-iterator
       ≤ l.self-inside.items.cap;
+  whole : length l.fn.self.list + g.I.TrustedLen.left l.fn.iter ≤ l.self-inside.items.cap;
   grows : l.fn.self.room ≤ l.self-inside.items.cap;
   alignment : l.self-inside.alignment ≡ l.fn.self.alignment;
   declared : l.self-inside.declared ≡ l.fn.self.declared;
