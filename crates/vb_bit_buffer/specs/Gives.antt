@@ -1,5 +1,6 @@
 -- What calls give that combine sets or negate one.
-use Rattle.std.specs.Prelude.{◌≡◌, ◌≢◌, length, Result, IfOk, IsErrOf, IsOkUnless}
+use Rattle.std.specs.Prelude.{◌≡◌, ◌≢◌, ◌+◌, length, Result, IfOk, IsErrOf, IsOkUnless}
+use Rattle.std.specs.Int.{div_ceil}
 use Rattle.vb_bit_buffer.specs.SharedSet.{SharedSet}
 use Rattle.vb_bits.specs.Bits.{complement}
 use Rattle.vb_bits.specs.Operators.{combined_by}
@@ -7,18 +8,23 @@ use Rattle.vb_bits.specs.declared.zip.BitOp.{BitOp}
 use Rattle.vb_core.specs.declared.error.BufferError.{BufferError}
 use Rattle.vb_core.specs.declared.error.BufferError.TheVariants.{OutOfMemory, LengthMismatch}
 
--- the bits of two sets of one length are combined place by place, or memory was refused; sets of
--- two lengths are refused, with both
+-- the bits of two sets of one length are combined place by place, from the left offset on and in no
+-- more bytes than hold them, or memory was refused; sets of two lengths are refused, with both
 pub record GivesCombined (op : BitOp) (l r : SharedSet)
     (result : Result SharedSet BufferError) : Type 0 where
   pub ok : IfOk result (λ s. s.bits ≡ combined_by op l.bits r.bits)
   pub len : IfOk result (λ s. length s.bits ≡ length l.bits)
+  pub offset : IfOk result (λ s. s.offset ≡ l.offset)
+  pub byte_len : IfOk result (λ s. length s.bytes ≡ div_ceil (l.offset + length l.bits) 8)
   pub same_len : length l.bits ≡ length r.bits → IsOkUnless result OutOfMemory
   pub other_len : length l.bits ≢ length r.bits
       → IsErrOf result (LengthMismatch (length l.bits) (length r.bits))
 
--- each bit is negated, or memory was refused
+-- each bit is negated, from the same offset on and in no more bytes than hold them, or memory was
+-- refused
 pub record GivesNegated (s : SharedSet) (result : Result SharedSet BufferError) : Type 0 where
   pub ok : IfOk result (λ t. t.bits ≡ complement s.bits)
   pub len : IfOk result (λ t. length t.bits ≡ length s.bits)
+  pub offset : IfOk result (λ t. t.offset ≡ s.offset)
+  pub byte_len : IfOk result (λ t. length t.bytes ≡ div_ceil (s.offset + length s.bits) 8)
   pub refused : IsOkUnless result OutOfMemory

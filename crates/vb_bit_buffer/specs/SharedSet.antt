@@ -16,10 +16,11 @@ pub record IsFreshSet (made : List Bool) (s : SharedSet) : Type 0 where
   pub offset : s.offset ≡ 0
   pub byte_len : length s.bytes ≡ div_ceil (length made) 8
 
--- a set has these bits, in the bytes in which they lie and no others
-pub record HoldsAlone (held : List Bool) (s : SharedSet) : Type 0 where
+-- a set has these bits from this offset on, in the bytes in which they lie and no others
+pub record HoldsAlone (held : List Bool) (first : ℕ) (s : SharedSet) : Type 0 where
   pub bits : s.bits ≡ held
-  pub byte_len : length s.bytes ≡ div_ceil (s.offset + length held) 8
+  pub offset : s.offset ≡ first
+  pub byte_len : length s.bytes ≡ div_ceil (first + length held) 8
 
 -- a set of the bits that begin at bit `start` of a storage, from the byte of the first one on
 pub record SharesFrom (start : ℕ) (storage : List ℕ) (shared : List Bool)

@@ -1,9 +1,9 @@
 //! Sets combined bit by bit, and negated.
 //!
-//! An owned left value keeps its offset, and where no other owner has its storage its bytes are
-//! written over in place, and memory is taken for the count of owners alone; else they are copied,
-//! those of the window alone, which takes memory for these too. All of it is asked of the left
-//! value's allocator. Lengths are compared before memory is asked for.
+//! What is answered has the left value's offset, and the bytes of the window alone. Where no other
+//! owner has the storage of an owned left value, its bytes are written over in place, and memory is
+//! taken for the count of owners alone; else they are copied, which takes memory for these too. All
+//! of it is asked of the left value's allocator. Lengths are compared before memory is asked for.
 ghost use Rattle.std.specs.Prelude.{◌≡◌, ◌≢◌, ◌≤◌, [], length, IsOk, IsErrOf};
 ghost use Rattle.vb_mem.specs.Makes.{Makes};
 ghost use Rattle.vb_mem.specs.OpenBuffer.{HoldsMade};
