@@ -164,8 +164,8 @@ fn all<F: FnMut(usize)>(base: usize, f: &mut F)
 
 /// Calls `f` at the places of a word's ones, of which the lowest digit has the place `base`.
 ///
-/// It goes by their count, which is known before the first call, and so costs a processor less than
-/// to see after each whether one is left.
+/// It goes by their count, which is known before the first call: where many bits are set that takes
+/// less time than to see after each call whether one is left.
 #[inline(always)]
 fn ones<F: FnMut(usize)>(word: u64, base: usize, f: &mut F)
     requires fits { (i : ℕ) → has_bit word i ≡ true → base + i < 2 ^ 64 }
