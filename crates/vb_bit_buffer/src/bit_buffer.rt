@@ -136,7 +136,7 @@ impl<A: Allocator + Clone> BitBuffer<A> {
 
     /// Another owner of the same bits, which shares the storage, in constant time. It takes no
     /// memory but what a copy of the allocator takes. Refused by `OutOfMemory` alone, where the
-    /// allocator can't be copied.
+    /// allocator can't be copied, or the storage has as many owners as can be counted.
     pub fn clone(&self) -> Result<Self>
         ensures { Makes (λ s. s ≡ self.now) result }
     {
@@ -151,7 +151,7 @@ impl<A: Allocator + Clone> BitBuffer<A> {
     /// The bits of a range, which has to be in order and to end within the length. They share the
     /// storage, from the byte of the first bit on, in constant time. It takes no memory but what a
     /// copy of the allocator takes. Refused by `OutOfMemory` alone, where the allocator can't be
-    /// copied.
+    /// copied, or the storage has as many owners as can be counted.
     pub fn slice(&self, range: Range<usize>) -> Result<Self>
         requires order { range.start ≤ range.end }
         requires within { range.end ≤ length self.now.bits }
@@ -268,7 +268,7 @@ impl<A: Allocator + Clone> BitBuffer<A> {
     }
 
     /// The bytes of the bits, where the offset is 0; otherwise `None`. The bits of the last byte
-    /// past the length are open.
+    /// past the length may be anything.
     pub fn byte_aligned_bytes(&self) -> Option<&[u8]>
         ensures aligned { IsSome result ↔ (self.now.offset ≡ 0) }
         ensures bytes { IfSome result (λ bytes. bytes.now
@@ -281,7 +281,7 @@ impl<A: Allocator + Clone> BitBuffer<A> {
         Some(&self.buffer.as_slice()[..self.len.div_ceil(8)])
     }
 
-    /// The bits for questions, in constant time.
+    /// A view that only reads the bits, in constant time.
     pub fn as_view(&self) -> BitBufferView<'_>
         ensures bits { bits_of result ≡ self.now.bits }
         ensures offset { offset_of result ≡ self.now.offset }
@@ -386,7 +386,8 @@ impl<A: Allocator + Clone> BitBuffer<A> {
         self.as_view().chunks()
     }
 
-    /// The bytes of the bits, by eights from the first one, as words.
+    /// The bits as words that begin at whole bytes: eight bytes a word, from the byte of the first
+    /// bit on. Bits outside of the set are 0 in them.
     pub fn unaligned_chunks(&self) -> UnalignedBitChunk<'_>
         ensures { IsCut self.now.offset self.now.bits result }
     {

@@ -12,16 +12,15 @@ use vb_core::{BitIndex, BufferError, Result};
 use vb_take::take_into;
 use vb_view::BitBufferView;
 
-/// A set of the bits that the indices name, one for each index. Its offset is 0, and its bytes are
-/// as few as hold them.
+/// The bits of `bits` at the indices, one for each index, as a set of offset 0 whose bytes are as
+/// few as hold them.
 ///
-/// Where there is a `validity`, which has to be as long as the indices, a position counts only
-/// where it is true: the others give false, and their indices aren't looked at.
+/// A `validity`, where there is one, has to be as long as the indices. At a position where it is
+/// false, the new bit is false, and the index doesn't count.
 ///
-/// Refused by `TakeOutOfRange` with the first position that counts and whose index names no place
-/// of `bits`, or by `OutOfMemory`. It takes memory, of the allocator that is handed in, for the
-/// bytes of the new set before it looks at an index, and then for the count of their owners: so
-/// want of memory may come first where a position is bad too.
+/// Refused by `TakeOutOfRange` with the first position whose index counts and is negative, or not
+/// below the length of `bits`; or by `OutOfMemory`. Memory comes from `alloc`: for the new bytes
+/// before any index is tested, and for the count of owners after the last one is.
 #[tactic(auto, using(vb_bit_bytes::proofs::BytesLemmas::edits))]
 pub fn take_bits<A: Allocator + Clone, I: BitIndex>(
     alloc: A,

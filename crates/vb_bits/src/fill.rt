@@ -4,8 +4,8 @@ ghost use Rattle.vb_bits.specs.Writes.{Writes};
 
 use crate::bytes::byte_mask;
 
-/// Makes the bits from `start` up to `end` `v`, `end` excluded, and leaves every other bit; nothing
-/// where `start >= end`.
+/// Sets the bits from bit `start` up to bit `end`, `end` excluded, to `v`. No other bit changes.
+/// Where `start >= end`, no bit changes. `end` has to be at most the number of bits in `bytes`.
 ///
 /// The bits of a partial first and last byte go by a mask, the whole bytes between by one block
 /// fill.

@@ -12,8 +12,8 @@ const BLOCK: usize = 8;
 
 /// The place, relative to the window, of its last true bit; `None` where it has none.
 ///
-/// Words are read from the end to the front, all but the last one from whole bytes on. Those that
-/// have no true bit are passed by blocks of eight, and then one by one.
+/// Words are read from the end to the front. Those that have no true bit are passed by blocks of
+/// eight, and then one by one.
 pub fn last_set_index(bytes: &[u8], offset: usize, len: usize) -> Option<usize>
     requires window { InBytes bytes.now offset len }
     ensures { result ≡ last_place (bits bytes.now offset len) }

@@ -7,11 +7,11 @@ ghost use Rattle.vb_bits.specs.Writes.{Writes};
 
 use crate::bit::set_bit_unchecked;
 
-/// Makes the bits true at the places that an iterator gives, which may come more than once; or
-/// answers the first number that is not below `len`, and asks for none behind it.
+/// Makes bit `p` of `bytes` true for each `p` that `places` gives, which may come more than once.
+/// `Err` holds the first `p` that is not below `len`; the iterator is asked for nothing after it.
 ///
-/// The bits from bit `len` on stay in either case. Where a number is refused, those before bit
-/// `len` are open.
+/// `bytes` has to have room for `len` bits, and the iterator has to end. On `Ok` no other bit
+/// changes. On `Err` the bits before bit `len` are unspecified, and those from it on are unchanged.
 pub fn set_bits_at<I: Iterator<Item = usize>>(
     bytes: &mut [u8],
     len: usize,

@@ -21,8 +21,11 @@ pub enum BitOp {
     AndNot,
 }
 
-/// Makes each of the `len` bits of `dst` from bit `d` on what `op` makes of it, as the left one,
-/// and of that of `src` from bit `s` on, and leaves every other bit of `dst`.
+/// Replaces bit `d + i` of `dst`, for each `i` below `len`, by `op` of that bit and of bit `s + i`
+/// of `src`. The bit of `dst` is the left operand. No other bit of `dst` changes.
+///
+/// These bits have to lie in `dst` and in `src`, and `d + len` and `s + len` have to fit in a
+/// `usize`.
 ///
 /// It goes by words of 64 bits, four at a time, whatever the two offsets are.
 pub fn zip_words(dst: &mut [u8], d: usize, src: &[u8], s: usize, len: usize, op: BitOp)

@@ -10,8 +10,10 @@ use crate::error::BufferError;
 use std::fmt;
 use std::marker::Model;
 
-/// A power of two below `2^64`: the number that divides the place in bytes of the first item of a
-/// buffer.
+/// A number of bytes that is a power of two, from 1 to `2^63`.
+///
+/// The alignment of a buffer divides the byte offset of its first item from the start of the
+/// storage. It says nothing of the item's address.
 ///
 /// Contracts see an alignment as its exponent. Equality, order and hash are those of the exponent.
 /// No call takes memory.
@@ -33,8 +35,8 @@ impl Model for Alignment {
 }
 
 impl Alignment {
-    /// The alignment that a buffer declares where no other is asked for: 256 bytes, more than any
-    /// vector register has.
+    /// 256 bytes: the alignment that constructors declare new storage with, unless a greater one is
+    /// asked for or an argument `preferred` says otherwise. It says nothing of addresses.
     pub const DEFAULT_ALIGNMENT: Alignment = Alignment { exponent: 8 };
 
     /// The alignment of copies from a device to the host: 256 bytes.
@@ -47,8 +49,8 @@ impl Alignment {
     /// The greatest alignment: `2^63` bytes.
     pub const MAX: Alignment = Alignment { exponent: 63 };
 
-    /// The alignment of `align` bytes, which is a power of two. Of a literal that is shown by
-    /// computing.
+    /// The alignment of `align` bytes, which has to be a power of two. A literal needs no proof of
+    /// it; [`Alignment::try_from_u32`] tests a number that isn't known.
     pub fn new(align: usize) -> Alignment
         requires { IsPower align }
         ensures { 2 ^ result ≡ align }
@@ -141,7 +143,7 @@ impl Alignment {
         Ok(1 << self.exponent)
     }
 
-    /// The power of two that the alignment is.
+    /// The exponent, from 0 to 63: the alignment is 2 to this power, in bytes.
     pub fn exponent(self) -> u8
         ensures value { result ≡ self }
         ensures in_range { result < 64 }

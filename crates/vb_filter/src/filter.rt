@@ -14,16 +14,17 @@ pub trait Filter: Sized {
     // the last are those of the first whose bit in the mask is true
     ghost keeps: { Self → List Bool → Self → Type 0 };
 
-    /// The values whose bit in the mask is true, in order, in memory of their own: a buffer of the
-    /// alignment that this one reports, or a set from the first bit of its bytes on, of which there
-    /// are no more than its bits lie in.
+    /// The values whose bit in the mask is true, in order, as a copy: a buffer of the alignment
+    /// that this one reports, or a set of offset 0 whose bytes are as few as hold its bits.
     ///
-    /// Refused by `LengthMismatch`, with both lengths, where the mask isn't as long as the values,
-    /// before memory is asked; else by `OutOfMemory` alone. It asks for the memory of the values
-    /// that are kept by one request, and by another for the count of their owners.
+    /// Refused by `LengthMismatch`, with both lengths, exactly where the mask is longer or shorter
+    /// than the values, before memory is asked for; else by `OutOfMemory` alone. Memory comes from
+    /// the allocator of this buffer or set: by one request for the values that are kept, if any,
+    /// and by one for the count of owners.
     ///
-    /// It takes time for each 64 bits of the mask and for each value that is kept; where 64 in a
-    /// row are, they are copied as a block.
+    /// The time is linear in the length of the mask and the number of values that are kept. The
+    /// items of a buffer are copied as a block where 64 bits of the mask, from a multiple of 64 on,
+    /// are all true.
     fn filtered(&self, mask: BitBufferView<'_>) -> Result<Self>
         ensures { GivesFiltered (len self.now) (length (bits_of mask.entry))
             (keeps self.now (bits_of mask.entry)) result };

@@ -54,13 +54,13 @@ impl<T: Element, A: Allocator + Clone> Take for Buffer<T, A> {
     }
 }
 
-/// Writes the values that the indices name to the front of `out`, one for each index; or answers
-/// the first position whose index names no value.
+/// Writes the values at the indices to the front of `out`, one for each index. `out` has to have at
+/// least `indices.len()` items; the items behind these stay.
 ///
-/// Where there is a `validity`, which has to be as long as the indices, a position counts only
-/// where it is true: at the others 0 is written, and their indices aren't looked at. The items of
-/// `out` behind the first ones stay in either case; where a position is refused, the first ones are
-/// open.
+/// A `validity`, where there is one, has to be as long as the indices. At a position where it is
+/// false, 0 is written, and the index doesn't count. `Err` is the first position whose index counts
+/// and is negative, or not below the number of values. The first `indices.len()` items of `out` are
+/// unspecified then.
 pub fn take_values_into<T: Element, I: BitIndex>(
     out: &mut [T],
     values: &[T],

@@ -2,11 +2,13 @@
 ghost use Rattle.std.specs.Prelude.{◌≡◌, ℕ, ◌+◌, ◌/◌, ◌≤◌};
 ghost use Rattle.vb_kernel.specs.Looks.{looks};
 
-/// The most looks that a count of `len` bits takes, at whatever bit it begins.
+/// `len / 512 + 16`: an upper bound on the looks that [`count_ones_by`](crate::count_ones_by),
+/// [`bit_select_by`](crate::bit_select_by) or
+/// [`bit_select_unset_by`](crate::bit_select_unset_by) takes over `len` bits, at any offset. A look
+/// is one read of a chunk of 64 bytes, of a word of eight, or of a byte.
 ///
-/// One look reads up to 512 bits, so a window has `len / 512` whole chunks at most. Beside them are
-/// at most seven words, seven bytes, and the bits of a partial first and last byte. A window of up
-/// to 512 bits takes no more than the latter, since a chunk leaves no bit beside it.
+/// The bits hold at most `len / 512` whole chunks. Beside these are at most seven words, seven
+/// bytes, and a partial first and last byte. Up to 512 bits take at most 16 looks.
 pub fn most_looks(len: usize) -> usize
     ensures value { result ≡ len / 512 + 16 }
     ensures most { (offset : ℕ) → looks offset len ≤ result }

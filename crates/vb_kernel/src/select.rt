@@ -85,7 +85,12 @@ pub fn bit_select_unset(bytes: &[u8], offset: usize, len: usize, n: usize) -> Op
     bit_select_unset_by(&mut Plain::new(bytes), offset, len, n)
 }
 
-/// [`bit_select`] of the window of `src`, by at most the looks of a count of the window.
+/// The place of the `n`-th true bit, counted from 0, of the `len` bits of `src` from bit `offset`
+/// on; `None` where at most `n` of them are true. The place is relative to bit `offset`.
+///
+/// The search takes at most the looks of [`count_ones_by`](crate::count_ones_by) of the same bits,
+/// and so at most [`most_looks`](crate::most_looks) of `len`. A look is one read of a chunk of 64
+/// bytes, of a word of eight, or of a byte.
 pub fn bit_select_by<G: Glance>(src: &mut G, offset: usize, len: usize, n: usize) -> Option<usize>
     requires window { InBytes (G.seen src.old).bytes offset len }
     ensures place { Selects (bits (G.seen src.old).bytes offset len) n result }
@@ -95,7 +100,12 @@ pub fn bit_select_by<G: Glance>(src: &mut G, offset: usize, len: usize, n: usize
     find(src, offset, len, n, true).break_value()
 }
 
-/// [`bit_select_unset`] of the window of `src`, by at most the looks of a count of the window.
+/// The place of the `n`-th false bit, counted from 0, of the `len` bits of `src` from bit `offset`
+/// on; `None` where at most `n` of them are false. The place is relative to bit `offset`.
+///
+/// The search takes at most the looks of [`count_ones_by`](crate::count_ones_by) of the same bits,
+/// and so at most [`most_looks`](crate::most_looks) of `len`. A look is one read of a chunk of 64
+/// bytes, of a word of eight, or of a byte.
 pub fn bit_select_unset_by<G: Glance>(
     src: &mut G,
     offset: usize,

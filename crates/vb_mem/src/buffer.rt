@@ -14,11 +14,15 @@ mod byte_form;
 mod convert;
 mod make;
 
-/// A list of items whose storage other buffers may share, with an alignment.
+/// A list of items whose storage other buffers may share. No buffer sees what another one writes.
 ///
-/// The reported alignment is at least that of an item. Where the buffer isn't empty, the place of
-/// its first item in the storage, in bytes, is a multiple of it, and the storage is declared with
-/// it or with a greater one. Equality, order and hash are those of the list.
+/// Alignments are numbers that the buffer keeps, and say nothing of addresses: memory is asked for
+/// at the alignment of an item. The storage has a declared alignment. The buffer reports one that
+/// is at least that of an item and at most the declared one. Unless the buffer is empty, the byte
+/// offset of its first item from the start of the storage is a multiple of the reported one.
+///
+/// "Over-aligned to 256 bytes" says that the storage is declared with 256 bytes, or with the
+/// reported alignment if that is greater. Equality, order and hash are those of the list.
 #[derive(Drop)]
 pub struct Buffer<T: Element, A: Allocator = Global> {
     content: Content<T, A>,
@@ -118,10 +122,14 @@ impl<T: Element, A: Allocator> Buffer<T, A> {
         self.content = Content::Nothing(self.alignment());
     }
 
-    /// Whether the items of a range can be sliced with an alignment: the range lies within the
-    /// buffer, the alignment is at least that of an item, and the range is empty or the place in
-    /// bytes of its first item is a multiple of the alignment and the storage is declared with it
-    /// or more.
+    /// Whether [`Buffer::slice_with_alignment`] can be called with `range` and `alignment`. Three
+    /// things have to hold:
+    ///
+    /// - `range` lies within the buffer: `range.start <= range.end <= self.len()`.
+    /// - `alignment` is at least that of an item.
+    /// - The range is empty; or the byte offset of its first item, from the start of the storage
+    ///   and not of this buffer, is a multiple of `alignment`, and `alignment` is at most
+    ///   [`Buffer::declared`].
     pub fn can_slice(&self, range: Range<usize>, alignment: Alignment) -> bool
         ensures { IsTrue result ↔ CanSlice T.SIZE T.align_exponent self.now range alignment }
     {
@@ -133,8 +141,13 @@ impl<T: Element, A: Allocator> Buffer<T, A> {
                     && alignment <= self.declared()))
     }
 
-    /// Keeps the items of a range, for which [`Buffer::can_slice`] holds at the buffer's alignment,
-    /// which stays: so it does where the range starts a multiple of it on. It takes no memory.
+    /// Keeps the items of `range` alone. The reported alignment stays, and other buffers keep their
+    /// items. It takes no memory and moves no item. Where the range is empty, the buffer gives up
+    /// its storage.
+    ///
+    /// `range` has to lie within the buffer: `range.start <= range.end <= self.len()`. Unless it is
+    /// empty, `range.start` times the size of an item, in bytes, has to be a multiple of
+    /// [`Buffer::alignment`]. [`Buffer::can_slice`] at that alignment tests both.
     pub fn narrow(&mut self, range: Range<usize>)
         requires { CanNarrow T.SIZE T.align_exponent self.old range }
         ensures { ShowsPart T.SIZE self.old range self.old.alignment self.new }
@@ -145,9 +158,17 @@ impl<T: Element, A: Allocator> Buffer<T, A> {
 }
 
 impl<T: Element, A: Allocator + Clone> Buffer<T, A> {
-    /// The items of a range as [`Buffer::narrow`] keeps them; the part shares the storage. Refused
-    /// by `OutOfMemory` where a copy of the allocator finds no memory, or the storage has as many
-    /// owners as can be counted.
+    /// The items of `range`, as a buffer that reports the same alignment and shares this one's
+    /// storage: no item is copied. An empty part keeps no storage.
+    ///
+    /// `range` has to lie within the buffer: `range.start <= range.end <= self.len()`. Unless it is
+    /// empty, `range.start` times the size of an item, in bytes, has to be a multiple of
+    /// [`Buffer::alignment`]. [`Buffer::can_slice`] at that alignment tests both.
+    /// [`Buffer::slice_unaligned`] takes any range within the buffer.
+    ///
+    /// Refused by `OutOfMemory` alone: where a copy of this buffer's allocator, which the part
+    /// keeps, finds no memory, or where the storage has as many owners as can be counted. This
+    /// buffer stays as it was, refused or not.
     pub fn slice(&self, range: Range<usize>) -> Result<Self>
         requires { CanNarrow T.SIZE T.align_exponent self.now range }
         ensures { Makes (ShowsPart T.SIZE self.now range self.now.alignment) result }
@@ -156,14 +177,18 @@ impl<T: Element, A: Allocator + Clone> Buffer<T, A> {
         self.slice_with_alignment(range, alignment)
     }
 
-    /// The items of a range; the part reports `alignment` and shares the storage. The range has to
-    /// lie within the buffer, and `alignment` to be at least that of an item; and unless the range
-    /// is empty, the place in bytes of its first item in the storage has to be a multiple of
-    /// `alignment`, and the storage declared with it or more. [`Buffer::can_slice`] is the test.
+    /// The items of `range`, as a buffer that reports `alignment` and shares this one's storage: no
+    /// item is copied. An empty part keeps no storage.
     ///
-    /// Of an empty part no clause tells the place or the storage's declared alignment. Refused by
-    /// `OutOfMemory` alone, where a copy of the allocator finds no memory, or the storage has as
-    /// many owners as can be counted.
+    /// `range` has to lie within the buffer: `range.start <= range.end <= self.len()`. `alignment`
+    /// has to be at least that of an item. Unless the range is empty, the byte offset of its first
+    /// item has to be a multiple of `alignment`, and `alignment` at most [`Buffer::declared`]. The
+    /// offset counts from the start of the storage, not of this buffer, and no address is looked
+    /// at. [`Buffer::can_slice`] tests all of this.
+    ///
+    /// The part keeps a copy of this buffer's allocator, to ask for memory when its items are
+    /// copied. Refused by `OutOfMemory` alone: where making that copy finds no memory, or where the
+    /// storage has as many owners as can be counted. Refused or not, this buffer stays as it was.
     pub fn slice_with_alignment(&self, range: Range<usize>, alignment: Alignment) -> Result<Self>
         requires { CanSlice T.SIZE T.align_exponent self.now range alignment }
         ensures { Makes (ShowsPart T.SIZE self.now range alignment) result }

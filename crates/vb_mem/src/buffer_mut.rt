@@ -18,13 +18,16 @@ pub(crate) const DEFAULT: Option<Alignment> = Some(Alignment::DEFAULT_ALIGNMENT)
 
 /// A list of items that grows, with an alignment.
 ///
-/// The reported alignment is at least that of an item, and a [`Buffer`](crate::Buffer) made of the
-/// list reports it too. The declared alignment is that of the storage, and at least the reported
-/// one. Growth keeps both.
+/// Alignments are numbers that the buffer keeps, and say nothing of addresses: memory is asked for
+/// at the alignment of an item. The reported alignment is at least that of an item. The declared
+/// alignment is that of the storage, and at least the reported one. Growth keeps both, and so does
+/// [`BufferMut::freeze`].
 ///
-/// A constructor reports the alignment that is asked for, which is at least that of an item, or
-/// that of an item. The storage is declared with it or with the one that it is over-aligned to, if
-/// that is greater: 256 bytes, or the preferred one, where one may be given (`None` prefers none).
+/// A constructor reports its argument `alignment`, which has to be at least that of an item; where
+/// it has no such argument, it reports that of an item. "Over-aligned to 256 bytes" says that the
+/// storage is declared with 256 bytes, or with the reported alignment if that is greater. An
+/// argument `preferred` replaces the 256 bytes; at `None` the declared alignment is the reported
+/// one.
 #[derive(Drop)]
 pub struct BufferMut<T: Element, A: Allocator = Global> {
     pub(crate) items: Vec<T, A>,

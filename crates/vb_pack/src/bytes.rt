@@ -9,8 +9,10 @@ ghost use Rattle.vb_pack.specs.Writes.{Writes};
 use crate::collect::{collect_full, collect_part};
 use crate::pack::Lanes;
 
-/// Asks `f` at the places from 0 up to `len`, and packs its answers into the first bytes, eight
-/// into each; the bits of the last one past `len` are false, and later bytes stay.
+/// Calls `f` with each number below `len`, in ascending order, and packs the answers into the first
+/// bytes of `bytes`, eight to a byte, least significant bit first. `bytes` has to have room for
+/// `len` bits. The bits of the last written byte behind the answers are false; later bytes keep
+/// their values.
 ///
 /// Full words of 64 go by vectors of bytes, the rest bit by bit.
 pub fn collect_bool_bytes<F: FnMut(usize) -> bool>(bytes: &mut [u8], len: usize, f: &mut F)
@@ -29,8 +31,9 @@ pub fn collect_bool_bytes<F: FnMut(usize) -> bool>(bytes: &mut [u8], len: usize,
     write_front(bytes, 8 * full, rest.div_ceil(8), last);
 }
 
-/// Packs truth values into the first bytes, eight into each; the bits of the last one behind them
-/// are false, and later bytes stay.
+/// Packs truth values into the first bytes of `bytes`, eight to a byte, least significant bit
+/// first. `bytes` has to have room for `bools.len()` bits. The bits of the last written byte behind
+/// them are false; later bytes keep their values.
 pub fn pack_bools(bytes: &mut [u8], bools: &[bool])
     requires { length bools.now ≤ 8 * length bytes.old }
     ensures packed { bits bytes.new 0 (length bools.now) ≡ bools.now }
@@ -39,7 +42,10 @@ pub fn pack_bools(bytes: &mut [u8], bools: &[bool])
     collect_bool_bytes(bytes, bools.len(), &mut |i| bools[i]);
 }
 
-/// [`pack_bools`] of bytes, each of which is true where it isn't 0.
+/// Packs one bit for each byte of `truthy`, true where the byte isn't 0, into the first bytes of
+/// `bytes`, eight bits to a byte, least significant first. `bytes` has to have room for
+/// `truthy.len()` bits. The bits of the last written byte behind them are false; later bytes keep
+/// their values.
 pub fn pack_truthy(bytes: &mut [u8], truthy: &[u8])
     requires { length truthy.now ≤ 8 * length bytes.old }
     ensures packed { bits bytes.new 0 (length truthy.now) ≡ map (λ x. not (x == 0)) truthy.now }

@@ -5,8 +5,8 @@ ghost use Rattle.vb_pack.specs.Digits.{digits};
 
 use crate::pack::{Multiply, Pack};
 
-/// Asks `f` at the places from 0 up to `len`, at most 64, and packs its answers, the first one into
-/// the lowest digit; the digits from `len` on are 0. One digit after the other.
+/// Calls `f` with each number below `len`, in ascending order, and packs the answers into one word,
+/// bit by bit: answer `i` is bit `i`, and the bits from `len` on are 0. `len` has to be at most 64.
 pub fn collect_bool_word_scalar<F: FnMut(usize) -> bool>(len: usize, f: &mut F) -> u64
     requires in_word { len ≤ 64 }
     requires callable { CanAsk (F.pre) (F.step) f.old (span 0 len) }
@@ -16,7 +16,10 @@ pub fn collect_bool_word_scalar<F: FnMut(usize) -> bool>(len: usize, f: &mut F) 
     collect_part(0, len, f)
 }
 
-/// [`collect_bool_word_scalar`], a full word by multiplies.
+/// Calls `f` with each number below `len`, in ascending order, and packs the answers into one word:
+/// answer `i` is bit `i`, and the bits from `len` on are 0. `len` has to be at most 64.
+///
+/// Exactly 64 answers are packed by multiplies, fewer bit by bit.
 pub fn collect_bool_word<F: FnMut(usize) -> bool>(len: usize, f: &mut F) -> u64
     requires in_word { len ≤ 64 }
     requires callable { CanAsk (F.pre) (F.step) f.old (span 0 len) }

@@ -11,9 +11,13 @@ use crate::bytes::write_front;
 use crate::pack::pack_bool_word_lanes;
 use vb_bits::{digit, full_word, read_bits};
 
-/// Asks `f` at each place of the window of `len` bits of `src` from bit `offset` on, with the bit
-/// there, and packs its answers into the first bytes of `dst`, eight into each; the bits of the
-/// last one past `len` are false, and later bytes stay.
+/// Calls `f(i, b)` for each `i` below `len`, in ascending order, where `b` is bit `offset + i` of
+/// `src`, and packs the answers into the first bytes of `dst`, eight to a byte, least significant
+/// bit first. The bits of the last written byte behind the answers are false; later bytes keep
+/// their values.
+///
+/// These bits have to lie in `src`, and `offset + len` has to fit in a `usize`. `dst` has to have
+/// room for `len` bits.
 ///
 /// Full words of 64 go by vectors of bytes, the rest bit by bit.
 pub fn map_bool_bytes<F: FnMut(usize, bool) -> bool>(

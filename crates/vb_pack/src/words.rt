@@ -8,10 +8,11 @@ ghost use Rattle.vb_pack.specs.WordBits.{WritesWords, filled_to, word_bit, word_
 use crate::collect::{collect_full, collect_part};
 use crate::pack::{Lanes, Multiply, Pack};
 
-/// Asks `f` at the places from 0 up to `len`, and packs its answers into the first words, 64 into
-/// each; the digits of the last one past `len` are 0, and later words stay.
+/// Calls `f` with each number below `len`, in ascending order, and packs the answers into the first
+/// words, 64 to a word, least significant bit first. `words` has to have room for `len` bits. The
+/// bits of the last written word behind the answers are 0; later words keep their values.
 ///
-/// Full words go by multiplies, the rest digit by digit.
+/// Full words are packed by multiplies, the rest bit by bit.
 pub fn collect_bool_words<F: FnMut(usize) -> bool>(words: &mut [u64], len: usize, f: &mut F)
     requires room { len ≤ 64 * length words.old }
     requires callable { CanAsk (F.pre) (F.step) f.old (span 0 len) }
@@ -22,9 +23,12 @@ pub fn collect_bool_words<F: FnMut(usize) -> bool>(words: &mut [u64], len: usize
     collect_words::<Multiply, F>(words, len, f);
 }
 
-/// [`collect_bool_words`], with full words by vectors of bytes.
+/// Calls `f` with each number below `len`, in ascending order, and packs the answers into the first
+/// words, 64 to a word, least significant bit first. `words` has to have room for `len` bits. The
+/// bits of the last written word behind the answers are 0; later words keep their values.
 ///
-/// Nothing is picked when it runs: it is built for the level of the processor that is asked for.
+/// Full words are packed by vectors of bytes. Despite the name, no version is chosen at run time:
+/// the call is compiled for the processor level of the build.
 pub fn collect_bool_words_multiversioned<F: FnMut(usize) -> bool>(
     words: &mut [u64],
     len: usize,
@@ -58,8 +62,11 @@ fn collect_words<P: Pack, F: FnMut(usize) -> bool>(words: &mut [u64], len: usize
     }
 }
 
-/// Puts the digits of `word` in the place of 64 digits from digit `at` on, which are all 0, as all
-/// behind them are. The digits past the last word, if there are any, are 0 too.
+/// Writes the 64 bits of `word` to the 64 bits of `words` from bit `at` on. Bit `i` of `words` is
+/// bit `i % 64` of word `i / 64`, least significant first. No other bit changes.
+///
+/// Bit `at` has to lie in `words`. All bits of `words` from bit `at` on have to be 0 before the
+/// call. The bits of `word` that would lie past the last word have to be 0 too.
 #[inline]
 pub fn splice_word_at_bit(words: &mut [u64], at: usize, word: u64)
     requires place { at / 64 < length words.old }
@@ -75,10 +82,14 @@ pub fn splice_word_at_bit(words: &mut [u64], at: usize, word: u64)
     }
 }
 
-/// Asks `f` at the places from 0 up to `len`, and packs its answers in the place of `len` digits
-/// from digit `at` on, which are all 0, as all behind them are. For `len` 0 nothing is asked.
+/// Calls `f` with each number below `len`, in ascending order, and writes answer `k` to bit
+/// `at + k` of `words`. Bit `i` of `words` is bit `i % 64` of word `i / 64`, least significant
+/// first. No other bit changes.
 ///
-/// Full words go by multiplies, the rest digit by digit.
+/// The `len` bits from bit `at` on have to lie in `words`, and `at + len` has to fit in a `usize`.
+/// All bits of `words` from bit `at` on have to be 0 before the call.
+///
+/// Full words of answers go by multiplies, the rest bit by bit.
 pub fn pack_bools_into_words<F: FnMut(usize) -> bool>(
     words: &mut [u64],
     at: usize,

@@ -9,12 +9,15 @@ use crate::count::count_in_block;
 use crate::probe::Probe;
 use vb_kernel::Glance;
 
-/// How many of the first `i` bits of the window are true: by at most 16 looks at its bits, and at
-/// most one probe of their table.
+/// How many of the first `i` of the `len` bits from bit `offset` on are true.
 ///
-/// The window has to lie in the bytes, its end has to be a `usize`, `i` has to be at most its
-/// length, and the table has to have an entry for each of its blocks. Where its entries aren't
-/// those that [`table_of`](crate::table_of) makes, the number says nothing.
+/// The bits have to lie in the bytes of `src`, `offset + len` has to be a `usize`, and `i` has to
+/// be at most `len`. The table has to have exactly `len.div_ceil(512)` entries. The answer is right
+/// where entry `j` is how many of the first `512 * j` of these bits are true, as in the table that
+/// [`table_of`](crate::table_of) makes; with other entries it is unspecified.
+///
+/// A look is a read of up to 64 bytes of `src`, a probe the read of an entry. Whatever the entries
+/// are, the call takes at most 16 looks and at most one probe.
 pub fn rank_by<G: Glance, T: Probe>(
     src: &mut G,
     offset: usize,

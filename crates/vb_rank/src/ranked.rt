@@ -39,8 +39,8 @@ impl<A: Allocator + Clone> Model for Ranked<A> {
 }
 
 impl<A: Allocator + Clone> Ranked<A> {
-    /// The set with its table, which takes memory as [`table_of`] does. Refused by `OutOfMemory`
-    /// alone; then the set is gone.
+    /// The set with its table, for which it takes memory: a `usize` for each 512 bits. Refused by
+    /// `OutOfMemory` alone; then the set is gone.
     pub fn new(alloc: A, set: BitBufferMut<A>) -> Result<Self>
         ensures set { IfOk result (λ r. r ≡ set) }
         ensures refused { IsOkUnless result BufferError.OutOfMemory }
@@ -56,8 +56,8 @@ impl<A: Allocator + Clone> Ranked<A> {
         self.set.len()
     }
 
-    /// The bits for other questions, in constant time. The view's bytes begin with that of the
-    /// first bit.
+    /// A view of the bits, for other questions, in constant time. Its bytes begin with the byte of
+    /// the first bit.
     pub fn as_view(&self) -> BitBufferView<'_>
         ensures bits { bits_of result ≡ self.now.bits }
         ensures offset { offset_of result ≡ self.now.offset % 8 }
@@ -84,8 +84,9 @@ impl<A: Allocator + Clone> Ranked<A> {
         rank_by(src, bits.offset(), bits.len(), &mut self.entries(), i)
     }
 
-    /// The place of the `n`-th true bit, counted from 0; `None` where at most `n` bits are true:
-    /// [`select_by`] of the set and its table, whose blocks it halves until one is left.
+    /// The place of the `n`-th true bit, counted from 0; `None` where at most `n` bits are true. It
+    /// halves the blocks of the table until one is left, and takes no memory: [`select_by`] of the
+    /// set and its table.
     pub fn select(&self, n: usize) -> Option<usize>
         ensures place { Selects self.now.bits n result }
         ensures each { InvertsCount self.now.bits n result }
@@ -123,10 +124,10 @@ impl<A: Allocator + Clone> Ranked<A> {
         }
     }
 
-    /// Adds one bit, in amortised constant time.
+    /// Adds one bit, in amortized constant time.
     ///
     /// Refused by `TooManyBits` where offset and length together are `usize::MAX`, else by
-    /// `OutOfMemory` where memory is. Then the set and its room are unchanged. Within the room of
+    /// `OutOfMemory` alone. Then the set and its room are unchanged. Within the room of
     /// the set it takes no memory and succeeds, unless the length is a multiple of 512: then the
     /// table needs an entry more.
     pub fn append(&mut self, v: bool) -> Result<()>

@@ -10,15 +10,17 @@ use crate::block::find_block;
 use crate::probe::Probe;
 use vb_kernel::{Glance, bit_select_by, bit_select_unset_by};
 
-/// The place, relative to the window, of its `n`-th true bit, counted from 0; `None` where the
-/// window has at most `n`. It takes at most 16 looks, and for a table of `m` entries at most as
-/// many probes of it as `m + 1` has binary digits.
+/// The place, counted from bit `offset`, of the `n`-th true bit among the `len` bits from there on,
+/// with `n` counted from 0; `None` where at most `n` of these bits are true.
 ///
-/// The window has to lie in the bytes, its end has to be a `usize`, and the table has to have an
-/// entry for each of the window's blocks of 512 bits. The answer is right where each entry says how
-/// many true bits of the window come before its block, as in the table that
-/// [`table_of`](crate::table_of) makes; else it may be any, also a place past the window. Looks and
-/// probes are bounded for any table.
+/// The bits have to lie in the bytes of `src`, and `offset + len` has to be a `usize`. The table
+/// has to have exactly `len.div_ceil(512)` entries. The answer is right where entry `j` is how many
+/// of the first `512 * j` of these bits are true, as in the table that
+/// [`table_of`](crate::table_of) makes; with other entries it is unspecified.
+///
+/// A look is a read of up to 64 bytes of `src`, a probe the read of an entry. Whatever the entries
+/// are, the call takes at most 16 looks, and at most as many probes as `len.div_ceil(512) + 1` has
+/// binary digits.
 pub fn select_by<G: Glance, T: Probe>(
     src: &mut G,
     offset: usize,
@@ -39,9 +41,17 @@ pub fn select_by<G: Glance, T: Probe>(
     select_value_by(src, offset, len, table, n, true)
 }
 
-/// The place, relative to the window, of its `n`-th false bit, counted from 0; `None` where the
-/// window has at most `n`. It takes as few looks and probes as [`select_by`], and asks the same of
-/// window and table.
+/// The place, counted from bit `offset`, of the `n`-th false bit among the `len` bits from there
+/// on, with `n` counted from 0; `None` where at most `n` of these bits are false.
+///
+/// The bits have to lie in the bytes of `src`, and `offset + len` has to be a `usize`. The table
+/// has to have exactly `len.div_ceil(512)` entries. The answer is right where entry `j` is how many
+/// of the first `512 * j` of these bits are true, as in the table that
+/// [`table_of`](crate::table_of) makes; with other entries it is unspecified.
+///
+/// A look is a read of up to 64 bytes of `src`, a probe the read of an entry. Whatever the entries
+/// are, the call takes at most 16 looks, and at most as many probes as `len.div_ceil(512) + 1` has
+/// binary digits.
 pub fn select_unset_by<G: Glance, T: Probe>(
     src: &mut G,
     offset: usize,

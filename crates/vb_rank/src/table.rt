@@ -30,9 +30,9 @@ pub fn table_of<A: Allocator>(alloc: A, bits: BitBufferView<'_>) -> Result<Vec<u
     Ok(table)
 }
 
-/// Writes, for each block of 512 bits of the `len` bits from bit `offset` on, how many true bits
-/// are before it, to the front of `table`, as many as have room there, and answers how many these
-/// are.
+/// Writes one number to `table` for each block of 512 bits of the `len` bits from bit `offset` on:
+/// how many of the bits before the block are true. It writes as many as `table` has room for, from
+/// its front on, and answers how many it wrote.
 ///
 /// The window has to lie in the bytes, and its end has to be a `usize`. It counts the bits of the
 /// blocks once, and takes no memory.

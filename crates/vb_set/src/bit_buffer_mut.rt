@@ -232,7 +232,8 @@ impl<A: Allocator + Clone> BitBufferMut<A> {
         self.buffer.as_mut_slice()
     }
 
-    /// The bits for questions, in constant time. The view's bytes begin with that of the first bit.
+    /// A view that only reads the bits, in constant time. Its bytes begin with the byte of the
+    /// first bit.
     pub fn as_view(&self) -> BitBufferView<'_>
         ensures bits { bits_of result ≡ self.now.bits }
         ensures offset { offset_of result ≡ self.now.offset % 8 }
@@ -241,9 +242,9 @@ impl<A: Allocator + Clone> BitBufferMut<A> {
         BitBufferView::new_with_offset(self.buffer.as_slice(), self.len, self.offset)
     }
 
-    /// The bits for writing, in constant time. The view writes through this very reference, as
-    /// clause `lends` says: the bits that it has at its end are then the set's. In contracts its
-    /// bytes are those of the set, and its place is the set's offset, which may be 8 or more.
+    /// A view that writes the bits, in constant time. It borrows the set: when it ends, the set has
+    /// the bits that the view has then, as clause `lends` says. In contracts the view's bytes are
+    /// those of the set, and its place is the set's offset, which may be 8 or more.
     pub fn as_mut_view(&mut self) -> BitBufferMutView<&mut BitBufferMut<A>>
         ensures lends { IsSameReference (store_of result) self.entry }
         ensures window { ShowsWindow self.old.offset self.old.bits result }

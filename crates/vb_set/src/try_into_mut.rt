@@ -12,9 +12,11 @@ pub trait TryIntoMut<A: Allocator + Clone>: Sized {
     // the shared set
     ghost set: { Self → SharedSet };
 
-    /// The same bits for editing, where no other owner has the storage, with all the bytes and no
-    /// memory taken; otherwise the set itself, given back as an `Err`. Bytes that don't begin the
-    /// storage are moved to its front; else it takes constant time.
+    /// The same bits, offset and bytes for editing, in the same storage, where no other owner has
+    /// it; else `Err` gives the set back unchanged. No memory is taken.
+    ///
+    /// It takes constant time, unless the bytes don't begin the storage, as those of a slice may
+    /// not: then they are moved to its front.
     fn try_into_mut(self) -> Result<BitBufferMut<A>, Self>
         ensures open { IfOk result (HoldsShared (set self)) }
         ensures shared { IfErr result (λ s. s ≡ self) };

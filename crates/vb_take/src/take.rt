@@ -17,15 +17,17 @@ use vb_view::BitBufferView;
 /// Fewer bits than these have places of 32 bits, also as seen from the byte of the first one.
 const MOST: usize = u32::MAX as usize - 8;
 
-/// Writes the bits that the indices name to the first bits of `out`, one for each index; or answers
-/// the first position whose index names no place of `bits`.
+/// Takes one bit of `bits` for each index: bit `k` of `out` becomes the bit of `bits` that
+/// `indices[k]` names. `Err(k)` is the first position whose index is negative or not below the
+/// length of `bits`.
 ///
-/// Where there is a `validity`, which is as long as the indices, a position counts only where it is
-/// true: at the others false is written, and their indices aren't looked at. The bits of `out`
-/// behind the first ones stay in either case; where a position is refused, the first ones are open.
+/// A `validity` has to have one bit for each index. Where its bit is false, false is written, and
+/// the index may be any number.
 ///
-/// It goes by 64 indices: their places are narrowed to 32 bits and compared with the length at
-/// once, and the bits there become one word. Those of 2^32 bits and more go one by one.
+/// `out` has to have room for one bit for each index. On `Err` these bits of `out` are unspecified.
+/// The bits of `out` behind them never change.
+///
+/// Indices go by whole blocks of 64 where the places of `bits` fit in 32 bits, else one by one.
 pub fn take_into<I: BitIndex>(
     out: &mut [u8],
     bits: BitBufferView<'_>,

@@ -69,8 +69,8 @@ pub trait BitStore {
 
 /// A list of bits that lies in borrowed bytes, and that may be edited in place.
 ///
-/// What is written is what the bytes, or the set that they belong to, then hold. A contract sees
-/// its bits, what it writes to, and the place of its first bit in the bytes of that.
+/// Each write goes straight to the borrowed bytes, or to the set that owns them. A contract sees
+/// the view's bits, its store, and the place of its first bit in the store's bytes, in bits.
 #[derive(Drop)]
 pub struct BitBufferMutView<S: BitStore> {
     store: S,
@@ -95,7 +95,7 @@ impl<S: BitStore> BitBufferMutView<S> {
         BitBufferMutView { store, offset, len }
     }
 
-    /// The bits for questions.
+    /// A view that only reads the bits, as they are now.
     pub fn as_view(&self) -> BitBufferView<'_>
         ensures bits { bits_of result ≡ mut_bits_of self.now }
         ensures offset { offset_of result ≡ mut_place_of self.now % 8 }

@@ -140,7 +140,8 @@ impl<'a> BitBufferView<'a> {
         BitChunks::new(self.bytes, self.offset, self.len)
     }
 
-    /// The bytes of the bits, by eights from the first one, as words.
+    /// The bits as words that begin at whole bytes: eight bytes a word, from the byte of the first
+    /// bit on. Bits outside of the view are 0 in them.
     pub fn unaligned_chunks(&self) -> UnalignedBitChunk<'a>
         ensures { IsCut (offset_of self.now) (bits_of self.now) result }
     {

@@ -10,10 +10,10 @@ use crate::cursor::Cursor;
 use crate::ones::{lowest_ones, lowest_run};
 use std::marker::Model;
 
-/// The runs of true bits of a window, from front to end: where each begins, and the place behind
-/// it. Each is as long as can be.
+/// The runs of true bits of a window, from front to end, each as long as can be: pairs
+/// `(start, end)` of places, counted in bits from the first bit of the window, `end` excluded.
 ///
-/// Contracts see the list of those that are still to come.
+/// Contracts see the list of the runs that are still to come.
 #[derive(Clone, Debug, Drop)]
 pub struct BitSliceIterator<'a> {
     bytes: &'a [u8],

@@ -15,8 +15,11 @@ use std::slice::Iter;
 use vb_bits::{read_bits, word_at};
 use vb_core::TrustedLen;
 
-/// The bytes that a window covers, taken by eights from the first one, as words: those between the
-/// first and the last word are in place. Bits outside of the window are 0.
+/// A window of bits as words that begin at whole bytes: the first word is the eight bytes from the
+/// byte of the window's first bit on, least significant first, and each next word is the eight
+/// bytes after those. Bits outside of the window are 0.
+///
+/// The words between the first and the last one are borrowed from the bytes, not copied.
 ///
 /// Contracts see the words and the paddings.
 #[derive(Drop)]

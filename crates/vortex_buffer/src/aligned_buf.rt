@@ -34,13 +34,14 @@ pub trait AlignedBuf {
     fn chunk(&self) -> &[u8]
         ensures { result.now ≡ unread self.now };
 
-    /// Whether [`AlignedBuf::advance`] can pass over `n` bytes: as many are left, and of a
-    /// [`ByteBuffer`] its alignment divides their number.
+    /// Whether [`AlignedBuf::advance`] can pass over `n` bytes: at least `n` are left, and for a
+    /// [`ByteBuffer`] `n` is a multiple of its reported alignment.
     fn can_advance(&self, n: usize) -> bool
         ensures { IsTrue result ↔ ((n ≤ length (unread self.now)) × is_step self.now n) };
 
-    /// Passes over `n` bytes, for which [`AlignedBuf::can_advance`] holds. It takes no memory. A
-    /// [`ByteBuffer`] keeps its alignment and its storage.
+    /// Passes over the next `n` bytes, for which [`AlignedBuf::can_advance`] has to hold. It takes
+    /// no memory. A [`ByteBuffer`] keeps its reported alignment, and its storage until no byte is
+    /// left.
     fn advance(&mut self, n: usize)
         requires within { n ≤ length (unread self.old) }
         requires is_step { is_step self.old n }

@@ -93,11 +93,13 @@ impl<A: Allocator + Clone> BufferString<A> {
         Ok(BufferString { bytes })
     }
 
-    /// A text, of alignment 1, with which its storage is declared: nothing is copied, and nothing
-    /// is over-aligned. What has to be asked now is asked of `alloc`, and so is what copies and
-    /// further owners ask; the storage itself grows from the allocator of `text`, once it is moved
-    /// out by [`BufferString::into_inner`] and `into_mut`. Refused by `OutOfMemory`; the text is
-    /// gone then.
+    /// The text of a `String`, in its storage: no byte is copied. The reported and the declared
+    /// alignment are 1.
+    ///
+    /// `alloc` is asked for the block that counts owners, and later for copies of the text. The
+    /// storage stays with the allocator of `text`, which growth asks: the only owner can grow the
+    /// storage by [`BufferString::into_inner`] and [`Buffer::into_mut`]. Refused by `OutOfMemory`;
+    /// the text is gone then.
     pub fn from_string(alloc: A, text: String<A>) -> Result<Self>
         ensures { Makes (Shows (string_bytes text) 0 0 0) result }
     {

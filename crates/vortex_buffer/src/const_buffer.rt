@@ -43,9 +43,9 @@ impl<T: Element, const N: usize, A: Allocator> ConstBuffer<T, N, A> {
     }
 
     /// The buffer, where the alignment that it reports is a multiple of `N`. It takes no memory.
-    /// Refused by `NotPowerOfTwo` exactly where `N` is no power of two (so is 0), and by
-    /// `NotAligned` exactly where it is one and doesn't divide the reported alignment; the buffer
-    /// is gone then.
+    /// Refused by `NotPowerOfTwo` exactly where `N` is 0 or no power of two, and by `NotAligned`
+    /// exactly where `N` is one that doesn't divide the reported alignment; the buffer is gone
+    /// then.
     #[tactic(auto, using(crate::proofs::Exponents::is_power))]
     pub fn try_from_buffer(buffer: Buffer<T, A>) -> Result<Self>
         ensures ok { IfOk result (λ fixed. fixed ≡ buffer) }

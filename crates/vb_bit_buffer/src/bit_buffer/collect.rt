@@ -17,12 +17,12 @@ use vb_core::{BufferError, Result};
 
 #[tactic(auto, using(crate::proofs::SetLemmas::sets))]
 impl<A: Allocator + Clone> BitBuffer<A> {
-    /// What `f` answers at the places from 0 up to `len`, asked in order and once each. It has to
-    /// be callable at each of them, whatever it answered before. Full words go by vectors of bytes,
-    /// the rest bit by bit.
+    /// A set, of offset 0, of what `f` answers at the places from 0 up to `len`, `len` excluded.
+    /// `f` is called in order and once at each place, and has to be callable there whatever it
+    /// answered before. Full words go by vectors of bytes, the rest bit by bit.
     ///
     /// It takes memory for the bytes of the bits and the count of owners. Refused by `OutOfMemory`
-    /// alone, before the first question.
+    /// alone, before the first call of `f`.
     pub fn collect_bool<F: FnMut(usize) -> bool>(alloc: A, len: usize, f: &mut F) -> Result<Self>
         requires { CanAsk (F.pre) (F.step) f.old (span 0 len) }
         ensures answered { IfOk result (λ s.
@@ -35,8 +35,13 @@ impl<A: Allocator + Clone> BitBuffer<A> {
         Ok(BitBuffer::window_of(bytes, len, 0))
     }
 
-    /// [`collect_bool`](Self::collect_bool), which goes by vectors as it is: the same answer, the
-    /// same memory and the same refusal.
+    /// A set, of offset 0, of what `f` answers at the places from 0 up to `len`, `len` excluded.
+    /// `f` is called in order and once at each place, and has to be callable there whatever it
+    /// answered before. The code is that of [`collect_bool`](Self::collect_bool): no version is
+    /// picked at run time.
+    ///
+    /// It takes memory for the bytes of the bits and the count of owners. Refused by `OutOfMemory`
+    /// alone, before the first call of `f`.
     pub fn collect_bool_multiversioned<F: FnMut(usize) -> bool>(
         alloc: A,
         len: usize,
@@ -95,10 +100,11 @@ impl<A: Allocator + Clone> BitBuffer<A> {
         BitBuffer::from_bools(alloc, bools.as_slice())
     }
 
-    /// What an iterator gives. No hint of it is asked for: the bytes grow with the items.
+    /// A set of the items of an iterator, in order. Its size hint isn't asked for: memory is taken
+    /// as the items come.
     ///
     /// Refused by `TooManyBits` at the first item past `usize::MAX` of them, else by `OutOfMemory`
-    /// where memory is. Then the iterator and the items that it gave are gone.
+    /// alone; the iterator and the items that it gave are gone then.
     pub fn from_iter<I: IntoIterator<Item = bool>>(alloc: A, iter: I) -> Result<Self>
         requires { IsFiniteIterable I.into_iter_gives I.IntoIter.can_next
             I.IntoIter.remaining iter }

@@ -17,7 +17,8 @@ use vb_walk::{first_other, others};
 
 #[tactic(auto, using(crate::proofs::SetLemmas::sets))]
 impl<A: Allocator + Clone> BitBuffer<A> {
-    /// Calls `f` at the place of each true bit. It goes by words.
+    /// Calls `f` with the place of each true bit, in ascending order. `f` has to be callable at
+    /// each of them. The bits are read by words, and no memory is taken.
     pub fn for_each_set_index<F: FnMut(usize)>(&self, f: &mut F)
         requires { CanAsk (F.pre) (F.step) f.old (places self.now.bits) }
         ensures { FoldsTo (λ p i q. F.step p i tt q) f.old (places self.now.bits) f.new }
@@ -25,7 +26,8 @@ impl<A: Allocator + Clone> BitBuffer<A> {
         for_each_place(self.buffer.as_slice(), self.offset, self.len, true, f);
     }
 
-    /// Calls `f` at the place of each false bit. It goes by words, and makes no other buffer.
+    /// Calls `f` with the place of each false bit, in ascending order. `f` has to be callable at
+    /// each of them. The bits are read by words, and no memory is taken.
     pub fn for_each_unset_index<F: FnMut(usize)>(&self, f: &mut F)
         requires { CanAsk (F.pre) (F.step) f.old (holes self.now.bits) }
         ensures { FoldsTo (λ p i q. F.step p i tt q) f.old (holes self.now.bits) f.new }
@@ -33,7 +35,8 @@ impl<A: Allocator + Clone> BitBuffer<A> {
         for_each_place(self.buffer.as_slice(), self.offset, self.len, false, f);
     }
 
-    /// Calls `f` at each place, with the bit there. It reads the bits by words.
+    /// Calls `f` with each place and the bit there, in ascending order. `f` has to be callable at
+    /// each of them. The bits are read by words, and no memory is taken.
     pub fn iter_bits<F: FnMut(usize, bool)>(&self, f: &mut F)
         requires { CanAsk (λ p i. F.pre p i (at self.now.bits i))
             (asked_of F.step self.now.bits)
@@ -44,8 +47,10 @@ impl<A: Allocator + Clone> BitBuffer<A> {
         for_each_bit(self.buffer.as_slice(), self.offset, self.len, f);
     }
 
-    /// Calls `f` at the place of each true bit, up to the first error, which it answers. It goes by
-    /// words.
+    /// Calls `f` with the place of each true bit, in ascending order, until a call answers an
+    /// error: that error is the answer, and no later place is visited. `f` has to be callable at
+    /// each of the places, as long as no call answered an error. The bits are read by words, and no
+    /// memory is taken.
     pub fn try_for_each_set_index<E, F: FnMut(usize) -> Result<(), E>>(
         &self,
         f: &mut F,

@@ -29,8 +29,9 @@ impl<A: Allocator + Clone> BitBuffer<A> {
     }
 
     /// The bits that are true here and not in `right`, in the same storage where no other owner
-    /// has it: then memory is taken for the count of owners alone, else as by
-    /// [`bitand_not`](Self::bitand_not). Refused as that is; the set is gone then.
+    /// has it, else in a copy. Memory comes from this set's allocator: for the count of owners, and
+    /// for the bytes of such a copy. Refused by `LengthMismatch` exactly where the lengths differ,
+    /// else by `OutOfMemory` alone; the set is gone then.
     pub fn into_bitand_not(self, right: &Self) -> Result<Self>
         ensures { GivesCombined BitOp.AndNot self right.now result }
     {

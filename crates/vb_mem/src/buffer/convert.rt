@@ -80,16 +80,21 @@ impl<T: Element, A: Allocator + Clone> Clone for Buffer<T, A> {
 
 impl<T: Element, A: Allocator + Clone> Buffer<T, A> {
     /// One more owner of the same items, in constant time and without memory for the storage.
-    /// Refused by `OutOfMemory` where a copy of the allocator finds no memory.
+    /// Refused by `OutOfMemory` where a copy of the allocator finds no memory, or the storage has
+    /// as many owners as can be counted.
     pub fn clone(&self) -> Result<Self>
         ensures { Makes (λ b. b ≡ self.now) result }
     {
         Ok(Clone::clone(self)?)
     }
 
-    /// The same items, to be changed; all other owners keep theirs. A lone owner's stay in their
-    /// storage, as in [`Buffer::try_into_mut`]; where there are others, the items are copied and
-    /// over-aligned to 256 bytes. Refused by `OutOfMemory`; the buffer is gone then.
+    /// The same items as a growing buffer that reports the same alignment. All other buffers keep
+    /// their items.
+    ///
+    /// Where no other buffer shares the storage, the call takes no memory: the items are moved to
+    /// the front of the storage, unless they stand there, and what stood beside them is dropped.
+    /// Where another one does, the items are copied, over-aligned to 256 bytes. Refused by
+    /// `OutOfMemory` where the copy finds no memory; the buffer is gone then.
     pub fn into_mut(self) -> Result<BufferMut<T, A>>
         ensures { Makes (λ b. KeepsItems self (as_shared b)) result }
     {
@@ -125,13 +130,17 @@ impl<T: Element, A: Allocator + Clone> Buffer<T, A> {
         copy?.freeze()
     }
 
-    /// The items, to be written; all other owners keep theirs. A lone owner's items stay in their
-    /// storage, of which the others are dropped, in time linear in the part and without memory.
-    /// Where there are other owners the items are copied, over-aligned to 256 bytes.
+    /// Lends the items as a growing buffer, in which items can be written, added and dropped. When
+    /// the loan ends, this buffer has the items and the alignments that the growing one has then.
+    /// All other buffers keep their items.
     ///
-    /// What is lent is the growing buffer that holds the items. In the end the buffer shows all
-    /// that is left there, from the front of its storage on. Refused by `OutOfMemory`, before
-    /// anything is changed; the contract says so of the items and the reported alignment alone.
+    /// Where no other buffer shares the storage, the call takes no memory: the items are moved to
+    /// the front of the storage, in time linear in their number, and what stood beside them is
+    /// dropped. Where another one does, or this buffer is empty and has no storage, memory is asked
+    /// for a copy of the items, over-aligned to 256 bytes, and for its count of owners.
+    ///
+    /// Refused by `OutOfMemory`; the buffer is unchanged then. The contract says so of the items
+    /// and the reported alignment alone.
     pub fn items_mut(&mut self) -> Result<&mut BufferMut<T, A>>
         ensures* writes_back { sem 𝓛 (LendsAll T.row A.row T.Element A.Allocator
             self.entry result) }

@@ -124,10 +124,12 @@ impl<T: Element, A: Allocator + Clone> Buffer<T, A> {
         BufferMut::from_trusted_len_iter(alloc, iter)?.freeze()
     }
 
-    /// The items of a vector, of the alignment of an item, with which its storage is declared.
-    /// Nothing is copied. The block that counts owners is asked of `alloc`, and so are copies;
-    /// where a lone owner opens the buffer, the storage grows from the vector's allocator. Refused
-    /// by `OutOfMemory`; the vector is gone then.
+    /// The items of a vector, in its storage: no item is copied. The reported and the declared
+    /// alignment are that of an item.
+    ///
+    /// `alloc` is asked for the block that counts owners, and later for copies of the items. The
+    /// storage stays with the vector's allocator, which growth asks: the only owner can grow the
+    /// storage by [`Buffer::into_mut`]. Refused by `OutOfMemory`; the vector is gone then.
     pub fn from_vec(alloc: A, items: Vec<T, A>) -> Result<Self>
         ensures { Makes (Shows items.items T.align_exponent 0 T.align_exponent) result }
     {

@@ -24,7 +24,7 @@ impl<T: Element, A: Allocator> BufferMut<T, A> {
     }
 
     /// Adds an item. Within the capacity it takes no memory and succeeds; else it is refused by
-    /// `OutOfMemory`, and the buffer is unchanged then. Amortised, the cost of a push is constant.
+    /// `OutOfMemory`, and the buffer is unchanged then. Amortized, the cost of a push is constant.
     pub fn push(&mut self, item: T) -> Result<()>
         ensures ok { OnOk result (Lengthens (item ∷ []) self.old self.new) }
         ensures needs_room { NeedsRoom 1 result self.old self.new }
@@ -137,8 +137,8 @@ impl<T: Element, A: Allocator> BufferMut<T, A> {
     }
 
     /// Adds the values that an iterator of known length gives, up to its first error. `Ok` says
-    /// that all its items were values, and that all were added. The iterator has to be one that may
-    /// be called; `I.left` is how many items it has still to give.
+    /// that all its items were values, and that all were added. The iterator has to be one whose
+    /// `next` may be called; `I.left` in the contract is how many items it has still to give.
     ///
     /// Refused by `Memory` before the first item is asked for, and the buffer is unchanged then;
     /// within the capacity it takes no memory. Stopped with `Item` at the first error; the values

@@ -18,7 +18,8 @@ impl<T: Element, A: Allocator> BufferMut<T, A> {
         BufferMut::with_capacity_aligned(alloc, capacity, Alignment::of::<T>())
     }
 
-    /// Room for `capacity` items with an alignment, over-aligned to 256 bytes. Refused likewise.
+    /// Room for `capacity` items with an alignment, over-aligned to 256 bytes.
+    /// Refused by `OutOfMemory`.
     pub fn with_capacity_aligned(alloc: A, capacity: usize, alignment: Alignment) -> Result<Self>
         requires { T.align_exponent ≤ alignment }
         ensures { Makes (λ b. HoldsMade [] alignment b × (capacity ≤ b.room)) result }
@@ -26,7 +27,9 @@ impl<T: Element, A: Allocator> BufferMut<T, A> {
         BufferMut::with_capacity_preferred_aligned(alloc, capacity, alignment, DEFAULT)
     }
 
-    /// Room for `capacity` items, over-aligned to the preferred alignment. Refused likewise.
+    /// An empty buffer with room for at least `capacity` items. It reports `alignment`, which has
+    /// to be at least that of an item. Its storage is declared with the preferred alignment, or
+    /// with `alignment` if that is greater or `None` is preferred. Refused by `OutOfMemory`.
     pub fn with_capacity_preferred_aligned(
         alloc: A,
         capacity: usize,

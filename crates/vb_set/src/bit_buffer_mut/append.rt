@@ -27,9 +27,11 @@ impl<A: Allocator + Clone> BitBufferMut<A> {
         reserve_to(&mut self.buffer, end)
     }
 
-    /// Adds one bit, in amortised constant time.
+    /// Adds one bit, in amortized constant time.
     ///
-    /// Refused as [`reserve`](Self::reserve) of one bit is.
+    /// Refused by `TooManyBits` where offset and length together are `usize::MAX`, else by
+    /// `OutOfMemory` alone. In both cases the set and its room are unchanged. Where the length is
+    /// below [`capacity`](Self::capacity), it takes no memory and succeeds.
     pub fn append(&mut self, v: bool) -> Result<()>
         ensures ok { OnOk result (AddsBits (v ∷ []) self.old self.new) }
         ensures grows { KeepsStart self.old self.new }
@@ -62,9 +64,11 @@ impl<A: Allocator + Clone> BitBufferMut<A> {
         self.append(false)
     }
 
-    /// Adds `n` bits `v`, whole bytes at once.
+    /// Adds `n` bits, all `v`, whole bytes at once.
     ///
-    /// Refused as [`reserve`](Self::reserve) of `n` bits is.
+    /// Refused by `TooManyBits` where offset, length and `n` together pass `usize::MAX`, else by
+    /// `OutOfMemory` alone. In both cases the set and its room are unchanged. Where the length and
+    /// `n` together are at most [`capacity`](Self::capacity), it takes no memory and succeeds.
     pub fn append_n(&mut self, v: bool, n: usize) -> Result<()>
         ensures ok { OnOk result (AddsBits (replicate n v) self.old self.new) }
         ensures grows { KeepsStart self.old self.new }

@@ -15,12 +15,12 @@ use vb_core::{BufferError, Result};
 
 #[tactic(auto, using(vb_bit_bytes::proofs::BytesLemmas::edits))]
 impl<A: Allocator + Clone> BitBufferMut<A> {
-    /// A set, of offset 0, of what `f` answers at the places from 0 up to `len`, `len` excluded. It
-    /// is asked in order and once each, and has to be callable at each place, whatever it answered
-    /// before. Full words go by vectors of bytes, the rest bit by bit.
+    /// A set, of offset 0, of what `f` answers at the places from 0 up to `len`, `len` excluded.
+    /// `f` is called in order and once at each place, and has to be callable there whatever it
+    /// answered before. Full words go by vectors of bytes, the rest bit by bit.
     ///
     /// It takes memory for the bytes of the bits. Refused by `OutOfMemory` alone, before the first
-    /// question.
+    /// call of `f`.
     pub fn collect_bool<F: FnMut(usize) -> bool>(alloc: A, len: usize, f: &mut F) -> Result<Self>
         requires { CanAsk (F.pre) (F.step) f.old (span 0 len) }
         ensures answered { IfOk result (λ s.
@@ -33,8 +33,13 @@ impl<A: Allocator + Clone> BitBufferMut<A> {
         Ok(BitBufferMut::from_buffer(bytes, 0, len))
     }
 
-    /// [`collect_bool`](Self::collect_bool), which goes by vectors as it is: the same answer, the
-    /// same memory and the same refusal.
+    /// A set, of offset 0, of what `f` answers at the places from 0 up to `len`, `len` excluded.
+    /// `f` is called in order and once at each place, and has to be callable there whatever it
+    /// answered before. The code is that of [`collect_bool`](Self::collect_bool): no version is
+    /// picked at run time.
+    ///
+    /// It takes memory for the bytes of the bits. Refused by `OutOfMemory` alone, before the first
+    /// call of `f`.
     pub fn collect_bool_multiversioned<F: FnMut(usize) -> bool>(
         alloc: A,
         len: usize,
@@ -67,8 +72,8 @@ impl<A: Allocator + Clone> BitBufferMut<A> {
         BitBufferMut::from_bools(alloc, bools.as_slice())
     }
 
-    /// Bytes, each of which is true where it isn't 0. It takes memory for the bytes of the bits.
-    /// Refused by `OutOfMemory` alone.
+    /// A set of one bit for each byte of `truthy`, true where the byte isn't 0. It takes memory for
+    /// the bytes of the bits. Refused by `OutOfMemory` alone.
     pub fn from_truthy(alloc: A, truthy: &[u8]) -> Result<Self>
         ensures { Makes (IsFreshOpenSet (map (λ x. not (x == 0)) truthy.now)) result }
     {
@@ -76,10 +81,11 @@ impl<A: Allocator + Clone> BitBufferMut<A> {
         Ok(BitBufferMut::from_buffer(bytes, 0, truthy.len()))
     }
 
-    /// What an iterator gives. No hint of it is asked for: the bytes grow with the items.
+    /// A set of the items of an iterator, in order. Its size hint isn't asked for: memory is taken
+    /// as the items come.
     ///
     /// Refused by `TooManyBits` at the first item past `usize::MAX` of them, else by `OutOfMemory`
-    /// where memory is. Then the iterator and the items that it gave are gone.
+    /// alone; the iterator and the items that it gave are gone then.
     pub fn from_iter<I: IntoIterator<Item = bool>>(alloc: A, iter: I) -> Result<Self>
         requires { IsFiniteIterable I.into_iter_gives I.IntoIter.can_next
             I.IntoIter.remaining iter }
