@@ -155,10 +155,8 @@ impl<A: Allocator + Clone> fmt::Debug for Pool<A> {
     fn fmt<W: fmt::Write>(&self, f: &mut fmt::Formatter<W>) -> fmt::Result {
         write!(f, "Pool")?;
         for k in 0..16usize {
-            match self.slots.get(k) {
-                Some(Slot::Open(set)) => write!(f, " {k}: {:?}", set.as_set())?,
-                Some(Slot::Frozen(set)) => write!(f, " {k}: {set:?}")?,
-                _ => {}
+            if let Ok(bits) = self.set_at(k) {
+                write!(f, " {k}: {bits:?}")?;
             }
         }
         Ok(())
