@@ -6,8 +6,10 @@ mod faulty;
 mod handle;
 mod in_turn;
 mod refusing;
+#[cfg(test)]
+mod trials;
 
 pub use faulty::{FaultyReader, FaultyWriter};
 pub use handle::Handle;
-pub use in_turn::{InTurn, WrongAnswer, answers_refusal, each_refused};
+pub use in_turn::InTurn;
 pub use refusing::Refusing;

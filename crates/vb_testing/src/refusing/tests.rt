@@ -1,32 +1,8 @@
 use crate::Refusing;
-use std::alloc::{AllocError, Allocator};
+use crate::trials::{equal, equal_bytes, has_counted, shared_number, text, two_items};
+use std::alloc::{AllocError, Allocator, Global};
 use std::process::Abort;
 use std::rc::Rc;
-
-// One request for room of one item, and one for more.
-fn two_items<A: Allocator>(alloc: A) -> Result<usize, AllocError> {
-    let mut list = Vec::with_capacity(alloc, 1)?;
-    let is_pushed = list.push(1u8).is_ok() && list.push(2).is_ok();
-    let len = list.len();
-    drop(list);
-    if is_pushed { Ok(len) } else { Err(AllocError) }
-}
-
-// One request.
-fn shared_number<A: Allocator>(alloc: A) -> Result<usize, AllocError> {
-    let shared = Rc::new(alloc, 3usize)?;
-    let number = *shared;
-    drop(shared);
-    Ok(number)
-}
-
-// One request.
-fn text<A: Allocator>(alloc: A) -> Result<usize, AllocError> {
-    let text = String::with_capacity(alloc, 8)?;
-    let len = text.len();
-    drop(text);
-    Ok(len)
-}
 
 // Four requests: a list's block and its growth, a shared number, a text. Answers how many items the
 // list had, the number, and the length of the text.
@@ -36,15 +12,16 @@ fn build<B: Allocator>(heap: &Refusing<B>) -> Result<(usize, usize, usize), Allo
 
 #[test]
 fn refuses_each_request_in_turn(rt: HostRuntime) {
-    for refused in 1..5u64 {
+    for refused in 0..6u64 {
         let heap = Refusing::new(rt.alloc(), refused);
-        assert_eq!(rt; build(&heap), Err(AllocError), "request {refused}");
-        assert_eq!(rt; (heap.asked(), heap.has_refused()), (refused, true));
-    }
-    for never in [0, 5] {
-        let heap = Refusing::new(rt.alloc(), never);
-        assert_eq!(rt; build(&heap), Ok((2, 3, 0)), "request {never}");
-        assert_eq!(rt; (heap.asked(), heap.has_refused()), (4, false));
+        let is_refused = 0 < refused && refused < 5;
+        let wanted = if is_refused {
+            Err(AllocError)
+        } else {
+            Ok((2, 3, 0))
+        };
+        equal(&rt, build(&heap), wanted);
+        has_counted(&rt, &heap, if is_refused { refused } else { 4 }, is_refused);
     }
 }
 
@@ -53,13 +30,13 @@ fn grow_past_a_refusal<B: Allocator>(rt: &impl Abort, heap: &Refusing<B>) {
     let mut list = Vec::with_capacity(heap, 2).expect(rt, "memory");
     list.push(1u8).expect(rt, "room");
     list.push(2).expect(rt, "room");
-    assert_eq!(rt; (heap.asked(), heap.has_refused()), (1, false));
-    assert!(rt; list.push(3).is_err());
-    assert_eq!(rt; (heap.asked(), heap.has_refused()), (2, true));
-    assert_eq!(rt; list.as_slice(), [1, 2].as_slice());
+    has_counted(rt, heap, 1, false);
+    equal(rt, list.push(3).is_err(), true);
+    has_counted(rt, heap, 2, true);
+    equal_bytes(rt, list.as_slice(), &[1, 2]);
     list.push(3).expect(rt, "memory");
-    assert_eq!(rt; (heap.asked(), heap.has_refused()), (3, true));
-    assert_eq!(rt; list.as_slice(), [1, 2, 3].as_slice());
+    has_counted(rt, heap, 3, true);
+    equal_bytes(rt, list.as_slice(), &[1, 2, 3]);
     drop(list);
 }
 
@@ -73,14 +50,15 @@ fn shrink_past_a_refusal<B: Allocator>(rt: &impl Abort, heap: &Refusing<B>) {
     let mut list = Vec::with_capacity(heap, 40).expect(rt, "memory");
     list.push(1u8).expect(rt, "room");
     heap.refuse(1);
-    assert_eq!(rt; (heap.asked(), heap.has_refused()), (0, false));
+    has_counted(rt, heap, 0, false);
     list.shrink_to_fit();
-    assert_eq!(rt; (heap.asked(), heap.has_refused()), (1, true));
-    assert!(rt; list.capacity() >= 40, "a refused shrink leaves the room");
+    has_counted(rt, heap, 1, true);
+    // A refused shrink leaves the room.
+    equal(rt, list.capacity() >= 40, true);
     heap.refuse(0);
     list.shrink_to_fit();
-    assert_eq!(rt; (heap.asked(), heap.has_refused()), (1, false));
-    assert_eq!(rt; (list.len(), list.capacity()), (1, 1));
+    has_counted(rt, heap, 1, false);
+    equal(rt, (list.len(), list.capacity()), (1, 1));
     drop(list);
 }
 
@@ -90,46 +68,45 @@ fn counts_anew_from_the_last_refuse(rt: HostRuntime) {
 }
 
 // Makes a shared number another one, and tells how many requests there were, of which the first is
-// refused, and whether it was made.
+// refused, and the number then.
 fn change<B: Allocator>(
     heap: &Refusing<B>,
     shared: &mut Rc<usize, &Refusing<B>>,
     number: usize,
-) -> (u64, bool) {
+) -> (u64, usize) {
     heap.refuse(1);
-    let is_made = match Rc::make_mut(shared) {
-        Ok(place) => {
-            *place = number;
-            true
-        }
-        Err(_) => false,
-    };
-    (heap.asked(), is_made)
+    if let Ok(place) = Rc::make_mut(shared) {
+        *place = number;
+    }
+    (heap.asked(), **shared)
+}
+
+fn change_alone_and_shared(rt: &impl Abort, heap: &Refusing<Global>) {
+    let mut shared = Rc::new(heap, 5usize).expect(rt, "memory");
+    equal(rt, change(heap, &mut shared, 6), (0, 6));
+    let twin = shared.clone().expect(rt, "a second owner");
+    has_counted(rt, heap, 0, false);
+    equal(rt, change(heap, &mut shared, 7), (1, 6));
+    heap.refuse(0);
+    *Rc::make_mut(&mut shared).expect(rt, "memory") = 7;
+    equal(rt, (heap.asked(), *shared, *twin), (1, 7, 6));
+    drop(twin);
+    drop(shared);
 }
 
 #[test]
 fn a_lone_owner_makes_no_request_and_a_shared_one_makes_one(rt: HostRuntime) {
-    let heap = Refusing::new(rt.alloc(), 0);
-    let mut shared = Rc::new(&heap, 5usize).expect(&rt, "memory");
-    assert_eq!(rt; (change(&heap, &mut shared, 6), *shared), ((0, true), 6));
-    let twin = shared.clone().expect(&rt, "a second owner");
-    assert_eq!(rt; heap.asked(), 0);
-    assert_eq!(rt; (change(&heap, &mut shared, 7), *shared), ((1, false), 6));
-    heap.refuse(0);
-    *Rc::make_mut(&mut shared).expect(&rt, "memory") = 7;
-    assert_eq!(rt; (heap.asked(), *shared, *twin), (1, 7, 6));
-    drop(twin);
-    drop(shared);
+    change_alone_and_shared(&rt, &Refusing::new(rt.alloc(), 0));
 }
 
 #[test]
 fn counts_bytes_and_forgets_them(rt: HostRuntime) {
     let heap = Refusing::new(rt.alloc(), 0);
     let mut list = Vec::from_elem(&heap, 1u32, 5).expect(&rt, "memory");
-    assert_eq!(rt; (heap.asked(), heap.asked_bytes()), (1, 20));
+    equal(&rt, (heap.asked(), heap.asked_bytes()), (1, 20));
     list.reserve_exact(3).expect(&rt, "memory");
-    assert_eq!(rt; (heap.asked(), heap.asked_bytes()), (2, 20 + 32));
+    equal(&rt, (heap.asked(), heap.asked_bytes()), (2, 20 + 32));
     heap.refuse(0);
     drop(list);
-    assert_eq!(rt; (heap.asked(), heap.asked_bytes()), (0, 0));
+    equal(&rt, (heap.asked(), heap.asked_bytes()), (0, 0));
 }
