@@ -182,13 +182,15 @@ impl<T: Element, A: Allocator + Clone> Buffer<T, A> {
     ///
     /// `range` has to lie within the buffer: `range.start <= range.end <= self.len()`. `alignment`
     /// has to be at least that of an item. Unless the range is empty, the byte offset of its first
-    /// item has to be a multiple of `alignment`, and `alignment` at most [`Buffer::declared`]. The
-    /// offset counts from the start of the storage, not of this buffer, and no address is looked
-    /// at. [`Buffer::can_slice`] tests all of this.
+    /// item has to be a multiple of `alignment`, and `alignment` at most [`Buffer::declared`], the
+    /// alignment that the storage was declared with. The offset counts from the start of the
+    /// storage, not of this buffer, and no address is looked at. [`Buffer::can_slice`] tests all of
+    /// this. A part that isn't empty has that offset and that declared alignment.
     ///
     /// The part keeps a copy of this buffer's allocator, to ask for memory when its items are
     /// copied. Refused by `OutOfMemory` alone: where making that copy finds no memory, or where the
-    /// storage has as many owners as can be counted. Refused or not, this buffer stays as it was.
+    /// storage has as many owners as can be counted, whatever the range. Refused or not, this
+    /// buffer stays as it was.
     pub fn slice_with_alignment(&self, range: Range<usize>, alignment: Alignment) -> Result<Self>
         requires { CanSlice T.SIZE T.align_exponent self.now range alignment }
         ensures { Makes (ShowsPart T.SIZE self.now range alignment) result }
