@@ -1,12 +1,17 @@
 //! Answers known from outside, with ample memory and with each request refused in turn.
 use crate::{Condition, filtered, rows_where};
 use std::alloc::Global;
+use std::fmt::Debug;
 use std::process::Abort;
-use std::test::Fail;
-use vb_testing::{Refusing, answers_refusal, each_refused};
+use vb_testing::Refusing;
 use vortex_buffer::{BitBuffer, Buffer, BufferError, Filter, Result};
 
 type Heap<'a> = &'a Refusing<Global>;
+
+/// The two values are equal: what the tests compare by, which is proved once.
+fn equal<T: Copy + PartialEq + Debug>(rt: &impl Abort, given: T, wanted: T) {
+    assert_eq!(rt; given, wanted);
+}
 
 /// Five ages, of which the third is null.
 const AGES: &[u32] = &[31, 17, 0, 54, 18];
@@ -22,11 +27,16 @@ const ROWS: &[(Condition, &[u32], &[bool])] = &[
 fn ages<'a>(heap: Heap<'a>, condition: Condition) -> Result<Buffer<u32, Heap<'a>>> {
     let values = Buffer::copy_from(heap, AGES)?;
     let valid = BitBuffer::from_bools(heap, &[true, true, false, true, true])?;
-    filtered(heap, &values, &valid, condition)
+    let found = filtered(heap, &values, &valid, condition);
+    drop((values, valid));
+    found
 }
 
 fn members<'a>(heap: Heap<'a>, condition: Condition) -> Result<BitBuffer<Heap<'a>>> {
-    let rows = rows_where(heap, &Buffer::copy_from(heap, AGES)?, condition)?;
+    let values = Buffer::copy_from(heap, AGES)?;
+    let made = rows_where(heap, &values, condition);
+    drop(values);
+    let rows = made?;
     let member = BitBuffer::from_bools(heap, &[true, false, true, false, true])?;
     let found = member.filtered(rows.as_view());
     drop((member, rows));
@@ -34,18 +44,24 @@ fn members<'a>(heap: Heap<'a>, condition: Condition) -> Result<BitBuffer<Heap<'a
 }
 
 fn answers(rt: &impl Abort, heap: Heap<'_>, row: &(Condition, &[u32], &[bool])) -> Result<()> {
-    assert_eq!(rt; ages(heap, row.0)?.as_slice(), row.1);
-    assert!(rt; members(heap, row.0)?.iter().eq(row.2.iter().copied()));
+    let found = ages(heap, row.0)?;
+    assert_eq!(rt; found.as_slice(), row.1);
+    drop(found);
+    let found = members(heap, row.0)?;
+    equal(rt, found.iter().eq(row.2.iter().copied()), true);
+    drop(found);
     Ok(())
 }
 
 #[test]
-fn filters_are_answered_or_refused(rt: HostRuntime) -> Result<(), Fail> {
+fn filters_are_answered_or_refused(rt: HostRuntime) {
+    let heap = Refusing::new(rt.alloc(), 0);
     for row in ROWS {
-        let requests = each_refused(rt.alloc(), |heap| {
-            answers_refusal(heap, answers(&rt, heap, row), BufferError::OutOfMemory)
-        })?;
-        assert!(rt; requests >= Some(6));
+        for _ in heap.in_turn() {
+            let answer = answers(&rt, &heap, row);
+            let refused = Err(BufferError::OutOfMemory);
+            equal(&rt, answer, heap.wanted(Ok(()), refused));
+        }
+        equal(&rt, heap.has_ended(6), true);
     }
-    Ok(())
 }

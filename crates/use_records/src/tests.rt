@@ -1,43 +1,70 @@
 //! Files with known names, with ample memory and with each request refused in turn.
 use crate::{ReadError, read_name};
 use std::alloc::Allocator;
+use std::fmt::Debug;
 use std::process::Abort;
-use std::test::Fail;
-use vb_testing::{Handle, answers_refusal, each_refused};
+use vb_testing::{Handle, Refusing};
 use vortex_buffer::{AlignedBuf, Buffer, BufferError};
 
-/// Reads the names "ab" and "", and meets a third that is cut short. Where memory is refused, the
-/// file stays as it was.
-fn two_names<B: AlignedBuf + Drop, A: Allocator + Clone>(
+/// The two values are equal: what the tests compare by, which is proved once.
+fn equal<T: Copy + PartialEq + Debug>(rt: &impl Abort, given: T, wanted: T) {
+    assert_eq!(rt; given, wanted);
+}
+
+/// The names "ab" and "", and a third that is cut short.
+const FILE: &[u8] = b"\x02ab\x00\x05c";
+
+/// The names of the file, each with how many bytes are left behind it.
+const NAMES: &[(&str, usize)] = &[("ab", 3), ("", 2)];
+
+/// Reads the next name. Where memory is refused, the file stays as it was.
+fn reads<B: AlignedBuf, A: Allocator + Clone>(
+    rt: &impl Abort,
+    alloc: &A,
+    file: &mut B,
+    (text, left): (&str, usize),
+) -> Result<(), ReadError> {
+    let before = file.remaining();
+    let read = read_name(alloc.clone().map_err(BufferError::from)?, file);
+    let wanted = if read.is_ok() { left } else { before };
+    equal(rt, file.remaining(), wanted);
+    let name = read?;
+    equal(rt, name.as_str(), text);
+    drop(name);
+    Ok(())
+}
+
+/// Reads the two names, and meets the third.
+fn two_names<B: AlignedBuf, A: Allocator + Clone>(
     rt: &impl Abort,
     alloc: A,
-    mut file: B,
+    file: &mut B,
 ) -> Result<(), ReadError> {
-    for (text, left) in [("ab", 3), ("", 2)] {
-        let before = file.remaining();
-        match read_name(alloc.clone().map_err(BufferError::from)?, &mut file) {
-            Ok(name) => assert_eq!(rt; (name.as_str(), file.remaining()), (text, left)),
-            Err(error) => {
-                assert_eq!(rt; file.remaining(), before);
-                return Err(error);
-            }
-        }
+    for name in NAMES {
+        reads(rt, &alloc, file, *name)?;
     }
-    let cut = read_name(alloc, &mut file).err();
-    assert_eq!(rt; (cut, file.remaining()), (Some(ReadError::CutShort), 2));
+    let cut = read_name(alloc, file).err();
+    equal(rt, (cut, file.remaining()), (Some(ReadError::CutShort), 2));
     Ok(())
 }
 
 #[test]
-fn names_are_read_or_refused(rt: HostRuntime) -> Result<(), Fail> {
-    let file = b"\x02ab\x00\x05c".as_slice();
-    let refused = ReadError::Buffer(BufferError::OutOfMemory);
-    let requests = each_refused(rt.alloc(), |heap| {
-        answers_refusal(heap, two_names(&rt, Handle { inner: heap }, file), refused)
-    })?;
-    assert!(rt; requests >= Some(3));
-    two_names(&rt, rt.alloc(), Buffer::copy_from(rt.alloc(), file)?)?;
-    Ok(())
+fn names_are_read_or_refused(rt: HostRuntime) {
+    let heap = Refusing::new(rt.alloc(), 0);
+    for _ in heap.in_turn() {
+        let mut file = FILE;
+        let answer = two_names(&rt, Handle { inner: &heap }, &mut file);
+        let refused = Err(ReadError::Buffer(BufferError::OutOfMemory));
+        equal(&rt, answer, heap.wanted(Ok(()), refused));
+    }
+    equal(&rt, heap.has_ended(3), true);
+}
+
+#[test]
+fn names_of_a_buffer_are_read(rt: HostRuntime) {
+    let mut file = Buffer::copy_from(rt.alloc(), FILE).expect(&rt, "memory");
+    equal(&rt, two_names(&rt, rt.alloc(), &mut file), Ok(()));
+    drop(file);
 }
 
 #[test]
@@ -45,5 +72,5 @@ fn what_is_no_text_stays(rt: HostRuntime) {
     let mut file = b"\x02a\xFF".as_slice();
     let answer = read_name(rt.alloc(), &mut file).err();
     let wanted = ReadError::Buffer(BufferError::NotUtf8 { valid_up_to: 1 });
-    assert_eq!(rt; (answer, file.len()), (Some(wanted), 3));
+    equal(&rt, (answer, file.len()), (Some(wanted), 3));
 }

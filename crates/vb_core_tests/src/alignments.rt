@@ -1,7 +1,6 @@
 //! Alignments: worked values, and the numbers that are refused.
-use crate::compared::equal;
-use std::alloc::AllocError;
-use vb_core::{Alignment, BufferError};
+use crate::compared::{equal, shows};
+use vb_core::{Alignment, BufferError, Result};
 
 #[test]
 fn an_alignment_is_its_exponent(rt: HostRuntime) {
@@ -16,33 +15,30 @@ fn an_alignment_is_its_exponent(rt: HostRuntime) {
     equal(&rt, Alignment::of::<u128>().as_usize(), 16);
 }
 
+/// Exponents, each with what two calls answer: the second one for input that isn't trusted.
+const EXPONENTS: &[(u8, Result<u8>, Result<u8>)] = &[
+    (16, Ok(16), Ok(16)),
+    (17, Ok(17), Err(BufferError::Untrusted { exponent: 17 })),
+    (63, Ok(63), Err(BufferError::Untrusted { exponent: 63 })),
+    (64, TOO_LARGE, TOO_LARGE),
+];
+
+const TOO_LARGE: Result<u8> = Err(BufferError::ExponentTooLarge { exponent: 64 });
+
 #[test]
 fn exponents_are_accepted_or_refused(rt: HostRuntime) {
-    let exponent = |alignment: Alignment| alignment.exponent();
-    equal(&rt, Alignment::try_from_exponent(63).map(exponent), Ok(63));
-    equal(
-        &rt,
-        Alignment::try_from_exponent(64),
-        Err(BufferError::ExponentTooLarge { exponent: 64 }),
-    );
-    let untrusted = Alignment::try_from_untrusted_exponent;
-    equal(&rt, untrusted(16), Ok(Alignment::MAX_UNTRUSTED));
-    equal(
-        &rt,
-        untrusted(17),
-        Err(BufferError::Untrusted { exponent: 17 }),
-    );
-    equal(
-        &rt,
-        untrusted(64),
-        Err(BufferError::ExponentTooLarge { exponent: 64 }),
-    );
+    for (exponent, any, untrusted) in EXPONENTS {
+        let given = Alignment::try_from_exponent(*exponent);
+        equal(&rt, given.map(Alignment::exponent), *any);
+        let given = Alignment::try_from_untrusted_exponent(*exponent);
+        equal(&rt, given.map(Alignment::exponent), *untrusted);
+    }
 }
 
 #[test]
 fn numbers_of_32_bits_go_both_ways(rt: HostRuntime) {
-    let bytes = |alignment: Alignment| alignment.as_usize();
-    equal(&rt, Alignment::try_from_u32(65536).map(bytes), Ok(65536));
+    let untrusted = Alignment::try_from_u32(65536);
+    equal(&rt, untrusted, Ok(Alignment::MAX_UNTRUSTED));
     equal(
         &rt,
         Alignment::try_from_u32(0),
@@ -72,8 +68,7 @@ fn alignments_divide(rt: HostRuntime) {
 }
 
 #[test]
-fn an_alignment_is_shown_in_decimal(rt: HostRuntime) -> Result<(), AllocError> {
-    let shown = format!(in rt.alloc(); "{} {}", Alignment::MAX_UNTRUSTED, Alignment::none())?;
-    equal(&rt, shown.as_str(), "65536 1");
-    Ok(())
+fn an_alignment_is_shown_in_decimal(rt: HostRuntime) {
+    shows(&rt, rt.alloc(), &Alignment::MAX_UNTRUSTED, "65536");
+    shows(&rt, rt.alloc(), &Alignment::none(), "1");
 }

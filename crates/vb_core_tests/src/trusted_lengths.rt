@@ -2,7 +2,6 @@
 ghost use Rattle.std.specs.Prelude.{◌≡◌};
 
 use crate::compared::equal;
-use std::alloc::AllocError;
 use std::process::Abort;
 use vb_core::{TrustedLen, trusted_len};
 
@@ -13,11 +12,12 @@ where
     requires { I.can_next iter }
 {
     for left in (0..n).rev() {
-        assert_eq!(rt; iter.exact_len(), left + 1);
-        assert!(rt; iter.next().is_some());
+        equal(rt, iter.exact_len(), left.saturating_add(1));
+        drop(iter.next().expect(rt, "an item"));
     }
-    assert_eq!(rt; iter.exact_len(), 0);
-    assert!(rt; iter.next().is_none());
+    equal(rt, iter.exact_len(), 0);
+    equal(rt, iter.next().is_none(), true);
+    drop(iter);
 }
 
 #[test]
@@ -40,23 +40,24 @@ fn the_longest_ranges_have_their_number(rt: HostRuntime) {
     equal(&rt, (0..u64::MAX).exact_len(), usize::MAX);
 }
 
+const TENS: &[u8] = &[10, 20, 30];
+
 #[test]
 fn slices_and_adapters_count_down(rt: HostRuntime) {
-    let tens = [10u8, 20, 30];
-    assert_counts_down(&rt, tens.iter(), 3);
-    assert_counts_down(&rt, trusted_len(tens.iter(), 3), 3);
-    assert_counts_down(&rt, trusted_len(tens.iter().skip(1), 2), 2);
-    equal(&rt, trusted_len(tens.iter(), 3).size_hint(), (3, Some(3)));
+    assert_counts_down(&rt, TENS.iter(), 3);
+    let adapter = trusted_len(TENS.iter(), 3);
+    equal(&rt, adapter.size_hint(), (3, Some(3)));
+    assert_counts_down(&rt, adapter, 3);
+    assert_counts_down(&rt, trusted_len(TENS.iter().skip(1), 2), 2);
 }
 
 #[test]
-fn an_adapter_is_printed(rt: HostRuntime) -> Result<(), AllocError> {
-    let tens = [10u8, 20, 30];
-    let adapter = trusted_len(tens.iter(), 3);
-    let text = format!(in rt.alloc(); "{:?}", adapter)?;
+fn an_adapter_is_printed(rt: HostRuntime) {
+    let adapter = trusted_len(TENS.iter(), 3);
+    let text = format!(in rt.alloc(); "{:?}", adapter).expect(&rt, "a text");
     let wanted = "TrustedLenAdapter { iter: Iter([10, 20, 30]), left: 3 }";
     equal(&rt, text.as_str(), wanted);
-    Ok(())
+    drop(text);
 }
 
 #[test]

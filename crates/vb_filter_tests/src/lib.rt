@@ -5,6 +5,10 @@
 #[cfg(test)]
 mod bits;
 #[cfg(test)]
+mod compared;
+#[cfg(test)]
+mod filters;
+#[cfg(test)]
 mod masks;
 #[cfg(test)]
 mod takes;

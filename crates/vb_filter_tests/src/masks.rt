@@ -5,7 +5,8 @@ use vb_core::Result;
 
 /// A mask: how many bits it has, the bit of its bytes with which it begins, and which bits of the
 /// bytes are true.
-pub(crate) struct Row(pub(crate) usize, usize, Kept);
+#[derive(Clone, Copy)]
+pub(crate) struct Row(pub(crate) usize, pub(crate) usize, pub(crate) Kept);
 
 impl Row {
     /// Whether the bit at a place of the mask is true.

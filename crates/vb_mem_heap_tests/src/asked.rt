@@ -20,16 +20,22 @@ enum Way {
 
 /// A way on from a shared buffer.
 enum OfShared {
+    /// By another buffer, beside the shared one.
+    Beside(Beside),
     IntoMut,
-    IntoMutOfTwo,
     TryIntoMut,
     ItemsMut,
-    ItemsMutOfTwo,
     Aligned,
-    AsBytes,
     IntoByteBuffer,
     IntoBytes,
     FromByteBuffer,
+}
+
+/// A way to another buffer, beside a shared one that is gone then.
+enum Beside {
+    IntoMut,
+    ItemsMut,
+    AsBytes,
     Allocator,
 }
 
@@ -47,45 +53,61 @@ enum OfOpen {
 type Made<A> = Result<BufferMut<u8, A>>;
 
 impl Way {
-    fn make<A: Allocator + Clone>(&self, alloc: A, vector: Vec<u8, A>) -> Made<A> {
+    fn make<A: Allocator + Clone>(&self, rt: &impl Abort, alloc: A, vector: Vec<u8, A>) -> Made<A> {
         match self {
             Way::CopyFrom => copy_of(alloc, vector),
             Way::CopyFromFrozen => frozen_copy_of(alloc, vector),
-            Way::FromBytes => Buffer::from_bytes(alloc, Bytes::from_vec(vector)?)?.into_mut(),
-            Way::Shared(way) => way.make(Buffer::from_vec(alloc, vector)?),
-            Way::Open(way) => way.make(Buffer::from_vec(alloc, vector)?.into_mut()?),
+            Way::FromBytes => of_bytes(rt, alloc, vector),
+            Way::Shared(way) => way.make(rt, Buffer::from_vec(alloc, vector)),
+            Way::Open(way) => way.make(rt, opened(Buffer::from_vec(alloc, vector))),
         }
     }
 }
 
 impl OfShared {
-    fn make<A: Allocator + Clone>(&self, buffer: ByteBuffer<A>) -> Made<A> {
+    fn make<A: Allocator + Clone>(&self, rt: &impl Abort, made: Result<ByteBuffer<A>>) -> Made<A> {
+        let buffer = made?;
         match self {
+            OfShared::Beside(way) => way.alone(buffer),
             OfShared::IntoMut => buffer.into_mut(),
-            OfShared::IntoMutOfTwo => opened_of_two(buffer),
-            OfShared::TryIntoMut => opened(buffer),
-            OfShared::ItemsMut => written(buffer),
-            OfShared::ItemsMutOfTwo => written_of_two(buffer),
-            OfShared::Aligned => aligned(buffer),
-            OfShared::AsBytes => bytes_of(buffer),
-            OfShared::IntoByteBuffer => buffer.into_byte_buffer()?.into_mut(),
-            OfShared::IntoBytes => by_bytes(buffer),
-            OfShared::FromByteBuffer => ByteBuffer::from_byte_buffer(buffer)?.into_mut(),
-            OfShared::Allocator => room_beside(buffer),
+            OfShared::TryIntoMut => tried(buffer),
+            OfShared::ItemsMut => written(Ok(buffer)),
+            OfShared::Aligned => opened(buffer.aligned(Alignment::from_exponent(9))),
+            OfShared::IntoByteBuffer => opened(buffer.into_byte_buffer()),
+            OfShared::IntoBytes => by_bytes(rt, buffer),
+            OfShared::FromByteBuffer => opened(ByteBuffer::from_byte_buffer(buffer)),
         }
     }
 }
 
-impl OfOpen {
-    fn make<A: Allocator + Clone>(&self, open: BufferMut<u8, A>) -> Made<A> {
+impl Beside {
+    fn make<A: Allocator + Clone>(&self, buffer: &ByteBuffer<A>) -> Made<A> {
         match self {
-            OfOpen::FromMut => Buffer::from_mut(open)?.into_mut(),
-            OfOpen::Frozen => open.freeze()?.into_mut(),
+            Beside::IntoMut => opened(buffer.clone()),
+            Beside::ItemsMut => written(buffer.clone()),
+            Beside::AsBytes => opened(buffer.as_bytes()),
+            Beside::Allocator => room_of(buffer.allocator().clone()),
+        }
+    }
+
+    fn alone<A: Allocator + Clone>(&self, buffer: ByteBuffer<A>) -> Made<A> {
+        let other = self.make(&buffer);
+        drop(buffer);
+        other
+    }
+}
+
+impl OfOpen {
+    fn make<A: Allocator + Clone>(&self, rt: &impl Abort, made: Made<A>) -> Made<A> {
+        let open = made?;
+        match self {
+            OfOpen::FromMut => opened(Buffer::from_mut(open)),
+            OfOpen::Frozen => opened(open.freeze()),
             OfOpen::Aligned => open.aligned(Alignment::from_exponent(9)),
             OfOpen::IntoByteBuffer => open.into_byte_buffer(),
             OfOpen::Clone => cloned(open),
             OfOpen::Taken => taken(open),
-            OfOpen::LeftByTake => left_by_take(open),
+            OfOpen::LeftByTake => left_by_take(rt, open),
         }
     }
 }
@@ -99,10 +121,14 @@ fn copy_of<A: Allocator>(alloc: A, vector: Vec<u8, A>) -> Made<A> {
 fn frozen_copy_of<A: Allocator + Clone>(alloc: A, vector: Vec<u8, A>) -> Made<A> {
     let copy = Buffer::copy_from(alloc, vector.as_slice());
     drop(vector);
-    copy?.into_mut()
+    opened(copy)
 }
 
-fn opened<A: Allocator>(buffer: ByteBuffer<A>) -> Made<A> {
+fn opened<A: Allocator + Clone>(made: Result<ByteBuffer<A>>) -> Made<A> {
+    made?.into_mut()
+}
+
+fn tried<A: Allocator>(buffer: ByteBuffer<A>) -> Made<A> {
     match buffer.try_into_mut() {
         Ok(open) => Ok(open),
         Err(shared) => {
@@ -112,50 +138,33 @@ fn opened<A: Allocator>(buffer: ByteBuffer<A>) -> Made<A> {
     }
 }
 
-fn opened_of_two<A: Allocator + Clone>(buffer: ByteBuffer<A>) -> Made<A> {
-    let open = opened_twin(buffer.clone());
-    drop(buffer);
-    open
-}
-
-fn opened_twin<A: Allocator + Clone>(twin: Result<ByteBuffer<A>>) -> Made<A> {
-    twin?.into_mut()
-}
-
-fn written<A: Allocator + Clone>(mut buffer: ByteBuffer<A>) -> Made<A> {
+fn fill<A: Allocator + Clone>(buffer: &mut ByteBuffer<A>) -> Result<()> {
     buffer.items_mut()?.as_mut_slice().fill(7);
+    Ok(())
+}
+
+fn written<A: Allocator + Clone>(made: Result<ByteBuffer<A>>) -> Made<A> {
+    let mut buffer = made?;
+    if let Err(refused) = fill(&mut buffer) {
+        drop(buffer);
+        return Err(refused);
+    }
     buffer.into_mut()
 }
 
-fn written_of_two<A: Allocator + Clone>(buffer: ByteBuffer<A>) -> Made<A> {
-    let open = written_twin(buffer.clone());
-    drop(buffer);
-    open
+fn of_bytes<A: Allocator + Clone>(rt: &impl Abort, alloc: A, vector: Vec<u8, A>) -> Made<A> {
+    let bytes = Bytes::from_vec(vector).expect(rt, "bytes");
+    opened(Buffer::from_bytes(alloc, bytes))
 }
 
-fn written_twin<A: Allocator + Clone>(twin: Result<ByteBuffer<A>>) -> Made<A> {
-    written(twin?)
-}
-
-fn aligned<A: Allocator + Clone>(buffer: ByteBuffer<A>) -> Made<A> {
-    buffer.aligned(Alignment::from_exponent(9))?.into_mut()
-}
-
-fn bytes_of<A: Allocator + Clone>(buffer: ByteBuffer<A>) -> Made<A> {
-    let bytes = buffer.as_bytes();
-    drop(buffer);
-    bytes?.into_mut()
-}
-
-fn by_bytes<A: Allocator + Clone>(buffer: ByteBuffer<A>) -> Made<A> {
-    let alloc = buffer.allocator().clone()?;
-    Buffer::from_bytes(alloc, buffer.into_bytes()?)?.into_mut()
+fn by_bytes<A: Allocator + Clone>(rt: &impl Abort, buffer: ByteBuffer<A>) -> Made<A> {
+    let alloc = buffer.allocator().clone().expect(rt, "an allocator");
+    let bytes = buffer.into_bytes().expect(rt, "bytes");
+    opened(Buffer::from_bytes(alloc, bytes))
 }
 
 /// Room from the allocator of a buffer.
-fn room_beside<A: Allocator + Clone>(buffer: ByteBuffer<A>) -> Made<A> {
-    let alloc: Result<A, AllocError> = buffer.allocator().clone();
-    drop(buffer);
+fn room_of<A: Allocator>(alloc: Result<A, AllocError>) -> Made<A> {
     BufferMut::with_capacity(alloc?, 3)
 }
 
@@ -165,8 +174,8 @@ fn taken<A: Allocator + Clone>(mut open: BufferMut<u8, A>) -> Made<A> {
     taken
 }
 
-fn left_by_take<A: Allocator + Clone>(mut open: BufferMut<u8, A>) -> Made<A> {
-    drop(open.take()?);
+fn left_by_take<A: Allocator + Clone>(rt: &impl Abort, mut open: BufferMut<u8, A>) -> Made<A> {
+    drop(open.take().expect(rt, "a buffer"));
     Ok(open)
 }
 
@@ -197,14 +206,22 @@ const WAYS: &[(Way, Heaps, Heaps)] = &[
     (Way::Shared(OfShared::TryIntoMut), GIVEN, VECTORS),
     (Way::Shared(OfShared::ItemsMut), GIVEN, VECTORS),
     // What is copied is the buffer's.
-    (Way::Shared(OfShared::IntoMutOfTwo), GIVEN, GIVEN),
-    (Way::Shared(OfShared::ItemsMutOfTwo), GIVEN, GIVEN),
+    (Way::Shared(OfShared::Beside(Beside::IntoMut)), GIVEN, GIVEN),
+    (
+        Way::Shared(OfShared::Beside(Beside::ItemsMut)),
+        GIVEN,
+        GIVEN,
+    ),
     (Way::Shared(OfShared::Aligned), GIVEN, GIVEN),
-    (Way::Shared(OfShared::AsBytes), GIVEN, GIVEN),
+    (Way::Shared(OfShared::Beside(Beside::AsBytes)), GIVEN, GIVEN),
     (Way::Shared(OfShared::IntoByteBuffer), GIVEN, GIVEN),
     (Way::Shared(OfShared::IntoBytes), GIVEN, GIVEN),
     (Way::Shared(OfShared::FromByteBuffer), GIVEN, GIVEN),
-    (Way::Shared(OfShared::Allocator), GIVEN, GIVEN),
+    (
+        Way::Shared(OfShared::Beside(Beside::Allocator)),
+        GIVEN,
+        GIVEN,
+    ),
     // The open buffer has the vector's storage.
     (Way::Open(OfOpen::FromMut), BOTH, VECTORS),
     (Way::Open(OfOpen::Frozen), BOTH, VECTORS),
@@ -215,12 +232,16 @@ const WAYS: &[(Way, Heaps, Heaps)] = &[
     (Way::Open(OfOpen::LeftByTake), GIVEN, VECTORS),
 ];
 
-/// Which heaps were asked since this was told the last time.
-fn asked<B: Allocator>(given: &Refusing<B>, vectors: &Refusing<B>) -> Heaps {
-    let asked = (given.asked() > 0, vectors.asked() > 0);
+/// These heaps were asked since this was looked at the last time.
+fn are_asked<B: Allocator>(
+    rt: &impl Abort,
+    given: &Refusing<B>,
+    vectors: &Refusing<B>,
+    wanted: Heaps,
+) {
+    equal(rt, (given.asked() > 0, vectors.asked() > 0), wanted);
     given.refuse(0);
     vectors.refuse(0);
-    asked
 }
 
 /// What was made, grown past its room.
@@ -230,17 +251,19 @@ fn grown<A: Allocator>(rt: &impl Abort, made: Made<A>) -> BufferMut<u8, A> {
     open
 }
 
+const ITEMS: &[u8] = &[1, 2, 3];
+
 #[test]
 fn the_allocator_that_is_kept_is_asked(rt: HostRuntime) {
     let (given, vectors) = (Refusing::new(rt.alloc(), 0), Refusing::new(rt.alloc(), 0));
     for (way, making, later) in WAYS {
-        let vector = [1, 2, 3].to_vec(&vectors).expect(&rt, "a vector");
-        asked(&given, &vectors);
-        let made = way.make(&given, vector);
-        equal(&rt, asked(&given, &vectors), *making);
+        let vector = ITEMS.to_vec(&vectors).expect(&rt, "a vector");
+        are_asked(&rt, &given, &vectors, VECTORS);
+        let made = way.make(&rt, &given, vector);
+        are_asked(&rt, &given, &vectors, *making);
         let open = grown(&rt, made);
-        equal(&rt, asked(&given, &vectors), *later);
+        are_asked(&rt, &given, &vectors, *later);
         drop(cloned(open));
-        equal(&rt, asked(&given, &vectors), *later);
+        are_asked(&rt, &given, &vectors, *later);
     }
 }

@@ -1,6 +1,7 @@
 //! What a refused `items_mut` leaves of a part of a storage that has another owner: everything.
 use crate::compared::equal;
 use std::alloc::Allocator;
+use std::ops::Range;
 use std::process::Abort;
 use vb_core::{Alignment, BufferError, Result};
 use vb_mem::{Buffer, BufferMut};
@@ -18,49 +19,63 @@ fn filled<A: Allocator>(mut open: BufferMut<u32, A>) -> Result<BufferMut<u32, A>
     Ok(open)
 }
 
+/// The items are these numbers.
+fn counts(rt: &impl Abort, items: &[u32], numbers: Range<u32>) {
+    equal(rt, items.iter().copied().eq(numbers), true);
+}
+
 /// The upper half of the numbers stands 512 bytes behind the start of its storage.
 fn is_upper_half<A: Allocator>(rt: &impl Abort, part: &Buffer<u32, A>) {
-    equal(rt, part.as_slice().iter().copied().eq(128..256), true);
+    counts(rt, part.as_slice(), 128..256);
     let alignments = (part.alignment().as_usize(), part.declared().as_usize());
     equal(rt, alignments, (4, 1024));
     let (half, whole) = (Alignment::from_exponent(9), Alignment::from_exponent(10));
-    equal(
-        rt,
-        (part.is_aligned(half), part.is_aligned(whole)),
-        (true, false),
-    );
+    let is_aligned = (part.is_aligned(half), part.is_aligned(whole));
+    equal(rt, is_aligned, (true, false));
     equal(rt, part.can_slice(0..1, half), true);
     equal(rt, part.can_slice(128..129, half), false);
     equal(rt, part.can_slice(0..1, whole), false);
+}
+
+/// The items are sevens, in a storage of their own.
+fn is_written<A: Allocator>(rt: &impl Abort, part: &Buffer<u32, A>) {
+    equal(rt, SEVENS.starts_with(part.as_slice()), true);
+    equal(rt, (part.len(), part.declared().as_usize()), (128, 256));
+}
+
+const SEVENS: [u32; 128] = [7; 128];
+
+fn fill<A: Allocator + Clone>(part: &mut Buffer<u32, A>) -> Result<()> {
+    part.items_mut()?.as_mut_slice().fill(7);
+    Ok(())
 }
 
 /// Writes sevens over a part. A refusal leaves the part as it is.
 fn write_part<A: Allocator + Clone>(rt: &impl Abort, made: Result<Buffer<u32, A>>) -> Result<()> {
     let mut part = made?;
     is_upper_half(rt, &part);
-    let answer = match part.items_mut() {
-        Ok(items) => {
-            items.as_mut_slice().fill(7);
-            Ok(())
-        }
-        Err(refused) => Err(refused),
-    };
-    if answer.is_err() {
-        is_upper_half(rt, &part);
+    let answer = fill(&mut part);
+    if answer.is_ok() {
+        is_written(rt, &part);
     } else {
-        equal(rt, part.as_slice().iter().all(|item| *item == 7), true);
-        equal(rt, part.declared().as_usize(), 256);
+        is_upper_half(rt, &part);
     }
     drop(part);
     answer
 }
 
+fn upper_half<A: Allocator + Clone>(whole: &Buffer<u32, A>) -> Result<Buffer<u32, A>> {
+    if whole.len() < 256 {
+        return Err(BufferError::NotAligned);
+    }
+    whole.slice_unaligned(128..256)
+}
+
 /// Writes the upper half of numbers that another buffer owns too, which keeps them.
 fn write_half<A: Allocator + Clone>(rt: &impl Abort, made: Result<Buffer<u32, A>>) -> Result<()> {
     let whole = made?;
-    assert!(rt; whole.len() == 256);
-    let answer = write_part(rt, whole.slice_unaligned(128..256));
-    equal(rt, whole.as_slice().iter().copied().eq(0..256), true);
+    let answer = write_part(rt, upper_half(&whole));
+    counts(rt, whole.as_slice(), 0..256);
     equal(rt, whole.declared().as_usize(), 1024);
     drop(whole);
     answer
@@ -76,5 +91,5 @@ fn a_refused_write_leaves_the_part(rt: HostRuntime) {
     }
     // The storage and its owner, and the copy and its own, are asked for, beside copies of the
     // allocator.
-    assert!(rt; !heap.has_refused() && heap.asked() >= 4);
+    equal(&rt, heap.has_ended(4), true);
 }

@@ -1,6 +1,6 @@
 //! The items of buffers as bytes, and back: bytes that are known, and each request for memory
 //! refused in turn.
-use crate::compared::{equal, equal_lists, shows};
+use crate::compared::{equal, shows};
 use bytes::Bytes;
 use std::alloc::Allocator;
 use std::fmt::Debug;
@@ -18,7 +18,7 @@ fn has_bytes<T: Element, A: Allocator + Clone>(
 ) {
     let items = made.expect(rt, "items");
     let bytes = items.as_bytes().expect(rt, "bytes");
-    equal_lists(rt, bytes.as_slice(), wanted);
+    equal(rt, bytes.as_slice(), wanted);
     drop((items, bytes));
 }
 
@@ -30,15 +30,20 @@ fn bytes_stand_in_little_endian_order(rt: HostRuntime) {
     has_bytes(&rt, negative, &[0xfe, 0xff]);
 }
 
+const SEVEN: BufferError = BufferError::ByteLength { len: 7, size: 4 };
+
 /// Seven bytes are no items, in a buffer and as `Bytes`.
 fn seven_are_refused<A: Allocator + Clone>(rt: &impl Abort, made: Result<Buffer<u8, A>>, alloc: A) {
     let seven = made.expect(rt, "bytes");
-    let refused = Some(BufferError::ByteLength { len: 7, size: 4 });
     let twin = seven.clone().expect(rt, "bytes");
-    equal(rt, Buffer::<u32, _>::from_byte_buffer(twin).err(), refused);
+    equal(
+        rt,
+        Buffer::<u32, _>::from_byte_buffer(twin).err(),
+        Some(SEVEN),
+    );
     let bytes = seven.into_bytes().expect(rt, "bytes");
     let answer = Buffer::<u32, _>::from_bytes(alloc, bytes);
-    equal(rt, answer.err(), refused);
+    equal(rt, answer.err(), Some(SEVEN));
 }
 
 #[test]
@@ -52,16 +57,12 @@ fn bytes_that_are_no_items_are_refused(rt: HostRuntime) {
 fn bytes_of_a_slice_are_read_once(rt: HostRuntime) {
     let heap = Refusing::new(rt.alloc(), 0);
     let item = Alignment::of::<u32>();
-    let made = Buffer::<u32, _>::read_from(&heap, &[1; 4000], item);
+    let made = Buffer::read_from(&heap, &[1; 4000], item);
     equal(&rt, heap.asked(), 2);
-    assert!(rt; heap.asks_within(4000, 4256));
-    has_items(&rt, made, &[0x0101_0101; 1000], 4);
-    let seven = Buffer::<u32, _>::read_from(&heap, &[1; 7], item).err();
-    equal(
-        &rt,
-        seven,
-        Some(BufferError::ByteLength { len: 7, size: 4 }),
-    );
+    equal(&rt, heap.asks_within(4000, 4256), true);
+    has_items(&rt, made, &[0x0101_0101u32; 1000], 4);
+    let seven = Buffer::<u32, _>::read_from(&heap, &[1; 7], item);
+    equal(&rt, seven.err(), Some(SEVEN));
     equal(&rt, heap.asked(), 0);
 }
 
@@ -82,7 +83,7 @@ fn has_items<T: Element + PartialEq + Debug, A: Allocator>(
     alignment: usize,
 ) {
     let buffer = made.expect(rt, "items");
-    equal_lists(rt, buffer.as_slice(), items);
+    equal(rt, buffer.as_slice(), items);
     equal(rt, buffer.alignment().as_usize(), alignment);
     drop(buffer);
 }
@@ -133,25 +134,35 @@ impl Form {
     /// The bytes of 1 and 2.
     fn make<A: Allocator + Clone>(&self, alloc: A) -> Result<Buffer<u8, A>> {
         match self {
-            Form::AsBytes => bytes_of(Buffer::copy_from(alloc, &[1, 2])?),
-            Form::IntoByteBuffer => Buffer::copy_from(alloc, &[1u32, 2])?.into_byte_buffer(),
-            Form::OfGrowing => {
-                let bytes = BufferMut::copy_from(alloc, &[1u32, 2])?.into_byte_buffer()?;
-                bytes.freeze()
-            }
+            Form::AsBytes => bytes_of(Buffer::copy_from(alloc, ITEMS)),
+            Form::IntoByteBuffer => bytes_from(Buffer::copy_from(alloc, ITEMS)),
+            Form::OfGrowing => bytes_of_growing(BufferMut::copy_from(alloc, ITEMS)),
         }
     }
 }
 
-fn bytes_of<A: Allocator + Clone>(items: Buffer<u32, A>) -> Result<Buffer<u8, A>> {
+const ITEMS: &[u32] = &[1, 2];
+
+fn bytes_of<A: Allocator + Clone>(made: Result<Buffer<u32, A>>) -> Result<Buffer<u8, A>> {
+    let items = made?;
     let bytes = items.as_bytes();
     drop(items);
     bytes
 }
 
+fn bytes_from<A: Allocator + Clone>(made: Result<Buffer<u32, A>>) -> Result<Buffer<u8, A>> {
+    made?.into_byte_buffer()
+}
+
+fn bytes_of_growing<A: Allocator + Clone>(
+    made: Result<BufferMut<u32, A>>,
+) -> Result<Buffer<u8, A>> {
+    made?.into_byte_buffer()?.freeze()
+}
+
 /// The bytes of 1 and 2 as `Bytes`.
 fn in_bytes<A: Allocator + Clone>(alloc: &A) -> Result<Bytes<A>> {
-    Buffer::copy_from(alloc.clone()?, &[1u32, 2])?.into_bytes()
+    Buffer::copy_from(alloc.clone()?, ITEMS)?.into_bytes()
 }
 
 /// The bytes of 1 and 2.
@@ -173,17 +184,27 @@ impl Way {
         match self {
             Way::Buffer(form) => Buffer::from_byte_buffer(form.make(alloc)?),
             Way::BufferAligned(form) => Buffer::from_byte_buffer_aligned(form.make(alloc)?, wide),
-            Way::Bytes => {
-                let bytes = in_bytes(&alloc)?;
-                Buffer::from_bytes(alloc, bytes)
-            }
-            Way::BytesAligned => {
-                let bytes = in_bytes(&alloc)?;
-                Buffer::from_bytes_aligned(alloc, bytes, wide)
-            }
+            Way::Bytes => of_bytes(alloc, false),
+            Way::BytesAligned => of_bytes(alloc, true),
             Way::Slice => Buffer::read_from(alloc, BYTES, Alignment::of::<u32>()),
             Way::SliceAligned => Buffer::read_from(alloc, BYTES, wide),
         }
+    }
+}
+
+/// The items of `Bytes`, aligned as they are or to 512 bytes.
+fn of_bytes<A: Allocator + Clone>(alloc: A, is_wide: bool) -> Result<Buffer<u32, A>> {
+    let bytes = match in_bytes(&alloc) {
+        Ok(bytes) => bytes,
+        Err(refused) => {
+            drop(alloc);
+            return Err(refused);
+        }
+    };
+    if is_wide {
+        Buffer::from_bytes_aligned(alloc, bytes, Alignment::from_exponent(9))
+    } else {
+        Buffer::from_bytes(alloc, bytes)
     }
 }
 
@@ -205,13 +226,10 @@ fn bytes_are_made_and_read_or_refused(rt: HostRuntime) {
     for (way, alignments) in WAYS {
         for _ in heap.in_turn() {
             let made = way.make(Handle { inner: &heap });
-            let answer = shows(&rt, made, &[1, 2], *alignments);
-            equal(
-                &rt,
-                answer,
-                heap.wanted(Ok(()), Err(BufferError::OutOfMemory)),
-            );
+            let answer = shows(&rt, made, ITEMS, *alignments);
+            let refused = Err(BufferError::OutOfMemory);
+            equal(&rt, answer, heap.wanted(Ok(()), refused));
         }
-        assert!(rt; !heap.has_refused() && heap.asked() >= 4);
+        equal(&rt, heap.has_ended(4), true);
     }
 }

@@ -2,7 +2,7 @@
 ghost use Rattle.std.specs.Prelude.{◌≡◌, IfOk, length};
 
 use crate::compared::equal;
-use std::alloc::{Allocator, Global};
+use std::alloc::Allocator;
 use std::fmt::Debug;
 use std::process::Abort;
 use vb_core::{Alignment, Result};
@@ -48,23 +48,30 @@ fn a_front_is_sliced_after_a_look_at_the_length(rt: HostRuntime) {
 }
 
 /// A value is printed so.
-fn prints<T: Debug + Drop>(rt: &impl Abort, alloc: Global, value: T, wanted: &str) {
+fn prints<A: Allocator>(rt: &impl Abort, alloc: A, value: &impl Debug, wanted: &str) {
     let text = format!(in alloc; "{:?}", value).expect(rt, "a text");
-    assert_eq!(rt; text.as_str(), wanted);
-    drop(value);
+    equal(rt, text.as_str(), wanted);
+    drop(text);
 }
 
 #[test]
-fn buffers_are_compared_and_printed(rt: HostRuntime) {
+fn buffers_are_printed(rt: HostRuntime) {
+    let bytes: ByteBuffer<_> = Buffer::copy_from(rt.alloc(), &[1u8, 2, 3]).expect(&rt, "bytes");
+    prints(&rt, rt.alloc(), &bytes, "[1, 2, 3]");
+    let items = bytes.into_iter();
+    let wanted = "OwnedItems { owner: [1, 2, 3], start: 0, end: 3 }";
+    prints(&rt, rt.alloc(), &items, wanted);
+    drop(items);
+}
+
+#[test]
+fn buffers_are_compared(rt: HostRuntime) {
     let bytes: ByteBuffer<_> = Buffer::copy_from(rt.alloc(), &[1u8, 2, 3]).expect(&rt, "bytes");
     let twin = bytes.clone().expect(&rt, "bytes");
-    assert!(rt; bytes == twin);
-    let third = bytes.clone().expect(&rt, "bytes");
-    let wanted = "OwnedItems { owner: [1, 2, 3], start: 0, end: 3 }";
-    prints(&rt, rt.alloc(), third.into_iter(), wanted);
-    prints(&rt, rt.alloc(), twin, "[1, 2, 3]");
+    equal(&rt, bytes == twin, true);
+    drop(twin);
     let growing = bytes.try_into_mut().ok().expect(&rt, "no other owner");
     let copy = BufferMut::copy_from(rt.alloc(), &[1u8, 2, 3]).expect(&rt, "bytes");
-    assert!(rt; growing.len() == 3 && growing == copy);
+    equal(&rt, (growing.len(), growing == copy), (3, true));
     drop((growing, copy));
 }

@@ -1,18 +1,34 @@
 //! Alignments and places of buffers and of their slices.
-use crate::compared::{equal, equal_lists, shows};
+use crate::compared::{equal, is_aligned, shows};
 use std::alloc::Allocator;
+use std::ops::Range;
 use std::process::Abort;
 use vb_core::{Alignment, BufferError, Element, Result};
 use vb_mem::{Buffer, BufferMut};
 
+/// A part of a buffer that may begin at each item.
+pub fn part<T: Element, A: Allocator + Clone>(
+    rt: &impl Abort,
+    whole: &Buffer<T, A>,
+    range: Range<usize>,
+) -> Buffer<T, A> {
+    let is_within = range.start <= range.end && range.end <= whole.len();
+    let part = if is_within {
+        whole.slice_unaligned(range)
+    } else {
+        Err(BufferError::NotAligned)
+    };
+    part.expect(rt, "a part")
+}
+
 /// The tail of a buffer of 1, 2 and 3, from its second item on.
 fn tail_of<A: Allocator + Clone>(rt: &impl Abort, made: Result<Buffer<u32, A>>) -> Buffer<u32, A> {
     let buffer = made.expect(rt, "a buffer");
-    assert!(rt; buffer.len() == 3);
-    equal(rt, buffer.alignment().as_usize(), 4);
+    equal(rt, buffer.len(), 3);
+    is_aligned(rt, &buffer, (4, 256));
     equal(rt, buffer.is_aligned(Alignment::DEFAULT_ALIGNMENT), true);
-    is_nothing(rt, buffer.slice_unaligned(0..0), 4);
-    let tail = buffer.slice_unaligned(1..3).expect(rt, "a part");
+    is_nothing(rt, part(rt, &buffer, 0..0), 4);
+    let tail = part(rt, &buffer, 1..3);
     drop(buffer);
     tail
 }
@@ -36,8 +52,8 @@ fn half_is_there<A: Allocator + Clone>(
     made: Result<Buffer<u32, A>>,
 ) -> Result<Buffer<u32, A>> {
     let four = made.expect(rt, "a buffer");
-    assert!(rt; four.len() == 4);
-    let half = four.slice_unaligned(2..4).expect(rt, "a part");
+    equal(rt, four.len(), 4);
+    let half = part(rt, &four, 2..4);
     drop(four);
     half.ensure_aligned(Alignment::of::<u64>())
 }
@@ -53,37 +69,40 @@ fn a_slice_keeps_its_place(rt: HostRuntime) {
 }
 
 /// What was sliced has no items, and is aligned to so many bytes.
-fn is_nothing<T: Element, A: Allocator>(
-    rt: &impl Abort,
-    made: Result<Buffer<T, A>>,
-    alignment: usize,
-) {
-    let nothing = made.expect(rt, "a part");
+fn is_nothing<T: Element, A: Allocator>(rt: &impl Abort, nothing: Buffer<T, A>, alignment: usize) {
     equal(rt, nothing.is_empty(), true);
     equal(rt, nothing.alignment().as_usize(), alignment);
     equal(rt, nothing.is_aligned(Alignment::MAX), true);
     drop(nothing);
 }
 
-#[test]
-fn a_slice_of_nothing_keeps_its_alignment(rt: HostRuntime) {
-    let wide = Alignment::from_exponent(6);
-    let zeros = Buffer::<u64, _>::zeroed_aligned(rt.alloc(), 8, wide).expect(&rt, "zeros");
-    assert!(rt; zeros.can_slice(0..0, zeros.alignment()));
-    is_nothing(&rt, zeros.slice(0..0), 64);
-    is_nothing(&rt, zeros.slice_unaligned(0..0), 8);
+/// Slices of nothing of a buffer that is aligned to 64 bytes.
+fn slices_of_nothing<A: Allocator + Clone>(rt: &impl Abort, made: Result<Buffer<u64, A>>) {
+    let zeros = made.expect(rt, "zeros");
+    let nothing = if zeros.can_slice(0..0, zeros.alignment()) {
+        zeros.slice(0..0)
+    } else {
+        Err(BufferError::NotAligned)
+    };
+    is_nothing(rt, nothing.expect(rt, "a part"), 64);
+    is_nothing(rt, part(rt, &zeros, 0..0), 8);
     drop(zeros);
 }
 
-/// The alignments of what was made: the reported and the declared one.
+#[test]
+fn a_slice_of_nothing_keeps_its_alignment(rt: HostRuntime) {
+    let wide = Alignment::from_exponent(6);
+    slices_of_nothing(&rt, Buffer::zeroed_aligned(rt.alloc(), 8, wide));
+}
+
+/// What was made has these alignments.
 fn aligned_to<T: Element, A: Allocator>(
     rt: &impl Abort,
     made: Result<Buffer<T, A>>,
     wanted: (usize, usize),
 ) {
     let buffer = made.expect(rt, "a buffer");
-    let alignments = (buffer.alignment().as_usize(), buffer.declared().as_usize());
-    equal(rt, alignments, wanted);
+    is_aligned(rt, &buffer, wanted);
     drop(buffer);
 }
 
@@ -95,6 +114,10 @@ fn storage_is_over_aligned_unless_asked(rt: HostRuntime) {
     let eight = Alignment::of::<u64>();
     let word = Buffer::copy_from_preferred_aligned(rt.alloc(), &[7u64], eight, None);
     aligned_to(&rt, word, (8, 8));
+}
+
+#[test]
+fn empty_buffers_have_the_alignment_of_an_item(rt: HostRuntime) {
     let empty = Buffer::<u64, _>::empty(rt.alloc());
     equal(&rt, empty.alignment().as_usize(), 8);
     drop(empty);
@@ -111,23 +134,26 @@ fn tail_of_bytes<A: Allocator + Clone>(
     let numbers = made.expect(rt, "a buffer");
     let bytes = numbers.into_byte_buffer().expect(rt, "bytes");
     equal(rt, bytes.can_slice(1..2, Alignment::of::<i32>()), false);
-    assert!(rt; bytes.len() == 20);
-    let second = bytes.slice_unaligned(1..2).expect(rt, "a part");
-    equal_lists(rt, second.as_slice(), &[0]);
-    drop(second);
-    let tail = bytes.slice_unaligned(1..20).expect(rt, "a part");
+    equal(rt, bytes.len(), 20);
+    is_zero(rt, part(rt, &bytes, 1..2));
+    let tail = part(rt, &bytes, 1..20);
     drop(bytes);
     tail
 }
 
+/// It is a single byte, which is 0.
+fn is_zero<A: Allocator>(rt: &impl Abort, byte: Buffer<u8, A>) {
+    equal(rt, byte.as_slice(), &[0]);
+    drop(byte);
+}
+
 fn starts_a_byte_late<A: Allocator + Clone>(rt: &impl Abort, tail: Buffer<u8, A>) {
-    assert!(rt; tail.len() == 19);
+    equal(rt, tail.len(), 19);
     equal(rt, tail.can_slice(0..4, Alignment::of::<i32>()), false);
     equal(rt, tail.can_slice(3..7, Alignment::of::<i32>()), true);
-    let first = tail.slice_unaligned(0..1).expect(rt, "a part");
+    let first = part(rt, &tail, 0..1);
     drop(tail);
-    equal_lists(rt, first.as_slice(), &[0]);
-    drop(first);
+    is_zero(rt, first);
 }
 
 #[test]

@@ -1,20 +1,25 @@
-//! Comparisons of what is given with what is wanted. Each is proved once here, and so tests are
-//! proved in less time. A buffer is given up by a call of `drop`, which is proved in a fifth of the
-//! time that the end of a block takes.
+//! Comparisons of what is given with what is wanted, which are proved once.
 use std::alloc::Allocator;
 use std::fmt::Debug;
 use std::process::Abort;
-use vb_core::Result;
-use vb_mem::Buffer;
+use vb_core::{BufferError, Result};
+use vb_mem::{Buffer, BufferMut};
+use vb_testing::Refusing;
 
 /// The two values are equal.
 pub fn equal<T: Copy + PartialEq + Debug>(rt: &impl Abort, given: T, wanted: T) {
     assert_eq!(rt; given, wanted);
 }
 
-/// The two lists are equal.
-pub fn equal_lists<T: PartialEq + Debug>(rt: &impl Abort, given: &[T], wanted: &[T]) {
-    assert_eq!(rt; given, wanted);
+/// The items are the numbers from 0 on, so many.
+pub fn counts(rt: &impl Abort, items: &[usize], n: usize) {
+    equal(rt, items.iter().copied().eq(0..n), true);
+}
+
+/// The answer is a refusal where a request was refused, and none where none was.
+pub fn answers<B: Allocator>(rt: &impl Abort, heap: &Refusing<B>, answer: Result<()>) {
+    let refused = Err(BufferError::OutOfMemory);
+    equal(rt, answer, heap.wanted(Ok(()), refused));
 }
 
 /// What was made has these items, and these alignments in bytes: the reported and the declared one.
@@ -22,17 +27,23 @@ pub fn shows<A: Allocator>(
     rt: &impl Abort,
     made: Result<Buffer<u32, A>>,
     items: &[u32],
-    (alignment, declared): (usize, usize),
+    alignments: (usize, usize),
 ) -> Result<()> {
     let buffer = made?;
-    equal_lists(rt, buffer.as_slice(), items);
-    let alignments = (buffer.alignment().as_usize(), buffer.declared().as_usize());
-    equal(rt, alignments, (alignment, declared));
+    let given = (buffer.alignment().as_usize(), buffer.declared().as_usize());
+    equal(rt, (buffer.as_slice(), given), (items, alignments));
     drop(buffer);
     Ok(())
 }
 
-/// Takes each item: what is filtered by it gives no hint of its length.
-pub fn each<T>(_item: &T) -> bool {
-    true
+/// What was made to be changed has these items.
+pub fn holds<A: Allocator>(
+    rt: &impl Abort,
+    made: Result<BufferMut<u32, A>>,
+    items: &[u32],
+) -> Result<()> {
+    let buffer = made?;
+    equal(rt, buffer.as_slice(), items);
+    drop(buffer);
+    Ok(())
 }

@@ -1,8 +1,8 @@
 //! What calls ask of the allocator: nothing where they share or work in place, and at most twice
 //! the bytes that they need where they copy or grow.
-use crate::changes::opened;
-use crate::compared::equal_lists;
-use crate::makers::{cloned, frozen, sliced, twin};
+use crate::compared::equal;
+use crate::makers::{Twin, cloned, frozen, opened};
+use crate::sharing::fill_items;
 use std::alloc::Allocator;
 use std::process::Abort;
 use vb_core::{Alignment, Result};
@@ -11,6 +11,11 @@ use vb_testing::Refusing;
 
 /// The items of the buffers, or of a part.
 const SEVENS: [u32; 1001] = [7; 1001];
+
+/// The items are sevens.
+fn are_sevens(rt: &impl Abort, items: &[u32]) {
+    equal(rt, SEVENS.starts_with(items), true);
+}
 
 /// A call on a growing buffer of a thousand sevens, which fill a storage that is aligned to 256
 /// bytes.
@@ -28,28 +33,23 @@ enum Growing {
 impl Growing {
     fn make<A: Allocator + Clone>(
         &self,
+        rt: &impl Abort,
         mut buffer: BufferMut<u32, A>,
     ) -> Result<BufferMut<u32, A>> {
         match self {
-            Growing::Freeze => opened(buffer.freeze()),
-            Growing::Take => buffer.take(),
-            Growing::AlignedWithin => buffer.aligned(Alignment::from_exponent(8)),
-            Growing::AlignedBeyond => buffer.aligned(Alignment::from_exponent(9)),
-            Growing::Clone => cloned(Ok(buffer)),
-            Growing::Reserve => {
-                buffer.reserve(1000)?;
-                Ok(buffer)
-            }
-            Growing::Push => {
-                buffer.push(7)?;
-                Ok(buffer)
-            }
+            Growing::Freeze => return opened(buffer.freeze()),
+            Growing::Take => return buffer.take(),
+            Growing::AlignedWithin => return buffer.aligned(Alignment::from_exponent(8)),
+            Growing::AlignedBeyond => return buffer.aligned(Alignment::from_exponent(9)),
+            Growing::Clone => return cloned(Ok(buffer)),
+            Growing::Reserve => buffer.reserve(1000).expect(rt, "room"),
+            Growing::Push => buffer.push(7).expect(rt, "room"),
             Growing::Within => {
                 buffer.clear();
-                buffer.push_n(7, 1000)?;
-                Ok(buffer)
+                buffer.push_n(7, 1000).expect(rt, "room");
             }
         }
+        Ok(buffer)
     }
 }
 
@@ -75,8 +75,8 @@ fn grow_sevens<A: Allocator + Clone>(
     made: Result<BufferMut<u32, A>>,
     call: &Growing,
 ) {
-    let made = call.make(made.expect(rt, "room")).expect(rt, "room");
-    equal_lists(rt, made.as_slice(), &SEVENS[..made.len().min(1001)]);
+    let made = call.make(rt, made.expect(rt, "room")).expect(rt, "room");
+    are_sevens(rt, made.as_slice());
     drop(made);
 }
 
@@ -86,17 +86,16 @@ fn growing_buffers_ask_for_what_they_need(rt: HostRuntime) {
     for (call, least, most) in GROWING {
         heap.refuse(0);
         let made = BufferMut::full(&heap, 7, 1000);
-        assert!(rt; heap.asks_within(4000, 4000));
+        equal(&rt, heap.asks_within(4000, 4000), true);
         grow_sevens(&rt, made, call);
-        assert!(rt; heap.asks_within(*least, *most));
+        equal(&rt, heap.asks_within(*least, *most), true);
     }
 }
 
 /// A call on a shared buffer of a thousand sevens that has no other owner.
 enum Shared {
-    Clone,
-    Slice,
-    CloneOfSlice,
+    Twin(Twin),
+    TwinOfSlice,
     AlignedWithin,
     AlignedBeyond,
     EnsureAligned,
@@ -108,26 +107,32 @@ enum Shared {
     ItemsMutOfTwo,
 }
 
+/// A part that begins where its alignment is that of the whole.
+const SLICE: Twin = Twin::Slice(64, 1000);
+
 impl Shared {
-    fn make<A: Allocator + Clone>(&self, buffer: Buffer<u32, A>) -> Result<Buffer<u32, A>> {
+    fn make<A: Allocator + Clone>(
+        &self,
+        rt: &impl Abort,
+        buffer: Buffer<u32, A>,
+    ) -> Result<Buffer<u32, A>> {
         match self {
-            Shared::Clone => twin(Ok(buffer)),
-            Shared::Slice => sliced(Ok(buffer), 64, 1000),
-            Shared::CloneOfSlice => twin(sliced(Ok(buffer), 64, 1000)),
+            Shared::Twin(call) => call.of(Ok(buffer)),
+            Shared::TwinOfSlice => Twin::Clone.of(SLICE.of(Ok(buffer))),
             Shared::AlignedWithin => buffer.aligned(Alignment::from_exponent(8)),
             Shared::AlignedBeyond => buffer.aligned(Alignment::from_exponent(9)),
             Shared::EnsureAligned => buffer.ensure_aligned(Alignment::from_exponent(8)),
             Shared::IntoMut => frozen(buffer.into_mut()),
-            Shared::IntoMutOfSlice => frozen(opened(sliced(Ok(buffer), 64, 1000))),
+            Shared::IntoMutOfSlice => frozen(opened(SLICE.of(Ok(buffer)))),
             Shared::IntoMutOfTwo => {
                 let opened = opened(buffer.clone());
                 drop(buffer);
                 frozen(opened)
             }
-            Shared::ItemsMut => written(Ok(buffer)),
-            Shared::ItemsMutOfSlice => written(sliced(Ok(buffer), 64, 1000)),
+            Shared::ItemsMut => written(rt, Ok(buffer)),
+            Shared::ItemsMutOfSlice => written(rt, SLICE.of(Ok(buffer))),
             Shared::ItemsMutOfTwo => {
-                let written = written(buffer.clone());
+                let written = written(rt, buffer.clone());
                 drop(buffer);
                 written
             }
@@ -136,18 +141,21 @@ impl Shared {
 }
 
 /// Writes the items of a buffer that was made.
-fn written<A: Allocator + Clone>(made: Result<Buffer<u32, A>>) -> Result<Buffer<u32, A>> {
+fn written<A: Allocator + Clone>(
+    rt: &impl Abort,
+    made: Result<Buffer<u32, A>>,
+) -> Result<Buffer<u32, A>> {
     let mut buffer = made?;
-    buffer.items_mut()?.as_mut_slice().fill(7);
+    fill_items(rt, &mut buffer);
     Ok(buffer)
 }
 
 /// The calls, and how many bytes each asks for: at least, and at most. `freeze` asks for an owner.
 const SHARED: &[(Shared, usize, usize)] = &[
     // A body that copies the items fails here.
-    (Shared::Clone, 0, 0),
-    (Shared::Slice, 0, 0),
-    (Shared::CloneOfSlice, 0, 0),
+    (Shared::Twin(Twin::Clone), 0, 0),
+    (Shared::Twin(SLICE), 0, 0),
+    (Shared::TwinOfSlice, 0, 0),
     (Shared::AlignedWithin, 0, 0),
     (Shared::AlignedBeyond, 4000, 8256),
     (Shared::EnsureAligned, 0, 0),
@@ -166,8 +174,8 @@ fn share_sevens<A: Allocator + Clone>(
     made: Result<Buffer<u32, A>>,
     call: &Shared,
 ) {
-    let made = call.make(made.expect(rt, "room")).expect(rt, "room");
-    equal_lists(rt, made.as_slice(), &SEVENS[..made.len().min(1001)]);
+    let made = call.make(rt, made.expect(rt, "room")).expect(rt, "room");
+    are_sevens(rt, made.as_slice());
     drop(made);
 }
 
@@ -177,9 +185,9 @@ fn shared_buffers_ask_for_what_they_need(rt: HostRuntime) {
     for (call, least, most) in SHARED {
         heap.refuse(0);
         let made = Buffer::full(&heap, 7, 1000);
-        assert!(rt; heap.asks_within(4000, 4256));
+        equal(&rt, heap.asks_within(4000, 4256), true);
         share_sevens(&rt, made, call);
-        assert!(rt; heap.asks_within(*least, *most));
+        equal(&rt, heap.asks_within(*least, *most), true);
     }
 }
 
@@ -190,19 +198,18 @@ enum Room {
     Zeroed,
 }
 
-const ROOMS: &[Room] = &[Room::WithCapacity, Room::WithCapacityAligned, Room::Zeroed];
-
 impl Room {
-    fn make<A: Allocator + Clone>(&self, rt: &impl Abort, alloc: A, capacity: usize) {
+    fn make<A: Allocator>(&self, alloc: A, capacity: usize) -> Result<BufferMut<u32, A>> {
         let wide = Alignment::from_exponent(9);
-        let made = match self {
-            Room::WithCapacity => BufferMut::<u32, _>::with_capacity(alloc, capacity),
+        match self {
+            Room::WithCapacity => BufferMut::with_capacity(alloc, capacity),
             Room::WithCapacityAligned => BufferMut::with_capacity_aligned(alloc, capacity, wide),
             Room::Zeroed => BufferMut::zeroed(alloc, capacity),
-        };
-        drop(made.expect(rt, "room"));
+        }
     }
 }
+
+const ROOMS: &[Room] = &[Room::WithCapacity, Room::WithCapacityAligned, Room::Zeroed];
 
 /// A body that asks for a megabyte more fails here.
 #[test]
@@ -210,8 +217,9 @@ fn room_is_what_was_asked_for(rt: HostRuntime) {
     let heap = Refusing::new(rt.alloc(), 0);
     for capacity in [100, 1000, 100_000] {
         for room in ROOMS {
-            room.make(&rt, &heap, capacity);
-            assert!(rt; heap.asks_within(4 * capacity, 8 * capacity));
+            drop(room.make(&heap, capacity).expect(&rt, "room"));
+            let is_within = heap.asks_within(4 * capacity, 8 * capacity);
+            equal(&rt, is_within, true);
         }
     }
 }

@@ -11,6 +11,8 @@ mod costs;
 #[cfg(test)]
 mod growth;
 #[cfg(test)]
+mod items;
+#[cfg(test)]
 mod makers;
 #[cfg(test)]
 mod sharing;

@@ -1,11 +1,10 @@
 //! Equality, order, hash and text of the buffers of the facade: those of their buffers.
 use crate::compared::equal;
-use std::alloc::{AllocError, Global};
+use std::alloc::{Allocator, Global};
 use std::cmp::Ordering;
 use std::fmt::Debug;
 use std::hash::{DefaultHasher, Hash, Hasher};
 use std::process::Abort;
-use std::test::Fail;
 use vortex_buffer::{Alignment, Buffer, BufferString, ConstBuffer, Result};
 
 type Fixed = ConstBuffer<u32, 64, Global>;
@@ -16,10 +15,26 @@ fn hash_of<T: Hash>(value: &T) -> u64 {
     state.finish()
 }
 
+/// The first value stands so to the second, and their hashes are equal exactly where they are.
+fn compare<T: PartialOrd + Hash>(rt: &impl Abort, one: &T, two: &T, order: Ordering) {
+    let is_equal = order == Ordering::Equal;
+    equal(rt, one.partial_cmp(two), Some(order));
+    let equals = (one == two, hash_of(one) == hash_of(two));
+    equal(rt, equals, (is_equal, is_equal));
+}
+
 /// The items, with the least alignment of the type or one above.
 fn fixed(alloc: Global, items: &[u32], exponent: u8) -> Result<Fixed> {
     let alignment = Alignment::try_from_exponent(exponent.max(2))?;
     ConstBuffer::try_from_buffer(Buffer::copy_from_aligned(alloc, items, alignment)?)
+}
+
+fn compare_fixed(rt: &impl Abort, one: Result<Fixed>, two: Result<Fixed>, order: Ordering) {
+    let (one, two) = (one.expect(rt, "memory"), two.expect(rt, "memory"));
+    compare(rt, &one, &two, order);
+    compare(rt, one.inner(), two.inner(), order);
+    equal(rt, hash_of(&one), hash_of(one.inner()));
+    drop((one, two));
 }
 
 /// Two lists of items, and how the first stands to the second.
@@ -34,17 +49,25 @@ const LISTS: &[(&[u32], &[u32], Ordering)] = &[
 
 /// The second buffer reports another alignment, which doesn't count.
 #[test]
-fn fixed_buffers_compare_by_their_items(rt: HostRuntime) -> Result<(), Fail> {
+fn fixed_buffers_compare_by_their_items(rt: HostRuntime) {
     for (left, right, order) in LISTS {
-        let (one, two) = (fixed(rt.alloc(), left, 6)?, fixed(rt.alloc(), right, 9)?);
-        equal(&rt, one == two, *order == Ordering::Equal);
-        equal(&rt, one.partial_cmp(&two), Some(*order));
-        equal(&rt, one.inner().partial_cmp(two.inner()), Some(*order));
-        equal(&rt, hash_of(&one), hash_of(one.inner()));
-        equal(&rt, hash_of(&one) == hash_of(&two), one == two);
-        drop((one, two));
+        let (one, two) = (fixed(rt.alloc(), left, 6), fixed(rt.alloc(), right, 9));
+        compare_fixed(&rt, one, two, *order);
     }
-    Ok(())
+}
+
+fn compare_texts<A: Allocator>(
+    rt: &impl Abort,
+    one: Result<BufferString<A>>,
+    two: Result<BufferString<A>>,
+    order: Ordering,
+) {
+    let (one, two) = (one.expect(rt, "memory"), two.expect(rt, "memory"));
+    compare(rt, &one, &two, order);
+    compare(rt, one.inner(), two.inner(), order);
+    let orders = (one.cmp(&two), one.inner().cmp(two.inner()));
+    equal(rt, orders, (order, order));
+    drop((one, two));
 }
 
 /// Two texts, and how the first stands to the second.
@@ -58,51 +81,44 @@ const TEXTS: &[(&str, &str, Ordering)] = &[
 ];
 
 #[test]
-fn texts_compare_by_their_bytes(rt: HostRuntime) -> Result<(), Fail> {
+fn texts_compare_by_their_bytes(rt: HostRuntime) {
     for (left, right, order) in TEXTS {
-        let one = BufferString::from_str(rt.alloc(), left)?;
-        let two = BufferString::from_str(rt.alloc(), right)?;
-        equal(&rt, one == two, *order == Ordering::Equal);
-        equal(
-            &rt,
-            (one.cmp(&two), one.partial_cmp(&two)),
-            (*order, Some(*order)),
-        );
-        equal(&rt, one.inner().cmp(two.inner()), *order);
-        equal(&rt, hash_of(&one) == hash_of(&two), one == two);
-        drop((one, two));
+        let one = BufferString::from_str(rt.alloc(), left);
+        compare_texts(&rt, one, BufferString::from_str(rt.alloc(), right), *order);
     }
-    Ok(())
 }
 
 /// A hash as that of a `str` fails here.
 #[test]
-fn a_text_hashes_as_its_buffer(rt: HostRuntime) -> Result<(), Fail> {
-    let text = BufferString::from_str(rt.alloc(), "hello")?;
-    equal(&rt, hash_of(&text), hash_of(text.inner()));
-    equal(&rt, hash_of(&text), hash_of(&b"hello".as_slice()));
-    equal(&rt, hash_of(&text) == hash_of(&text.as_str()), false);
+fn a_text_hashes_as_its_buffer(rt: HostRuntime) {
+    let text = BufferString::from_str(rt.alloc(), "hello").expect(&rt, "memory");
+    let hash = hash_of(&text);
+    let others = (hash_of(text.inner()), hash_of(&b"hello".as_slice()));
+    equal(&rt, others, (hash, hash));
+    equal(&rt, hash == hash_of(&text.as_str()), false);
     drop(text);
-    Ok(())
+}
+
+/// Std's copy, by code that knows no more than the bound.
+fn copied<T: Clone + Drop>(rt: &impl Abort, made: Result<T>) -> T {
+    let value = made.expect(rt, "memory");
+    let copy = value.clone().expect(rt, "an owner");
+    drop(value);
+    copy
 }
 
 fn prints<T: Debug>(rt: &impl Abort, alloc: Global, value: &T, wanted: &str) {
     let text = format!(in alloc; "{:?}", value).expect(rt, "a text");
-    assert_eq!(rt; text.as_str(), wanted);
-}
-
-/// Std's copy, by code that knows no more than the bound.
-fn copied<T: Clone>(value: &T) -> Result<T, AllocError> {
-    value.clone()
+    equal(rt, text.as_str(), wanted);
+    drop(text);
 }
 
 #[test]
-fn buffers_are_printed_and_copied_by_std(rt: HostRuntime) -> Result<(), Fail> {
-    let text = copied(&BufferString::from_str(rt.alloc(), "a \"b\"")?)?;
+fn buffers_are_printed_and_copied_by_std(rt: HostRuntime) {
+    let text = copied(&rt, BufferString::from_str(rt.alloc(), "a \"b\""));
     prints(&rt, rt.alloc(), &text, "\"a \\\"b\\\"\"");
-    let items = copied(&fixed(rt.alloc(), &[1, 2, 3], 6)?)?;
+    let items = copied(&rt, fixed(rt.alloc(), &[1, 2, 3], 6));
     prints(&rt, rt.alloc(), &items, "[1, 2, 3]");
     equal(&rt, items.inner().alignment().as_usize(), 64);
     drop((text, items));
-    Ok(())
 }

@@ -1,24 +1,29 @@
 //! Which of two allocators is asked: that of what is there already, or that which is handed in.
-use crate::compared::equal;
+use crate::compared::{equal, holds};
 use std::alloc::Global;
 use std::process::Abort;
-use std::test::Fail;
 use vb_testing::Refusing;
 use vortex_buffer::{
-    AlignedBuf, Alignment, Buffer, BufferError, BufferString, ByteBuffer, Result,
-    copy_to_const_aligned,
+    AlignedBuf, Alignment, Buffer, BufferString, ByteBuffer, copy_to_const_aligned,
 };
 
 type Heap<'a> = &'a Refusing<Global>;
 
 /// A heap for what is there already, and one that calls are handed.
-#[derive(Clone, Copy)]
-struct Heaps<'a> {
-    first: Heap<'a>,
-    second: Heap<'a>,
+#[derive(Drop)]
+struct Heaps {
+    first: Refusing<Global>,
+    second: Refusing<Global>,
 }
 
-impl<'a> Heaps<'a> {
+impl Heaps {
+    fn new(inner: Global) -> Heaps {
+        Heaps {
+            first: Refusing::new(inner, 0),
+            second: Refusing::new(inner, 0),
+        }
+    }
+
     // How often each heap was asked since the last call.
     fn asked(&self) -> (u64, u64) {
         let asked = (self.first.asked(), self.second.asked());
@@ -32,90 +37,71 @@ impl<'a> Heaps<'a> {
         let (first, second) = self.asked();
         (first > 0, second > 0)
     }
+
+    // Asks for more room than there is, as the only owner, and compares which heaps were asked.
+    fn grow(&self, rt: &impl Abort, bytes: ByteBuffer<Heap<'_>>, wanted: (bool, bool)) {
+        let mut growing = bytes.into_mut().expect(rt, "memory");
+        let before = growing.len();
+        growing.push_n(b'!', 1000).expect(rt, "room");
+        equal(rt, growing.len(), before + 1000);
+        equal(rt, self.were_asked(), wanted);
+        drop(growing);
+    }
 }
 
-/// Asks for more room than there is, as the only owner.
-fn grow(rt: &impl Abort, bytes: ByteBuffer<Heap<'_>>) -> Result<()> {
-    let mut growing = bytes.into_mut()?;
-    let before = growing.len();
-    growing.push_n(b'!', 1000)?;
-    equal(rt, growing.len(), before + 1000);
-    drop(growing);
-    Ok(())
-}
-
-fn text<'a>(heaps: Heaps<'a>) -> Result<BufferString<Heap<'a>>> {
-    let text = String::from_str(heaps.first, "hello")?;
+fn from_string_asks(rt: &impl Abort, heaps: &Heaps) {
+    let hello = String::from_str(&heaps.first, "hello").expect(rt, "memory");
     heaps.asked();
-    BufferString::from_string(heaps.second, text)
-}
-
-fn from_string_asks(rt: &impl Abort, heaps: Heaps<'_>) -> Result<()> {
-    let text = text(heaps)?;
+    let text = BufferString::from_string(&heaps.second, hello).expect(rt, "memory");
     equal(rt, heaps.asked(), (0, 1));
-    drop(text.clone()?);
+    let twin = text.clone().expect(rt, "an owner");
     equal(rt, heaps.asked(), (0, 0));
     // Shared, the text is copied where what made its buffer says; alone, its storage grows where it
     // came from.
-    grow(rt, text.clone()?.into_inner())?;
-    equal(rt, heaps.were_asked(), (false, true));
-    grow(rt, text.into_inner())?;
-    equal(rt, heaps.were_asked(), (true, false));
-    Ok(())
+    heaps.grow(rt, twin.into_inner(), (false, true));
+    heaps.grow(rt, text.into_inner(), (true, false));
 }
 
 #[test]
-fn a_text_made_of_a_string_asks_the_heap_that_is_handed_in(rt: HostRuntime) -> Result<(), Fail> {
-    let (first, second) = (Refusing::new(rt.alloc(), 0), Refusing::new(rt.alloc(), 0));
-    let heaps = Heaps {
-        first: &first,
-        second: &second,
-    };
-    from_string_asks(&rt, heaps)?;
-    Ok(())
+fn a_text_made_of_a_string_asks_the_heap_that_is_handed_in(rt: HostRuntime) {
+    from_string_asks(&rt, &Heaps::new(rt.alloc()));
 }
 
-fn copies_ask(rt: &impl Abort, heaps: Heaps<'_>) -> Result<()> {
-    let mut bytes: ByteBuffer<_> = Buffer::copy_from(heaps.first, b"hello, world")?;
+/// Bytes of the first heap, of which five can be copied.
+fn bytes<'a>(rt: &impl Abort, heaps: &'a Heaps) -> ByteBuffer<Heap<'a>> {
+    let bytes = Buffer::copy_from(&heaps.first, b"hello, world").expect(rt, "memory");
     heaps.asked();
-    if !bytes.can_advance(5) {
-        return Err(BufferError::NotAligned);
-    }
-    let copy = bytes.copy_to_aligned(heaps.second, 5, Alignment::new(16))?;
-    equal(rt, heaps.were_asked(), (false, true));
-    drop(copy.clone()?);
-    equal(rt, heaps.asked(), (0, 0));
-    grow(rt, copy)?;
-    equal(rt, heaps.were_asked(), (false, true));
-    grow(rt, bytes)?;
-    equal(rt, heaps.were_asked(), (true, false));
-    Ok(())
+    bytes
 }
 
-fn fixed_copies_ask(rt: &impl Abort, heaps: Heaps<'_>) -> Result<()> {
-    let mut bytes: ByteBuffer<_> = Buffer::copy_from(heaps.first, b"hello, world")?;
-    heaps.asked();
-    if !bytes.can_advance(5) {
-        return Err(BufferError::NotAligned);
-    }
-    let copy = copy_to_const_aligned::<1024, _, _>(&mut bytes, heaps.second, 5)?;
+fn copies_ask(rt: &impl Abort, heaps: &Heaps) {
+    let mut bytes = bytes(rt, heaps);
+    holds(rt, bytes.can_advance(5));
+    let made = bytes.copy_to_aligned(&heaps.second, 5, Alignment::new(16));
+    let copy = made.expect(rt, "memory");
     equal(rt, heaps.were_asked(), (false, true));
-    drop(copy.clone()?);
+    drop(copy.clone().expect(rt, "an owner"));
     equal(rt, heaps.asked(), (0, 0));
-    grow(rt, copy.into_inner())?;
+    heaps.grow(rt, copy, (false, true));
+    heaps.grow(rt, bytes, (true, false));
+}
+
+fn fixed_copies_ask(rt: &impl Abort, heaps: &Heaps) {
+    let mut bytes = bytes(rt, heaps);
+    holds(rt, bytes.can_advance(5));
+    let made = copy_to_const_aligned::<1024, _, _>(&mut bytes, &heaps.second, 5);
+    let copy = made.expect(rt, "memory");
     equal(rt, heaps.were_asked(), (false, true));
+    drop(copy.clone().expect(rt, "an owner"));
+    equal(rt, heaps.asked(), (0, 0));
+    heaps.grow(rt, copy.into_inner(), (false, true));
     drop(bytes);
-    Ok(())
 }
 
 #[test]
-fn copies_ask_the_heap_that_is_handed_in(rt: HostRuntime) -> Result<(), Fail> {
-    let (first, second) = (Refusing::new(rt.alloc(), 0), Refusing::new(rt.alloc(), 0));
-    let heaps = Heaps {
-        first: &first,
-        second: &second,
-    };
-    copies_ask(&rt, heaps)?;
-    fixed_copies_ask(&rt, heaps)?;
-    Ok(())
+fn copies_ask_the_heap_that_is_handed_in(rt: HostRuntime) {
+    let heaps = Heaps::new(rt.alloc());
+    copies_ask(&rt, &heaps);
+    fixed_copies_ask(&rt, &heaps);
+    drop(heaps);
 }

@@ -1,9 +1,8 @@
 //! Calls that take memory: what they make, and each of their requests refused in turn.
-use crate::compared::{equal, shows};
+use crate::compared::{equal, equal_bytes, holds, shows};
 use std::alloc::{Allocator, Global};
 use std::process::Abort;
-use std::test::Fail;
-use vb_testing::{Handle, Refusing, answers_refusal, each_refused};
+use vb_testing::{Handle, Refusing};
 use vortex_buffer::{
     AlignedBuf, Alignment, Buffer, BufferError, BufferString, ByteBuffer, ConstBuffer,
     ConstByteBuffer, Result, copy_to_const_aligned,
@@ -29,52 +28,76 @@ enum Call {
 }
 
 impl Call {
-    fn make<'a>(&self, rt: &impl Abort, alloc: Heap<'a>) -> Result<ByteBuffer<Heap<'a>>> {
+    fn make<'a>(
+        &self,
+        rt: &impl Abort,
+        heap: &'a Refusing<Global>,
+    ) -> Result<ByteBuffer<Heap<'a>>> {
         match self {
-            Call::FixedCopyFrom => Ok(fixed(alloc)?.into_inner()),
-            Call::FixedAlignFrom => aligned(Buffer::copy_from(alloc, b"hello")?),
-            Call::FixedAlignFromShared => {
-                let whole: ByteBuffer<Heap<'a>> = Buffer::copy_from(alloc, b"ohello")?;
-                aligned(whole.slice(1..6)?)
-            }
-            Call::FixedClone => fixed_clone(fixed(alloc)?),
-            Call::TextFromStr => Ok(BufferString::from_str(alloc, "hello")?.into_inner()),
-            Call::TextFromString => {
-                let text = String::from_str(alloc.clone()?, "hello")?;
-                Ok(BufferString::from_string(alloc, text)?.into_inner())
-            }
-            Call::TextTryFromSlice => {
-                Ok(BufferString::try_from_slice(alloc, b"hello")?.into_inner())
-            }
-            Call::TextClone => text_clone(BufferString::from_str(alloc, "hello")?),
-            Call::CopyOfSlice => copied(rt, alloc, b"hello, world".as_slice()),
-            Call::CopyOfBuffer => {
-                let bytes: ByteBuffer<Heap<'a>> = Buffer::copy_from(
-                    alloc.clone()?,
-                    b"hello, world",
-                )?;
-                copied(rt, alloc, bytes)
-            }
-            Call::FixedCopyOfSlice => fixed_copied(rt, alloc),
+            Call::FixedCopyFrom => of_fixed(fixed(heap)),
+            Call::FixedAlignFrom => aligned(Buffer::copy_from(handle(heap), b"hello")),
+            Call::FixedAlignFromShared => aligned_of_shared(heap),
+            Call::FixedClone => of_fixed(fixed_clone(heap)),
+            Call::TextFromStr => of_text(text(heap)),
+            Call::TextFromString => of_text(text_of_string(heap)),
+            Call::TextTryFromSlice => of_text(BufferString::try_from_slice(handle(heap), b"hello")),
+            Call::TextClone => of_text(text_clone(heap)),
+            Call::CopyOfSlice => copied(rt, heap, b"hello, world".as_slice()),
+            Call::CopyOfBuffer => copied_of_buffer(rt, heap),
+            Call::FixedCopyOfSlice => fixed_copied(rt, heap),
         }
     }
 }
 
-fn fixed(alloc: Heap<'_>) -> Result<ConstByteBuffer<512, Heap<'_>>> {
-    ConstBuffer::copy_from(alloc, b"hello")
+fn handle(heap: &Refusing<Global>) -> Heap<'_> {
+    Handle { inner: heap }
 }
 
-fn aligned<'a>(bytes: ByteBuffer<Heap<'a>>) -> Result<ByteBuffer<Heap<'a>>> {
-    let fixed: ConstByteBuffer<16, Heap<'a>> = ConstBuffer::align_from(bytes)?;
-    Ok(fixed.into_inner())
+fn fixed(heap: &Refusing<Global>) -> Result<ConstByteBuffer<512, Heap<'_>>> {
+    ConstBuffer::copy_from(handle(heap), b"hello")
 }
 
-fn fixed_clone<'a>(bytes: ConstByteBuffer<512, Heap<'a>>) -> Result<ByteBuffer<Heap<'a>>> {
-    Ok(bytes.clone()?.into_inner())
+fn fixed_clone(heap: &Refusing<Global>) -> Result<ConstByteBuffer<512, Heap<'_>>> {
+    let bytes = fixed(heap)?;
+    let copy = bytes.clone();
+    drop(bytes);
+    copy
 }
 
-fn text_clone<A: Allocator + Clone>(text: BufferString<A>) -> Result<ByteBuffer<A>> {
-    Ok(text.clone()?.into_inner())
+fn of_fixed<'a, const N: usize>(
+    made: Result<ConstByteBuffer<N, Heap<'a>>>,
+) -> Result<ByteBuffer<Heap<'a>>> {
+    Ok(made?.into_inner())
+}
+
+fn aligned<'a>(made: Result<ByteBuffer<Heap<'a>>>) -> Result<ByteBuffer<Heap<'a>>> {
+    of_fixed::<16>(ConstBuffer::align_from(made?))
+}
+
+fn aligned_of_shared(heap: &Refusing<Global>) -> Result<ByteBuffer<Heap<'_>>> {
+    let whole = Buffer::copy_from(handle(heap), b"ohello")?;
+    let part = aligned(whole.slice(1..6));
+    drop(whole);
+    part
+}
+
+fn text(heap: &Refusing<Global>) -> Result<BufferString<Heap<'_>>> {
+    BufferString::from_str(handle(heap), "hello")
+}
+
+fn text_of_string(heap: &Refusing<Global>) -> Result<BufferString<Heap<'_>>> {
+    BufferString::from_string(handle(heap), String::from_str(handle(heap), "hello")?)
+}
+
+fn text_clone(heap: &Refusing<Global>) -> Result<BufferString<Heap<'_>>> {
+    let text = text(heap)?;
+    let copy = text.clone();
+    drop(text);
+    copy
+}
+
+fn of_text<A: Allocator>(made: Result<BufferString<A>>) -> Result<ByteBuffer<A>> {
+    Ok(made?.into_inner())
 }
 
 // What is left of "hello, world" behind a copy of its first five bytes; refused, that leaves all.
@@ -86,25 +109,30 @@ fn left<T>(copy: &Result<T>) -> &'static [u8] {
     }
 }
 
-fn copied<A: Allocator + Clone, B: AlignedBuf + Drop>(
+fn copied<'a, B: AlignedBuf + Drop>(
     rt: &impl Abort,
-    alloc: A,
+    heap: &'a Refusing<Global>,
     mut bytes: B,
-) -> Result<ByteBuffer<A>> {
-    let sixteen = Alignment::new(16);
-    if !bytes.can_advance(5) {
-        return Err(BufferError::NotAligned);
-    }
-    let copy = bytes.copy_to_aligned(alloc, 5, sixteen);
-    assert_eq!(rt; bytes.chunk(), left(&copy));
+) -> Result<ByteBuffer<Heap<'a>>> {
+    holds(rt, bytes.can_advance(5));
+    let copy = bytes.copy_to_aligned(handle(heap), 5, Alignment::new(16));
+    equal_bytes(rt, bytes.chunk(), left(&copy));
+    drop(bytes);
     copy
 }
 
-fn fixed_copied<'a>(rt: &impl Abort, alloc: Heap<'a>) -> Result<ByteBuffer<Heap<'a>>> {
+fn copied_of_buffer<'a>(
+    rt: &impl Abort,
+    heap: &'a Refusing<Global>,
+) -> Result<ByteBuffer<Heap<'a>>> {
+    copied(rt, heap, Buffer::copy_from(handle(heap), b"hello, world")?)
+}
+
+fn fixed_copied<'a>(rt: &impl Abort, heap: &'a Refusing<Global>) -> Result<ByteBuffer<Heap<'a>>> {
     let mut bytes: &[u8] = b"hello, world";
-    let copy = copy_to_const_aligned::<1024, _, _>(&mut bytes, alloc, 5);
-    assert_eq!(rt; bytes.chunk(), left(&copy));
-    Ok(copy?.into_inner())
+    let copy = copy_to_const_aligned::<1024, _, _>(&mut bytes, handle(heap), 5);
+    equal_bytes(rt, bytes.chunk(), left(&copy));
+    of_fixed(copy)
 }
 
 /// The calls, each with the alignments of what it makes: the reported and the declared one.
@@ -125,14 +153,15 @@ const ROWS: &[(Call, (usize, usize))] = &[
 ];
 
 #[test]
-fn buffers_are_made_or_refused(rt: HostRuntime) -> Result<(), Fail> {
+fn buffers_are_made_or_refused(rt: HostRuntime) {
+    let heap = Refusing::new(rt.alloc(), 0);
+    let refused = Err(BufferError::OutOfMemory);
     for (call, alignments) in ROWS {
-        let requests = each_refused(rt.alloc(), |heap| {
-            let made = call.make(&rt, Handle { inner: heap });
-            let answer = shows(&rt, made, b"hello", *alignments);
-            answers_refusal(heap, answer, BufferError::OutOfMemory)
-        })?;
-        assert!(rt; requests >= Some(1), "room for the bytes");
+        for _ in heap.in_turn() {
+            let answer = shows(&rt, call.make(&rt, &heap), b"hello", *alignments);
+            equal(&rt, answer, heap.wanted(Ok(()), refused));
+        }
+        // Room for the bytes at least.
+        equal(&rt, heap.has_ended(1), true);
     }
-    Ok(())
 }

@@ -1,135 +1,123 @@
 //! Worked rows: what calls answer, and when they are refused.
-use crate::compared::{equal, refusal};
-use std::alloc::Global;
+use crate::compared::{equal, equal_bytes, has, holds, refusal, shows};
+use std::alloc::{Allocator, Global};
 use std::process::Abort;
-use std::test::Fail;
 use vb_testing::Refusing;
 use vortex_buffer::{
-    AlignedBuf, Alignment, Buffer, BufferError, BufferString, ByteBuffer, ConstBuffer,
+    AlignedBuf, Alignment, Buffer, BufferError, BufferString, ByteBuffer, ConstBuffer, Element,
     copy_to_const_aligned,
 };
 
+/// How a buffer of the items, which reports their alignment, is refused as one of alignment `N`.
+fn refused_as<const N: usize, T: Element>(
+    rt: &impl Abort,
+    alloc: Global,
+    items: &[T],
+) -> Option<BufferError> {
+    let buffer = Buffer::copy_from(alloc, items).expect(rt, "memory");
+    refusal(ConstBuffer::<T, N, _>::try_from_buffer(buffer))
+}
+
 #[test]
-fn an_alignment_of_a_type_is_tested(rt: HostRuntime) -> Result<(), Fail> {
-    let four = Buffer::copy_from(rt.alloc(), &[1u32, 2])?;
-    equal(
-        &rt,
-        refusal(ConstBuffer::<u32, 8, _>::try_from_buffer(four.clone()?)),
-        Some(BufferError::NotAligned),
-    );
-    equal(
-        &rt,
-        refusal(ConstBuffer::<u32, 2, _>::try_from_buffer(four)),
-        None,
-    );
-    let bytes = Buffer::copy_from(rt.alloc(), b"bytes")?;
-    equal(
-        &rt,
-        refusal(ConstBuffer::<u8, 3, _>::try_from_buffer(bytes.clone()?)),
-        Some(BufferError::NotPowerOfTwo { value: 3 }),
-    );
-    equal(
-        &rt,
-        refusal(ConstBuffer::<u8, 0, _>::try_from_buffer(bytes)),
-        Some(BufferError::NotPowerOfTwo { value: 0 }),
-    );
-    Ok(())
+fn an_alignment_of_a_type_is_tested(rt: HostRuntime) {
+    let eight = refused_as::<8, u32>(&rt, rt.alloc(), &[1, 2]);
+    let two = refused_as::<2, u32>(&rt, rt.alloc(), &[1, 2]);
+    equal(&rt, (eight, two), (Some(BufferError::NotAligned), None));
+    let three = refused_as::<3, u8>(&rt, rt.alloc(), b"bytes");
+    equal(&rt, three, Some(BufferError::NotPowerOfTwo { value: 3 }));
+    let none = refused_as::<0, u8>(&rt, rt.alloc(), b"bytes");
+    equal(&rt, none, Some(BufferError::NotPowerOfTwo { value: 0 }));
+}
+
+/// The first text is "hello", the bytes are "world", and the last text is empty.
+fn are_texts<A: Allocator>(
+    rt: &impl Abort,
+    hello: &BufferString<A>,
+    bytes: ByteBuffer<A>,
+    empty: &BufferString<A>,
+) {
+    has(rt, hello.inner(), b"hello", (1, 256));
+    equal(rt, hello.as_str(), "hello");
+    let world = BufferString::try_from_buffer(bytes).expect(rt, "a text");
+    let answers = (*hello == world, *hello < world, *empty < *hello);
+    equal(rt, answers, (false, true, true));
+    drop(world);
 }
 
 #[test]
 fn a_text_is_its_bytes(rt: HostRuntime) {
     let hello = BufferString::from_str(rt.alloc(), "hello").expect(&rt, "memory");
-    equal(
-        &rt,
-        (hello.inner().len(), hello.inner().alignment().as_usize()),
-        (5, 1),
-    );
-    equal(&rt, hello.as_str(), "hello");
-    let bytes = Buffer::copy_from(rt.alloc(), b"world").expect(&rt, "memory");
-    let world = BufferString::try_from_buffer(bytes).expect(&rt, "a text");
-    equal(&rt, (hello == world, hello < world), (false, true));
+    let world = Buffer::copy_from(rt.alloc(), b"world").expect(&rt, "memory");
     let empty = BufferString::empty(rt.alloc());
-    equal(&rt, empty < hello, true);
-    drop((hello, world, empty));
+    are_texts(&rt, &hello, world, &empty);
+    drop((hello, empty));
 }
 
 /// A body that asks for memory before it looks at the text fails here.
 #[test]
-fn a_text_is_tested_before_memory_is_asked(rt: HostRuntime) -> Result<(), Fail> {
+fn a_text_is_tested_before_memory_is_asked(rt: HostRuntime) {
     let heap = Refusing::new(rt.alloc(), 1);
-    let answer = BufferString::try_from_slice(&heap, &[0, 255]);
-    equal(
-        &rt,
-        refusal(answer),
-        Some(BufferError::NotUtf8 { valid_up_to: 1 }),
-    );
-    let long = [b'a'; 300];
-    let mut bytes = Vec::from_slice(rt.alloc(), &long)?;
-    bytes.push(0xE2)?;
-    equal(
-        &rt,
-        refusal(BufferString::try_from_slice(&heap, bytes.as_slice())),
-        Some(BufferError::NotUtf8 { valid_up_to: 300 }),
-    );
+    let mut long = [b'a'; 301];
+    long[300] = 0xE2;
+    let short = refusal(BufferString::try_from_slice(&heap, &[0, 255]));
+    equal(&rt, short, Some(BufferError::NotUtf8 { valid_up_to: 1 }));
+    let long = refusal(BufferString::try_from_slice(&heap, &long));
+    equal(&rt, long, Some(BufferError::NotUtf8 { valid_up_to: 300 }));
     equal(&rt, heap.asked(), 0);
-    Ok(())
+}
+
+/// The bytes that are left are "world".
+fn is_world<A: Allocator>(rt: &impl Abort, text: ByteBuffer<A>) {
+    equal(rt, text.remaining(), 5);
+    equal_bytes(rt, text.chunk(), b"world");
+    drop(text);
+}
+
+/// Of eight bytes of alignment 4, four can be passed over, and neither two nor twelve.
+fn steps_by_four<A: Allocator>(rt: &impl Abort, eight: ByteBuffer<A>) {
+    let (two, four) = (eight.can_advance(2), eight.can_advance(4));
+    equal(rt, (two, four, eight.can_advance(12)), (false, true, false));
+    drop(eight);
 }
 
 #[test]
-fn bytes_are_read_from_the_front(rt: HostRuntime) -> Result<(), Fail> {
-    let mut text: ByteBuffer<_> = Buffer::copy_from(rt.alloc(), b"helloworld")?;
+fn bytes_are_read_from_the_front(rt: HostRuntime) {
+    let mut text = Buffer::copy_from(rt.alloc(), b"helloworld").expect(&rt, "memory");
     text.advance(5);
-    equal(&rt, text.remaining(), 5);
-    assert_eq!(rt; text.chunk(), b"world".as_slice());
-    let eight: ByteBuffer<_> = Buffer::copy_from_aligned(rt.alloc(), &[7; 8], Alignment::new(4))?;
-    equal(
-        &rt,
-        (
-            eight.can_advance(2),
-            eight.can_advance(4),
-            eight.can_advance(12),
-        ),
-        (false, true, false),
-    );
+    is_world(&rt, text);
+    let eight = Buffer::copy_from_aligned(rt.alloc(), &[7; 8], Alignment::new(4));
+    steps_by_four(&rt, eight.expect(&rt, "memory"));
     let mut four: &[u8] = &[1, 2, 3, 4];
-    let copy = four.copy_to_aligned(rt.alloc(), 3, Alignment::new(16))?;
-    assert_eq!(rt; copy.as_slice(), [1, 2, 3].as_slice());
-    equal(
-        &rt,
-        (copy.alignment().as_usize(), four.remaining()),
-        (16, 1),
-    );
-    Ok(())
+    let copy = four.copy_to_aligned(rt.alloc(), 3, Alignment::new(16));
+    equal(&rt, shows(&rt, copy, &[1, 2, 3], (16, 256)), Ok(()));
+    equal(&rt, four.remaining(), 1);
 }
 
 /// What is left of bytes of alignment 4: these, which report 4 in a storage declared with 256, and
 /// whether they are aligned to 8 and to 16.
 fn is_left(rt: &impl Abort, rest: &ByteBuffer<Global>, bytes: &[u8], aligned: (bool, bool)) {
-    assert_eq!(rt; rest.as_slice(), bytes);
-    let alignments = (rest.alignment().as_usize(), rest.declared().as_usize());
-    equal(rt, alignments, (4, 256));
+    has(rt, rest, bytes, (4, 256));
     let (eight, sixteen) = (Alignment::new(8), Alignment::new(16));
-    equal(
-        rt,
-        (rest.is_aligned(eight), rest.is_aligned(sixteen)),
-        aligned,
-    );
+    let given = (rest.is_aligned(eight), rest.is_aligned(sixteen));
+    equal(rt, given, aligned);
 }
+
+/// Bytes of which each is its place.
+const BYTES: &[u8] = &[0, 1, 2, 3, 4, 5, 6, 7, 8, 9, 10, 11, 12, 13, 14, 15];
 
 /// A copy that gives the rest another alignment, or another storage, fails here.
 #[test]
-fn copies_leave_the_alignments_of_the_rest(rt: HostRuntime) -> Result<(), Fail> {
-    let bytes = [0u8, 1, 2, 3, 4, 5, 6, 7, 8, 9, 10, 11, 12, 13, 14, 15];
-    let mut rest = Buffer::copy_from_aligned(rt.alloc(), &bytes, Alignment::new(4))?;
-    is_left(&rt, &rest, &bytes, (true, true));
-    assert!(rt; rest.can_advance(4));
-    let copy = rest.copy_to_aligned(rt.alloc(), 4, Alignment::new(16))?;
-    assert_eq!(rt; copy.as_slice(), [0, 1, 2, 3].as_slice());
-    is_left(&rt, &rest, &bytes[4..], (false, false));
-    assert!(rt; rest.can_advance(4));
-    let fixed = copy_to_const_aligned::<512, _, _>(&mut rest, rt.alloc(), 4)?;
-    assert_eq!(rt; fixed.as_slice(), [4, 5, 6, 7].as_slice());
-    is_left(&rt, &rest, &bytes[8..], (true, false));
-    drop((copy, fixed, rest));
-    Ok(())
+fn copies_leave_the_alignments_of_the_rest(rt: HostRuntime) {
+    let made = Buffer::copy_from_aligned(rt.alloc(), BYTES, Alignment::new(4));
+    let mut rest = made.expect(&rt, "memory");
+    is_left(&rt, &rest, BYTES, (true, true));
+    holds(&rt, rest.can_advance(4));
+    let copy = rest.copy_to_aligned(rt.alloc(), 4, Alignment::new(16));
+    is_left(&rt, &rest, &BYTES[4..], (false, false));
+    equal(&rt, shows(&rt, copy, &BYTES[..4], (16, 256)), Ok(()));
+    holds(&rt, rest.can_advance(4));
+    let fixed = copy_to_const_aligned::<512, _, _>(&mut rest, rt.alloc(), 4).expect(&rt, "memory");
+    is_left(&rt, &rest, &BYTES[8..], (true, false));
+    equal_bytes(&rt, fixed.as_slice(), &BYTES[4..8]);
+    drop((fixed, rest));
 }
