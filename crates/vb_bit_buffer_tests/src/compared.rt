@@ -19,12 +19,14 @@ pub(crate) fn shows<A: Allocator + Clone>(
     bits: &str,
 ) -> Result<()> {
     let set = made?;
-    equal(rt, set.len(), bits.len());
-    for (i, digit) in bits.bytes().enumerate() {
-        if i < set.len() {
-            equal(rt, set.value(i), digit == b'1');
-        }
-    }
+    has_bits(rt, &set, bits.as_bytes());
     drop(set);
     Ok(())
+}
+
+fn has_bits<A: Allocator + Clone>(rt: &impl Abort, set: &BitBuffer<A>, digits: &[u8]) {
+    equal(rt, set.len(), digits.len());
+    for i in 0..set.len().min(digits.len()) {
+        equal(rt, set.value(i), digits[i] == b'1');
+    }
 }

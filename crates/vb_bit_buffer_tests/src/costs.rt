@@ -1,11 +1,11 @@
 //! What calls ask of the allocator: nothing, since they share the bytes.
 use crate::compared::equal;
+use crate::made::window;
 use crate::makers::{sliced, twin};
 use std::alloc::Allocator;
 use std::process::Abort;
 use vb_bit_buffer::BitBuffer;
 use vb_core::Result;
-use vb_mem::ByteBuffer;
 use vb_testing::Refusing;
 
 /// A call on a set of eight thousand true bits that has no other owner.
@@ -30,25 +30,22 @@ impl Call {
             Call::Clone => twin(made),
             Call::Slice => sliced(made, 13, 7000),
             Call::SliceOfClone => sliced(twin(made), 13, 7000),
-            Call::IntoInner => Ok(windowed(made?.into_inner())),
+            Call::IntoInner => rejoined(made),
         }
     }
 }
 
-fn windowed<A: Allocator + Clone>(
-    (offset, len, bytes): (usize, usize, ByteBuffer<A>),
-) -> BitBuffer<A> {
-    let bits = bytes.len().saturating_mul(8);
-    if offset <= bits && len <= bits - offset {
-        return BitBuffer::new_with_offset(bytes, len, offset);
-    }
-    BitBuffer::new(bytes, 0)
+/// The set that was made, of the parts that it gives.
+fn rejoined<A: Allocator + Clone>(made: Result<BitBuffer<A>>) -> Result<BitBuffer<A>> {
+    let (offset, len, bytes) = made?.into_inner();
+    window(Ok(bytes), offset, len)
 }
 
 /// What was made are nearly as many true bits.
 fn are_ones<A: Allocator + Clone>(rt: &impl Abort, made: Result<BitBuffer<A>>) {
     let set = made.expect(rt, "a set");
-    equal(rt, (set.false_count(), set.len() >= 6987), (0, true));
+    equal(rt, set.false_count(), 0);
+    equal(rt, set.len() >= 6987, true);
     drop(set);
 }
 
@@ -58,8 +55,8 @@ fn shared_sets_ask_for_nothing(rt: HostRuntime) {
     for call in CALLS {
         heap.refuse(0);
         let made = BitBuffer::new_set(&heap, 8000);
-        assert!(rt; heap.asks_within(1000, 2256));
+        equal(&rt, heap.asks_within(1000, 2256), true);
         are_ones(&rt, call.make(made));
-        assert!(rt; heap.asked() == 0);
+        equal(&rt, heap.asked(), 0);
     }
 }

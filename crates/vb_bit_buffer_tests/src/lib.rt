@@ -7,6 +7,8 @@ mod compared;
 #[cfg(test)]
 mod costs;
 #[cfg(test)]
+mod made;
+#[cfg(test)]
 mod makers;
 #[cfg(test)]
 mod printed;

@@ -1,16 +1,19 @@
 //! What `{:?}` of a set is.
+use crate::compared::equal;
+use crate::made::window;
 use std::alloc::Global;
 use std::process::Abort;
-use std::test::Fail;
 use vb_bit_buffer::BitBuffer;
+use vb_core::Result;
 use vb_mem::ByteBuffer;
 
-/// The set is printed so.
-fn prints(rt: &impl Abort, alloc: Global, set: BitBuffer, wanted: &str) -> Result<(), Fail> {
-    let text = format!(in alloc; "{set:?}");
+/// The set that was made is printed so.
+fn prints(rt: &impl Abort, alloc: Global, made: Result<BitBuffer>, wanted: &str) {
+    let set = made.expect(rt, "a set");
+    let text = format!(in alloc; "{set:?}").expect(rt, "memory");
     drop(set);
-    assert_eq!(rt; text?.as_str(), wanted);
-    Ok(())
+    equal(rt, text.as_str(), wanted);
+    drop(text);
 }
 
 /// How many bytes of four ones and four zeros, a window's length from bit 2 on, and how it is
@@ -31,12 +34,9 @@ const PRINTED: &[(usize, usize, &str)] = &[
 ];
 
 #[test]
-fn at_most_64_bits_are_printed(rt: HostRuntime) -> Result<(), Fail> {
+fn at_most_64_bits_are_printed(rt: HostRuntime) {
     for (count, len, wanted) in PRINTED {
-        let bytes = ByteBuffer::full(rt.alloc(), 0x0F, *count)?;
-        assert!(rt; *len <= 65 && *len + 2 <= bytes.len().saturating_mul(8));
-        let set = BitBuffer::new_with_offset(bytes, *len, 2);
-        prints(&rt, rt.alloc(), set, wanted)?;
+        let set = window(ByteBuffer::full(rt.alloc(), 0x0F, *count), 2, *len);
+        prints(&rt, rt.alloc(), set, wanted);
     }
-    Ok(())
 }

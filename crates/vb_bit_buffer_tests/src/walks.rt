@@ -1,14 +1,17 @@
 //! Walks over a set: of one byte, and one whose bits go past words.
 use crate::compared::equal;
+use crate::made::window;
 use std::alloc::Allocator;
 use std::process::Abort;
 use vb_bit_buffer::BitBuffer;
+use vb_core::Result;
 use vb_mem::ByteBuffer;
 
 /// The walks over 130 true bits.
 fn walks_end<A: Allocator + Clone>(rt: &impl Abort, set: &BitBuffer<A>) {
     let mut runs = set.set_slices();
-    equal(rt, (runs.next(), runs.next()), (Some((0, 130)), None));
+    equal(rt, runs.next(), Some((0, 130)));
+    equal(rt, runs.next(), None);
     equal(rt, set.set_indices().last(), Some(129));
     equal(rt, set.into_iter().count(), 130);
 }
@@ -17,36 +20,49 @@ fn walks_end<A: Allocator + Clone>(rt: &impl Abort, set: &BitBuffer<A>) {
 fn words_end<A: Allocator + Clone>(rt: &impl Abort, set: &BitBuffer<A>) {
     equal(rt, set.chunks().iter_padded().last(), Some(3));
     let unaligned = set.unaligned_chunks();
-    let ends = (unaligned.prefix(), unaligned.suffix());
-    equal(rt, ends, (Some(u64::MAX), Some(3)));
+    equal(rt, unaligned.prefix(), Some(u64::MAX));
+    equal(rt, unaligned.suffix(), Some(3));
 }
 
-/// The walks over 0110111.
-fn walks_tell_runs<A: Allocator + Clone>(rt: &impl Abort, set: &BitBuffer<A>) {
+/// The runs of 0110111.
+fn runs_are_told<A: Allocator + Clone>(rt: &impl Abort, set: &BitBuffer<A>) {
     let mut runs = set.set_slices();
-    equal(rt, (runs.next(), runs.next()), (Some((1, 3)), Some((4, 7))));
+    equal(rt, runs.next(), Some((1, 3)));
+    equal(rt, runs.next(), Some((4, 7)));
     equal(rt, runs.next(), None);
+}
+
+/// The places of its true bits.
+fn places_are_told<A: Allocator + Clone>(rt: &impl Abort, set: &BitBuffer<A>) {
     let mut places = set.set_indices();
     for place in [1, 2, 4, 5, 6] {
         equal(rt, places.next(), Some(place));
     }
     equal(rt, places.next(), None);
-    equal(rt, (set.last_set_index(), set.true_count()), (Some(6), 5));
+    equal(rt, set.last_set_index(), Some(6));
+    equal(rt, set.true_count(), 5);
+}
+
+fn byte_is_walked<A: Allocator + Clone>(rt: &impl Abort, made: Result<BitBuffer<A>>) {
+    let set = made.expect(rt, "a set");
+    runs_are_told(rt, &set);
+    places_are_told(rt, &set);
+    drop(set);
+}
+
+fn ones_are_walked<A: Allocator + Clone>(rt: &impl Abort, made: Result<BitBuffer<A>>) {
+    let set = made.expect(rt, "a set");
+    walks_end(rt, &set);
+    words_end(rt, &set);
+    drop(set);
 }
 
 #[test]
 fn two_runs_of_a_byte(rt: HostRuntime) {
-    let bytes = ByteBuffer::full(rt.alloc(), 0x76, 1).expect(&rt, "bytes");
-    assert!(rt; bytes.len() == 1);
-    let set = BitBuffer::new(bytes, 7);
-    walks_tell_runs(&rt, &set);
-    drop(set);
+    byte_is_walked(&rt, window(ByteBuffer::full(rt.alloc(), 0x76, 1), 0, 7));
 }
 
 #[test]
 fn one_run_past_words(rt: HostRuntime) {
-    let set = BitBuffer::new_set(rt.alloc(), 130).expect(&rt, "a set");
-    walks_end(&rt, &set);
-    words_end(&rt, &set);
-    drop(set);
+    ones_are_walked(&rt, BitBuffer::new_set(rt.alloc(), 130));
 }

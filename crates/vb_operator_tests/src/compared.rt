@@ -1,7 +1,6 @@
 //! Comparisons of what is given with what is wanted. Each is proved once here, and so tests are
 //! proved in less time. A set is given up by a call of `drop`, which is proved in a fifth of the
 //! time that the end of a block takes.
-use crate::calls::Two;
 use std::alloc::Allocator;
 use std::fmt::Debug;
 use std::process::Abort;
@@ -18,16 +17,13 @@ pub(crate) fn shows<A: Allocator + Clone>(
     rt: &impl Abort,
     made: Result<BitBuffer<A>>,
     bits: &[bool],
-) -> Result<()> {
-    let set = made?;
+) {
+    let set = made.expect(rt, "a set");
     equal(rt, set.len(), bits.len());
-    for (i, bit) in bits.iter().enumerate() {
-        if i < set.len() {
-            equal(rt, set.value(i), *bit);
-        }
+    for i in 0..bits.len().min(set.len()) {
+        equal(rt, set.value(i), bits[i]);
     }
     drop(set);
-    Ok(())
 }
 
 /// How many bits the set has that was made.
@@ -36,17 +32,6 @@ pub(crate) fn len_of<A: Allocator + Clone>(made: Result<BitBuffer<A>>) -> Result
     let len = set.len();
     drop(set);
     Ok(len)
-}
-
-/// How many bits a call makes of two sets that were made.
-pub(crate) fn len_of_two<A: Allocator + Clone>(
-    rt: &impl Abort,
-    call: &Two,
-    left: Result<BitBuffer<A>>,
-    right: Result<BitBuffer<A>>,
-) -> Result<usize> {
-    let (left, right) = (left.expect(rt, "a set"), right.expect(rt, "a set"));
-    len_of(call.make(left, right))
 }
 
 /// Whether the set that was made is equal to the other one is as wanted.

@@ -1,13 +1,15 @@
 //! Lists and sets to start from. No clause says what they hold, since the proof of a test would
 //! search among these facts at each of its calls.
-use std::alloc::{Allocator, Global};
-use std::test::Fail;
+use std::alloc::Allocator;
 use vb_bit_buffer::BitBuffer;
-use vb_bits::set_bit_to;
+use vb_bits::{set_bit_to, window_fits};
 use vb_core::{BufferError, Result};
 use vb_mem::{BufferMut, ByteBuffer};
 
-/// Enough bytes for the longest list of a table, at the greatest offset.
+/// How many bits the longest list of a table has.
+pub(crate) const LONGEST: usize = 200;
+
+/// Enough bytes for the longest list, at the greatest offset.
 const BYTES: usize = 30;
 
 /// A byte that is told by a seed and a place.
@@ -20,12 +22,17 @@ fn noise(seed: usize, place: usize) -> u8 {
 }
 
 /// Bits that are told by a seed.
-pub(crate) fn list(alloc: Global, seed: usize, len: usize) -> Result<Vec<bool>, Fail> {
-    let mut bits = Vec::new(alloc);
-    for i in 0..len {
-        bits.push(noise(seed, i) & 1 == 1)?;
+pub(crate) fn list(seed: usize) -> [bool; LONGEST] {
+    let mut bits = [false; LONGEST];
+    for (place, bit) in bits.iter_mut().enumerate() {
+        *bit = noise(seed, place) & 1 == 1;
     }
-    Ok(bits)
+    bits
+}
+
+/// The first bits of a list, so many of them as it has at most.
+pub(crate) fn front(list: &[bool], len: usize) -> &[bool] {
+    &list[..len.min(list.len())]
 }
 
 /// The bits of a list, from bit `offset` on in bytes of noise.
@@ -36,7 +43,7 @@ pub(crate) fn set<A: Allocator + Clone>(
 ) -> Result<BitBuffer<A>> {
     let mut bytes = BufferMut::zeroed(alloc, BYTES)?;
     write(bytes.as_mut_slice(), list, offset);
-    window(bytes.freeze()?, offset, list.len())
+    window(bytes.freeze(), offset, list.len())
 }
 
 /// Writes noise, and the bits of a list from bit `offset` on.
@@ -52,15 +59,35 @@ fn write(bytes: &mut [u8], list: &[bool], offset: usize) {
     }
 }
 
-/// A window of bytes.
-pub(crate) fn window<A: Allocator + Clone>(
-    bytes: ByteBuffer<A>,
+/// True bits, from bit `offset` on.
+pub(crate) fn ones<A: Allocator + Clone>(
+    alloc: A,
     offset: usize,
     len: usize,
 ) -> Result<BitBuffer<A>> {
-    let bits = bytes.len().saturating_mul(8);
-    if offset <= bits && len <= bits - offset {
+    window(ByteBuffer::full(alloc, 0xFF, BYTES), offset, len)
+}
+
+/// A window of bytes that were made.
+pub(crate) fn window<A: Allocator + Clone>(
+    made: Result<ByteBuffer<A>>,
+    offset: usize,
+    len: usize,
+) -> Result<BitBuffer<A>> {
+    let bytes = made?;
+    if window_fits(bytes.as_slice(), offset, len) {
         return Ok(BitBuffer::new_with_offset(bytes, len, offset));
     }
+    drop(bytes);
     Err(BufferError::NotAligned)
+}
+
+/// The bits of a set from `start` up to `end`, or to its end.
+pub(crate) fn part<A: Allocator + Clone>(
+    set: &BitBuffer<A>,
+    start: usize,
+    end: usize,
+) -> Result<BitBuffer<A>> {
+    let end = end.min(set.len());
+    set.slice(start.min(end)..end)
 }

@@ -1,5 +1,5 @@
 //! How often questions look at the bits and probe the table.
-use crate::compared::{Row, equal};
+use crate::compared::{Row, equal, holds};
 use crate::made::{by_fives, mixed};
 use crate::rows::BY_FIVES;
 use std::alloc::Global;
@@ -16,7 +16,7 @@ fn tallied(rt: &impl Abort, alloc: Global, bits: BitBufferView<'_>, row: Row, pr
     let (offset, len) = (bits.offset(), bits.len());
     match row {
         Row::Rank(i, ones) => {
-            assert!(rt; i <= len);
+            holds(rt, i <= len);
             equal(rt, rank_by(&mut src, offset, len, &mut entries, i), ones);
         }
         Row::Select(n, place) => {
@@ -27,7 +27,8 @@ fn tallied(rt: &impl Abort, alloc: Global, bits: BitBufferView<'_>, row: Row, pr
             equal(rt, answer, place);
         }
     }
-    assert!(rt; src.looks() <= 16 && entries.probes() <= probes);
+    equal(rt, src.looks() <= 16, true);
+    equal(rt, entries.probes() <= probes, true);
     drop(table);
 }
 
@@ -43,12 +44,14 @@ fn rows_take_at_most_three_probes(rt: HostRuntime) {
 /// How many probes a select in a table of so many blocks may make: as many as one more has digits.
 const PROBES: [u64; 6] = [1, 2, 2, 3, 3, 3];
 
+const RANKS: [usize; 6] = [0, 1, 255, 511, 700, 1400];
+
 #[test]
 fn tables_are_halved(rt: HostRuntime) {
     for (blocks, probes) in PROBES.iter().enumerate() {
         for offset in [0, 3] {
             let set = mixed(&rt, rt.alloc(), offset, blocks * 512);
-            for n in [0, 1, 255, 511, 700, 1400] {
+            for n in RANKS {
                 let bits = set.as_view();
                 let (place, hole) = (bits.select(n), bits.select_unset(n));
                 tallied(&rt, rt.alloc(), bits, Row::Select(n, place), *probes);

@@ -23,10 +23,10 @@ fn edit<A: Allocator + Clone>(
 ) {
     for _ in 0..3 {
         let (n, v) = (next(state), next(state) % 2 == 1);
-        let i = n % plain.len().max(1);
-        if i < plain.len() && i < ranked.len() {
-            plain.set_to(i, v);
-            ranked.set_to(i, v);
+        let len = plain.len().min(ranked.len());
+        if len > 0 {
+            plain.set_to(n % len, v);
+            ranked.set_to(n % len, v);
         }
     }
     let v = next(state) % 2 == 1;

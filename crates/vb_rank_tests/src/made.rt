@@ -1,8 +1,9 @@
 //! Sets to start from. No clause says what they hold, since the proof of a test would search among
 //! these facts at each of its calls.
+use crate::compared::holds;
 use std::alloc::{Allocator, Global};
 use std::process::Abort;
-use vb_set::{BitBufferMut, ByteBufferMut, Result};
+use vb_set::{BitBufferMut, ByteBufferMut, Result, window_fits};
 
 /// True bits.
 pub(crate) fn ones<A: Allocator + Clone>(alloc: A, len: usize) -> Result<BitBufferMut<A>> {
@@ -33,7 +34,6 @@ pub(crate) fn mixed(
             .wrapping_add(1_442_695_040_888_963_407);
         bytes.push((state >> 56) as u8).expect(rt, "room");
     }
-    let bits = bytes.len().saturating_mul(8);
-    assert!(rt; offset <= bits && len <= bits - offset);
+    holds(rt, window_fits(bytes.as_slice(), offset, len));
     BitBufferMut::from_buffer(bytes, offset, len)
 }

@@ -19,13 +19,12 @@ fn table_len<A: Allocator + Clone>(alloc: A, bits: BitBufferView<'_>) -> Result<
 /// Makes the table of five blocks, and a directory of them.
 fn make<A: Allocator + Clone + Copy>(rt: &impl Abort, alloc: A) -> Result<()> {
     let set = ones(alloc, 2560)?;
-    match table_len(alloc, set.as_view()) {
-        Ok(len) => equal(rt, len, 5),
-        Err(error) => {
-            drop(set);
-            return Err(error);
-        }
+    let len = table_len(alloc, set.as_view());
+    if let Err(error) = len {
+        drop(set);
+        return Err(error);
     }
+    equal(rt, len, Ok(5));
     let ranked = Ranked::new(alloc, set)?;
     equal(rt, answers_at(rt, &ranked, 2559), (2559, Some(2559), None));
     drop(ranked);
@@ -37,15 +36,15 @@ fn a_refused_request_refuses_the_directory(rt: HostRuntime) {
     let heap = Refusing::new(rt.alloc(), 0);
     for _ in heap.in_turn() {
         let answer = make(&rt, &heap);
-        equal(
-            &rt,
-            answer,
-            heap.wanted(Ok(()), Err(BufferError::OutOfMemory)),
-        );
+        let wanted = heap.wanted(Ok(()), Err(BufferError::OutOfMemory));
+        equal(&rt, answer, wanted);
     }
     // The set, and each table at once.
     equal(&rt, (heap.asked(), heap.has_refused()), (3, false));
 }
+
+/// Places to ask about, of the first three blocks.
+const PLACES: [usize; 5] = [0, 511, 512, 1023, 1024];
 
 /// Adds true bits to none. A refused append leaves the directory as it was, and the next one adds
 /// the bit.
@@ -61,7 +60,7 @@ fn append<A: Allocator + Clone + Copy>(rt: &impl Abort, alloc: A, count: usize) 
         }
     }
     equal(rt, ranked.len(), count);
-    for i in [0, 511, 512, 1023, 1024] {
+    for i in PLACES {
         equal(rt, answers_at(rt, &ranked, i), (i, Some(i), None));
     }
     drop(ranked);
@@ -74,11 +73,8 @@ fn a_refused_append_leaves_the_directory(rt: HostRuntime) {
     let heap = Refusing::new(rt.alloc(), 0);
     for _ in heap.in_turn() {
         let answer = append(&rt, &heap, 1025);
-        equal(
-            &rt,
-            answer,
-            heap.wanted(Ok(()), Err(BufferError::OutOfMemory)),
-        );
+        let wanted = heap.wanted(Ok(()), Err(BufferError::OutOfMemory));
+        equal(&rt, answer, wanted);
     }
     // Six for the bytes, whose room doubles, and one for the table.
     equal(&rt, (heap.asked(), heap.has_refused()), (7, false));

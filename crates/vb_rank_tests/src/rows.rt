@@ -1,5 +1,5 @@
 //! Worked rows.
-use crate::compared::{Row, answers, equal};
+use crate::compared::{Row, answers, equal, holds};
 use crate::made::{by_fives, ones};
 use std::alloc::{Allocator, Global};
 use std::process::Abort;
@@ -29,31 +29,57 @@ const WITH_BIT_1: &[Row] = &[
     Row::Select(104, Some(515)),
 ];
 
+const NO_BITS: &[Row] = &[
+    Row::Rank(0, 0),
+    Row::Select(0, None),
+    Row::SelectUnset(0, None),
+];
+
+/// 512 true bits.
+const BLOCK: &[Row] = &[Row::Rank(512, 512), Row::Select(512, None)];
+
+/// One true bit more.
+const MORE_THAN_A_BLOCK: &[Row] = &[Row::Rank(513, 513), Row::Select(512, Some(512))];
+
 /// The table of the bits has these entries.
 fn has_table(rt: &impl Abort, alloc: Global, bits: BitBufferView<'_>, wanted: &[usize]) {
     let table = table_of(alloc, bits).expect(rt, "a table");
-    assert_eq!(rt; table.as_slice(), wanted);
+    equal(rt, table.as_slice(), wanted);
     drop(table);
 }
 
-/// Writes bit 1.
-fn set_bit_1<A: Allocator + Clone>(rt: &impl Abort, ranked: &mut Ranked<A>, v: bool) {
-    assert!(rt; 1 < ranked.len());
+/// A directory of the bits, which answers as the rows say. Its table has these entries.
+fn indexed(
+    rt: &impl Abort,
+    alloc: Global,
+    set: BitBufferMut<Global>,
+    (table, rows): (&[usize], &[Row]),
+) -> Ranked<Global> {
+    has_table(rt, alloc, set.as_view(), table);
+    let ranked = Ranked::new(alloc, set).expect(rt, "a directory");
+    answers(rt, &ranked, rows);
+    ranked
+}
+
+/// Writes bit 1, and asks.
+fn answers_with_bit_1<A: Allocator + Clone>(
+    rt: &impl Abort,
+    ranked: &mut Ranked<A>,
+    v: bool,
+    rows: &[Row],
+) {
+    holds(rt, 1 < ranked.len());
     ranked.set_to(1, v);
+    answers(rt, ranked, rows);
 }
 
 #[test]
 fn every_fifth_bit(rt: HostRuntime) {
     let set = by_fives(&rt, rt.alloc(), 1100);
-    has_table(&rt, rt.alloc(), set.as_view(), &[0, 103, 205]);
-    let mut ranked = Ranked::new(rt.alloc(), set).expect(&rt, "a directory");
-    answers(&rt, &ranked, BY_FIVES);
-    for _ in 0..2 {
-        set_bit_1(&rt, &mut ranked, true);
-        answers(&rt, &ranked, WITH_BIT_1);
-    }
-    set_bit_1(&rt, &mut ranked, false);
-    answers(&rt, &ranked, BY_FIVES);
+    let mut ranked = indexed(&rt, rt.alloc(), set, (&[0, 103, 205], BY_FIVES));
+    answers_with_bit_1(&rt, &mut ranked, true, WITH_BIT_1);
+    answers_with_bit_1(&rt, &mut ranked, true, WITH_BIT_1);
+    answers_with_bit_1(&rt, &mut ranked, false, BY_FIVES);
     let set = ranked.into_inner();
     equal(&rt, set.len(), 1100);
     drop(set);
@@ -62,25 +88,15 @@ fn every_fifth_bit(rt: HostRuntime) {
 #[test]
 fn no_bits(rt: HostRuntime) {
     let set = BitBufferMut::empty(rt.alloc());
-    has_table(&rt, rt.alloc(), set.as_view(), &[]);
-    let ranked = Ranked::new(rt.alloc(), set).expect(&rt, "a directory");
-    let rows = [
-        Row::Rank(0, 0),
-        Row::Select(0, None),
-        Row::SelectUnset(0, None),
-    ];
-    answers(&rt, &ranked, &rows);
-    drop(ranked);
+    drop(indexed(&rt, rt.alloc(), set, (&[], NO_BITS)));
 }
 
 #[test]
 fn a_block_of_true_bits_and_one_more(rt: HostRuntime) {
     let set = ones(rt.alloc(), 512).expect(&rt, "a set");
-    let mut ranked = Ranked::new(rt.alloc(), set).expect(&rt, "a directory");
-    answers(&rt, &ranked, &[Row::Rank(512, 512), Row::Select(512, None)]);
+    let mut ranked = indexed(&rt, rt.alloc(), set, (&[0], BLOCK));
     ranked.append(true).expect(&rt, "room");
-    let rows = [Row::Rank(513, 513), Row::Select(512, Some(512))];
-    answers(&rt, &ranked, &rows);
+    answers(&rt, &ranked, MORE_THAN_A_BLOCK);
     has_table(&rt, rt.alloc(), ranked.as_view(), &[0, 512]);
     drop(ranked);
 }

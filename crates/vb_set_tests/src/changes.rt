@@ -2,7 +2,7 @@
 //! memory.
 use crate::compared::equal;
 use crate::made::window;
-use std::alloc::{AllocError, Allocator, Global};
+use std::alloc::{Allocator, Global};
 use std::process::Abort;
 use vb_set::{BitBufferMut, BufferError, Result};
 use vb_testing::{Handle, Refusing};
@@ -32,40 +32,33 @@ impl Edit {
 }
 
 /// The edits, and how many true or how many false bits each adds.
-const EDITS: &[(Edit, usize, usize)] = &[
-    (Edit::Append, 0, 1),
-    (Edit::AppendTrue, 1, 0),
-    (Edit::AppendFalse, 0, 1),
-    (Edit::AppendN, 0, 100),
-    (Edit::Reserve, 100, 0),
+const EDITS: &[(Edit, (usize, usize))] = &[
+    (Edit::Append, (0, 1)),
+    (Edit::AppendTrue, (1, 0)),
+    (Edit::AppendFalse, (0, 1)),
+    (Edit::AppendN, (0, 100)),
+    (Edit::Reserve, (100, 0)),
 ];
 
-/// What a refusal has to leave.
-#[derive(Drop)]
-struct Before {
-    offset: usize,
-    len: usize,
-    room: usize,
-    bytes: Vec<u8>,
+/// The offset of a set, its length, its room, and how many bytes it has.
+pub(crate) type Layout = (usize, usize, usize, usize);
+
+pub(crate) fn layout<A: Allocator + Clone>(set: &BitBufferMut<A>) -> Layout {
+    let bytes = set.as_slice().len();
+    (set.offset(), set.len(), set.capacity(), bytes)
 }
 
-impl Before {
-    fn of<A: Allocator + Clone>(alloc: Global, set: &BitBufferMut<A>) -> Result<Self, AllocError> {
-        Ok(Before {
-            offset: set.offset(),
-            len: set.len(),
-            room: set.capacity(),
-            bytes: set.as_slice().to_vec(alloc)?,
-        })
+/// The set is laid out so, and all bits of its bytes are true.
+pub(crate) fn is_left<A: Allocator + Clone>(
+    rt: &impl Abort,
+    set: &BitBufferMut<A>,
+    before: Layout,
+) {
+    equal(rt, layout(set), before);
+    for byte in set.as_slice() {
+        equal(rt, *byte, 0xFF);
     }
-
-    /// The set has its bits, its offset, its bytes and its room.
-    fn is_left<A: Allocator + Clone>(&self, rt: &impl Abort, set: &BitBufferMut<A>) {
-        let place = (set.offset(), set.len(), set.capacity());
-        equal(rt, place, (self.offset, self.len, self.room));
-        assert!(rt; set.as_slice() == self.bytes.as_slice());
-        equal(rt, set.as_view().true_count(), self.len);
-    }
+    equal(rt, set.as_view().true_count(), set.len());
 }
 
 /// True bits, to which true and false ones were added.
@@ -76,109 +69,127 @@ fn is_longer<A: Allocator + Clone>(
     (trues, falses): (usize, usize),
 ) {
     let view = set.as_view();
-    let counts = (view.true_count(), view.false_count());
-    equal(rt, counts, (len.saturating_add(trues), falses));
+    equal(rt, view.true_count(), len.saturating_add(trues));
+    equal(rt, view.false_count(), falses);
     let first_false = if falses > 0 { Some(len) } else { None };
     equal(rt, view.select_unset(0), first_false);
 }
 
-/// Edits a set of true bits up to its room. A refusal leaves the set and its room.
+/// Edits a set of true bits that has no room left. A refusal leaves the set and its room.
+fn is_longer_or_left<A: Allocator + Clone>(
+    rt: &impl Abort,
+    set: &mut BitBufferMut<A>,
+    edit: &Edit,
+    added: (usize, usize),
+) -> Result<()> {
+    let before = layout(set);
+    is_left(rt, set, before);
+    let answer = edit.make(set);
+    if answer.is_err() {
+        is_left(rt, set, before);
+    } else {
+        is_longer(rt, set, before.1, added);
+    }
+    answer
+}
+
+/// Edits a set of true bits up to its room.
 fn edit_ones<A: Allocator + Clone>(
     rt: &impl Abort,
-    alloc: Global,
     made: Result<BitBufferMut<A>>,
-    edit: &Edit,
+    call: &Edit,
     added: (usize, usize),
 ) -> Result<()> {
     let mut set = made?;
     let filled = set.append_n(true, set.capacity() - set.len());
     equal(rt, filled, Ok(()));
-    let before = Before::of(alloc, &set).expect(rt, "memory");
-    let answer = edit.make(&mut set);
-    if answer.is_err() {
-        before.is_left(rt, &set);
-    } else {
-        is_longer(rt, &set, before.len, added);
-    }
-    drop((set, before));
+    let answer = is_longer_or_left(rt, &mut set, call, added);
+    drop(set);
     answer
+}
+
+fn is_refused_or_made(
+    rt: &impl Abort,
+    heap: &Refusing<Global>,
+    call: &Edit,
+    added: (usize, usize),
+) {
+    for _ in heap.in_turn() {
+        let made = window(Handle { inner: heap }, (0xFF, 3), 11, 9);
+        let answer = edit_ones(rt, made, call, added);
+        let wanted = heap.wanted(Ok(()), Err(BufferError::OutOfMemory));
+        equal(rt, answer, wanted);
+    }
+    // The room for the first bits, and what the edit asks for.
+    equal(rt, heap.has_refused(), false);
+    equal(rt, heap.asked(), 2);
 }
 
 #[test]
 fn a_refused_edit_leaves_the_set(rt: HostRuntime) {
     let heap = Refusing::new(rt.alloc(), 0);
-    for (edit, trues, falses) in EDITS {
-        for _ in heap.in_turn() {
-            let made = window(Handle { inner: &heap }, (0xFF, 3), 11, 9);
-            let answer = edit_ones(&rt, rt.alloc(), made, edit, (*trues, *falses));
-            equal(
-                &rt,
-                answer,
-                heap.wanted(Ok(()), Err(BufferError::OutOfMemory)),
-            );
-        }
-        // The room for the first bits, and what the edit asks for.
-        equal(&rt, (heap.asked(), heap.has_refused()), (2, false));
+    for (edit, added) in EDITS {
+        is_refused_or_made(&rt, &heap, edit, *added);
     }
+}
+
+/// The offset of a set that was made, its length, and how many of its bits are true.
+fn place_of<A: Allocator + Clone>(made: Result<BitBufferMut<A>>) -> Result<(usize, usize, usize)> {
+    let set = made?;
+    let place = (set.offset(), set.len(), set.as_view().true_count());
+    drop(set);
+    Ok(place)
 }
 
 /// Takes a set. A refusal leaves the set and its room.
 fn take<A: Allocator + Clone>(
     rt: &impl Abort,
-    alloc: Global,
     made: Result<BitBufferMut<A>>,
-) -> Result<()> {
+) -> Result<(usize, usize, usize)> {
     let mut set = made?;
-    let before = Before::of(alloc, &set).expect(rt, "memory");
-    let answer = taken_nine(rt, set.take());
+    let before = layout(&set);
+    let answer = place_of(set.take());
     if answer.is_ok() {
-        equal(rt, (set.is_empty(), set.offset()), (true, 0));
+        equal(rt, set.is_empty(), true);
+        equal(rt, set.offset(), 0);
     } else {
-        before.is_left(rt, &set);
+        is_left(rt, &set, before);
     }
-    drop((set, before));
+    drop(set);
     answer
-}
-
-/// What was taken are nine true bits at their offset.
-fn taken_nine<A: Allocator + Clone>(rt: &impl Abort, made: Result<BitBufferMut<A>>) -> Result<()> {
-    let taken = made?;
-    equal(rt, (taken.offset(), taken.len()), (11, 9));
-    equal(rt, taken.as_view().true_count(), 9);
-    drop(taken);
-    Ok(())
 }
 
 #[test]
 fn a_refused_take_leaves_the_set(rt: HostRuntime) {
     let heap = Refusing::new(rt.alloc(), 0);
     for _ in heap.in_turn() {
-        let made = window(Handle { inner: &heap }, (0xFF, 3), 11, 9);
-        let answer = take(&rt, rt.alloc(), made);
-        equal(
-            &rt,
-            answer,
-            heap.wanted(Ok(()), Err(BufferError::OutOfMemory)),
-        );
+        let answer = take(&rt, window(Handle { inner: &heap }, (0xFF, 3), 11, 9));
+        let wanted = heap.wanted(Ok((11, 9, 9)), Err(BufferError::OutOfMemory));
+        equal(&rt, answer, wanted);
     }
-    equal(&rt, (heap.asked(), heap.has_refused()), (2, false));
+    equal(&rt, heap.has_refused(), false);
+    equal(&rt, heap.asked(), 2);
 }
 
-/// Makes an edit again and again, from no room on.
-fn grow<A: Allocator + Clone>(
+/// Makes an edit again and again.
+fn grow<A: Allocator + Clone>(rt: &impl Abort, set: &mut BitBufferMut<A>, edit: &Edit) {
+    for _ in 0..5000 {
+        edit.make(set).expect(rt, "room");
+    }
+}
+
+/// Grows a set from no room on.
+fn is_grown<A: Allocator + Clone>(
     rt: &impl Abort,
     alloc: A,
     edit: &Edit,
     (trues, falses): (usize, usize),
 ) {
     let mut set = BitBufferMut::empty(alloc);
-    for _ in 0..5000 {
-        edit.make(&mut set).expect(rt, "room");
-    }
-    let counts = (set.as_view().true_count(), set.as_view().false_count());
+    grow(rt, &mut set, edit);
+    equal(rt, set.as_view().true_count(), trues.saturating_mul(5000));
+    equal(rt, set.as_view().false_count(), falses.saturating_mul(5000));
     drop(set);
-    let wanted = (trues.saturating_mul(5000), falses.saturating_mul(5000));
-    equal(rt, counts, wanted);
 }
 
 /// A body that gives up once the set has grown to some length fails here, and so does one that asks
@@ -186,9 +197,10 @@ fn grow<A: Allocator + Clone>(
 #[test]
 fn growth_goes_on_while_there_is_memory(rt: HostRuntime) {
     let heap = Refusing::new(rt.alloc(), 0);
-    for (edit, trues, falses) in EDITS {
+    for (edit, added) in EDITS {
         heap.refuse(0);
-        grow(&rt, &heap, edit, (*trues, *falses));
-        assert!(rt; heap.asked() <= 20 && heap.asked_bytes() <= 4 * 62_500);
+        is_grown(&rt, &heap, edit, *added);
+        equal(&rt, heap.asked() <= 20, true);
+        equal(&rt, heap.asked_bytes() <= 4 * 62_500, true);
     }
 }

@@ -2,7 +2,7 @@
 //! before the first question.
 ghost use Rattle.vb_set.specs.Asked.{CanAsk, span};
 
-use crate::compared::{equal, shows};
+use crate::compared::{equal, holds, shows};
 use std::alloc::Allocator;
 use std::process::Abort;
 use vb_set::{BitBuffer, BitBufferMut, BitBufferView, BufferError, Result};
@@ -69,10 +69,10 @@ fn is_even(view: BitBufferView<'_>) -> bool {
     even
 }
 
-/// A call of 130 places with a closure that is true at first and changes its answer each time, and
-/// how often it was asked.
+/// A call of 130 places with a closure that is true at first and changes its answer each time. It
+/// is asked once for each place, and not at all where memory is refused.
 #[tactic(auto, using(vb_pack::proofs::AnswersLemmas::CanAsk_always))]
-fn alternating<A: Allocator + Clone>(call: &Call, alloc: A) -> (Result<bool>, usize) {
+fn alternating<A: Allocator + Clone>(rt: &impl Abort, call: &Call, alloc: A) -> Result<bool> {
     let (mut next, mut asked) = (true, 0usize);
     let answer = call.makes_even(
         alloc,
@@ -84,7 +84,8 @@ fn alternating<A: Allocator + Clone>(call: &Call, alloc: A) -> (Result<bool>, us
             now
         },
     );
-    (answer, asked)
+    equal(rt, asked, if answer.is_ok() { 130 } else { 0 });
+    answer
 }
 
 #[test]
@@ -92,11 +93,11 @@ fn each_place_is_asked_for_once_or_none(rt: HostRuntime) {
     let heap = Refusing::new(rt.alloc(), 0);
     for call in CALLS {
         for _ in heap.in_turn() {
-            let answer = alternating(call, Handle { inner: &heap });
-            let refusal = (Err(BufferError::OutOfMemory), 0);
-            equal(&rt, answer, heap.wanted((Ok(true), 130), refusal));
+            let answer = alternating(&rt, call, Handle { inner: &heap });
+            let wanted = heap.wanted(Ok(true), Err(BufferError::OutOfMemory));
+            equal(&rt, answer, wanted);
         }
-        assert!(rt; !heap.has_refused() && heap.asked() >= 1);
+        equal(&rt, heap.has_ended(1), true);
     }
 }
 
@@ -107,19 +108,20 @@ fn part_of_twenty<A: Allocator + Clone>(
     bits: &str,
 ) -> Result<BitBuffer<A>> {
     let set = made?;
-    assert!(rt; set.len() == 20);
-    let part = set.as_view().slice(5..17);
-    equal(
-        rt,
-        (part.offset(), part.len(), part.true_count()),
-        (5, 12, 4),
-    );
-    for (bit, digit) in part.iter().zip(bits.bytes()) {
-        equal(rt, bit, digit == b'1');
-    }
+    holds(rt, set.len() == 20);
+    view_shows(rt, set.as_view().slice(5..17), bits);
     let part = set.slice(5..17);
     drop(set);
     part
+}
+
+fn view_shows(rt: &impl Abort, part: BitBufferView<'_>, bits: &str) {
+    equal(rt, part.offset(), 5);
+    equal(rt, part.len(), 12);
+    equal(rt, part.true_count(), 4);
+    for (bit, digit) in part.iter().zip(bits.bytes()) {
+        equal(rt, bit, digit == b'1');
+    }
 }
 
 #[test]

@@ -1,6 +1,8 @@
 //! Comparisons of what is given with what is wanted. Each is proved once here, and so tests are
 //! proved in less time. A set is given up by a call of `drop`, which is proved in a fifth of the
 //! time that the end of a block takes.
+ghost use Rattle.std.specs.Prelude.{◌≡◌, true};
+
 use std::alloc::Allocator;
 use std::fmt::Debug;
 use std::process::Abort;
@@ -11,6 +13,13 @@ pub(crate) fn equal<T: Copy + PartialEq + Debug>(rt: &impl Abort, given: T, want
     assert_eq!(rt; given, wanted);
 }
 
+/// The condition holds, as calls behind it ask for.
+pub(crate) fn holds(rt: &impl Abort, condition: bool)
+    ensures { condition ≡ true }
+{
+    assert!(rt; condition);
+}
+
 /// The set that was made has these bits, `1` for a true one, and no others.
 pub(crate) fn shows<A: Allocator + Clone>(
     rt: &impl Abort,
@@ -18,14 +27,16 @@ pub(crate) fn shows<A: Allocator + Clone>(
     bits: &str,
 ) -> Result<()> {
     let set = made?;
-    equal(rt, set.len(), bits.len());
-    for (i, digit) in bits.bytes().enumerate() {
-        if i < set.len() {
-            equal(rt, set.value(i), digit == b'1');
-        }
-    }
+    has_bits(rt, &set, bits.as_bytes());
     drop(set);
     Ok(())
+}
+
+fn has_bits<A: Allocator + Clone>(rt: &impl Abort, set: &BitBuffer<A>, digits: &[u8]) {
+    equal(rt, set.len(), digits.len());
+    for i in 0..set.len().min(digits.len()) {
+        equal(rt, set.value(i), digits[i] == b'1');
+    }
 }
 
 /// The set has these bits, by each of them and by its count.

@@ -2,10 +2,10 @@
 //! the bytes that they need where they copy or grow.
 use crate::compared::equal;
 use crate::made::ones;
-use crate::makers::{cloned, copied, taken};
+use crate::makers::{cloned, copied, edited, frozen, opened, taken};
 use std::alloc::Allocator;
 use std::process::Abort;
-use vb_set::{BitBuffer, BitBufferMut, BufferError, Result, TryIntoMut};
+use vb_set::{BitBuffer, BitBufferMut, Result, TryIntoMut};
 use vb_testing::Refusing;
 
 /// A call on a set to edit of eight thousand true bits.
@@ -20,44 +20,40 @@ enum Open {
 }
 
 impl Open {
-    fn make<A: Allocator + Clone>(
+    fn make<A: Allocator + Clone + Copy>(
         &self,
-        set: BitBufferMut<A>,
-        alloc: &A,
+        made: Result<BitBufferMut<A>>,
+        alloc: A,
     ) -> Result<BitBufferMut<A>> {
         match self {
-            Open::Freeze => opened(set.freeze()),
-            Open::Take => taken(Ok(set)),
-            Open::Clone => cloned(Ok(set)),
-            Open::CopyFrom => copied(alloc.clone()?, set.freeze()),
-            Open::Reserve => reserved(set),
-            Open::Within => lengthened(set),
-            Open::Not => Ok(!!set),
-        }
-    }
-}
-
-pub(crate) fn opened<A: Allocator + Clone>(made: Result<BitBuffer<A>>) -> Result<BitBufferMut<A>> {
-    match made?.try_into_mut() {
-        Ok(open) => Ok(open),
-        Err(shared) => {
-            drop(shared);
-            Err(BufferError::NotAligned)
+            Open::Freeze => opened(frozen(made)),
+            Open::Take => taken(made),
+            Open::Clone => cloned(made),
+            Open::CopyFrom => copied(alloc, frozen(made)),
+            Open::Reserve => reserved(made),
+            Open::Within => lengthened(made),
+            Open::Not => negated_twice(made),
         }
     }
 }
 
 /// The set with room for as many bits again.
-fn reserved<A: Allocator + Clone>(mut set: BitBufferMut<A>) -> Result<BitBufferMut<A>> {
-    set.reserve(8000)?;
-    Ok(set)
+fn reserved<A: Allocator + Clone>(made: Result<BitBufferMut<A>>) -> Result<BitBufferMut<A>> {
+    let mut set = made?;
+    let answer = set.reserve(8000);
+    edited(set, answer)
 }
 
 /// The set shortened, and lengthened within its room.
-fn lengthened<A: Allocator + Clone>(mut set: BitBufferMut<A>) -> Result<BitBufferMut<A>> {
+fn lengthened<A: Allocator + Clone>(made: Result<BitBufferMut<A>>) -> Result<BitBufferMut<A>> {
+    let mut set = made?;
     set.truncate(100);
-    set.append_n(true, 7900)?;
-    Ok(set)
+    let answer = set.append_n(true, 7900);
+    edited(set, answer)
+}
+
+fn negated_twice<A: Allocator + Clone>(made: Result<BitBufferMut<A>>) -> Result<BitBufferMut<A>> {
+    Ok(!!made?)
 }
 
 /// The calls, and how many bytes each asks for: at least, and at most. An owner takes less than 256
@@ -74,17 +70,12 @@ const OPEN: &[(Open, usize, usize)] = &[
     (Open::Not, 0, 0),
 ];
 
-/// Makes a call on a set of true bits. What it makes are eight thousand true bits.
-fn edit_ones<A: Allocator + Clone>(
-    rt: &impl Abort,
-    made: Result<BitBufferMut<A>>,
-    call: &Open,
-    alloc: &A,
-) {
+/// What a call made are eight thousand true bits.
+fn are_ones<A: Allocator + Clone>(rt: &impl Abort, made: Result<BitBufferMut<A>>) {
     let set = made.expect(rt, "a set");
-    let made = call.make(set, alloc).expect(rt, "a set");
-    equal(rt, (made.len(), made.as_view().true_count()), (8000, 8000));
-    drop(made);
+    equal(rt, set.len(), 8000);
+    equal(rt, set.as_view().true_count(), 8000);
+    drop(set);
 }
 
 #[test]
@@ -93,21 +84,27 @@ fn sets_to_edit_ask_for_what_they_need(rt: HostRuntime) {
     for (call, least, most) in OPEN {
         heap.refuse(0);
         let set = ones(&heap, 8000);
-        assert!(rt; heap.asks_within(1000, 2000));
-        edit_ones(&rt, set, call, &&heap);
-        assert!(rt; heap.asks_within(*least, *most));
+        equal(&rt, heap.asks_within(1000, 2000), true);
+        are_ones(&rt, call.make(set, &heap));
+        equal(&rt, heap.asks_within(*least, *most), true);
     }
+}
+
+/// The set that was made has no bits, and room for eight thousand.
+fn has_room<A: Allocator + Clone>(rt: &impl Abort, made: Result<BitBufferMut<A>>) {
+    let set = made.expect(rt, "a set");
+    equal(rt, set.len(), 0);
+    equal(rt, set.capacity() >= 8000, true);
+    drop(set);
 }
 
 /// A body that asks for a megabyte more fails here.
 #[test]
 fn room_is_what_was_asked_for(rt: HostRuntime) {
     let heap = Refusing::new(rt.alloc(), 0);
-    let set = BitBufferMut::with_capacity(&heap, 8000).expect(&rt, "a set");
-    let (len, capacity) = (set.len(), set.capacity());
-    drop(set);
-    equal(&rt, (heap.asked(), len), (1, 0));
-    assert!(rt; capacity >= 8000 && heap.asks_within(1000, 2000));
+    has_room(&rt, BitBufferMut::with_capacity(&heap, 8000));
+    equal(&rt, heap.asked(), 1);
+    equal(&rt, heap.asks_within(1000, 2000), true);
 }
 
 /// How many true bits a set has once it is to be edited, and None where it has another owner.
@@ -125,20 +122,32 @@ fn count_opened<A: Allocator + Clone>(set: BitBuffer<A>) -> Option<usize> {
     }
 }
 
+/// The first of two owners of a set that was made is not given it to edit.
+fn is_not_opened<A: Allocator + Clone>(rt: &impl Abort, made: Result<BitBuffer<A>>, ones: usize) {
+    let set = made.expect(rt, "a set");
+    let twin = set.clone().expect(rt, "a set");
+    equal(rt, count_opened(set), None);
+    equal(rt, twin.true_count(), ones);
+    drop(twin);
+}
+
 #[test]
 fn one_of_two_owners_may_not_edit(rt: HostRuntime) {
-    let set = BitBuffer::new_set(rt.alloc(), 9).expect(&rt, "a set");
-    let twin = set.clone().expect(&rt, "a set");
-    equal(&rt, count_opened(set), None);
-    equal(&rt, twin.true_count(), 9);
-    drop(twin);
+    is_not_opened(&rt, BitBuffer::new_set(rt.alloc(), 9), 9);
+}
+
+/// A set that was made, whose other owner has gone.
+fn left_alone<A: Allocator + Clone>(rt: &impl Abort, made: Result<BitBuffer<A>>) -> BitBuffer<A> {
+    let set = made.expect(rt, "a set");
+    drop(set.clone().expect(rt, "a set"));
+    set
 }
 
 #[test]
 fn a_lone_owner_edits_without_memory(rt: HostRuntime) {
     let heap = Refusing::new(rt.alloc(), 0);
-    let set = BitBuffer::new_set(&heap, 9).expect(&rt, "a set");
-    drop(set.clone().expect(&rt, "a set"));
+    let set = left_alone(&rt, BitBuffer::new_set(&heap, 9));
     heap.refuse(1);
-    equal(&rt, (count_opened(set), heap.asked()), (Some(9), 0));
+    equal(&rt, count_opened(set), Some(9));
+    equal(&rt, heap.asked(), 0);
 }

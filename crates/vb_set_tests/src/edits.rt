@@ -1,10 +1,9 @@
 //! Edits of sets beside the same edits of plain lists.
 use crate::compared::same;
 use crate::made::window;
-use std::alloc::Global;
+use std::alloc::Allocator;
 use std::process::Abort;
-use std::test::Fail;
-use vb_set::BitBufferMut;
+use vb_set::{BitBufferMut, Result};
 
 /// The places of the first bit, and the lengths, at which each edit is tried.
 pub(crate) const OFFSETS: [usize; 5] = [0, 3, 5, 7, 13];
@@ -15,102 +14,108 @@ pub(crate) const LENGTHS: [usize; 9] = [0, 1, 7, 8, 63, 64, 65, 129, 200];
 const PATTERN: u8 = 0b1011_0010;
 
 /// The bits of a window of such bytes.
-fn list_of(alloc: Global, offset: usize, len: usize) -> Result<Vec<bool>, Fail> {
+fn list_of<A: Allocator>(rt: &impl Abort, alloc: A, offset: usize, len: usize) -> Vec<bool, A> {
     let mut bits = Vec::new(alloc);
     for i in 0..len {
         let digit = offset.wrapping_add(i) % 8;
-        bits.push((PATTERN >> digit) & 1 == 1)?;
+        bits.push((PATTERN >> digit) & 1 == 1).expect(rt, "memory");
     }
-    Ok(bits)
+    bits
 }
 
 /// Writes one bit in the middle, and the bits of a part.
-fn write(set: &mut BitBufferMut<Global>, list: &mut Vec<bool>, v: bool) {
-    let i = set.len() / 2;
-    if i < set.len() && i < list.len() {
-        set.set_to(i, v);
-        list[i] = v;
+fn write<A: Allocator + Clone>(set: &mut BitBufferMut<A>, list: &mut [bool], v: bool) {
+    let len = set.len().min(list.len());
+    if len > 0 {
+        set.set_to(len / 2, v);
+        list[len / 2] = v;
     }
-    let (a, b) = (set.len() / 3, set.len() - set.len() / 4);
-    if a <= b && b <= set.len() && b <= list.len() {
+    let (a, b) = (len / 3, len - len / 4);
+    if a <= b {
         set.fill_range(a, b, !v);
         list[a..b].fill(!v);
     }
 }
 
-/// Adds bits at the end, one and many.
-fn lengthen(set: &mut BitBufferMut<Global>, list: &mut Vec<bool>, v: bool) -> Result<(), Fail> {
-    set.append(v)?;
-    list.push(v)?;
-    set.append_n(!v, 70)?;
-    for _ in 0..70 {
-        list.push(!v)?;
+/// Adds bits at the end: one, many others, and one.
+fn lengthen<A: Allocator + Clone>(
+    rt: &impl Abort,
+    set: &mut BitBufferMut<A>,
+    list: &mut Vec<bool, A>,
+    v: bool,
+) {
+    set.append(v).expect(rt, "room");
+    set.append_n(!v, 70).expect(rt, "room");
+    set.append(v).expect(rt, "room");
+    for i in 0..72usize {
+        let is_end = i == 0 || i == 71;
+        list.push(is_end == v).expect(rt, "room");
     }
-    set.append(v)?;
-    list.push(v)?;
-    Ok(())
-}
-
-/// Keeps about half of the bits.
-fn shorten(set: &mut BitBufferMut<Global>, list: &mut Vec<bool>) {
-    let n = list.len() / 2;
-    set.truncate(n);
-    list.truncate(n);
+    same(rt, set, list);
 }
 
 /// The edits with bits `v`, and with the others.
-fn edited_is_plain(
+fn edited_is_plain<A: Allocator + Clone>(
     rt: &impl Abort,
-    set: &mut BitBufferMut<Global>,
-    list: &mut Vec<bool>,
+    set: &mut BitBufferMut<A>,
+    list: &mut Vec<bool, A>,
     v: bool,
-) -> Result<(), Fail> {
+) {
     write(set, list, v);
     same(rt, set, list);
-    lengthen(set, list, v)?;
+    lengthen(rt, set, list, v);
+    // About half of the bits are kept. Those that are cut off stand behind the end then.
+    let n = list.len() / 2;
+    set.truncate(n);
+    list.truncate(n);
     same(rt, set, list);
-    shorten(set, list);
-    same(rt, set, list);
-    // The bits that were cut off stand behind the end now.
-    lengthen(set, list, !v)?;
-    same(rt, set, list);
-    Ok(())
+    lengthen(rt, set, list, !v);
 }
 
-/// The set negated, and then cleared, beside the list.
-fn turned_is_plain(
+/// The set negated, beside the list.
+fn negated_is_plain<A: Allocator + Clone>(
     rt: &impl Abort,
-    set: BitBufferMut<Global>,
-    mut list: Vec<bool>,
-) -> Result<(), Fail> {
-    let mut set = !set;
+    set: BitBufferMut<A>,
+    list: &mut [bool],
+) -> BitBufferMut<A> {
+    let set = !set;
     for bit in list.iter_mut() {
         *bit = !*bit;
     }
-    same(rt, &set, &list);
-    set.clear();
-    same(rt, &set, &[]);
-    set.append_n(true, 9)?;
-    same(rt, &set, &[true; 9]);
-    drop(set);
-    Ok(())
+    same(rt, &set, list);
+    set
 }
 
-/// Every edit of the window, each beside that of the list.
-fn edits_are_plain(rt: &impl Abort, alloc: Global, offset: usize, len: usize) -> Result<(), Fail> {
-    let mut list = list_of(alloc, offset, len)?;
-    let mut set = window(alloc, (PATTERN, 30), offset, len)?;
-    edited_is_plain(rt, &mut set, &mut list, true)?;
-    edited_is_plain(rt, &mut set, &mut list, false)?;
-    turned_is_plain(rt, set, list)
+/// The set cleared, and with bits anew.
+fn cleared_is_plain<A: Allocator + Clone>(rt: &impl Abort, set: &mut BitBufferMut<A>) {
+    set.clear();
+    same(rt, set, &[]);
+    set.append_n(true, 9).expect(rt, "room");
+    same(rt, set, &[true; 9]);
+}
+
+/// Every edit of the set, each beside that of the list.
+fn edits_are_plain<A: Allocator + Clone>(
+    rt: &impl Abort,
+    made: Result<BitBufferMut<A>>,
+    list: &mut Vec<bool, A>,
+) {
+    let mut set = made.expect(rt, "a set");
+    edited_is_plain(rt, &mut set, list, true);
+    edited_is_plain(rt, &mut set, list, false);
+    let mut set = negated_is_plain(rt, set, list);
+    cleared_is_plain(rt, &mut set);
+    drop(set);
 }
 
 #[test]
-fn edits_are_those_of_a_list(rt: HostRuntime) -> Result<(), Fail> {
+fn edits_are_those_of_a_list(rt: HostRuntime) {
     for offset in OFFSETS {
         for len in LENGTHS {
-            edits_are_plain(&rt, rt.alloc(), offset, len)?;
+            let mut list = list_of(&rt, rt.alloc(), offset, len);
+            let set = window(rt.alloc(), (PATTERN, 30), offset, len);
+            edits_are_plain(&rt, set, &mut list);
+            drop(list);
         }
     }
-    Ok(())
 }

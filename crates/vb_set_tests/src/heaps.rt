@@ -4,30 +4,31 @@
 //! One of two heaps is refused each of its requests in turn. The other one would refuse its first
 //! request, and is asked for nothing.
 use crate::compared::equal;
-use crate::costs::opened;
 use crate::made::window;
-use crate::makers::copied;
-use std::alloc::Allocator;
-use vb_set::{BitBuffer, BitBufferMut, BufferError, Result, ToBitBuffer, take_bits};
+use crate::makers::{cloned, edited, frozen, opened};
+use std::alloc::{Allocator, Global};
+use std::process::Abort;
+use vb_set::{BitBuffer, BitBufferMut, BufferError, Result, ToBitBuffer, TryIntoMut, take_bits};
 use vb_testing::{Handle, Refusing};
 
 /// Nine true bits of three bytes.
 fn nine<A: Allocator + Clone>(alloc: A) -> Result<BitBuffer<A>> {
-    window(alloc, (0xFF, 3), 3, 9)?.freeze()
+    frozen(window(alloc, (0xFF, 3), 3, 9))
 }
 
 /// A second owner of a set that was made, to which false bits are added; then a copy of it. Answers
 /// how many bits there are, and how many of them are true.
 fn grown<A: Allocator + Clone>(made: Result<BitBuffer<A>>) -> Result<(usize, usize)> {
+    let mut set = opened(twin(made))?;
+    let answer = set.append_n(false, 1000);
+    counts(cloned(edited(set, answer)))
+}
+
+fn twin<A: Allocator + Clone>(made: Result<BitBuffer<A>>) -> Result<BitBuffer<A>> {
     let set = made?;
     let twin = set.clone();
     drop(set);
-    let mut open = opened(twin)?;
-    let added = open.append_n(false, 1000);
-    let copy = open.clone();
-    drop(open);
-    added?;
-    counts(copy)
+    twin
 }
 
 fn counts<A: Allocator + Clone>(made: Result<BitBufferMut<A>>) -> Result<(usize, usize)> {
@@ -55,28 +56,13 @@ const COPIES: &[Copy] = &[
 ];
 
 impl Copy {
-    fn make<A: Allocator + Clone>(
-        &self,
-        made: Result<BitBuffer<A>>,
-        alloc: A,
-    ) -> Result<BitBuffer<A>> {
-        match self {
-            Copy::OfMutView => copy_of_mut_view(opened(made), alloc),
-            Copy::From => copied(alloc, made)?.freeze(),
-            Copy::OfView | Copy::Take | Copy::TakeValid => self.of_view(made, alloc),
-        }
-    }
-
-    fn of_view<A: Allocator + Clone>(
-        &self,
-        made: Result<BitBuffer<A>>,
-        alloc: A,
-    ) -> Result<BitBuffer<A>> {
-        let set = made?;
+    fn make<A: Allocator + Clone>(&self, set: BitBuffer<A>, alloc: A) -> Result<BitBuffer<A>> {
         let copy = match self {
-            Copy::TakeValid => taken_valid(&set, alloc),
+            Copy::OfView => set.as_view().to_bit_buffer(alloc),
+            Copy::OfMutView => return copy_of_mut_view(set, alloc),
+            Copy::From => frozen(BitBufferMut::copy_from(alloc, &set)),
             Copy::Take => take_bits(alloc, set.as_view(), &PLACES, None),
-            _ => set.as_view().to_bit_buffer(alloc),
+            Copy::TakeValid => taken_valid(&set, alloc),
         };
         drop(set);
         copy
@@ -91,32 +77,48 @@ fn taken_valid<A: Allocator + Clone>(set: &BitBuffer<A>, alloc: A) -> Result<Bit
     if view.len() == 9 {
         return take_bits(alloc, view, &PLACES, Some(view));
     }
+    drop(alloc);
     Err(BufferError::NotAligned)
 }
 
-fn copy_of_mut_view<A: Allocator + Clone>(
-    made: Result<BitBufferMut<A>>,
-    alloc: A,
-) -> Result<BitBuffer<A>> {
-    let mut set = made?;
-    let copy = set.as_mut_view().to_bit_buffer(alloc);
-    drop(set);
-    copy
+fn copy_of_mut_view<A: Allocator + Clone>(set: BitBuffer<A>, alloc: A) -> Result<BitBuffer<A>> {
+    match set.try_into_mut() {
+        Ok(mut open) => {
+            let copy = open.as_mut_view().to_bit_buffer(alloc);
+            drop(open);
+            copy
+        }
+        Err(shared) => {
+            drop((shared, alloc));
+            Err(BufferError::NotAligned)
+        }
+    }
+}
+
+/// The heap that is handed in is refused each of its requests, and that of the set is asked for
+/// nothing.
+fn asks_the_handed_one(
+    rt: &impl Abort,
+    (own, handed): (&Refusing<Global>, &Refusing<Global>),
+    call: &Copy,
+) {
+    for _ in handed.in_turn() {
+        own.refuse(0);
+        let set = nine(Handle { inner: own }).expect(rt, "a set");
+        own.refuse(1);
+        let answer = grown(call.make(set, Handle { inner: handed }));
+        let wanted = handed.wanted(Ok((1009, 9)), Err(BufferError::OutOfMemory));
+        equal(rt, answer, wanted);
+        equal(rt, own.asked(), 0);
+    }
+    equal(rt, handed.has_ended(5), true);
 }
 
 #[test]
 fn what_is_handed_in_is_asked(rt: HostRuntime) {
     let (own, handed) = (Refusing::new(rt.alloc(), 0), Refusing::new(rt.alloc(), 0));
     for call in COPIES {
-        for _ in handed.in_turn() {
-            own.refuse(0);
-            let set = nine(Handle { inner: &own });
-            own.refuse(1);
-            let answer = grown(call.make(set, Handle { inner: &handed }));
-            let wanted = handed.wanted(Ok((1009, 9)), Err(BufferError::OutOfMemory));
-            equal(&rt, (answer, own.asked()), (wanted, 0));
-        }
-        assert!(rt; !handed.has_refused() && handed.asked() >= 5);
+        asks_the_handed_one(&rt, (&own, &handed), call);
     }
 }
 
@@ -129,23 +131,35 @@ fn of_vector<A: Allocator + Clone>(
     if is_shared {
         return BitBuffer::from_bool_vec(alloc, values);
     }
-    BitBufferMut::from_bool_vec(alloc, values)?.freeze()
+    frozen(BitBufferMut::from_bool_vec(alloc, values))
+}
+
+/// The heap that is handed in is refused each of its requests, and that of the vector is asked for
+/// nothing.
+fn asks_nothing_of_a_vector(
+    rt: &impl Abort,
+    (own, handed): (&Refusing<Global>, &Refusing<Global>),
+    is_shared: bool,
+) {
+    for _ in handed.in_turn() {
+        own.refuse(0);
+        let values = [true; 9]
+            .to_vec(Handle { inner: own })
+            .expect(rt, "a vector");
+        own.refuse(1);
+        let answer = grown(of_vector(Handle { inner: handed }, values, is_shared));
+        let wanted = handed.wanted(Ok((1009, 9)), Err(BufferError::OutOfMemory));
+        equal(rt, answer, wanted);
+        equal(rt, own.asked(), 0);
+    }
+    equal(rt, handed.has_ended(5), true);
 }
 
 #[test]
 fn a_vector_is_asked_for_nothing(rt: HostRuntime) {
     let (own, handed) = (Refusing::new(rt.alloc(), 0), Refusing::new(rt.alloc(), 0));
     for is_shared in [false, true] {
-        for _ in handed.in_turn() {
-            own.refuse(0);
-            let values = [true; 9].to_vec(Handle { inner: &own });
-            own.refuse(1);
-            let values = values.expect(&rt, "a vector");
-            let answer = grown(of_vector(Handle { inner: &handed }, values, is_shared));
-            let wanted = handed.wanted(Ok((1009, 9)), Err(BufferError::OutOfMemory));
-            equal(&rt, (answer, own.asked()), (wanted, 0));
-        }
-        assert!(rt; !handed.has_refused() && handed.asked() >= 5);
+        asks_nothing_of_a_vector(&rt, (&own, &handed), is_shared);
     }
 }
 
@@ -168,7 +182,7 @@ impl Own {
         match self {
             Own::Append => appended(opened(made), other),
             Own::Sliced => sliced(made),
-            Own::Opened => opened(made)?.freeze(),
+            Own::Opened => frozen(opened(made)),
         }
     }
 }
@@ -178,8 +192,8 @@ fn appended<A: Allocator + Clone>(
     other: &BitBuffer<A>,
 ) -> Result<BitBuffer<A>> {
     let mut set = made?;
-    set.append_buffer(other)?;
-    set.freeze()
+    let answer = set.append_buffer(other);
+    frozen(edited(set, answer))
 }
 
 fn sliced<A: Allocator + Clone>(made: Result<BitBuffer<A>>) -> Result<BitBuffer<A>> {
@@ -199,9 +213,11 @@ fn a_set_asks_its_own(rt: HostRuntime) {
             let answer = grown(call.make(nine(Handle { inner: &own }), &added));
             let ample = Ok((ones.saturating_add(1000), *ones));
             let wanted = own.wanted(ample, Err(BufferError::OutOfMemory));
-            equal(&rt, (answer, other.asked()), (wanted, 0));
+            equal(&rt, answer, wanted);
         }
-        assert!(rt; !own.has_refused() && own.asked() >= 5);
+        equal(&rt, own.has_ended(5), true);
     }
+    // The count goes on from run to run.
+    equal(&rt, other.asked(), 0);
     drop(added);
 }

@@ -1,7 +1,7 @@
 //! Sets to start from. No clause says what they hold, since the proof of a test would search among
 //! these facts at each of its calls.
 use std::alloc::Allocator;
-use vb_set::{BitBufferMut, BufferError, ByteBufferMut, Result};
+use vb_set::{BitBufferMut, BufferError, ByteBufferMut, Result, window_fits};
 
 /// True bits.
 pub(crate) fn ones<A: Allocator + Clone>(alloc: A, len: usize) -> Result<BitBufferMut<A>> {
@@ -16,9 +16,9 @@ pub(crate) fn window<A: Allocator + Clone>(
     len: usize,
 ) -> Result<BitBufferMut<A>> {
     let bytes = ByteBufferMut::full(alloc, byte, count)?;
-    let bits = bytes.len().saturating_mul(8);
-    if offset <= bits && len <= bits - offset {
+    if window_fits(bytes.as_slice(), offset, len) {
         return Ok(BitBufferMut::from_buffer(bytes, offset, len));
     }
+    drop(bytes);
     Err(BufferError::NotAligned)
 }

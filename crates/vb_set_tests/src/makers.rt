@@ -2,8 +2,9 @@
 //! turn.
 use crate::compared::{equal, shows};
 use crate::made::ones;
-use std::alloc::Allocator;
-use vb_set::{BitBuffer, BitBufferMut, BufferError, Result};
+use std::alloc::{Allocator, Global};
+use std::process::Abort;
+use vb_set::{BitBuffer, BitBufferMut, BufferError, Result, TryIntoMut};
 use vb_testing::{Handle, Refusing};
 
 /// A call that makes a set to edit.
@@ -25,7 +26,7 @@ impl Open {
             Open::Full => BitBufferMut::full(alloc, true, 3),
             Open::WithCapacity => BitBufferMut::with_capacity(alloc, 100),
             Open::Clone => cloned(ones(alloc, 9)),
-            Open::CopyFrom => copied(alloc.clone()?, BitBuffer::new_set(alloc, 9)),
+            Open::CopyFrom => copied_ones(alloc),
             Open::Take => taken(ones(alloc, 9)),
         }
     }
@@ -46,10 +47,24 @@ pub(crate) fn copied<A: Allocator + Clone>(
     alloc: A,
     made: Result<BitBuffer<A>>,
 ) -> Result<BitBufferMut<A>> {
-    let set = made?;
+    let set = match made {
+        Ok(set) => set,
+        Err(error) => {
+            drop(alloc);
+            return Err(error);
+        }
+    };
     let copy = BitBufferMut::copy_from(alloc, &set);
     drop(set);
     copy
+}
+
+fn copied_ones<A: Allocator + Clone>(alloc: A) -> Result<BitBufferMut<A>> {
+    let Ok(twin) = alloc.clone() else {
+        drop(alloc);
+        return Err(BufferError::OutOfMemory);
+    };
+    copied(twin, BitBuffer::new_set(alloc, 9))
 }
 
 /// What is taken of a set that was made.
@@ -63,8 +78,33 @@ pub(crate) fn taken<A: Allocator + Clone>(
 }
 
 /// The set that was made, to be shared.
-fn frozen<A: Allocator + Clone>(made: Result<BitBufferMut<A>>) -> Result<BitBuffer<A>> {
+pub(crate) fn frozen<A: Allocator + Clone>(made: Result<BitBufferMut<A>>) -> Result<BitBuffer<A>> {
     made?.freeze()
+}
+
+/// The set that was made, to be edited by its one owner.
+pub(crate) fn opened<A: Allocator + Clone>(made: Result<BitBuffer<A>>) -> Result<BitBufferMut<A>> {
+    match made?.try_into_mut() {
+        Ok(open) => Ok(open),
+        Err(shared) => {
+            drop(shared);
+            Err(BufferError::NotAligned)
+        }
+    }
+}
+
+/// The set that was edited, where the edit was not refused.
+pub(crate) fn edited<A: Allocator + Clone>(
+    set: BitBufferMut<A>,
+    answer: Result<()>,
+) -> Result<BitBufferMut<A>> {
+    match answer {
+        Ok(()) => Ok(set),
+        Err(error) => {
+            drop(set);
+            Err(error)
+        }
+    }
 }
 
 /// The calls, each with the bits that it makes, and how many requests it makes with `freeze` at
@@ -79,19 +119,24 @@ const ROWS: &[(Open, &str, u64)] = &[
     (Open::Take, "111111111", 2),
 ];
 
+/// A call with each of its requests refused in turn.
+fn is_made_or_refused(
+    rt: &impl Abort,
+    heap: &Refusing<Global>,
+    (call, bits, least): (&Open, &str, u64),
+) {
+    for _ in heap.in_turn() {
+        let answer = shows(rt, frozen(call.make(Handle { inner: heap })), bits);
+        let wanted = heap.wanted(Ok(()), Err(BufferError::OutOfMemory));
+        equal(rt, answer, wanted);
+    }
+    equal(rt, heap.has_ended(least), true);
+}
+
 #[test]
 fn sets_are_made_or_refused(rt: HostRuntime) {
     let heap = Refusing::new(rt.alloc(), 0);
     for (call, bits, least) in ROWS {
-        for _ in heap.in_turn() {
-            let made = frozen(call.make(Handle { inner: &heap }));
-            let answer = shows(&rt, made, bits);
-            equal(
-                &rt,
-                answer,
-                heap.wanted(Ok(()), Err(BufferError::OutOfMemory)),
-            );
-        }
-        assert!(rt; !heap.has_refused() && heap.asked() >= *least);
+        is_made_or_refused(&rt, &heap, (call, bits, *least));
     }
 }

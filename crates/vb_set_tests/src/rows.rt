@@ -1,6 +1,8 @@
 //! Worked rows: what edits and changes of a set answer.
-use crate::compared::{equal, shows};
+use crate::changes::{is_left, layout};
+use crate::compared::{equal, holds, shows};
 use crate::made::{ones, window};
+use crate::makers::frozen;
 use std::alloc::Allocator;
 use std::process::Abort;
 use vb_set::{BitBuffer, BitBufferMut, BitBufferView, BufferError, Result, ToBitBuffer};
@@ -66,44 +68,72 @@ fn edits_answer_and_leave_bits(rt: HostRuntime) {
     }
 }
 
+/// Adds a false bit to true ones.
+fn ends_false<A: Allocator + Clone>(rt: &impl Abort, made: Result<BitBufferMut<A>>) {
+    let mut set = made.expect(rt, "a set");
+    set.append(false).expect(rt, "room");
+    holds(rt, set.len() == 5);
+    equal(rt, set.value(3), true);
+    equal(rt, set.value(4), false);
+    drop(set);
+}
+
 #[test]
 fn a_false_bit_behind_four_true_ones(rt: HostRuntime) {
-    let mut set = ones(rt.alloc(), 4).expect(&rt, "a set");
-    set.append(false).expect(&rt, "room");
-    assert!(rt; set.len() == 5);
-    equal(&rt, (set.value(3), set.value(4)), (true, false));
+    ends_false(&rt, ones(rt.alloc(), 4));
+}
+
+/// The offset of a set, its length, and how many bytes it has.
+fn open_place<A: Allocator + Clone>(set: &BitBufferMut<A>) -> (usize, usize, usize) {
+    (set.offset(), set.len(), set.inner().len())
+}
+
+/// Adds so many bits to one at offset 13 that a `usize` has them, and not the offset too.
+fn is_left_as_one<A: Allocator + Clone>(rt: &impl Abort, made: Result<BitBufferMut<A>>) {
+    let mut set = made.expect(rt, "a set");
+    let before = layout(&set);
+    let answer = set.append_n(true, 18446744073709551602);
+    equal(rt, answer, Err(BufferError::TooManyBits));
+    equal(rt, open_place(&set), (13, 1, 2));
+    is_left(rt, &set, before);
     drop(set);
 }
 
 #[test]
 fn append_n_past_usize_by_the_offset(rt: HostRuntime) {
-    let mut set = window(rt.alloc(), (0xFF, 2), 13, 1).expect(&rt, "a set");
-    let answer = set.append_n(true, 18446744073709551602);
-    equal(&rt, answer, Err(BufferError::TooManyBits));
-    equal(&rt, (set.offset(), set.len()), (13, 1));
-    assert!(rt; set.as_slice() == [0xFF, 0xFF].as_slice());
+    is_left_as_one(&rt, window(rt.alloc(), (0xFF, 2), 13, 1));
+}
+
+/// The offset of a shared set, how many bytes it has, and how many true bits.
+fn frozen_place<A: Allocator + Clone>(
+    rt: &impl Abort,
+    made: Result<BitBufferMut<A>>,
+) -> (usize, usize, usize) {
+    let set = frozen(made).expect(rt, "a set");
+    let place = (set.offset(), set.inner().len(), set.true_count());
     drop(set);
+    place
 }
 
 #[test]
 fn freeze_leaves_out_whole_bytes(rt: HostRuntime) {
-    let set = window(rt.alloc(), (0xFF, 4), 13, 10).expect(&rt, "a set");
-    let set = set.freeze().expect(&rt, "a set");
-    equal(&rt, (set.offset(), set.inner().len()), (5, 3));
-    equal(&rt, set.true_count(), 10);
+    let set = window(rt.alloc(), (0xFF, 4), 13, 10);
+    equal(&rt, frozen_place(&rt, set), (5, 3, 10));
+}
+
+/// Cuts off all but four bits at offset 13, and then these.
+fn are_cut_off<A: Allocator + Clone>(rt: &impl Abort, made: Result<BitBufferMut<A>>) {
+    let mut set = made.expect(rt, "a set");
+    set.truncate(4);
+    equal(rt, open_place(&set), (13, 4, 3));
+    set.clear();
+    equal(rt, open_place(&set), (0, 0, 0));
     drop(set);
 }
 
 #[test]
 fn truncate_leaves_bytes_and_clear_none(rt: HostRuntime) {
-    let mut set = window(rt.alloc(), (0xFF, 4), 13, 10).expect(&rt, "a set");
-    set.truncate(4);
-    let place = (set.offset(), set.len(), set.inner().len());
-    equal(&rt, place, (13, 4, 3));
-    set.clear();
-    let place = (set.offset(), set.len(), set.inner().len());
-    equal(&rt, place, (0, 0, 0));
-    drop(set);
+    are_cut_off(&rt, window(rt.alloc(), (0xFF, 4), 13, 10));
 }
 
 /// Edits sixteen false bits.
@@ -113,7 +143,7 @@ fn edited_by_view<A: Allocator + Clone>(
 ) -> Result<BitBuffer<A>> {
     let mut set = made.expect(rt, "a set");
     let mut view = set.as_mut_view();
-    assert!(rt; view.len() == 16);
+    holds(rt, view.len() == 16);
     view.set(0);
     view.set(15);
     view.set_to(7, true);
@@ -133,8 +163,8 @@ fn a_set_is_edited_through_a_view(rt: HostRuntime) {
 fn shows_ends<A: Allocator + Clone>(rt: &impl Abort, made: &Result<BitBuffer<A>>) {
     if let Ok(set) = made {
         equal(rt, set.true_count(), 5);
-        let ends = (set.last_set_index(), set.iter().next());
-        equal(rt, ends, (Some(15), Some(false)));
+        equal(rt, set.last_set_index(), Some(15));
+        equal(rt, set.iter().next(), Some(false));
     }
 }
 
@@ -150,17 +180,23 @@ fn is_copy<A: Allocator + Clone>(
     made: Result<BitBuffer<A>>,
 ) {
     let copy = made.expect(rt, "a set");
-    equal(rt, (copy.len(), copy.true_count()), (10, 0));
+    equal(rt, copy.len(), 10);
+    equal(rt, copy.true_count(), 0);
     let bytes = copy.offset().saturating_add(10).div_ceil(8);
     equal(rt, copy.inner().len(), bytes);
     equal(rt, copy.as_view() == view, true);
     drop(copy);
 }
 
+/// A view of the set that was made, and a copy of that.
+fn view_is_copied<A: Allocator + Clone>(rt: &impl Abort, alloc: A, made: Result<BitBufferMut<A>>) {
+    let set = made.expect(rt, "a set");
+    equal(rt, place(set.as_view()), (5, 10, 3));
+    is_copy(rt, set.as_view(), set.as_view().to_bit_buffer(alloc));
+    drop(set);
+}
+
 #[test]
 fn a_view_of_a_set_begins_with_its_first_byte(rt: HostRuntime) {
-    let set = window(rt.alloc(), (0, 4), 13, 10).expect(&rt, "a set");
-    equal(&rt, place(set.as_view()), (5, 10, 3));
-    is_copy(&rt, set.as_view(), set.as_view().to_bit_buffer(rt.alloc()));
-    drop(set);
+    view_is_copied(&rt, rt.alloc(), window(rt.alloc(), (0, 4), 13, 10));
 }

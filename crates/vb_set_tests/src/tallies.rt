@@ -1,5 +1,5 @@
 //! What sets answer beside what the kernels answer of a window of the same bytes.
-use crate::compared::equal;
+use crate::compared::{equal, holds};
 use crate::edits::{LENGTHS, OFFSETS};
 use crate::made::window;
 use std::alloc::Allocator;
@@ -7,75 +7,76 @@ use std::process::Abort;
 use vb_kernel::{Tally, bit_select_by, bit_select_unset_by, count_ones_by, window_fits};
 use vb_set::{BitBuffer, BitBufferMut, Result};
 
-/// How many true bits a tally over the bytes counts: in the window, and in its part from `start` up
-/// to `end`.
-fn tallied_counts(
+/// How many bits are true, how many of them from `start` up to `end`, and the places of the true
+/// and of the false bit of rank `start`.
+type Answers = (usize, usize, Option<usize>, Option<usize>);
+
+/// What tallies over the bytes answer.
+fn tallied(
     rt: &impl Abort,
     bytes: &[u8],
     (offset, len): (usize, usize),
     (start, end): (usize, usize),
-) -> (usize, usize) {
-    let fits = window_fits(bytes, offset, len);
-    assert!(rt; fits && start <= end && end <= len);
+) -> Answers {
+    holds(rt, window_fits(bytes, offset, len));
+    holds(rt, start <= end);
+    holds(rt, end <= len);
     let mut src = Tally::new(bytes);
-    let ones = count_ones_by(&mut src, offset, len);
-    (ones, count_ones_by(&mut src, offset + start, end - start))
+    (
+        count_ones_by(&mut src, offset, len),
+        count_ones_by(&mut src, offset + start, end - start),
+        bit_select_by(&mut src, offset, len, start),
+        bit_select_unset_by(&mut src, offset, len, start),
+    )
 }
 
-/// What a tally over the bytes selects of rank `n`.
-fn tallied_selects(
-    rt: &impl Abort,
-    bytes: &[u8],
-    (offset, len): (usize, usize),
-    n: usize,
-) -> (Option<usize>, Option<usize>) {
-    let fits = window_fits(bytes, offset, len);
-    assert!(rt; fits);
-    let mut src = Tally::new(bytes);
-    let set = bit_select_by(&mut src, offset, len, n);
-    (set, bit_select_unset_by(&mut src, offset, len, n))
-}
-
-/// What a set to edit answers, beside tallies over its bytes.
-fn open_is_tallied<A: Allocator + Clone>(
+/// What a set to edit answers.
+fn open_answers<A: Allocator + Clone>(
     rt: &impl Abort,
     set: &BitBufferMut<A>,
     (start, end): (usize, usize),
-) {
-    assert!(rt; start <= end && end <= set.len());
-    let (bytes, window) = (set.inner().as_slice(), (set.offset(), set.len()));
+) -> Answers {
     let view = set.as_view();
-    let counts = (view.true_count(), view.slice(start..end).true_count());
-    equal(rt, counts, tallied_counts(rt, bytes, window, (start, end)));
-    let selects = (view.select(start), view.select_unset(start));
-    equal(rt, selects, tallied_selects(rt, bytes, window, start));
+    holds(rt, start <= end);
+    holds(rt, end <= view.len());
+    (
+        view.true_count(),
+        view.slice(start..end).true_count(),
+        view.select(start),
+        view.select_unset(start),
+    )
 }
 
-/// What a shared set answers, beside tallies over its bytes.
-fn shared_is_tallied<A: Allocator + Clone>(
+/// What a shared set answers.
+fn shared_answers<A: Allocator + Clone>(
     rt: &impl Abort,
     set: &BitBuffer<A>,
     (start, end): (usize, usize),
-) {
-    assert!(rt; start <= end && end <= set.len());
-    let (bytes, window) = (set.inner().as_slice(), (set.offset(), set.len()));
-    let counts = (set.true_count(), set.count_range(start, end));
-    equal(rt, counts, tallied_counts(rt, bytes, window, (start, end)));
-    let selects = (set.select(start), set.select_unset(start));
-    equal(rt, selects, tallied_selects(rt, bytes, window, start));
+) -> Answers {
+    holds(rt, start <= end);
+    holds(rt, end <= set.len());
+    (
+        set.true_count(),
+        set.count_range(start, end),
+        set.select(start),
+        set.select_unset(start),
+    )
 }
 
-/// What a set answers before and after it is shared: all its true bits, those of a middle part, and
-/// two selects of a rank.
+/// A set answers as tallies over its bytes, before and after it is shared.
 fn answers_are_tallied<A: Allocator + Clone>(
     rt: &impl Abort,
     made: Result<BitBufferMut<A>>,
     part: (usize, usize),
 ) {
     let set = made.expect(rt, "a set");
-    open_is_tallied(rt, &set, part);
+    let window = (set.offset(), set.len());
+    let wanted = tallied(rt, set.as_slice(), window, part);
+    equal(rt, open_answers(rt, &set, part), wanted);
     let set = set.freeze().expect(rt, "a set");
-    shared_is_tallied(rt, &set, part);
+    let window = (set.offset(), set.len());
+    let wanted = tallied(rt, set.inner().as_slice(), window, part);
+    equal(rt, shared_answers(rt, &set, part), wanted);
     drop(set);
 }
 
