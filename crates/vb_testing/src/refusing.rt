@@ -62,8 +62,7 @@ impl<B: Allocator> Refusing<B> {
     }
 
     /// Whether so many bytes were asked for since `new` or the last `refuse`: at least, and at
-    /// most.
-    /// Forgets the requests so far, and refuses none from now on.
+    /// most. Forgets the requests so far, and refuses none from now on.
     pub fn asks_within(&self, least: usize, most: usize) -> bool {
         let bytes = self.asked_bytes();
         self.refuse(0);
