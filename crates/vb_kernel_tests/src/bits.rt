@@ -7,34 +7,34 @@ use vb_kernel::{
 
 #[test]
 fn single_bits(rt: HostRuntime) {
+    let rt = &rt;
     let mut bytes = [0u8, 0];
     set_bit_unchecked(&mut bytes, 3);
     set_bit_unchecked(&mut bytes, 15);
-    equal(&rt, bytes, [0b0000_1000, 0b1000_0000]);
-    equal(
-        &rt,
-        (get_bit(&bytes, 15), get_bit(&bytes, 14)),
-        (true, false),
-    );
-    let unchecked = (get_bit_unchecked(&bytes, 3), get_bit_unchecked(&bytes, 4));
-    equal(&rt, unchecked, (true, false));
+    equal(rt, bytes, [0b0000_1000, 0b1000_0000]);
+    equal(rt, get_bit(&bytes, 15), true);
+    equal(rt, get_bit(&bytes, 14), false);
+    equal(rt, get_bit_unchecked(&bytes, 3), true);
+    equal(rt, get_bit_unchecked(&bytes, 4), false);
     unset_bit_unchecked(&mut bytes, 3);
-    equal(&rt, bytes, [0, 0b1000_0000]);
+    equal(rt, bytes, [0, 0b1000_0000]);
 }
+
+/// Windows, and whether they lie in one byte.
+const WINDOWS: [(usize, usize, bool); 8] = [
+    (0, 8, true),
+    (3, 5, true),
+    (3, 6, false),
+    (8, 0, true),
+    (9, 0, false),
+    (usize::MAX, 0, false),
+    (usize::MAX, 1, false),
+    (1, usize::MAX, false),
+];
 
 #[test]
 fn windows(rt: HostRuntime) {
-    let rows = [
-        (0, 8, true),
-        (3, 5, true),
-        (3, 6, false),
-        (8, 0, true),
-        (9, 0, false),
-        (usize::MAX, 0, false),
-        (usize::MAX, 1, false),
-        (1, usize::MAX, false),
-    ];
-    for (offset, len, fits) in rows {
+    for (offset, len, fits) in WINDOWS {
         equal_at(&rt, window_fits(&[0], offset, len), fits, (offset, len));
     }
     equal(&rt, window_fits(&[], 0, 0), true);
@@ -48,7 +48,8 @@ fn a_word_of_two_bytes(rt: HostRuntime) {
 
 #[test]
 fn the_last_true_bit(rt: HostRuntime) {
-    equal(&rt, last_set_index(&[0x76], 0, 7), Some(6));
-    equal(&rt, last_set_index(&[0x76], 0, 4), Some(2));
-    equal(&rt, last_set_index(&[0x76], 3, 1), None);
+    let bytes = &[0x76];
+    equal(&rt, last_set_index(bytes, 0, 7), Some(6));
+    equal(&rt, last_set_index(bytes, 0, 4), Some(2));
+    equal(&rt, last_set_index(bytes, 3, 1), None);
 }

@@ -1,7 +1,6 @@
 //! Fills, negated, copied and combined windows, compared with single bits.
-use crate::compared::{equal, equal_at};
-use crate::sample;
-use std::alloc::AllocError;
+use crate::compared::{equal, equal_at, holds};
+use crate::sample::mix;
 use std::process::Abort;
 use vb_kernel::{BitOp, copy_bits, fill_bits, get_bit, map_words, zip_words};
 
@@ -12,7 +11,7 @@ const LENS: [usize; 9] = [0, 1, 7, 8, 63, 64, 65, 129, 200];
 fn fill_is_plain(rt: &impl Abort, before: &[u8; 32], offset: usize, len: usize, v: bool) {
     let mut after = *before;
     let end = offset.saturating_add(len);
-    assert!(rt; end <= 256);
+    holds(rt, end <= 256);
     fill_bits(&mut after, offset, end, v);
     for i in 0..256 {
         let wanted = if offset <= i && i < end {
@@ -27,7 +26,7 @@ fn fill_is_plain(rt: &impl Abort, before: &[u8; 32], offset: usize, len: usize, 
 fn map_is_plain(rt: &impl Abort, before: &[u8; 32], offset: usize, len: usize) {
     let mut after = *before;
     let end = offset.saturating_add(len);
-    assert!(rt; end <= 256);
+    holds(rt, end <= 256);
     map_words(&mut after, offset, end - offset);
     for i in 0..256 {
         let inside = offset <= i && i < end;
@@ -36,49 +35,49 @@ fn map_is_plain(rt: &impl Abort, before: &[u8; 32], offset: usize, len: usize) {
     }
 }
 
-/// What a window of other bytes does to one.
-#[derive(Clone, Copy, Debug)]
-enum Combined {
-    Copied,
-    Zipped(BitOp),
-}
+/// How a window of other bytes is put into one: by an operation, or copied where there is none.
+type Combined = Option<BitOp>;
 
 const COMBINED: [Combined; 5] = [
-    Combined::Copied,
-    Combined::Zipped(BitOp::And),
-    Combined::Zipped(BitOp::Or),
-    Combined::Zipped(BitOp::Xor),
-    Combined::Zipped(BitOp::AndNot),
+    None,
+    Some(BitOp::And),
+    Some(BitOp::Or),
+    Some(BitOp::Xor),
+    Some(BitOp::AndNot),
 ];
 
-impl Combined {
-    fn bit(self, left: bool, right: bool) -> bool {
-        match self {
-            Combined::Copied => right,
-            Combined::Zipped(BitOp::And) => left && right,
-            Combined::Zipped(BitOp::Or) => left || right,
-            Combined::Zipped(BitOp::Xor) => left != right,
-            Combined::Zipped(BitOp::AndNot) => left && !right,
-        }
+fn combined_bit(how: Combined, left: bool, right: bool) -> bool {
+    match how {
+        None => right,
+        Some(BitOp::And) => left && right,
+        Some(BitOp::Or) => left || right,
+        Some(BitOp::Xor) => left != right,
+        Some(BitOp::AndNot) => left && !right,
     }
 }
 
 /// Where a window begins that is written, where one that is read, and how long both are.
 type Windows = (usize, usize, usize);
 
-fn combined_is_plain(rt: &impl Abort, left: &[u8; 32], how: Combined, (d, s, len): Windows) {
-    let right = left.map(|byte| byte.rotate_left(3));
+fn combined_is_plain(
+    rt: &impl Abort,
+    left: &[u8; 32],
+    right: &[u8; 32],
+    how: Combined,
+    (d, s, len): Windows,
+) {
     let mut after = *left;
-    assert!(rt; d <= 16 && s <= 16 && len <= 200);
+    holds(rt, d <= 16);
+    holds(rt, s <= 16);
+    holds(rt, len <= 200);
     match how {
-        Combined::Copied => copy_bits(&mut after, d, &right, s, len),
-        Combined::Zipped(op) => zip_words(&mut after, d, &right, s, len, op),
+        None => copy_bits(&mut after, d, right, s, len),
+        Some(op) => zip_words(&mut after, d, right, s, len, op),
     }
     for i in 0..256 {
         let old = get_bit(left, i);
-        let inside = d <= i && i < d + len;
-        let wanted = if inside {
-            how.bit(old, get_bit(&right, s + i - d))
+        let wanted = if d <= i && i < d + len {
+            combined_bit(how, old, get_bit(right, s + i - d))
         } else {
             old
         };
@@ -87,25 +86,37 @@ fn combined_is_plain(rt: &impl Abort, left: &[u8; 32], how: Combined, (d, s, len
 }
 
 #[test]
-fn edits_are_plain(rt: HostRuntime) -> Result<(), AllocError> {
-    let mixed = sample::mixed_bytes(rt.alloc(), 32)?;
-    let mut bytes = [0; 32];
-    let same_len = mixed.len() == 32;
-    assert!(rt; same_len);
-    bytes.copy_from_slice(&mixed);
+fn edits_are_plain(rt: HostRuntime) {
+    let bytes = &mut [0; 32];
+    mix(bytes);
     for offset in OFFSETS {
         for len in LENS {
-            fill_is_plain(&rt, &bytes, offset, len, true);
-            fill_is_plain(&rt, &bytes, offset, len, false);
-            map_is_plain(&rt, &bytes, offset, len);
-            for source in OFFSETS {
-                for how in COMBINED {
-                    combined_is_plain(&rt, &bytes, how, (offset, source, len));
-                }
-            }
+            fill_is_plain(&rt, bytes, offset, len, true);
+            fill_is_plain(&rt, bytes, offset, len, false);
+            map_is_plain(&rt, bytes, offset, len);
         }
     }
-    Ok(())
+}
+
+/// Each way to combine two windows of these lengths.
+fn combined_are_plain(rt: &impl Abort, left: &[u8; 32], right: &[u8; 32], d: usize, s: usize) {
+    for len in LENS {
+        for how in COMBINED {
+            combined_is_plain(rt, left, right, how, (d, s, len));
+        }
+    }
+}
+
+#[test]
+fn combined_windows_are_plain(rt: HostRuntime) {
+    let left = &mut [0; 32];
+    mix(left);
+    let right = &left.map(|byte| byte.rotate_left(3));
+    for d in OFFSETS {
+        for s in OFFSETS {
+            combined_are_plain(&rt, left, right, d, s);
+        }
+    }
 }
 
 #[test]

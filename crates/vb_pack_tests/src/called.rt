@@ -3,9 +3,9 @@
 //! A closure notes the places at which it is called in one number, so that each place and their
 //! order count.
 use crate::compared::{equal, shows};
+use crate::made::{part, scattered, thirds};
 use std::alloc::Allocator;
 use std::process::Abort;
-use std::test::Fail;
 use vb_set::{BitBuffer, Result};
 
 /// The number `noted` with one place more.
@@ -16,29 +16,21 @@ fn note(noted: u64, place: usize) -> u64 {
         .wrapping_add(1)
 }
 
-/// The true places, the false places, and each place with its bit.
-#[derive(Clone, Copy, Debug, PartialEq)]
-struct Notes {
-    set: u64,
-    unset: u64,
-    bits: u64,
-}
+/// What was noted of the true places, of the false places, and of each place with its bit.
+type Notes = (u64, u64, u64);
 
-fn notes_of_loop<A: Allocator + Clone>(set: &BitBuffer<A>) -> Notes {
-    let mut notes = Notes {
-        set: 0,
-        unset: 0,
-        bits: 0,
-    };
-    for (i, bit) in set.iter().enumerate() {
+fn notes_of_loop<A: Allocator + Clone>(source: &BitBuffer<A>) -> Notes {
+    let (mut set, mut unset, mut bits) = (0, 0, 0);
+    for i in 0..source.len() {
+        let bit = source.value(i);
         if bit {
-            notes.set = note(notes.set, i);
+            set = note(set, i);
         } else {
-            notes.unset = note(notes.unset, i);
+            unset = note(unset, i);
         }
-        notes.bits = note(note(notes.bits, i), usize::from(bit));
+        bits = note(note(bits, i), usize::from(bit));
     }
-    notes
+    (set, unset, bits)
 }
 
 #[tactic(auto, using(vb_pack::proofs::AnswersLemmas::CanAsk_always))]
@@ -49,78 +41,76 @@ fn notes_of_calls<A: Allocator + Clone>(source: &BitBuffer<A>) -> Notes {
     source.for_each_unset_index(&mut |i| unset = note(unset, i));
     let mut bits = 0;
     source.iter_bits(&mut |i, bit| bits = note(note(bits, i), usize::from(bit)));
-    Notes { set, unset, bits }
+    (set, unset, bits)
 }
 
-/// The places whose bit is true exactly where the place is even.
-fn notes_of_even<A: Allocator + Clone>(set: &BitBuffer<A>) -> u64 {
-    let mut noted = 0;
-    for (i, bit) in set.iter().enumerate() {
-        if bit == (i % 2 == 0) {
-            noted = note(noted, i);
-        }
-    }
-    noted
-}
-
+/// The bits that say of each place whether it is even exactly where its bit is true, and how often
+/// the closure was asked.
 #[tactic(auto, using(vb_pack::proofs::AnswersLemmas::CanAsk_always))]
-fn calls_are_plain<A: Allocator + Clone>(rt: &impl Abort, set: &BitBuffer<A>) -> Result<()> {
-    equal(rt, notes_of_calls(set), notes_of_loop(set));
-    let even = set.map_cmp(&mut |i, bit| bit == (i % 2 == 0))?;
-    equal(rt, even.len(), set.len());
-    equal(rt, notes_of_loop(&even).set, notes_of_even(set));
-    Ok(())
-}
-
-#[test]
-#[tactic(auto, using(vb_pack::proofs::AnswersLemmas::CanAsk_always))]
-fn places_and_bits_in_order(rt: HostRuntime) -> Result<(), Fail> {
-    let set = BitBuffer::collect_bool(rt.alloc(), 200, &mut |i| i % 3 == 0 || i % 7 == 2)?;
-    for (start, end) in [
-        (0usize, 200usize),
-        (0, 0),
-        (0, 64),
-        (3, 64),
-        (5, 69),
-        (7, 137),
-    ] {
-        calls_are_plain(&rt, &set.slice(start..end)?)?;
-    }
-    Ok(())
-}
-
-#[test]
-#[tactic(auto, using(vb_pack::proofs::AnswersLemmas::CanAsk_always))]
-fn mapped_with_places(rt: HostRuntime) -> Result<(), Fail> {
-    let set = BitBuffer::collect_bool(rt.alloc(), 20, &mut |i| i % 3 == 0)?;
-    let mut asked = 0u32;
-    let even = set.slice(5..17)?.map_cmp(&mut |i, bit| {
+fn mapped<A: Allocator + Clone>(rt: &impl Abort, set: &BitBuffer<A>) -> (BitBuffer<A>, usize) {
+    let mut asked = 0usize;
+    let even = set.map_cmp(&mut |i, bit| {
         asked = asked.wrapping_add(1);
         bit == (i % 2 == 0)
-    })?;
-    equal(&rt, asked, 12);
-    shows(&rt, &even, "000111000111");
-    Ok(())
+    });
+    (even.expect(rt, "memory"), asked)
+}
+
+fn mapped_is_plain<A: Allocator + Clone>(rt: &impl Abort, set: &BitBuffer<A>) {
+    let (even, asked) = mapped(rt, set);
+    equal(rt, even.len(), set.len());
+    equal(rt, asked, set.len());
+    for i in 0..set.len().min(even.len()) {
+        equal(rt, even.value(i), set.value(i) == (i % 2 == 0));
+    }
+    drop(even);
+}
+
+/// Parts of the set, which begin and end in bytes and words or at their ends.
+const PARTS: [(usize, usize); 6] = [(0, 200), (0, 0), (0, 64), (3, 64), (5, 69), (7, 137)];
+
+#[test]
+fn places_and_bits_in_order(rt: HostRuntime) {
+    let set = scattered(rt.alloc()).expect(&rt, "memory");
+    for (start, end) in PARTS {
+        let part = part(&rt, &set, start, end);
+        equal(&rt, notes_of_calls(&part), notes_of_loop(&part));
+        mapped_is_plain(&rt, &part);
+        drop(part);
+    }
+    drop(set);
+}
+
+fn mapped_part<A: Allocator + Clone>(rt: &impl Abort, made: Result<BitBuffer<A>>) {
+    let set = made.expect(rt, "memory");
+    let part = part(rt, &set, 5, 17);
+    let (even, asked) = mapped(rt, &part);
+    equal(rt, asked, 12);
+    shows(rt, &even, "000111000111");
+    drop((set, part, even));
 }
 
 #[test]
+fn mapped_with_places(rt: HostRuntime) {
+    mapped_part(&rt, thirds(rt.alloc(), 20));
+}
+
+/// What a walk over the true places answers that ends at place `last`, and the places as digits.
 #[tactic(auto, using(vb_pack::proofs::AnswersLemmas::CanAsk_always))]
-fn the_first_error_is_answered(rt: HostRuntime) -> Result<(), Fail> {
+fn walk_to<A: Allocator + Clone>(set: &BitBuffer<A>, last: usize) -> (Result<(), usize>, usize) {
+    let mut asked = 0usize;
+    let answer = set.try_for_each_set_index(&mut |i| {
+        asked = asked.wrapping_mul(10).wrapping_add(i);
+        if i == last { Err(i) } else { Ok(()) }
+    });
+    (answer, asked)
+}
+
+#[test]
+fn the_first_error_is_answered(rt: HostRuntime) {
     let bools = [false, true, true, false, true, true, true];
-    let set = BitBuffer::from_bools(rt.alloc(), &bools)?;
-    let mut asked = 0usize;
-    let refused = set.try_for_each_set_index(&mut |i| {
-        asked = asked.wrapping_mul(10).wrapping_add(i);
-        if i == 4 { Err(i) } else { Ok(()) }
-    });
-    equal(&rt, refused, Err(4));
-    equal(&rt, asked, 124);
-    let mut asked = 0usize;
-    let refused: Result<(), usize> = set.try_for_each_set_index(&mut |i| {
-        asked = asked.wrapping_mul(10).wrapping_add(i);
-        Ok(())
-    });
-    equal(&rt, refused, Ok(()));
-    equal(&rt, asked, 12456);
-    Ok(())
+    let set = BitBuffer::from_bools(rt.alloc(), &bools).expect(&rt, "memory");
+    equal(&rt, walk_to(&set, 4), (Err(4), 124));
+    equal(&rt, walk_to(&set, 7), (Ok(()), 12456));
+    drop(set);
 }

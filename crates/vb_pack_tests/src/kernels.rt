@@ -1,4 +1,6 @@
 //! Worked rows of the kernels.
+ghost use Rattle.std.specs.Prelude.{◌≤◌};
+
 use crate::compared::equal;
 use vb_pack::{
     collect_bool_bytes, collect_bool_word, collect_bool_word_scalar, collect_bool_words,
@@ -16,14 +18,21 @@ fn packs_of_thirds(rt: HostRuntime) {
     equal(&rt, pack_bool_word_lanes(&bools), 0x9249_2492_4924_9249);
 }
 
-#[test]
+/// A word of so many places, each true where it has no bit of the mask; by both kernels.
 #[tactic(auto, using(vb_pack::proofs::AnswersLemmas::CanAsk_always))]
+fn words(len: usize, mask: usize) -> (u64, u64)
+    requires { len ≤ 64 }
+{
+    let word = collect_bool_word(len, &mut |i| i & mask == 0);
+    let scalar = collect_bool_word_scalar(len, &mut |i| i & mask == 0);
+    (word, scalar)
+}
+
+#[test]
 fn words_of_even_places(rt: HostRuntime) {
-    equal(&rt, collect_bool_word(5, &mut |i| i % 2 == 0), 21);
-    equal(&rt, collect_bool_word(0, &mut |_| true), 0);
-    equal(&rt, collect_bool_word(64, &mut |_| true), u64::MAX);
-    equal(&rt, collect_bool_word_scalar(5, &mut |i| i % 2 == 0), 21);
-    equal(&rt, collect_bool_word_scalar(64, &mut |_| true), u64::MAX);
+    equal(&rt, words(5, 1), (21, 21));
+    equal(&rt, words(0, 0), (0, 0));
+    equal(&rt, words(64, 0), (u64::MAX, u64::MAX));
 }
 
 #[test]
@@ -50,13 +59,10 @@ fn bytes_of_even_places(rt: HostRuntime) {
             i % 2 == 0
         },
     );
-    equal(
-        &rt,
-        bytes,
-        [
-            0x55, 0x55, 0x55, 0x55, 0x55, 0x55, 0x55, 0x55, 0x55, 0x15, 0xFF,
-        ],
-    );
+    let wanted = [
+        0x55, 0x55, 0x55, 0x55, 0x55, 0x55, 0x55, 0x55, 0x55, 0x15, 0xFF,
+    ];
+    equal(&rt, bytes, wanted);
     equal(&rt, asked, 77);
 }
 

@@ -10,6 +10,8 @@ mod compared;
 #[cfg(test)]
 mod kernels;
 #[cfg(test)]
+mod made;
+#[cfg(test)]
 mod memory;
 #[cfg(test)]
 mod sets;

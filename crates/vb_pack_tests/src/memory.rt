@@ -1,11 +1,10 @@
 //! Calls that make a set of truth values: each of their requests for memory refused in turn, and
 //! that no closure is asked where one is.
-use crate::compared::shows;
+use crate::compared::{equal, shows};
 use std::alloc::Allocator;
 use std::process::Abort;
-use std::test::Fail;
 use vb_set::{BitBuffer, BitBufferMut, BufferError, Result};
-use vb_testing::{Handle, answers_refusal, each_refused};
+use vb_testing::{Handle, Refusing};
 
 /// A call that makes a set.
 enum Call {
@@ -26,23 +25,31 @@ impl Call {
         match self {
             Call::Collect => collected(alloc),
             Call::CollectShared => collected_shared(alloc),
-            Call::FromBools => BitBufferMut::from_bools(alloc, &[false, true])?.freeze(),
-            Call::FromBoolsShared => BitBuffer::from_bools(alloc, &[false, true]),
-            Call::FromBoolVec => {
-                let bools = [false, true].to_vec(alloc.clone()?)?;
-                BitBufferMut::from_bool_vec(alloc, bools)?.freeze()
-            }
-            Call::FromBoolVecShared => {
-                let bools = [false, true].to_vec(alloc.clone()?)?;
-                BitBuffer::from_bool_vec(alloc, bools)
-            }
-            Call::FromTruthy => BitBufferMut::from_truthy(alloc, &[0, 1, 2, 255])?.freeze(),
-            Call::FromIter => {
-                BitBufferMut::from_iter(alloc, (0..3u32).map(|i| i == 1))?.freeze()
-            }
+            Call::FromBools => shared(BitBufferMut::from_bools(alloc, BOOLS)),
+            Call::FromBoolsShared => BitBuffer::from_bools(alloc, BOOLS),
+            Call::FromBoolVec => of_vec(alloc, false),
+            Call::FromBoolVecShared => of_vec(alloc, true),
+            Call::FromTruthy => shared(BitBufferMut::from_truthy(alloc, &[0, 1, 2, 255])),
+            Call::FromIter => { shared(BitBufferMut::from_iter(alloc, (0..3u32).map(|i| i == 1))) }
             Call::FromIterShared => BitBuffer::from_iter(alloc, (0..3u32).map(|i| i == 1)),
             Call::MapCmp => mapped(alloc),
         }
+    }
+}
+
+const BOOLS: &[bool] = &[false, true];
+
+fn shared<A: Allocator + Clone>(made: Result<BitBufferMut<A>>) -> Result<BitBuffer<A>> {
+    made?.freeze()
+}
+
+/// A set of a vector of bools, made to be shared or to be edited.
+fn of_vec<A: Allocator + Clone>(alloc: A, is_shared: bool) -> Result<BitBuffer<A>> {
+    let bools = BOOLS.to_vec(alloc.clone()?)?;
+    if is_shared {
+        BitBuffer::from_bool_vec(alloc, bools)
+    } else {
+        shared(BitBufferMut::from_bool_vec(alloc, bools))
     }
 }
 
@@ -58,10 +65,7 @@ fn collected<A: Allocator + Clone>(alloc: A) -> Result<BitBuffer<A>> {
             i % 2 == 1
         },
     );
-    match made {
-        Ok(set) => set.freeze(),
-        Err(error) => refused_unasked(error, asked),
-    }
+    shared(unasked(made, asked))
 }
 
 /// The same of a shared set.
@@ -76,10 +80,7 @@ fn collected_shared<A: Allocator + Clone>(alloc: A) -> Result<BitBuffer<A>> {
             i % 2 == 1
         },
     );
-    match made {
-        Ok(set) => Ok(set),
-        Err(error) => refused_unasked(error, asked),
-    }
+    unasked(made, asked)
 }
 
 /// Four bits, each true where the bit that it was asked with is true exactly at an even place.
@@ -91,19 +92,17 @@ fn mapped<A: Allocator + Clone>(alloc: A) -> Result<BitBuffer<A>> {
         asked = asked.wrapping_add(1);
         bit == (i % 2 == 0)
     });
-    match made {
-        Ok(set) => Ok(set),
-        Err(error) => refused_unasked(error, asked),
-    }
+    unasked(made, asked)
 }
 
-/// The refusal, where nothing was asked; else another one, which no call here answers.
-fn refused_unasked<T>(error: BufferError, asked: u32) -> Result<T> {
-    if asked == 0 {
-        Err(error)
+/// What was made, or the refusal, where nothing was asked; else another one, which no call here
+/// answers.
+fn unasked<S>(made: Result<S>, asked: u32) -> Result<S> {
+    made.map_err(|error| if asked == 0 {
+        error
     } else {
-        Err(BufferError::NotAligned)
-    }
+        BufferError::NotAligned
+    })
 }
 
 /// The calls, each with the bits that it makes, and how many requests it makes at least.
@@ -120,23 +119,28 @@ const ROWS: &[(Call, &str, u64)] = &[
     (Call::MapCmp, "1100", 4),
 ];
 
+/// The set that was made has these bits; or the refusal is passed on.
 fn makes<A: Allocator + Clone>(
     rt: &impl Abort,
     made: Result<BitBuffer<A>>,
     bits: &str,
 ) -> Result<()> {
-    shows(rt, &made?, bits);
+    let set = made?;
+    shows(rt, &set, bits);
+    drop(set);
     Ok(())
 }
 
+const REFUSED: Result<()> = Err(BufferError::OutOfMemory);
+
 #[test]
-fn sets_are_made_or_refused(rt: HostRuntime) -> Result<(), Fail> {
+fn sets_are_made_or_refused(rt: HostRuntime) {
+    let heap = &Refusing::new(rt.alloc(), 0);
     for (call, bits, least) in ROWS {
-        let requests = each_refused(rt.alloc(), |heap| {
+        for _ in heap.in_turn() {
             let answer = makes(&rt, call.make(Handle { inner: heap }), bits);
-            answers_refusal(heap, answer, BufferError::OutOfMemory)
-        })?;
-        assert!(rt; requests >= Some(*least));
+            equal(&rt, answer, heap.wanted(Ok(()), REFUSED));
+        }
+        equal(&rt, heap.has_ended(*least), true);
     }
-    Ok(())
 }

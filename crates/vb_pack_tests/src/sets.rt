@@ -1,102 +1,118 @@
 //! Worked rows of sets.
-use crate::compared::{equal, equal_lists, shows};
-use std::test::Fail;
-use vb_set::{BitBuffer, BitBufferMut};
+use crate::compared::{equal, packs, packs_open, shows};
+use crate::made::{part, thirds};
+use std::alloc::Allocator;
+use std::process::Abort;
+use vb_set::{BitBuffer, BitBufferMut, Result};
 
 #[test]
-fn truthy(rt: HostRuntime) -> Result<(), Fail> {
-    let set = BitBufferMut::from_truthy(rt.alloc(), &[0, 1, 2, 255])?;
-    equal(&rt, set.len(), 4);
-    equal_lists(&rt, set.as_slice(), &[0b1110]);
-    drop(set);
-    Ok(())
+fn truthy(rt: HostRuntime) {
+    let made = BitBufferMut::from_truthy(rt.alloc(), &[0, 1, 2, 255]);
+    packs_open(&rt, made, 4, &[0b1110]);
 }
 
 #[test]
-fn bools(rt: HostRuntime) -> Result<(), Fail> {
-    let set = BitBufferMut::from_bools(rt.alloc(), &[true, false, true])?;
-    equal_lists(&rt, set.as_slice(), &[0b101]);
-    drop(set);
-    let set = BitBuffer::from_bools(rt.alloc(), &[true, false, true])?;
-    equal_lists(&rt, set.inner().as_slice(), &[0b101]);
-    drop(set);
-    Ok(())
+fn bools(rt: HostRuntime) {
+    let bools = &[true, false, true];
+    packs_open(
+        &rt,
+        BitBufferMut::from_bools(rt.alloc(), bools),
+        3,
+        &[0b101],
+    );
+    packs(&rt, BitBuffer::from_bools(rt.alloc(), bools), 3, &[0b101]);
 }
 
 #[test]
-fn vectors_of_bools(rt: HostRuntime) -> Result<(), Fail> {
-    let set = BitBufferMut::from_bool_vec(rt.alloc(), [true, true].to_vec(rt.alloc())?)?;
-    equal_lists(&rt, set.as_slice(), &[0b11]);
-    drop(set);
-    let set = BitBuffer::from_bool_vec(rt.alloc(), [true, true].to_vec(rt.alloc())?)?;
-    equal_lists(&rt, set.inner().as_slice(), &[0b11]);
-    drop(set);
-    Ok(())
+fn vectors_of_bools(rt: HostRuntime) {
+    let bools = Vec::from_elem(rt.alloc(), true, 2).expect(&rt, "memory");
+    packs_open(
+        &rt,
+        BitBufferMut::from_bool_vec(rt.alloc(), bools),
+        2,
+        &[0b11],
+    );
+    let bools = Vec::from_elem(rt.alloc(), true, 2).expect(&rt, "memory");
+    packs(&rt, BitBuffer::from_bool_vec(rt.alloc(), bools), 2, &[0b11]);
 }
 
-#[test]
-#[tactic(auto, using(vb_pack::proofs::AnswersLemmas::CanAsk_always))]
-fn thirds_sliced(rt: HostRuntime) {
-    let set = BitBuffer::collect_bool(rt.alloc(), 20, &mut |i| i % 3 == 0).expect(&rt, "memory");
-    equal_lists(&rt, set.inner().as_slice(), &[0x49, 0x92, 0x04]);
-    let part = set.slice(5..17).expect(&rt, "memory");
-    shows(&rt, &part, "010010010010");
+fn shows_thirds<A: Allocator + Clone>(rt: &impl Abort, made: Result<BitBuffer<A>>) {
+    let set = made.expect(rt, "memory");
+    equal(rt, set.inner().as_slice(), &[0x49, 0x92, 0x04]);
+    let part = part(rt, &set, 5, 17);
+    shows(rt, &part, "010010010010");
     drop((set, part));
 }
 
 #[test]
+fn thirds_sliced(rt: HostRuntime) {
+    shows_thirds(&rt, thirds(rt.alloc(), 20));
+}
+
+/// Bits that are true at even places, and whether their closure was asked once for each.
 #[tactic(auto, using(vb_pack::proofs::AnswersLemmas::CanAsk_always))]
-fn a_closure_that_changes(rt: HostRuntime) -> Result<(), Fail> {
-    let mut asked = 0u32;
-    let set = BitBufferMut::collect_bool_multiversioned(
-        rt.alloc(),
+fn alternating<A: Allocator + Clone>(rt: &impl Abort, alloc: A) -> BitBufferMut<A> {
+    let mut asked = 0usize;
+    let made = BitBufferMut::collect_bool_multiversioned(
+        alloc,
         130,
         &mut |_| {
             asked = asked.wrapping_add(1);
             asked % 2 == 1
         },
-    )?;
-    equal(&rt, asked, 130);
-    equal(&rt, set.len(), 130);
-    equal(
-        &rt,
-        set.as_view().set_indices().eq((0..65).map(|i| 2 * i)),
-        true,
     );
-    Ok(())
+    equal(rt, asked, 130);
+    made.expect(rt, "memory")
+}
+
+#[test]
+fn a_closure_that_changes(rt: HostRuntime) {
+    let set = alternating(&rt, rt.alloc());
+    equal(&rt, set.len(), 130);
+    for i in 0..set.len() {
+        equal(&rt, set.value(i), i % 2 == 0);
+    }
+    drop(set);
+}
+
+/// How many bits the set has, and how many of them are true.
+fn counted<A: Allocator + Clone>(rt: &impl Abort, made: Result<BitBuffer<A>>) -> (usize, usize) {
+    let set = made.expect(rt, "memory");
+    let counts = (set.len(), set.true_count());
+    drop(set);
+    counts
 }
 
 #[test]
 fn no_size_hint_is_relied_on(rt: HostRuntime) {
     let three = (0..usize::MAX).take_while(|number| *number < 3);
     equal(&rt, three.size_hint(), (0, Some(usize::MAX)));
-    let set = BitBufferMut::from_iter(rt.alloc(), three.map(|number| number == 1))
-        .expect(&rt, "memory")
-        .freeze()
-        .expect(&rt, "memory");
-    shows(&rt, &set, "010");
-    drop(set);
+    let made = BitBufferMut::from_iter(rt.alloc(), three.map(|number| number == 1));
+    packs_open(&rt, made, 3, &[0b010]);
     let thousand = (0u32..).take_while(|number| *number < 1000);
     equal(&rt, thousand.size_hint(), (0, None));
-    let set = BitBuffer::from_iter(rt.alloc(), thousand.map(|number| number % 2 == 0)).expect(
-        &rt, "memory",
-    );
-    equal(&rt, (set.len(), set.true_count()), (1000, 500));
+    let made = BitBuffer::from_iter(rt.alloc(), thousand.map(|number| number % 2 == 0));
+    equal(&rt, counted(&rt, made), (1000, 500));
+}
+
+/// Lengths about those of words.
+const LENS: [usize; 9] = [0, 1, 63, 64, 65, 127, 128, 129, 200];
+
+fn thirds_are_true<A: Allocator + Clone>(rt: &impl Abort, made: Result<BitBuffer<A>>, len: usize) {
+    let set = made.expect(rt, "memory");
+    equal(rt, set.len(), len);
+    equal(rt, set.inner().len(), len.div_ceil(8));
+    for i in 0..set.len() {
+        equal(rt, set.value(i), i % 3 == 0);
+    }
     drop(set);
 }
 
 #[test]
-#[tactic(auto, using(vb_pack::proofs::AnswersLemmas::CanAsk_always))]
 fn items_are_packed_by_64(rt: HostRuntime) {
-    for len in [0usize, 1, 63, 64, 65, 127, 128, 129, 200] {
-        let set = BitBuffer::from_iter(rt.alloc(), (0..len).map(|i| i % 3 == 1)).expect(
-            &rt, "memory",
-        );
-        let asked = BitBuffer::collect_bool(rt.alloc(), len, &mut |i| i % 3 == 1).expect(
-            &rt, "memory",
-        );
-        equal(&rt, set.inner().len(), len.div_ceil(8));
-        equal(&rt, set == asked, true);
-        drop((set, asked));
+    for len in LENS {
+        let items = (0..len).map(|i| i % 3 == 0);
+        thirds_are_true(&rt, BitBuffer::from_iter(rt.alloc(), items), len);
+        thirds_are_true(&rt, thirds(rt.alloc(), len), len);
     }
 }

@@ -1,114 +1,127 @@
 //! Sets added to sets: worked rows, growth, and what stands after a refusal.
-use crate::compared::{answers, equal};
+use crate::compared::{REFUSED, answers, equal, holds};
 use crate::made::bits;
 use std::alloc::Allocator;
 use std::process::Abort;
-use std::test::Fail;
-use vb_set::{BitBuffer, BitBufferMut, BufferError, ByteBufferMut, Result};
+use vb_set::{BitBuffer, BitBufferMut, ByteBufferMut, Result};
 use vb_testing::{Handle, Refusing};
 
+/// The set with the other one behind it.
+fn joined<A: Allocator + Clone>(
+    rt: &impl Abort,
+    mut set: BitBufferMut<A>,
+    added: BitBuffer<A>,
+) -> Result<BitBuffer<A>> {
+    set.append_buffer(&added).expect(rt, "room");
+    drop(added);
+    set.freeze()
+}
+
 #[test]
-fn false_bits_behind_true_ones(rt: HostRuntime) -> Result<(), Fail> {
-    let mut set = !BitBufferMut::new_unset(rt.alloc(), 4)?;
-    set.append_buffer(&BitBuffer::new_unset(rt.alloc(), 3)?)?;
-    answers(&rt, set.freeze(), Ok("1111000"));
-    Ok(())
+fn false_bits_behind_true_ones(rt: HostRuntime) {
+    let set = !BitBufferMut::new_unset(rt.alloc(), 4).expect(&rt, "a set");
+    let added = BitBuffer::new_unset(rt.alloc(), 3).expect(&rt, "a set");
+    answers(&rt, joined(&rt, set, added), Ok("1111000"));
 }
 
 /// Bits past the end that were left true don't show.
 #[test]
-fn stale_bits_are_written_over(rt: HostRuntime) -> Result<(), Fail> {
+fn stale_bits_are_written_over(rt: HostRuntime) {
     for (kept, wanted) in [(8, "1111111101001"), (2, "1101001")] {
-        let mut set = BitBufferMut::new_set(rt.alloc(), 16)?;
+        let mut set = BitBufferMut::new_set(rt.alloc(), 16).expect(&rt, "a set");
         set.truncate(kept);
-        set.append_buffer(&bits(rt.alloc(), "01001")?)?;
-        answers(&rt, set.freeze(), Ok(wanted));
+        let added = bits(&rt, rt.alloc(), "01001");
+        answers(&rt, joined(&rt, set, added), Ok(wanted));
     }
-    Ok(())
 }
 
 /// A set behind eleven bits, whose room is full of false bits, as all its bytes are.
 fn full_of_false<A: Allocator + Clone>(rt: &impl Abort, alloc: A) -> Result<BitBufferMut<A>> {
     let bytes = ByteBufferMut::full(alloc, 0, 3)?;
-    assert!(rt; bytes.len() == 3);
+    holds(rt, bytes.len() == 3);
     let mut set = BitBufferMut::from_buffer(bytes, 11, 9);
     set.append_n(false, set.capacity() - set.len())
         .expect(rt, "room");
     Ok(set)
 }
 
-/// Whether no bit of the bytes is true.
-fn is_clear(bytes: &[u8]) -> bool {
-    bytes.iter().all(|byte| *byte == 0)
+/// Adds a set of true bits to one whose room is full of false ones. A refusal leaves the set, its
+/// bytes and its room.
+fn add<A: Allocator + Clone>(
+    rt: &impl Abort,
+    set: &mut BitBufferMut<A>,
+    added: &BitBuffer<A>,
+) -> Result<()> {
+    let (len, room, bytes) = (set.len(), set.capacity(), set.as_slice().len());
+    let answer = set.append_buffer(added);
+    let longer = if answer.is_ok() { added.len() } else { 0 };
+    equal(rt, set.len(), len.saturating_add(longer));
+    equal(rt, set.as_view().true_count(), longer);
+    if answer.is_err() {
+        equal(rt, set.offset(), 11);
+        equal(rt, set.capacity(), room);
+        equal(rt, set.as_slice().len(), bytes);
+        is_clear(rt, set.as_slice());
+    }
+    answer
 }
 
-/// Adds a set of a hundred true bits to one whose room is full of false ones. A refusal leaves the
-/// set, its bytes and its room.
+/// No bit of the bytes is true.
+fn is_clear(rt: &impl Abort, bytes: &[u8]) {
+    for byte in bytes {
+        equal(rt, *byte, 0);
+    }
+}
+
 fn add_to_full<A: Allocator + Clone>(rt: &impl Abort, alloc: A) -> Result<()> {
     let mut set = full_of_false(rt, alloc.clone()?)?;
-    let (len, room) = (set.len(), set.capacity());
-    let bytes = set.as_slice().len();
-    let added = match BitBuffer::new_set(alloc, 100) {
-        Ok(added) => added,
+    match BitBuffer::new_set(alloc, 100) {
+        Ok(added) => {
+            let answer = add(rt, &mut set, &added);
+            drop((set, added));
+            answer
+        }
         Err(error) => {
             drop(set);
-            return Err(error);
+            Err(error)
         }
-    };
-    let answer = set.append_buffer(&added);
-    let longer = if answer.is_ok() { 100 } else { 0 };
-    equal(
-        rt,
-        (set.len(), set.as_view().true_count()),
-        (len.saturating_add(longer), longer),
-    );
-    if answer.is_err() {
-        equal(rt, (set.offset(), set.capacity()), (11, room));
-        equal(
-            rt,
-            (set.as_slice().len(), is_clear(set.as_slice())),
-            (bytes, true),
-        );
     }
-    drop((set, added));
-    answer
 }
 
 #[test]
 fn a_refused_append_leaves_the_set(rt: HostRuntime) {
-    let heap = Refusing::new(rt.alloc(), 0);
+    let heap = &Refusing::new(rt.alloc(), 0);
     for _ in heap.in_turn() {
-        let answer = add_to_full(&rt, Handle { inner: &heap });
-        equal(
-            &rt,
-            answer,
-            heap.wanted(Ok(()), Err(BufferError::OutOfMemory)),
-        );
+        let answer = add_to_full(&rt, Handle { inner: heap });
+        equal(&rt, answer, heap.wanted(Ok(()), REFUSED));
     }
-    assert!(rt; !heap.has_refused() && heap.asked() >= 4);
+    equal(&rt, heap.has_ended(4), true);
 }
 
-/// Adds a set of so many true bits to none, 5000 times.
-fn append_again<A: Allocator + Clone>(rt: &impl Abort, alloc: A, added: BitBuffer<A>) {
+/// Adds a set of true bits to none, 5000 times.
+fn append_again<A: Allocator + Clone>(rt: &impl Abort, alloc: A, added: &BitBuffer<A>) {
     let mut set = BitBufferMut::empty(alloc);
     for _ in 0..5000 {
-        set.append_buffer(&added).expect(rt, "room");
+        set.append_buffer(added).expect(rt, "room");
     }
     let count = added.len().saturating_mul(5000);
-    equal(rt, (set.len(), set.as_view().true_count()), (count, count));
-    drop((set, added));
+    equal(rt, set.len(), count);
+    equal(rt, set.as_view().true_count(), count);
+    drop(set);
 }
 
 /// A body that gives up once the set has grown to some length fails here, and so does one that asks
 /// for room at each call, or for more and more of it.
 #[test]
 fn appends_go_on_while_there_is_memory(rt: HostRuntime) {
-    let heap = Refusing::new(rt.alloc(), 0);
+    let heap = &Refusing::new(rt.alloc(), 0);
     for len in [7, 8] {
-        let added = BitBuffer::new_set(&heap, len).expect(&rt, "a set");
+        let added = BitBuffer::new_set(heap, len).expect(&rt, "a set");
         equal(&rt, added.len(), len);
         heap.refuse(0);
-        append_again(&rt, &heap, added);
-        assert!(rt; heap.asked() <= 20 && heap.asked_bytes() <= 4 * 5000);
+        append_again(&rt, heap, &added);
+        equal(&rt, heap.asked() <= 20, true);
+        equal(&rt, heap.asked_bytes() <= 4 * 5000, true);
+        drop(added);
     }
 }

@@ -1,21 +1,36 @@
 //! Blocks of 64 indices beside a plain loop. Their clauses say all of it; what the compiler makes
 //! of their vectors is seen here.
-use crate::compared::equal;
+use crate::compared::{answers, equal, holds};
 use crate::made::taken;
-use std::alloc::Global;
+use std::alloc::{Allocator, Global};
 use std::process::Abort;
-use std::test::Fail;
-use vb_set::{BitBuffer, BitBufferMut, BitIndex, BufferError, Result};
+use vb_set::{BitBuffer, BitBufferMut, BitBufferView, BitIndex, BufferError};
 
 /// Bits without a pattern.
-fn scattered(alloc: Global, len: usize) -> Result<BitBuffer<Global>> {
+fn scattered<A: Allocator + Clone>(rt: &impl Abort, alloc: A, len: usize) -> BitBuffer<A> {
     let mut set = BitBufferMut::empty(alloc);
     let mut state = 1u32;
     for _ in 0..len {
         state = state.wrapping_mul(1_664_525).wrapping_add(1_013_904_223);
-        set.append(state >> 31 == 1)?;
+        set.append(state >> 31 == 1).expect(rt, "room");
     }
-    set.freeze()
+    set.freeze().expect(rt, "memory")
+}
+
+/// The bit at a place; false where there is none.
+fn bit_at(bits: BitBufferView<'_>, place: Option<usize>) -> bool {
+    match place {
+        Some(place) => place < bits.len() && bits.value(place),
+        None => false,
+    }
+}
+
+/// Whether the position counts.
+fn counts(validity: Option<BitBufferView<'_>>, position: usize) -> bool {
+    match validity {
+        Some(validity) => bit_at(validity, Some(position)),
+        None => true,
+    }
 }
 
 /// Takes at the indices, and compares each bit with that of the set; or each null position with
@@ -23,27 +38,17 @@ fn scattered(alloc: Global, len: usize) -> Result<BitBuffer<Global>> {
 fn beside_a_loop<I: BitIndex>(
     rt: &impl Abort,
     alloc: Global,
-    set: &BitBuffer<Global>,
+    bits: BitBufferView<'_>,
     indices: &[I],
-    validity: Option<&BitBuffer<Global>>,
-) -> Result<()> {
-    let made = taken(
-        alloc,
-        set.as_view(),
-        indices,
-        validity.map(BitBuffer::as_view),
-    )?;
+    validity: Option<BitBufferView<'_>>,
+) {
+    let made = taken(alloc, bits, indices, validity).expect(rt, "a set");
     equal(rt, made.len(), indices.len());
-    for (i, (bit, index)) in made.iter().zip(indices).enumerate() {
-        let counts = validity.is_none_or(|v| i < v.len() && v.value(i));
-        let wanted = match index.place() {
-            Some(place) => counts && place < set.len() && set.value(place),
-            None => false,
-        };
-        equal(rt, bit, wanted);
+    for i in 0..made.len().min(indices.len()) {
+        let wanted = counts(validity, i) && bit_at(bits, indices[i].place());
+        equal(rt, made.value(i), wanted);
     }
     drop(made);
-    Ok(())
 }
 
 fn first<T>(items: &[T], count: usize) -> &[T] {
@@ -51,58 +56,65 @@ fn first<T>(items: &[T], count: usize) -> &[T] {
 }
 
 /// From 5000 bits, without validity and with it.
-fn in_blocks<I: BitIndex>(rt: &impl Abort, alloc: Global, indices: &[I]) -> Result<()> {
-    let set = scattered(alloc, 5000)?;
-    let validity = scattered(alloc, indices.len()).expect(rt, "memory");
-    let plain = beside_a_loop(rt, alloc, &set, indices, None);
-    let masked = beside_a_loop(rt, alloc, &set, indices, Some(&validity));
+fn in_blocks<I: BitIndex>(rt: &impl Abort, alloc: Global, indices: &[I]) {
+    let set = scattered(rt, alloc, 5000);
+    let validity = scattered(rt, alloc, indices.len());
+    beside_a_loop(rt, alloc, set.as_view(), indices, None);
+    beside_a_loop(rt, alloc, set.as_view(), indices, Some(validity.as_view()));
     drop((set, validity));
-    plain?;
-    masked
 }
 
+/// How many indices there are.
+const COUNTS: [usize; 7] = [0, 1, 63, 64, 65, 130, 200];
+
 #[test]
-fn blocks_beside_a_loop(rt: HostRuntime) -> Result<(), Fail> {
+fn blocks_beside_a_loop(rt: HostRuntime) {
     let (mut narrow, mut signed) = ([0u32; 200], [0i64; 200]);
     for k in 0..200u32 {
         narrow[k as usize] = k * 997 % 5000;
         signed[k as usize] = i64::from(k * 131 % 5000);
     }
-    for count in [0, 1, 63, 64, 65, 130, 200] {
-        in_blocks(&rt, rt.alloc(), first(&narrow, count))?;
-        in_blocks(&rt, rt.alloc(), first(&signed, count))?;
+    for count in COUNTS {
+        in_blocks(&rt, rt.alloc(), first(&narrow, count));
+        in_blocks(&rt, rt.alloc(), first(&signed, count));
     }
-    Ok(())
 }
 
 /// Null positions whose indices name no place.
 #[test]
-fn null_positions_are_not_looked_at(rt: HostRuntime) -> Result<(), Fail> {
-    let set = scattered(rt.alloc(), 300)?;
-    let validity = scattered(rt.alloc(), 200).expect(&rt, "memory");
+fn null_positions_are_not_looked_at(rt: HostRuntime) {
+    let set = scattered(&rt, rt.alloc(), 300);
+    let validity = scattered(&rt, rt.alloc(), 200);
     let mut indices = [-7i32; 200];
-    for (index, counts) in indices.iter_mut().zip(validity.iter()) {
-        *index = if counts { 299 } else { -7 };
+    for i in 0..200 {
+        if bit_at(validity.as_view(), Some(i)) {
+            indices[i] = 299;
+        }
     }
-    let ended = beside_a_loop(&rt, rt.alloc(), &set, &indices, Some(&validity));
+    beside_a_loop(
+        &rt,
+        rt.alloc(),
+        set.as_view(),
+        &indices,
+        Some(validity.as_view()),
+    );
     drop((set, validity));
-    Ok(ended?)
 }
 
-/// The first bad position is named, in a block or behind the last one.
+/// Two positions of 132 whose indices are bad, in a block or behind the last one.
+const BAD: [(usize, usize); 5] = [(0, 1), (63, 64), (70, 75), (129, 130), (131, 131)];
+
 #[test]
-fn the_first_bad_position_is_named(rt: HostRuntime) -> Result<(), Fail> {
-    let set = scattered(rt.alloc(), 300)?;
-    for (first, second) in [(0, 1), (63, 64), (70, 75), (129, 130), (131, 131)] {
-        let mut indices = Vec::from_elem(rt.alloc(), 5u64, 132)?;
-        for position in [first, second] {
-            if position < indices.len() {
-                indices[position] = 300;
-            }
-        }
+fn the_first_bad_position_is_named(rt: HostRuntime) {
+    let set = scattered(&rt, rt.alloc(), 300);
+    for (position, later) in BAD {
+        let mut indices = [5u64; 132];
+        holds(&rt, position < 132);
+        holds(&rt, later < 132);
+        indices[position] = 300;
+        indices[later] = 300;
         let made = taken(rt.alloc(), set.as_view(), &indices, None);
-        let refusal = BufferError::TakeOutOfRange { position: first };
-        equal(&rt, made.err(), Some(refusal));
+        answers(&rt, made, Err(BufferError::TakeOutOfRange { position }));
     }
-    Ok(())
+    drop(set);
 }

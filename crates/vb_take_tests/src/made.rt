@@ -1,22 +1,25 @@
 //! Sets to start from, and calls on them. No clause says what they hold, since the proof of a test
 //! would search among these facts at each of its calls.
+use crate::compared::holds;
 use std::alloc::Allocator;
+use std::process::Abort;
 use vb_set::{BitBuffer, BitBufferMut, BitBufferView, BitIndex, BufferError, Result, take_bits};
 
 /// A set of these bits, `1` for a true one, behind three bits that are left out.
-pub(crate) fn bits<A: Allocator + Clone>(alloc: A, digits: &str) -> Result<BitBuffer<A>> {
-    let mut set = BitBufferMut::new_set(alloc, 3)?;
+pub(crate) fn bits<A: Allocator + Clone>(rt: &impl Abort, alloc: A, digits: &str) -> BitBuffer<A> {
+    let mut set = BitBufferMut::new_set(alloc, 3).expect(rt, "a set");
     for digit in digits.bytes() {
-        set.append(digit == b'1')?;
+        set.append(digit == b'1').expect(rt, "room");
     }
-    behind_three(set.freeze()?)
+    behind_three(rt, set.freeze().expect(rt, "memory"))
 }
 
-fn behind_three<A: Allocator + Clone>(set: BitBuffer<A>) -> Result<BitBuffer<A>> {
-    if set.len() < 3 {
-        return Err(BufferError::NotAligned);
-    }
-    set.slice(3..set.len())
+fn behind_three<A: Allocator + Clone>(rt: &impl Abort, set: BitBuffer<A>) -> BitBuffer<A> {
+    let len = set.len();
+    holds(rt, 3 <= len);
+    let part = set.slice(3..len).expect(rt, "memory");
+    drop(set);
+    part
 }
 
 /// [`take_bits`], where the validity is as long as the indices.

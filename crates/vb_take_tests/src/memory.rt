@@ -1,9 +1,9 @@
 //! Calls that make a set: each of their requests for memory refused in turn.
-use crate::compared::{answers, equal};
+use crate::compared::{REFUSED, equal, shows};
 use crate::made::taken;
 use std::alloc::Allocator;
 use std::process::Abort;
-use vb_set::{BitBuffer, BitBufferMut, BufferError, Result};
+use vb_set::{BitBuffer, BitBufferMut, Result};
 use vb_testing::{Handle, Refusing};
 
 /// A call that makes a set.
@@ -17,60 +17,60 @@ enum Call {
 impl Call {
     fn make<A: Allocator + Clone>(&self, alloc: A) -> Result<BitBuffer<A>> {
         match self {
-            Call::Take => take(alloc),
-            Call::TakeValid => take_valid(alloc),
-            Call::Open => BitBufferMut::from_indices(alloc, 4, [1, 3])?.freeze(),
+            Call::Take => take(alloc, &[3, 2, 1, 0], false),
+            Call::TakeValid => take(alloc, &[9, 1, 9, 3], true),
+            Call::Open => open(alloc),
             Call::Shared => BitBuffer::from_indices(alloc, 4, [1, 3]),
         }
     }
 }
 
-/// Takes four bits of four true ones.
-fn take<A: Allocator + Clone>(alloc: A) -> Result<BitBuffer<A>> {
-    let set = BitBuffer::new_set(alloc.clone()?, 4)?;
-    let made = taken(alloc, set.as_view(), &[3u8, 2, 1, 0], None);
+/// Takes at these indices from four bits, which may also say which positions count.
+fn take<A: Allocator + Clone>(alloc: A, indices: &[u8], is_valid: bool) -> Result<BitBuffer<A>> {
+    let set = BitBuffer::from_indices(alloc.clone()?, 4, [1, 3])?;
+    let bits = set.as_view();
+    let made = taken(
+        alloc,
+        bits,
+        indices,
+        if is_valid { Some(bits) } else { None },
+    );
     drop(set);
     made
 }
 
-/// Takes the second and the last of them.
-fn take_valid<A: Allocator + Clone>(alloc: A) -> Result<BitBuffer<A>> {
-    let set = BitBuffer::from_indices(alloc.clone()?, 4, [1, 3])?;
-    let made = taken(alloc, set.as_view(), &[9u8, 1, 9, 3], Some(set.as_view()));
-    drop(set);
-    made
+fn open<A: Allocator + Clone>(alloc: A) -> Result<BitBuffer<A>> {
+    BitBufferMut::from_indices(alloc, 4, [1, 3])?.freeze()
 }
 
 /// The calls, each with the bits that it makes, and how many requests it makes at least.
 const ROWS: &[(Call, &str, u64)] = &[
-    (Call::Take, "1111", 4),
+    (Call::Take, "1010", 4),
     (Call::TakeValid, "0101", 4),
     (Call::Open, "0101", 2),
     (Call::Shared, "0101", 2),
 ];
 
+/// The set that was made has these bits; or the refusal is passed on.
 fn makes<A: Allocator + Clone>(
     rt: &impl Abort,
     made: Result<BitBuffer<A>>,
     bits: &str,
 ) -> Result<()> {
     let set = made?;
-    answers(rt, Ok(set), Ok(bits));
+    shows(rt, &set, bits);
+    drop(set);
     Ok(())
 }
 
 #[test]
 fn sets_are_made_or_refused(rt: HostRuntime) {
-    let heap = Refusing::new(rt.alloc(), 0);
+    let heap = &Refusing::new(rt.alloc(), 0);
     for (call, bits, least) in ROWS {
         for _ in heap.in_turn() {
-            let answer = makes(&rt, call.make(Handle { inner: &heap }), bits);
-            equal(
-                &rt,
-                answer,
-                heap.wanted(Ok(()), Err(BufferError::OutOfMemory)),
-            );
+            let answer = makes(&rt, call.make(Handle { inner: heap }), bits);
+            equal(&rt, answer, heap.wanted(Ok(()), REFUSED));
         }
-        assert!(rt; !heap.has_refused() && heap.asked() >= *least);
+        equal(&rt, heap.has_ended(*least), true);
     }
 }

@@ -1,9 +1,8 @@
 //! Worked rows: what is taken.
 use crate::compared::answers;
 use crate::made::{bits, taken};
-use std::alloc::Global;
-use std::test::Fail;
-use vb_set::{BitBuffer, BufferError, Result};
+use std::alloc::Allocator;
+use vb_set::{BitBuffer, BitBufferView, BufferError, Result};
 
 /// Indices of a type.
 enum Indices {
@@ -15,55 +14,59 @@ enum Indices {
 }
 
 impl Indices {
-    fn take(
+    fn take<A: Allocator + Clone>(
         &self,
-        alloc: Global,
-        set: &BitBuffer<Global>,
-        validity: Option<&BitBuffer<Global>>,
-    ) -> Result<BitBuffer<Global>> {
-        let (from, counts) = (set.as_view(), validity.map(BitBuffer::as_view));
+        alloc: A,
+        bits: BitBufferView<'_>,
+        validity: Option<BitBufferView<'_>>,
+    ) -> Result<BitBuffer<A>> {
         match self {
-            Indices::U8(indices) => taken(alloc, from, indices, counts),
-            Indices::I16(indices) => taken(alloc, from, indices, counts),
-            Indices::U32(indices) => taken(alloc, from, indices, counts),
-            Indices::I64(indices) => taken(alloc, from, indices, counts),
-            Indices::U128(indices) => taken(alloc, from, indices, counts),
+            Indices::U8(indices) => taken(alloc, bits, indices, validity),
+            Indices::I16(indices) => taken(alloc, bits, indices, validity),
+            Indices::U32(indices) => taken(alloc, bits, indices, validity),
+            Indices::I64(indices) => taken(alloc, bits, indices, validity),
+            Indices::U128(indices) => taken(alloc, bits, indices, validity),
         }
     }
 }
 
 const AT_0: Result<&str> = Err(BufferError::TakeOutOfRange { position: 0 });
 
-/// From which bits is taken, at which indices and with which validity, and the answer.
-const TAKEN: &[(&str, Indices, Option<&str>, Result<&str>)] = &[
-    ("1111", Indices::U8(&[9]), None, AT_0),
-    ("1", Indices::I16(&[0, -1]), Some("10"), Ok("10")),
-    ("0101", Indices::I64(&[3, 0, -1]), Some("110"), Ok("100")),
-    (
-        "0101",
-        Indices::I64(&[3, 0, -1]),
-        None,
-        Err(BufferError::TakeOutOfRange { position: 2 }),
-    ),
-    ("", Indices::U8(&[0]), None, AT_0),
-    ("", Indices::U8(&[]), None, Ok("")),
-    ("", Indices::U32(&[7]), Some("0"), Ok("0")),
+const AT_2: Result<&str> = Err(BufferError::TakeOutOfRange { position: 2 });
+
+/// From which bits is taken and at which indices, and the answer.
+const TAKEN: &[(&str, Indices, Result<&str>)] = &[
+    ("1111", Indices::U8(&[9]), AT_0),
+    ("0101", Indices::I64(&[3, 0, -1]), AT_2),
+    ("", Indices::U8(&[0]), AT_0),
+    ("", Indices::U8(&[]), Ok("")),
+];
+
+/// The same with a validity.
+const TAKEN_VALID: &[(&str, Indices, &str, &str)] = &[
+    ("1", Indices::I16(&[0, -1]), "10", "10"),
+    ("0101", Indices::I64(&[3, 0, -1]), "110", "100"),
+    ("", Indices::U32(&[7]), "0", "0"),
 ];
 
 #[test]
-fn bits_are_taken_or_refused(rt: HostRuntime) -> Result<(), Fail> {
-    for (from, indices, validity, wanted) in TAKEN {
-        let set = bits(rt.alloc(), from)?;
-        let made = match validity {
-            Some(digits) => {
-                let counts = bits(rt.alloc(), digits)?;
-                indices.take(rt.alloc(), &set, Some(&counts))
-            }
-            None => indices.take(rt.alloc(), &set, None),
-        };
-        answers(&rt, made, *wanted);
+fn bits_are_taken_or_refused(rt: HostRuntime) {
+    for (from, indices, wanted) in TAKEN {
+        let set = bits(&rt, rt.alloc(), from);
+        answers(&rt, indices.take(rt.alloc(), set.as_view(), None), *wanted);
+        drop(set);
     }
-    Ok(())
+}
+
+#[test]
+fn null_positions_become_false(rt: HostRuntime) {
+    for (from, indices, validity, wanted) in TAKEN_VALID {
+        let set = bits(&rt, rt.alloc(), from);
+        let validity = bits(&rt, rt.alloc(), validity);
+        let made = indices.take(rt.alloc(), set.as_view(), Some(validity.as_view()));
+        answers(&rt, made, Ok(*wanted));
+        drop((set, validity));
+    }
 }
 
 /// Indices that name no place of 40,000 bits, all true.
@@ -75,19 +78,20 @@ const PAST: &[Indices] = &[
 ];
 
 #[test]
-fn true_bits_are_no_leave_to_pass_bounds(rt: HostRuntime) -> Result<(), Fail> {
-    let set = BitBuffer::new_set(rt.alloc(), 40_000)?;
+fn true_bits_are_no_leave_to_pass_bounds(rt: HostRuntime) {
+    let set = BitBuffer::new_set(rt.alloc(), 40_000).expect(&rt, "a set");
     for indices in PAST {
-        answers(&rt, indices.take(rt.alloc(), &set, None), AT_0);
+        answers(&rt, indices.take(rt.alloc(), set.as_view(), None), AT_0);
     }
-    Ok(())
+    drop(set);
 }
 
 #[test]
 #[tactic(auto, using(vb_pack::proofs::AnswersLemmas::CanAsk_always))]
-fn one_false_bit_among_ten_thousand(rt: HostRuntime) -> Result<(), Fail> {
-    let set = BitBuffer::collect_bool(rt.alloc(), 10_000, &mut |i| i != 37)?;
-    let made = Indices::U32(&[36, 37, 38]).take(rt.alloc(), &set, None);
+fn one_false_bit_among_ten_thousand(rt: HostRuntime) {
+    let made = BitBuffer::collect_bool(rt.alloc(), 10_000, &mut |i| i != 37);
+    let set = made.expect(&rt, "a set");
+    let made = Indices::U32(&[36, 37, 38]).take(rt.alloc(), set.as_view(), None);
     answers(&rt, made, Ok("101"));
-    Ok(())
+    drop(set);
 }

@@ -1,7 +1,17 @@
 //! Comparisons of what is given with what is wanted. Each is proved once here, where `assert_eq!`
 //! is proved again, with all that it prints, wherever it stands.
+ghost use Rattle.std.specs.Prelude.{IsTrue};
+ghost use Rattle.std.specs.Iterator.{IsFinite};
+
 use std::fmt::Debug;
 use std::process::Abort;
+
+/// The condition holds.
+pub(crate) fn holds(rt: &impl Abort, condition: bool)
+    ensures { IsTrue condition }
+{
+    assert!(rt; condition);
+}
 
 /// The two values are equal.
 pub(crate) fn equal<T: Copy + PartialEq + Debug>(rt: &impl Abort, given: T, wanted: T) {
@@ -12,12 +22,20 @@ pub(crate) fn equal<T: Copy + PartialEq + Debug>(rt: &impl Abort, given: T, want
 pub(crate) fn equal_at<T, C>(rt: &impl Abort, given: T, wanted: T, case: C)
 where
     T: Copy + PartialEq + Debug,
-    C: Copy + Debug,
+    C: Copy + PartialEq + Debug,
 {
-    assert_eq!(rt; given, wanted, "at {case:?}");
+    equal(rt, (given, case), (wanted, case));
 }
 
-/// The two lists are equal.
-pub(crate) fn equal_lists<T: PartialEq + Debug>(rt: &impl Abort, given: &[T], wanted: &[T]) {
-    assert_eq!(rt; given, wanted);
+/// The iterator gives these items, and no others.
+pub(crate) fn gives<I: Iterator + Drop>(rt: &impl Abort, items: I, wanted: &[I::Item])
+where
+    I::Item: Copy + PartialEq + Debug,
+    requires { I.can_next items × IsFinite (I.remaining items) }
+{
+    let mut left = wanted.iter();
+    for item in items {
+        equal(rt, Some(item), left.next().copied());
+    }
+    equal(rt, left.len(), 0);
 }

@@ -9,3 +9,7 @@ mod sample;
 mod views;
 #[cfg(test)]
 mod walks;
+#[cfg(test)]
+mod windows;
+#[cfg(test)]
+mod words;
