@@ -1,38 +1,27 @@
 //! What answers look like.
 use crate::compared::equal;
-use std::alloc::{AllocError, Global};
+use std::alloc::Global;
 use std::process::Abort;
 use vb_command::{Answer, Refusal};
 
-/// An answer is printed so.
-fn prints(
-    rt: &impl Abort,
-    alloc: Global,
-    answer: &Answer<Global>,
-    text: &str,
-) -> Result<(), AllocError> {
-    let printed = format!(in alloc; "{answer}")?;
+/// An answer is printed so, and given up.
+fn prints(rt: &impl Abort, alloc: Global, answer: Answer, text: &str) {
+    let printed = format!(in alloc; "{answer}").expect(rt, "memory");
+    drop(answer);
     equal(rt, printed.as_str(), text);
     drop(printed);
-    Ok(())
 }
 
 #[test]
-fn answers_are_printed(rt: HostRuntime) -> Result<(), AllocError> {
-    for (answer, text) in [
-        (&Answer::Done, "ok"),
-        (
-            &Answer::Number(18446744073709551615),
-            "18446744073709551615",
-        ),
-        (&Answer::Truth(true), "1"),
-        (&Answer::Truth(false), "0"),
-        (&Answer::Place(Some(0)), "0"),
-        (&Answer::Place(None), "none"),
-    ] {
-        prints(&rt, rt.alloc(), answer, text)?;
-    }
-    Ok(())
+fn answers_are_printed(rt: HostRuntime) {
+    let alloc = rt.alloc();
+    prints(&rt, alloc, Answer::Done, "ok");
+    let most = Answer::Number(18446744073709551615);
+    prints(&rt, alloc, most, "18446744073709551615");
+    prints(&rt, alloc, Answer::Truth(true), "1");
+    prints(&rt, alloc, Answer::Truth(false), "0");
+    prints(&rt, alloc, Answer::Place(Some(0)), "0");
+    prints(&rt, alloc, Answer::Place(None), "none");
 }
 
 const REFUSALS: &[(Refusal, &str)] = &[
@@ -46,44 +35,40 @@ const REFUSALS: &[(Refusal, &str)] = &[
 ];
 
 #[test]
-fn refusals_are_printed(rt: HostRuntime) -> Result<(), AllocError> {
+fn refusals_are_printed(rt: HostRuntime) {
     for (refusal, text) in REFUSALS {
-        prints(&rt, rt.alloc(), &Answer::Refused(*refusal), text)?;
+        prints(&rt, rt.alloc(), Answer::Refused(*refusal), text);
     }
-    Ok(())
 }
 
-/// An answer that owns memory is printed so, and given up.
-fn prints_list(
-    rt: &impl Abort,
-    alloc: Global,
-    answer: Answer<Global>,
-    text: &str,
-) -> Result<(), AllocError> {
-    let printed = prints(rt, alloc, &answer, text);
-    drop(answer);
-    printed
+/// A list of these items.
+fn list<T: Copy>(rt: &impl Abort, alloc: Global, items: &[T]) -> Vec<T> {
+    items.to_vec(alloc).expect(rt, "memory")
 }
 
 #[test]
-fn lists_are_printed(rt: HostRuntime) -> Result<(), AllocError> {
+fn lists_are_printed(rt: HostRuntime) {
     let alloc = rt.alloc();
-    let bits = vec![in alloc; true, true, false].expect(&rt, "memory");
-    prints_list(&rt, alloc, Answer::Bits(bits), "110")?;
-    let places = vec![in alloc; 1usize, 2, 18446744073709551614].expect(&rt, "memory");
-    let text = "1,2,18446744073709551614";
-    prints_list(&rt, alloc, Answer::Places(places), text)?;
-    let runs = vec![in alloc; (1usize, 3usize), (4, 7)].expect(&rt, "memory");
-    prints_list(&rt, alloc, Answer::Runs(runs), "1-3,4-7")?;
+    let bits = list(&rt, alloc, &[true, true, false]);
+    prints(&rt, alloc, Answer::Bits(bits), "110");
+    let places = list(&rt, alloc, &[1, 2, 18446744073709551614]);
+    prints(
+        &rt,
+        alloc,
+        Answer::Places(places),
+        "1,2,18446744073709551614",
+    );
+    let runs = list(&rt, alloc, &[(1, 3), (4, 7)]);
+    prints(&rt, alloc, Answer::Runs(runs), "1-3,4-7");
     let text = "BitBuffer { len: 1, buffer: [true] }";
     let shown = String::from_str(alloc, text).expect(&rt, "memory");
-    prints_list(&rt, alloc, Answer::Text(shown), text)
+    prints(&rt, alloc, Answer::Text(shown), text);
 }
 
 #[test]
-fn lists_of_nothing_are_a_dash(rt: HostRuntime) -> Result<(), AllocError> {
+fn lists_of_nothing_are_a_dash(rt: HostRuntime) {
     let alloc = rt.alloc();
-    prints_list(&rt, alloc, Answer::Bits(Vec::new(alloc)), "-")?;
-    prints_list(&rt, alloc, Answer::Places(Vec::new(alloc)), "-")?;
-    prints_list(&rt, alloc, Answer::Runs(Vec::new(alloc)), "-")
+    prints(&rt, alloc, Answer::Bits(Vec::new(alloc)), "-");
+    prints(&rt, alloc, Answer::Places(Vec::new(alloc)), "-");
+    prints(&rt, alloc, Answer::Runs(Vec::new(alloc)), "-");
 }

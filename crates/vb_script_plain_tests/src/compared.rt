@@ -1,24 +1,14 @@
 //! Comparisons of what was answered with what the plain machine answers.
-use crate::line::{Line, read};
+use crate::line::{Call, Line, read};
 use crate::plain::Plain;
 use std::alloc::Global;
 use std::fmt::Debug;
 use std::process::Abort;
-use std::test::Fail;
 use vb_script::DriveError;
 
-/// The two values are equal.
+/// The two values are equal. In a case of many each stands beside what tells the case.
 pub(crate) fn equal<T: Copy + PartialEq + Debug>(rt: &impl Abort, given: T, wanted: T) {
     assert_eq!(rt; given, wanted);
-}
-
-/// The two values are equal, in this case of many.
-fn equal_at<T, C>(rt: &impl Abort, given: T, wanted: T, case: C)
-where
-    T: Copy + PartialEq + Debug,
-    C: Copy + Debug,
-{
-    assert_eq!(rt; given, wanted, "at {case:?}");
 }
 
 /// Each answer is that of the plain machine. This is how a session over the lines then ends: at its
@@ -26,29 +16,35 @@ where
 fn answers_are_plain(
     rt: &impl Abort,
     plain: &mut Plain,
-    wanted: &mut String,
     (lines, written): (&str, &str),
-) -> Result<Result<(), DriveError>, Fail> {
+) -> Result<(), DriveError> {
     let mut answers = written.lines();
+    let mut end = Ok(());
     for (line, text) in (1u64..).zip(lines.lines()) {
-        match read(text) {
-            Line::Command(call) => {
-                let Some(told) = answers.next() else {
-                    return Ok(Err(DriveError::Memory));
-                };
-                wanted.clear();
-                plain.serve(call, told, wanted)?;
-                equal_at(rt, told, wanted.as_str(), (line, text));
-            }
-            Line::Skipped => {}
-            Line::Unreadable => {
-                equal(rt, answers.next(), None);
-                return Ok(Err(DriveError::Unreadable { line }));
-            }
+        end = match read(text) {
+            Line::Command(call) => is_answered(rt, plain, (line, call), answers.next()),
+            Line::Skipped => Ok(()),
+            Line::Unreadable => Err(DriveError::Unreadable { line }),
+        };
+        if end.is_err() {
+            break;
         }
     }
     equal(rt, answers.next(), None);
-    Ok(Ok(()))
+    end
+}
+
+/// What a command was told is the answer of the plain machine. Nothing is told for want of memory.
+fn is_answered(
+    rt: &impl Abort,
+    plain: &mut Plain,
+    (line, call): (u64, Call<'_>),
+    told: Option<&str>,
+) -> Result<(), DriveError> {
+    let told = told.ok_or(DriveError::Memory)?;
+    let wanted = plain.serve(rt, call, told);
+    equal(rt, (line, call.text, told), (line, call.text, wanted));
+    Ok(())
 }
 
 /// A session over these lines is that of the plain machine. Where a request for memory was refused,
@@ -59,14 +55,12 @@ pub(crate) fn is_plain(
     lines: &str,
     was_refused: bool,
     (ended, written): (Result<(), DriveError>, &str),
-) -> Result<(), Fail> {
-    assert!(rt; written.is_empty() || written.ends_with('\n'));
-    let mut plain = Plain::new(global, was_refused)?;
-    let mut wanted = String::new(global);
-    let end = answers_are_plain(rt, &mut plain, &mut wanted, (lines, written));
+) {
+    equal(rt, written.is_empty() || written.ends_with('\n'), true);
+    let mut plain = Plain::new(global, was_refused).expect(rt, "memory");
+    let end = answers_are_plain(rt, &mut plain, (lines, written));
     let may_refuse = plain.may_refuse;
-    drop((plain, wanted));
-    equal(rt, ended, end?);
-    equal(rt, may_refuse, ended == Err(DriveError::Memory));
-    Ok(())
+    drop(plain);
+    let is_memory = ended == Err(DriveError::Memory);
+    equal(rt, (ended, may_refuse), (end, is_memory));
 }

@@ -25,3 +25,5 @@ mod runs;
 mod session;
 #[cfg(test)]
 mod stop;
+#[cfg(test)]
+mod text;

@@ -11,6 +11,16 @@ fn is_not_empty(word: &&str) -> bool {
     !word.is_empty()
 }
 
+/// The number that a word says. What is none stands for no slot and for no place of a list.
+pub(crate) fn number(word: &str) -> usize {
+    word.parse().unwrap_or(usize::MAX)
+}
+
+/// The place that an index names. One below 0 stands for no place of a list.
+pub(crate) fn index(word: &str) -> usize {
+    usize::try_from(word.parse().unwrap_or(-1i64)).unwrap_or(usize::MAX)
+}
+
 /// What a line is.
 #[derive(Clone, Copy)]
 pub(crate) enum Line<'a> {
@@ -54,18 +64,30 @@ fn has_words(text: &str, kinds: &[Kind]) -> bool {
 }
 
 fn is_word(kind: Kind, word: &str) -> bool {
+    if word == "-" {
+        return matches!(
+            kind,
+            Kind::Validity | Kind::Hex | Kind::Numbers | Kind::Indexes
+        );
+    }
     match kind {
-        Kind::Truth => word == "0" || word == "1",
-        Kind::Mode => word == "ref" || word == "own",
-        Kind::Validity => word == "-" || is_number(word),
-        Kind::Hex => {
-            let are_digits = word.bytes().all(|byte| byte.is_ascii_hexdigit());
-            word == "-" || are_digits && !word.is_empty() && word.len().is_multiple_of(2)
-        }
-        Kind::Numbers => word == "-" || word.split(',').all(is_number),
-        Kind::Indexes => word == "-" || word.split(',').all(is_index),
+        Kind::Truth => matches!(word, "0" | "1"),
+        Kind::Mode => matches!(word, "ref" | "own"),
+        Kind::Hex => is_hex(word),
+        Kind::Numbers => word.split(',').all(is_number),
+        Kind::Indexes => word.split(',').all(is_index),
         _ => is_number(word),
     }
+}
+
+/// Whether a word is two digits of each of some bytes.
+fn is_hex(word: &str) -> bool {
+    let are_digits = word.bytes().all(is_digit);
+    are_digits && !word.is_empty() && word.len().is_multiple_of(2)
+}
+
+fn is_digit(byte: u8) -> bool {
+    byte.is_ascii_hexdigit()
 }
 
 fn is_number(word: &str) -> bool {
@@ -77,10 +99,22 @@ fn is_index(word: &str) -> bool {
 }
 
 impl Call<'_> {
-    /// The number at a place among the words, the name being at place 0. What is none stands for
-    /// no slot and for no place of a list.
+    /// The word at a place, the name being at place 0.
+    pub(crate) fn word(&self, place: usize) -> &str {
+        word(self.text, place)
+    }
+
+    /// The number at a place among the words, which is 1 for a truth value that is true.
     pub(crate) fn number(&self, place: usize) -> usize {
-        word(self.text, place).parse().unwrap_or(usize::MAX)
+        number(self.word(place))
+    }
+
+    /// What stands in the list that is the last word: its items, which a dash has none of.
+    pub(crate) fn items(&self) -> &str {
+        match self.word(self.form.1.len()) {
+            "-" => "",
+            items => items,
+        }
     }
 
     /// The slot that the list is put into: the one that has to be empty, or else the first one.
@@ -95,12 +129,10 @@ impl Call<'_> {
 
     /// The place of the slot that gives its list away before memory is asked.
     pub(crate) fn given(&self) -> Option<usize> {
-        if self.name == "freeze" || self.name == "thaw" {
-            return Some(1);
+        match (self.name, self.word(1)) {
+            ("freeze" | "thaw", _) => Some(1),
+            (_, "own") => Some(2),
+            _ => None,
         }
-        if word(self.text, 1) == "own" {
-            return Some(2);
-        }
-        None
     }
 }

@@ -1,5 +1,6 @@
 //! Edits of a plain list of truth values.
-use crate::stop::{OUT_OF_RANGE, Stop};
+use crate::line::{index, number};
+use crate::stop::{OUT_OF_MEMORY, OUT_OF_RANGE, Stop};
 
 /// How many bits a list has at most. There isn't memory for more.
 const MOST: usize = 1 << 40;
@@ -7,15 +8,16 @@ const MOST: usize = 1 << 40;
 /// Adds `n` bits `v`.
 pub(crate) fn lengthen(bits: &mut Vec<bool>, v: bool, n: usize) -> Result<(), Stop> {
     match bits.len().checked_add(n) {
-        None => return Err(Stop::Refused("TooManyBits")),
-        Some(len) if len > usize::MAX - 7 => return Err(Stop::TooLong),
-        Some(len) if len > MOST => return Err(Stop::Refused("OutOfMemory")),
-        Some(_) => {}
+        None => Err(Stop::Refused("TooManyBits")),
+        Some(len) if len > usize::MAX - 7 => Err(Stop::TooLong),
+        Some(len) if len > MOST => Err(OUT_OF_MEMORY),
+        Some(len) => Ok(bits.resize(len, v)?),
     }
-    for _ in 0..n {
-        bits.push(v)?;
-    }
-    Ok(())
+}
+
+/// The bits from `a` up to `b`.
+pub(crate) fn part(bits: &[bool], a: usize, b: usize) -> Result<&[bool], Stop> {
+    bits.get(a..b).ok_or(OUT_OF_RANGE)
 }
 
 /// Makes the bits from `a` up to `b` `v`.
@@ -24,55 +26,21 @@ pub(crate) fn fill(bits: &mut [bool], a: usize, b: usize, v: bool) -> Result<(),
     Ok(())
 }
 
-/// Adds `n` bits that are true at these places.
-pub(crate) fn name_places(bits: &mut Vec<bool>, n: usize, places: &str) -> Result<(), Stop> {
-    for place in places.split(',') {
-        if place != "-" && place.parse().unwrap_or(usize::MAX) >= n {
-            return Err(OUT_OF_RANGE);
-        }
+/// Keeps the bits from `a` up to `b`.
+pub(crate) fn cut(bits: &mut Vec<bool>, a: usize, b: usize) -> Result<(), Stop> {
+    if a > b || b > bits.len() {
+        return Err(OUT_OF_RANGE);
     }
-    lengthen(bits, false, n)?;
-    for place in places.split(',') {
-        if let Some(bit) = bits.get_mut(place.parse().unwrap_or(usize::MAX)) {
-            *bit = true;
-        }
-    }
+    bits.copy_within(a..b, 0);
+    bits.truncate(b - a);
     Ok(())
 }
 
-/// Keeps the bits of a list at these indexes, and false where they don't count.
-pub(crate) fn take(
-    bits: &mut Vec<bool>,
-    from: &[bool],
-    counts: Option<&[bool]>,
-    indexes: &str,
-) -> Result<(), Stop> {
-    let is_empty = indexes == "-";
-    let count = if is_empty {
-        0
-    } else {
-        indexes.split(',').count()
-    };
-    match counts {
-        Some(counts) if counts.len() != count => return Err(Stop::Refused("LengthMismatch")),
-        _ => bits.clear(),
+/// Negates each bit.
+pub(crate) fn flip(bits: &mut [bool]) {
+    for bit in bits {
+        *bit = !*bit;
     }
-    if is_empty {
-        return Ok(());
-    }
-    for (position, index) in indexes.split(',').enumerate() {
-        let is_null = match counts {
-            Some(counts) => counts.get(position) == Some(&false),
-            None => false,
-        };
-        let place = usize::try_from(index.parse().unwrap_or(-1i64)).unwrap_or(usize::MAX);
-        match from.get(place) {
-            _ if is_null => bits.push(false)?,
-            Some(bit) => bits.push(*bit)?,
-            None => return Err(Stop::Position(position)),
-        }
-    }
-    Ok(())
 }
 
 /// Combines each bit with that of another list.
@@ -91,21 +59,8 @@ pub(crate) fn combine(bits: &mut [bool], name: &str, right: &[bool]) -> Result<(
     Ok(())
 }
 
-/// Keeps the bits from `a` up to `b`.
-pub(crate) fn cut(bits: &mut Vec<bool>, a: usize, b: usize) -> Result<(), Stop> {
-    if a > b || b > bits.len() {
-        return Err(OUT_OF_RANGE);
-    }
-    bits.truncate(b);
-    bits.reverse();
-    bits.truncate(b - a);
-    bits.reverse();
-    Ok(())
-}
-
 /// Adds a window of bytes: `n` bits from bit `o` on, the lowest one of each byte first.
-pub(crate) fn window(bits: &mut Vec<bool>, o: usize, n: usize, hex: &str) -> Result<(), Stop> {
-    let digits = hex.trim_matches('-');
+pub(crate) fn window(bits: &mut Vec<bool>, o: usize, n: usize, digits: &str) -> Result<(), Stop> {
     let end = o.saturating_add(n);
     if o >= 8 || end > digits.len().saturating_mul(4) {
         return Err(Stop::Refused("BadWindow"));
@@ -118,19 +73,66 @@ pub(crate) fn window(bits: &mut Vec<bool>, o: usize, n: usize, hex: &str) -> Res
     Ok(())
 }
 
+/// Adds `n` bits that are true at these places. One that isn't there is refused before memory.
+pub(crate) fn name_places(bits: &mut Vec<bool>, n: usize, places: &str) -> Result<(), Stop> {
+    let lengthened = lengthen(bits, false, n);
+    for item in places.split_terminator(',') {
+        let place = number(item);
+        if place >= n {
+            return Err(OUT_OF_RANGE);
+        }
+        if let Some(bit) = bits.get_mut(place) {
+            *bit = true;
+        }
+    }
+    lengthened
+}
+
+/// Keeps the bits of a list at these indexes, and false where they don't count.
+pub(crate) fn take(
+    bits: &mut Vec<bool>,
+    from: &[bool],
+    counts: Option<&[bool]>,
+    indexes: &str,
+) -> Result<(), Stop> {
+    let count = indexes.split_terminator(',').count();
+    match counts {
+        Some(counts) if counts.len() != count => return Err(Stop::Refused("LengthMismatch")),
+        _ => bits.clear(),
+    }
+    for (position, item) in indexes.split_terminator(',').enumerate() {
+        let bit = taken(from, counts, position, index(item));
+        bits.push(bit.ok_or(Stop::Position(position))?)?;
+    }
+    Ok(())
+}
+
+/// The bit at a place, or false where the index at this position doesn't count.
+fn taken(from: &[bool], counts: Option<&[bool]>, position: usize, place: usize) -> Option<bool> {
+    match counts {
+        Some(counts) if counts.get(position) == Some(&false) => Some(false),
+        _ => from.get(place).copied(),
+    }
+}
+
+/// How many bits are true.
 pub(crate) fn count(bits: &[bool]) -> usize {
-    bits.iter().filter(|bit| **bit).count()
+    let mut count = 0usize;
+    for bit in bits {
+        count = count.saturating_add(usize::from(*bit));
+    }
+    count
 }
 
 /// The place of the `n`-th bit that is `v`.
 pub(crate) fn nth_place(bits: &[bool], v: bool, n: usize) -> Option<usize> {
     let mut left = n;
     for (place, bit) in bits.iter().enumerate() {
-        if *bit == v && left == 0 {
-            return Some(place);
-        }
         if *bit == v {
-            left = left.saturating_sub(1);
+            if left == 0 {
+                return Some(place);
+            }
+            left -= 1;
         }
     }
     None

@@ -1,28 +1,37 @@
 //! The commands on plain lists of truth values, one list a slot, which share nothing.
 use crate::answer::answer;
 use crate::form::{Kind, Memory, Then};
-use crate::line::{Call, word};
-use crate::list::{combine, cut, fill, lengthen, name_places, take, window};
+use crate::line::Call;
+use crate::list::{combine, cut, fill, flip, lengthen, name_places, take, window};
 use crate::stop::{BAD_SLOT, OUT_OF_MEMORY, Stop};
-use std::alloc::Global;
+use crate::text::Text;
+use std::alloc::{AllocError, Global};
 use std::mem;
+use std::process::Abort;
 
 /// What a slot holds.
-#[derive(Drop)]
-enum Slot {
-    Empty,
-    Open(Vec<bool>),
-    Frozen(Vec<bool>),
+#[derive(Clone, Copy)]
+enum Holds {
+    Nothing,
+    Open,
+    Frozen,
 }
 
-/// Whether a word of this kind may name this slot. None of these is a slot that isn't there.
-fn may_name(kind: Kind, slot: Option<&Slot>) -> bool {
-    match (kind, slot) {
-        (Kind::Open, Some(Slot::Open(_)))
-        | (Kind::Frozen | Kind::Validity, Some(Slot::Frozen(_)))
-        | (Kind::Held, Some(Slot::Open(_) | Slot::Frozen(_)))
-        | (Kind::Vacant, Some(Slot::Empty)) => true,
-        (Kind::Open | Kind::Frozen | Kind::Validity | Kind::Held | Kind::Vacant, _) => false,
+/// A slot, whose bits count where it holds a list.
+#[derive(Drop)]
+struct Slot {
+    holds: Holds,
+    bits: Vec<bool>,
+}
+
+/// Whether a word of this kind may name a slot that holds this. None of these is a slot that isn't
+/// there.
+fn may_name(kind: Kind, holds: Option<Holds>) -> bool {
+    match kind {
+        Kind::Open => matches!(holds, Some(Holds::Open)),
+        Kind::Frozen | Kind::Validity => matches!(holds, Some(Holds::Frozen)),
+        Kind::Held => matches!(holds, Some(Holds::Open | Holds::Frozen)),
+        Kind::Vacant => matches!(holds, Some(Holds::Nothing)),
         _ => true,
     }
 }
@@ -30,76 +39,64 @@ fn may_name(kind: Kind, slot: Option<&Slot>) -> bool {
 /// Sixteen slots for plain lists.
 #[derive(Drop)]
 pub(crate) struct Plain {
-    alloc: Global,
     slots: Vec<Slot>,
+    /// The list of the line at hand.
+    list: Vec<bool>,
+    /// Its answer.
+    text: Text,
     /// Whether a request for memory was refused that no answer has told yet.
     pub may_refuse: bool,
 }
 
 impl Plain {
     /// All slots are empty.
-    pub(crate) fn new(alloc: Global, may_refuse: bool) -> Result<Plain, Stop> {
-        let mut slots = Vec::new(alloc);
+    pub(crate) fn new(alloc: Global, may_refuse: bool) -> Result<Plain, AllocError> {
+        let mut slots = Vec::with_capacity(alloc, 16)?;
         for _ in 0..16 {
-            slots.push(Slot::Empty)?;
+            let (holds, bits) = (Holds::Nothing, Vec::new(alloc));
+            drop(slots.push(Slot { holds, bits }));
         }
         Ok(Plain {
-            alloc,
             slots,
+            list: Vec::new(alloc),
+            text: Text::new(alloc),
             may_refuse,
         })
     }
 
-    /// Carries out a command and adds its answer. Its memory is refused where the pool told so, and
+    /// Carries out a command and answers it. Its memory is refused where the pool told so, and
     /// where it asks for memory.
-    pub(crate) fn serve(
-        &mut self,
-        call: Call<'_>,
-        told: &str,
-        text: &mut String,
-    ) -> Result<(), Stop> {
+    pub(crate) fn serve(&mut self, rt: &impl Abort, call: Call<'_>, told: &str) -> &str {
         let is_told = told == "refused OutOfMemory";
         let asks = matches!(call.form.3, Memory::Asks);
-        match self.carry_out(call, is_told && asks && self.may_refuse, text) {
-            Err(Stop::TooLong) if is_told => text.push_str(told)?,
-            Err(Stop::TooLong) => text.push_str("refused TooManyBits")?,
-            Err(Stop::Refused(why)) => write!(text, "refused {why}")?,
-            Err(Stop::Position(position)) => write!(text, "refused TakeOutOfRange {position}")?,
-            other => return other,
+        self.text.clear();
+        match self.carry_out(call, is_told && asks && self.may_refuse) {
+            Ok(()) => {}
+            Err(Stop::TooLong) if is_told => self.text.add(told),
+            Err(stop) => add_refused(&mut self.text, stop),
         }
-        Ok(())
+        self.text.whole(rt)
     }
 
-    fn carry_out(
-        &mut self,
-        call: Call<'_>,
-        is_refused: bool,
-        text: &mut String,
-    ) -> Result<(), Stop> {
+    fn carry_out(&mut self, call: Call<'_>, is_refused: bool) -> Result<(), Stop> {
         self.check_slots(call)?;
-        let first = if matches!(call.form.1, [Kind::Mode, ..]) {
-            2
-        } else {
-            1
-        };
-        let mut bits = self.bits(call, first).to_vec(self.alloc)?;
-        let done = self.make(call, is_refused, &mut bits);
-        if done.is_err() || matches!(call.form.2, Then::Answers) {
-            let asked = match done {
-                Ok(()) => answer(text, call, &bits, self.bits(call, 2)),
-                Err(stop) => Err(stop),
-            };
-            drop(bits);
-            return asked;
+        let is_mode = matches!(call.form.1, [Kind::Mode, ..]);
+        let first = bits_of(&self.slots, call, if is_mode { 2 } else { 1 });
+        self.list.clear();
+        self.list.extend_from_slice(first)?;
+        self.make(call, is_refused)?;
+        if matches!(call.form.2, Then::Answers) {
+            let other = bits_of(&self.slots, call, 2);
+            return answer(&mut self.text, call, &self.list, other);
         }
-        self.put(call, bits);
-        text.push_str("ok")?;
+        self.put(call);
+        self.text.add("ok");
         Ok(())
     }
 
-    /// Makes of a list what the line makes of it, unless memory is refused.
-    fn make(&mut self, call: Call<'_>, is_refused: bool, bits: &mut Vec<bool>) -> Result<(), Stop> {
-        let changed = self.change(call, bits);
+    /// Makes of the list what the line makes of it, unless memory is refused.
+    fn make(&mut self, call: Call<'_>, is_refused: bool) -> Result<(), Stop> {
+        let changed = change(&self.slots, call, &mut self.list);
         // The indexes of a `take` come after memory, all else before it.
         if let Err(Stop::Refused(_) | Stop::TooLong) = changed {
             return changed;
@@ -112,98 +109,100 @@ impl Plain {
         changed
     }
 
-    /// The list of the slot that a word names.
-    fn bits(&self, call: Call<'_>, place: usize) -> &[bool] {
-        match self.slots.get(call.number(place)) {
-            Some(Slot::Open(bits) | Slot::Frozen(bits)) => bits,
-            _ => &[],
-        }
-    }
-
-    /// Each slot that a line names is as its kind says. The one that gives its list away is empty
-    /// for the other words.
+    /// Each slot that a line names is as its kind says.
     fn check_slots(&self, call: Call<'_>) -> Result<(), Stop> {
-        let given = call.given().unwrap_or(0);
         for (kind, place) in call.form.1.iter().zip(1..) {
-            let is_gone = given > 0 && given != place && call.number(given) == call.number(place);
-            let is_good = match self.slots.get(call.number(place)) {
-                _ if is_gone => matches!(kind, Kind::Vacant),
-                slot => may_name(*kind, slot),
-            };
-            let is_left_out = matches!(kind, Kind::Validity) && word(call.text, place) == "-";
-            if !is_good && !is_left_out {
+            let is_left_out = matches!(kind, Kind::Validity) && call.word(place) == "-";
+            if !is_left_out && !may_name(*kind, self.holds(call, place)) {
                 return Err(BAD_SLOT);
             }
         }
         Ok(())
     }
 
-    /// Makes of a list, that of a line's first slot or no bits, what the line makes of it.
-    fn change(&self, call: Call<'_>, bits: &mut Vec<bool>) -> Result<(), Stop> {
-        let (a, b) = (call.number(2), call.number(3));
-        let is_true = |place: usize| word(call.text, place) == "1";
-        match call.name {
-            "import" => return window(bits, a, b, word(call.text, 4)),
-            "full" | "appendn" => return lengthen(bits, is_true(2), b),
-            "append" => return lengthen(bits, is_true(2), 1),
-            "set" => return fill(bits, a, a.saturating_add(1), is_true(3)),
-            "fill" => return fill(bits, a, b, is_true(4)),
-            "slice" => return cut(bits, a, b),
-            "indices" => return name_places(bits, a, word(call.text, 3)),
-            "take" => {
-                let is_counted = word(call.text, 3) != "-";
-                let counts = if is_counted {
-                    Some(self.bits(call, 3))
-                } else {
-                    None
-                };
-                return take(bits, self.bits(call, 1), counts, word(call.text, 4));
-            }
-            "appendset" => bits.extend_from_slice(self.bits(call, 2))?,
-            "and" | "or" | "xor" | "andnot" => {
-                return combine(bits, call.name, self.bits(call, 3));
-            }
-            "truncate" => bits.truncate(a),
-            "clear" => bits.clear(),
-            "flip" | "not" => {
-                for bit in bits.iter_mut() {
-                    *bit = !*bit;
-                }
-            }
-            // All others leave it.
-            _ => {}
+    /// What the slot holds that a word names. The one that gives its list away is empty for the
+    /// other words.
+    fn holds(&self, call: Call<'_>, place: usize) -> Option<Holds> {
+        let named = call.number(place);
+        let given = call.given().unwrap_or(place);
+        if given != place && call.number(given) == named {
+            return Some(Holds::Nothing);
         }
-        Ok(())
+        Some(self.slots.get(named)?.holds)
     }
 
     /// Puts the list of a line where it belongs.
-    fn put(&mut self, call: Call<'_>, bits: Vec<bool>) {
-        let is_open = matches!(self.slots.get(call.number(1)), Some(Slot::Open(_)));
+    fn put(&mut self, call: Call<'_>) {
+        let first = self.holds(call, 1);
         self.give_away(call);
-        let slot = match call.form.2 {
-            Then::Empties => {
-                drop(bits);
-                Slot::Empty
-            }
-            Then::Opens => Slot::Open(bits),
-            Then::Keeps if is_open => Slot::Open(bits),
-            _ => Slot::Frozen(bits),
+        let holds = match (call.form.2, first) {
+            (Then::Empties, _) => Holds::Nothing,
+            (Then::Opens, _) | (Then::Keeps, Some(Holds::Open)) => Holds::Open,
+            _ => Holds::Frozen,
         };
-        self.fill(call.target(), slot);
-    }
-
-    /// Puts this into a slot, if it is there.
-    fn fill(&mut self, place: usize, slot: Slot) {
-        match self.slots.get_mut(place) {
-            Some(target) => drop(mem::replace(target, slot)),
-            None => drop(slot),
+        if let Some(slot) = self.slots.get_mut(call.target()) {
+            slot.holds = holds;
+            mem::swap(&mut slot.bits, &mut self.list);
         }
     }
 
     /// Empties the slot that gives its list away.
     fn give_away(&mut self, call: Call<'_>) {
-        if let Some(place) = call.given() {
-            self.fill(call.number(place), Slot::Empty);
+        if let Some(place) = call.given()
+            && let Some(slot) = self.slots.get_mut(call.number(place))
+        {
+            slot.holds = Holds::Nothing;
         }
+    }
+}
+
+/// Adds why a line isn't carried out.
+fn add_refused(text: &mut Text, stop: Stop) {
+    text.add("refused ");
+    match stop {
+        Stop::Refused(why) => text.add(why),
+        Stop::TooLong => text.add("TooManyBits"),
+        Stop::Position(position) => {
+            text.add("TakeOutOfRange ");
+            text.add_number(position);
+        }
+        Stop::Memory => text.add("for want of memory here"),
+    }
+}
+
+/// The list of the slot that a word names, or no bits.
+fn bits_of<'a>(slots: &'a [Slot], call: Call<'_>, place: usize) -> &'a [bool] {
+    match slots.get(call.number(place)) {
+        Some(slot) if !matches!(slot.holds, Holds::Nothing) => &slot.bits,
+        _ => &[],
+    }
+}
+
+/// Makes of a list, that of a line's first slot or no bits, what the line makes of it.
+fn change(slots: &[Slot], call: Call<'_>, bits: &mut Vec<bool>) -> Result<(), Stop> {
+    let (a, b, c) = (call.number(2), call.number(3), call.number(4));
+    let (right, items) = (bits_of(slots, call, 3), call.items());
+    match call.name {
+        "import" => window(bits, a, b, items),
+        "full" | "appendn" => lengthen(bits, a == 1, b),
+        "append" => lengthen(bits, a == 1, 1),
+        "appendset" => Ok(bits.extend_from_slice(bits_of(slots, call, 2))?),
+        "indices" => name_places(bits, a, items),
+        "set" => fill(bits, a, a.saturating_add(1), b == 1),
+        "fill" => fill(bits, a, b, c == 1),
+        "slice" => cut(bits, a, b),
+        "truncate" => cut(bits, 0, a.min(bits.len())),
+        "clear" => cut(bits, 0, 0),
+        "and" | "or" | "xor" | "andnot" => combine(bits, call.name, right),
+        "take" => {
+            let counts = (call.word(3) != "-").then_some(right);
+            take(bits, bits_of(slots, call, 1), counts, items)
+        }
+        "flip" | "not" => {
+            flip(bits);
+            Ok(())
+        }
+        // All others leave it.
+        _ => Ok(()),
     }
 }

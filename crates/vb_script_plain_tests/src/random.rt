@@ -1,7 +1,8 @@
 //! Random lines, told by a seed.
 use crate::form::{FORMS, Kind, form_of};
 use crate::line::{Line, read};
-use std::alloc::AllocError;
+use crate::text::Text;
+use std::alloc::Global;
 
 /// Lines that have no answer.
 const SKIPPED: &[&str] = &["", "  ", "# len 0", " #"];
@@ -68,7 +69,7 @@ const SLOTS: &[(char, char, char)] = &[
     ('5', '3', '0'),
 ];
 
-/// Digits of bytes.
+/// Digits of bytes, in capitals and not.
 const DIGITS: &[&str] = &[
     "0", "1", "2", "3", "4", "5", "6", "7", "8", "9", "a", "B", "c", "D", "e", "F",
 ];
@@ -76,16 +77,31 @@ const DIGITS: &[&str] = &[
 /// Slots that aren't there.
 const NO_SLOTS: &[&str] = &["16", "17", "18446744073709551615"];
 
-/// Numbers that follow one another as a seed tells.
+const MODES: &[&str] = &["ref", "own"];
+
+/// What stands before indexes.
+const SIGNS: &[&str] = &["", "", "", "", "", "", "", "-"];
+
+/// Lines of numbers that follow one another as a seed tells.
 #[derive(Drop)]
 pub(crate) struct Random {
     /// The seed, or what became of it.
-    pub state: u64,
+    state: u64,
     /// Some of the numbers in lines.
-    pub lengths: &'static [&'static str],
+    lengths: &'static [&'static str],
+    /// The lines.
+    pub text: Text,
 }
 
 impl Random {
+    pub(crate) fn new(alloc: Global, seed: u64, lengths: &'static [&'static str]) -> Random {
+        Random {
+            state: seed,
+            lengths,
+            text: Text::new(alloc),
+        }
+    }
+
     /// A number below `n`.
     fn below(&mut self, n: usize) -> usize {
         self.state = self
@@ -99,127 +115,128 @@ impl Random {
         words.get(self.below(words.len())).copied().unwrap_or("")
     }
 
+    fn add_one_of(&mut self, words: &[&str]) {
+        let word = self.one_of(words);
+        self.text.add(word);
+    }
+
+    fn add_below(&mut self, n: usize) {
+        let number = self.below(n);
+        self.text.add_number(number);
+    }
+
     /// Adds lines up to the first one that can't be read, and at most so many, beside groups of
     /// lines among them. Answers how many.
-    pub(crate) fn add_session(
-        &mut self,
-        lines: &mut String,
-        line: &mut String,
-        most: usize,
-    ) -> Result<usize, AllocError> {
+    pub(crate) fn add_session(&mut self, most: usize) -> usize {
         for count in 1..=most {
-            line.clear();
             if self.below(25) == 0 {
-                self.add_group(lines)?;
+                self.add_group();
             }
-            if self.below(50) == 0 {
-                line.push_str(self.one_of(SKIPPED))?;
-            } else {
-                self.add_command(line)?;
-            }
-            lines.push_str(line.as_str())?;
-            lines.push_str(if self.below(20) == 0 { "\r\n" } else { "\n" })?;
-            if matches!(read(line.as_str()), Line::Unreadable) {
-                return Ok(count);
+            let start = self.text.len();
+            self.add_line();
+            let is_last = matches!(read(self.text.added(start)), Line::Unreadable);
+            let is_returned = self.below(20) == 0;
+            self.text.add(if is_returned { "\r\n" } else { "\n" });
+            if is_last {
+                return count;
             }
         }
-        Ok(most)
+        most
+    }
+
+    fn add_line(&mut self) {
+        if self.below(50) == 0 {
+            self.add_one_of(SKIPPED);
+        } else {
+            self.add_command();
+        }
     }
 
     /// Adds a group of lines on three slots, which are emptied first and looked at last.
-    fn add_group(&mut self, lines: &mut String) -> Result<(), AllocError> {
+    fn add_group(&mut self) {
         let slots = SLOTS.get(self.below(SLOTS.len())).copied();
+        let slots = slots.unwrap_or(('0', '1', '2'));
         let group = self.one_of(GROUPS);
-        self.add_filled(lines, "drop A\ndrop B\ndrop C\n", slots)?;
-        self.add_filled(lines, group, slots)?;
-        self.add_filled(lines, "bits C\nruns A\nfreeze C\n", slots)
+        self.add_filled("drop A\ndrop B\ndrop C\n", slots);
+        self.add_filled(group, slots);
+        self.add_filled("bits C\nruns A\nfreeze C\n", slots);
     }
 
     /// Adds a text, with what its capital letters stand for.
-    fn add_filled(
-        &mut self,
-        lines: &mut String,
-        text: &str,
-        slots: Option<(char, char, char)>,
-    ) -> Result<(), AllocError> {
-        let (a, b, c) = slots.unwrap_or(('0', '1', '2'));
+    fn add_filled(&mut self, text: &str, (a, b, c): (char, char, char)) {
         for letter in text.chars() {
             match letter {
-                'A' => lines.push(a)?,
-                'B' => lines.push(b)?,
-                'C' => lines.push(c)?,
-                'M' => lines.push_str(self.one_of(&["ref", "own"]))?,
-                'H' => lines.push_str(self.one_of(DIGITS))?,
-                _ => lines.push(letter)?,
+                'A' => self.text.add_letter(a),
+                'B' => self.text.add_letter(b),
+                'C' => self.text.add_letter(c),
+                'M' => self.add_one_of(MODES),
+                'H' => self.add_one_of(DIGITS),
+                _ => self.text.add_letter(letter),
             }
         }
-        Ok(())
     }
 
-    fn add_command(&mut self, text: &mut String) -> Result<(), AllocError> {
+    fn add_command(&mut self) {
         let often = form_of(self.one_of(OFTEN));
         let any = FORMS.get(self.below(FORMS.len()));
         let Some(form) = (if self.below(2) == 0 { often } else { any }) else {
-            return Ok(());
+            return;
         };
-        text.push_str(form.0)?;
+        self.text.add(form.0);
         for kind in form.1 {
-            text.push_str(if self.below(50) == 0 { "   " } else { " " })?;
-            if self.below(500) == 0 {
-                text.push_str(self.one_of(OTHER_WORDS))?;
-            } else {
-                self.add_word(text, *kind)?;
-            }
+            let is_wide = self.below(50) == 0;
+            self.text.add(if is_wide { "   " } else { " " });
+            self.add_word(*kind);
         }
-        Ok(())
     }
 
-    fn add_word(&mut self, text: &mut String, kind: Kind) -> Result<(), AllocError> {
+    /// Adds a word of a kind, or rarely one that most lines can't be read with.
+    fn add_word(&mut self, kind: Kind) {
         match kind {
-            Kind::Truth => text.push_str(self.one_of(&["0", "1"])),
-            Kind::Mode => text.push_str(self.one_of(&["ref", "own"])),
-            Kind::Hex => self.add_hex(text),
-            Kind::Numbers => self.add_numbers(text, &[""]),
-            Kind::Indexes => self.add_numbers(text, &["", "", "", "", "", "", "", "-"]),
-            Kind::Validity if self.below(2) == 0 => text.push_str("-"),
-            Kind::Number => self.add_number(text),
-            _ if self.below(40) == 0 => text.push_str(self.one_of(NO_SLOTS)),
-            _ => write!(text, "{}", self.below(6)),
+            _ if self.below(500) == 0 => self.add_one_of(OTHER_WORDS),
+            Kind::Truth => self.add_one_of(&["0", "1"]),
+            Kind::Mode => self.add_one_of(MODES),
+            Kind::Hex => self.add_hex(),
+            Kind::Numbers => self.add_numbers(&[""]),
+            Kind::Indexes => self.add_numbers(SIGNS),
+            Kind::Validity if self.below(2) == 0 => self.text.add("-"),
+            Kind::Number => self.add_number(),
+            _ if self.below(40) == 0 => self.add_one_of(NO_SLOTS),
+            _ => self.add_below(6),
         }
     }
 
-    fn add_number(&mut self, text: &mut String) -> Result<(), AllocError> {
+    fn add_number(&mut self) {
         match self.below(8) {
-            0 => text.push_str(self.one_of(self.lengths)),
-            1 => write!(text, "{}", self.below(140)),
-            2..=4 => text.push('8'),
-            _ => write!(text, "{}", self.below(9)),
+            0 => self.add_one_of(self.lengths),
+            1 => self.add_below(140),
+            2..=4 => self.text.add("8"),
+            _ => self.add_below(9),
         }
     }
 
     /// Adds up to 20 bytes.
-    fn add_hex(&mut self, text: &mut String) -> Result<(), AllocError> {
+    fn add_hex(&mut self) {
         let count = self.below(21);
-        if count == 0 {
-            return text.push_str("-");
-        }
         for _ in 0..count {
-            write!(text, "{:x}{:X}", self.below(16), self.below(16))?;
+            self.add_one_of(DIGITS);
+            self.add_one_of(DIGITS);
         }
-        Ok(())
+        if count == 0 {
+            self.text.add("-");
+        }
     }
 
     /// Adds up to six numbers with one of the signs before each.
-    fn add_numbers(&mut self, text: &mut String, signs: &[&str]) -> Result<(), AllocError> {
+    fn add_numbers(&mut self, signs: &[&str]) {
         let count = self.below(7);
+        for place in 0..count {
+            self.text.add(if place == 0 { "" } else { "," });
+            self.add_one_of(signs);
+            self.add_below(12);
+        }
         if count == 0 {
-            return text.push_str("-");
+            self.text.add("-");
         }
-        let mut comma = "";
-        for _ in 0..count {
-            write!(text, "{comma}{}{}", self.one_of(signs), self.below(12))?;
-            comma = ",";
-        }
-        Ok(())
     }
 }

@@ -1,4 +1,6 @@
 //! Sessions whose requests for memory are all refused in turn.
+use std::alloc::Global;
+use std::process::Abort;
 
 /// The lines of sessions, and how many requests each makes at least.
 pub(crate) const SESSIONS: &[(&str, u64)] = &[
@@ -9,7 +11,7 @@ pub(crate) const SESSIONS: &[(&str, u64)] = &[
 ];
 
 /// What follows each session: the bits and the kind of every slot, and of one that isn't there.
-pub(crate) const LOOKS: &str = "\
+const LOOKS: &str = "\
 bits 0
 freeze 0
 bits 1
@@ -45,6 +47,11 @@ freeze 15
 bits 16
 freeze 16
 ";
+
+/// The lines of a session behind some before it, with what follows each session.
+pub(crate) fn with_looks(rt: &impl Abort, alloc: Global, before: &str, lines: &str) -> String {
+    format!(in alloc; "{before}{lines}{LOOKS}").expect(rt, "memory")
+}
 
 /// Commands on one set, each refused for each of its reasons. The sets share storage.
 const EDITS: &str = "\

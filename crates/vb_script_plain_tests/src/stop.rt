@@ -2,7 +2,7 @@
 use std::alloc::{AllocError, AllocFailed};
 
 /// Why a line isn't carried out.
-#[derive(Clone, Copy, Debug)]
+#[derive(Clone, Copy)]
 pub(crate) enum Stop {
     /// It is refused, and this is answered after `refused`.
     Refused(&'static str),
@@ -27,8 +27,8 @@ impl From<AllocError> for Stop {
     }
 }
 
-impl<T: Drop> From<AllocFailed<T>> for Stop {
-    fn from(_: AllocFailed<T>) -> Stop {
+impl From<AllocFailed<bool>> for Stop {
+    fn from(_: AllocFailed<bool>) -> Stop {
         Stop::Memory
     }
 }

@@ -1,33 +1,50 @@
-//! Comparisons of what is given with what is wanted. Each is proved once here, and so tests are
-//! proved in less time.
+//! Sessions, and comparisons of what is given with what is wanted. Each is proved once here, where
+//! `assert_eq!` is proved again, with all that it prints, wherever it stands.
+use std::alloc::{Allocator, Global};
 use std::fmt::Debug;
 use std::process::Abort;
-use vb_script::DriveError;
+use vb_script::{DriveError, Sink, Source, ToWrite, drive};
 
-/// The two values are equal.
+/// The two values are equal. In a case of many each stands beside what tells the case.
 pub(crate) fn equal<T: Copy + PartialEq + Debug>(rt: &impl Abort, given: T, wanted: T) {
     assert_eq!(rt; given, wanted);
 }
 
-/// The two values are equal, in this case of many.
-pub(crate) fn equal_at<T, C>(rt: &impl Abort, given: T, wanted: T, case: C)
-where
-    T: Copy + PartialEq + Debug,
-    C: Copy + Debug,
-{
-    assert_eq!(rt; given, wanted, "at {case:?}");
+/// How a session ends from this source to this sink. The source is given up.
+pub(crate) fn end_of<A: Allocator + Clone, S: Source + Drop, W: Sink>(
+    alloc: A,
+    mut source: S,
+    sink: &mut W,
+) -> Result<(), DriveError> {
+    let ended = drive(alloc, &mut source, sink);
+    drop(source);
+    ended
 }
 
-/// A session over these lines ended so, and wrote this.
-pub(crate) fn ends(
+/// How a session from this source ends, and what it writes.
+pub(crate) fn session<A: Allocator + Clone, S: Source + Drop>(
+    global: Global,
+    alloc: A,
+    source: S,
+) -> (Result<(), DriveError>, Vec<u8>) {
+    let mut sink = ToWrite::new(Vec::new(global));
+    let ended = end_of(alloc, source, &mut sink);
+    (ended, sink.into_inner())
+}
+
+/// A session in this case ended so, and wrote this.
+pub(crate) fn ends<C: Copy + PartialEq + Debug>(
     rt: &impl Abort,
-    lines: &[u8],
-    session: (Result<(), DriveError>, Vec<u8>),
+    case: C,
+    (ended, written): (Result<(), DriveError>, Vec<u8>),
     wanted: Result<(), DriveError>,
     answered: &str,
 ) {
-    let (ended, written) = session;
-    equal_at(rt, ended, wanted, lines);
-    equal_at(rt, written.as_slice(), answered.as_bytes(), lines);
+    let answered = answered.as_bytes();
+    equal(
+        rt,
+        (case, ended, written.as_slice()),
+        (case, wanted, answered),
+    );
     drop(written);
 }

@@ -1,9 +1,9 @@
 //! Memory that is refused in the middle of a session: the lines before it are answered, and a line
 //! that can't be read asks for none.
-use crate::compared::{ends, equal_at};
+use crate::compared::{ends, equal, session};
 use std::alloc::Global;
 use std::process::Abort;
-use vb_script::{DriveError, FromRead, ToWrite, drive};
+use vb_script::{DriveError, FromRead};
 use vb_testing::Refusing;
 
 /// Lines of which the first takes memory for its bytes too, and what they are answered.
@@ -21,23 +21,10 @@ const NO_DIGIT: &[u8] = b"import 0 0 8 14\ncount 0\nlen 1\nimport 1 0 8 1g\ncoun
 /// The same lines, then one with a word too many, and one more.
 const LONG: &[u8] = b"import 0 0 8 14\ncount 0\nlen 1\nimport 1 0 8 14 14\ncount 0\n";
 
-/// How a session over these lines ends, and what it writes.
-fn session(
-    global: Global,
-    heap: &Refusing<Global>,
-    lines: &[u8],
-) -> (Result<(), DriveError>, Vec<u8>) {
-    let mut source = FromRead::new(lines);
-    let mut sink = ToWrite::new(Vec::new(global));
-    let ended = drive(heap, &mut source, &mut sink);
-    drop(source);
-    (ended, sink.into_inner())
-}
-
 /// How many requests a session makes for the first lines.
 fn asked(global: Global) -> u64 {
     let heap = Refusing::new(global, 0);
-    drop(session(global, &heap, LINES));
+    drop(session(global, &heap, FromRead::new(LINES)));
     let asked = heap.asked();
     drop(heap);
     asked
@@ -53,9 +40,9 @@ fn ends_after_first(
     has_refused: bool,
 ) {
     let heap = Refusing::new(global, asked(global).saturating_add(1));
-    let ended = session(global, &heap, lines);
+    let ended = session(global, &heap, FromRead::new(lines));
     ends(rt, lines, ended, Err(wanted), ANSWERED);
-    equal_at(rt, heap.has_refused(), has_refused, lines);
+    equal(rt, (lines, heap.has_refused()), (lines, has_refused));
     drop(heap);
 }
 

@@ -3,8 +3,8 @@ ghost use Rattle.std.specs.Prelude.{[], IfOk, Some};
 ghost use Rattle.std.specs.Str.Lines.{lines};
 ghost use Rattle.vb_script.specs.Session.{AnswersLines};
 
-use crate::compared::{ends, equal};
-use std::alloc::{AllocError, Global};
+use crate::compared::{ends, equal, session};
+use std::alloc::Global;
 use std::io;
 use std::io::Read;
 use std::process::Abort;
@@ -40,15 +40,6 @@ impl Read for Pieces<'_> {
     }
 }
 
-/// How a session over these bytes ends, and what it writes.
-fn session(alloc: Global, bytes: &[u8], most: usize) -> (Result<(), DriveError>, Vec<u8>) {
-    let mut source = FromRead::new(Pieces { bytes, most });
-    let mut sink = ToWrite::new(Vec::new(alloc));
-    let ended = drive(alloc, &mut source, &mut sink);
-    drop(source);
-    (ended, sink.into_inner())
-}
-
 /// The sizes of the pieces in which an input comes.
 const SIZES: [usize; 4] = [1, 2, 7, 1_000_000];
 
@@ -57,11 +48,13 @@ fn pieces_end(
     rt: &impl Abort,
     alloc: Global,
     lines: &[u8],
-    ended: Result<(), DriveError>,
+    wanted: Result<(), DriveError>,
     answered: &str,
 ) {
     for most in SIZES {
-        ends(rt, lines, session(alloc, lines, most), ended, answered);
+        let source = FromRead::new(Pieces { bytes: lines, most });
+        let ended = session(alloc, alloc, source);
+        ends(rt, (lines, most), ended, wanted, answered);
     }
 }
 
@@ -165,10 +158,8 @@ const ANSWERED: &[(&str, &str)] = &[
 #[test]
 fn lines_are_answered(rt: HostRuntime) {
     for (lines, answered) in ANSWERED {
-        match answers(rt.alloc(), lines.as_bytes()) {
-            Ok(written) => ends(&rt, lines.as_bytes(), (Ok(()), written), Ok(()), answered),
-            Err(_) => assert!(rt; false, "{lines}"),
-        }
+        let written = answers(rt.alloc(), lines.as_bytes()).expect(&rt, lines);
+        ends(&rt, *lines, (Ok(()), written), Ok(()), answered);
         pieces_end(&rt, rt.alloc(), lines.as_bytes(), Ok(()), answered);
     }
 }
@@ -199,27 +190,25 @@ fn a_line_that_cannot_be_read_ends_the_session(rt: HostRuntime) {
 }
 
 /// An error says this.
-fn says(rt: &impl Abort, alloc: Global, error: DriveError, text: &str) -> Result<(), AllocError> {
-    let shown = format!(in alloc; "{error}")?;
+fn says(rt: &impl Abort, alloc: Global, error: DriveError, text: &str) {
+    let shown = format!(in alloc; "{error}").expect(rt, "memory");
     equal(rt, shown.as_str(), text);
     drop(shown);
-    Ok(())
 }
 
+const ERRORS: &[(DriveError, &str)] = &[
+    (
+        DriveError::Unreadable { line: u64::MAX },
+        "line 18446744073709551615 can't be read",
+    ),
+    (DriveError::Read, "input can't be read"),
+    (DriveError::Write, "output can't be written"),
+    (DriveError::Memory, "out of memory"),
+];
+
 #[test]
-fn errors_say_what_ended_the_session(rt: HostRuntime) -> Result<(), AllocError> {
-    for (error, text) in [
-        (
-            DriveError::Unreadable {
-                line: 18446744073709551615,
-            },
-            "line 18446744073709551615 can't be read",
-        ),
-        (DriveError::Read, "input can't be read"),
-        (DriveError::Write, "output can't be written"),
-        (DriveError::Memory, "out of memory"),
-    ] {
-        says(&rt, rt.alloc(), error, text)?;
+fn errors_say_what_ended_the_session(rt: HostRuntime) {
+    for (error, text) in ERRORS {
+        says(&rt, rt.alloc(), *error, text);
     }
-    Ok(())
 }

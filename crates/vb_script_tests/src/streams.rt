@@ -1,40 +1,36 @@
 //! Streams that fail, and what is written before a read.
 ghost use Rattle.std.specs.Prelude.{◌≡◌, IfOk};
 
-use crate::compared::{ends, equal, equal_at};
+use crate::compared::{end_of, ends, equal, session};
 use std::alloc::Global;
 use std::cell::Cell;
 use std::io;
 use std::io::{Read, Write};
 use std::process::Abort;
-use std::test::Fail;
-use vb_script::{DriveError, Fault, FromRead, Sink, Source, ToWrite, drive};
+use vb_script::{DriveError, Fault, FromRead, Sink, Source, ToWrite};
 use vb_testing::{FaultyReader, FaultyWriter};
 
-/// A session whose read fails after so many bytes answers the lines that were read whole.
-fn read_fails(rt: &impl Abort, alloc: Global, before: usize, answered: &str) {
-    let lines = b"len 0\nlen 1\n".as_slice();
-    let mut source = FromRead::new(FaultyReader::new(lines, before));
-    let mut sink = ToWrite::new(Vec::new(alloc));
-    let ended = drive(alloc, &mut source, &mut sink);
-    drop(source);
-    let written = sink.into_inner();
-    equal_at(rt, ended, Err(DriveError::Read), before);
-    equal_at(rt, written.as_slice(), answered.as_bytes(), before);
-    drop(written);
-}
+/// Two lines, which are answered alike.
+const LINES: &[u8] = b"len 0\nlen 1\n";
+
+/// After how many bytes of the lines a read fails, and what the lines are answered that were read
+/// whole.
+const READS: &[(usize, &str)] = &[
+    (0, ""),
+    (5, ""),
+    (6, "refused BadSlot\n"),
+    (10, "refused BadSlot\n"),
+    (11, "refused BadSlot\n"),
+    (12, "refused BadSlot\nrefused BadSlot\n"),
+];
 
 #[test]
 fn whole_lines_before_a_failed_read_are_answered(rt: HostRuntime) {
-    for (before, answered) in [
-        (0, ""),
-        (5, ""),
-        (6, "refused BadSlot\n"),
-        (10, "refused BadSlot\n"),
-        (11, "refused BadSlot\n"),
-        (12, "refused BadSlot\nrefused BadSlot\n"),
-    ] {
-        read_fails(&rt, rt.alloc(), before, answered);
+    let alloc = rt.alloc();
+    for (before, answered) in READS {
+        let source = FromRead::new(FaultyReader::new(LINES, *before));
+        let ended = session(alloc, alloc, source);
+        ends(&rt, *before, ended, Err(DriveError::Read), answered);
     }
 }
 
@@ -84,55 +80,49 @@ impl Sink for Full {
 
 #[test]
 fn a_source_of_ones_own_faults(rt: HostRuntime) {
-    let lines = b"len 0\nlen 1\n".as_slice();
-    let mut source = Broken {
-        bytes: lines,
+    let source = Broken {
+        bytes: LINES,
         until_fault: 10,
         faults: 0,
     };
-    let mut sink = ToWrite::new(Vec::new(rt.alloc()));
-    let ended = drive(rt.alloc(), &mut source, &mut sink);
-    drop(source);
-    let session = (ended, sink.into_inner());
-    ends(
-        &rt,
-        lines,
-        session,
-        Err(DriveError::Read),
-        "refused BadSlot\n",
-    );
+    let ended = session(rt.alloc(), rt.alloc(), source);
+    let wanted = Err(DriveError::Read);
+    ends(&rt, (), ended, wanted, "refused BadSlot\n");
 }
 
 #[test]
 fn a_sink_of_ones_own_faults(rt: HostRuntime) {
-    let mut source = FromRead::new(b"len 0\n".as_slice());
     let mut sink = Full { faults: 0 };
-    let ended = drive(rt.alloc(), &mut source, &mut sink);
-    drop((source, sink));
+    let ended = end_of(rt.alloc(), FromRead::new(LINES), &mut sink);
+    drop(sink);
     equal(&rt, ended, Err(DriveError::Write));
 }
 
 /// A session whose write fails ends so, and nothing is written.
 fn write_fails(rt: &impl Abort, alloc: Global, lines: &str, wanted: Result<(), DriveError>) {
-    let mut source = FromRead::new(lines.as_bytes());
     let mut sink = ToWrite::new(FaultyWriter::new(Vec::new(alloc), 0));
-    let ended = drive(alloc, &mut source, &mut sink);
-    drop(source);
+    let ended = end_of(alloc, FromRead::new(lines.as_bytes()), &mut sink);
     let writer = sink.into_inner();
     let is_empty = writer.inner().is_empty();
     drop(writer);
-    equal_at(rt, (ended, is_empty), (wanted, true), lines);
+    equal(rt, (lines, ended, is_empty), (lines, wanted, true));
 }
+
+/// Lines, and how a session over them ends whose first write fails.
+const WRITES: &[(&str, Result<(), DriveError>)] = &[
+    ("len 0\n", Err(DriveError::Write)),
+    ("len 0", Err(DriveError::Write)),
+    ("len 0\nlen x\n", Err(DriveError::Write)),
+    // No answer is written here, so no write can fail.
+    ("len x", Err(DriveError::Unreadable { line: 1 })),
+    ("\n", Ok(())),
+];
 
 #[test]
 fn a_failed_write_ends_the_session(rt: HostRuntime) {
-    for lines in ["len 0\n", "len 0", "len 0\nlen x\n"] {
-        write_fails(&rt, rt.alloc(), lines, Err(DriveError::Write));
+    for (lines, wanted) in WRITES {
+        write_fails(&rt, rt.alloc(), lines, *wanted);
     }
-    // No answer is written here, so no write can fail.
-    let unreadable = DriveError::Unreadable { line: 1 };
-    write_fails(&rt, rt.alloc(), "len x", Err(unreadable));
-    write_fails(&rt, rt.alloc(), "\n", Ok(()));
 }
 
 /// Answers `Interrupted` to its first call, then ends as a reader, and takes all as a writer. Where
@@ -171,17 +161,18 @@ impl Write for Interrupted {
 }
 
 #[test]
-fn each_error_of_a_stream_is_a_fault(rt: HostRuntime) {
-    let mut source = FromRead::new(b"len 0\n".as_slice());
+fn each_error_of_a_reader_is_a_fault(rt: HostRuntime) {
+    let source = FromRead::new(Interrupted { calls: 0 });
+    let ended = session(rt.alloc(), rt.alloc(), source);
+    ends(&rt, (), ended, Err(DriveError::Read), "");
+}
+
+#[test]
+fn each_error_of_a_writer_is_a_fault(rt: HostRuntime) {
     let mut sink = ToWrite::new(Interrupted { calls: 0 });
-    let ended = drive(rt.alloc(), &mut source, &mut sink);
-    drop((source, sink));
+    let ended = end_of(rt.alloc(), FromRead::new(LINES), &mut sink);
+    drop(sink);
     equal(&rt, ended, Err(DriveError::Write));
-    let mut source = FromRead::new(Interrupted { calls: 0 });
-    let mut sink = ToWrite::new(Vec::new(rt.alloc()));
-    let ended = drive(rt.alloc(), &mut source, &mut sink);
-    drop((source, sink));
-    equal(&rt, ended, Err(DriveError::Read));
 }
 
 /// What was written so far: how many bytes, in how many writes, and the widest of these.
@@ -239,7 +230,7 @@ impl Read for Asking<'_> {
 /// Lines that come by so many reads are answered by so many bytes a read, in one write a read.
 fn asked(rt: &impl Abort, alloc: Global, lines: &[u8], reads: usize, answers: usize) {
     let written = Written::default();
-    let mut source = FromRead::new(Asking {
+    let source = FromRead::new(Asking {
         lines,
         left: reads,
         wanted: 0,
@@ -247,17 +238,20 @@ fn asked(rt: &impl Abort, alloc: Global, lines: &[u8], reads: usize, answers: us
         written: &written,
     });
     let mut sink = ToWrite::new(Counting(&written));
-    let ended = drive(alloc, &mut source, &mut sink);
-    drop((source, sink));
+    let ended = end_of(alloc, source, &mut sink);
+    drop(sink);
     let counts = (written.writes.get(), written.bytes.get());
     drop(written);
-    equal(rt, ended, Ok(()));
-    equal(rt, counts, (reads, reads.saturating_mul(answers)));
+    equal(
+        rt,
+        (ended, counts),
+        (Ok(()), (reads, reads.saturating_mul(answers))),
+    );
 }
 
 #[test]
 fn answers_are_written_before_the_next_read(rt: HostRuntime) {
-    asked(&rt, rt.alloc(), b"len 0\nlen 1\n", 5, 32);
+    asked(&rt, rt.alloc(), LINES, 5, 32);
 }
 
 /// Four lines of which the answers are `ok` three times, and a refusal.
@@ -266,33 +260,28 @@ const FOUR_LINES: &[u8] = b"full 0 1 9\nappend 0 1\ndrop 0\nlen 0\n";
 /// A body that answers `Memory` after 100,000 lines fails here, and so does one that writes at
 /// every line.
 #[test]
-fn many_lines_are_answered(rt: HostRuntime) -> Result<(), Fail> {
-    let lines = b"len 0\n".repeat(rt.alloc(), 4000)?;
+fn many_lines_are_answered(rt: HostRuntime) {
+    let lines = b"len 0\n".repeat(rt.alloc(), 4000).expect(&rt, "memory");
     asked(&rt, rt.alloc(), &lines, 38, 64_000);
     drop(lines);
-    let lines = FOUR_LINES.repeat(rt.alloc(), 1000)?;
+    let lines = FOUR_LINES.repeat(rt.alloc(), 1000).expect(&rt, "memory");
     asked(&rt, rt.alloc(), &lines, 25, 25_000);
     drop(lines);
-    Ok(())
 }
 
 #[test]
-fn answers_do_not_pile_up(rt: HostRuntime) -> Result<(), Fail> {
-    let lines = b"len 0\n".repeat(rt.alloc(), 50_000)?;
+fn answers_do_not_pile_up(rt: HostRuntime) {
+    let lines = b"len 0\n".repeat(rt.alloc(), 50_000).expect(&rt, "memory");
     let written = Written::default();
-    let mut source = FromRead::new(lines.as_slice());
     let mut sink = ToWrite::new(Counting(&written));
-    let ended = drive(rt.alloc(), &mut source, &mut sink);
-    drop((source, sink));
-    let (bytes, widest, writes) = (
-        written.bytes.get(),
-        written.widest.get(),
-        written.writes.get(),
-    );
-    drop((written, lines));
-    equal(&rt, ended, Ok(()));
-    equal(&rt, bytes, 800_000);
-    assert!(rt; widest < 65536 + 16);
-    assert!(rt; writes <= 20, "by blocks");
-    Ok(())
+    let ended = end_of(rt.alloc(), FromRead::new(lines.as_slice()), &mut sink);
+    drop(sink);
+    drop(lines);
+    let is_narrow = written.widest.get() < 65536 + 16;
+    // They are written by blocks.
+    let is_rare = written.writes.get() <= 20;
+    let bytes = written.bytes.get();
+    drop(written);
+    equal(&rt, (ended, bytes), (Ok(()), 800_000));
+    equal(&rt, (is_narrow, is_rare), (true, true));
 }
