@@ -30,7 +30,7 @@ impl Call {
             Call::FromBoolVec => of_vec(alloc, false),
             Call::FromBoolVecShared => of_vec(alloc, true),
             Call::FromTruthy => shared(BitBufferMut::from_truthy(alloc, &[0, 1, 2, 255])),
-            Call::FromIter => { shared(BitBufferMut::from_iter(alloc, (0..3u32).map(|i| i == 1))) }
+            Call::FromIter => shared(BitBufferMut::from_iter(alloc, (0..3u32).map(|i| i == 1))),
             Call::FromIterShared => BitBuffer::from_iter(alloc, (0..3u32).map(|i| i == 1)),
             Call::MapCmp => mapped(alloc),
         }
