@@ -82,12 +82,8 @@ fn is_word(kind: Kind, word: &str) -> bool {
 
 /// Whether a word is two digits of each of some bytes.
 fn is_hex(word: &str) -> bool {
-    let are_digits = word.bytes().all(is_digit);
+    let are_digits = word.as_bytes().iter().all(u8::is_ascii_hexdigit);
     are_digits && !word.is_empty() && word.len().is_multiple_of(2)
-}
-
-fn is_digit(byte: u8) -> bool {
-    byte.is_ascii_hexdigit()
 }
 
 fn is_number(word: &str) -> bool {

@@ -36,13 +36,6 @@ pub(crate) fn cut(bits: &mut Vec<bool>, a: usize, b: usize) -> Result<(), Stop> 
     Ok(())
 }
 
-/// Negates each bit.
-pub(crate) fn flip(bits: &mut [bool]) {
-    for bit in bits {
-        *bit = !*bit;
-    }
-}
-
 /// Combines each bit with that of another list.
 pub(crate) fn combine(bits: &mut [bool], name: &str, right: &[bool]) -> Result<(), Stop> {
     if bits.len() != right.len() {
@@ -68,7 +61,8 @@ pub(crate) fn window(bits: &mut Vec<bool>, o: usize, n: usize, digits: &str) -> 
     for i in o..end {
         // Two digits are a byte, the higher one first.
         let digit = digits.as_bytes().get((i / 4) ^ 1).copied().unwrap_or(b'0');
-        bits.push((digit as char).to_digit(16).unwrap_or(0) >> (i % 4) & 1 == 1)?;
+        let nibble = (digit as char).to_digit(16).unwrap_or(0);
+        lengthen(bits, nibble >> (i % 4) & 1 == 1, 1)?;
     }
     Ok(())
 }
@@ -102,7 +96,7 @@ pub(crate) fn take(
     }
     for (position, item) in indexes.split_terminator(',').enumerate() {
         let bit = taken(from, counts, position, index(item));
-        bits.push(bit.ok_or(Stop::Position(position))?)?;
+        lengthen(bits, bit.ok_or(Stop::Position(position))?, 1)?;
     }
     Ok(())
 }

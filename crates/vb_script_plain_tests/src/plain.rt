@@ -2,7 +2,7 @@
 use crate::answer::answer;
 use crate::form::{Kind, Memory, Then};
 use crate::line::Call;
-use crate::list::{combine, cut, fill, flip, lengthen, name_places, take, window};
+use crate::list::{combine, cut, fill, lengthen, name_places, take, window};
 use crate::stop::{BAD_SLOT, OUT_OF_MEMORY, Stop};
 use crate::text::Text;
 use std::alloc::{AllocError, Global};
@@ -199,7 +199,9 @@ fn change(slots: &[Slot], call: Call<'_>, bits: &mut Vec<bool>) -> Result<(), St
             take(bits, bits_of(slots, call, 1), counts, items)
         }
         "flip" | "not" => {
-            flip(bits);
+            for bit in bits.iter_mut() {
+                *bit = !*bit;
+            }
             Ok(())
         }
         // All others leave it.

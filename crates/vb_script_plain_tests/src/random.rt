@@ -133,7 +133,11 @@ impl Random {
                 self.add_group();
             }
             let start = self.text.len();
-            self.add_line();
+            if self.below(50) == 0 {
+                self.add_one_of(SKIPPED);
+            } else {
+                self.add_command();
+            }
             let is_last = matches!(read(self.text.added(start)), Line::Unreadable);
             let is_returned = self.below(20) == 0;
             self.text.add(if is_returned { "\r\n" } else { "\n" });
@@ -142,14 +146,6 @@ impl Random {
             }
         }
         most
-    }
-
-    fn add_line(&mut self) {
-        if self.below(50) == 0 {
-            self.add_one_of(SKIPPED);
-        } else {
-            self.add_command();
-        }
     }
 
     /// Adds a group of lines on three slots, which are emptied first and looked at last.

@@ -88,13 +88,8 @@ fn run_is_plain(
     }
     drop((pool, held, commands));
     equal(rt, is_held, true);
-    is_plain(
-        rt,
-        global,
-        whole,
-        was_refused && is_run,
-        (Ok(()), text.as_str()),
-    );
+    let session = (Ok(()), text.as_str());
+    is_plain(rt, global, whole, was_refused && is_run, session);
     drop(text);
 }
 

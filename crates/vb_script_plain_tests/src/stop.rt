@@ -1,5 +1,5 @@
 //! Why the plain machine stops.
-use std::alloc::{AllocError, AllocFailed};
+use std::alloc::AllocError;
 
 /// Why a line isn't carried out.
 #[derive(Clone, Copy)]
@@ -23,12 +23,6 @@ pub(crate) const OUT_OF_MEMORY: Stop = Stop::Refused("OutOfMemory");
 
 impl From<AllocError> for Stop {
     fn from(_: AllocError) -> Stop {
-        Stop::Memory
-    }
-}
-
-impl From<AllocFailed<bool>> for Stop {
-    fn from(_: AllocFailed<bool>) -> Stop {
         Stop::Memory
     }
 }
