@@ -8,6 +8,8 @@ NAMED = ["README.md", "CONTRIBUTING.md", "CHANGELOG.md"]
 FOLDERS = ["docs", "crates", "bindings"]
 SOURCES = {".rt", ".antt", ".rs", ".h", ".c", ".py", ".txt", ".toml", ".in", ".edit", ""}
 PROSE = {"LICENSE", "NOTICE", "HANDLES"}
+# What was measured, and of which code, which may be gone.
+MEASURED = "docs/PERF.md"
 WORD = re.compile(r"[^\W\d][\w'-]*|[^\W\d]\w*")
 
 
@@ -51,6 +53,11 @@ class Repository:
             paths += sorted((self.root / folder).rglob("*.md"))
         kept = [it for it in paths if "out" not in it.parts and "target" not in it.parts]
         return [self.document(it.relative_to(self.root).as_posix()) for it in kept]
+
+    @cached_property
+    def standing(self) -> list[Document]:
+        """The documents that speak of the sources as they are: all but that of measurements."""
+        return [it for it in self.documents if it.path != MEASURED]
 
     def document(self, path: str) -> Document:
         return Document(path, self.read(path))

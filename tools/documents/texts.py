@@ -22,7 +22,7 @@ OUTSIDE = set("rustc cargo rt git errno".split())
 def names(repository: Repository) -> list[str]:
     """The names in backquotes that no source has."""
     found = []
-    for document in repository.documents:
+    for document in repository.standing:
         for n, line in document.lines():
             for it in NAME.findall(ours(document, line)):
                 for word in missing(it, repository.words):
@@ -80,7 +80,7 @@ def leads(root: Path, document: Document, to: str) -> bool:
 def stale(repository: Repository) -> list[str]:
     """Dates, durations of proofs and tests, and counts that the next change makes false."""
     found = []
-    for document in repository.documents:
+    for document in repository.standing:
         for n, line in document.lines():
             for what, pattern in STALE.items():
                 for it in pattern.finditer(line):

@@ -29,6 +29,7 @@ let a = one(1);
 assert!(rt; matches!(a, [1, 2]));
 ```
 """,
+    "docs/PERF.md": "In 2.5 seconds `gone` was mended, see [low](LOW.md).\n",
     "docs/LOW.md": "## A part of `it`\nIt takes `Type::of` and `bits b`.\n",
     "docs/DIFFERENCES.md": "| `Upstream` | `one` |\n| left out | `other` |\n",
     "crates/vortex_buffer/CALLING.md": """```antt
@@ -128,6 +129,10 @@ class Checked(unittest.TestCase):
         self.assertEqual(found, ["README.md:3: docs/LOW.md#no-part isn't there"])
         found = links(self.repository(README_dot_md=("LOW.md", "HIGH.md")))
         self.assertEqual(found, ["README.md:3: docs/HIGH.md#a-part-of-it isn't there"])
+
+    def test_a_page_of_what_was_measured_has_links_that_lead_somewhere(self):
+        found = links(self.repository(PERF_dot_md=("(LOW.md", "(HIGH.md")))
+        self.assertEqual(found, ["docs/PERF.md:1: HIGH.md isn't there"])
 
     def test_a_version_that_differs(self):
         found = lists(self.repository(README_dot_md=("-r4", "-r3")))

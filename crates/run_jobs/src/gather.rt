@@ -1,0 +1,139 @@
+//! Values and bits at indices, and texts at indices.
+ghost use Rattle.std.specs.Prelude.{◌≡◌, length};
+
+use crate::digest::Digest;
+use crate::pages::{Pages, window};
+use crate::random::Random;
+use crate::records::Records;
+use anyhow::{Result, bail};
+use std::alloc::Global;
+use vortex_buffer::{Alignment, BitBuffer, Buffer, Take, take_bits};
+
+/// How many values a table has that fits the caches, and one that doesn't.
+const SMALL: usize = 50_000;
+
+const LARGE: usize = 6_000_000;
+
+/// How many indices there are at once.
+const INDICES: usize = 65_536;
+
+/// Takes of tens of thousands of values and bits from a small table and a large one, and texts.
+pub fn gather(alloc: Global, rounds: u32, random: &mut Random, digest: &mut Digest) -> Result<()> {
+    let small = Tables::new(alloc, random, SMALL)?;
+    let large = Tables::new(alloc, random, LARGE)?;
+    for _ in 0..rounds {
+        for _ in 0..12 {
+            small.taken(alloc, random, digest)?;
+        }
+        for _ in 0..4 {
+            large.taken(alloc, random, digest)?;
+        }
+        let records = Records::new(alloc, random)?;
+        records.read(alloc, digest)?;
+        drop(records);
+    }
+    drop((small, large));
+    Ok(())
+}
+
+/// Values and bits, and indices of them: at random, and rising.
+#[derive(Drop)]
+struct Tables {
+    pages: Pages,
+    values: Buffer<u32>,
+    at_random: Vec<u32>,
+    rising: Vec<u64>,
+}
+
+impl Tables {
+    /// Tables of so many values.
+    fn new(alloc: Global, random: &mut Random, len: usize) -> Result<Self> {
+        let pages = Pages::new(alloc, random, len.div_ceil(2), len.div_ceil(64) + 2_048)?;
+        let part = pages.values.as_slice();
+        let values = Buffer::read_from(alloc, part, Alignment::of::<u32>())?;
+        let at_random = at_random(alloc, random, values.len())?;
+        let rising = rising(alloc, random, values.len())?;
+        Ok(Tables {
+            pages,
+            values,
+            at_random,
+            rising,
+        })
+    }
+
+    /// Adds what is taken at indices from a place at random on, of some of which none count.
+    fn taken(&self, alloc: Global, random: &mut Random, digest: &mut Digest) -> Result<()> {
+        let from = random.below(self.at_random.len() / 2);
+        let valid = window(&self.pages.random, random, INDICES)?;
+        let bits = window(&self.pages.runs, random, self.values.len())?;
+        if from + INDICES > self.at_random.len() || from + INDICES > self.rising.len() {
+            bail!("too few indices");
+        }
+        let random_ones = &self.at_random[from..from + INDICES];
+        let rising_ones = &self.rising[from..from + INDICES];
+        take_some(alloc, &self.values, &bits, random_ones, &valid, digest)?;
+        take_rising(alloc, &self.values, &bits, rising_ones, digest)?;
+        drop((valid, bits));
+        Ok(())
+    }
+}
+
+/// Indices at random, below a number.
+fn at_random(alloc: Global, random: &mut Random, end: usize) -> Result<Vec<u32>> {
+    let mut indices = Vec::new(alloc);
+    for _ in 0..4 * INDICES {
+        indices.push(random.below(end.min(4_294_967_295)) as u32)?;
+    }
+    Ok(indices)
+}
+
+/// Indices that rise, below a number.
+fn rising(alloc: Global, random: &mut Random, end: usize) -> Result<Vec<u64>> {
+    let mut indices = Vec::new(alloc);
+    let mut place = 0usize;
+    for _ in 0..4 * INDICES {
+        place = place.saturating_add(random.below(20));
+        if place >= end {
+            place = 0;
+        }
+        indices.push(place as u64)?;
+    }
+    Ok(indices)
+}
+
+/// Adds the values and the bits at indices, where these count.
+fn take_some(
+    alloc: Global,
+    values: &Buffer<u32>,
+    bits: &BitBuffer,
+    indices: &[u32],
+    valid: &BitBuffer,
+    digest: &mut Digest,
+) -> Result<()>
+    requires { length valid.now.bits ≡ length indices.now }
+{
+    let taken = values.taken(indices, Some(valid.as_view()))?;
+    digest.add_values(taken.as_slice());
+    drop(taken);
+    let taken = take_bits(alloc, bits.as_view(), indices, Some(valid.as_view()))?;
+    digest.add_bits(taken.as_view());
+    drop(taken);
+    Ok(())
+}
+
+/// Adds the values and the bits at indices that all count.
+fn take_rising(
+    alloc: Global,
+    values: &Buffer<u32>,
+    bits: &BitBuffer,
+    indices: &[u64],
+    digest: &mut Digest,
+) -> Result<()> {
+    let taken = values.taken(indices, None)?;
+    digest.add_values(taken.as_slice());
+    drop(taken);
+    let taken = take_bits(alloc, bits.as_view(), indices, None)?;
+    digest.add_bits(taken.as_view());
+    drop(taken);
+    Ok(())
+}

@@ -1,0 +1,68 @@
+//! Pages of bytes, of which batches are parts.
+ghost use Rattle.std.specs.Prelude.{◌≡◌, length, IfOk};
+
+use crate::random::Random;
+use anyhow::{Result, bail};
+use std::alloc::Global;
+use vortex_buffer::{BitBuffer, BitBufferMut, Buffer, ByteBuffer};
+
+/// The bytes of values, and the bits of two masks: at random, and in runs.
+#[derive(Drop)]
+pub struct Pages {
+    pub values: Vec<u8>,
+    pub random: ByteBuffer,
+    pub runs: ByteBuffer,
+}
+
+impl Pages {
+    /// Pages with so many words of values, and of each mask.
+    pub fn new(alloc: Global, random: &mut Random, values: usize, bits: usize) -> Result<Self> {
+        let numbers = random.bytes(alloc, values)?;
+        let bytes = random_page(alloc, random, bits)?;
+        let runs = runs_page(alloc, random, bits.saturating_mul(64), 200)?;
+        Ok(Pages {
+            values: numbers,
+            random: bytes,
+            runs,
+        })
+    }
+}
+
+/// So many words of random bits.
+pub fn random_page(alloc: Global, random: &mut Random, words: usize) -> Result<ByteBuffer> {
+    let bytes = random.bytes(alloc, words)?;
+    Ok(Buffer::from_vec(alloc, bytes)?)
+}
+
+/// The bytes of so many bits in runs of true and of false bits, each of at most `most`.
+pub fn runs_page(
+    alloc: Global,
+    random: &mut Random,
+    bits: usize,
+    most: usize,
+) -> Result<ByteBuffer> {
+    let mut set = BitBufferMut::with_capacity(alloc, bits)?;
+    let mut value = false;
+    for _ in 0..bits {
+        let left = bits.saturating_sub(set.len());
+        let run = random.below(most).saturating_add(1).min(left);
+        set.append_n(value, run)?;
+        value = !value;
+        if left == 0 {
+            break;
+        }
+    }
+    Ok(set.into_inner().freeze()?)
+}
+
+/// So many bits of a page, from a place at random on, which share its storage.
+pub fn window(page: &ByteBuffer, random: &mut Random, bits: usize) -> Result<BitBuffer>
+    ensures { IfOk result (λ s. length s.bits ≡ bits) }
+{
+    let room = page.len().saturating_mul(8);
+    if room <= bits {
+        bail!("a page is too short");
+    }
+    let offset = random.below(room - bits);
+    Ok(BitBuffer::new_with_offset(page.clone()?, bits, offset))
+}

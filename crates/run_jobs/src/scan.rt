@@ -1,0 +1,121 @@
+//! A scan of a column: values by one copy from a page, masks, what these keep.
+ghost use Rattle.std.specs.Prelude.{◌≡◌, length, IfOk};
+
+use crate::digest::Digest;
+use crate::pages::{Pages, window};
+use crate::random::Random;
+use anyhow::{Result, bail};
+use std::alloc::Global;
+use use_filters::{Condition, rows_where};
+use vortex_buffer::{Alignment, BitBuffer, Buffer, Filter};
+
+/// Words of a page of values, and of one of masks.
+const VALUES: usize = 262_144;
+
+const BITS: usize = 65_536;
+
+/// Batches of 8,192 and 65,536 rows, sixteen a round, the last of each of few rows or one.
+pub fn scan(alloc: Global, rounds: u32, random: &mut Random, digest: &mut Digest) -> Result<()> {
+    let pages = Pages::new(alloc, random, VALUES, BITS)?;
+    for _ in 0..rounds {
+        for turn in 0..16usize {
+            let rows = match turn {
+                3 | 8 | 12 => 65_536,
+                15 => few(random),
+                _ => 8_192,
+            };
+            batch(alloc, &pages, rows, random, digest)?;
+        }
+    }
+    drop(pages);
+    Ok(())
+}
+
+/// A number of rows below some hundreds, often one.
+fn few(random: &mut Random) -> usize {
+    let most = random.below(300).saturating_add(1);
+    random.below(most).saturating_add(1)
+}
+
+/// The values of a batch that a condition and two masks keep, and their bits of a third mask.
+fn batch(
+    alloc: Global,
+    pages: &Pages,
+    rows: usize,
+    random: &mut Random,
+    digest: &mut Digest,
+) -> Result<()> {
+    let values = values(alloc, pages, rows, random)?;
+    let valid = window(&pages.random, random, rows)?;
+    let fresh = window(&pages.runs, random, rows)?;
+    let condition = condition(random);
+    let kept = rows_kept(alloc, &values, &valid, &fresh, condition, random)?;
+    digest.add_place(kept.true_count());
+    filtered(&values, &valid, &kept, digest)?;
+    drop((values, valid, fresh, kept));
+    Ok(())
+}
+
+/// The values of so many rows, from a byte at random on.
+fn values(alloc: Global, pages: &Pages, rows: usize, random: &mut Random) -> Result<Buffer<u32>> {
+    let bytes = pages.values.as_slice();
+    let size = rows.saturating_mul(4);
+    if bytes.len() <= size {
+        bail!("a page is too short");
+    }
+    let start = random.below(bytes.len() - size);
+    let part = &bytes[start..start + size];
+    Ok(Buffer::read_from(alloc, part, Alignment::of::<u32>())?)
+}
+
+/// A condition that one value in 1,000, in 10 or in 2 meets, or nearly all.
+fn condition(random: &mut Random) -> Condition {
+    match random.below(4) {
+        0 => Condition::Below(4_294_967),
+        1 => Condition::Below(429_496_729),
+        2 => Condition::AtLeast(2_147_483_648),
+        _ => Condition::AtLeast(42_949_673),
+    }
+}
+
+/// The rows whose value meets the condition, combined with two masks.
+fn rows_kept(
+    alloc: Global,
+    values: &Buffer<u32>,
+    valid: &BitBuffer,
+    fresh: &BitBuffer,
+    condition: Condition,
+    random: &mut Random,
+) -> Result<BitBuffer> {
+    let met = rows_where(alloc, values, condition)?;
+    let either = match random.below(4) {
+        0 => (&met & valid)?,
+        1 => (valid & &met)?,
+        2 => (valid | &met)?,
+        _ => met.clone()?,
+    };
+    drop(met);
+    let kept = match random.below(3) {
+        0 => fresh & &either,
+        1 => either.bitand_not(fresh),
+        _ => (!fresh)? & &either,
+    };
+    drop(either);
+    Ok(kept?)
+}
+
+/// Adds what a mask keeps of values, and of bits.
+fn filtered(
+    values: &Buffer<u32>,
+    flags: &BitBuffer,
+    kept: &BitBuffer,
+    digest: &mut Digest,
+) -> Result<()> {
+    let found = values.filtered(kept.as_view())?;
+    digest.add_values(found.as_slice());
+    drop(found);
+    let bits = flags.filtered(kept.as_view())?;
+    digest.add_bits(bits.as_view());
+    drop(bits);
+    Ok(())
+}
