@@ -27,6 +27,10 @@ module _ {T : Type 0} (zero : T) (items : List T) (indices : List ℤ)
     pub same_len : length taken ≡ length indices
     pub each : (i : ℕ) → i < length indices → item_taken i ≡ slice_get taken i
 
+  -- the first n positions have what they take
+  abbrev pub TakenTo : ℕ → List T → Type 0
+  TakenTo n taken = (i : ℕ) → i < n → item_taken i ≡ Some (slice_index_or taken i zero)
+
   -- position p is the first that takes nothing: it counts, and its index names no place of the list
   pub record IsFirstUntaken (p : ℕ) : Type 0 where
     pub within : p < length indices

@@ -1,12 +1,15 @@
 //! Items taken at indices.
-ghost use Rattle.std.specs.Prelude.{◌≡◌, ℤ, ◌<◌, ◌≤◌, Bool, List, Option, Some, length, map, take};
-ghost use Rattle.std.specs.Prelude.{drop, Result, IfOk, IfErr, if◌then◌else◌};
+ghost use Rattle.std.specs.Prelude.{◌≡◌, ℕ, ℤ, ◌+◌, ◌*◌, ◌<◌, ◌≤◌, Bool, List, Option, Some};
+ghost use Rattle.std.specs.Prelude.{length, map, take, drop, slice_index_or, Result, IfOk, IfErr};
+ghost use Rattle.std.specs.Prelude.{if◌then◌else◌};
 ghost use Rattle.std.specs.Option.{ForSome, option_map};
 ghost use Rattle.vb_core.specs.declared.error.BufferError.{BufferError};
-ghost use Rattle.vb_filter.specs.ItemsTaken.{item_named, AreTaken, IsFirstUntaken};
+ghost use Rattle.vb_bits.specs.Digits.{has_bit};
+ghost use Rattle.vb_filter.specs.ItemsTaken.{item_named, AreTaken, TakenTo, IsFirstUntaken};
 ghost use Rattle.vb_take.specs.Takes.{is_valid};
 ghost use Rattle.vb_view.specs.View.{bits_of};
 
+use crate::bits::view_digits;
 use std::alloc::Allocator;
 use vb_core::{BitIndex, BufferError, Element, Result};
 use vb_mem::{Buffer, BufferMut};
@@ -61,6 +64,8 @@ impl<T: Element, A: Allocator + Clone> Take for Buffer<T, A> {
 /// false, 0 is written, and the index doesn't count. `Err` is the first position whose index counts
 /// and is negative, or not below the number of values. The first `indices.len()` items of `out` are
 /// unspecified then.
+///
+/// Where there is a `validity`, whole blocks of 64 positions go by the ones of its words.
 pub fn take_values_into<T: Element, I: BitIndex>(
     out: &mut [T],
     values: &[T],
@@ -75,7 +80,121 @@ pub fn take_values_into<T: Element, I: BitIndex>(
         (option_map bits_of validity.entry) p) }
     ensures others { drop (length indices.now) out.new ≡ drop (length indices.now) out.old }
 {
-    for k in 0..indices.len() {
+    let words = match validity {
+        Some(_) => indices.len() / 64,
+        None => 0,
+    };
+    take_words(out, values, indices, validity, words)?;
+    take_rest(out, values, indices, validity, 64 * words)
+}
+
+/// [`take_values_into`] of the first `words` times 64 positions.
+fn take_words<T: Element, I: BitIndex>(
+    out: &mut [T],
+    values: &[T],
+    indices: &[I],
+    validity: Option<BitBufferView<'_>>,
+    words: usize,
+) -> Result<(), usize>
+    requires room { length indices.now ≤ length out.old }
+    requires validity { ForSome validity (λ v. length (bits_of v) ≡ length indices.now) }
+    requires words { 64 * words ≤ length indices.now }
+    ensures taken { IfOk result (λ _. TakenTo T.zero values.now (map I.number indices.now)
+        (option_map bits_of validity.entry) (64 * words) out.new) }
+    ensures past { IfErr result (λ p. IsFirstUntaken T.zero values.now (map I.number indices.now)
+        (option_map bits_of validity.entry) p) }
+    ensures others { drop (length indices.now) out.new ≡ drop (length indices.now) out.old }
+{
+    for t in 0..words {
+        take_block(out, values, indices, validity, 64 * t)?;
+    }
+    Ok(())
+}
+
+/// [`take_values_into`] of the 64 positions from `at` on, where those before them are taken.
+///
+/// It goes by the ones of the validity, so no branch is on the bit of a position.
+#[inline(always)]
+fn take_block<T: Element, I: BitIndex>(
+    out: &mut [T],
+    values: &[T],
+    indices: &[I],
+    validity: Option<BitBufferView<'_>>,
+    at: usize,
+) -> Result<(), usize>
+    requires room { length indices.now ≤ length out.old }
+    requires validity { ForSome validity (λ v. length (bits_of v) ≡ length indices.now) }
+    requires inside { at + 64 ≤ length indices.now }
+    requires before { TakenTo T.zero values.now (map I.number indices.now)
+        (option_map bits_of validity) at out.old }
+    ensures taken { IfOk result (λ _. TakenTo T.zero values.now (map I.number indices.now)
+        (option_map bits_of validity.entry) (at + 64) out.new) }
+    ensures past { IfErr result (λ p. IsFirstUntaken T.zero values.now (map I.number indices.now)
+        (option_map bits_of validity.entry) p) }
+    ensures others { drop (length indices.now) out.new ≡ drop (length indices.now) out.old }
+{
+    clear_block(out, at);
+    let mut left = valid_word(validity, at);
+    while left != 0 {
+        let place = at + left.trailing_zeros() as usize;
+        match value_named(values, indices[place]) {
+            Some(value) => out[place] = value,
+            None => return Err(place),
+        }
+        left &= left - 1;
+    }
+    Ok(())
+}
+
+/// Writes 0 to the 64 items from `at` on.
+#[inline(always)]
+fn clear_block<T: Element>(out: &mut [T], at: usize)
+    requires { at + 64 ≤ length out.old }
+    ensures zero { (i : ℕ) → at ≤ i → i < at + 64 → slice_index_or out.new i T.zero ≡ T.zero }
+    ensures before { (i : ℕ) → i < at
+        → slice_index_or out.new i T.zero ≡ slice_index_or out.old i T.zero }
+    ensures behind { drop (at + 64) out.new ≡ drop (at + 64) out.old }
+{
+    for k in at..at + 64 {
+        out[k] = T::zero();
+    }
+}
+
+/// Which of the 64 positions from `at` on count, as digits of a word.
+#[inline(always)]
+fn valid_word(validity: Option<BitBufferView<'_>>, at: usize) -> u64
+    requires { ForSome validity (λ v. at + 64 ≤ length (bits_of v)) }
+    ensures { (k : ℕ) → k < 64 → has_bit result k
+        ≡ is_valid (option_map bits_of validity.entry) (at + k) }
+{
+    match validity {
+        Some(bits) => view_digits(bits, at, 64),
+        None => u64::MAX,
+    }
+}
+
+/// [`take_values_into`] of the positions from `from` on, one by one, where those before them are
+/// taken.
+#[inline(always)]
+fn take_rest<T: Element, I: BitIndex>(
+    out: &mut [T],
+    values: &[T],
+    indices: &[I],
+    validity: Option<BitBufferView<'_>>,
+    from: usize,
+) -> Result<(), usize>
+    requires room { length indices.now ≤ length out.old }
+    requires validity { ForSome validity (λ v. length (bits_of v) ≡ length indices.now) }
+    requires begun { from ≤ length indices.now }
+    requires before { TakenTo T.zero values.now (map I.number indices.now)
+        (option_map bits_of validity) from out.old }
+    ensures taken { IfOk result (λ _. AreTaken T.zero values.now (map I.number indices.now)
+        (option_map bits_of validity.entry) (take (length indices.now) out.new)) }
+    ensures past { IfErr result (λ p. IsFirstUntaken T.zero values.now (map I.number indices.now)
+        (option_map bits_of validity.entry) p) }
+    ensures others { drop (length indices.now) out.new ≡ drop (length indices.now) out.old }
+{
+    for k in from..indices.len() {
         match value_taken(values, indices[k], is_valid(validity, k)) {
             Some(value) => out[k] = value,
             None => return Err(k),

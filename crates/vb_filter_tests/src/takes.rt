@@ -1,5 +1,6 @@
 //! Values of buffers at indices.
 use crate::compared::{equal, shows};
+use crate::masks::{Kept, Row, mask};
 use std::alloc::{Allocator, Global};
 use std::process::Abort;
 use vb_bit_buffer::BitBuffer;
@@ -74,6 +75,67 @@ fn the_first_valid_index_past_the_values_is_refused(rt: HostRuntime) {
     let refused = squares(rt.alloc(), &[7i8, 4, -1, 5], &[false, true, true, true]);
     let wanted = BufferError::TakeOutOfRange { position: 2 };
     equal(&rt, shows(&rt, refused, &[]), Err(wanted));
+}
+
+/// Which of 130 positions count, in two blocks of 64 and behind them.
+const COUNTING: &[Row] = &[
+    Row(130, 0, Kept::OneIn(1)),
+    Row(130, 3, Kept::OneIn(2)),
+    Row(130, 5, Kept::OneIn(64)),
+    Row(130, 2, Kept::OneIn(5000)),
+    Row(130, 1, Kept::AllButOneIn(64)),
+];
+
+/// A take of the values by the indices, at the positions that a row has.
+fn taken_where<A: Allocator + Clone>(
+    alloc: A,
+    values: &[u32],
+    indices: &[u64],
+    row: &Row,
+) -> Result<Buffer<u32, A>> {
+    let values = Buffer::copy_from(alloc.clone()?, values)?;
+    let taken = taken(&values, indices, mask(alloc, row));
+    drop(values);
+    taken
+}
+
+/// The first of the positions from one on that counts.
+fn first_counting(row: &Row, from: usize) -> Option<usize> {
+    (from..row.0).find(|position| row.has(*position))
+}
+
+/// Squares by indices of which those from a position on name none: what a loop takes, or the first
+/// that counts and is bad.
+fn is_that_of_a_loop(rt: &impl Abort, alloc: Global, row: &Row, bad: usize) {
+    let mut indices = [5u64; 130];
+    let mut wanted = [0u32; 130];
+    for k in 0..bad.min(130) {
+        indices[k] = (k % 5) as u64;
+        if row.has(k) {
+            wanted[k] = SQUARES[k % 5];
+        }
+    }
+    let answer = match first_counting(row, bad) {
+        Some(position) => Err(BufferError::TakeOutOfRange { position }),
+        None => Ok(()),
+    };
+    let taken = taken_where(alloc, SQUARES, &indices, row);
+    equal(rt, shows(rt, taken, &wanted), answer);
+}
+
+#[test]
+fn blocks_take_what_a_loop_takes(rt: HostRuntime) {
+    for row in COUNTING {
+        for bad in 0..131 {
+            is_that_of_a_loop(&rt, rt.alloc(), row, bad);
+        }
+    }
+}
+
+#[test]
+fn null_positions_need_no_value(rt: HostRuntime) {
+    let taken = taken_where(rt.alloc(), &[], &[0; 130], &Row(130, 2, Kept::OneIn(5000)));
+    equal(&rt, shows(&rt, taken, &[0; 130]), Ok(()));
 }
 
 #[test]

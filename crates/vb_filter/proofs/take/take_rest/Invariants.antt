@@ -1,12 +1,12 @@
-use Rattle.std.proofs.Common.{◌≡◌, drop, length}
+use Rattle.std.proofs.Common.{◌≡◌, drop, length, map}
 use Rattle.std.specs.Option.{option_map}
 use Rattle.vb_view.specs.View.{bits_of}
-use Rattle.vb_filter.proofs.ItemsLemmas.{TakenTo}
-use Rattle.vb_filter.proofs.take.take_values_into.Given as goal
+use Rattle.vb_filter.specs.ItemsTaken.{TakenTo}
+use Rattle.vb_filter.proofs.take.take_rest.Given as goal
 
 abbrev pub invariant-loop-k : goal.invariant-loop-k
 invariant-loop-k g l = record {
-  taken : TakenTo g.I.BitIndex.number g.T.Element.zero l.values l.indices
+  taken : TakenTo g.T.Element.zero l.values (map g.I.BitIndex.number l.indices)
       (option_map bits_of l.validity) l.k l.out;
   others : drop (length l.indices) l.out ≡ drop (length l.indices) l.fn.out;
 }

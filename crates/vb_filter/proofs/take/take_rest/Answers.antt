@@ -1,12 +1,9 @@
-use Rattle.std.proofs.Common.{◌≡◌, inl, inr, ℕ, List, Bool, Option, Some, length, map, get_or}
-use Rattle.std.proofs.Common.{slice_set, sym, ap, ◌∙◌, arith}
+use Rattle.std.proofs.Common.{◌≡◌, ℕ, List, Bool, Option, Some, length, sym, ◌∙◌, arith}
 use Rattle.std.specs.Option.{option_map}
-use Rattle.std.proofs.lemmas.Bool.{cases_lt}
-use Rattle.std.proofs.lemmas.List.{get_or-set_same, get_or-set_other, drop-set-lt}
+use Rattle.std.proofs.lemmas.List.{drop-set-lt}
 use Rattle.vb_view.specs.View.{bits_of}
-use Rattle.vb_filter.specs.ItemsTaken.{item_taken}
-use Rattle.vb_filter.proofs.ItemsLemmas.{taken_here, all_taken}
-use Rattle.vb_filter.proofs.take.take_values_into.Goals as goal
+use Rattle.vb_filter.proofs.ItemsLemmas.{taken_here, taken_more, all_taken}
+use Rattle.vb_filter.proofs.take.take_rest.Goals as goal
 
 pub loop-k-preserved : goal.loop-k-preserved
 loop-k-preserved g c =
@@ -22,15 +19,7 @@ loop-k-preserved g c =
     c.is_valid.result (omega arith) c.index-indices-k.is c.is_valid.ensures
     (sym c.in-Some.is ∙ c.value_taken.ensures) in
     record {
-      taken = λ i h. elim (cases_lt i k) [
-        | inl low ↦ c.loop-k.invariant.taken i low
-            ∙ ap Some (sym (get_or-set_other out k i value zero (λ e. absurd (omega arith))))
-        | inr high ↦
-            let same : i ≡ k = omega arith in
-            ap (item_taken zero items (map f xs) v) same ∙ here
-            ∙ ap Some (sym (ap (λ j. get_or (slice_set out k value) j zero) same
-            ∙ get_or-set_same out k value zero (omega arith)))
-      ];
+      taken = taken_more f zero items xs v k value out c.loop-k.invariant.taken (omega arith) here;
       others = drop-set-lt (length xs) out k value (omega arith) ∙ c.loop-k.invariant.others;
     }
 
