@@ -4,3 +4,4 @@ mod ItemsLemmas
 mod PackedDigits
 mod PendingLemmas
 mod PackedOnes
+mod RunsLemmas

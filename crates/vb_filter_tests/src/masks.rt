@@ -30,6 +30,18 @@ pub(crate) const ROWS: &[Row] = &[
     Row(1000, 6, Kept::AllButOneIn(64)),
     Row(1000, 3, Kept::AllButOneIn(5000)),
     Row(129, 0, Kept::AllButOneIn(1)),
+    Row(1000, 0, Kept::OneIn(5)),
+    Row(1000, 2, Kept::OneIn(7)),
+    Row(1000, 5, Kept::OneIn(8)),
+    Row(1000, 0, Kept::OneIn(10)),
+    Row(1000, 0, Kept::Runs(8, 64)),
+    Row(1000, 3, Kept::Runs(9, 64)),
+    Row(1000, 0, Kept::Runs(8, 32)),
+    Row(1000, 7, Kept::Runs(9, 32)),
+    Row(1000, 0, Kept::Runs(12, 17)),
+    Row(1000, 1, Kept::Runs(13, 17)),
+    Row(1000, 6, Kept::Runs(63, 64)),
+    Row(1000, 4, Kept::Runs(100, 130)),
 ];
 
 /// Which bits of the bytes of a mask are true, from bit 1 on.
@@ -37,6 +49,8 @@ pub(crate) const ROWS: &[Row] = &[
 pub(crate) enum Kept {
     OneIn(usize),
     AllButOneIn(usize),
+    /// The first ones of each so many.
+    Runs(usize, usize),
 }
 
 impl Kept {
@@ -44,6 +58,7 @@ impl Kept {
         match self {
             Kept::OneIn(n) => n > 0 && bit % n == 1 % n,
             Kept::AllButOneIn(n) => n > 0 && bit % n != 1 % n,
+            Kept::Runs(first, n) => n > 0 && bit % n < first,
         }
     }
 }

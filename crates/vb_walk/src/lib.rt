@@ -18,6 +18,7 @@ mod unaligned;
 pub use bit::BitIterator;
 pub use chunks::{BitChunkIterator, BitChunks, PaddedChunkIterator};
 pub use index::BitIndexIterator;
+pub use ones::{LowestRun, lowest_run};
 pub use other::{OtherWord, first_other, others};
 pub use slices::BitSliceIterator;
 pub use unaligned::{UnalignedBitChunk, UnalignedBitChunkIterator};

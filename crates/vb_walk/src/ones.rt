@@ -5,18 +5,18 @@ ghost use Rattle.vb_walk.specs.Ones.{CutsOnes};
 
 /// The lowest run of ones of a word.
 #[derive(Clone, Copy)]
-pub(crate) struct LowestRun {
+pub struct LowestRun {
     /// Its first digit.
-    pub(crate) start: usize,
+    pub start: usize,
     /// The digit behind it.
-    pub(crate) end: usize,
+    pub end: usize,
     /// The word without it.
-    pub(crate) rest: u64,
+    pub rest: u64,
 }
 
 /// The lowest run of ones of a word that isn't 0.
 #[inline(always)]
-pub(crate) fn lowest_run(word: u64) -> LowestRun
+pub fn lowest_run(word: u64) -> LowestRun
     requires { 0 < word }
     ensures some { result.start < result.end }
     ensures below { (i : ℕ) → i < result.start → has_bit word i ≡ false }
