@@ -40,6 +40,8 @@ pub(crate) const ROWS: &[Row] = &[
     Row(1000, 7, Kept::Runs(9, 32)),
     Row(1000, 0, Kept::Runs(12, 17)),
     Row(1000, 1, Kept::Runs(13, 17)),
+    Row(1000, 0, Kept::Runs(12, 64)),
+    Row(1000, 0, Kept::Runs(13, 64)),
     Row(1000, 6, Kept::Runs(63, 64)),
     Row(1000, 4, Kept::Runs(100, 130)),
 ];

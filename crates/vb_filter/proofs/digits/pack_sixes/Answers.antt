@@ -10,8 +10,9 @@ use Rattle.vb_bits.proofs.BitsLemmas.{count-le}
 use Rattle.vb_bits.proofs.DigitsLemmas.{digits_masked, ones_masked, count-digits-add, length-digits}
 use Rattle.vb_pack.proofs.MaskLemmas.{digits-mask_l}
 use Rattle.vb_filter.specs.declared.digits.TheConstants.{KEPT}
-use Rattle.vb_filter.proofs.PackedDigits.{kept_digits, length-kept_digits, in_table, packed-more}
-use Rattle.vb_filter.proofs.digits.pack_fours.Goals as goal
+use Rattle.vb_filter.proofs.PackedDigits.{kept_digits, length-kept_digits, in_table, kept_past}
+use Rattle.vb_filter.proofs.PackedDigits.{packed-more}
+use Rattle.vb_filter.proofs.digits.pack_sixes.Goals as goal
 
 pub loop-k-init : goal.loop-k-init
 unfolding digits
@@ -23,34 +24,35 @@ loop-k-preserved c =
     let word = c.args.word in
     let k = c.loop-k.k in
     let n = c.loop-k.n in
-    let four = bit_and (mask / 2 ^ (4 * k)) 15 in
-    let column = bit_and (word / 2 ^ (4 * k)) 15 in
-    let read : c.from.result ≡ get_or KEPT (16 * four + column) 0 = c.from.ensures in
-    let found : c.from.result ≡ mask_l (kept_digits mask word (4 * k) 4) =
-    read ∙ in_table mask word (4 * k) four column
-    (omega (arith, and_le_r (mask / 2 ^ (4 * k)) 15))
-    (omega (arith, and_le_r (word / 2 ^ (4 * k)) 15))
-    (digits_masked mask (4 * k) 4 (omega arith))
-    (digits_masked word (4 * k) 4 (omega arith)) in
-    let next : 4 * (k + 1) ≡ 4 * k + 4 = omega arith in
-    let place : 0 + 4 * k ≡ 4 * k = omega arith in
+    let six = bit_and (mask / 2 ^ (6 * k)) 63 in
+    let column = bit_and (word / 2 ^ (6 * k)) 63 in
+    let read : c.from.result ≡ get_or KEPT (64 * six + column) 0 = c.from.ensures in
+    let found : c.from.result ≡ mask_l (kept_digits mask word (6 * k) 6) =
+    read ∙ in_table mask word (6 * k) six column
+    (omega (arith, and_le_r (mask / 2 ^ (6 * k)) 63))
+    (omega (arith, and_le_r (word / 2 ^ (6 * k)) 63))
+    (digits_masked mask (6 * k) 6 (omega arith))
+    (digits_masked word (6 * k) 6 (omega arith)) in
+    let fits : mask < 2 ^ 64 = omega arith in
+    let next : 6 * (k + 1) ≡ 6 * k + 6 = omega arith in
+    let place : 0 + 6 * k ≡ 6 * k = omega arith in
     record {
       packed = ap (λ p. bit_or p (c.from.result * 2 ^ n % 2 ^ 64)) c.loop-k.invariant.packed
-          ∙ ap (λ x. bit_or (mask_l (kept_digits mask word 0 (4 * k))) (x * 2 ^ n % 2 ^ 64)) found
-          ∙ packed-more mask word n k c.loop-k-test.true c.loop-k.invariant.number;
+          ∙ ap (λ x. bit_or (mask_l (kept_digits mask word 0 (6 * k))) (x * 2 ^ n % 2 ^ 64)) found
+          ∙ packed-more mask word n k c.loop-k-test.true fits c.loop-k.invariant.number;
       number = omega (
         arith,
         c.loop-k.invariant.number,
-        ones_masked mask (4 * k) 4 (omega arith),
-        count-digits-add mask 0 (4 * k) 4,
+        ones_masked mask (6 * k) 6 (omega arith),
+        count-digits-add mask 0 (6 * k) 6,
         ap (λ x. count (digits mask 0 x)) next,
-        ap (λ x. count (digits mask x 4)) place,
+        ap (λ x. count (digits mask x 6)) place,
       );
     }
 
--- fewer digits than there are before this four
-few : (mask n k : ℕ) → n ≡ count (digits mask 0 (4 * k)) → n ≤ 4 * k
-few mask n k e = omega (arith, count-le (digits mask 0 (4 * k)), length-digits mask 0 (4 * k))
+-- fewer digits than there are before this six
+few : (mask n k : ℕ) → n ≡ count (digits mask 0 (6 * k)) → n ≤ 6 * k
+few mask n k e = omega (arith, count-le (digits mask 0 (6 * k)), length-digits mask 0 (6 * k))
 
 pub overflow_shl-packed : goal.overflow_shl-packed
 overflow_shl-packed c =
@@ -63,18 +65,19 @@ overflow_add-n c =
     omega (
       arith,
       few mask c.loop-k.n k c.loop-k.invariant.number,
-      ones_masked mask (4 * k) 4 (omega arith),
-      count-le (digits mask (4 * k) 4),
-      length-digits mask (4 * k) 4,
+      ones_masked mask (6 * k) 6 (omega arith),
+      count-le (digits mask (6 * k) 6),
+      length-digits mask (6 * k) 6,
     )
 
 pub returns : goal.returns
 returns c =
     let mask = c.args.mask in
     let word = c.args.word in
-    let end : 4 * c.loop-k.k ≡ 64 = omega arith in
+    let end : 6 * c.loop-k.k ≡ 66 = omega arith in
     let packed : c.loop-k.packed ≡ mask_l (kept_digits mask word 0 64) =
-    c.loop-k.invariant.packed ∙ ap (λ x. mask_l (kept_digits mask word 0 x)) end in
+    c.loop-k.invariant.packed ∙ ap (λ x. mask_l (kept_digits mask word 0 x)) end
+    ∙ ap mask_l (kept_past mask word (omega arith)) in
     let many = length-kept_digits mask word 0 64 in
     record {
       kept = ap (λ x. digits x 0 (count (digits mask 0 64))) packed
