@@ -144,7 +144,8 @@ impl<'a> Asked<'a> {
     }
 }
 
-/// An edit of the first bit, which moves all entries behind it.
+/// An edit of the first bit, beside a loop over a table of one number a block, which moves all
+/// entries behind it.
 fn edits(bench: &mut Bench, len: usize) {
     let entries = RefCell::new(vec![0usize; len / 512]);
     let by = RefCell::new(1usize);

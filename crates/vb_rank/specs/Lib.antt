@@ -1,4 +1,5 @@
 pub mod Fills
+pub mod Groups
 pub mod Tables
 pub use Rattle.vb_bits.specs.InBytes
 pub use Rattle.vb_bits.specs.Bits

@@ -1,8 +1,9 @@
 //! A directory of counts above a set of bits: ranks, and places of ranks, by few looks at the bits.
 //!
 //! The bits are cut into blocks of 512. The directory is a table that has, for each block, how many
-//! true bits are before it: one number for 64 bytes of bits. [`Ranked`] is a set with its table,
-//! which every edit keeps exact; [`table_of`] makes a table, and [`rank_by`], [`select_by`] and
+//! true bits are before it: one number for 64 bytes of bits. [`Ranked`] is a set with these counts,
+//! which every edit keeps exact, and has them by groups, so that an edit moves few of them;
+//! [`table_of`] makes a table, and [`rank_by`], [`select_by`] and
 //! [`select_unset_by`] answer by any [`Probe`] of one and any `Glance` at the bits.
 //!
 //! Lengths and places are counted in bits.
@@ -10,6 +11,8 @@
 
 mod block;
 mod count;
+mod group;
+mod groups;
 mod probe;
 mod rank;
 mod ranked;

@@ -1,52 +1,55 @@
-//! A set of bits with its table.
+//! A set of bits with its counts.
 ghost use Rattle.std.specs.Prelude.{◌≡◌, ◌+◌, ◌/◌, ◌%◌, ◌^◌, ◌<◌, ◌≤◌, ◌∷◌, [], length, take, drop};
 ghost use Rattle.std.specs.Prelude.{slice_set, IfOk, IsOk, IsOkUnless, IsErrOf, OnOk, OnErr};
 ghost use Rattle.vb_bits.specs.Bits.{count, complement, Selects, InvertsCount};
 ghost use Rattle.vb_bits.specs.Writes.{Writes};
-ghost use Rattle.vb_rank.specs.Tables.{block_counts, blocks};
+ghost use Rattle.vb_kernel.specs.Searches.{hits};
 ghost use Rattle.vb_set.specs.OpenSet.{AddsBits, KeepsStart, KeepsLayout};
 ghost use Rattle.vb_set.specs.View.{bits_of, offset_of, bytes_of};
 
-use crate::probe::PlainTable;
-use crate::rank::rank_by;
-use crate::select::{select_by, select_unset_by};
-use crate::table::{move_entries, table_of};
+use crate::count::count_in_block;
+use crate::group::{Group, move_counts, ones_before, reserve_group, write_count};
+use crate::groups::{find_in_groups, groups_of};
+use crate::select::select_from;
 use std::alloc::{Allocator, Global};
 use std::marker::Model;
 use vb_kernel::Plain;
 use vb_set::{BitBufferMut, BitBufferView, BufferError, Result};
 
-/// A set of bits that one owner edits, with the table of the true bits before each block of 512.
-/// Every edit keeps the table exact, so each question is answered as by a table made anew.
+/// A set of bits that one owner edits, with the counts of true bits before each block of 512. Every
+/// edit keeps the counts exact, so each question is answered as by a table made anew.
+///
+/// Counts are kept by groups of 128 blocks: a number for the bits before the group, and for each
+/// block 16 bits, for the bits from there on.
 ///
 /// A contract sees the set: its bits, the offset of the first one, its bytes, and its room.
 #[derive(Drop)]
 pub struct Ranked<A: Allocator + Clone = Global> {
     set: BitBufferMut<A>,
-    table: Vec<usize, A>,
+    groups: Vec<Group, A>,
 }
 
 impl<A: Allocator + Clone> Model for Ranked<A> {
-    ghost use Rattle.std.specs.Prelude.{◌≡◌};
-    ghost use Rattle.vb_rank.specs.Tables.{block_counts};
+    ghost use Rattle.vb_rank.specs.Groups.{AreGroups};
     ghost use Rattle.vb_set.specs.OpenSet.{OpenSet};
 
     ghost Value = { OpenSet };
 
     ghost view = { λ s. s.set };
 
-    ghost invariant = { λ s. s.table.items ≡ block_counts s.set.bits };
+    ghost invariant = { λ s. AreGroups s.set.bits s.groups.items };
 }
 
 impl<A: Allocator + Clone> Ranked<A> {
-    /// The set with its table, for which it takes memory: a `usize` for each 512 bits. Refused by
-    /// `OutOfMemory` alone; then the set is gone.
+    /// The set with its counts, for which it takes memory by one request, and none for no bits:
+    /// 264 bytes for each 65,536 bits, and for those that are left over. Refused by `OutOfMemory`
+    /// alone; then the set is gone.
     pub fn new(alloc: A, set: BitBufferMut<A>) -> Result<Self>
         ensures set { IfOk result (λ r. r ≡ set) }
         ensures refused { IsOkUnless result BufferError.OutOfMemory }
     {
-        let table = table_of(alloc, set.as_view())?;
-        Ok(Ranked { set, table })
+        let groups = groups_of(alloc, set.as_view())?;
+        Ok(Ranked { set, groups })
     }
 
     /// How many bits there are.
@@ -66,34 +69,39 @@ impl<A: Allocator + Clone> Ranked<A> {
         self.set.as_view()
     }
 
-    /// The set, without its table.
+    /// The set, without its counts.
     pub fn into_inner(self) -> BitBufferMut<A>
         ensures { result ≡ self }
     {
         self.set
     }
 
-    /// How many of the first `i` bits are true, in constant time: [`rank_by`] of the set and its
-    /// table. `i` has to be at most the length.
+    /// How many of the first `i` bits are true, in constant time, as [`rank_by`](crate::rank_by)
+    /// answers of the set and a table of it. `i` has to be at most the length.
     pub fn rank(&self, i: usize) -> usize
         requires { i ≤ length self.now.bits }
         ensures { result ≡ count (take i self.now.bits) }
     {
+        if i == 0 {
+            return 0;
+        }
+        // The block of the last of the bits, as in `rank_by`.
+        let block = (i - 1) / 512;
+        let at = 512 * block;
         let bits = self.as_view();
         let src = &mut Plain::new(bits.inner());
-        rank_by(src, bits.offset(), bits.len(), &mut self.entries(), i)
+        let before = ones_before(self.groups.as_slice(), block);
+        before + count_in_block(src, bits.offset() + at, i - at)
     }
 
     /// The place of the `n`-th true bit, counted from 0; `None` where at most `n` bits are true. It
-    /// halves the blocks of the table until one is left, and takes no memory: [`select_by`] of the
-    /// set and its table.
+    /// halves the groups until one is left, and then the blocks of that group, and takes no memory.
+    /// It answers as [`select_by`](crate::select_by) of the set and a table of it.
     pub fn select(&self, n: usize) -> Option<usize>
         ensures place { Selects self.now.bits n result }
         ensures each { InvertsCount self.now.bits n result }
     {
-        let bits = self.as_view();
-        let src = &mut Plain::new(bits.inner());
-        select_by(src, bits.offset(), bits.len(), &mut self.entries(), n)
+        self.select_value(n, true)
     }
 
     /// The place of the `n`-th false bit, counted from 0; `None` where at most `n` bits are false,
@@ -102,15 +110,14 @@ impl<A: Allocator + Clone> Ranked<A> {
         ensures place { Selects (complement self.now.bits) n result }
         ensures each { InvertsCount (complement self.now.bits) n result }
     {
-        let bits = self.as_view();
-        let src = &mut Plain::new(bits.inner());
-        select_unset_by(src, bits.offset(), bits.len(), &mut self.entries(), n)
+        self.select_value(n, false)
     }
 
     /// Sets the bit at place `i` to `v`. Ranks are then those of the new list. The place has to be
     /// below the length. No other bit of the bytes changes. It takes no memory.
     ///
-    /// Where the bit changes, the entries of all later blocks move by one: one pass over them.
+    /// Where the bit changes, the counts of later blocks of its group move by one, and so do those
+    /// before all later groups: one pass over these.
     pub fn set_to(&mut self, i: usize, v: bool)
         requires { i < length self.old.bits }
         ensures bits { self.new.bits ≡ slice_set self.old.bits i v }
@@ -120,7 +127,7 @@ impl<A: Allocator + Clone> Ranked<A> {
         let was = self.as_view().value(i);
         self.set.set_to(i, v);
         if was != v {
-            move_entries(self.table.as_mut_slice(), i / 512 + 1, v);
+            move_counts(self.groups.as_mut_slice(), self.set.len(), i, v);
         }
     }
 
@@ -129,7 +136,7 @@ impl<A: Allocator + Clone> Ranked<A> {
     /// Refused by `TooManyBits` where offset and length together are `usize::MAX`, else by
     /// `OutOfMemory` alone. Then the set and its room are unchanged. Within the room of
     /// the set it takes no memory and succeeds, unless the length is a multiple of 512: then the
-    /// table needs an entry more.
+    /// counts may need a group more.
     pub fn append(&mut self, v: bool) -> Result<()>
         ensures ok { OnOk result (AddsBits (v ∷ []) self.old self.new) }
         ensures grows { KeepsStart self.old self.new }
@@ -146,21 +153,32 @@ impl<A: Allocator + Clone> Ranked<A> {
             self.set.append(v)?;
             return Ok(());
         }
+        let ones = self.rank(len);
+        if len % 65_536 != 0 {
+            self.set.append(v)?;
+            write_count(self.groups.as_mut_slice(), len / 512, ones);
+            return Ok(());
+        }
         if usize::MAX - len <= self.set.offset() {
             return Err(BufferError::TooManyBits);
         }
-        let ones = self.rank(len);
-        self.table.reserve(1)?;
+        reserve_group(&mut self.groups)?;
         self.set.append(v)?;
-        self.table.push_reserved(ones);
+        self.groups.push_reserved(Group::after(ones));
         Ok(())
     }
 
-    /// The table, with no probe so far.
-    fn entries(&self) -> PlainTable<'_>
-        ensures table { result.entries ≡ block_counts self.now.bits }
-        ensures size { length result.entries ≡ blocks (length self.now.bits) }
+    /// The place of the `n`-th bit that is `value`: its block is sought by the groups, and then the
+    /// block is searched.
+    fn select_value(&self, n: usize, value: bool) -> Option<usize>
+        ensures { Selects (hits value self.now.bits) n result }
     {
-        PlainTable::new(self.table.as_slice())
+        let bits = self.as_view();
+        if bits.len() == 0 {
+            return None;
+        }
+        let found = find_in_groups(self.groups.as_slice(), bits.len(), n, value);
+        let src = &mut Plain::new(bits.inner());
+        select_from(src, bits.offset(), bits.len(), found, n, value)
     }
 }

@@ -1,10 +1,11 @@
 //! The place of a bit by its rank, over a table.
-ghost use Rattle.std.specs.Prelude.{◌≡◌, ◌+◌, ◌*◌, ◌^◌, ◌<◌, ◌≤◌, length};
+ghost use Rattle.std.specs.Prelude.{◌≡◌, ℕ, List, ◌+◌, ◌*◌, ◌^◌, ◌<◌, ◌≤◌, length};
 ghost use Rattle.vb_bits.specs.Bits.{bits, complement, Selects, InvertsCount};
 ghost use Rattle.vb_bits.specs.InBytes.{InBytes};
 ghost use Rattle.vb_kernel.specs.Looks.{LooksAtMost};
 ghost use Rattle.vb_kernel.specs.Searches.{hits};
-ghost use Rattle.vb_rank.specs.Tables.{blocks, binary_digits, ProbesAtMost, IsTableOf};
+ghost use Rattle.vb_rank.specs.Tables.{blocks, binary_digits, block_counts, BeginsBefore};
+ghost use Rattle.vb_rank.specs.Tables.{ProbesAtMost, IsTableOf};
 
 use crate::block::find_block;
 use crate::probe::Probe;
@@ -93,7 +94,29 @@ fn select_value_by<G: Glance, T: Probe>(
     if len == 0 {
         return None;
     }
-    let (block, before) = find_block(table, n, value);
+    let found = find_block(table, n, value);
+    select_from(src, offset, len, found, n, value)
+}
+
+/// The place of the `n`-th bit of the window that is `value`, by the block in which it lies and how
+/// many such bits are before the block.
+pub(crate) fn select_from<G: Glance>(
+    src: &mut G,
+    offset: usize,
+    len: usize,
+    found: (usize, usize),
+    n: usize,
+    value: bool,
+) -> Option<usize>
+    requires window { InBytes (G.seen src.old).bytes offset len }
+    requires begins { 512 * found.0 < len }
+    requires low { found.1 ≤ n }
+    ensures place { (t : List ℕ) → t ≡ block_counts (bits (G.seen src.old).bytes offset len)
+        → BeginsBefore value t n found.0 found.1
+        → Selects (hits value (bits (G.seen src.old).bytes offset len)) n result }
+    ensures looks { LooksAtMost 16 (G.seen src.old) (G.seen src.new) }
+{
+    let (block, before) = found;
     let at = 512 * block;
     let place = select_in_block(src, offset + at, (len - at).min(512), n - before, value)?;
     Some(at + place)

@@ -1,10 +1,9 @@
-//! The table of a list of bits: made, and moved by an edit.
-ghost use Rattle.std.specs.Prelude.{◌≡◌, ℕ, ◌+◌, ◌^◌, ◌<◌, ◌≤◌, true, false};
-ghost use Rattle.std.specs.Prelude.{length, slice_index, IfOk, IsOkUnless};
+//! The table of a list of bits.
+ghost use Rattle.std.specs.Prelude.{◌≡◌, length, IfOk, IsOkUnless};
 ghost use Rattle.vb_bits.specs.Bits.{bits};
 ghost use Rattle.vb_bits.specs.InBytes.{InBytes};
 ghost use Rattle.vb_rank.specs.Fills.{Fills};
-ghost use Rattle.vb_rank.specs.Tables.{block_counts, blocks, bump};
+ghost use Rattle.vb_rank.specs.Tables.{block_counts, blocks};
 ghost use Rattle.vb_set.specs.View.{bits_of};
 
 use std::alloc::Allocator;
@@ -50,21 +49,4 @@ pub fn write_block_counts(bytes: &[u8], offset: usize, len: usize, table: &mut [
         before += count_ones(bytes, offset + start, (len - start).min(512));
     }
     written
-}
-
-/// Moves the entries from `from` on up by one, or down.
-pub(crate) fn move_entries(entries: &mut [usize], from: usize, up: bool)
-    requires room { (j : ℕ) → from ≤ j → j < length entries.old → up ≡ true
-        → slice_index entries.old j + 1 < 2 ^ 64 }
-    requires positive { (j : ℕ) → from ≤ j → j < length entries.old → up ≡ false
-        → 0 < slice_index entries.old j }
-    ensures len { length entries.new ≡ length entries.old }
-    ensures before { (j : ℕ) → j < from → slice_index entries.new j ≡ slice_index entries.old j }
-    ensures moved { (j : ℕ) → from ≤ j → j < length entries.old
-        → slice_index entries.new j ≡ bump up (slice_index entries.old j) }
-{
-    for j in from..entries.len() {
-        let entry = entries[j];
-        entries[j] = if up { entry + 1 } else { entry - 1 };
-    }
 }

@@ -1,5 +1,5 @@
 //! Random edits of a directory, beside one made anew and beside plain counts.
-use crate::compared::{answers_at, equal, viewed_at};
+use crate::compared::{answers_at, equal, holds, viewed_at};
 use crate::made::mixed;
 use std::alloc::Allocator;
 use std::process::Abort;
@@ -49,6 +49,11 @@ fn answer_as_bits<A: Allocator + Clone>(
     }
 }
 
+/// Where blocks begin and end, some of them at a border of two groups of blocks.
+const BORDERS: [usize; 9] = [
+    0, 511, 512, 65_535, 65_536, 66_047, 66_048, 131_071, 131_072,
+];
+
 /// The directory answers as one of the same bits that is made anew, and as the bits do.
 fn is_as_new<A: Allocator + Clone>(
     rt: &impl Abort,
@@ -58,18 +63,10 @@ fn is_as_new<A: Allocator + Clone>(
 ) {
     let anew = directory(rt, alloc, plain);
     let len = plain.len();
-    let places = [
-        0,
-        1,
-        511,
-        512,
-        513,
-        len / 3,
-        len / 2,
-        len.saturating_sub(1),
-        len,
-    ];
-    for i in places {
+    for i in [1, 513, len / 3, len / 2, len.saturating_sub(1), len] {
+        answer_as_bits(rt, (ranked, &anew), plain.as_view(), i);
+    }
+    for i in BORDERS {
         answer_as_bits(rt, (ranked, &anew), plain.as_view(), i);
     }
     drop(anew);
@@ -97,5 +94,40 @@ fn edited_directories_are_as_new(rt: HostRuntime) {
             }
             drop((plain, ranked));
         }
+    }
+}
+
+/// Writes the other value to a bit that is there.
+fn flip<A: Allocator + Clone>(
+    rt: &impl Abort,
+    ranked: &mut Ranked<A>,
+    plain: &mut BitBufferMut<A>,
+    i: usize,
+) {
+    if i < plain.len() {
+        let v = plain.as_view().value(i);
+        plain.set_to(i, !v);
+        holds(rt, i < ranked.len());
+        ranked.set_to(i, !v);
+    }
+}
+
+/// Bits of the first group of blocks, of one between, and of the last, and then more, so that a
+/// block or a group begins.
+#[test]
+fn edited_groups_are_as_new(rt: HostRuntime) {
+    let mut state = 0x9E37_79B9_7F4A_7C15;
+    for len in [65_534, 66_046, 131_070, 196_606] {
+        let mut plain = mixed(&rt, rt.alloc(), 3, len);
+        let mut ranked = directory(&rt, rt.alloc(), &plain);
+        for i in BORDERS {
+            flip(&rt, &mut ranked, &mut plain, i);
+            is_as_new(&rt, rt.alloc(), &ranked, &plain);
+        }
+        for _ in 0..4 {
+            edit(&rt, &mut ranked, &mut plain, &mut state);
+            is_as_new(&rt, rt.alloc(), &ranked, &plain);
+        }
+        drop((plain, ranked));
     }
 }

@@ -79,3 +79,36 @@ fn a_refused_append_leaves_the_directory(rt: HostRuntime) {
     // Six for the bytes, whose room doubles, and one for the table.
     equal(&rt, (heap.asked(), heap.has_refused()), (7, false));
 }
+
+/// Adds a true bit behind a whole group of blocks. A refused append leaves the directory as it was,
+/// and the next one adds the bit.
+fn append_behind<A: Allocator + Clone + Copy>(rt: &impl Abort, alloc: A) -> Result<()> {
+    let set = ones(alloc, 65_536)?;
+    let mut ranked = Ranked::new(alloc, set)?;
+    let answer = ranked.append(true);
+    if answer.is_err() {
+        equal(rt, ranked.len(), 65_536);
+        equal(rt, answers_at(rt, &ranked, 65_536), (65_536, None, None));
+        ranked.append(true).expect(rt, "room");
+    }
+    let place = 65_536;
+    equal(
+        rt,
+        answers_at(rt, &ranked, place),
+        (place, Some(place), None),
+    );
+    drop(ranked);
+    answer
+}
+
+#[test]
+fn a_refused_group_leaves_the_directory(rt: HostRuntime) {
+    let heap = Refusing::new(rt.alloc(), 0);
+    for _ in heap.in_turn() {
+        let answer = append_behind(&rt, &heap);
+        let wanted = heap.wanted(Ok(()), Err(BufferError::OutOfMemory));
+        equal(&rt, answer, wanted);
+    }
+    // The set and the group before it, and then more of both.
+    equal(&rt, (heap.asked(), heap.has_refused()), (4, false));
+}

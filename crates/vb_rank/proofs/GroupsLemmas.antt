@@ -1,0 +1,203 @@
+-- Counts of blocks by their groups: read, searched and made.
+use Rattle.std.proofs.Common.{◌≡◌, ℕ, ◌+◌, ◌-◌, ◌*◌, ◌/◌, ◌%◌, ◌<◌, ◌≤◌, Bool, true, false, List}
+use Rattle.std.proofs.Common.{length, get_or, take, min, sym, ap, ◌∙◌, arith, ⊎_elim}
+use Rattle.std.specs.Int.{div_ceil}
+use Rattle.std.proofs.lemmas.Bool.{cases_lt}
+use Rattle.std.proofs.lemmas.List.{length-take, get_or-take}
+use Rattle.vb_bits.specs.Bits.{bits, count}
+use Rattle.vb_kernel.proofs.BitsLemmas.{count-bits-add, length-bits, take-bits}
+use Rattle.vb_rank.specs.declared.group.Group.{Group}
+use Rattle.vb_rank.specs.Groups.{IsGroup, AreGroups, BeginsGroup, group_at}
+use Rattle.vb_rank.specs.Tables.{blocks, block_counts, count_before, Rises, BeginsBefore}
+use Rattle.vb_rank.proofs.TablesLemmas.{length-block_counts, at-block_counts}
+
+-- ---- reads
+-- the count before a block, by its group
+pub ones-of_group : (l : List Bool) (gs : List Group) (j : ℕ)
+    → AreGroups l gs → 512 * j < length l
+    → (group_at gs (j / 128)).before + get_or (group_at gs (j / 128)).within (j % 128) 0
+    ≡ count (take (512 * j) l)
+ones-of_group l gs j p h =
+    let place : 65536 * (j / 128) + 512 * (j % 128) ≡ 512 * j = omega arith in
+    (p.each (j / 128) (omega (arith, h, p.long))).within (j % 128) (omega arith)
+    (omega (arith, h, place)) ∙ ap (λ x. count (take x l)) place
+
+-- the count before a group is that before its first block
+pub before-of_group : (l : List Bool) (gs : List Group) (k : ℕ)
+    → AreGroups l gs → k < length gs
+    → (group_at gs k).before ≡ get_or (block_counts l) (128 * k) 0
+before-of_group l gs k p h =
+    let place : 65536 * k ≡ 512 * (128 * k) = omega arith in
+    (p.each k h).before ∙ ap (λ x. count (take x l)) place
+    ∙ sym (at-block_counts l (128 * k) (omega (arith, h, p.long)))
+
+-- the count before a block, by that before its group
+part-of_group : (l : List Bool) (gs : List Group) (k i : ℕ)
+    → AreGroups l gs → k < length gs → i < 128 → 128 * k + i < length (block_counts l)
+    → get_or (block_counts l) (128 * k + i) 0
+    ≡ get_or (block_counts l) (128 * k) 0 + get_or (group_at gs k).within i 0
+part-of_group l gs k i p h small inside =
+    let long = length-block_counts l in
+    let place : 512 * (128 * k + i) ≡ 65536 * k + 512 * i = omega arith in
+    omega (
+      arith,
+      at-block_counts l (128 * k + i) (omega (arith, inside, long)),
+      ap (λ x. count (take x l)) place,
+      (p.each k h).within i small (omega (arith, inside, long)),
+      before-of_group l gs k p h,
+    )
+
+-- the values before a block are those before its group, and those of the group
+count_before-split : (v : Bool) (t w : List ℕ) (k i : ℕ) → Rises true t → Rises false t
+    → 128 * k + i < length t → get_or t (128 * k + i) 0 ≡ get_or t (128 * k) 0 + get_or w i 0
+    → (get_or w i 0 ≤ 512 * i)
+    × (count_before v t (128 * k + i) ≡ count_before v t (128 * k) + count_before v w i)
+count_before-split true t w k i up down inside part = (
+  omega (
+    arith,
+    part,
+    down.rising (128 * k) (128 * k + i) (omega arith) inside,
+    down.small (128 * k) (omega (arith, inside)),
+    down.small (128 * k + i) inside,
+  ),
+  part,
+)
+count_before-split false t w k i up down inside part = (
+  omega (
+    arith,
+    part,
+    down.rising (128 * k) (128 * k + i) (omega arith) inside,
+    down.small (128 * k) (omega (arith, inside)),
+    down.small (128 * k + i) inside,
+  ),
+  omega (
+    arith,
+    part,
+    down.rising (128 * k) (128 * k + i) (omega arith) inside,
+    down.small (128 * k) (omega (arith, inside)),
+    down.small (128 * k + i) inside,
+  ),
+)
+
+-- both kinds of values rise, and so those that are v
+pub either_rises : (v : Bool) (t : List ℕ) → Rises true t → Rises false t → Rises v t
+either_rises true t up down = up
+either_rises false t up down = down
+
+-- the counts of a group can be searched
+Rises-group : (v : Bool) (t w : List ℕ) (k : ℕ) → Rises true t → Rises false t
+    → ((i : ℕ) → i < length w → 128 * k + i < length t)
+    → ((i : ℕ) → i < length w → get_or t (128 * k + i) 0 ≡ get_or t (128 * k) 0 + get_or w i 0)
+    → Rises v w
+Rises-group v t w k up down within part = record {
+  small = λ i h. (count_before-split v t w k i up down (within i h) (part i h)).0;
+  rising = λ i j order h.
+      let low : i < length w = omega (arith, order, h) in
+      omega (
+        arith,
+        (count_before-split v t w k i up down (within i low) (part i low)).1,
+        (count_before-split v t w k j up down (within j h) (part j h)).1,
+        (either_rises v t up down).rising (128 * k + i) (128 * k + j) (omega (arith, order))
+            (within j h),
+      );
+}
+
+-- what is found among the counts of a group is found in the table
+pub BeginsBefore-group : (v : Bool) (l : List Bool) (gs : List Group) (w : List ℕ)
+    (n k m b j r : ℕ) → AreGroups l gs
+    → Rises true (block_counts l) → Rises false (block_counts l) → k < length gs
+    → BeginsGroup v (block_counts l) n (length gs) k m → m ≤ n
+    → w ≡ take b (group_at gs k).within → b ≡ min (div_ceil (length l - 65536 * k) 512) 128
+    → (Rises v w → BeginsBefore v w (n - m) j r)
+    → BeginsBefore v (block_counts l) n (128 * k + j) (m + r)
+BeginsBefore-group v l gs w n k m b j r p up down h group low cut end find =
+    let t : List ℕ = block_counts l in
+    let size : length t ≡ blocks (length l) = length-block_counts l in
+    let long : length w ≡ b = omega (
+      arith,
+      ap length cut,
+      length-take b (group_at gs k).within,
+      (p.each k h).size,
+      end,
+    ) in
+    let within : (i : ℕ) → i < length w → 128 * k + i < length t =
+    λ i inside. omega (arith, inside, long, end, size) in
+    let part : (i : ℕ) → i < length w
+    → get_or t (128 * k + i) 0 ≡ get_or t (128 * k) 0 + get_or w i 0 =
+    λ i inside. omega (
+      arith,
+      part-of_group l gs k i p h (omega (arith, inside, long, end)) (within i inside),
+      ap (λ x. get_or x i 0) cut,
+      get_or-take b (group_at gs k).within i 0 (omega (arith, inside, long)),
+    ) in
+    let f = find (Rises-group v t w k up down within part) in
+    let split : (i : ℕ) → i < length w
+    → count_before v t (128 * k + i) ≡ count_before v t (128 * k) + count_before v w i =
+    λ i inside. (count_before-split v t w k i up down (within i inside) (part i inside)).1 in
+    record {
+      within = within j f.within;
+      before = omega (arith, split j f.within, f.before, group.before);
+      low = omega (arith, low, f.low);
+      high = λ more. ⊎_elim
+          (λ (inner : j + 1 < length w).
+          let next : 128 * k + j + 1 ≡ 128 * k + (j + 1) = omega arith in
+          omega (
+            arith,
+            split (j + 1) inner,
+            f.high inner,
+            group.before,
+            ap (count_before v t) next,
+          ))
+          (λ (last : length w ≤ j + 1).
+          let next : 128 * k + j + 1 ≡ 128 * (k + 1) =
+          omega (arith, last, f.within, long, end, more, size) in
+          omega (
+            arith,
+            group.high (omega (arith, next, more, size, p.long)),
+            ap (count_before v t) next,
+          ))
+          (cases_lt (j + 1) (length w));
+    }
+
+-- ---- a group that is made
+-- by the counts of its blocks
+pub IsGroup-bits : (b : List ℕ) (o n k m : ℕ) (g : Group) → 65536 * k < n
+    → m ≡ min (n - 65536 * k) 65536 → length g.within ≡ 128
+    → g.before ≡ count (take (min (65536 * k) n) (bits b o n))
+    → ((i : ℕ) → 512 * i < m → get_or g.within i 0 ≡ count (bits b (o + 65536 * k) (512 * i)))
+    → IsGroup (bits b o n) k g
+IsGroup-bits b o n k m g inside cut size before within =
+    let here : min (65536 * k) n ≡ 65536 * k = omega (arith, inside) in
+    let front : g.before ≡ count (take (65536 * k) (bits b o n)) =
+    before ∙ ap (λ x. count (take x (bits b o n))) here in
+    record {
+      size = size;
+      before = front;
+      within = λ i small some.
+          let old : 65536 * k + 512 * i < n = omega (arith, some, length-bits b o n) in
+          omega (
+            arith,
+            front,
+            ap count (take-bits b o n (65536 * k) (omega (arith, inside))),
+            ap count (take-bits b o n (65536 * k + 512 * i) (omega (arith, old))),
+            count-bits-add b o (65536 * k) (512 * i),
+            within i (omega (arith, old, cut, small)),
+          );
+    }
+
+-- the count of the bits to its end
+pub count-bits_group : (b : List ℕ) (o n k m : ℕ) → 65536 * k < n
+    → m ≡ min (n - 65536 * k) 65536
+    → count (take (min (65536 * (k + 1)) n) (bits b o n))
+    ≡ count (take (min (65536 * k) n) (bits b o n)) + count (bits b (o + 65536 * k) m)
+count-bits_group b o n k m inside cut =
+    let here : min (65536 * k) n ≡ 65536 * k = omega (arith, inside) in
+    let end : min (65536 * (k + 1)) n ≡ 65536 * k + m = omega (arith, inside, cut) in
+    omega (
+      arith,
+      ap (λ x. count (take x (bits b o n))) here,
+      ap (λ x. count (take x (bits b o n))) end,
+      ap count (take-bits b o n (65536 * k) (omega (arith, inside))),
+      ap count (take-bits b o n (65536 * k + m) (omega (arith, inside, cut))),
+      count-bits-add b o (65536 * k) m,
+    )
