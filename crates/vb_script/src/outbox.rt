@@ -1,11 +1,12 @@
 //! Answers that wait to be written.
-ghost use Rattle.std.specs.Prelude.{◌≡◌, ◌+◌, ◌≤◌, [], ◌∷◌, ◌++◌, length, vec_capacity, decimal};
-ghost use Rattle.std.specs.Prelude.{option_map, IfOk, OnOk};
+ghost use Rattle.std.specs.Prelude.{◌≡◌, ◌+◌, ◌≤◌, [], ◌∷◌, ◌++◌, length, take, vec_capacity};
+ghost use Rattle.std.specs.Prelude.{codes, decimal, option_map, IfOk, OnOk};
 ghost use Rattle.std.specs.Io.KnownBytes.{Appends};
 ghost use Rattle.std.specs.List.{flat_map};
 ghost use Rattle.std.specs.Option.{option_copied};
 ghost use Rattle.vb_command.specs.Printed.{digit_of, digits_of, line_of, places_text, run_text};
 ghost use Rattle.vb_command.specs.Printed.{runs_text};
+ghost use Rattle.vb_command.specs.Parts.{part_text};
 ghost use Rattle.vb_command.specs.Views.{reply};
 ghost use Rattle.vb_script.specs.Fault.{CountsFault};
 ghost use Rattle.vb_script.specs.Outbox.{Adds};
@@ -13,13 +14,16 @@ ghost use Rattle.vb_script.specs.Session.{line_of_any};
 
 use crate::fault::Fault;
 use crate::sink::Sink;
-use itoa::Buffer;
+use itoa::{self, Buffer};
 use std::alloc::{AllocError, Allocator};
 use std::marker::Model;
 use vb_command::{Answer, Part};
 
 /// How many bytes wait at most.
 const ROOM: usize = 65536;
+
+/// How many bytes are copied at once for a number and a byte beside it, which are 21 at most.
+const PIECE: usize = 24;
 
 /// The text of the answers that waits to be written. Contracts see its bytes.
 ///
@@ -72,17 +76,90 @@ impl<A: Allocator> Outbox<A> {
             (W.faults output.old) (W.faults output.new) }
     {
         let (part, position) = answer.parts();
+        match position {
+            None => self.put_part_line(part, output),
+            Some(position) => {
+                self.put_part(part, output)?;
+                self.put_number_line(position, output)
+            }
+        }
+    }
+
+    /// Adds a line of a part of an answer.
+    fn put_part_line<W: Sink>(&mut self, part: Part<'_>, output: &mut W) -> Result<(), Fault>
+        ensures { Adds (part_text part.entry ++ 10 ∷ []) result
+            (W.contents output.old) self.old (W.contents output.new) self.new
+            (W.faults output.old) (W.faults output.new) }
+    {
         match part {
-            Part::Words(words) => self.put(words.as_bytes(), output)?,
-            Part::Number(n) => self.put_number(n, output)?,
-            Part::Bits(bits) => self.put_bits(bits, output)?,
-            Part::Places(places) => self.put_places(places, output)?,
-            Part::Runs(runs) => self.put_runs(runs, output)?,
+            Part::Words(words) => self.put_line(words.as_bytes(), output),
+            Part::Number(n) => self.put_number_line(n, output),
+            _ => {
+                self.put_part(part, output)?;
+                self.put(b"\n", output)
+            }
         }
-        if let Some(position) = position {
-            self.put_number(position, output)?;
+    }
+
+    /// Adds a part of an answer.
+    fn put_part<W: Sink>(&mut self, part: Part<'_>, output: &mut W) -> Result<(), Fault>
+        ensures { Adds (part_text part.entry) result
+            (W.contents output.old) self.old (W.contents output.new) self.new
+            (W.faults output.old) (W.faults output.new) }
+    {
+        match part {
+            Part::Words(words) => self.put(words.as_bytes(), output),
+            Part::Number(n) => self.put_number(n, output),
+            Part::Bits(bits) => self.put_bits(bits, output),
+            Part::Places(places) => self.put_places(places, output),
+            Part::Runs(runs) => self.put_runs(runs, output),
         }
-        self.put(b"\n", output)
+    }
+
+    /// Adds a line of these bytes.
+    #[tactic(auto, using(crate::proofs::KnownBytes::known_bytes))]
+    fn put_line<W: Sink>(&mut self, bytes: &[u8], output: &mut W) -> Result<(), Fault>
+        ensures { Adds (bytes.now ++ 10 ∷ []) result
+            (W.contents output.old) self.old (W.contents output.new) self.new
+            (W.faults output.old) (W.faults output.new) }
+    {
+        if bytes.len() >= ROOM - self.bytes.len() {
+            self.put(bytes, output)?;
+            return self.put(b"\n", output);
+        }
+        self.bytes.extend_from_slice(bytes).unwrap();
+        self.bytes.push(b'\n').unwrap();
+        Ok(())
+    }
+
+    /// Adds a line of a number in decimal.
+    #[tactic(auto, using(crate::proofs::KnownBytes::known_bytes))]
+    fn put_number_line<W: Sink>(&mut self, n: usize, output: &mut W) -> Result<(), Fault>
+        ensures { Adds (decimal n ++ 10 ∷ []) result
+            (W.contents output.old) self.old (W.contents output.new) self.new
+            (W.faults output.old) (W.faults output.new) }
+    {
+        if PIECE > ROOM - self.bytes.len() {
+            self.put_number(n, output)?;
+            return self.put(b"\n", output);
+        }
+        push_number_line(&mut self.bytes, n);
+        Ok(())
+    }
+
+    /// Adds a byte, and a number in decimal behind it.
+    #[tactic(auto, using(crate::proofs::KnownBytes::known_bytes))]
+    fn put_behind<W: Sink>(&mut self, byte: u8, n: usize, output: &mut W) -> Result<(), Fault>
+        ensures { Adds (byte ∷ decimal n) result
+            (W.contents output.old) self.old (W.contents output.new) self.new
+            (W.faults output.old) (W.faults output.new) }
+    {
+        if PIECE > ROOM - self.bytes.len() {
+            self.put(&[byte], output)?;
+            return self.put_number(n, output);
+        }
+        push_behind(&mut self.bytes, byte, n);
+        Ok(())
     }
 
     /// Adds a number in decimal.
@@ -106,8 +183,7 @@ impl<A: Allocator> Outbox<A> {
         };
         self.put_number(*first, output)?;
         for place in rest {
-            self.put(b",", output)?;
-            self.put_number(*place, output)?;
+            self.put_behind(b',', *place, output)?;
         }
         Ok(())
     }
@@ -123,8 +199,7 @@ impl<A: Allocator> Outbox<A> {
         };
         self.put_run(*first, output)?;
         for run in rest {
-            self.put(b",", output)?;
-            self.put_run(*run, output)?;
+            self.put_next_run(*run, output)?;
         }
         Ok(())
     }
@@ -137,8 +212,18 @@ impl<A: Allocator> Outbox<A> {
     {
         let (start, end) = run;
         self.put_number(start, output)?;
-        self.put(b"-", output)?;
-        self.put_number(end, output)
+        self.put_behind(b'-', end, output)
+    }
+
+    /// Adds a comma, and a run behind it.
+    fn put_next_run<W: Sink>(&mut self, run: (usize, usize), output: &mut W) -> Result<(), Fault>
+        ensures { Adds (codes "," ++ run_text run) result
+            (W.contents output.old) self.old (W.contents output.new) self.new
+            (W.faults output.old) (W.faults output.new) }
+    {
+        let (start, end) = run;
+        self.put_behind(b',', start, output)?;
+        self.put_behind(b'-', end, output)
     }
 
     /// Adds truth values as binary digits.
@@ -206,6 +291,50 @@ impl<A: Allocator> Outbox<A> {
         self.bytes.clear();
         Ok(())
     }
+}
+
+/// Adds a number in decimal and a line feed to bytes that have room for a piece.
+#[tactic(auto, using(crate::proofs::Pieces::pieces))]
+fn push_number_line<A: Allocator>(bytes: &mut Vec<u8, A>, n: usize)
+    requires { length bytes.old.items + 24 ≤ vec_capacity bytes.old }
+    ensures added { bytes.new.items ≡ bytes.old.items ++ decimal n ++ 10 ∷ [] }
+    ensures len { length bytes.new.items ≤ length bytes.old.items + 24 }
+    ensures room { vec_capacity bytes.old ≤ vec_capacity bytes.new }
+{
+    let mut text = [b'\n'; 44];
+    let start = itoa::write_digits(n as u64, &mut text, 20);
+    push_front(bytes, &text[start..start + PIECE], 21 - start);
+}
+
+/// Adds a byte, and a number in decimal behind it, to bytes that have room for a piece.
+#[tactic(auto, using(crate::proofs::Pieces::pieces))]
+fn push_behind<A: Allocator>(bytes: &mut Vec<u8, A>, byte: u8, n: usize)
+    requires { length bytes.old.items + 24 ≤ vec_capacity bytes.old }
+    ensures added { bytes.new.items ≡ bytes.old.items ++ byte ∷ decimal n }
+    ensures len { length bytes.new.items ≤ length bytes.old.items + 24 }
+    ensures room { vec_capacity bytes.old ≤ vec_capacity bytes.new }
+{
+    let mut text = [0; 44];
+    let start = itoa::write_digits(n as u64, &mut text, 21) - 1;
+    text[start] = byte;
+    push_front(bytes, &text[start..start + PIECE], 21 - start);
+}
+
+/// Adds the first `count` bytes of a piece to bytes that have room for all of it.
+///
+/// All of it is copied, since a copy of a size that is known is no call, and then cut off.
+#[inline(always)]
+fn push_front<A: Allocator>(bytes: &mut Vec<u8, A>, piece: &[u8], count: usize)
+    requires piece { length piece.now ≡ 24 }
+    requires count { count ≤ 24 }
+    requires room { length bytes.old.items + 24 ≤ vec_capacity bytes.old }
+    ensures added { bytes.new.items ≡ bytes.old.items ++ take count piece.now }
+    ensures len { length bytes.new.items ≡ length bytes.old.items + count }
+    ensures room { vec_capacity bytes.old ≤ vec_capacity bytes.new }
+{
+    let len = bytes.len();
+    bytes.extend_from_slice(piece).unwrap();
+    bytes.truncate(len + count);
 }
 
 /// Adds truth values as binary digits to bytes that have room for them.
