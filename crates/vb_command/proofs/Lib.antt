@@ -1,4 +1,5 @@
 pub mod WordLists
+pub mod Cuts
 pub mod NumberWords
 pub mod HexLists
 pub mod Lines

@@ -6,6 +6,7 @@ mod line;
 mod listed;
 mod mode;
 mod number;
+mod split;
 mod truth;
 mod words;
 

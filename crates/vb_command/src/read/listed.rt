@@ -4,6 +4,7 @@ ghost use Rattle.vb_command.specs.Listed.{items_of, parts};
 ghost use Rattle.vb_command.specs.Reading.{Gives, Tells};
 
 use crate::read::field::Field;
+use crate::read::split::split_short;
 use crate::unread::Unread;
 use std::alloc::Allocator;
 use std::marker::Model;
@@ -43,7 +44,7 @@ impl<'a> Parts<'a> {
             (λ part. self.old ≡ part.now ∷ self.new) }
     {
         let rest = self.rest?;
-        if let Some((part, after)) = rest.split_once(',') {
+        if let Some((part, after)) = split_short(rest, ',') {
             self.rest = Some(after);
             return Some(part);
         }

@@ -1,13 +1,9 @@
 //! The words of a line: its parts between spaces that aren't empty.
-ghost use Rattle.std.specs.Prelude.{◌≡◌, ◌<◌, ◌≤◌, [], ◌∷◌, length, MatchOption};
-ghost use Rattle.std.specs.List.{position_or_len, before_first, after_first};
-ghost use Rattle.vb_command.specs.Words.{is_space, line_words};
+ghost use Rattle.std.specs.Prelude.{◌≡◌, [], ◌∷◌, MatchOption};
+ghost use Rattle.vb_command.specs.Words.{line_words};
 
+use crate::read::split::split_short;
 use std::marker::Model;
-
-/// How many bytes are looked at one by one for a space. Most words are shorter, and a search that
-/// takes many bytes at once pays for longer ones alone.
-const NEAR: usize = 16;
 
 /// The words of a text that are still to come. Contracts see the list of them.
 #[derive(Drop)]
@@ -52,7 +48,7 @@ fn next_word(text: &str) -> Option<(&str, &str)>
         (λ (word, rest). line_words text.now ≡ word.now ∷ line_words rest.now) }
 {
     let mut rest = text;
-    while let Some((word, after)) = split_at_space(rest) {
+    while let Some((word, after)) = split_short(rest, ' ') {
         if !word.is_empty() {
             return Some((word, after));
         }
@@ -63,37 +59,4 @@ fn next_word(text: &str) -> Option<(&str, &str)>
     } else {
         Some((rest, ""))
     }
-}
-
-/// What stands before the first space of a text, and what follows it, if there is one.
-#[tactic(auto, using(crate::proofs::WordLists::cuts))]
-fn split_at_space(text: &str) -> Option<(&str, &str)>
-    ensures { MatchOption result
-        (position_or_len is_space text.now ≡ length text.now)
-        (λ (word, after). (position_or_len is_space text.now < length text.now)
-        × (word.now ≡ before_first is_space text.now)
-        × (after.now ≡ after_first is_space text.now)) }
-{
-    let at = near_space(text.as_bytes());
-    if at >= NEAR {
-        return text.split_once(' ');
-    }
-    if at == text.len() {
-        return None;
-    }
-    Some((&text[..at], &text[at + 1..]))
-}
-
-/// The place of the first space, or where the bytes end, where that is near the front.
-#[tactic(auto, using(crate::proofs::WordLists::searches))]
-fn near_space(bytes: &[u8]) -> usize
-    ensures place { result < 16 → result ≡ position_or_len is_space bytes.now }
-    ensures within { result ≤ length bytes.now }
-{
-    let near = bytes.len().min(NEAR);
-    let mut at = 0;
-    while at < near && bytes[at] != b' ' {
-        at += 1;
-    }
-    at
 }

@@ -1,12 +1,12 @@
 use Rattle.std.proofs.Common.{◌≡◌, ℕ, ◌-◌, ◌<◌, ◌≤◌, false, get_or}
-use Rattle.vb_command.specs.Words.{is_space}
-use Rattle.vb_command.proofs.read.words.near_space.Given as goal
+use Rattle.std.specs.Prelude.{◌==◌}
+use Rattle.vb_command.proofs.read.split.near.Given as goal
 
--- no byte so far is a space
+-- no byte so far is a separator
 abbrev pub invariant-loop-at : goal.invariant-loop-at
 invariant-loop-at l = record {
   within : l.at ≤ l.near;
-  words : (k : ℕ) → k < l.at → is_space (get_or l.bytes k 0) ≡ false;
+  other : (k : ℕ) → k < l.at → (get_or l.bytes k 0 == l.separator) ≡ false;
 }
 
 abbrev pub decreases-loop-at : goal.decreases-loop-at
