@@ -2,7 +2,7 @@
 ghost use Rattle.std.specs.Prelude.{◌≡◌, IfOk};
 
 use crate::compared::{end_of, ends, equal, session};
-use std::alloc::Global;
+use std::alloc::{AllocError, Global};
 use std::cell::Cell;
 use std::io;
 use std::io::{Read, Write};
@@ -175,12 +175,19 @@ fn each_error_of_a_writer_is_a_fault(rt: HostRuntime) {
     equal(&rt, ended, Err(DriveError::Write));
 }
 
-/// What was written so far: how many bytes, in how many writes, and the widest of these.
+/// What was written so far: how many bytes, in how many writes, the widest of these, and a number
+/// that tells how wide each was.
 #[derive(Default, Drop)]
 struct Written {
     bytes: Cell<usize>,
     writes: Cell<usize>,
     widest: Cell<usize>,
+    widths: Cell<usize>,
+}
+
+/// The number that tells the widths so far, and one more.
+fn next_width(widths: usize, width: usize) -> usize {
+    widths.wrapping_mul(65_599).wrapping_add(width)
 }
 
 /// Takes bytes and counts them.
@@ -194,6 +201,9 @@ impl Write for Counting<'_> {
         written.bytes.set(bytes);
         written.writes.set(written.writes.get().saturating_add(1));
         written.widest.set(written.widest.get().max(buf.len()));
+        written
+            .widths
+            .set(next_width(written.widths.get(), buf.len()));
         Ok(buf.len())
     }
 
@@ -284,4 +294,103 @@ fn answers_do_not_pile_up(rt: HostRuntime) {
     drop(written);
     equal(&rt, (ended, bytes), (Ok(()), 800_000));
     equal(&rt, (is_narrow, is_rare), (true, true));
+}
+
+/// What waits to be written where pieces of answers come one by one: a write comes where a piece
+/// finds no room.
+#[derive(Clone, Copy, Default)]
+struct Waiting {
+    bytes: usize,
+    widths: usize,
+}
+
+impl Waiting {
+    /// What waits is written.
+    fn write(&mut self) {
+        self.widths = next_width(self.widths, self.bytes);
+        self.bytes = 0;
+    }
+
+    /// A piece comes.
+    fn put(&mut self, piece: usize) {
+        if piece > 65_536usize.saturating_sub(self.bytes) {
+            self.write();
+        }
+        self.bytes = self.bytes.saturating_add(piece);
+    }
+
+    /// A line of one piece comes.
+    fn put_line(&mut self, piece: usize) {
+        self.put(piece);
+        self.put(1);
+    }
+
+    /// A number below 100,000 comes, behind a byte unless it is 0.
+    fn put_number(&mut self, number: usize) {
+        if number > 0 {
+            self.put(1);
+        }
+        self.put(match number {
+            0..=9 => 1,
+            10..=99 => 2,
+            100..=999 => 3,
+            1_000..=9_999 => 4,
+            _ => 5,
+        });
+    }
+}
+
+/// The widths of the writes of two long lists, of the places from 0 up to 15,000 and of a run at
+/// each second one of 24,000, behind the answers to so many lines of two kinds.
+fn widths_of_lists(refused: usize, numbers: usize) -> usize {
+    let mut waiting = Waiting::default();
+    waiting.put_line(2);
+    waiting.put_line(2);
+    for _ in 0..refused {
+        waiting.put_line(15);
+    }
+    for _ in 0..numbers {
+        waiting.put_line(5);
+    }
+    for place in 0..15_000 {
+        waiting.put_number(place);
+    }
+    waiting.put(1);
+    for place in 0..24_000 {
+        waiting.put_number(place);
+    }
+    waiting.put(1);
+    waiting.write();
+    waiting.widths
+}
+
+/// Lines that ask for these lists.
+fn lines_of_lists(alloc: Global, refused: usize, numbers: usize) -> Result<Vec<u8>, AllocError> {
+    let mut lines = b"full 0 1 15000\nimport 1 0 24000 ".to_vec(alloc)?;
+    lines.extend_from_slice(&b"55".repeat(alloc, 3_000)?)?;
+    lines.extend_from_slice(b"\n")?;
+    lines.extend_from_slice(&b"len 2\n".repeat(alloc, refused)?)?;
+    lines.extend_from_slice(&b"len 0\n".repeat(alloc, numbers)?)?;
+    lines.extend_from_slice(b"places 0\nruns 1\n")?;
+    Ok(lines)
+}
+
+/// However full the room is, each write has the bytes that it has where pieces come one by one: a
+/// number, a comma, a line feed.
+#[test]
+fn writes_are_cut_between_pieces(rt: HostRuntime) {
+    for refused in 0..3 {
+        for numbers in 0..12 {
+            let lines = lines_of_lists(rt.alloc(), refused, numbers).expect(&rt, "memory");
+            let written = Written::default();
+            let mut sink = ToWrite::new(Counting(&written));
+            let ended = end_of(rt.alloc(), FromRead::new(lines.as_slice()), &mut sink);
+            drop(sink);
+            drop(lines);
+            let widths = written.widths.get();
+            drop(written);
+            let wanted = widths_of_lists(refused, numbers);
+            equal(&rt, (ended, widths), (Ok(()), wanted));
+        }
+    }
 }
