@@ -1,17 +1,29 @@
 -- Counts of blocks by their groups: read, searched and made.
 use Rattle.std.proofs.Common.{◌≡◌, ℕ, ◌+◌, ◌-◌, ◌*◌, ◌/◌, ◌%◌, ◌<◌, ◌≤◌, Bool, true, false, List}
-use Rattle.std.proofs.Common.{length, get_or, take, min, sym, ap, ◌∙◌, arith, ⊎_elim}
+use Rattle.std.proofs.Common.{[], length, map, get_or, take, min, sym, ap, ◌∙◌, arith, ⊎_elim}
 use Rattle.std.specs.Int.{div_ceil}
 use Rattle.std.proofs.lemmas.Bool.{cases_lt}
-use Rattle.std.proofs.lemmas.List.{length-take, get_or-take}
+use Rattle.std.proofs.lemmas.List.{length-map, get_or-map, length-take, get_or-take}
 use Rattle.vb_bits.specs.Bits.{bits, count}
 use Rattle.vb_kernel.proofs.BitsLemmas.{count-bits-add, length-bits, take-bits}
 use Rattle.vb_rank.specs.declared.group.Group.{Group}
-use Rattle.vb_rank.specs.Groups.{IsGroup, AreGroups, BeginsGroup, group_at}
+use Rattle.vb_rank.specs.Groups.{IsGroup, AreGroups, group_at}
 use Rattle.vb_rank.specs.Tables.{blocks, block_counts, count_before, Rises, BeginsBefore}
 use Rattle.vb_rank.proofs.TablesLemmas.{length-block_counts, at-block_counts}
 
 -- ---- reads
+-- the counts before the groups, by these
+abbrev counts_before : List Group → List ℕ
+counts_before gs = map (λ g. g.before) gs
+
+pub length_counts_before : (gs : List Group) → length (counts_before gs) ≡ length gs
+length_counts_before gs = length-map gs (λ g. g.before)
+
+pub at_counts_before : (gs : List Group) (k : ℕ)
+    → k < length gs → get_or (counts_before gs) k 0 ≡ (group_at gs k).before
+at_counts_before gs k h =
+    get_or-map (λ g. g.before) gs k (record { before = 0; within = [] }) 0 h
+
 -- the count before a block, by its group
 pub ones-of_group : (l : List Bool) (gs : List Group) (j : ℕ)
     → AreGroups l gs → 512 * j < length l
@@ -23,7 +35,7 @@ ones-of_group l gs j p h =
     (omega (arith, h, place)) ∙ ap (λ x. count (take x l)) place
 
 -- the count before a group is that before its first block
-pub before-of_group : (l : List Bool) (gs : List Group) (k : ℕ)
+before-of_group : (l : List Bool) (gs : List Group) (k : ℕ)
     → AreGroups l gs → k < length gs
     → (group_at gs k).before ≡ get_or (block_counts l) (128 * k) 0
 before-of_group l gs k p h =
@@ -48,10 +60,10 @@ part-of_group l gs k i p h small inside =
     )
 
 -- the values before a block are those before its group, and those of the group
-count_before-split : (v : Bool) (t w : List ℕ) (k i : ℕ) → Rises true t → Rises false t
+count_before-split : (v : Bool) (t w : List ℕ) (k i : ℕ) → Rises 512 true t → Rises 512 false t
     → 128 * k + i < length t → get_or t (128 * k + i) 0 ≡ get_or t (128 * k) 0 + get_or w i 0
     → (get_or w i 0 ≤ 512 * i)
-    × (count_before v t (128 * k + i) ≡ count_before v t (128 * k) + count_before v w i)
+    × (count_before 512 v t (128 * k + i) ≡ count_before 512 v t (128 * k) + count_before 512 v w i)
 count_before-split true t w k i up down inside part = (
   omega (
     arith,
@@ -80,15 +92,15 @@ count_before-split false t w k i up down inside part = (
 )
 
 -- both kinds of values rise, and so those that are v
-pub either_rises : (v : Bool) (t : List ℕ) → Rises true t → Rises false t → Rises v t
+either_rises : (v : Bool) (t : List ℕ) → Rises 512 true t → Rises 512 false t → Rises 512 v t
 either_rises true t up down = up
 either_rises false t up down = down
 
 -- the counts of a group can be searched
-Rises-group : (v : Bool) (t w : List ℕ) (k : ℕ) → Rises true t → Rises false t
+Rises-group : (v : Bool) (t w : List ℕ) (k : ℕ) → Rises 512 true t → Rises 512 false t
     → ((i : ℕ) → i < length w → 128 * k + i < length t)
     → ((i : ℕ) → i < length w → get_or t (128 * k + i) 0 ≡ get_or t (128 * k) 0 + get_or w i 0)
-    → Rises v w
+    → Rises 512 v w
 Rises-group v t w k up down within part = record {
   small = λ i h. (count_before-split v t w k i up down (within i h) (part i h)).0;
   rising = λ i j order h.
@@ -102,17 +114,61 @@ Rises-group v t w k up down within part = record {
       );
 }
 
+-- ---- the groups are sought
+-- what they say is what the table says of the first block of each
+count_before-groups : (v : Bool) (l : List Bool) (gs : List Group) (k : ℕ)
+    → AreGroups l gs → k < length gs
+    → count_before 65536 v (counts_before gs) k ≡ count_before 512 v (block_counts l) (128 * k)
+count_before-groups true l gs k p h =
+    at_counts_before gs k h ∙ before-of_group l gs k p h
+count_before-groups false l gs k p h = omega (
+  arith,
+  at_counts_before gs k h,
+  before-of_group l gs k p h,
+)
+
+-- they can be searched as the table can
+Rises-groups : (v : Bool) (l : List Bool) (gs : List Group) → AreGroups l gs
+    → Rises 512 v (block_counts l) → Rises 65536 v (counts_before gs)
+Rises-groups v l gs p rises =
+    let wide = length_counts_before gs in
+    let size = length-block_counts l in
+    record {
+      small = λ j h.
+          let here : j < length gs = omega (arith, h, wide) in
+          omega (
+            arith,
+            rises.small (128 * j) (omega (arith, here, p.long, size)),
+            before-of_group l gs j p here,
+            at_counts_before gs j here,
+          );
+      rising = λ i j order h.
+          let here : j < length gs = omega (arith, h, wide) in
+          omega (
+            arith,
+            rises.rising (128 * i) (128 * j) (omega (arith, order))
+                (omega (arith, here, p.long, size)),
+            count_before-groups v l gs i p (omega (arith, order, here)),
+            count_before-groups v l gs j p here,
+          );
+    }
+
 -- what is found among the counts of a group is found in the table
 pub BeginsBefore-group : (v : Bool) (l : List Bool) (gs : List Group) (w : List ℕ)
     (n k m b j r : ℕ) → AreGroups l gs
-    → Rises true (block_counts l) → Rises false (block_counts l) → k < length gs
-    → BeginsGroup v (block_counts l) n (length gs) k m → m ≤ n
+    → Rises 512 true (block_counts l) → Rises 512 false (block_counts l)
+    → (Rises 65536 v (counts_before gs) → BeginsBefore 65536 v (counts_before gs) n k m)
     → w ≡ take b (group_at gs k).within → b ≡ min (div_ceil (length l - 65536 * k) 512) 128
-    → (Rises v w → BeginsBefore v w (n - m) j r)
-    → BeginsBefore v (block_counts l) n (128 * k + j) (m + r)
-BeginsBefore-group v l gs w n k m b j r p up down h group low cut end find =
+    → (Rises 512 v w → BeginsBefore 512 v w (n - m) j r)
+    → BeginsBefore 512 v (block_counts l) n (128 * k + j) (m + r)
+BeginsBefore-group v l gs w n k m b j r p up down seek cut end find =
     let t : List ℕ = block_counts l in
     let size : length t ≡ blocks (length l) = length-block_counts l in
+    let wide = length_counts_before gs in
+    let group = seek (Rises-groups v l gs p (either_rises v t up down)) in
+    let h : k < length gs = omega (arith, group.within, wide) in
+    let start : count_before 65536 v (counts_before gs) k ≡ count_before 512 v t (128 * k) =
+    count_before-groups v l gs k p h in
     let long : length w ≡ b = omega (
       arith,
       ap length cut,
@@ -132,12 +188,12 @@ BeginsBefore-group v l gs w n k m b j r p up down h group low cut end find =
     ) in
     let f = find (Rises-group v t w k up down within part) in
     let split : (i : ℕ) → i < length w
-    → count_before v t (128 * k + i) ≡ count_before v t (128 * k) + count_before v w i =
+    → count_before 512 v t (128 * k + i) ≡ count_before 512 v t (128 * k) + count_before 512 v w i =
     λ i inside. (count_before-split v t w k i up down (within i inside) (part i inside)).1 in
     record {
       within = within j f.within;
-      before = omega (arith, split j f.within, f.before, group.before);
-      low = omega (arith, low, f.low);
+      before = omega (arith, split j f.within, f.before, group.before, start);
+      low = omega (arith, group.low, f.low);
       high = λ more. ⊎_elim
           (λ (inner : j + 1 < length w).
           let next : 128 * k + j + 1 ≡ 128 * k + (j + 1) = omega arith in
@@ -146,15 +202,18 @@ BeginsBefore-group v l gs w n k m b j r p up down h group low cut end find =
             split (j + 1) inner,
             f.high inner,
             group.before,
-            ap (count_before v t) next,
+            start,
+            ap (count_before 512 v t) next,
           ))
           (λ (last : length w ≤ j + 1).
           let next : 128 * k + j + 1 ≡ 128 * (k + 1) =
           omega (arith, last, f.within, long, end, more, size) in
+          let last_group : k + 1 < length gs = omega (arith, next, more, size, p.long) in
           omega (
             arith,
-            group.high (omega (arith, next, more, size, p.long)),
-            ap (count_before v t) next,
+            group.high (omega (arith, last_group, wide)),
+            count_before-groups v l gs (k + 1) p last_group,
+            ap (count_before 512 v t) next,
           ))
           (cases_lt (j + 1) (length w));
     }

@@ -2,31 +2,25 @@
 use Rattle.std.proofs.Common.{◌≡◌, ℕ, zero, suc, ◌+◌, ◌-◌, ◌*◌, ◌/◌, ◌^◌, ◌<◌, ◌≤◌, Bool, true}
 use Rattle.std.proofs.Common.{false, List, length, get_or, take, None, Some, min, refl, sym, ap}
 use Rattle.std.proofs.Common.{◌∙◌, arith, subst, ⊎_elim}
+use Rattle.std.specs.Int.{div_ceil}
 use Rattle.std.specs.Int.Digits.{digits_of}
 use Rattle.std.proofs.lemmas.List.FromFn.{length-map-range_with_len, get_or-map-range_with_len}
 use Rattle.std.proofs.lemmas.Bool.{cases_lt}
-use Rattle.std.proofs.lemmas.Int.Digits.{length-digits_of_step}
+use Rattle.std.proofs.lemmas.Int.Digits.{length-digits_of_step, length-digits_of-le}
 use Rattle.vb_bits.specs.Bits.{bits, count, Selects}
 use Rattle.vb_kernel.specs.Looks.{looks}
 use Rattle.vb_kernel.specs.Searches.{hits}
 use Rattle.vb_kernel.proofs.BitsLemmas.{length-bits, take-bits, count-bits-le}
 use Rattle.vb_kernel.proofs.SearchesLemmas.{count-hits-bits_split, count-hits-bits_false}
 use Rattle.vb_kernel.proofs.SearchesLemmas.{Searched_after, Searched_longer}
-use Rattle.vb_rank.specs.Tables.{CountedEntries, ProbesAtMost, blocks, block_counts, binary_digits}
+use Rattle.vb_rank.specs.Tables.{CountedEntries, ProbesExactly, ProbesAtMost, blocks}
+use Rattle.vb_rank.specs.Tables.{block_counts, binary_digits}
 use Rattle.vb_rank.specs.Tables.{count_before, BeginsBefore, Rises}
 
 -- ---- looks
 -- a block takes at most 16 looks, wherever it begins
 pub looks_of_block : (o n : ℕ) → n ≤ 512 → looks o n ≤ 16
 looks_of_block o n h = omega arith
-
--- ---- halves
--- a range of two or more that k halvings bring to one is brought there by k - 1 from either half
-pub half-le : (s k : ℕ) → 2 ≤ s → s ≤ 2 ^ k → (1 ≤ k) × (s - s / 2 ≤ 2 ^ (k - 1))
-half-le s zero two within = absurd (omega arith)
-half-le s (suc k) two within =
-    let e : suc k - 1 ≡ k = omega arith in
-    (omega arith, subst (λ x. s - s / 2 ≤ 2 ^ x) (sym e) (omega arith))
 
 -- ---- the table
 -- there is an entry for each block
@@ -68,7 +62,7 @@ entry-le b t o n e j h = rw e (omega
 
 -- what the table says of a block is the count of a front of the window
 pub count_before-table : (v : Bool) (b t : List ℕ) (o n : ℕ) → t ≡ block_counts (bits b o n)
-    → (j : ℕ) → j < length t → count_before v t j ≡ count (hits v (bits b o (512 * j)))
+    → (j : ℕ) → j < length t → count_before 512 v t j ≡ count (hits v (bits b o (512 * j)))
 count_before-table true b t o n e j h =
     ap (λ x. get_or x j 0) e ∙ at-block_counts-bits b o n j (inside b t o n e j h)
 count_before-table false b t o n e j h =
@@ -81,7 +75,7 @@ count_before-table false b t o n e j h =
 -- a later block has no fewer values before it
 pub count_before-mono : (v : Bool) (b t : List ℕ) (o n : ℕ)
     → t ≡ block_counts (bits b o n) → (i j : ℕ) → i ≤ j → j < length t
-    → count_before v t i ≤ count_before v t j
+    → count_before 512 v t i ≤ count_before 512 v t j
 count_before-mono v b t o n e i j order h =
     let more = count-hits-bits_split v b o
     (512 * i) (512 * j) (o + 512 * i) (512 * j - 512 * i) refl (omega arith) in
@@ -93,19 +87,20 @@ count_before-mono v b t o n e i j order h =
     )
 
 -- the table of a window can be searched by halves
-pub Rises-table : (v : Bool) (b t : List ℕ) (o n : ℕ) → t ≡ block_counts (bits b o n) → Rises v t
+pub Rises-table : (v : Bool) (b t : List ℕ) (o n : ℕ)
+    → t ≡ block_counts (bits b o n) → Rises 512 v t
 Rises-table v b t o n e =
     record { small = entry-le b t o n e; rising = count_before-mono v b t o n e }
 
 -- ---- the block of a rank
 -- it begins in the window
 pub block-begins : (v : Bool) (b t : List ℕ) (o n r j m : ℕ)
-    → t ≡ block_counts (bits b o n) → BeginsBefore v t r j m → 512 * j < n
+    → t ≡ block_counts (bits b o n) → BeginsBefore 512 v t r j m → 512 * j < n
 block-begins v b t o n r j m e f = omega (arith, inside b t o n e j f.within)
 
 -- what its search finds is found in the window
 pub Selects-block_some : (v : Bool) (b t : List ℕ) (o n r j m k p : ℕ)
-    → t ≡ block_counts (bits b o n) → BeginsBefore v t r j m → k ≡ min (n - 512 * j) 512
+    → t ≡ block_counts (bits b o n) → BeginsBefore 512 v t r j m → k ≡ min (n - 512 * j) 512
     → Selects (hits v (bits b (o + 512 * j) k)) (r - m) (Some p)
     → Selects (hits v (bits b o n)) r (Some (512 * j + p))
 Selects-block_some v b t o n r j m k p e f cut s =
@@ -117,7 +112,7 @@ Selects-block_some v b t o n r j m k p e f cut s =
 
 -- where it finds nothing, the window has no more
 pub Selects-block_none : (v : Bool) (b t : List ℕ) (o n r j m k : ℕ)
-    → t ≡ block_counts (bits b o n) → BeginsBefore v t r j m → k ≡ min (n - 512 * j) 512
+    → t ≡ block_counts (bits b o n) → BeginsBefore 512 v t r j m → k ≡ min (n - 512 * j) 512
     → Selects (hits v (bits b (o + 512 * j) k)) (r - m) None
     → Selects (hits v (bits b o n)) r None
 Selects-block_none v b t o n r j m k e f cut s =
@@ -162,21 +157,25 @@ rank-block b t o n i j m k e h from to before here =
     )
 
 -- ---- probes
--- one more halving
-pub halves-step : (size p q a s z : ℕ) → ((k : ℕ)
-    → size ≤ 2 ^ k → (q ≤ p + k) × (s ≤ 2 ^ (p + k - q))) → 2 ≤ s → z ≤ s - s / 2 → a ≡ q + 1
-    → (k : ℕ) → size ≤ 2 ^ k → (a ≤ p + k) × (z ≤ 2 ^ (p + k - a))
-halves-step size p q a s z halves two half one k fits =
-    let h = halves k fits in
-    let next = half-le s (p + k - q) two h.1 in
-    let e : p + k - a ≡ p + k - q - 1 = omega arith in
-    (omega (arith, next.0, h.0), subst (λ x. z ≤ 2 ^ x) (sym e) (omega (arith, next.1)))
+-- a half has a digit less
+pub digits-half : (s : ℕ) → 2 ≤ s → binary_digits (s - 1) ≡ binary_digits (s - s / 2 - 1) + 1
+digits-half s two =
+    let half : (s - 1) / 2 ≡ s - s / 2 - 1 = omega arith in
+    omega (
+      arith,
+      length-digits_of_step 2 (s - 1) (omega arith) (omega arith),
+      ap binary_digits half,
+    )
 
 -- the next power of two
 pow_more : (k : ℕ) → 2 ^ (k + 1) ≡ 2 * 2 ^ k
 pow_more k =
     let e : k + 1 ≡ suc k = omega arith in
     ap (λ x. 2 ^ x) e ∙ omega arith
+
+-- a number below a power of two has no more digits
+digits-le : (n k : ℕ) → n < 2 ^ k → binary_digits n ≤ k
+digits-le n k h = length-digits_of-le 2 k n (omega arith) h
 
 -- a number is below the power of two by its digits
 lt-binary_digits_to : (m n : ℕ) → n ≤ m → n < 2 ^ binary_digits n
@@ -194,9 +193,54 @@ lt-binary_digits_to (suc m) (suc n) h =
 pub lt-binary_digits : (n : ℕ) → n < 2 ^ binary_digits n
 lt-binary_digits n = lt-binary_digits_to n n (omega arith)
 
--- as many halvings as the number of blocks and one has digits bring the table to one entry
+-- a search of the table takes no more probes than the number of blocks and one has digits
 pub probes-le : (n : ℕ) (s t : CountedEntries) → length s.entries ≡ blocks n
-    → ((k : ℕ) → length s.entries ≤ 2 ^ k → ProbesAtMost k s t)
+    → ProbesExactly (binary_digits (length s.entries - 1)) s t
     → ProbesAtMost (binary_digits (blocks n + 1)) s t
-probes-le n s t e h =
-    h (binary_digits (blocks n + 1)) (omega (arith, e, lt-binary_digits (blocks n + 1)))
+probes-le n s t e h = record {
+  same = h.same;
+  probes = omega (
+    arith,
+    h.probes,
+    digits-le (length s.entries - 1) (binary_digits (blocks n + 1))
+        (omega (arith, e, lt-binary_digits (blocks n + 1))),
+  );
+}
+
+-- a power of two that is above 128 has that as a part
+pow-above_128 : (k : ℕ) → 128 < 2 ^ k → (7 ≤ k) × (2 ^ k ≡ 128 * 2 ^ (k - 7))
+pow-above_128 zero h = absurd (omega arith)
+pow-above_128 (suc zero) h = absurd (omega arith)
+pow-above_128 (suc (suc zero)) h = absurd (omega arith)
+pow-above_128 (suc (suc (suc zero))) h = absurd (omega arith)
+pow-above_128 (suc (suc (suc (suc zero)))) h = absurd (omega arith)
+pow-above_128 (suc (suc (suc (suc (suc zero))))) h = absurd (omega arith)
+pow-above_128 (suc (suc (suc (suc (suc (suc zero)))))) h = absurd (omega arith)
+pow-above_128 (suc (suc (suc (suc (suc (suc (suc k))))))) h =
+    let e : suc (suc (suc (suc (suc (suc (suc k)))))) - 7 ≡ k = omega arith in (
+      omega arith,
+      subst (λ x. 2 ^ suc (suc (suc (suc (suc (suc (suc k)))))) ≡ 128 * 2 ^ x) (sym e)
+          (omega arith),
+    )
+
+-- nor does one of the groups, and then of the blocks of one
+pub digits-of_group-le : (n g b : ℕ) → g ≡ div_ceil n 65536 → b ≤ blocks n → b ≤ 128
+    → binary_digits (g - 1) + binary_digits (b - 1) ≤ binary_digits (blocks n + 1)
+digits-of_group-le n g b groups part small =
+    let d : ℕ = binary_digits (blocks n + 1) in
+    let above : blocks n + 1 < 2 ^ d = lt-binary_digits (blocks n + 1) in
+    ⊎_elim
+    (λ (more : 1 < g).
+    let split = pow-above_128 d (omega (arith, more, groups, above)) in
+    omega (
+      arith,
+      split.0,
+      digits-le (g - 1) (d - 7) (omega (arith, split.1, groups, above)),
+      digits-le (b - 1) 7 (omega (arith, small)),
+    ))
+    (λ (one : g ≤ 1). omega (
+      arith,
+      digits-le (g - 1) 0 (omega (arith, one)),
+      digits-le (b - 1) d (omega (arith, part, above)),
+    ))
+    (cases_lt 1 g)

@@ -3,7 +3,6 @@ use Rattle.std.specs.Prelude.{◌≡◌, ℕ, ◌+◌, ◌*◌, ◌<◌, Bool, L
 use Rattle.std.specs.Prelude.{slice_index, slice_index_or}
 use Rattle.std.specs.Int.{div_ceil}
 use Rattle.vb_bits.specs.Bits.{count}
-use Rattle.vb_rank.specs.Tables.{count_before}
 use Rattle.vb_rank.specs.declared.group.Group.{Group}
 
 -- group k, where there is one
@@ -21,8 +20,3 @@ pub record IsGroup (l : List Bool) (k : ℕ) (g : Group) : Type 0 where
 pub record AreGroups (l : List Bool) (gs : List Group) : Type 0 where
   pub long : length gs ≡ div_ceil (length l) 65536
   pub each : (k : ℕ) → k < length gs → IsGroup l k (group_at gs k)
-
--- before group k, of so many, are m values that are v, and before the next one more than n
-pub record BeginsGroup (v : Bool) (t : List ℕ) (n size k m : ℕ) : Type 0 where
-  pub before : m ≡ count_before v t (128 * k)
-  pub high : k + 1 < size → n < count_before v t (128 * (k + 1))

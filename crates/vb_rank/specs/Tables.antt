@@ -37,23 +37,23 @@ IsTableOf t l = t.entries ≡ block_counts l
 abbrev pub binary_digits : ℕ → ℕ
 binary_digits n = length (digits_of 2 n)
 
--- how many values that are v are before block j, by the table
-abbrev pub count_before : Bool → List ℕ → ℕ → ℕ
-count_before true t j = slice_index t j
-count_before false t j = 512 * j - slice_index t j
+-- how many values that are v are before part j, by a table of parts of w values
+abbrev pub count_before : ℕ → Bool → List ℕ → ℕ → ℕ
+count_before w true t j = slice_index t j
+count_before w false t j = w * j - slice_index t j
 
--- no entry is greater than the number of values before its block, and no later block has fewer
+-- no entry is greater than the number of values before its part, and no later part has fewer
 -- values that are v before it
-pub record Rises (v : Bool) (t : List ℕ) : Type 0 where
-  pub small : (j : ℕ) → j < length t → slice_index t j ≤ 512 * j
-  pub rising : (i j : ℕ) → i ≤ j → j < length t → count_before v t i ≤ count_before v t j
+pub record Rises (w : ℕ) (v : Bool) (t : List ℕ) : Type 0 where
+  pub small : (j : ℕ) → j < length t → slice_index t j ≤ w * j
+  pub rising : (i j : ℕ) → i ≤ j → j < length t → count_before w v t i ≤ count_before w v t j
 
--- before block j are m values that are v, at most n, and before the next one more than n
-pub record BeginsBefore (v : Bool) (t : List ℕ) (n j m : ℕ) : Type 0 where
+-- before part j are m values that are v, at most n, and before the next one more than n
+pub record BeginsBefore (w : ℕ) (v : Bool) (t : List ℕ) (n j m : ℕ) : Type 0 where
   pub within : j < length t
-  pub before : m ≡ count_before v t j
+  pub before : m ≡ count_before w v t j
   pub low : m ≤ n
-  pub high : j + 1 < length t → n < count_before v t (j + 1)
+  pub high : j + 1 < length t → n < count_before w v t (j + 1)
 
 -- one more, or one fewer
 abbrev pub bump : Bool → ℕ → ℕ

@@ -6,6 +6,7 @@ ghost use Rattle.std.specs.Prelude.{OnOk, IsOkUnless};
 ghost use Rattle.vb_bits.specs.Bits.{at, count};
 ghost use Rattle.vb_rank.specs.Groups.{AreGroups, group_at};
 
+use crate::probe::{ItemTable, Probe};
 use std::alloc::Allocator;
 use vb_set::{BufferError, Result};
 
@@ -47,16 +48,19 @@ pub(crate) fn reserve_group<A: Allocator>(groups: &mut Vec<Group, A>) -> Result<
     Ok(())
 }
 
-/// How many true bits are before a block.
-pub(crate) fn ones_before(groups: &[Group], block: usize) -> usize
+/// How many true bits are before a block, by two probes, which the table beside it has counted.
+pub(crate) fn ones_before(groups: &[Group], block: usize) -> (ItemTable<'_, u16>, usize)
     requires { block / 128 < length groups.now }
-    ensures { (l : List Bool) → AreGroups l groups.now → length l < 2 ^ 64 → 512 * block < length l
-        → result ≡ count (take (512 * block) l) }
+    ensures value { (l : List Bool) → AreGroups l groups.now → length l < 2 ^ 64
+        → 512 * block < length l → result.1 ≡ count (take (512 * block) l) }
+    ensures probes { result.0.probes ≡ 2 }
 {
-    let group = &groups[block / 128];
-    group
-        .before
-        .wrapping_add(usize::from(group.within[block % 128]))
+    let (group, place) = (block / 128, block % 128);
+    let mut table = ItemTable::new(groups);
+    let before = table.entry(group);
+    let mut counts = table.then(&groups[group].within);
+    let more = counts.entry(place);
+    (counts, before.wrapping_add(more))
 }
 
 /// Writes how many true bits are before a block that isn't the first of its group.

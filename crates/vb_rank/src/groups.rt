@@ -1,15 +1,15 @@
 //! The groups of a list of bits: made, and searched.
-ghost use Rattle.std.specs.Prelude.{◌≡◌, ℕ, Bool, true, false, List, ◌+◌, ◌*◌, ◌/◌, ◌^◌, ◌<◌};
+ghost use Rattle.std.specs.Prelude.{◌≡◌, ℕ, Bool, true, false, List, ◌+◌, ◌-◌, ◌*◌, ◌/◌, ◌^◌, ◌<◌};
 ghost use Rattle.std.specs.Prelude.{◌≤◌, length, slice_index, IfOk, IsOkUnless};
 ghost use Rattle.vb_bits.specs.Bits.{bits, count};
 ghost use Rattle.vb_bits.specs.InBytes.{InBytes};
-ghost use Rattle.vb_rank.specs.Groups.{AreGroups, BeginsGroup};
-ghost use Rattle.vb_rank.specs.Tables.{block_counts, count_before, BeginsBefore, Rises};
+ghost use Rattle.vb_rank.specs.Groups.{AreGroups};
+ghost use Rattle.vb_rank.specs.Tables.{blocks, block_counts, binary_digits, BeginsBefore, Rises};
 ghost use Rattle.vb_set.specs.View.{bits_of};
 
 use crate::block::find_block;
 use crate::group::Group;
-use crate::probe::NarrowTable;
+use crate::probe::ItemTable;
 use std::alloc::Allocator;
 use vb_kernel::count_ones;
 use vb_set::{BitBufferView, BufferError, Result};
@@ -53,60 +53,29 @@ fn write_counts(bytes: &[u8], offset: usize, len: usize, counts: &mut [u16; 128]
 }
 
 /// What [`find_block`] answers of the table of `len` bits, from their groups: the group of the bit
-/// is sought first, and then its block among those of the group.
-pub(crate) fn find_in_groups(groups: &[Group], len: usize, n: usize, value: bool) -> (usize, usize)
+/// is sought first, and then its block among those of the group, by as many probes at most as
+/// [`select_by`](crate::select_by) promises, which the table beside it has counted.
+pub(crate) fn find_in_groups(
+    groups: &[Group],
+    len: usize,
+    n: usize,
+    value: bool,
+) -> (ItemTable<'_, u16>, (usize, usize))
     requires some { 0 < len }
     requires groups { length groups.now ≡ (len + 65535) / 65536 }
-    ensures within { 512 * result.0 < len }
-    ensures low { result.1 ≤ n }
+    ensures within { 512 * result.1.0 < len }
+    ensures low { result.1.1 ≤ n }
     ensures block { (l : List Bool) → length l ≡ len → AreGroups l groups.now
-        → Rises true (block_counts l) → Rises false (block_counts l)
-        → BeginsBefore value (block_counts l) n result.0 result.1 }
+        → Rises 512 true (block_counts l) → Rises 512 false (block_counts l)
+        → BeginsBefore 512 value (block_counts l) n result.1.0 result.1.1 }
+    ensures probes { result.0.probes ≡ binary_digits (length groups.now - 1)
+        + binary_digits (length result.0.entries - 1) }
+    ensures most { result.0.probes ≤ binary_digits (blocks len + 1) }
 {
-    let (group, before) = find_group(groups, n, value);
+    let mut table = ItemTable::new(groups);
+    let (group, before) = find_block(&mut table, 65_536, n, value);
     let blocks = (len - 65_536 * group).div_ceil(512).min(128);
-    let counts = &groups[group].within[..blocks];
-    let (block, more) = find_block(&mut NarrowTable::new(counts), n - before, value);
-    (128 * group + block, before + more)
-}
-
-/// The last group before which are at most `n` bits that are `value`, and how many these are.
-///
-/// It halves the groups as [`find_block`] does the blocks.
-fn find_group(groups: &[Group], n: usize, value: bool) -> (usize, usize)
-    requires some { 0 < length groups.now }
-    requires fits { 65536 * length groups.now < 2 ^ 64 + 65536 }
-    ensures within { result.0 < length groups.now }
-    ensures low { result.1 ≤ n }
-    ensures group { (l : List Bool) → AreGroups l groups.now → Rises value (block_counts l)
-        → BeginsGroup value (block_counts l) n (length groups.now) result.0 result.1 }
-{
-    let mut low = 0;
-    let mut before = 0;
-    let mut left = groups.len();
-    while left > 1 {
-        let half = left / 2;
-        let here = bits_before(groups, low + half, value);
-        if here <= n {
-            low += half;
-            before = here;
-        }
-        left -= half;
-    }
-    (low, before)
-}
-
-/// How many bits that are `value` are before group `k`.
-fn bits_before(groups: &[Group], k: usize, value: bool) -> usize
-    requires within { k < length groups.now }
-    requires fits { 65536 * k < 2 ^ 64 }
-    ensures { (l : List Bool) → AreGroups l groups.now → Rises value (block_counts l)
-        → result ≡ count_before value (block_counts l) (128 * k) }
-{
-    let ones = groups[k].before;
-    if value {
-        ones
-    } else {
-        (65_536 * k).wrapping_sub(ones)
-    }
+    let mut counts = table.then(&groups[group].within[..blocks]);
+    let (block, more) = find_block(&mut counts, 512, n - before, value);
+    (counts, (128 * group + block, before + more))
 }

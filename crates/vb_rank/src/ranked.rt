@@ -90,7 +90,7 @@ impl<A: Allocator + Clone> Ranked<A> {
         let at = 512 * block;
         let bits = self.as_view();
         let src = &mut Plain::new(bits.inner());
-        let before = ones_before(self.groups.as_slice(), block);
+        let (_, before) = ones_before(self.groups.as_slice(), block);
         before + count_in_block(src, bits.offset() + at, i - at)
     }
 
@@ -177,7 +177,7 @@ impl<A: Allocator + Clone> Ranked<A> {
         if bits.len() == 0 {
             return None;
         }
-        let found = find_in_groups(self.groups.as_slice(), bits.len(), n, value);
+        let (_, found) = find_in_groups(self.groups.as_slice(), bits.len(), n, value);
         let src = &mut Plain::new(bits.inner());
         select_from(src, bits.offset(), bits.len(), found, n, value)
     }

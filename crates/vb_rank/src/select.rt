@@ -94,7 +94,7 @@ fn select_value_by<G: Glance, T: Probe>(
     if len == 0 {
         return None;
     }
-    let found = find_block(table, n, value);
+    let found = find_block(table, 512, n, value);
     select_from(src, offset, len, found, n, value)
 }
 
@@ -112,7 +112,7 @@ pub(crate) fn select_from<G: Glance>(
     requires begins { 512 * found.0 < len }
     requires low { found.1 ≤ n }
     ensures place { (t : List ℕ) → t ≡ block_counts (bits (G.seen src.old).bytes offset len)
-        → BeginsBefore value t n found.0 found.1
+        → BeginsBefore 512 value t n found.0 found.1
         → Selects (hits value (bits (G.seen src.old).bytes offset len)) n result }
     ensures looks { LooksAtMost 16 (G.seen src.old) (G.seen src.new) }
 {

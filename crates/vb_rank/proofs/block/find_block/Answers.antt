@@ -1,6 +1,6 @@
-use Rattle.std.proofs.Common.{◌≡◌, ℕ, List, ◌+◌, ◌-◌, ◌/◌, ◌<◌, arith, ap, sym, subst, ◌∙◌}
-use Rattle.vb_rank.specs.Tables.{count_before, Rises}
-use Rattle.vb_rank.proofs.TablesLemmas.{halves-step}
+use Rattle.std.proofs.Common.{◌≡◌, ℕ, Bool, List, ◌+◌, ◌-◌, ◌/◌, ◌<◌, arith, ap, sym, subst, ◌∙◌}
+use Rattle.vb_rank.specs.Tables.{binary_digits, count_before, Rises}
+use Rattle.vb_rank.proofs.TablesLemmas.{digits-half}
 use Rattle.vb_rank.proofs.block.find_block.Goals as goal
 use Rattle.vb_rank.proofs.block.find_block.Goals.{then-here-n, else-here-n}
 
@@ -9,44 +9,47 @@ loop-left-preserved g c =
     let t : List ℕ = (g.T.Probe.seen c.args.table.now).entries in
     let low : ℕ = c.loop-left.low in let left : ℕ = c.loop-left.left in let half : ℕ = left / 2 in
     let n : ℕ = c.args.n in
-    let here : Rises c.args.value t
-    → c.bits_before-here.result ≡ count_before c.args.value t (low + half) = λ r.
+    let w : ℕ = c.args.width in let v : Bool = c.args.value in
+    let here : Rises w v t
+    → c.bits_before-here.result ≡ count_before w v t (low + half) = λ r.
     (rw c.loop-left.invariant.same at c.bits_before-here.ensures.value)
     (r.small (low + half) (omega arith)) in
     let same = c.bits_before-here.ensures.probe.same ∙ c.loop-left.invariant.same in
-    let halves = halves-step _ _ _ _ left (left - half) c.loop-left.invariant.halves
-    (omega arith) (omega arith) c.bits_before-here.ensures.probe.probes in
+    let step = digits-half left (omega arith) in
+    let probe = c.bits_before-here.ensures.probe.probes in
     elim c.if-here-n.branch [
-      | then-here-n w ↦ record {
+      | then-here-n b ↦ record {
         some = omega arith;
-        within = omega (arith, w.low-is);
-        before = λ r. w.before-is ∙ here r ∙ ap (count_before c.args.value t) (sym w.low-is);
-        below = omega (arith, w.before-is, w.if-here-n.true);
+        within = omega (arith, b.low-is);
+        before = λ r. b.before-is ∙ here r ∙ ap (count_before w v t) (sym b.low-is);
+        below = omega (arith, b.before-is, b.if-here-n.true);
         above = λ r more.
-            let e : c.if-here-n.low + (left - half) ≡ low + left = omega (arith, w.low-is) in
-            subst (λ x. n < count_before c.args.value t x) (sym e)
+            let e : c.if-here-n.low + (left - half) ≡ low + left = omega (arith, b.low-is) in
+            subst (λ x. n < count_before w v t x) (sym e)
             (c.loop-left.invariant.above r (omega (arith, more, e)));
         same = same;
-        halves = halves;
+        halves = omega (arith, c.loop-left.invariant.halves, probe, step);
       }
-      | else-here-n w ↦ record {
+      | else-here-n b ↦ record {
         some = omega arith;
-        within = omega (arith, w.low-is);
-        before = λ r. w.before-is
-            ∙ c.loop-left.invariant.before r ∙ ap (count_before c.args.value t) (sym w.low-is);
-        below = omega (arith, w.before-is);
+        within = omega (arith, b.low-is);
+        before = λ r. b.before-is
+            ∙ c.loop-left.invariant.before r ∙ ap (count_before w v t) (sym b.low-is);
+        below = omega (arith, b.before-is);
         above = λ r more.
             let up =
-            r.rising (low + half) (c.if-here-n.low + (left - half)) (omega (arith, w.low-is))
+            r.rising (low + half) (c.if-here-n.low + (left - half)) (omega (arith, b.low-is))
             more in
-            omega (arith, up, here r, w.if-here-n.false);
+            omega (arith, up, here r, b.if-here-n.false);
         same = same;
-        halves = halves;
+        halves = omega (arith, c.loop-left.invariant.halves, probe, step);
       }
     ]
 
 pub returns-clause-probes : goal.returns-clause-probes
-returns-clause-probes g c = λ k h. record {
-  same = c.loop-left.invariant.same;
-  probes = (c.loop-left.invariant.halves k h).0;
-}
+returns-clause-probes g c =
+    let last : c.loop-left.left - 1 ≡ 0 = omega (arith, c.loop-left-test.false) in
+    record {
+      same = c.loop-left.invariant.same;
+      probes = omega (arith, c.loop-left.invariant.halves, ap binary_digits last);
+    }

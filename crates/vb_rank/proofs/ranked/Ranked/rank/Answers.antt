@@ -24,7 +24,7 @@ sum g c =
     let begins : 512 * j < n = omega (arith, within, c.if-i-eq0.false) in
     let inside : j < length (block_counts l) =
     omega (arith, begins, long, length-block_counts l) in
-    let before = c.ones_before-before.ensures l p
+    let before = c.ones_before-before.ensures.value l p
     (omega (arith, long, c.as_view-bits.result.fits)) (omega (arith, begins, long)) in
     let here = c.count_in_block.ensures.value
     ∙ ap (λ x. count (bits x (c.offset.result + 512 * j) (i - 512 * j)))

@@ -18,7 +18,7 @@ returns g c =
     ap (λ s. s.bits) c.self.view_is ∙ sym c.as_view-bits.ensures.bits in
     let p : AreGroups l c.as_slice.result.now = subst (AreGroups l) (sym c.as_slice.ensures.value)
     (subst (λ x. AreGroups x c.self.inside.groups.items) same c.self.invariant) in
-    let begins = c.find_in_groups-found.ensures.block l (sym c.len-2.ensures) p
+    let begins = c.find_in_groups.ensures.block l (sym c.len-2.ensures) p
     (Rises-table true b t o n refl) (Rises-table false b t o n refl) in
     let read : bits c.new.result.bytes c.offset.result c.len-3.result ≡ l =
     ap (λ x. bits x c.offset.result c.len-3.result) (c.new.ensures.bytes ∙ c.inner.ensures.bytes)
