@@ -88,6 +88,64 @@ fn each_kind_of_word_is_read(rt: HostRuntime) {
     }
 }
 
+/// Words and items of about 16 bytes: a separator is sought among so many at once, and one by one
+/// where fewer follow.
+const LONG_PARTS: &[(&str, Asked<'static>)] = &[
+    ("get 0000000000003 7", Asked::Get(3, 7)),
+    ("get 00000000000003 7", Asked::Get(3, 7)),
+    ("get 000000000000003 7", Asked::Get(3, 7)),
+    ("get 0000000000000003 7", Asked::Get(3, 7)),
+    ("get 00000000000000003 7", Asked::Get(3, 7)),
+    ("get 3 00000000000007 ", Asked::Get(3, 7)),
+    ("get 3 000000000000007 ", Asked::Get(3, 7)),
+    ("get 3 0000000000000007 ", Asked::Get(3, 7)),
+    ("get 3 00000000000000007 ", Asked::Get(3, 7)),
+    ("get 3 00000000000007", Asked::Get(3, 7)),
+    ("get 3 000000000000007", Asked::Get(3, 7)),
+    ("get 3 0000000000000007", Asked::Get(3, 7)),
+    ("get 3 00000000000000007", Asked::Get(3, 7)),
+    ("indices 0 4 0000000000001,3", Asked::Indices(0, 4, &[1, 3])),
+    (
+        "indices 0 4 00000000000001,3",
+        Asked::Indices(0, 4, &[1, 3]),
+    ),
+    (
+        "indices 0 4 000000000000001,3",
+        Asked::Indices(0, 4, &[1, 3]),
+    ),
+    (
+        "indices 0 4 0000000000000001,3",
+        Asked::Indices(0, 4, &[1, 3]),
+    ),
+    (
+        "indices 0 4 00000000000000001,3",
+        Asked::Indices(0, 4, &[1, 3]),
+    ),
+    (
+        "indices 0 4 1,00000000000003",
+        Asked::Indices(0, 4, &[1, 3]),
+    ),
+    (
+        "indices 0 4 1,000000000000003",
+        Asked::Indices(0, 4, &[1, 3]),
+    ),
+    (
+        "indices 0 4 1,0000000000000003",
+        Asked::Indices(0, 4, &[1, 3]),
+    ),
+    (
+        "indices 0 4 1,00000000000000003",
+        Asked::Indices(0, 4, &[1, 3]),
+    ),
+];
+
+#[test]
+fn parts_of_about_16_bytes_are_read(rt: HostRuntime) {
+    for (line, asked) in LONG_PARTS {
+        asks(&rt, rt.alloc(), line, asked);
+    }
+}
+
 /// Whether a line asks for a command, or why it can't be read.
 fn has_command(alloc: Global, line: &[u8]) -> Result<bool, Unread> {
     let command = command_of(&alloc, line)?;

@@ -1,9 +1,11 @@
 //! Texts that are cut where a part ends.
-ghost use Rattle.std.specs.Prelude.{◌≡◌, ◌==◌, ◌<◌, ◌≤◌, length, MatchOption};
+ghost use Rattle.std.specs.Prelude.{◌≡◌, ◌==◌, ◌<◌, ◌≤◌, length, take, MatchOption};
 ghost use Rattle.std.specs.List.{position_or_len, before_first, after_first};
 
-/// How many bytes are looked at one by one. Most parts are shorter, and a search that takes many
-/// bytes at once pays for longer ones alone.
+use std::simd::prelude::*;
+
+/// How many bytes are looked at at once. Most parts are shorter, and a search that takes any number
+/// of bytes pays for longer ones alone.
 const NEAR: usize = 16;
 
 /// What stands before the first separator of a text, and what follows it, if there is one: what
@@ -27,15 +29,43 @@ pub fn split_short(text: &str, separator: char) -> Option<(&str, &str)>
 }
 
 /// The place of the first separator, or where the bytes end, where that is near the front.
-#[tactic(auto, using(crate::proofs::Cuts::searches))]
 fn near(bytes: &[u8], separator: u8) -> usize
     ensures place { result < 16 → result ≡ position_or_len (λ b. b == separator) bytes.now }
     ensures within { result ≤ length bytes.now }
 {
-    let near = bytes.len().min(NEAR);
+    if bytes.len() < NEAR {
+        near_end(bytes, separator)
+    } else {
+        near_front(bytes, separator)
+    }
+}
+
+/// The place of the first separator, or where the bytes end, looked for byte by byte.
+#[tactic(auto, using(crate::proofs::Cuts::searches))]
+fn near_end(bytes: &[u8], separator: u8) -> usize
+    ensures place { result ≡ position_or_len (λ b. b == separator) bytes.now }
+    ensures within { result ≤ length bytes.now }
+{
     let mut at = 0;
-    while at < near && bytes[at] != separator {
+    while at < bytes.len() && bytes[at] != separator {
         at += 1;
     }
     at
+}
+
+/// The place of the first separator among the 16 bytes at the front, or 16. They are compared at
+/// once: a loop would end at a part's length, which no branch predictor foresees in a list.
+#[inline(always)]
+fn near_front(bytes: &[u8], separator: u8) -> usize
+    requires { 16 ≤ length bytes.now }
+    ensures { result ≡ position_or_len (λ b. b == separator) (take 16 bytes.now) }
+{
+    let found = u8x16::from_slice(bytes)
+        .simd_eq(u8x16::splat(separator))
+        .to_bitmask();
+    if found == 0 {
+        NEAR
+    } else {
+        found.trailing_zeros() as usize
+    }
 }
