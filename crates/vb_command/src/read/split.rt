@@ -10,6 +10,7 @@ const NEAR: usize = 16;
 
 /// What stands before the first separator of a text, and what follows it, if there is one: what
 /// `split_once` gives, found sooner where the part is short.
+#[inline]
 pub fn split_short(text: &str, separator: char) -> Option<(&str, &str)>
     requires { separator < 128 }
     ensures { MatchOption result
@@ -20,12 +21,26 @@ pub fn split_short(text: &str, separator: char) -> Option<(&str, &str)>
 {
     let at = near(text.as_bytes(), separator as u8);
     if at >= NEAR {
-        return text.split_once(separator);
+        return split_far(text, separator);
     }
     if at == text.len() {
         return None;
     }
     Some((&text[..at], &text[at + 1..]))
+}
+
+/// The same by a search of any number of bytes. It is a call, since it needs more registers than
+/// the loops that go from part to part can spare.
+#[inline(never)]
+fn split_far(text: &str, separator: char) -> Option<(&str, &str)>
+    requires { separator < 128 }
+    ensures { MatchOption result
+        (position_or_len (λ b. b == separator) text.now ≡ length text.now)
+        (λ (part, rest). (position_or_len (λ b. b == separator) text.now < length text.now)
+        × (part.now ≡ before_first (λ b. b == separator) text.now)
+        × (rest.now ≡ after_first (λ b. b == separator) text.now)) }
+{
+    text.split_once(separator)
 }
 
 /// The place of the first separator, or where the bytes end, where that is near the front.
