@@ -1,14 +1,18 @@
 -- What positions take.
 use Rattle.std.proofs.Common.{◌≡◌, ℕ, ℤ, negsuc, ◌+◌, ◌-◌, ◌^◌, ◌<◌, ◌≤◌, Bool, true, false, cond}
-use Rattle.std.proofs.Common.{inl, inr, ◌&&◌, eqb, List, map, length, get_or, take, slice_set}
+use Rattle.std.proofs.Common.{inl, inr, ◌&&◌, eqb, List, ◌++◌, map, length, get_or, take, drop}
+use Rattle.std.proofs.Common.{slice_set}
 use Rattle.std.proofs.Common.{Option, Some, None, refl, sym, ap, subst, ◌∙◌, arith}
 use Rattle.std.proofs.lemmas.Bool.{cases_lt}
 use Rattle.std.proofs.lemmas.List.{get_or-map, get_or-take, length-map, length-take}
+use Rattle.std.proofs.lemmas.List.{length-take-le, length-drop, drop-drop, drop-append-le}
+use Rattle.std.proofs.lemmas.List.{take-append-drop, append_assoc}
+use Rattle.std.proofs.Math.Seq.{drop-append_seam}
 use Rattle.std.proofs.lemmas.List.{get_or-set_same, get_or-set_other}
 use Rattle.std.proofs.lemmas.Nat.Bits.{bit_at-zero, bit_at-trailing_zeros}
 use Rattle.std.specs.Int.{trailing_zeros, w64}
 use Rattle.std.specs.Int.Bits.{bit_and}
-use Rattle.std.specs.Prelude.{IsSome}
+use Rattle.std.specs.Prelude.{IsSome, slice_range}
 use Rattle.std.proofs.lemmas.Option.{slice_get-get_or}
 use Rattle.vb_bits.specs.Digits.{has_bit}
 use Rattle.vb_bits.proofs.DigitsLemmas.{has_bit-and}
@@ -142,3 +146,21 @@ pub left_before : (left k : ℕ) → has_bit (bit_and left (left - 1)) k ≡ tru
     → has_bit left k ≡ true
 left_before left k h =
     first_of_both (has_bit left k) (has_bit (left - 1) k) (sym (has_bit-and left (left - 1) k) ∙ h)
+
+-- items of a list that are written back to their places, where those behind them are its own
+pub block_back : {T : Type 0} (l out new : List T) (a k : ℕ) → k ≤ 64 → a + 64 ≤ length l
+    → a + k ≤ length out → drop (a + 64) out ≡ drop (a + 64) l
+    → new ≡ take (a + k) out ++ drop k (slice_range l a (a + 64)) ++ drop (a + 64) out
+    → drop (a + k) new ≡ drop (a + k) l
+block_back l out new a k few inside room same is =
+    let n : ℕ = a + 64 - a in
+    let x = drop a l in
+    let front = take (a + k) out in
+    let back = drop k (take n x) ++ drop (a + 64) out in
+    ap (drop (a + k)) (is ∙ append_assoc front (drop k (take n x)) (drop (a + 64) out))
+    ∙ ap (λ i. drop i (front ++ back)) (sym (length-take-le (a + k) out room))
+    ∙ drop-append_seam front back
+    ∙ ap (λ y. drop k (take n x) ++ y)
+    (same ∙ ap (λ i. drop i l) (omega arith) ∙ sym (drop-drop n a l))
+    ∙ sym (drop-append-le k (take n x) (drop n x) (omega (arith, length-take n x, length-drop a l)))
+    ∙ ap (drop k) (take-append-drop n x) ∙ drop-drop k a l

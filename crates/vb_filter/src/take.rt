@@ -1,6 +1,7 @@
 //! Items taken at indices.
 ghost use Rattle.std.specs.Prelude.{◌≡◌, ℕ, ℤ, ◌+◌, ◌*◌, ◌<◌, ◌≤◌, Bool, List, Option, Some};
-ghost use Rattle.std.specs.Prelude.{length, map, take, drop, slice_index_or, Result, IfOk, IfErr};
+ghost use Rattle.std.specs.Prelude.{length, map, take, drop, slice_index_or, slice_range, ◌++◌};
+ghost use Rattle.std.specs.Prelude.{Result, IfOk, IfErr};
 ghost use Rattle.std.specs.Prelude.{if◌then◌else◌};
 ghost use Rattle.std.specs.Option.{ForSome, option_map};
 ghost use Rattle.vb_core.specs.declared.error.BufferError.{BufferError};
@@ -80,70 +81,97 @@ pub fn take_values_into<T: Element, I: BitIndex>(
         (option_map bits_of validity.entry) p) }
     ensures others { drop (length indices.now) out.new ≡ drop (length indices.now) out.old }
 {
-    let words = match validity {
-        Some(_) => indices.len() / 64,
+    let from = match validity {
+        Some(valid) => take_blocks(out, values, indices, valid)?,
         None => 0,
     };
-    take_words(out, values, indices, validity, words)?;
-    take_rest(out, values, indices, validity, 64 * words)
+    take_rest(out, values, indices, validity, from)
 }
 
-/// [`take_values_into`] of the first `words` times 64 positions.
-fn take_words<T: Element, I: BitIndex>(
+/// [`take_values_into`] of the whole blocks of 64 positions, and how many positions these are.
+fn take_blocks<T: Element, I: BitIndex>(
     out: &mut [T],
     values: &[T],
     indices: &[I],
-    validity: Option<BitBufferView<'_>>,
-    words: usize,
-) -> Result<(), usize>
+    valid: BitBufferView<'_>,
+) -> Result<usize, usize>
     requires room { length indices.now ≤ length out.old }
-    requires validity { ForSome validity (λ v. length (bits_of v) ≡ length indices.now) }
-    requires words { 64 * words ≤ length indices.now }
-    ensures taken { IfOk result (λ _. TakenTo T.zero values.now (map I.number indices.now)
-        (option_map bits_of validity.entry) (64 * words) out.new) }
+    requires validity { length (bits_of valid) ≡ length indices.now }
+    ensures begun { IfOk result (λ n. n ≤ length indices.now) }
+    ensures taken { IfOk result (λ n. TakenTo T.zero values.now (map I.number indices.now)
+        (Some (bits_of valid.entry)) n out.new) }
     ensures past { IfErr result (λ p. IsFirstUntaken T.zero values.now (map I.number indices.now)
-        (option_map bits_of validity.entry) p) }
+        (Some (bits_of valid.entry)) p) }
     ensures others { drop (length indices.now) out.new ≡ drop (length indices.now) out.old }
 {
-    for t in 0..words {
-        take_block(out, values, indices, validity, 64 * t)?;
+    let blocks = indices.len() / 64;
+    for t in 0..blocks {
+        take_block(out, values, indices, valid, 64 * t)?;
     }
-    Ok(())
+    Ok(64 * blocks)
 }
 
 /// [`take_values_into`] of the 64 positions from `at` on, where those before them are taken.
 ///
-/// It goes by the ones of the validity, so no branch is on the bit of a position.
+/// It goes by the ones of the validity, so no branch is on the bit of a position. From the position
+/// on that is refused, `out` stays as it was.
 #[inline(always)]
 fn take_block<T: Element, I: BitIndex>(
     out: &mut [T],
     values: &[T],
     indices: &[I],
-    validity: Option<BitBufferView<'_>>,
+    valid: BitBufferView<'_>,
     at: usize,
 ) -> Result<(), usize>
     requires room { length indices.now ≤ length out.old }
-    requires validity { ForSome validity (λ v. length (bits_of v) ≡ length indices.now) }
+    requires validity { length (bits_of valid) ≡ length indices.now }
     requires inside { at + 64 ≤ length indices.now }
     requires before { TakenTo T.zero values.now (map I.number indices.now)
-        (option_map bits_of validity) at out.old }
+        (Some (bits_of valid)) at out.old }
     ensures taken { IfOk result (λ _. TakenTo T.zero values.now (map I.number indices.now)
-        (option_map bits_of validity.entry) (at + 64) out.new) }
+        (Some (bits_of valid.entry)) (at + 64) out.new) }
     ensures past { IfErr result (λ p. IsFirstUntaken T.zero values.now (map I.number indices.now)
-        (option_map bits_of validity.entry) p) }
+        (Some (bits_of valid.entry)) p) }
+    ensures stays { IfErr result (λ p. drop p out.new ≡ drop p out.old) }
     ensures others { drop (length indices.now) out.new ≡ drop (length indices.now) out.old }
 {
+    let was = block_at(out, at);
     clear_block(out, at);
-    let mut left = valid_word(validity, at);
+    let mut left = valid_word(valid, at);
     while left != 0 {
-        let place = at + left.trailing_zeros() as usize;
+        let k = left.trailing_zeros() as usize;
+        let place = at + k;
         match value_named(values, indices[place]) {
             Some(value) => out[place] = value,
-            None => return Err(place),
+            None => {
+                put_back(out, at, k, &was);
+                return Err(place);
+            }
         }
         left &= left - 1;
     }
     Ok(())
+}
+
+/// The 64 items from `at` on.
+#[inline(always)]
+fn block_at<T: Element>(items: &[T], at: usize) -> [T; 64]
+    requires { at + 64 ≤ length items.now }
+    ensures { result ≡ slice_range items.now at (at + 64) }
+{
+    let mut block = [T::zero(); 64];
+    block.copy_from_slice(&items[at..at + 64]);
+    block
+}
+
+/// Writes the items of `block` from item `k` on to their places, where the first one's is `at`.
+fn put_back<T: Copy>(out: &mut [T], at: usize, k: usize, block: &[T])
+    requires whole { length block.now ≡ 64 }
+    requires inside { at + 64 ≤ length out.old }
+    requires within { k ≤ 64 }
+    ensures { out.new ≡ take (at + k) out.old ++ drop k block.now ++ drop (at + 64) out.old }
+{
+    out[at + k..at + 64].copy_from_slice(&block[k..]);
 }
 
 /// Writes 0 to the 64 items from `at` on.
@@ -162,15 +190,11 @@ fn clear_block<T: Element>(out: &mut [T], at: usize)
 
 /// Which of the 64 positions from `at` on count, as digits of a word.
 #[inline(always)]
-fn valid_word(validity: Option<BitBufferView<'_>>, at: usize) -> u64
-    requires { ForSome validity (λ v. at + 64 ≤ length (bits_of v)) }
-    ensures { (k : ℕ) → k < 64 → has_bit result k
-        ≡ is_valid (option_map bits_of validity.entry) (at + k) }
+fn valid_word(valid: BitBufferView<'_>, at: usize) -> u64
+    requires { at + 64 ≤ length (bits_of valid) }
+    ensures { (k : ℕ) → k < 64 → has_bit result k ≡ is_valid (Some (bits_of valid.entry)) (at + k) }
 {
-    match validity {
-        Some(bits) => view_digits(bits, at, 64),
-        None => u64::MAX,
-    }
+    view_digits(valid, at, 64)
 }
 
 /// [`take_values_into`] of the positions from `from` on, one by one, where those before them are

@@ -11,7 +11,7 @@ pub(crate) fn equal<T: Copy + PartialEq + Debug>(rt: &impl Abort, given: T, want
 }
 
 /// The two lists are equal.
-fn equal_lists<T: PartialEq + Debug>(rt: &impl Abort, given: &[T], wanted: &[T]) {
+pub(crate) fn equal_lists<T: PartialEq + Debug>(rt: &impl Abort, given: &[T], wanted: &[T]) {
     assert_eq!(rt; given, wanted);
 }
 

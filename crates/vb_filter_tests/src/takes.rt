@@ -1,11 +1,11 @@
 //! Values of buffers at indices.
-use crate::compared::{equal, shows};
+use crate::compared::{equal, equal_lists, shows};
 use crate::masks::{Kept, Row, mask};
 use std::alloc::{Allocator, Global};
 use std::process::Abort;
 use vb_bit_buffer::BitBuffer;
 use vb_core::{BitIndex, BufferError, Result};
-use vb_filter::Take;
+use vb_filter::{Take, take_values_into};
 use vb_mem::Buffer;
 use vb_testing::{Handle, Refusing};
 
@@ -128,6 +128,46 @@ fn blocks_take_what_a_loop_takes(rt: HostRuntime) {
     for row in COUNTING {
         for bad in 0..131 {
             is_that_of_a_loop(&rt, rt.alloc(), row, bad);
+        }
+    }
+}
+
+/// The loop over all positions: what it leaves in `out`, and the position that it refuses.
+fn loop_takes(out: &mut [u32], indices: &[u64], row: &Row) -> Option<usize> {
+    for k in 0..indices.len().min(out.len()) {
+        let named = SQUARES.get(indices[k] as usize).copied();
+        match if row.has(k) { named } else { Some(0) } {
+            Some(value) => out[k] = value,
+            None => return Some(k),
+        }
+    }
+    None
+}
+
+/// A take into items that were 7, of which those from the refused position on still are.
+fn leaves_what_a_loop_leaves(rt: &impl Abort, alloc: Global, row: &Row, bad: usize) {
+    let mut indices = [5u64; 130];
+    for k in 0..bad.min(130) {
+        indices[k] = (k % 5) as u64;
+    }
+    let mut out = [7u32; 140];
+    let mut wanted = [7u32; 140];
+    let mask = mask(alloc, row).expect(rt, "memory");
+    let refused = if mask.len() == indices.len() {
+        take_values_into(&mut out, SQUARES, &indices, Some(mask.as_view())).err()
+    } else {
+        None
+    };
+    drop(mask);
+    equal(rt, refused, loop_takes(&mut wanted, &indices, row));
+    equal_lists(rt, &out, &wanted);
+}
+
+#[test]
+fn a_refused_take_leaves_what_a_loop_leaves(rt: HostRuntime) {
+    for row in COUNTING {
+        for bad in 0..131 {
+            leaves_what_a_loop_leaves(&rt, rt.alloc(), row, bad);
         }
     }
 }

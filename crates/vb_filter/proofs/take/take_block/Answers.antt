@@ -1,14 +1,13 @@
 use Rattle.std.proofs.Common.{◌≡◌, ℕ, ◌+◌, ◌-◌, ◌^◌, ◌<◌, ◌≤◌, Bool, true, List, Option, Some, None}
-use Rattle.std.proofs.Common.{length, drop, eqb, sym, ap, ◌∙◌, arith}
+use Rattle.std.proofs.Common.{◌++◌, length, take, drop, eqb, sym, ap, ◌∙◌, arith}
 use Rattle.std.specs.Int.{trailing_zeros, w64}
-use Rattle.std.specs.Option.{option_map}
 use Rattle.std.proofs.lemmas.List.{drop-set-lt, drop-drop}
 use Rattle.std.proofs.lemmas.Nat.Bits.{bit_at-trailing_zeros}
 use Rattle.vb_bits.specs.Digits.{has_bit}
 use Rattle.vb_take.specs.Takes.{is_valid}
 use Rattle.vb_filter.proofs.GatherLemmas.{lowest_below}
 use Rattle.vb_filter.proofs.ItemsLemmas.{taken_here, first_here, taken_cleared, taken_below}
-use Rattle.vb_filter.proofs.ItemsLemmas.{taken_lowest, left_before}
+use Rattle.vb_filter.proofs.ItemsLemmas.{taken_lowest, left_before, block_back}
 use Rattle.vb_filter.proofs.take.take_block.Goals as goal
 use Rattle.vb_view.specs.View.{bits_of}
 
@@ -20,6 +19,10 @@ behind n a old new inside same =
     ap (λ k. drop k new) place ∙ sym (drop-drop (n - a) a new) ∙ ap (drop (n - a)) same
     ∙ drop-drop (n - a) a old ∙ sym (ap (λ k. drop k old) place)
 
+-- its lowest one is within the block
+lowest_in : (w : ℕ) → 0 < w → w < 2 ^ 64 → (a : ℕ) → a + trailing_zeros w64 w < a + 64
+lowest_in w some fits a = omega (arith, lowest_below 64 w some fits (omega arith))
+
 -- what holds at the ones of a word holds at the lowest one
 lowest_counts : (w : ℕ) → 0 < w → w < 2 ^ 64 → (p : ℕ → Bool)
     → ((k : ℕ) → k < 64 → has_bit w k ≡ true → p k ≡ true) → p (trailing_zeros w64 w) ≡ true
@@ -30,13 +33,40 @@ lowest_counts w some fits p counts =
 pub loop-left-init : goal.loop-left-init
 loop-left-init g c = record {
   taken = taken_cleared g.I.BitIndex.number g.T.Element.zero c.args.values.now c.args.indices.now
-      (option_map bits_of c.args.validity) c.args.at c.valid_word-left.result c.args.out.now
+      (Some (bits_of c.args.valid)) c.args.at c.valid_word-left.result c.args.out.now
       c.clear_block.new.out c.requires.before c.clear_block.ensures.zero
       c.clear_block.ensures.before c.valid_word-left.ensures;
   count = λ k h on. sym (c.valid_word-left.ensures k h) ∙ on;
-  others = behind (length c.args.indices.now) (c.args.at + 64) c.args.out.now
-      c.clear_block.new.out c.requires.inside c.clear_block.ensures.behind;
+  behind = c.clear_block.ensures.behind;
 }
+
+pub returns-in-None-clause-stays : goal.returns-in-None-clause-stays
+returns-in-None-clause-stays g c =
+    let left : ℕ = c.loop-left.left in
+    let k : ℕ = trailing_zeros w64 left in
+    let a : ℕ = c.args.at in
+    let out = c.loop-left.out in
+    let in_block = lowest_in left (omega (arith, c.loop-left-test.true)) (omega arith) a in
+    block_back c.args.out.now out c.put_back.new.out a k (omega (arith, in_block))
+    (omega (arith, c.requires.inside, c.requires.room))
+    (omega (arith, in_block, c.requires.inside, c.requires.room, c.loop-left.auto.out))
+    c.loop-left.invariant.behind
+    (c.put_back.ensures
+    ∙ ap (λ w. take (a + k) out ++ drop k w ++ drop (a + 64) out) c.block_at-was.ensures)
+
+pub returns-in-None-clause-others : goal.returns-in-None-clause-others
+returns-in-None-clause-others g c =
+    let left : ℕ = c.loop-left.left in
+    let a : ℕ = c.args.at in
+    let in_block = lowest_in left (omega (arith, c.loop-left-test.true)) (omega arith) a in
+    behind (length c.args.indices.now) (a + trailing_zeros w64 left) c.args.out.now
+    c.put_back.new.out (omega (arith, in_block, c.requires.inside))
+    (returns-in-None-clause-stays g c)
+
+pub returns-clause-others : goal.returns-clause-others
+returns-clause-others g c =
+    behind (length c.args.indices.now) (c.args.at + 64) c.args.out.now c.loop-left.out
+    c.requires.inside c.loop-left.invariant.behind
 
 pub returns-in-None-clause-past : goal.returns-in-None-clause-past
 returns-in-None-clause-past g c =
@@ -44,7 +74,7 @@ returns-in-None-clause-past g c =
     let zero = g.T.Element.zero in
     let items = c.args.values.now in
     let xs = c.args.indices.now in
-    let v : Option (List Bool) = option_map bits_of c.args.validity in
+    let v : Option (List Bool) = Some (bits_of c.args.valid) in
     let left : ℕ = c.loop-left.left in
     let some : 0 < left = omega (arith, c.loop-left-test.true) in
     let fits : left < 2 ^ 64 = omega arith in
@@ -64,7 +94,7 @@ loop-left-preserved g c =
     let zero = g.T.Element.zero in
     let items = c.args.values.now in
     let xs = c.args.indices.now in
-    let v : Option (List Bool) = option_map bits_of c.args.validity in
+    let v : Option (List Bool) = Some (bits_of c.args.valid) in
     let a : ℕ = c.args.at in
     let left : ℕ = c.loop-left.left in
     let out = c.loop-left.out in
@@ -83,5 +113,5 @@ loop-left-preserved g c =
           (taken_here f zero items xs v k c.index-indices-place.result (Some value) true here
           c.index-indices-place.is (sym counts) (sym c.in-Some.is ∙ c.value_named.ensures));
       count = λ i h on. inv.count i h (left_before left i on);
-      others = drop-set-lt (length xs) out k value here ∙ inv.others;
+      behind = drop-set-lt (a + 64) out k value (lowest_in left some fits a) ∙ inv.behind;
     }
