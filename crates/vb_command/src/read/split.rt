@@ -43,7 +43,7 @@ fn split_far(text: &str, separator: char) -> Option<(&str, &str)>
     text.split_once(separator)
 }
 
-/// The place of the first separator, or where the bytes end, where that is near the front.
+/// The place of the first separator, or where the bytes end, where that is before byte 16; else 16.
 fn near(bytes: &[u8], separator: u8) -> usize
     ensures place { result < 16 → result ≡ position_or_len (λ b. b == separator) bytes.now }
     ensures within { result ≤ length bytes.now }
