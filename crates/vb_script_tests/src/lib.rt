@@ -7,6 +7,8 @@ mod compared;
 #[cfg(test)]
 mod drive_memory;
 #[cfg(test)]
+mod one_by_one;
+#[cfg(test)]
 mod readme;
 #[cfg(test)]
 mod sessions;

@@ -2,12 +2,13 @@
 ghost use Rattle.std.specs.Prelude.{◌≡◌, IfOk};
 
 use crate::compared::{end_of, ends, equal, session};
+use crate::one_by_one::OneByOne;
 use std::alloc::{AllocError, Global};
 use std::cell::Cell;
 use std::io;
 use std::io::{Read, Write};
 use std::process::Abort;
-use vb_script::{DriveError, Fault, FromRead, Sink, Source, ToWrite};
+use vb_script::{DriveError, Fault, FromRead, Pool, Sink, Source, ToWrite, command_of};
 use vb_testing::{FaultyReader, FaultyWriter};
 
 /// Two lines, which are answered alike.
@@ -296,101 +297,58 @@ fn answers_do_not_pile_up(rt: HostRuntime) {
     equal(&rt, (is_narrow, is_rare), (true, true));
 }
 
-/// What waits to be written where pieces of answers come one by one: a write comes where a piece
-/// finds no room.
-#[derive(Clone, Copy, Default)]
-struct Waiting {
-    bytes: usize,
-    widths: usize,
+/// Lines that make an open set and a frozen one. Three times they are answered `ok`.
+const SETS: &str = "indices 1 20000 5,6,7,10,12,99,100,101,1000,12345,12346\n\
+    full 2 1 7\nfreeze 2\n";
+
+/// Lines over these sets. They are answered by words, by a number, by words and a number, by places
+/// and by runs.
+const LAST_LINES: [&str; 5] = ["len 9", "last 1", "take 2 3 - 0,7", "places 1", "runs 1"];
+
+/// Lines whose answers fill the room of 65,536 bytes up to so many, and a last one.
+fn lines_to_room(alloc: Global, room: usize, last: &str) -> Result<String, AllocError> {
+    // Each `ok` takes three bytes, and so many bits one more.
+    let bits = 65_536usize.saturating_sub(4 * 3 + 1).saturating_sub(room);
+    format!(in alloc; "{SETS}full 0 1 {bits}\nbits 0\n{last}\n")
 }
 
-impl Waiting {
-    /// What waits is written.
-    fn write(&mut self) {
-        self.widths = next_width(self.widths, self.bytes);
-        self.bytes = 0;
+/// The lines are answered, and what they are answered is put into the sink piece by piece.
+fn put_one_by_one(rt: &impl Abort, alloc: Global, lines: &str, sink: &mut impl Sink) {
+    let mut pool = Pool::new();
+    let mut out = OneByOne::new(alloc).expect(rt, "memory");
+    for line in lines.lines() {
+        let command = command_of(&alloc, line.as_bytes()).expect(rt, "a line");
+        let answer = pool.serve_owned(&alloc, command.expect(rt, "a command"));
+        out.push(&answer, sink).expect(rt, "a write");
+        drop(answer);
     }
-
-    /// A piece comes.
-    fn put(&mut self, piece: usize) {
-        if piece > 65_536usize.saturating_sub(self.bytes) {
-            self.write();
-        }
-        self.bytes = self.bytes.saturating_add(piece);
-    }
-
-    /// A line of one piece comes.
-    fn put_line(&mut self, piece: usize) {
-        self.put(piece);
-        self.put(1);
-    }
-
-    /// A number below 100,000 comes, behind a byte unless it is 0.
-    fn put_number(&mut self, number: usize) {
-        if number > 0 {
-            self.put(1);
-        }
-        self.put(match number {
-            0..=9 => 1,
-            10..=99 => 2,
-            100..=999 => 3,
-            1_000..=9_999 => 4,
-            _ => 5,
-        });
-    }
+    out.flush(sink).expect(rt, "a write");
+    drop((pool, out));
 }
 
-/// The widths of the writes of two long lists, of the places from 0 up to 15,000 and of a run at
-/// each second one of 24,000, behind the answers to so many lines of two kinds.
-fn widths_of_lists(refused: usize, numbers: usize) -> usize {
-    let mut waiting = Waiting::default();
-    waiting.put_line(2);
-    waiting.put_line(2);
-    for _ in 0..refused {
-        waiting.put_line(15);
-    }
-    for _ in 0..numbers {
-        waiting.put_line(5);
-    }
-    for place in 0..15_000 {
-        waiting.put_number(place);
-    }
-    waiting.put(1);
-    for place in 0..24_000 {
-        waiting.put_number(place);
-    }
-    waiting.put(1);
-    waiting.write();
-    waiting.widths
+/// A session over these lines writes as many bytes at each write as it does piece by piece.
+fn is_cut_between_pieces(rt: &impl Abort, alloc: Global, case: (usize, &str), lines: &str) {
+    let (given, wanted) = (Written::default(), Written::default());
+    let mut sink = ToWrite::new(Counting(&given));
+    let ended = end_of(alloc, FromRead::new(lines.as_bytes()), &mut sink);
+    drop(sink);
+    let mut sink = ToWrite::new(Counting(&wanted));
+    put_one_by_one(rt, alloc, lines, &mut sink);
+    drop(sink);
+    let widths = (given.widths.get(), wanted.widths.get());
+    drop((given, wanted));
+    equal(rt, (case, ended, widths.0), (case, Ok(()), widths.1));
 }
 
-/// Lines that ask for these lists.
-fn lines_of_lists(alloc: Global, refused: usize, numbers: usize) -> Result<Vec<u8>, AllocError> {
-    let mut lines = b"full 0 1 15000\nimport 1 0 24000 ".to_vec(alloc)?;
-    lines.extend_from_slice(&b"55".repeat(alloc, 3_000)?)?;
-    lines.extend_from_slice(b"\n")?;
-    lines.extend_from_slice(&b"len 2\n".repeat(alloc, refused)?)?;
-    lines.extend_from_slice(&b"len 0\n".repeat(alloc, numbers)?)?;
-    lines.extend_from_slice(b"places 0\nruns 1\n")?;
-    Ok(lines)
-}
-
-/// However full the room is, each write has the bytes that it has where pieces come one by one: a
-/// number, a comma, a line feed.
+/// With each room from 0 up to past 24, which is that of a number and the byte beside it, each
+/// write has the bytes that it has where pieces come one by one.
 #[test]
 fn writes_are_cut_between_pieces(rt: HostRuntime) {
-    for refused in 0..3 {
-        for numbers in 0..12 {
-            let lines = lines_of_lists(rt.alloc(), refused, numbers).expect(&rt, "memory");
-            let written = Written::default();
-            let mut sink = ToWrite::new(Counting(&written));
-            let ended = end_of(rt.alloc(), FromRead::new(lines.as_slice()), &mut sink);
-            drop(sink);
+    for room in 0..28 {
+        for last in LAST_LINES {
+            let lines = lines_to_room(rt.alloc(), room, last).expect(&rt, "memory");
+            is_cut_between_pieces(&rt, rt.alloc(), (room, last), &lines);
             drop(lines);
-            let widths = written.widths.get();
-            drop(written);
-            let wanted = widths_of_lists(refused, numbers);
-            equal(&rt, (ended, widths), (Ok(()), wanted));
         }
     }
 }

@@ -1,0 +1,131 @@
+//! The outbox as it was while each piece of an answer was put by itself: a number, a comma, a dash,
+//! a line feed. Sessions are compared with it, since no contract says how wide a write is.
+ghost use Rattle.std.specs.Prelude.{◌≡◌, [], OnOk};
+
+use itoa::Buffer;
+use std::alloc::{AllocError, Global};
+use std::marker::Model;
+use vb_command::{Answer, Part};
+use vb_script::{Fault, Sink};
+
+/// How many bytes wait at most.
+const ROOM: usize = 65536;
+
+/// The text of the answers that waits to be written.
+#[derive(Drop)]
+pub(crate) struct OneByOne {
+    bytes: Vec<u8>,
+}
+
+impl Model for OneByOne {
+    ghost use Rattle.std.specs.Prelude.{ℕ, List, ◌≤◌, length, vec_capacity};
+
+    ghost Value = { List ℕ };
+
+    ghost view = { λ o. o.bytes.items };
+
+    ghost invariant = { λ o. (length o.bytes.items ≤ 65536) × (65536 ≤ vec_capacity o.bytes) };
+}
+
+impl OneByOne {
+    /// No answers, and room for them.
+    pub(crate) fn new(alloc: Global) -> Result<Self, AllocError> {
+        Ok(OneByOne {
+            bytes: Vec::with_capacity(alloc, ROOM)?,
+        })
+    }
+
+    /// Adds the line of an answer.
+    pub(crate) fn push<W: Sink>(&mut self, answer: &Answer, output: &mut W) -> Result<(), Fault> {
+        let (part, position) = answer.parts();
+        match part {
+            Part::Words(words) => self.put(words.as_bytes(), output)?,
+            Part::Number(n) => self.put_number(n, output)?,
+            Part::Bits(bits) => self.put_bits(bits, output)?,
+            Part::Places(places) => self.put_places(places, output)?,
+            Part::Runs(runs) => self.put_runs(runs, output)?,
+        }
+        if let Some(position) = position {
+            self.put_number(position, output)?;
+        }
+        self.put(b"\n", output)
+    }
+
+    /// Adds a number in decimal.
+    fn put_number<W: Sink>(&mut self, n: usize, output: &mut W) -> Result<(), Fault> {
+        let mut digits = Buffer::new();
+        self.put(digits.format(n).as_bytes(), output)
+    }
+
+    /// Adds places with commas between two.
+    fn put_places<W: Sink>(&mut self, places: &[usize], output: &mut W) -> Result<(), Fault> {
+        let [first, rest @ ..] = places else {
+            return self.put(b"-", output);
+        };
+        self.put_number(*first, output)?;
+        for place in rest {
+            self.put(b",", output)?;
+            self.put_number(*place, output)?;
+        }
+        Ok(())
+    }
+
+    /// Adds runs with commas between two.
+    fn put_runs<W: Sink>(&mut self, runs: &[(usize, usize)], output: &mut W) -> Result<(), Fault> {
+        let [first, rest @ ..] = runs else {
+            return self.put(b"-", output);
+        };
+        self.put_run(*first, output)?;
+        for run in rest {
+            self.put(b",", output)?;
+            self.put_run(*run, output)?;
+        }
+        Ok(())
+    }
+
+    /// Adds a run: where it begins, and the place behind it.
+    fn put_run<W: Sink>(&mut self, run: (usize, usize), output: &mut W) -> Result<(), Fault> {
+        let (start, end) = run;
+        self.put_number(start, output)?;
+        self.put(b"-", output)?;
+        self.put_number(end, output)
+    }
+
+    /// Adds truth values as binary digits, at most as many as there is room for at all, and so as
+    /// one piece. Each digit is written as 1, since widths alone are compared.
+    fn put_bits<W: Sink>(&mut self, bits: &[bool], output: &mut W) -> Result<(), Fault> {
+        if bits.is_empty() {
+            return self.put(b"-", output);
+        }
+        if bits.len() > ROOM - self.bytes.len() {
+            self.flush(output)?;
+        }
+        let count = bits.len().min(ROOM - self.bytes.len());
+        self.bytes.resize(self.bytes.len() + count, b'1').unwrap();
+        Ok(())
+    }
+
+    /// Adds bytes. What waits is written first where there is no room for both.
+    fn put<W: Sink>(&mut self, bytes: &[u8], output: &mut W) -> Result<(), Fault> {
+        if bytes.len() > ROOM - self.bytes.len() {
+            self.flush(output)?;
+        }
+        if bytes.len() > ROOM {
+            return output.write(bytes);
+        }
+        self.bytes.extend_from_slice(bytes).unwrap();
+        Ok(())
+    }
+
+    /// Writes all that waits.
+    pub(crate) fn flush<W: Sink>(&mut self, output: &mut W) -> Result<(), Fault>
+        ensures { OnOk result (self.new ≡ []) }
+    {
+        if self.bytes.is_empty() {
+            return Ok(());
+        }
+        output.write(&self.bytes)?;
+        self.bytes.clear();
+        Ok(())
+    }
+}
