@@ -59,3 +59,17 @@ fn windows_of_mixed_bytes(rt: HostRuntime) {
         windows_are_plain(&rt, &bytes);
     }
 }
+
+/// One byte that differs, behind so many bytes that are all 0, or all ones: in each of the words
+/// that are passed over by four, and in those that are left over.
+#[test]
+fn windows_of_equal_words(rt: HostRuntime) {
+    for equal in [0, u8::MAX] {
+        for place in 0..120 {
+            let mut bytes = [equal; 120];
+            bytes[place] ^= 0x18;
+            window_is_plain(&rt, &bytes, 0, 960);
+            window_is_plain(&rt, &bytes, 3, 940);
+        }
+    }
+}
