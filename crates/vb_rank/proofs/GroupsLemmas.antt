@@ -1,21 +1,18 @@
 -- Counts of blocks by their groups: read, searched and made.
 use Rattle.std.proofs.Common.{◌≡◌, ℕ, ◌+◌, ◌-◌, ◌*◌, ◌/◌, ◌%◌, ◌<◌, ◌≤◌, Bool, true, false, List}
-use Rattle.std.proofs.Common.{[], length, map, get_or, take, min, sym, ap, ◌∙◌, arith, ⊎_elim}
+use Rattle.std.proofs.Common.{[], length, get_or, take, min, sym, ap, ◌∙◌, arith, ⊎_elim}
 use Rattle.std.specs.Int.{div_ceil}
 use Rattle.std.proofs.lemmas.Bool.{cases_lt}
 use Rattle.std.proofs.lemmas.List.{length-map, get_or-map, length-take, get_or-take}
 use Rattle.vb_bits.specs.Bits.{bits, count}
 use Rattle.vb_kernel.proofs.BitsLemmas.{count-bits-add, length-bits, take-bits}
 use Rattle.vb_rank.specs.declared.group.Group.{Group}
-use Rattle.vb_rank.specs.Groups.{IsGroup, AreGroups, group_at}
+use Rattle.vb_rank.specs.Groups.{IsGroup, AreGroups, AreWhole, group_at}
+use Rattle.vb_rank.specs.Groups.{counts_before, counts_within}
 use Rattle.vb_rank.specs.Tables.{blocks, block_counts, count_before, Rises, BeginsBefore}
 use Rattle.vb_rank.proofs.TablesLemmas.{length-block_counts, at-block_counts}
 
 -- ---- reads
--- the counts before the groups, by these
-abbrev counts_before : List Group → List ℕ
-counts_before gs = map (λ g. g.before) gs
-
 pub length_counts_before : (gs : List Group) → length (counts_before gs) ≡ length gs
 length_counts_before gs = length-map gs (λ g. g.before)
 
@@ -23,6 +20,12 @@ pub at_counts_before : (gs : List Group) (k : ℕ)
     → k < length gs → get_or (counts_before gs) k 0 ≡ (group_at gs k).before
 at_counts_before gs k h =
     get_or-map (λ g. g.before) gs k (record { before = 0; within = [] }) 0 h
+
+-- there are as many counts of a group as blocks that are asked for
+pub length_counts_within : (gs : List Group) (k b : ℕ) → AreWhole gs → k < length gs → b ≤ 128
+    → length (counts_within gs k b) ≡ b
+length_counts_within gs k b whole h small =
+    omega (arith, length-take b (group_at gs k).within, whole k h, small)
 
 -- the count before a block, by its group
 pub ones-of_group : (l : List Bool) (gs : List Group) (j : ℕ)
@@ -158,7 +161,7 @@ pub BeginsBefore-group : (v : Bool) (l : List Bool) (gs : List Group) (w : List 
     (n k m b j r : ℕ) → AreGroups l gs
     → Rises 512 true (block_counts l) → Rises 512 false (block_counts l)
     → (Rises 65536 v (counts_before gs) → BeginsBefore 65536 v (counts_before gs) n k m)
-    → w ≡ take b (group_at gs k).within → b ≡ min (div_ceil (length l - 65536 * k) 512) 128
+    → w ≡ counts_within gs k b → b ≡ min (div_ceil (length l - 65536 * k) 512) 128
     → (Rises 512 v w → BeginsBefore 512 v w (n - m) j r)
     → BeginsBefore 512 v (block_counts l) n (128 * k + j) (m + r)
 BeginsBefore-group v l gs w n k m b j r p up down seek cut end find =

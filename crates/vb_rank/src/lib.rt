@@ -13,11 +13,15 @@ mod block;
 mod count;
 mod group;
 mod groups;
+mod level;
 mod probe;
 mod rank;
 mod ranked;
 mod select;
+mod size;
 mod table;
+#[cfg(test)]
+mod tests;
 
 pub use probe::{PlainTable, Probe, TallyTable};
 pub use rank::rank_by;

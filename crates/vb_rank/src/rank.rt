@@ -7,6 +7,7 @@ ghost use Rattle.vb_rank.specs.Tables.{blocks, ProbesAtMost, IsTableOf};
 
 use crate::count::count_in_block;
 use crate::probe::Probe;
+use crate::size::BLOCK_BITS;
 use vb_kernel::Glance;
 
 /// How many of the first `i` of the `len` bits from bit `offset` on are true.
@@ -37,8 +38,28 @@ pub fn rank_by<G: Glance, T: Probe>(
         return 0;
     }
     // The block of the last of the bits, which has an entry also where `i` is the whole length.
-    let block = (i - 1) / 512;
-    let at = 512 * block;
+    let block = (i - 1) / BLOCK_BITS;
     let before = table.entry(block);
+    rank_from(src, offset, block, before, i)
+}
+
+/// How many of the `i` bits from bit `offset` on are true, by how many of them are before the block
+/// of the last one.
+#[inline(always)]
+pub(crate) fn rank_from<G: Glance>(
+    src: &mut G,
+    offset: usize,
+    block: usize,
+    before: usize,
+    i: usize,
+) -> usize
+    requires window { InBytes (G.seen src.old).bytes offset i }
+    requires begins { BLOCK_BITS * block ≤ i }
+    requires ends { i ≤ BLOCK_BITS * block + BLOCK_BITS }
+    ensures value { before ≡ count (bits (G.seen src.old).bytes offset (BLOCK_BITS * block))
+        → result ≡ count (bits (G.seen src.old).bytes offset i) }
+    ensures looks { LooksAtMost 16 (G.seen src.old) (G.seen src.new) }
+{
+    let at = BLOCK_BITS * block;
     before.wrapping_add(count_in_block(src, offset + at, i - at))
 }

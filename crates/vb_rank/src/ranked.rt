@@ -7,10 +7,9 @@ ghost use Rattle.vb_kernel.specs.Searches.{hits};
 ghost use Rattle.vb_set.specs.OpenSet.{AddsBits, KeepsStart, KeepsLayout};
 ghost use Rattle.vb_set.specs.View.{bits_of, offset_of, bytes_of};
 
-use crate::count::count_in_block;
-use crate::group::{Group, move_counts, ones_before, reserve_group, write_count};
-use crate::groups::{find_in_groups, groups_of};
-use crate::select::select_from;
+use crate::group::{Group, PlainGroups, groups_of, move_counts, reserve_group, write_count};
+use crate::groups::{rank_in_groups, select_in_groups};
+use crate::size::{BLOCK_BITS, GROUP_BITS};
 use std::alloc::{Allocator, Global};
 use std::marker::Model;
 use vb_kernel::Plain;
@@ -85,13 +84,10 @@ impl<A: Allocator + Clone> Ranked<A> {
         if i == 0 {
             return 0;
         }
-        // The block of the last of the bits, as in `rank_by`.
-        let block = (i - 1) / 512;
-        let at = 512 * block;
         let bits = self.as_view();
         let src = &mut Plain::new(bits.inner());
-        let (_, before) = ones_before(self.groups.as_slice(), block);
-        before + count_in_block(src, bits.offset() + at, i - at)
+        let groups = &mut PlainGroups::new(self.groups.as_slice());
+        rank_in_groups(src, bits.offset(), bits.len(), groups, i)
     }
 
     /// The place of the `n`-th true bit, counted from 0; `None` where at most `n` bits are true. It
@@ -149,14 +145,14 @@ impl<A: Allocator + Clone> Ranked<A> {
         ensures err { OnErr result (self.new ≡ self.old) }
     {
         let len = self.len();
-        if len % 512 != 0 {
+        if len % BLOCK_BITS != 0 {
             self.set.append(v)?;
             return Ok(());
         }
         let ones = self.rank(len);
-        if len % 65_536 != 0 {
+        if len % GROUP_BITS != 0 {
             self.set.append(v)?;
-            write_count(self.groups.as_mut_slice(), len / 512, ones);
+            write_count(self.groups.as_mut_slice(), len / BLOCK_BITS, ones);
             return Ok(());
         }
         if usize::MAX - len <= self.set.offset() {
@@ -177,8 +173,8 @@ impl<A: Allocator + Clone> Ranked<A> {
         if bits.len() == 0 {
             return None;
         }
-        let (_, found) = find_in_groups(self.groups.as_slice(), bits.len(), n, value);
         let src = &mut Plain::new(bits.inner());
-        select_from(src, bits.offset(), bits.len(), found, n, value)
+        let groups = &mut PlainGroups::new(self.groups.as_slice());
+        select_in_groups(src, bits.offset(), bits.len(), groups, n, value)
     }
 }

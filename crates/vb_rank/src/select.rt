@@ -8,7 +8,9 @@ ghost use Rattle.vb_rank.specs.Tables.{blocks, binary_digits, block_counts, Begi
 ghost use Rattle.vb_rank.specs.Tables.{ProbesAtMost, IsTableOf};
 
 use crate::block::find_block;
+use crate::level::Entries;
 use crate::probe::Probe;
+use crate::size::BLOCK_BITS;
 use vb_kernel::{Glance, bit_select_by, bit_select_unset_by};
 
 /// The place, counted from bit `offset`, of the `n`-th true bit among the `len` bits from there on,
@@ -94,7 +96,8 @@ fn select_value_by<G: Glance, T: Probe>(
     if len == 0 {
         return None;
     }
-    let found = find_block(table, 512, n, value);
+    let size = table.size();
+    let found = find_block(table, &Entries, size, BLOCK_BITS, n, value);
     select_from(src, offset, len, found, n, value)
 }
 
@@ -109,16 +112,22 @@ pub(crate) fn select_from<G: Glance>(
     value: bool,
 ) -> Option<usize>
     requires window { InBytes (G.seen src.old).bytes offset len }
-    requires begins { 512 * found.0 < len }
+    requires begins { BLOCK_BITS * found.0 < len }
     requires low { found.1 ≤ n }
     ensures place { (t : List ℕ) → t ≡ block_counts (bits (G.seen src.old).bytes offset len)
-        → BeginsBefore 512 value t n found.0 found.1
+        → BeginsBefore BLOCK_BITS value t n found.0 found.1
         → Selects (hits value (bits (G.seen src.old).bytes offset len)) n result }
     ensures looks { LooksAtMost 16 (G.seen src.old) (G.seen src.new) }
 {
     let (block, before) = found;
-    let at = 512 * block;
-    let place = select_in_block(src, offset + at, (len - at).min(512), n - before, value)?;
+    let at = BLOCK_BITS * block;
+    let place = select_in_block(
+        src,
+        offset + at,
+        (len - at).min(BLOCK_BITS),
+        n - before,
+        value,
+    )?;
     Some(at + place)
 }
 
@@ -132,7 +141,7 @@ fn select_in_block<G: Glance>(
     value: bool,
 ) -> Option<usize>
     requires window { InBytes (G.seen src.old).bytes offset len }
-    requires block { len ≤ 512 }
+    requires block { len ≤ BLOCK_BITS }
     ensures place { Selects (hits value (bits (G.seen src.old).bytes offset len)) n result }
     ensures looks { LooksAtMost 16 (G.seen src.old) (G.seen src.new) }
 {

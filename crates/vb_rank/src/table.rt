@@ -6,6 +6,7 @@ ghost use Rattle.vb_rank.specs.Fills.{Fills};
 ghost use Rattle.vb_rank.specs.Tables.{block_counts, blocks};
 ghost use Rattle.vb_set.specs.View.{bits_of};
 
+use crate::size::BLOCK_BITS;
 use std::alloc::Allocator;
 use vb_kernel::count_ones;
 use vb_set::{BitBufferView, BufferError, Result};
@@ -19,7 +20,7 @@ pub fn table_of<A: Allocator>(alloc: A, bits: BitBufferView<'_>) -> Result<Vec<u
     ensures size { IfOk result (λ t. length t.items ≡ blocks (length (bits_of bits.entry))) }
     ensures refused { IsOkUnless result BufferError.OutOfMemory }
 {
-    let mut table = Vec::from_elem(alloc, 0, bits.len().div_ceil(512))?;
+    let mut table = Vec::from_elem(alloc, 0, bits.len().div_ceil(BLOCK_BITS))?;
     write_block_counts(
         bits.inner(),
         bits.offset(),
@@ -41,12 +42,12 @@ pub fn write_block_counts(bytes: &[u8], offset: usize, len: usize, table: &mut [
     ensures whole { length table.old ≡ blocks len
         → table.new ≡ block_counts (bits bytes.now offset len) }
 {
-    let written = len.div_ceil(512).min(table.len());
+    let written = len.div_ceil(BLOCK_BITS).min(table.len());
     let mut before = 0;
     for block in 0..written {
         table[block] = before;
-        let start = 512 * block;
-        before += count_ones(bytes, offset + start, (len - start).min(512));
+        let start = BLOCK_BITS * block;
+        before += count_ones(bytes, offset + start, (len - start).min(BLOCK_BITS));
     }
     written
 }

@@ -6,7 +6,7 @@ use Rattle.vb_rank.proofs.block.find_block.Goals.{then-here-n, else-here-n}
 
 pub loop-left-preserved : goal.loop-left-preserved
 loop-left-preserved g c =
-    let t : List ℕ = (g.T.Probe.seen c.args.table.now).entries in
+    let t : List ℕ = (g.L.Level.seen c.args.level.now c.args.source.now).entries in
     let low : ℕ = c.loop-left.low in let left : ℕ = c.loop-left.left in let half : ℕ = left / 2 in
     let n : ℕ = c.args.n in
     let w : ℕ = c.args.width in let v : Bool = c.args.value in
@@ -27,6 +27,7 @@ loop-left-preserved g c =
             let e : c.if-here-n.low + (left - half) ≡ low + left = omega (arith, b.low-is) in
             subst (λ x. n < count_before w v t x) (sym e)
             (c.loop-left.invariant.above r (omega (arith, more, e)));
+        held = c.bits_before-here.ensures.same ∙ c.loop-left.invariant.held;
         same = same;
         halves = omega (arith, c.loop-left.invariant.halves, probe, step);
       }
@@ -39,8 +40,9 @@ loop-left-preserved g c =
         above = λ r more.
             let up =
             r.rising (low + half) (c.if-here-n.low + (left - half)) (omega (arith, b.low-is))
-            more in
+            (omega (arith, more, c.requires.size)) in
             omega (arith, up, here r, b.if-here-n.false);
+        held = c.bits_before-here.ensures.same ∙ c.loop-left.invariant.held;
         same = same;
         halves = omega (arith, c.loop-left.invariant.halves, probe, step);
       }
@@ -51,5 +53,10 @@ returns-clause-probes g c =
     let last : c.loop-left.left - 1 ≡ 0 = omega (arith, c.loop-left-test.false) in
     record {
       same = c.loop-left.invariant.same;
-      probes = omega (arith, c.loop-left.invariant.halves, ap binary_digits last);
+      probes = omega (
+        arith,
+        c.loop-left.invariant.halves,
+        ap binary_digits last,
+        ap (λ s. binary_digits (s - 1)) c.requires.size,
+      );
     }

@@ -1,4 +1,4 @@
-use Rattle.std.proofs.Common.{◌-◌, ◌≡◌, ◌+◌, ◌<◌, ◌≤◌, length}
+use Rattle.std.proofs.Common.{◌-◌, ◌≡◌, ◌+◌, ◌<◌, ◌≤◌}
 use Rattle.vb_rank.specs.Tables.{binary_digits, count_before, Rises}
 use Rattle.vb_rank.proofs.block.find_block.Given as goal
 
@@ -6,19 +6,23 @@ use Rattle.vb_rank.proofs.block.find_block.Given as goal
 abbrev pub invariant-loop-left : goal.invariant-loop-left
 invariant-loop-left g l = record {
   some : 0 < l.left;
-  within : l.low + l.left ≤ length (g.T.Probe.seen l.initial.table).entries;
+  within : l.low + l.left ≤ l.size;
   below : l.before ≤ l.n;
-  before : Rises l.width l.value (g.T.Probe.seen l.initial.table).entries
-      → l.before ≡ count_before l.width l.value (g.T.Probe.seen l.initial.table).entries l.low;
-  above : Rises l.width l.value (g.T.Probe.seen l.initial.table).entries
-      → l.low + l.left < length (g.T.Probe.seen l.initial.table).entries
+  before : Rises l.width l.value (g.L.Level.seen l.level l.initial.source).entries
+      → l.before
+      ≡ count_before l.width l.value (g.L.Level.seen l.level l.initial.source).entries l.low;
+  above : Rises l.width l.value (g.L.Level.seen l.level l.initial.source).entries
+      → l.low + l.left < l.size
       → l.n
-      < count_before l.width l.value (g.T.Probe.seen l.initial.table).entries (l.low + l.left);
-  same : (g.T.Probe.seen l.table).entries ≡ (g.T.Probe.seen l.initial.table).entries;
+      < count_before l.width l.value (g.L.Level.seen l.level l.initial.source).entries
+      (l.low + l.left);
+  held : g.L.Level.held l.source ≡ g.L.Level.held l.initial.source;
+  same : (g.L.Level.seen l.level l.source).entries
+      ≡ (g.L.Level.seen l.level l.initial.source).entries;
   -- each halving takes a digit of what is left
-  halves : (g.T.Probe.seen l.table).probes + binary_digits (l.left - 1)
-      ≡ (g.T.Probe.seen l.initial.table).probes
-      + binary_digits (length (g.T.Probe.seen l.initial.table).entries - 1);
+  halves : (g.L.Level.seen l.level l.source).probes + binary_digits (l.left - 1)
+      ≡ (g.L.Level.seen l.level l.initial.source).probes
+      + binary_digits (l.size - 1);
 }
 
 abbrev pub decreases-loop-left : goal.decreases-loop-left

@@ -4,7 +4,7 @@ use Rattle.std.proofs.lemmas.Bool.{cases_lt}
 use Rattle.std.proofs.lemmas.List.{length-set, get_or-set_same, get_or-set_other}
 use Rattle.vb_bits.specs.Bits.{bits, count}
 use Rattle.vb_kernel.proofs.BitsLemmas.{count-bits_none, count-bits-add, count-bits-le}
-use Rattle.vb_rank.proofs.groups.write_counts.Goals as goal
+use Rattle.vb_rank.proofs.group.write_counts.Goals as goal
 
 -- the bits of a block more
 block_more : (b : List ℕ) (o n k m : ℕ) → 512 * k < n → m ≡ min (n - 512 * k) 512

@@ -2,7 +2,7 @@ use Rattle.std.proofs.Common.{◌≡◌, ℕ, ◌*◌, ◌<◌, ◌≤◌, min, 
 use Rattle.vb_bits.specs.Bits.{count}
 use Rattle.vb_set.specs.View.{bits_of}
 use Rattle.vb_rank.specs.Groups.{IsGroup, group_at}
-use Rattle.vb_rank.proofs.groups.groups_of.Given as goal
+use Rattle.vb_rank.proofs.group.groups_of.Given as goal
 
 -- the groups so far, room for the rest, and the count before the next one
 abbrev pub invariant-loop-k : goal.invariant-loop-k

@@ -8,7 +8,7 @@ use Rattle.vb_kernel.proofs.BitsLemmas.{count-le, count-bits-le, length-bits}
 use Rattle.vb_rank.specs.declared.group.Group.{Group}
 use Rattle.vb_rank.specs.Groups.{IsGroup, group_at}
 use Rattle.vb_rank.proofs.GroupsLemmas.{IsGroup-bits, count-bits_group}
-use Rattle.vb_rank.proofs.groups.groups_of.Goals as goal
+use Rattle.vb_rank.proofs.group.groups_of.Goals as goal
 
 pub overflow_add-before : goal.overflow_add-before
 overflow_add-before g c =

@@ -1,6 +1,6 @@
 use Rattle.std.proofs.Common.{◌≡◌, ℕ, ◌*◌, ◌<◌, min, length, slice_index}
 use Rattle.vb_bits.specs.Bits.{bits, count}
-use Rattle.vb_rank.proofs.groups.write_counts.Given as goal
+use Rattle.vb_rank.proofs.group.write_counts.Given as goal
 
 -- the counts so far, and the true bits of these blocks
 abbrev pub invariant-loop-block : goal.invariant-loop-block

@@ -1,0 +1,82 @@
+//! How often questions of groups probe their counts.
+ghost use Rattle.std.specs.Prelude.{◌≡◌, true};
+
+use crate::group::{TallyGroups, groups_of};
+use crate::groups::{rank_in_groups, select_in_groups};
+use std::alloc::Global;
+use std::fmt::Debug;
+use std::process::Abort;
+use vb_kernel::Plain;
+use vb_set::{BitBufferMut, BitBufferView};
+
+/// The two values are equal.
+fn equal<T: Copy + PartialEq + Debug>(rt: &impl Abort, given: T, wanted: T) {
+    assert_eq!(rt; given, wanted);
+}
+
+/// The condition holds, as calls behind it ask for.
+fn holds(rt: &impl Abort, condition: bool)
+    ensures { condition ≡ true }
+{
+    assert!(rt; condition);
+}
+
+/// Bits that are true where 5 divides the place.
+fn by_fives(rt: &impl Abort, alloc: Global, len: usize) -> BitBufferMut<Global> {
+    let mut set = BitBufferMut::empty(alloc);
+    for i in 0..len {
+        set.append(i % 5 == 0).expect(rt, "room");
+    }
+    set
+}
+
+/// A rank of any bits takes two probes.
+fn ranks(rt: &impl Abort, alloc: Global, bits: BitBufferView<'_>, i: usize) {
+    holds(rt, 0 < i);
+    holds(rt, i <= bits.len());
+    let groups = groups_of(alloc, bits).expect(rt, "groups");
+    let mut tally = TallyGroups::new(groups.as_slice());
+    let mut src = Plain::new(bits.inner());
+    let ones = rank_in_groups(&mut src, bits.offset(), bits.len(), &mut tally, i);
+    equal(rt, ones, bits.slice(0..i).true_count());
+    equal(rt, tally.probes(), 2);
+    drop(groups);
+}
+
+/// Selects take as many probes at most as one more than the number of blocks has binary digits.
+fn selects(rt: &impl Abort, alloc: Global, bits: BitBufferView<'_>, n: usize) {
+    holds(rt, 0 < bits.len());
+    let groups = groups_of(alloc, bits).expect(rt, "groups");
+    let most = u64::from(usize::BITS - bits.len().div_ceil(512).saturating_add(1).leading_zeros());
+    for value in [true, false] {
+        let mut tally = TallyGroups::new(groups.as_slice());
+        let mut src = Plain::new(bits.inner());
+        let (offset, len) = (bits.offset(), bits.len());
+        let place = select_in_groups(&mut src, offset, len, &mut tally, n, value);
+        let wanted = if value {
+            bits.select(n)
+        } else {
+            bits.select_unset(n)
+        };
+        equal(rt, place, wanted);
+        equal(rt, tally.probes() <= most, true);
+    }
+    drop(groups);
+}
+
+/// One bit, one block and a bit more, one group and a bit more, and several.
+const LENGTHS: [usize; 7] = [1, 512, 513, 65_536, 65_537, 131_072, 200_003];
+
+const PLACES: [usize; 7] = [1, 512, 513, 13_107, 65_536, 65_537, 160_000];
+
+#[test]
+fn questions_take_few_probes(rt: HostRuntime) {
+    for len in LENGTHS {
+        let set = by_fives(&rt, rt.alloc(), len);
+        for i in PLACES {
+            ranks(&rt, rt.alloc(), set.as_view(), i.min(len));
+            selects(&rt, rt.alloc(), set.as_view(), i - 1);
+        }
+        drop(set);
+    }
+}
