@@ -1,3 +1,4 @@
+mod BlocksLemmas
 mod FilteredBits
 mod GatherLemmas
 mod ItemsLemmas

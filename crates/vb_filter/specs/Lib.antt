@@ -1,3 +1,4 @@
+pub mod Blocks
 pub mod Filtered
 pub mod Gathered
 pub mod ItemsTaken

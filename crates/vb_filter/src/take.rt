@@ -1,17 +1,19 @@
 //! Items taken at indices.
-ghost use Rattle.std.specs.Prelude.{◌≡◌, ℕ, ℤ, ◌+◌, ◌*◌, ◌<◌, ◌≤◌, Bool, List, Option, Some};
-ghost use Rattle.std.specs.Prelude.{length, map, take, drop, slice_index_or, slice_range, ◌++◌};
-ghost use Rattle.std.specs.Prelude.{Result, IfOk, IfErr};
+ghost use Rattle.std.specs.Prelude.{◌≡◌, ℕ, ℤ, negsuc, ◌+◌, ◌<◌, ◌≤◌, Bool, true, List, Option};
+ghost use Rattle.std.specs.Prelude.{Some, IsSome, length, map, take, drop, slice_index_or};
+ghost use Rattle.std.specs.Prelude.{Result, IfOk, IfErr, IsTrue};
 ghost use Rattle.std.specs.Prelude.{if◌then◌else◌};
 ghost use Rattle.std.specs.Option.{ForSome, option_map};
 ghost use Rattle.vb_core.specs.declared.error.BufferError.{BufferError};
 ghost use Rattle.vb_bits.specs.Digits.{has_bit};
+ghost use Rattle.vb_filter.specs.Blocks.{PutsOnes, StopsAt, PutsZeros};
 ghost use Rattle.vb_filter.specs.ItemsTaken.{item_named, AreTaken, TakenTo, IsFirstUntaken};
 ghost use Rattle.vb_take.specs.Takes.{is_valid};
 ghost use Rattle.vb_view.specs.View.{bits_of};
 
 use crate::bits::view_digits;
 use std::alloc::Allocator;
+use vb_bits::low_digits;
 use vb_core::{BitIndex, BufferError, Element, Result};
 use vb_mem::{Buffer, BufferMut};
 use vb_view::BitBufferView;
@@ -81,25 +83,28 @@ pub fn take_values_into<T: Element, I: BitIndex>(
         (option_map bits_of validity.entry) p) }
     ensures others { drop (length indices.now) out.new ≡ drop (length indices.now) out.old }
 {
-    let from = match validity {
-        Some(valid) => take_blocks(out, values, indices, valid)?,
-        None => 0,
-    };
-    take_rest(out, values, indices, validity, from)
+    if indices.len() >= 64 {
+        if let Some(valid) = validity {
+            return take_blocks(out, values, indices, valid);
+        }
+    }
+    take_rest(out, values, indices, validity, 0)
 }
 
-/// [`take_values_into`] of the whole blocks of 64 positions, and how many positions these are.
+/// [`take_values_into`] by blocks of 64 positions, and then one by one.
+///
+/// Not inlined, so that a call that needs no blocks pays for none.
+#[inline(never)]
 fn take_blocks<T: Element, I: BitIndex>(
     out: &mut [T],
     values: &[T],
     indices: &[I],
     valid: BitBufferView<'_>,
-) -> Result<usize, usize>
+) -> Result<(), usize>
     requires room { length indices.now ≤ length out.old }
     requires validity { length (bits_of valid) ≡ length indices.now }
-    ensures begun { IfOk result (λ n. n ≤ length indices.now) }
-    ensures taken { IfOk result (λ n. TakenTo T.zero values.now (map I.number indices.now)
-        (Some (bits_of valid.entry)) n out.new) }
+    ensures taken { IfOk result (λ _. AreTaken T.zero values.now (map I.number indices.now)
+        (Some (bits_of valid.entry)) (take (length indices.now) out.new)) }
     ensures past { IfErr result (λ p. IsFirstUntaken T.zero values.now (map I.number indices.now)
         (Some (bits_of valid.entry)) p) }
     ensures others { drop (length indices.now) out.new ≡ drop (length indices.now) out.old }
@@ -108,13 +113,15 @@ fn take_blocks<T: Element, I: BitIndex>(
     for t in 0..blocks {
         take_block(out, values, indices, valid, 64 * t)?;
     }
-    Ok(64 * blocks)
+    take_rest(out, values, indices, Some(valid), 64 * blocks)
 }
 
 /// [`take_values_into`] of the 64 positions from `at` on, where those before them are taken.
 ///
-/// It goes by the ones of the validity, so no branch is on the bit of a position. From the position
-/// on that is refused, `out` stays as it was.
+/// It goes by the ones of the validity, so no branch is on the bit of a position. Where they are
+/// few, all their indices are looked at first, and then 0 is written to all items at once; else to
+/// those that don't count, one by one. What a refused call leaves is what the loop over all
+/// positions leaves: those before the refused one are taken, and from it on `out` stays as it was.
 #[inline(always)]
 fn take_block<T: Element, I: BitIndex>(
     out: &mut [T],
@@ -132,46 +139,115 @@ fn take_block<T: Element, I: BitIndex>(
         (Some (bits_of valid.entry)) (at + 64) out.new) }
     ensures past { IfErr result (λ p. IsFirstUntaken T.zero values.now (map I.number indices.now)
         (Some (bits_of valid.entry)) p) }
+    ensures begun { IfErr result (λ p. TakenTo T.zero values.now (map I.number indices.now)
+        (Some (bits_of valid.entry)) p out.new) }
     ensures stays { IfErr result (λ p. drop p out.new ≡ drop p out.old) }
     ensures others { drop (length indices.now) out.new ≡ drop (length indices.now) out.old }
 {
-    let was = block_at(out, at);
-    clear_block(out, at);
-    let mut left = valid_word(valid, at);
+    let word = valid_word(valid, at);
+    if word == u64::MAX {
+        put_full(out, values, indices, at)
+    } else if word.count_ones() <= FEW && all_named(values, indices, at, word) {
+        clear_block(out, at);
+        put_ones(out, values, indices, at, word)
+    } else {
+        let answer = put_ones(out, values, indices, at, word);
+        match answer {
+            Ok(()) => put_zeros(out, at, word, 64),
+            Err(place) => put_zeros(out, at, word, place - at),
+        }
+        answer
+    }
+}
+
+/// Up to so many of 64 positions are few: to look at their indices twice costs no more than to
+/// write 0 to the others one by one.
+const FEW: u32 = 20;
+
+/// Whether all of the 64 positions from `at` on whose digit is 1 have an index that names a value.
+#[inline(always)]
+fn all_named<T: Element, I: BitIndex>(values: &[T], indices: &[I], at: usize, word: u64) -> bool
+    requires { at + 64 ≤ length indices.now }
+    ensures { IsTrue result → (k : ℕ) → k < 64 → has_bit word k ≡ true
+        → IsSome (item_named values.now
+        (slice_index_or (map I.number indices.now) (at + k) (negsuc 0))) }
+{
+    let mut left = word;
     while left != 0 {
         let k = left.trailing_zeros() as usize;
-        let place = at + k;
+        if value_named(values, indices[at + k]).is_none() {
+            return false;
+        }
+        left &= left - 1;
+    }
+    true
+}
+
+/// Writes the values at the indices to those of the 64 items from `at` on whose digit is 1, up to
+/// the first position whose index names none.
+#[inline(always)]
+fn put_ones<T: Element, I: BitIndex>(
+    out: &mut [T],
+    values: &[T],
+    indices: &[I],
+    at: usize,
+    word: u64,
+) -> Result<(), usize>
+    requires room { at + 64 ≤ length out.old }
+    requires inside { at + 64 ≤ length indices.now }
+    ensures put { IfOk result (λ _. PutsOnes T.zero values.now (map I.number indices.now) at word
+        64 out.old out.new) }
+    ensures past { IfErr result (λ p. StopsAt T.zero values.now (map I.number indices.now) at word
+        p out.old out.new) }
+{
+    let mut left = word;
+    while left != 0 {
+        let place = at + left.trailing_zeros() as usize;
         match value_named(values, indices[place]) {
             Some(value) => out[place] = value,
-            None => {
-                put_back(out, at, k, &was);
-                return Err(place);
-            }
+            None => return Err(place),
         }
         left &= left - 1;
     }
     Ok(())
 }
 
-/// The 64 items from `at` on.
+/// [`put_ones`] where all 64 digits are 1.
 #[inline(always)]
-fn block_at<T: Element>(items: &[T], at: usize) -> [T; 64]
-    requires { at + 64 ≤ length items.now }
-    ensures { result ≡ slice_range items.now at (at + 64) }
+fn put_full<T: Element, I: BitIndex>(
+    out: &mut [T],
+    values: &[T],
+    indices: &[I],
+    at: usize,
+) -> Result<(), usize>
+    requires room { at + 64 ≤ length out.old }
+    requires inside { at + 64 ≤ length indices.now }
+    ensures put { IfOk result (λ _. PutsOnes T.zero values.now (map I.number indices.now) at u64.MAX
+        64 out.old out.new) }
+    ensures past { IfErr result (λ p. StopsAt T.zero values.now (map I.number indices.now) at
+        u64.MAX p out.old out.new) }
 {
-    let mut block = [T::zero(); 64];
-    block.copy_from_slice(&items[at..at + 64]);
-    block
+    for position in at..at + 64 {
+        match value_named(values, indices[position]) {
+            Some(value) => out[position] = value,
+            None => return Err(position),
+        }
+    }
+    Ok(())
 }
 
-/// Writes the items of `block` from item `k` on to their places, where the first one's is `at`.
-fn put_back<T: Copy>(out: &mut [T], at: usize, k: usize, block: &[T])
-    requires whole { length block.now ≡ 64 }
-    requires inside { at + 64 ≤ length out.old }
-    requires within { k ≤ 64 }
-    ensures { out.new ≡ take (at + k) out.old ++ drop k block.now ++ drop (at + 64) out.old }
+/// Writes 0 to those of the first `n` items from `at` on whose digit is 0.
+#[inline(always)]
+fn put_zeros<T: Element>(out: &mut [T], at: usize, word: u64, n: usize)
+    requires few { n ≤ 64 }
+    requires room { at + n ≤ length out.old }
+    ensures { PutsZeros T.zero at word n out.old out.new }
 {
-    out[at + k..at + 64].copy_from_slice(&block[k..]);
+    let mut left = low_digits(!word, n);
+    while left != 0 {
+        out[at + left.trailing_zeros() as usize] = T::zero();
+        left &= left - 1;
+    }
 }
 
 /// Writes 0 to the 64 items from `at` on.

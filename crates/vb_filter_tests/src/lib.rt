@@ -5,6 +5,8 @@
 #[cfg(test)]
 mod bits;
 #[cfg(test)]
+mod blocks;
+#[cfg(test)]
 mod compared;
 #[cfg(test)]
 mod filters;
