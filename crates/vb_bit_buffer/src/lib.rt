@@ -1,5 +1,4 @@
-//! Sets of bits whose storage several owners may share: [`BitBuffer`], bits taken into one, and
-//! views copied into one.
+//! Sets of bits whose storage several owners may share: [`BitBuffer`], and views copied into one.
 //!
 //! A set is a list of truth values: the window of its bytes that begins at bit `offset`, least
 //! significant bit first. Bits outside of the window are never part of an answer. Lengths, offsets
@@ -7,9 +6,7 @@
 #![tactic(auto)]
 
 mod bit_buffer;
-mod take;
 mod to_bit_buffer;
 
 pub use bit_buffer::BitBuffer;
-pub use take::take_bits;
 pub use to_bit_buffer::ToBitBuffer;

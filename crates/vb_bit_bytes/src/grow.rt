@@ -94,3 +94,24 @@ pub fn reserve_to<A: Allocator + Clone>(bytes: &mut ByteBufferMut<A>, end: usize
     }
     Ok(())
 }
+
+/// [`reserve_to`] of no more than that: where the room grows, it becomes as few bytes as hold so
+/// many bits.
+pub fn reserve_exactly_to<A: Allocator + Clone>(
+    bytes: &mut ByteBufferMut<A>,
+    end: usize,
+) -> Result<()>
+    ensures keeps { bytes.new ≡ record bytes.old { room = bytes.new.room } }
+    ensures grows { bytes.old.room ≤ bytes.new.room }
+    ensures room { OnOk result (end ≤ 8 * bytes.new.room) }
+    ensures exact { OnOk result (bytes.new.room ≤ max bytes.old.room (div_ceil end 8)) }
+    ensures in_room { end ≤ 8 * max (length bytes.old.list) bytes.old.room → IsOk result }
+    ensures err { OnErr result (bytes.new ≡ bytes.old) }
+    ensures refused { IsOkUnless result BufferError.OutOfMemory }
+{
+    let count = end.div_ceil(8);
+    if bytes.capacity() < count {
+        bytes.reserve_exact(count - bytes.len())?;
+    }
+    Ok(())
+}

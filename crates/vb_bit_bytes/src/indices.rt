@@ -4,13 +4,14 @@ ghost use Rattle.std.specs.Int.{div_ceil};
 ghost use Rattle.std.specs.Iterator.{IsFiniteIterable};
 ghost use Rattle.vb_bits.specs.Bits.{bits};
 ghost use Rattle.vb_mem.specs.Collected.{OfItems};
-ghost use Rattle.vb_take.specs.Takes.{with_true, IndexRefused};
+ghost use Rattle.vb_bit_bytes.specs.Indices.{IndexRefused};
+ghost use Rattle.vb_bits.specs.Marks.{with_true};
 
 use crate::make::full;
 use std::alloc::Allocator;
+use vb_bits::set_bits_at;
 use vb_core::{BufferError, Result};
 use vb_mem::{ByteBuffer, ByteBufferMut};
-use vb_take::set_bits_at;
 
 /// Bytes whose first `len` bits are true exactly at the places that an iterator gives, which may
 /// come more than once, as few as hold them.

@@ -18,3 +18,4 @@ pub mod LanesLemmas
 pub mod EqualLemmas
 pub mod KeepsLemmas
 pub mod MarksLemmas
+pub mod FillsLemmas

@@ -1,6 +1,7 @@
 pub mod Bits
 pub mod Digits
 pub mod Edits
+pub mod Fills
 pub mod InBytes
 pub mod Kept
 pub mod Marks

@@ -58,6 +58,21 @@ fn word_from(bytes: &[u8], first: usize) -> u64
     }
 }
 
+/// [`read_bits`], of which 64 are a [`full_word`].
+#[inline(always)]
+pub fn read_word(bytes: &[u8], at: usize, count: usize) -> u64
+    requires in_word { count ≤ 64 }
+    requires inside { at + count ≤ 8 * length bytes.now }
+    ensures digits { digits result 0 count ≡ bits bytes.now at count }
+    ensures clear { result < 2 ^ count }
+{
+    if count == 64 {
+        full_word(bytes, at / 8, at % 8)
+    } else {
+        read_bits(bytes, at, count)
+    }
+}
+
 /// The 64 bits from bit `shift` of byte `first` on as one number.
 #[inline(always)]
 pub fn full_word(bytes: &[u8], first: usize, shift: usize) -> u64

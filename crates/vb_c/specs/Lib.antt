@@ -14,6 +14,6 @@ pub use Rattle.vb_bits.specs.Operators
 pub use Rattle.vb_bits.specs.Runs
 pub use Rattle.vb_bits.specs.Writes
 pub use Rattle.vb_pack.specs.WordBits
-pub use Rattle.vb_rank.specs.Fills
+pub use Rattle.vb_bits.specs.Fills
 pub use Rattle.vb_rank.specs.Tables
 pub use Rattle.vb_take.specs.Takes

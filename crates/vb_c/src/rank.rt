@@ -5,7 +5,7 @@ ghost use Rattle.vb_bits.specs.InBytes.{InBytes};
 ghost use Rattle.vb_c.specs.Fits.{DoneIf};
 ghost use Rattle.vb_c.specs.Place.{answered_place};
 ghost use Rattle.vb_c.specs.Ranked.{HasTable};
-ghost use Rattle.vb_rank.specs.Fills.{Fills};
+ghost use Rattle.vb_bits.specs.Fills.{Fills};
 ghost use Rattle.vb_rank.specs.Tables.{block_counts};
 
 use crate::place::Place;

@@ -5,7 +5,7 @@ ghost use Rattle.vb_bits.specs.InBytes.{InBytes};
 ghost use Rattle.vb_bits.specs.Runs.{runs};
 ghost use Rattle.vb_c.specs.Filled.{run_of};
 ghost use Rattle.vb_c.specs.Fits.{DoneIf};
-ghost use Rattle.vb_rank.specs.Fills.{Fills};
+ghost use Rattle.vb_bits.specs.Fills.{Fills};
 
 use vb_walk::{BitIndexIterator, BitSliceIterator};
 

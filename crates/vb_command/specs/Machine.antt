@@ -21,7 +21,8 @@ use Rattle.vb_command.specs.declared.command.Command.{Command}
 use Rattle.vb_command.specs.declared.command.Command.TheVariants as commands
 use Rattle.vb_command.specs.declared.command.Mode.{Mode}
 use Rattle.vb_command.specs.declared.command.Mode.TheVariants.{Ref, Own}
-use Rattle.vb_take.specs.Takes.{IsTaken, IsFirstPast, with_true}
+use Rattle.vb_bits.specs.Marks.{with_true}
+use Rattle.vb_take.specs.Takes.{IsTaken, IsFirstPast}
 
 -- what a slot holds
 pub data Slot : Type 0 where

@@ -3,9 +3,8 @@ use Rattle.std.proofs.Common.{◌≡◌, ℕ, ◌+◌, ◌-◌, ◌<◌, ◌≤�
 use Rattle.std.proofs.Common.{[], ◌∷◌, ◌++◌, eqb, length, map, get_or, take, drop, refl}
 use Rattle.std.proofs.Common.{sym, ap, subst, ◌∙◌, arith, append_assoc, length-append}
 use Rattle.std.proofs.Math.Pow.{pow_mono}
-use Rattle.std.proofs.lemmas.Bool.{cases_lt}
 use Rattle.std.proofs.lemmas.List.{nil_from_length, append-nil, drop-drop, take-append-drop}
-use Rattle.std.proofs.lemmas.Nat.Bits.{bit_at-zero, bit_at_above, bit_at-trailing_zeros}
+use Rattle.std.proofs.lemmas.Nat.Bits.{bit_at-zero, bit_at-trailing_zeros}
 use Rattle.std.specs.Int.{bit_at, trailing_zeros, w64}
 use Rattle.std.specs.Prelude.{count_ones}
 use Rattle.std.specs.Int.Bits.{bit_and}
@@ -18,7 +17,7 @@ use Rattle.vb_bits.proofs.KeptLemmas.{map-places, length-kept_by}
 use Rattle.vb_bits.proofs.PlacesLemmas.{length-places}
 use Rattle.vb_filter.specs.Gathered.{PutsAt}
 use Rattle.vb_walk.specs.Walks.{places_in}
-use Rattle.vb_walk.proofs.OnesLemmas.{lowest_off}
+use Rattle.vb_walk.proofs.OnesLemmas.{lowest_off, lowest_below}
 use Rattle.vb_walk.proofs.PlacesLemmas.{places_in_first, places_in_empty, places-digits}
 
 -- the places of the digits that are 1, of the first n of a word
@@ -34,18 +33,6 @@ module _ (n w : ℕ) (some : 0 < w) (clear : w < 2 ^ n) (few : n ≤ 64) where
   word_fits : w < 2 ^ 64
   word_fits = let more : 2 ^ n ≤ 2 ^ 64 = pow_mono few in omega arith
 
-  -- the place of the lowest one
-  pub lowest_below : trailing_zeros w64 w < n
-  lowest_below =
-      let z = bit_at-trailing_zeros w64 w some word_fits in
-      elim (cases_lt (trailing_zeros w64 w) n) [
-        | inl below ↦ below
-        | inr above ↦
-            let none : bit_at w (trailing_zeros w64 w) ≡ 0 =
-            bit_at_above w n (trailing_zeros w64 w) clear above in
-            absurd (omega (arith, z.1))
-      ]
-
   -- it, and those of the word without it
   pub ones_first : ones n w ≡ trailing_zeros w64 w ∷ ones n (bit_and w (w - 1))
   ones_first =
@@ -53,7 +40,7 @@ module _ (n w : ℕ) (some : 0 < w) (clear : w < 2 ^ n) (few : n ≤ 64) where
       let z = bit_at-trailing_zeros w64 w some word_fits in
       let off = lowest_off w low z.1 z.2 in
       places_in_first (has_bit w) (has_bit (bit_and w (w - 1))) 0 n low (omega arith)
-      (omega (arith, lowest_below)) (λ i lo hi. ap (λ x. eqb x 1) (z.2 i hi))
+      (omega (arith, lowest_below n w some clear few)) (λ i lo hi. ap (λ x. eqb x 1) (z.2 i hi))
       (ap (λ x. eqb x 1) z.1) (λ i lo hi. ap (λ x. eqb x 1) (off.0 i hi))
       (λ i lo hi. ap (λ x. eqb x 1) (off.1 i lo))
 

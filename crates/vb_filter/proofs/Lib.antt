@@ -1,7 +1,5 @@
-mod BlocksLemmas
 mod FilteredBits
-mod GatherLemmas
-mod ItemsLemmas
+pub mod GatherLemmas
 mod PackedDigits
 mod PendingLemmas
 mod PackedOnes

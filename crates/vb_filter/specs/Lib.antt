@@ -1,5 +1,6 @@
-pub mod Blocks
-pub mod Filtered
 pub mod Gathered
-pub mod ItemsTaken
 pub mod Pending
+pub use Rattle.vb_bits.specs.Bits
+pub use Rattle.vb_bits.specs.Kept
+pub use Rattle.vb_bits.specs.Writes
+pub use Rattle.vb_view.specs.View

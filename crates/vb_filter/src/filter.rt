@@ -1,31 +1,67 @@
-//! What a mask can filter.
-ghost use Rattle.std.specs.Prelude.{ℕ, Bool, List, length};
-ghost use Rattle.vb_filter.specs.Filtered.{GivesFiltered};
+//! The bits that a mask keeps, written into bytes.
+ghost use Rattle.std.specs.Prelude.{◌≡◌, ◌+◌, ◌*◌, ◌^◌, ◌<◌, ◌≤◌, length, slice_range};
+ghost use Rattle.vb_bits.specs.Bits.{bits, count};
+ghost use Rattle.vb_bits.specs.Digits.{digits};
+ghost use Rattle.vb_bits.specs.Kept.{kept_by};
+ghost use Rattle.vb_bits.specs.Writes.{Writes};
+ghost use Rattle.vb_filter.specs.Pending.{first_bits};
 ghost use Rattle.vb_view.specs.View.{bits_of};
 
-use vb_core::Result;
-use vb_view::BitBufferView;
+use crate::digits::pack_digits;
+use crate::pending::{push_digits, write_pending};
+use vb_view::{BitBufferView, view_word};
 
-/// Values of which a mask can keep some.
-pub trait Filter: Sized {
-    // how many there are
-    ghost len: { Self → ℕ };
+/// Writes the bits whose bit in the mask is true, in order, to the first bits of `out`, and answers
+/// how many they are. The other bits of `out` stay.
+///
+/// The mask has to be as long as the bits, and `out` to have room for those that it keeps. It goes
+/// by 64 bits: those that the mask keeps are packed, and written a word at a time. Where it keeps
+/// none of 64, the bits aren't looked at.
+pub fn filter_into(out: &mut [u8], values: BitBufferView<'_>, mask: BitBufferView<'_>) -> usize
+    requires same_len { length (bits_of values) ≡ length (bits_of mask) }
+    requires room { count (bits_of mask) ≤ 8 * length out.old }
+    ensures count { result ≡ count (bits_of mask.entry) }
+    ensures kept { Writes out.old out.new 0 (kept_by (bits_of mask.entry) (bits_of values.entry)) }
+{
+    let total = mask.len();
+    let whole = total / 64;
+    let mut pending = 0;
+    let mut len = 0;
+    for t in 0..whole {
+        let (packed, added) = kept_digits(values, mask, 64 * t, 64);
+        pending = push_digits(out, pending, len, packed, added);
+        len += added;
+    }
+    let (packed, added) = kept_digits(values, mask, 64 * whole, total % 64);
+    pending = push_digits(out, pending, len, packed, added);
+    len += added;
+    write_pending(out, pending, len);
+    len
+}
 
-    // the last are those of the first whose bit in the mask is true
-    ghost keeps: { Self → List Bool → Self → Type 0 };
-
-    /// The values whose bit in the mask is true, in order, as a copy: a buffer of the alignment
-    /// that this one reports, or a set of offset 0 whose bytes are as few as hold its bits.
-    ///
-    /// Refused by `LengthMismatch`, with both lengths, exactly where the mask is longer or shorter
-    /// than the values, before memory is asked for; else by `OutOfMemory` alone. Memory comes from
-    /// the allocator of this buffer or set: by one request for the values that are kept, if any,
-    /// and by one for the count of owners.
-    ///
-    /// The time is linear in the length of the mask and the number of values that are kept. The
-    /// items of a buffer are copied as a block where 64 bits of the mask, from a multiple of 64 on,
-    /// are all true.
-    fn filtered(&self, mask: BitBufferView<'_>) -> Result<Self>
-        ensures { GivesFiltered (len self.now) (length (bits_of mask.entry))
-            (keeps self.now (bits_of mask.entry)) result };
+/// Those of the `n` bits from place `start` on that the mask keeps, as digits of a word, and how
+/// many they are.
+#[inline(always)]
+fn kept_digits(
+    values: BitBufferView<'_>,
+    mask: BitBufferView<'_>,
+    start: usize,
+    n: usize,
+) -> (u64, usize)
+    requires few { n ≤ 64 }
+    requires inside { start + n ≤ length (bits_of mask) }
+    requires same_len { length (bits_of values) ≡ length (bits_of mask) }
+    ensures count { result.1 ≡ count (slice_range (bits_of mask.entry) start (start + n)) }
+    ensures few { result.1 ≤ 64 }
+    ensures kept { digits result.0 0 result.1 ≡ kept_by
+        (slice_range (bits_of mask.entry) start (start + n))
+        (slice_range (bits_of values.entry) start (start + n)) }
+    ensures clear { result.0 < 2 ^ result.1 }
+{
+    let keep = view_word(mask, start, n);
+    if keep == 0 {
+        return (0, 0);
+    }
+    let packed = pack_digits(view_word(values, start, n), keep);
+    (packed, keep.count_ones() as usize)
 }

@@ -1,15 +1,13 @@
-//! Values filtered by a mask, those whose bit is true, in order; and values taken at indices.
+//! Bits and values that a mask keeps, in order, over slices.
+//!
+//! Lengths and places are counted in bits, or in values. No call takes memory.
 #![tactic(auto)]
 
-mod bits;
 mod digits;
 mod filter;
-mod gather;
+mod filter_values;
+mod kept;
 mod pending;
-mod take;
-mod values;
 
-pub use bits::filter_into;
-pub use filter::Filter;
-pub use gather::filter_values_into;
-pub use take::{Take, take_values_into};
+pub use filter::filter_into;
+pub use filter_values::filter_values_into;

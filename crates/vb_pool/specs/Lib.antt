@@ -6,4 +6,5 @@ pub use Rattle.vb_command.specs.Views
 pub use Rattle.vb_bits.specs.Bits
 pub use Rattle.vb_bits.specs.Edits
 pub use Rattle.vb_bits.specs.Runs
-pub use Rattle.vb_set.specs.Takes
+pub use Rattle.vb_bits.specs.Marks
+pub use Rattle.vb_take.specs.Takes

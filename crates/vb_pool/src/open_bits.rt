@@ -7,7 +7,7 @@ ghost use Rattle.vb_bits.specs.InBytes.{InBytes};
 ghost use Rattle.vb_command.specs.Machine.{all_below};
 ghost use Rattle.vb_pool.specs.OpenBits.{LimitsLength};
 ghost use Rattle.vb_set.specs.Makes.{Makes};
-ghost use Rattle.vb_set.specs.Takes.{with_true};
+ghost use Rattle.vb_bits.specs.Marks.{with_true};
 
 use std::alloc::Allocator;
 use std::marker::Model;

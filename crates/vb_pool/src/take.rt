@@ -4,7 +4,7 @@ ghost use Rattle.std.specs.Option.{option_map};
 ghost use Rattle.vb_command.specs.Machine.{Outcome, is_as_long, validity_at};
 ghost use Rattle.vb_command.specs.Machine as machine;
 ghost use Rattle.vb_pool.specs.Answered.{GivesHeld, reply_of};
-ghost use Rattle.vb_set.specs.Takes.{IsTaken, TakeRefused};
+ghost use Rattle.vb_take.specs.Takes.{IsTaken, TakeRefused};
 ghost use Rattle.vb_set.specs.View.{bits_of};
 
 use crate::pool::Pool;
@@ -12,7 +12,8 @@ use crate::refused::refusal_of;
 use crate::slot::Slot;
 use std::alloc::Allocator;
 use vb_command::{Answer, Refusal};
-use vb_set::{BitBuffer, BitBufferView, Result, take_bits};
+use vb_gather::take_bits;
+use vb_set::{BitBuffer, BitBufferView, Result};
 
 impl<A: Allocator + Clone> Pool<A> {
     /// Puts the bits of the frozen set in slot `k` at these indices in slot `t`, which has to be

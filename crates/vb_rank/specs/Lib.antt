@@ -1,10 +1,7 @@
-pub mod Fills
-pub mod Groups
 pub mod Tables
 pub use Rattle.vb_bits.specs.InBytes
 pub use Rattle.vb_bits.specs.Bits
+pub use Rattle.vb_bits.specs.Fills
 pub use Rattle.vb_kernel.specs.Looks
 pub use Rattle.vb_kernel.specs.Searches
-pub use Rattle.vb_bits.specs.Writes
-pub use Rattle.vb_set.specs.OpenSet
-pub use Rattle.vb_set.specs.View
+pub use Rattle.vb_view.specs.View

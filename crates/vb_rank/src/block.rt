@@ -12,7 +12,7 @@ use crate::level::Level;
 /// The counts are those of blocks of `width` bits, or of groups of them. Each probe halves those
 /// that are left, by moves in place of branches: how many turns there are depends on the number of
 /// counts alone. Count 0 is not read, since it is 0.
-pub(crate) fn find_block<S, L: Level<S>>(
+pub fn find_block<S, L: Level<S>>(
     source: &mut S,
     level: &L,
     size: usize,

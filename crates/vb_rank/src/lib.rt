@@ -1,30 +1,27 @@
-//! A directory of counts above a set of bits: ranks, and places of ranks, by few looks at the bits.
+//! Ranks, and places of ranks, over a table of counts: by few looks at the bits and few probes of
+//! the table.
 //!
-//! The bits are cut into blocks of 512. The directory is a table that has, for each block, how many
-//! true bits are before it: one number for 64 bytes of bits. [`Ranked`] is a set with these counts,
-//! which every edit keeps exact, and has them by groups, so that an edit moves few of them;
-//! [`table_of`] makes a table, and [`rank_by`], [`select_by`] and
-//! [`select_unset_by`] answer by any [`Probe`] of one and any `Glance` at the bits.
+//! The bits are cut into blocks of 512. A table has, for each block, how many true bits are before
+//! it: one number for 64 bytes of bits. [`table_of`] makes one, and [`rank_by`], [`select_by`] and
+//! [`select_unset_by`] answer by any [`Probe`] of one and any `Glance` at the bits. [`find_block`],
+//! [`rank_from`] and [`select_from`] are their parts, for counts that are kept in another way.
 //!
 //! Lengths and places are counted in bits.
 #![tactic(auto)]
 
 mod block;
 mod count;
-mod group;
-mod groups;
 mod level;
 mod probe;
 mod rank;
-mod ranked;
 mod select;
 mod size;
 mod table;
-#[cfg(test)]
-mod tests;
 
+pub use block::find_block;
+pub use level::Level;
 pub use probe::{PlainTable, Probe, TallyTable};
-pub use rank::rank_by;
-pub use ranked::Ranked;
-pub use select::{select_by, select_unset_by};
+pub use rank::{rank_by, rank_from};
+pub use select::{select_by, select_from, select_unset_by};
+pub use size::BLOCK_BITS;
 pub use table::{table_of, write_block_counts};

@@ -46,7 +46,7 @@ pub fn rank_by<G: Glance, T: Probe>(
 /// How many of the `i` bits from bit `offset` on are true, by how many of them are before the block
 /// of the last one.
 #[inline(always)]
-pub(crate) fn rank_from<G: Glance>(
+pub fn rank_from<G: Glance>(
     src: &mut G,
     offset: usize,
     block: usize,

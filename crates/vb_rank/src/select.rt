@@ -103,7 +103,7 @@ fn select_value_by<G: Glance, T: Probe>(
 
 /// The place of the `n`-th bit of the window that is `value`, by the block in which it lies and how
 /// many such bits are before the block.
-pub(crate) fn select_from<G: Glance>(
+pub fn select_from<G: Glance>(
     src: &mut G,
     offset: usize,
     len: usize,

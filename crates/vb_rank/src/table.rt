@@ -2,14 +2,15 @@
 ghost use Rattle.std.specs.Prelude.{◌≡◌, length, IfOk, IsOkUnless};
 ghost use Rattle.vb_bits.specs.Bits.{bits};
 ghost use Rattle.vb_bits.specs.InBytes.{InBytes};
-ghost use Rattle.vb_rank.specs.Fills.{Fills};
+ghost use Rattle.vb_bits.specs.Fills.{Fills};
 ghost use Rattle.vb_rank.specs.Tables.{block_counts, blocks};
-ghost use Rattle.vb_set.specs.View.{bits_of};
+ghost use Rattle.vb_view.specs.View.{bits_of};
 
 use crate::size::BLOCK_BITS;
 use std::alloc::Allocator;
+use vb_core::{BufferError, Result};
 use vb_kernel::count_ones;
-use vb_set::{BitBufferView, BufferError, Result};
+use vb_view::BitBufferView;
 
 /// For each block of 512 bits, how many true bits are before it.
 ///

@@ -7,7 +7,7 @@ use Rattle.std.proofs.lemmas.Iterator.Consumers.{YieldsList-turn, YieldsList-end
 use Rattle.std.proofs.lemmas.List.Elements.{All-get_or}
 use Rattle.std.specs.Iterator.{Drains}
 use Rattle.std.specs.Prelude.{All}
-use Rattle.vb_take.specs.Takes.{FirstNotBelow}
+use Rattle.vb_bits.specs.Marks.{FirstNotBelow}
 
 module _ {S : Type 0} {steps : S → Option ℕ → S → Type 0} {s : S} {all : List ℕ}
     (road : YieldsList steps (λ x. x) s all) where

@@ -4,10 +4,12 @@ pub use Rattle.vb_bit_buffer.specs.Gives
 pub use Rattle.vb_bit_buffer.specs.SharedSet
 pub use Rattle.vb_bit_bytes.specs.AskedOf
 pub use Rattle.vb_bit_bytes.specs.Given
+pub use Rattle.vb_bit_bytes.specs.Indices
 pub use Rattle.vb_bits.specs.Bits
 pub use Rattle.vb_bits.specs.Digits
 pub use Rattle.vb_bits.specs.Edits
 pub use Rattle.vb_bits.specs.InBytes
+pub use Rattle.vb_bits.specs.Marks
 pub use Rattle.vb_bits.specs.Operators
 pub use Rattle.vb_bits.specs.Runs
 pub use Rattle.vb_bits.specs.Shown
@@ -17,7 +19,6 @@ pub use Rattle.vb_mem.specs.Collected
 pub use Rattle.vb_mem.specs.OpenBuffer
 pub use Rattle.vb_mem.specs.SharedBuffer
 pub use Rattle.vb_pack.specs.Asked
-pub use Rattle.vb_take.specs.Takes
 pub use Rattle.vb_view.specs.MutView
 pub use Rattle.vb_view.specs.View
 pub use Rattle.vb_view.specs.Windows

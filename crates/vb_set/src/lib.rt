@@ -11,7 +11,7 @@ mod try_into_mut;
 
 pub use bit_buffer_mut::BitBufferMut;
 pub use try_into_mut::TryIntoMut;
-pub use vb_bit_buffer::{BitBuffer, ToBitBuffer, take_bits};
+pub use vb_bit_buffer::{BitBuffer, ToBitBuffer};
 pub use vb_bits::{BitOp, window_fits};
 pub use vb_core::{BitIndex, BufferError, Result};
 pub use vb_mem::{ByteBuffer, ByteBufferMut};

@@ -8,7 +8,8 @@ use crate::made::window;
 use crate::makers::{cloned, edited, frozen, opened};
 use std::alloc::{Allocator, Global};
 use std::process::Abort;
-use vb_set::{BitBuffer, BitBufferMut, BufferError, Result, ToBitBuffer, TryIntoMut, take_bits};
+use vb_gather::take_bits;
+use vb_set::{BitBuffer, BitBufferMut, BufferError, Result, ToBitBuffer, TryIntoMut};
 use vb_testing::{Handle, Refusing};
 
 /// Nine true bits of three bytes.

@@ -1,14 +1,12 @@
--- Bits taken at indices, and bits made true at places.
+-- Bits taken at indices.
 use Rattle.std.specs.Prelude.{◌≡◌, ℕ, ℤ, negsuc, ◌<◌, ◌⊎◌, Bool, true, false, List, length}
 use Rattle.std.specs.Prelude.{slice_get, slice_index_or, Option, Some, None, IsSome}
 use Rattle.std.specs.Prelude.{if◌then◌else◌}
 use Rattle.std.specs.Option.{option_and_then}
 use Rattle.vb_bits.specs.Bits.{at}
-pub use Rattle.vb_bits.specs.Marks.{with_true, GivesBelow, FirstNotBelow}
 use Rattle.vb_core.specs.Indices.{place_of}
 use Rattle.vb_core.specs.declared.error.BufferError.{BufferError}
-use Rattle.vb_core.specs.declared.error.BufferError.TheVariants.{OutOfMemory, IndexOutOfRange}
-use Rattle.vb_core.specs.declared.error.BufferError.TheVariants.{TakeOutOfRange}
+use Rattle.vb_core.specs.declared.error.BufferError.TheVariants.{OutOfMemory, TakeOutOfRange}
 
 -- position i counts: where there is a validity, its value there is true
 abbrev pub is_valid : Option (List Bool) → ℕ → Bool
@@ -37,15 +35,6 @@ pub record IsFirstPast (l : List Bool) (indices : List ℤ) (validity : Option (
   pub within : p < length indices
   pub past : taken_at l indices validity p ≡ None
   pub before : (i : ℕ) → i < p → IsSome (taken_at l indices validity i)
-
--- why a set isn't made of what an iterator gives: want of memory, or the first number that isn't
--- below n
-abbrev pub IndexRefused : {U S : Type 0} → (U → S → Type 0) → (S → Option ℕ → S → Type 0)
-    → ℕ → U → BufferError → Type 0
-IndexRefused {S = S} becomes steps n source e =
-    (e ≡ OutOfMemory)
-    ⊎ ((s : S) × (index : ℕ) × becomes source s × (e ≡ IndexOutOfRange index n)
-    × FirstNotBelow steps n s index)
 
 -- why bits aren't taken: want of memory, or the first position that takes nothing
 abbrev pub TakeRefused : List Bool → List ℤ → Option (List Bool) → BufferError → Type 0

@@ -10,7 +10,8 @@ ghost use Rattle.vb_take.specs.Blocks.{TakenTo};
 ghost use Rattle.vb_take.specs.Takes.{is_valid, value_at, IsTaken, IsFirstPast};
 
 use crate::block::{narrow_block, take_block};
-use vb_bits::{full_word, set_bit_to, write_word};
+use crate::valid::{is_valid, valid_word};
+use vb_bits::{set_bit_to, write_word};
 use vb_core::BitIndex;
 use vb_view::BitBufferView;
 
@@ -130,39 +131,4 @@ fn value_at<I: BitIndex>(bits: BitBufferView<'_>, index: I) -> Option<bool>
     } else {
         None
     }
-}
-
-/// Whether position `i` counts.
-fn is_valid(validity: Option<BitBufferView<'_>>, i: usize) -> bool
-    requires { ForSome validity (λ v. i < length (bits_of v)) }
-    ensures { result ≡ is_valid (option_map bits_of validity.entry) i }
-{
-    match validity {
-        Some(bits) => bits.value(i),
-        None => true,
-    }
-}
-
-/// Which of the 64 positions from `at` on count, as digits of a word.
-#[inline(always)]
-fn valid_word(validity: Option<BitBufferView<'_>>, at: usize) -> u64
-    requires { ForSome validity (λ v. at + 64 ≤ length (bits_of v)) }
-    ensures { (k : ℕ) → k < 64 → has_bit result k
-        ≡ is_valid (option_map bits_of validity.entry) (at + k) }
-{
-    match validity {
-        Some(bits) => view_word(bits, at),
-        None => u64::MAX,
-    }
-}
-
-/// The 64 bits from place `start` on, as digits of a word.
-#[inline(always)]
-#[tactic(auto, using(vb_bits::proofs::WindowLemmas::windows))]
-fn view_word(bits: BitBufferView<'_>, start: usize) -> u64
-    requires { start + 64 ≤ length (bits_of bits) }
-    ensures { (k : ℕ) → k < 64 → has_bit result k ≡ at (bits_of bits.entry) (start + k) }
-{
-    let place = bits.offset() + start;
-    full_word(bits.inner(), place / 8, place % 8)
 }

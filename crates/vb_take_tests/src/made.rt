@@ -3,7 +3,8 @@
 use crate::compared::holds;
 use std::alloc::Allocator;
 use std::process::Abort;
-use vb_set::{BitBuffer, BitBufferMut, BitBufferView, BitIndex, BufferError, Result, take_bits};
+use vb_gather::take_bits;
+use vb_set::{BitBuffer, BitBufferMut, BitBufferView, BitIndex, BufferError, Result};
 
 /// A set of these bits, `1` for a true one, behind three bits that are left out.
 pub(crate) fn bits<A: Allocator + Clone>(rt: &impl Abort, alloc: A, digits: &str) -> BitBuffer<A> {

@@ -10,6 +10,7 @@ mod meta;
 mod mut_view;
 mod shown;
 mod view;
+mod word;
 
 pub use meta::BitBufferMeta;
 pub use mut_view::{BitBufferMutView, BitStore};
@@ -18,3 +19,4 @@ pub use vb_walk::{
     PaddedChunkIterator, UnalignedBitChunk, UnalignedBitChunkIterator,
 };
 pub use view::BitBufferView;
+pub use word::view_word;

@@ -2,6 +2,7 @@
 use Rattle.std.proofs.Common.{◌≡◌, inl, inr, ℕ, suc, ◌+◌, ◌-◌, ◌*◌, ◌/◌, ◌%◌, ◌^◌, ◌<◌, ◌≤◌, eqb}
 use Rattle.std.proofs.Common.{refl, sym, ap, ◌∙◌, arith}
 use Rattle.std.proofs.Math.Nat.{pow-suc}
+use Rattle.std.proofs.Math.Pow.{pow_mono}
 use Rattle.std.proofs.lemmas.Bool.{cases_lt}
 use Rattle.std.proofs.lemmas.Nat.{pow_pos, mod_below, shr_split, and_le_l, and_le_r, or_lt}
 use Rattle.std.proofs.lemmas.Nat.Bits.{bit_at_and, bit_at_or, bit_at_ones, bit_at-zero, bit_at-lt}
@@ -210,4 +211,17 @@ CutsOnes-run w z some fits e =
           omega (arith, ap (bit_and w) z, and_le_r w 0) in
           let all : z ≡ 64 = e ∙ ap (trailing_ones w64) full ∙ ones_of_full in
           rw (none, all) (run_to_end w some fits full)
+    ]
+
+-- the place of the lowest 1 of a number of n digits
+pub lowest_below : (n w : ℕ) → 0 < w → w < 2 ^ n → n ≤ 64 → trailing_zeros w64 w < n
+lowest_below n w some clear few =
+    let more : 2 ^ n ≤ 2 ^ 64 = pow_mono few in
+    let z = bit_at-trailing_zeros w64 w some (omega arith) in
+    elim (cases_lt (trailing_zeros w64 w) n) [
+      | inl below ↦ below
+      | inr above ↦
+          let none : bit_at w (trailing_zeros w64 w) ≡ 0 =
+          bit_at_above w n (trailing_zeros w64 w) clear above in
+          absurd (omega (arith, z.1))
     ]

@@ -6,11 +6,13 @@ pub use Rattle.vb_bit_buffer.specs.SharedSet
 pub use Rattle.vb_bit_buffer.specs.Stops
 pub use Rattle.vb_bit_bytes.specs.AskedOf
 pub use Rattle.vb_bit_bytes.specs.Given
+pub use Rattle.vb_bit_bytes.specs.Indices
 pub use Rattle.vb_bits.specs.Bits
 pub use Rattle.vb_bits.specs.Digits
 pub use Rattle.vb_bits.specs.Edits
 pub use Rattle.vb_bits.specs.InBytes
 pub use Rattle.vb_bits.specs.Kept
+pub use Rattle.vb_bits.specs.Marks
 pub use Rattle.vb_bits.specs.Operators
 pub use Rattle.vb_bits.specs.Runs
 pub use Rattle.vb_bits.specs.Shown
@@ -23,8 +25,8 @@ pub use Rattle.vb_core.specs.ExactCounts
 pub use Rattle.vb_core.specs.Indices
 pub use Rattle.vb_core.specs.Lengths
 pub use Rattle.vb_core.specs.LittleEndian
-pub use Rattle.vb_filter.specs.Filtered
-pub use Rattle.vb_filter.specs.ItemsTaken
+pub use Rattle.vb_gather.specs.Filtered
+pub use Rattle.vb_gather.specs.TakenItems
 pub use Rattle.vb_kernel.specs.Looks
 pub use Rattle.vb_kernel.specs.Searches
 pub use Rattle.vb_mem.specs.Makes
@@ -37,6 +39,7 @@ pub use Rattle.vb_pack.specs.WordBits
 pub use Rattle.vb_rank.specs.Tables
 pub use Rattle.vb_set.specs.Lends
 pub use Rattle.vb_set.specs.OpenSet
+pub use Rattle.vb_take.specs.ItemsTaken
 pub use Rattle.vb_take.specs.Takes
 pub use Rattle.vb_view.specs.MutView
 pub use Rattle.vb_view.specs.View

@@ -19,7 +19,8 @@ pub use vb_core::{
     Alignment, BitIndex, BufferError, Element, ExtendError, TrustedLen, TrustedLenAdapter,
     trusted_len,
 };
-pub use vb_filter::{Filter, Take, filter_into, filter_values_into, take_values_into};
+pub use vb_filter::{filter_into, filter_values_into};
+pub use vb_gather::{Filter, Take, take_bits};
 pub use vb_kernel::{
     BitOp, Glance, Plain, Tally, bit_select, bit_select_by, bit_select_unset, bit_select_unset_by,
     copy_bits, count_ones, count_ones_by, equal_bits, fill_bits, get_bit, get_bit_unchecked,
@@ -32,11 +33,10 @@ pub use vb_pack::{
     collect_bool_words_multiversioned, map_bool_bytes, pack_bool_word_lanes, pack_bool_word_swar,
     pack_bools, pack_bools_into_words, pack_truthy, splice_word_at_bit,
 };
-pub use vb_rank::{
-    PlainTable, Probe, Ranked, TallyTable, rank_by, select_by, select_unset_by, table_of,
-};
-pub use vb_set::{BitBuffer, BitBufferMut, ToBitBuffer, TryIntoMut, take_bits};
-pub use vb_take::{set_bits_at, take_into};
+pub use vb_rank::{PlainTable, Probe, TallyTable, rank_by, select_by, select_unset_by, table_of};
+pub use vb_ranked::Ranked;
+pub use vb_set::{BitBuffer, BitBufferMut, ToBitBuffer, TryIntoMut};
+pub use vb_take::{set_bits_at, take_into, take_values_into};
 pub use vb_view::{BitBufferMeta, BitBufferMutView, BitBufferView, BitStore};
 pub use vb_walk::{
     BitChunkIterator, BitChunks, BitIndexIterator, BitIterator, BitSliceIterator,

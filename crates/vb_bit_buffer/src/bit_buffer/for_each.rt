@@ -12,7 +12,7 @@ ghost use Rattle.vb_pack.specs.Asked.{CanAsk, span};
 
 use super::BitBuffer;
 use std::alloc::Allocator;
-use vb_bits::{digit, full_word, low_digits, read_bits};
+use vb_bits::{digit, low_digits, read_bits, read_word};
 use vb_walk::{first_other, others};
 
 #[tactic(auto, using(crate::proofs::SetLemmas::sets))]
@@ -220,19 +220,5 @@ fn bits_in_word<F: FnMut(usize, bool)>(
     let word = read_word(bytes, offset + base, len);
     for i in 0..len {
         f(base + i, digit(word, i));
-    }
-}
-
-/// [`read_bits`], of which 64 are a [`full_word`].
-#[inline(always)]
-fn read_word(bytes: &[u8], at: usize, count: usize) -> u64
-    requires in_word { count ≤ 64 }
-    requires inside { at + count ≤ 8 * length bytes.now }
-    ensures { digits result 0 count ≡ bits bytes.now at count }
-{
-    if count == 64 {
-        full_word(bytes, at / 8, at % 8)
-    } else {
-        read_bits(bytes, at, count)
     }
 }

@@ -1,5 +1,5 @@
 //! Growth at the end: of single items, of slices, and of what iterators give.
-ghost use Rattle.std.specs.Prelude.{◌≡◌, ◌≢◌, ◌+◌, ◌≤◌, List, [], ◌∷◌, length, replicate};
+ghost use Rattle.std.specs.Prelude.{◌≡◌, ◌≢◌, ◌+◌, ◌≤◌, List, [], ◌∷◌, length, max, replicate};
 ghost use Rattle.std.specs.Prelude.{OnOk, OnErr, IsOk, IsOkUnless, IfSome};
 ghost use Rattle.std.specs.Iterator.{Drains, ExtendsWithItems, HoldsAlong};
 ghost use Rattle.std.specs.Iterator.{IsFinite, IsFiniteIterable};
@@ -20,6 +20,19 @@ impl<T: Element, A: Allocator> BufferMut<T, A> {
         ensures needs_room { NeedsRoom additional result self.old self.new }
     {
         self.items.reserve(additional)?;
+        Ok(())
+    }
+
+    /// [`reserve`](Self::reserve) of no more than that: where the capacity grows, it becomes the
+    /// length and so many more.
+    pub fn reserve_exact(&mut self, additional: usize) -> Result<()>
+        ensures ok { OnOk result (Lengthens [] self.old self.new) }
+        ensures room { OnOk result (HasRoom self.new additional) }
+        ensures exact { OnOk result (self.new.room
+            ≡ max self.old.room (length self.old.list + additional)) }
+        ensures needs_room { NeedsRoom additional result self.old self.new }
+    {
+        self.items.reserve_exact(additional)?;
         Ok(())
     }
 

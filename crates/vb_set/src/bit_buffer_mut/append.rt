@@ -1,11 +1,12 @@
 //! Room, and bits added at the end.
-ghost use Rattle.std.specs.Prelude.{◌≡◌, ◌+◌, ◌≤◌, ◌∷◌, [], length, replicate, true, false, OnOk};
+ghost use Rattle.std.specs.Prelude.{◌≡◌, ◌+◌, ◌≤◌, ◌∷◌, [], length, max, replicate, true, false};
+ghost use Rattle.std.specs.Prelude.{OnOk};
 ghost use Rattle.vb_set.specs.OpenSet.{AddsBits, KeepsStart, NeedsBits};
 
 use super::BitBufferMut;
 use std::alloc::Allocator;
 use vb_bit_buffer::BitBuffer;
-use vb_bit_bytes::{push_bit, push_bits, push_window, reserve_to};
+use vb_bit_bytes::{push_bit, push_bits, push_window, reserve_exactly_to, reserve_to};
 use vb_core::{BufferError, Result};
 
 #[tactic(auto, using(vb_bit_bytes::proofs::BytesLemmas::edits))]
@@ -25,6 +26,22 @@ impl<A: Allocator + Clone> BitBufferMut<A> {
             return Err(BufferError::TooManyBits);
         };
         reserve_to(&mut self.buffer, end)
+    }
+
+    /// [`reserve`](Self::reserve) of no more than that: where the room grows, it becomes the length
+    /// and `n` more, rounded up to whole bytes.
+    pub fn reserve_exact(&mut self, n: usize) -> Result<()>
+        ensures keeps { self.new ≡ record self.old { room = self.new.room } }
+        ensures room { OnOk result (length self.old.bits + n ≤ self.new.room) }
+        ensures exact { OnOk result (self.new.room
+            ≤ max self.old.room (length self.old.bits + n + 7)) }
+        ensures grows { self.old.room ≤ self.new.room }
+        ensures needs { NeedsBits n result self.old self.new }
+    {
+        let Some(end) = (self.offset + self.len).checked_add(n) else {
+            return Err(BufferError::TooManyBits);
+        };
+        reserve_exactly_to(&mut self.buffer, end)
     }
 
     /// Adds one bit, in amortized constant time.

@@ -1,6 +1,6 @@
 use Rattle.std.proofs.Common.{◌<◌, ◌++◌, ◌∷◌, [], length, sym, ap, ◌∙◌, arith}
 use Rattle.std.proofs.lemmas.List.{append_assoc, length-append, length-set}
-use Rattle.vb_rank.proofs.FillsLemmas.{set_next}
+use Rattle.vb_bits.proofs.FillsLemmas.{set_next}
 use Rattle.vb_c.proofs.walk.vb_set_indices.Goals as goal
 
 pub loop-place-preserved : goal.loop-place-preserved

@@ -1,7 +1,7 @@
 use Rattle.std.proofs.Common.{◌+◌, ◌<◌, ◌++◌, ◌∷◌, [], length, sym, ap, ◌∙◌, arith, map, drop}
 use Rattle.std.proofs.lemmas.List.{append_assoc, length-append, length-set, length-map, map_push}
 use Rattle.vb_c.specs.Filled.{run_of}
-use Rattle.vb_rank.proofs.FillsLemmas.{set_next}
+use Rattle.vb_bits.proofs.FillsLemmas.{set_next}
 use Rattle.vb_c.proofs.walk.vb_set_slices.Goals as goal
 
 pub loop-run-preserved : goal.loop-run-preserved

@@ -9,7 +9,7 @@ use Rattle.vb_rank.specs.Tables.{block_counts, blocks}
 use Rattle.vb_rank.proofs.TablesLemmas.{length-block_counts, length-block_counts-bits}
 use Rattle.vb_rank.proofs.TablesLemmas.{at-block_counts}
 use Rattle.vb_rank.proofs.EditsLemmas.{count-take_block}
-use Rattle.vb_rank.proofs.FillsLemmas.{set_next}
+use Rattle.vb_bits.proofs.FillsLemmas.{set_next}
 use Rattle.vb_rank.proofs.table.write_block_counts.Goals as goal
 
 -- the count of the fronts before and after a block, by the bits of the block

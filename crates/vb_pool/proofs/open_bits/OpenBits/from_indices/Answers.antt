@@ -3,7 +3,7 @@ use Rattle.std.proofs.lemmas.Iterator.{YieldsList-from_slice}
 use Rattle.std.proofs.lemmas.Iterator.Consumers.{YieldsList-at, YieldsList-from_copied}
 use Rattle.vb_set.specs.declared.BufferError.TheVariants.{OutOfMemory}
 use Rattle.vb_set.proofs.IndicesLemmas.{items_are, none_past}
-use Rattle.vb_set.specs.Takes.{with_true}
+use Rattle.vb_bits.specs.Marks.{with_true}
 use Rattle.vb_pool.proofs.Takes.{below_all}
 use Rattle.vb_pool.proofs.open_bits.OpenBits.from_indices.Goals as goal
 

@@ -1,0 +1,68 @@
+//! The values of a slice that a mask keeps, written into another slice.
+ghost use Rattle.std.specs.Prelude.{◌≡◌, ◌+◌, ◌^◌, ◌<◌, ◌≤◌, ◌++◌, count_ones, length, drop};
+ghost use Rattle.vb_bits.specs.Bits.{count};
+ghost use Rattle.vb_bits.specs.Digits.{digits};
+ghost use Rattle.vb_bits.specs.Kept.{kept_by};
+ghost use Rattle.vb_filter.specs.Gathered.{PutsAt};
+ghost use Rattle.vb_view.specs.View.{bits_of};
+
+use vb_view::{BitBufferView, view_word};
+
+/// Writes the values whose bit in the mask is true, in order, to the front of `out`, and answers
+/// how many they are. The other items of `out` stay.
+///
+/// The mask has to be as long as the values, and `out` to have room for those that it keeps. It
+/// goes by 64 bits: where all of them are true their values are copied as a block, else each value
+/// that is kept by itself, and the others aren't looked at.
+pub fn filter_values_into<T: Copy>(out: &mut [T], values: &[T], mask: BitBufferView<'_>) -> usize
+    requires same_len { length values.now ≡ length (bits_of mask) }
+    requires room { count (bits_of mask) ≤ length out.old }
+    ensures count { result ≡ count (bits_of mask.entry) }
+    ensures kept { out.new ≡ kept_by (bits_of mask.entry) values.now ++ drop result out.old }
+{
+    let mut len = 0;
+    for t in 0..mask.len().div_ceil(64) {
+        let n = (mask.len() - 64 * t).min(64);
+        let keep = view_word(mask, 64 * t, n);
+        len += put_word(out, len, &values[64 * t..64 * t + n], keep);
+    }
+    len
+}
+
+/// Writes the values whose digit of `keep` is 1 behind the first `len` items of `out`, and answers
+/// how many they are.
+#[inline(always)]
+fn put_word<T: Copy>(out: &mut [T], len: usize, values: &[T], keep: u64) -> usize
+    requires few { length values.now ≤ 64 }
+    requires clear { keep < 2 ^ length values.now }
+    requires room { len + count_ones keep ≤ length out.old }
+    ensures count { result ≡ count_ones keep }
+    ensures kept { PutsAt len (kept_by (digits keep 0 (length values.now)) values.now)
+        out.old out.new }
+{
+    let count = keep.count_ones() as usize;
+    if count == values.len() {
+        out[len..len + count].copy_from_slice(values);
+    } else {
+        put_places(out, len, values, keep);
+    }
+    count
+}
+
+/// Writes the values whose digit of `keep` is 1 behind the first `len` items of `out`, one by one.
+#[inline(always)]
+fn put_places<T: Copy>(out: &mut [T], len: usize, values: &[T], keep: u64)
+    requires few { length values.now ≤ 64 }
+    requires clear { keep < 2 ^ length values.now }
+    requires room { len + count_ones keep ≤ length out.old }
+    ensures { PutsAt len (kept_by (digits keep 0 (length values.now)) values.now) out.old out.new }
+{
+    let mut end = len;
+    let mut left = keep;
+    while left != 0 {
+        let place = left.trailing_zeros() as usize;
+        out[end] = values[place];
+        end += 1;
+        left &= left - 1;
+    }
+}

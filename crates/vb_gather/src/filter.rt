@@ -1,0 +1,89 @@
+//! Sets and buffers of what a mask keeps.
+ghost use Rattle.std.specs.Prelude.{ℕ, Bool, List, length};
+ghost use Rattle.vb_gather.specs.Filtered.{GivesFiltered};
+ghost use Rattle.vb_view.specs.View.{bits_of};
+
+use std::alloc::Allocator;
+use vb_bit_buffer::BitBuffer;
+use vb_core::{BufferError, Element, Result};
+use vb_filter::{filter_into, filter_values_into};
+use vb_mem::{Buffer, BufferMut};
+use vb_view::BitBufferView;
+
+/// Values of which a mask can keep some.
+pub trait Filter: Sized {
+    // how many there are
+    ghost len: { Self → ℕ };
+
+    // the last are those of the first whose bit in the mask is true
+    ghost keeps: { Self → List Bool → Self → Type 0 };
+
+    /// The values whose bit in the mask is true, in order, as a copy: a buffer of the alignment
+    /// that this one reports, or a set of offset 0 whose bytes are as few as hold its bits.
+    ///
+    /// Refused by `LengthMismatch`, with both lengths, exactly where the mask is longer or shorter
+    /// than the values, before memory is asked for; else by `OutOfMemory` alone. Memory comes from
+    /// the allocator of this buffer or set: by one request for the values that are kept, if any,
+    /// and by one for the count of owners.
+    ///
+    /// The time is linear in the length of the mask and the number of values that are kept. The
+    /// items of a buffer are copied as a block where 64 bits of the mask, from a multiple of 64 on,
+    /// are all true.
+    fn filtered(&self, mask: BitBufferView<'_>) -> Result<Self>
+        ensures { GivesFiltered (len self.now) (length (bits_of mask.entry))
+            (keeps self.now (bits_of mask.entry)) result };
+}
+
+#[tactic(auto, using(vb_bits::proofs::WindowLemmas::windows))]
+impl<A: Allocator + Clone> Filter for BitBuffer<A> {
+    ghost use Rattle.std.specs.Prelude.{length};
+    ghost use Rattle.vb_gather.specs.Filtered.{KeepsBits};
+
+    ghost len = { λ s. length s.bits };
+
+    ghost keeps = { λ s mask k. KeepsBits mask s.bits k };
+
+    fn filtered(&self, mask: BitBufferView<'_>) -> Result<Self> {
+        if self.len() != mask.len() {
+            return Err(BufferError::LengthMismatch {
+                left: self.len(),
+                right: mask.len(),
+            });
+        }
+        let count = mask.true_count();
+        let byte_len = count.div_ceil(8);
+        let mut bytes = BufferMut::with_capacity(self.inner().allocator().clone()?, byte_len)?;
+        bytes.push_n_unchecked(0, byte_len);
+        filter_into(bytes.as_mut_slice(), self.as_view(), mask);
+        Ok(BitBuffer::new(bytes.freeze()?, count))
+    }
+}
+
+impl<T: Element, A: Allocator + Clone> Filter for Buffer<T, A> {
+    ghost use Rattle.std.specs.Prelude.{length};
+    ghost use Rattle.vb_bits.specs.Kept.{kept_by};
+    ghost use Rattle.vb_mem.specs.SharedBuffer.{ShowsMade};
+
+    ghost len = { λ b. length b.list };
+
+    ghost keeps = { λ b mask k. ShowsMade (kept_by mask b.list) b.alignment k };
+
+    fn filtered(&self, mask: BitBufferView<'_>) -> Result<Self> {
+        let items = self.as_slice();
+        if items.len() != mask.len() {
+            return Err(BufferError::LengthMismatch {
+                left: items.len(),
+                right: mask.len(),
+            });
+        }
+        let count = mask.true_count();
+        let alignment = self.alignment();
+        let alloc = self.allocator().clone()?;
+        if count == items.len() {
+            return Buffer::copy_from_aligned(alloc, items, alignment);
+        }
+        let mut kept = BufferMut::zeroed_aligned(alloc, count, alignment)?;
+        filter_values_into(kept.as_mut_slice(), items, mask);
+        kept.freeze()
+    }
+}

@@ -1,0 +1,88 @@
+//! Sets and buffers of what stands at indices.
+ghost use Rattle.std.specs.Prelude.{◌≡◌, ℤ, Bool, List, Option, length, map, Result, IfOk, IfErr};
+ghost use Rattle.std.specs.Option.{ForSome, option_map};
+ghost use Rattle.vb_bit_buffer.specs.SharedSet.{IsFreshSet};
+ghost use Rattle.vb_core.specs.declared.error.BufferError.{BufferError};
+ghost use Rattle.vb_take.specs.Takes.{IsTaken, TakeRefused};
+ghost use Rattle.vb_view.specs.View.{bits_of};
+
+use std::alloc::Allocator;
+use vb_bit_buffer::BitBuffer;
+use vb_bit_bytes::full;
+use vb_core::{BitIndex, BufferError, Element, Result};
+use vb_mem::{Buffer, BufferMut};
+use vb_take::{take_into, take_values_into};
+use vb_view::BitBufferView;
+
+/// The bits of `bits` at the indices, one for each index, as a set of offset 0 whose bytes are as
+/// few as hold them.
+///
+/// A `validity`, where there is one, has to be as long as the indices. At a position where it is
+/// false, the new bit is false, and the index doesn't count.
+///
+/// Refused by `TakeOutOfRange` with the first position whose index counts and is negative, or not
+/// below the length of `bits`; or by `OutOfMemory`. Memory comes from `alloc`: for the new bytes
+/// before any index is tested, and for the count of owners after the last one is.
+#[tactic(auto, using(vb_bit_bytes::proofs::BytesLemmas::edits))]
+pub fn take_bits<A: Allocator + Clone, I: BitIndex>(
+    alloc: A,
+    bits: BitBufferView<'_>,
+    indices: &[I],
+    validity: Option<BitBufferView<'_>>,
+) -> Result<BitBuffer<A>>
+    requires { ForSome validity (λ v. length (bits_of v) ≡ length indices.now) }
+    ensures taken { IfOk result (λ s. IsTaken (bits_of bits.entry) (map I.number indices.now)
+        (option_map bits_of validity.entry) s.bits) }
+    ensures len { IfOk result (λ s. length s.bits ≡ length indices.now) }
+    ensures fresh { IfOk result (λ s. IsFreshSet s.bits s) }
+    ensures refused { IfErr result (TakeRefused (bits_of bits.entry) (map I.number indices.now)
+        (option_map bits_of validity.entry)) }
+{
+    let mut bytes = full(alloc, false, indices.len())?;
+    match take_into(bytes.as_mut_slice(), bits, indices, validity) {
+        Ok(()) => Ok(BitBuffer::new(bytes.freeze()?, indices.len())),
+        Err(position) => Err(BufferError::TakeOutOfRange { position }),
+    }
+}
+
+/// Values that can be taken at indices.
+pub trait Take: Sized {
+    // what a take at these indices answers, with a truth value for each where there is a validity
+    ghost takes: { Self → List ℤ → Option (List Bool) → Result Self BufferError → Type 0 };
+
+    /// The values that the indices name, one for each index, in memory of their own: a buffer of
+    /// the alignment that this one reports.
+    ///
+    /// Where there is a `validity`, which has to be as long as the indices, a position counts only
+    /// where it is true: the others give 0, and their indices aren't looked at.
+    ///
+    /// Refused by `TakeOutOfRange` with the first position that counts and whose index names no
+    /// value, or by `OutOfMemory`. It asks for the memory of the new values by one request before
+    /// it looks at an index, and then by another for the count of their owners.
+    fn taken<I: BitIndex>(&self, indices: &[I], validity: Option<BitBufferView<'_>>) -> Result<Self>
+        requires { ForSome validity (λ v. length (bits_of v) ≡ length indices.now) }
+        ensures { takes self.now (map I.number indices.now) (option_map bits_of validity.entry)
+            result };
+}
+
+impl<T: Element, A: Allocator + Clone> Take for Buffer<T, A> {
+    ghost use Rattle.vb_gather.specs.TakenItems.{GivesItemsTaken};
+
+    ghost takes = { λ b indices validity result. GivesItemsTaken T.zero b indices validity result };
+
+    fn taken<I: BitIndex>(
+        &self,
+        indices: &[I],
+        validity: Option<BitBufferView<'_>>,
+    ) -> Result<Self> {
+        let alloc = self.allocator().clone()?;
+        let mut taken = BufferMut::zeroed_aligned(alloc, indices.len(), self.alignment())?;
+        match take_values_into(taken.as_mut_slice(), self.as_slice(), indices, validity) {
+            Ok(()) => taken.freeze(),
+            Err(position) => {
+                drop(taken);
+                Err(BufferError::TakeOutOfRange { position })
+            }
+        }
+    }
+}

@@ -1,0 +1,2 @@
+mod GroupsLemmas
+mod GroupEditsLemmas

@@ -1,0 +1,79 @@
+use Rattle.std.proofs.Common.{◌≡◌, ℕ, List, ◌+◌, ◌-◌, ◌*◌, ◌/◌, min, length, refl, sym, ap}
+use Rattle.std.proofs.Common.{◌∙◌, arith}
+use Rattle.vb_ranked.proofs.GroupsLemmas.{BeginsBefore-group, length_counts_before}
+use Rattle.vb_ranked.proofs.GroupsLemmas.{length_counts_within}
+use Rattle.vb_rank.proofs.TablesLemmas.{digits-of_group-le}
+use Rattle.vb_ranked.specs.declared.group.Group.{Group}
+use Rattle.vb_ranked.specs.Groups.{counts_within}
+use Rattle.vb_rank.specs.Tables.{blocks, binary_digits}
+use Rattle.vb_ranked.proofs.groups.find_in_groups.Goals as goal
+
+pub find_block-block-requires-clause-size : goal.find_block-block-requires-clause-size
+find_block-block-requires-clause-size g c =
+    let gs : List Group = (g.S.ProbeGroups.seen c.args.groups.now).groups in
+    let k : ℕ = c.find_block-group.result.0 in
+    let b : ℕ = c.min-blocks.result in
+    let long : length (counts_within gs k b) ≡ b = length_counts_within gs k b c.requires.whole
+    (omega (arith, c.find_block-group.ensures.within, c.size-size.ensures))
+    (omega (arith, c.min-blocks.ensures)) in
+    sym (ap (λ x. length (counts_within x k b)) c.find_block-group.ensures.same ∙ long)
+
+pub returns-clause-block : goal.returns-clause-block
+returns-clause-block g c = λ l size p up down.
+    let gs : List Group = (g.S.ProbeGroups.seen c.args.groups.now).groups in
+    let k : ℕ = c.find_block-group.result.0 in
+    let b : ℕ = c.min-blocks.result in
+    BeginsBefore-group c.args.value l gs (counts_within gs k b) c.args.n k
+    c.find_block-group.result.1 b
+    c.find_block-block.result.0 c.find_block-block.result.1 p up down
+    c.find_block-group.ensures.block refl
+    (omega (arith, c.min-blocks.ensures, c.div_ceil.ensures, size))
+    (rw c.find_block-group.ensures.same at c.find_block-block.ensures.block)
+
+-- how many the two searches take
+sum : goal.returns-clause-probes
+sum g c =
+    let gs : List Group = (g.S.ProbeGroups.seen c.args.groups.now).groups in
+    let digits : ℕ → ℕ = λ n. binary_digits (n - 1) in
+    let k : ℕ = c.find_block-group.result.0 in
+    let b : ℕ = c.min-blocks.result in
+    let long : length (counts_within gs k b) ≡ b = length_counts_within gs k b c.requires.whole
+    (omega (arith, c.find_block-group.ensures.within, c.size-size.ensures))
+    (omega (arith, c.min-blocks.ensures)) in
+    let j : ℕ = 128 * k + c.find_block-block.result.0 in
+    let part : b ≡ min (blocks c.args.len - 128 * (j / 128)) 128 = omega (
+      arith,
+      c.min-blocks.ensures,
+      c.div_ceil.ensures,
+      c.find_block-block.ensures.within,
+    ) in
+    record {
+      same = c.find_block-block.ensures.same ∙ c.find_block-group.ensures.same;
+      probes = omega (
+        arith,
+        c.find_block-group.ensures.probes.probes,
+        ap digits (length_counts_before gs),
+        c.find_block-block.ensures.probes.probes,
+        ap (λ x. digits (length (counts_within x k b))) c.find_block-group.ensures.same,
+        ap digits long,
+        ap digits part,
+      );
+    }
+
+pub returns-clause-probes : goal.returns-clause-probes
+returns-clause-probes g c = sum g c
+
+pub returns-clause-most : goal.returns-clause-most
+returns-clause-most g c =
+    let gs : List Group = (g.S.ProbeGroups.seen c.args.groups.now).groups in
+    let j : ℕ = 128 * c.find_block-group.result.0 + c.find_block-block.result.0 in
+    let b : ℕ = min (blocks c.args.len - 128 * (j / 128)) 128 in
+    record {
+      same = (sum g c).same;
+      probes = omega (
+        arith,
+        (sum g c).probes,
+        digits-of_group-le c.args.len (length gs) b (omega (arith, c.requires.groups)) (omega arith)
+            (omega arith),
+      );
+    }

@@ -1,0 +1,15 @@
+//! A directory: a set of bits with counts of its true bits, which every edit keeps exact.
+//!
+//! [`Ranked`] answers ranks and places of ranks by few looks at the bits, as `vb_rank` does over a
+//! table, and has its counts by groups, so that an edit moves few of them.
+#![tactic(auto)]
+
+mod group;
+mod groups;
+mod probe_groups;
+mod ranked;
+mod size;
+#[cfg(test)]
+mod tests;
+
+pub use ranked::Ranked;

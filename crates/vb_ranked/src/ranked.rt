@@ -1,0 +1,181 @@
+//! A set of bits with its counts.
+ghost use Rattle.std.specs.Prelude.{◌≡◌, ◌+◌, ◌/◌, ◌%◌, ◌^◌, ◌<◌, ◌≤◌, ◌∷◌, [], length, take, drop};
+ghost use Rattle.std.specs.Prelude.{slice_set, IfOk, IsOk, IsOkUnless, IsErrOf, OnOk, OnErr};
+ghost use Rattle.vb_bits.specs.Bits.{count, complement, Selects, InvertsCount};
+ghost use Rattle.vb_bits.specs.Writes.{Writes};
+ghost use Rattle.vb_kernel.specs.Searches.{hits};
+ghost use Rattle.vb_set.specs.OpenSet.{AddsBits, KeepsStart, KeepsLayout};
+ghost use Rattle.vb_set.specs.View.{bits_of, offset_of, bytes_of};
+
+use crate::group::{Group, PlainGroups, groups_of, move_counts, reserve_group, write_count};
+use crate::groups::{rank_in_groups, select_in_groups};
+use crate::size::GROUP_BITS;
+use std::alloc::{Allocator, Global};
+use std::marker::Model;
+use vb_kernel::Plain;
+use vb_rank::BLOCK_BITS;
+use vb_set::{BitBufferMut, BitBufferView, BufferError, Result};
+
+/// A set of bits that one owner edits, with the counts of true bits before each block of 512. Every
+/// edit keeps the counts exact, so each question is answered as by a table made anew.
+///
+/// Counts are kept by groups of 128 blocks: a number for the bits before the group, and for each
+/// block 16 bits, for the bits from there on.
+///
+/// A contract sees the set: its bits, the offset of the first one, its bytes, and its room.
+#[derive(Drop)]
+pub struct Ranked<A: Allocator + Clone = Global> {
+    set: BitBufferMut<A>,
+    groups: Vec<Group, A>,
+}
+
+impl<A: Allocator + Clone> Model for Ranked<A> {
+    ghost use Rattle.vb_ranked.specs.Groups.{AreGroups};
+    ghost use Rattle.vb_set.specs.OpenSet.{OpenSet};
+
+    ghost Value = { OpenSet };
+
+    ghost view = { λ s. s.set };
+
+    ghost invariant = { λ s. AreGroups s.set.bits s.groups.items };
+}
+
+impl<A: Allocator + Clone> Ranked<A> {
+    /// The set with its counts, for which it takes memory by one request, and none for no bits:
+    /// 264 bytes for each 65,536 bits, and for those that are left over. Refused by `OutOfMemory`
+    /// alone; then the set is gone.
+    pub fn new(alloc: A, set: BitBufferMut<A>) -> Result<Self>
+        ensures set { IfOk result (λ r. r ≡ set) }
+        ensures refused { IsOkUnless result BufferError.OutOfMemory }
+    {
+        let groups = groups_of(alloc, set.as_view())?;
+        Ok(Ranked { set, groups })
+    }
+
+    /// How many bits there are.
+    pub fn len(&self) -> usize
+        ensures { result ≡ length self.now.bits }
+    {
+        self.set.len()
+    }
+
+    /// A view of the bits, for other questions, in constant time. Its bytes begin with the byte of
+    /// the first bit.
+    pub fn as_view(&self) -> BitBufferView<'_>
+        ensures bits { bits_of result ≡ self.now.bits }
+        ensures offset { offset_of result ≡ self.now.offset % 8 }
+        ensures bytes { bytes_of result ≡ drop (self.now.offset / 8) self.now.bytes }
+    {
+        self.set.as_view()
+    }
+
+    /// The set, without its counts.
+    pub fn into_inner(self) -> BitBufferMut<A>
+        ensures { result ≡ self }
+    {
+        self.set
+    }
+
+    /// How many of the first `i` bits are true, in constant time, as [`rank_by`](vb_rank::rank_by)
+    /// answers of the set and a table of it. `i` has to be at most the length.
+    pub fn rank(&self, i: usize) -> usize
+        requires { i ≤ length self.now.bits }
+        ensures { result ≡ count (take i self.now.bits) }
+    {
+        if i == 0 {
+            return 0;
+        }
+        let bits = self.as_view();
+        let src = &mut Plain::new(bits.inner());
+        let groups = &mut PlainGroups::new(self.groups.as_slice());
+        rank_in_groups(src, bits.offset(), bits.len(), groups, i)
+    }
+
+    /// The place of the `n`-th true bit, counted from 0; `None` where at most `n` bits are true. It
+    /// halves the groups until one is left, and then the blocks of that group, and takes no memory.
+    /// It answers as [`select_by`](vb_rank::select_by) of the set and a table of it.
+    pub fn select(&self, n: usize) -> Option<usize>
+        ensures place { Selects self.now.bits n result }
+        ensures each { InvertsCount self.now.bits n result }
+    {
+        self.select_value(n, true)
+    }
+
+    /// The place of the `n`-th false bit, counted from 0; `None` where at most `n` bits are false,
+    /// at the cost of [`select`](Self::select).
+    pub fn select_unset(&self, n: usize) -> Option<usize>
+        ensures place { Selects (complement self.now.bits) n result }
+        ensures each { InvertsCount (complement self.now.bits) n result }
+    {
+        self.select_value(n, false)
+    }
+
+    /// Sets the bit at place `i` to `v`. Ranks are then those of the new list. The place has to be
+    /// below the length. No other bit of the bytes changes. It takes no memory.
+    ///
+    /// Where the bit changes, the counts of later blocks of its group move by one, and so do those
+    /// before all later groups: one pass over these.
+    pub fn set_to(&mut self, i: usize, v: bool)
+        requires { i < length self.old.bits }
+        ensures bits { self.new.bits ≡ slice_set self.old.bits i v }
+        ensures bytes { Writes self.old.bytes self.new.bytes (self.old.offset + i) (v ∷ []) }
+        ensures keeps { KeepsLayout self.old self.new }
+    {
+        let was = self.as_view().value(i);
+        self.set.set_to(i, v);
+        if was != v {
+            move_counts(self.groups.as_mut_slice(), self.set.len(), i, v);
+        }
+    }
+
+    /// Adds one bit, in amortized constant time.
+    ///
+    /// Refused by `TooManyBits` where offset and length together are `usize::MAX`, else by
+    /// `OutOfMemory` alone. Then the set and its room are unchanged. Within the room of
+    /// the set it takes no memory and succeeds, unless the length is a multiple of 512: then the
+    /// counts may need a group more.
+    pub fn append(&mut self, v: bool) -> Result<()>
+        ensures ok { OnOk result (AddsBits (v ∷ []) self.old self.new) }
+        ensures grows { KeepsStart self.old self.new }
+        ensures in_room { 0 < length self.old.bits % 512
+            → length self.old.bits + 1 ≤ self.old.room → IsOk result }
+        ensures fits { self.old.offset + length self.old.bits + 1 < 2 ^ 64
+            → IsOkUnless result BufferError.OutOfMemory }
+        ensures too_many { 2 ^ 64 ≤ self.old.offset + length self.old.bits + 1
+            → IsErrOf result BufferError.TooManyBits }
+        ensures err { OnErr result (self.new ≡ self.old) }
+    {
+        let len = self.len();
+        if len % BLOCK_BITS != 0 {
+            self.set.append(v)?;
+            return Ok(());
+        }
+        let ones = self.rank(len);
+        if len % GROUP_BITS != 0 {
+            self.set.append(v)?;
+            write_count(self.groups.as_mut_slice(), len / BLOCK_BITS, ones);
+            return Ok(());
+        }
+        if usize::MAX - len <= self.set.offset() {
+            return Err(BufferError::TooManyBits);
+        }
+        reserve_group(&mut self.groups)?;
+        self.set.append(v)?;
+        self.groups.push_reserved(Group::after(ones));
+        Ok(())
+    }
+
+    /// The place of the `n`-th bit that is `value`: its block is sought by the groups, and then the
+    /// block is searched.
+    fn select_value(&self, n: usize, value: bool) -> Option<usize>
+        ensures { Selects (hits value self.now.bits) n result }
+    {
+        let bits = self.as_view();
+        if bits.len() == 0 {
+            return None;
+        }
+        let src = &mut Plain::new(bits.inner());
+        let groups = &mut PlainGroups::new(self.groups.as_slice());
+        select_in_groups(src, bits.offset(), bits.len(), groups, n, value)
+    }
+}

@@ -1,0 +1,269 @@
+//! Values taken at indices.
+ghost use Rattle.std.specs.Prelude.{◌≡◌, ℕ, ℤ, negsuc, ◌+◌, ◌<◌, ◌≤◌, true};
+ghost use Rattle.std.specs.Prelude.{Some, IsSome, length, map, take, drop, slice_index_or};
+ghost use Rattle.std.specs.Prelude.{IfOk, IfErr, IsTrue, if◌then◌else◌};
+ghost use Rattle.std.specs.Option.{ForSome, option_map};
+ghost use Rattle.vb_bits.specs.Digits.{has_bit};
+ghost use Rattle.vb_take.specs.ItemsTaken.{item_named, AreTaken, TakenTo, IsFirstUntaken};
+ghost use Rattle.vb_take.specs.ValueBlocks.{PutsOnes, StopsAt, PutsZeros};
+ghost use Rattle.vb_view.specs.View.{bits_of};
+
+use crate::valid::{is_valid, valid_word};
+use vb_bits::low_digits;
+use vb_core::{BitIndex, Element};
+use vb_view::BitBufferView;
+
+/// Writes the values at the indices to the front of `out`, one for each index. `out` has to have at
+/// least `indices.len()` items; the items behind these stay.
+///
+/// A `validity`, where there is one, has to be as long as the indices. At a position where it is
+/// false, 0 is written, and the index doesn't count. `Err` is the first position whose index counts
+/// and is negative, or not below the number of values. The first `indices.len()` items of `out` are
+/// unspecified then.
+///
+/// Where there is a `validity`, whole blocks of 64 positions go by the ones of its words.
+pub fn take_values_into<T: Element, I: BitIndex>(
+    out: &mut [T],
+    values: &[T],
+    indices: &[I],
+    validity: Option<BitBufferView<'_>>,
+) -> Result<(), usize>
+    requires room { length indices.now ≤ length out.old }
+    requires validity { ForSome validity (λ v. length (bits_of v) ≡ length indices.now) }
+    ensures taken { IfOk result (λ _. AreTaken T.zero values.now (map I.number indices.now)
+        (option_map bits_of validity.entry) (take (length indices.now) out.new)) }
+    ensures past { IfErr result (λ p. IsFirstUntaken T.zero values.now (map I.number indices.now)
+        (option_map bits_of validity.entry) p) }
+    ensures others { drop (length indices.now) out.new ≡ drop (length indices.now) out.old }
+{
+    if indices.len() >= 64 {
+        if let Some(valid) = validity {
+            return take_blocks(out, values, indices, valid);
+        }
+    }
+    take_rest(out, values, indices, validity, 0)
+}
+
+/// [`take_values_into`] by blocks of 64 positions, and then one by one.
+///
+/// Not inlined, so that a call that needs no blocks pays for none.
+#[inline(never)]
+fn take_blocks<T: Element, I: BitIndex>(
+    out: &mut [T],
+    values: &[T],
+    indices: &[I],
+    valid: BitBufferView<'_>,
+) -> Result<(), usize>
+    requires room { length indices.now ≤ length out.old }
+    requires validity { length (bits_of valid) ≡ length indices.now }
+    ensures taken { IfOk result (λ _. AreTaken T.zero values.now (map I.number indices.now)
+        (Some (bits_of valid.entry)) (take (length indices.now) out.new)) }
+    ensures past { IfErr result (λ p. IsFirstUntaken T.zero values.now (map I.number indices.now)
+        (Some (bits_of valid.entry)) p) }
+    ensures others { drop (length indices.now) out.new ≡ drop (length indices.now) out.old }
+{
+    let blocks = indices.len() / 64;
+    for t in 0..blocks {
+        take_block(out, values, indices, valid, 64 * t)?;
+    }
+    take_rest(out, values, indices, Some(valid), 64 * blocks)
+}
+
+/// [`take_values_into`] of the 64 positions from `at` on, where those before them are taken.
+///
+/// It goes by the ones of the validity, so no branch is on the bit of a position. Where they are
+/// few, all their indices are looked at first, and then 0 is written to all items at once; else to
+/// those that don't count, one by one. What a refused call leaves is what the loop over all
+/// positions leaves: those before the refused one are taken, and from it on `out` stays as it was.
+#[inline(always)]
+fn take_block<T: Element, I: BitIndex>(
+    out: &mut [T],
+    values: &[T],
+    indices: &[I],
+    valid: BitBufferView<'_>,
+    at: usize,
+) -> Result<(), usize>
+    requires room { length indices.now ≤ length out.old }
+    requires validity { length (bits_of valid) ≡ length indices.now }
+    requires inside { at + 64 ≤ length indices.now }
+    requires before { TakenTo T.zero values.now (map I.number indices.now)
+        (Some (bits_of valid)) at out.old }
+    ensures taken { IfOk result (λ _. TakenTo T.zero values.now (map I.number indices.now)
+        (Some (bits_of valid.entry)) (at + 64) out.new) }
+    ensures past { IfErr result (λ p. IsFirstUntaken T.zero values.now (map I.number indices.now)
+        (Some (bits_of valid.entry)) p) }
+    ensures begun { IfErr result (λ p. TakenTo T.zero values.now (map I.number indices.now)
+        (Some (bits_of valid.entry)) p out.new) }
+    ensures stays { IfErr result (λ p. drop p out.new ≡ drop p out.old) }
+    ensures others { drop (length indices.now) out.new ≡ drop (length indices.now) out.old }
+{
+    let word = valid_word(Some(valid), at);
+    if word == u64::MAX {
+        put_full(out, values, indices, at)
+    } else if word.count_ones() <= FEW && all_named(values, indices, at, word) {
+        clear_block(out, at);
+        put_ones(out, values, indices, at, word)
+    } else {
+        let answer = put_ones(out, values, indices, at, word);
+        match answer {
+            Ok(()) => put_zeros(out, at, word, 64),
+            Err(place) => put_zeros(out, at, word, place - at),
+        }
+        answer
+    }
+}
+
+/// Up to so many of 64 positions are few: to look at their indices twice costs no more than to
+/// write 0 to the others one by one.
+const FEW: u32 = 20;
+
+/// Whether all of the 64 positions from `at` on whose digit is 1 have an index that names a value.
+#[inline(always)]
+fn all_named<T: Element, I: BitIndex>(values: &[T], indices: &[I], at: usize, word: u64) -> bool
+    requires { at + 64 ≤ length indices.now }
+    ensures { IsTrue result → (k : ℕ) → k < 64 → has_bit word k ≡ true
+        → IsSome (item_named values.now
+        (slice_index_or (map I.number indices.now) (at + k) (negsuc 0))) }
+{
+    let mut left = word;
+    while left != 0 {
+        let k = left.trailing_zeros() as usize;
+        if value_named(values, indices[at + k]).is_none() {
+            return false;
+        }
+        left &= left - 1;
+    }
+    true
+}
+
+/// Writes the values at the indices to those of the 64 items from `at` on whose digit is 1, up to
+/// the first position whose index names none.
+#[inline(always)]
+fn put_ones<T: Element, I: BitIndex>(
+    out: &mut [T],
+    values: &[T],
+    indices: &[I],
+    at: usize,
+    word: u64,
+) -> Result<(), usize>
+    requires room { at + 64 ≤ length out.old }
+    requires inside { at + 64 ≤ length indices.now }
+    ensures put { IfOk result (λ _. PutsOnes T.zero values.now (map I.number indices.now) at word
+        64 out.old out.new) }
+    ensures past { IfErr result (λ p. StopsAt T.zero values.now (map I.number indices.now) at word
+        p out.old out.new) }
+{
+    let mut left = word;
+    while left != 0 {
+        let place = at + left.trailing_zeros() as usize;
+        match value_named(values, indices[place]) {
+            Some(value) => out[place] = value,
+            None => return Err(place),
+        }
+        left &= left - 1;
+    }
+    Ok(())
+}
+
+/// [`put_ones`] where all 64 digits are 1.
+#[inline(always)]
+fn put_full<T: Element, I: BitIndex>(
+    out: &mut [T],
+    values: &[T],
+    indices: &[I],
+    at: usize,
+) -> Result<(), usize>
+    requires room { at + 64 ≤ length out.old }
+    requires inside { at + 64 ≤ length indices.now }
+    ensures put { IfOk result (λ _. PutsOnes T.zero values.now (map I.number indices.now) at u64.MAX
+        64 out.old out.new) }
+    ensures past { IfErr result (λ p. StopsAt T.zero values.now (map I.number indices.now) at
+        u64.MAX p out.old out.new) }
+{
+    for position in at..at + 64 {
+        match value_named(values, indices[position]) {
+            Some(value) => out[position] = value,
+            None => return Err(position),
+        }
+    }
+    Ok(())
+}
+
+/// Writes 0 to those of the first `n` items from `at` on whose digit is 0.
+#[inline(always)]
+fn put_zeros<T: Element>(out: &mut [T], at: usize, word: u64, n: usize)
+    requires few { n ≤ 64 }
+    requires room { at + n ≤ length out.old }
+    ensures { PutsZeros T.zero at word n out.old out.new }
+{
+    let mut left = low_digits(!word, n);
+    while left != 0 {
+        out[at + left.trailing_zeros() as usize] = T::zero();
+        left &= left - 1;
+    }
+}
+
+/// Writes 0 to the 64 items from `at` on.
+#[inline(always)]
+fn clear_block<T: Element>(out: &mut [T], at: usize)
+    requires { at + 64 ≤ length out.old }
+    ensures zero { (i : ℕ) → at ≤ i → i < at + 64 → slice_index_or out.new i T.zero ≡ T.zero }
+    ensures before { (i : ℕ) → i < at
+        → slice_index_or out.new i T.zero ≡ slice_index_or out.old i T.zero }
+    ensures behind { drop (at + 64) out.new ≡ drop (at + 64) out.old }
+{
+    for k in at..at + 64 {
+        out[k] = T::zero();
+    }
+}
+
+/// [`take_values_into`] of the positions from `from` on, one by one, where those before them are
+/// taken.
+#[inline(always)]
+fn take_rest<T: Element, I: BitIndex>(
+    out: &mut [T],
+    values: &[T],
+    indices: &[I],
+    validity: Option<BitBufferView<'_>>,
+    from: usize,
+) -> Result<(), usize>
+    requires room { length indices.now ≤ length out.old }
+    requires validity { ForSome validity (λ v. length (bits_of v) ≡ length indices.now) }
+    requires begun { from ≤ length indices.now }
+    requires before { TakenTo T.zero values.now (map I.number indices.now)
+        (option_map bits_of validity) from out.old }
+    ensures taken { IfOk result (λ _. AreTaken T.zero values.now (map I.number indices.now)
+        (option_map bits_of validity.entry) (take (length indices.now) out.new)) }
+    ensures past { IfErr result (λ p. IsFirstUntaken T.zero values.now (map I.number indices.now)
+        (option_map bits_of validity.entry) p) }
+    ensures others { drop (length indices.now) out.new ≡ drop (length indices.now) out.old }
+{
+    for k in from..indices.len() {
+        match value_taken(values, indices[k], is_valid(validity, k)) {
+            Some(value) => out[k] = value,
+            None => return Err(k),
+        }
+    }
+    Ok(())
+}
+
+/// What is taken at a position: 0 where it isn't valid, else the value that the index names.
+#[inline(always)]
+fn value_taken<T: Element, I: BitIndex>(values: &[T], index: I, valid: bool) -> Option<T>
+    ensures { result
+        ≡ (if valid then item_named values.now (I.number index) else Some T.zero) }
+{
+    if valid {
+        value_named(values, index)
+    } else {
+        Some(T::zero())
+    }
+}
+
+/// The value that the index names, if it names one.
+#[inline(always)]
+fn value_named<T: Element, I: BitIndex>(values: &[T], index: I) -> Option<T>
+    ensures { result ≡ item_named values.now (I.number index) }
+{
+    values.get(index.place()?).copied()
+}

@@ -1,0 +1,33 @@
+//! Which positions count, by a validity.
+ghost use Rattle.std.specs.Prelude.{◌≡◌, ℕ, ◌+◌, ◌<◌, ◌≤◌, length};
+ghost use Rattle.std.specs.Option.{ForSome, option_map};
+ghost use Rattle.vb_bits.specs.Digits.{has_bit};
+ghost use Rattle.vb_take.specs.Takes.{is_valid};
+ghost use Rattle.vb_view.specs.View.{bits_of};
+
+use vb_view::{BitBufferView, view_word};
+
+/// Whether position `i` counts.
+#[inline(always)]
+pub(crate) fn is_valid(validity: Option<BitBufferView<'_>>, i: usize) -> bool
+    requires { ForSome validity (λ v. i < length (bits_of v)) }
+    ensures { result ≡ is_valid (option_map bits_of validity.entry) i }
+{
+    match validity {
+        Some(bits) => bits.value(i),
+        None => true,
+    }
+}
+
+/// Which of the 64 positions from `at` on count, as digits of a word.
+#[inline(always)]
+pub(crate) fn valid_word(validity: Option<BitBufferView<'_>>, at: usize) -> u64
+    requires { ForSome validity (λ v. at + 64 ≤ length (bits_of v)) }
+    ensures { (k : ℕ) → k < 64 → has_bit result k
+        ≡ is_valid (option_map bits_of validity.entry) (at + k) }
+{
+    match validity {
+        Some(bits) => view_word(bits, at, 64),
+        None => u64::MAX,
+    }
+}
