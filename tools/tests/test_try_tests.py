@@ -23,30 +23,30 @@ class TryTests(unittest.TestCase):
         return ended.returncode, ended.stdout + ended.stderr
 
     def test_good_crates_are_counted(self):
-        status, text = self.said(GOOD, "vb_rank_tests", "vb_set_tests")
+        status, text = self.said(GOOD, "vb_ranked_tests", "vb_set_tests")
         self.assertEqual((status, text.splitlines()[-1]), (0, "16 passed, 0 failed"))
-        self.assertIn("vb_rank_tests: 8 passed, 0 failed", text)
+        self.assertIn("vb_ranked_tests: 8 passed, 0 failed", text)
 
     def test_a_failing_crate_says_all(self):
-        status, text = self.said(BAD, "vb_rank_tests")
+        status, text = self.said(BAD, "vb_ranked_tests")
         self.assertEqual((status, text.splitlines()[-1]), (1, "6 passed, 2 failed"))
         self.assertIn("FAILED. 6 passed", text)
 
     def test_a_refused_crate_has_failed(self):
-        status, text = self.said(REFUSED, "vb_rank_tests")
+        status, text = self.said(REFUSED, "vb_ranked_tests")
         self.assertEqual((status, text.splitlines()[-1]), (1, "0 passed, 1 failed"))
         self.assertIn("questions.rt:46:27", text)
 
     def test_flags_and_words_are_handed_on(self):
         given = f"echo \"$@\"; {BAD}"
-        text = self.said(given, "--only", "rows", "vb_rank_tests", "--", "--seconds", "9")[1]
+        text = self.said(given, "--only", "rows", "vb_ranked_tests", "--", "--seconds", "9")[1]
         self.assertIn("try --test --seconds 9 -- rows", text)
 
     def test_what_is_unknown_is_said(self):
         self.assertEqual(self.said(GOOD, "vb_nothing")[1], "try-tests: no crate is named vb_nothing\n")
         self.assertEqual(self.said(GOOD, "vb_bits")[1], "try-tests: vb_bits has no test\n")
         none = GOOD.replace("8 passed", "0 passed")
-        self.assertNotEqual(self.said(none, "--only", "nothing", "vb_rank_tests")[0], 0)
+        self.assertNotEqual(self.said(none, "--only", "nothing", "vb_ranked_tests")[0], 0)
 
 
 if __name__ == "__main__":

@@ -12,6 +12,7 @@ use vb_testing::{Handle, Refusing};
 /// A change of a growing buffer that is made as a whole or not at all.
 enum Change {
     Reserve,
+    ReserveExact,
     Push,
     PushN,
     ExtendFromSlice,
@@ -28,6 +29,7 @@ impl Change {
     fn make<A: Allocator + Clone>(&self, buffer: &mut BufferMut<u32, A>) -> Result<()> {
         match self {
             Change::Reserve => reserve(buffer),
+            Change::ReserveExact => reserve_exact(buffer),
             Change::Push => buffer.push(8),
             Change::PushN => buffer.push_n(8, 3),
             Change::ExtendFromSlice => buffer.extend_from_slice(EIGHTS),
@@ -41,6 +43,12 @@ impl Change {
 
 fn reserve<A: Allocator>(buffer: &mut BufferMut<u32, A>) -> Result<()> {
     buffer.reserve(3)?;
+    buffer.push_n_unchecked(8, 3);
+    Ok(())
+}
+
+fn reserve_exact<A: Allocator>(buffer: &mut BufferMut<u32, A>) -> Result<()> {
+    buffer.reserve_exact(3)?;
     buffer.push_n_unchecked(8, 3);
     Ok(())
 }
@@ -141,6 +149,7 @@ fn clear_items<A: Allocator + Clone>(rt: &impl Abort, made: Result<Buffer<u32, A
 /// The changes, and how many requests each makes with its buffer: at least, and at most.
 const TRIALS: &[(Trial, u64, u64)] = &[
     (Trial::Full(Change::Reserve), 2, 2),
+    (Trial::Full(Change::ReserveExact), 2, 2),
     (Trial::Full(Change::Push), 2, 2),
     (Trial::Full(Change::PushN), 2, 2),
     (Trial::Full(Change::ExtendFromSlice), 2, 2),
@@ -165,7 +174,7 @@ fn a_refused_change_leaves_the_buffer(rt: HostRuntime) {
     }
 }
 
-/// The changes that lengthen, each with the items that it adds.
+/// The changes that lengthen in amortized constant time, each with the items that it adds.
 const GROWING: &[(Change, &[u32])] = &[
     (Change::Reserve, EIGHTS),
     (Change::Push, &[8]),

@@ -26,6 +26,7 @@ enum Growing {
     AlignedBeyond,
     Clone,
     Reserve,
+    ReserveExact,
     Push,
     Within,
 }
@@ -43,6 +44,7 @@ impl Growing {
             Growing::AlignedBeyond => return buffer.aligned(Alignment::from_exponent(9)),
             Growing::Clone => return cloned(Ok(buffer)),
             Growing::Reserve => buffer.reserve(1000).expect(rt, "room"),
+            Growing::ReserveExact => buffer.reserve_exact(500).expect(rt, "room"),
             Growing::Push => buffer.push(7).expect(rt, "room"),
             Growing::Within => {
                 buffer.clear();
@@ -65,6 +67,8 @@ const GROWING: &[(Growing, usize, usize)] = &[
     (Growing::Clone, 4000, 8000),
     // A body that asks for four times the room fails here.
     (Growing::Reserve, 8000, 16000),
+    // A body that doubles the room fails here.
+    (Growing::ReserveExact, 6000, 6000),
     (Growing::Push, 4004, 8008),
     (Growing::Within, 0, 0),
 ];

@@ -14,6 +14,7 @@ enum Edit {
     AppendFalse,
     AppendN,
     Reserve,
+    ReserveExact,
 }
 
 impl Edit {
@@ -25,6 +26,10 @@ impl Edit {
             Edit::AppendN => set.append_n(false, 100),
             Edit::Reserve => {
                 set.reserve(100)?;
+                set.append_n(true, 100)
+            }
+            Edit::ReserveExact => {
+                set.reserve_exact(100)?;
                 set.append_n(true, 100)
             }
         }
@@ -131,6 +136,7 @@ fn a_refused_edit_leaves_the_set(rt: HostRuntime) {
     for (edit, added) in EDITS {
         is_refused_or_made(&rt, &heap, edit, *added);
     }
+    is_refused_or_made(&rt, &heap, &Edit::ReserveExact, (100, 0));
 }
 
 /// The offset of a set that was made, its length, and how many of its bits are true.

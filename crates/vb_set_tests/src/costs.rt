@@ -15,6 +15,7 @@ enum Open {
     Clone,
     CopyFrom,
     Reserve,
+    ReserveExact,
     Within,
     Not,
 }
@@ -31,6 +32,7 @@ impl Open {
             Open::Clone => cloned(made),
             Open::CopyFrom => copied(alloc, frozen(made)),
             Open::Reserve => reserved(made),
+            Open::ReserveExact => reserved_exactly(made),
             Open::Within => lengthened(made),
             Open::Not => negated_twice(made),
         }
@@ -41,6 +43,15 @@ impl Open {
 fn reserved<A: Allocator + Clone>(made: Result<BitBufferMut<A>>) -> Result<BitBufferMut<A>> {
     let mut set = made?;
     let answer = set.reserve(8000);
+    edited(set, answer)
+}
+
+/// The set with room for half as many bits again.
+fn reserved_exactly<A: Allocator + Clone>(
+    made: Result<BitBufferMut<A>>,
+) -> Result<BitBufferMut<A>> {
+    let mut set = made?;
+    let answer = set.reserve_exact(4000);
     edited(set, answer)
 }
 
@@ -66,6 +77,8 @@ const OPEN: &[(Open, usize, usize)] = &[
     (Open::CopyFrom, 1001, 2256),
     // A body that asks for four times the room fails here.
     (Open::Reserve, 2000, 4000),
+    // A body that doubles the room fails here.
+    (Open::ReserveExact, 1500, 1500),
     (Open::Within, 0, 0),
     (Open::Not, 0, 0),
 ];
