@@ -22,8 +22,14 @@ use vb_command::{Answer, Part};
 /// How many bytes wait at most.
 const ROOM: usize = 65536;
 
-/// How many bytes are copied at once for a number and a byte beside it, which are 21 at most.
+/// How many decimal digits a number has at most.
+const DIGITS: usize = 20;
+
+/// How many bytes are copied at once for a number and a byte beside it.
 const PIECE: usize = 24;
+
+/// The bytes in which a number is written, so that a piece from its first digit on lies in them.
+const TEXT: usize = DIGITS + PIECE;
 
 /// The text of the answers that waits to be written. Contracts see its bytes.
 ///
@@ -40,7 +46,7 @@ impl<A: Allocator> Model for Outbox<A> {
 
     ghost view = { λ o. o.bytes.items };
 
-    ghost invariant = { λ o. (length o.bytes.items ≤ 65536) × (65536 ≤ vec_capacity o.bytes) };
+    ghost invariant = { λ o. (length o.bytes.items ≤ ROOM) × (ROOM ≤ vec_capacity o.bytes) };
 }
 
 impl<A: Allocator> Outbox<A> {
@@ -248,7 +254,7 @@ impl<A: Allocator> Outbox<A> {
     /// first where there is no room for both.
     #[tactic(auto, using(crate::proofs::KnownBytes::known_bytes))]
     fn put_block<W: Sink>(&mut self, bits: &[bool], output: &mut W) -> Result<(), Fault>
-        requires { length bits.now ≤ 65536 }
+        requires { length bits.now ≤ ROOM }
         ensures { Adds (flat_map digit_of bits.now) result
             (W.contents output.old) self.old (W.contents output.new) self.new
             (W.faults output.old) (W.faults output.new) }
@@ -296,38 +302,39 @@ impl<A: Allocator> Outbox<A> {
 /// Adds a number in decimal and a line feed to bytes that have room for a piece.
 #[tactic(auto, using(crate::proofs::Pieces::pieces))]
 fn push_number_line<A: Allocator>(bytes: &mut Vec<u8, A>, n: usize)
-    requires { length bytes.old.items + 24 ≤ vec_capacity bytes.old }
+    requires { length bytes.old.items + PIECE ≤ vec_capacity bytes.old }
     ensures added { bytes.new.items ≡ bytes.old.items ++ decimal n ++ 10 ∷ [] }
-    ensures len { length bytes.new.items ≤ length bytes.old.items + 24 }
+    ensures len { length bytes.new.items ≤ length bytes.old.items + PIECE }
     ensures room { vec_capacity bytes.old ≤ vec_capacity bytes.new }
 {
-    let mut text = [b'\n'; 44];
-    let start = itoa::write_digits(n as u64, &mut text, 20);
-    push_front(bytes, &text[start..start + PIECE], 21 - start);
+    // The line feed is what stands behind the digits.
+    let mut text = [b'\n'; TEXT];
+    let start = itoa::write_digits(n as u64, &mut text, DIGITS);
+    push_part(bytes, &text[start..start + PIECE], DIGITS + 1 - start);
 }
 
 /// Adds a byte, and a number in decimal behind it, to bytes that have room for a piece.
 #[tactic(auto, using(crate::proofs::Pieces::pieces))]
 fn push_behind<A: Allocator>(bytes: &mut Vec<u8, A>, byte: u8, n: usize)
-    requires { length bytes.old.items + 24 ≤ vec_capacity bytes.old }
+    requires { length bytes.old.items + PIECE ≤ vec_capacity bytes.old }
     ensures added { bytes.new.items ≡ bytes.old.items ++ byte ∷ decimal n }
-    ensures len { length bytes.new.items ≤ length bytes.old.items + 24 }
+    ensures len { length bytes.new.items ≤ length bytes.old.items + PIECE }
     ensures room { vec_capacity bytes.old ≤ vec_capacity bytes.new }
 {
-    let mut text = [0; 44];
-    let start = itoa::write_digits(n as u64, &mut text, 21) - 1;
+    let mut text = [0; TEXT];
+    let start = itoa::write_digits(n as u64, &mut text, DIGITS + 1) - 1;
     text[start] = byte;
-    push_front(bytes, &text[start..start + PIECE], 21 - start);
+    push_part(bytes, &text[start..start + PIECE], DIGITS + 1 - start);
 }
 
 /// Adds the first `count` bytes of a piece to bytes that have room for all of it.
 ///
 /// All of it is copied, since a copy of a size that is known is no call, and then cut off.
 #[inline(always)]
-fn push_front<A: Allocator>(bytes: &mut Vec<u8, A>, piece: &[u8], count: usize)
-    requires piece { length piece.now ≡ 24 }
-    requires count { count ≤ 24 }
-    requires room { length bytes.old.items + 24 ≤ vec_capacity bytes.old }
+fn push_part<A: Allocator>(bytes: &mut Vec<u8, A>, piece: &[u8], count: usize)
+    requires piece { length piece.now ≡ PIECE }
+    requires count { count ≤ PIECE }
+    requires room { length bytes.old.items + PIECE ≤ vec_capacity bytes.old }
     ensures added { bytes.new.items ≡ bytes.old.items ++ take count piece.now }
     ensures len { length bytes.new.items ≡ length bytes.old.items + count }
     ensures room { vec_capacity bytes.old ≤ vec_capacity bytes.new }

@@ -7,6 +7,6 @@ returns-clause-added g c =
     let digits = c.write_digits-start in
     let fits : c.args.n < 2 ^ 64 = search rules in
     let size : length digits.new.buf ≡ 44 = search rules in
-    c.push_front.ensures.added ∙ ap (λ l. c.args.bytes.now.items ++ l)
+    c.push_part.ensures.added ∙ ap (λ l. c.args.bytes.now.items ++ l)
     (behind digits.new.buf _ c.args.byte c.args.n digits.result fits size
     digits.ensures.written digits.ensures.start)
