@@ -1,0 +1,71 @@
+"""bench/run over two checkouts whose programs a test of this file wrote."""
+import os
+import runpy
+import shutil
+import subprocess
+import tempfile
+import unittest
+from pathlib import Path
+
+COMMAND = Path(__file__).resolve().parent.parent.parent / "bench/run"
+# Says how many instructions the program has, by the number on its second line.
+VALGRIND = """#!/bin/sh
+echo "==7== Collected : $(sed -n '2s/# //p' "$3")" >&2
+exec "$3" "$4"
+"""
+
+
+class Run(unittest.TestCase):
+    def setUp(self):
+        self.root = Path(tempfile.mkdtemp(prefix="bench-run-test-"))
+        self.addCleanup(shutil.rmtree, self.root)
+        self.write("old/bench/run", "")
+        shutil.copy(COMMAND, self.root / "old/bench/run")
+        self.write("old/bench/workloads.txt", "first jobs SEED\nsecond jobs 5 <numbers\n")
+        self.write("bin/valgrind", VALGRIND)
+        for side, count in (("old", 3000), ("new", 2000)):
+            self.write(f"{side}/bench/numbers", "1 2 3\n")
+            self.write(f"{side}/crates/jobs/out/jobs", f'#!/bin/sh\n# {count}\necho "$1"; cat\n')
+
+    def write(self, path: str, text: str):
+        file = self.root / path
+        file.parent.mkdir(parents=True, exist_ok=True)
+        file.write_text(text)
+        file.chmod(0o755)
+
+    def run_it(self, *words: str) -> tuple[int, list[list[str]]]:
+        """The status, and the fields of each line that was printed."""
+        env = {**os.environ, "PATH": f"{self.root / 'bin'}:{os.environ['PATH']}"}
+        sides = [self.root / "old", self.root / "new"]
+        command = [self.root / "old/bench/run", *words, *sides]
+        ended = subprocess.run(command, env=env, text=True, capture_output=True)
+        lines = (ended.stdout + ended.stderr).splitlines()
+        return ended.returncode, [[it.strip() for it in line.split("|")] for line in lines]
+
+    def test_the_table_has_a_row_of_equals_and_one_for_each_workload(self):
+        status, lines = self.run_it()
+        self.assertEqual(status, 0, lines)
+        names = ["NAME", "---", "first, beside itself", "first", "second"]
+        self.assertEqual([it[1] for it in lines], names)
+        self.assertEqual({len(it) for it in lines}, {8}, "a line has other columns")
+
+    def test_instructions_are_counted_where_they_are_asked_for(self):
+        status, lines = self.run_it("--instructions")
+        self.assertEqual(status, 0, lines)
+        counts = ["3,000", "2,000", "1.500"]
+        self.assertEqual([it[-4:-1] for it in lines[2:]], [["", "", ""], counts, counts])
+
+    def test_it_stops_where_outputs_differ(self):
+        self.write("new/bench/numbers", "1 2 4\n")
+        status, lines = self.run_it()
+        self.assertEqual((status, lines[-2][1]), (1, "first"))
+        self.assertIn("printed b'5\\n1 2 4\\n'", lines[-1][0])
+
+    def test_a_machine_that_slows_moves_the_medians_alone(self):
+        compared = runpy.run_path(str(COMMAND))["compared"]
+        fields = compared([2.0, 2.0, 4.0, 2.0, 4.0], [1.0, 2.0, 2.0, 1.0, 2.0])
+        self.assertEqual(fields, ["2.000", "2.000", "1.00", "2.00", "2.00"])
+
+
+if __name__ == "__main__":
+    unittest.main()
