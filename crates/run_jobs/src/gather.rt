@@ -14,19 +14,21 @@ const SMALL: usize = 50_000;
 
 const LARGE: usize = 6_000_000;
 
-/// How many indices there are at once.
+/// How many indices there are at once, and how many such parts a table has.
 const INDICES: usize = 65_536;
+
+const PARTS: usize = 16;
 
 /// Takes of tens of thousands of values and bits from a small table and a large one, and texts.
 pub fn gather(alloc: Global, rounds: u32, random: &mut Random, digest: &mut Digest) -> Result<()> {
     let small = Tables::new(alloc, random, SMALL)?;
     let large = Tables::new(alloc, random, LARGE)?;
-    for _ in 0..rounds {
-        for _ in 0..12 {
-            small.taken(alloc, random, digest)?;
+    for round in 0..rounds as usize {
+        for turn in 0..12 {
+            small.taken(alloc, 12 * (round % 4) + turn, random, digest)?;
         }
-        for _ in 0..4 {
-            large.taken(alloc, random, digest)?;
+        for turn in 0..4 {
+            large.taken(alloc, 4 * (round % 4) + turn, random, digest)?;
         }
         let records = Records::new(alloc, random)?;
         records.read(alloc, digest)?;
@@ -61,9 +63,16 @@ impl Tables {
         })
     }
 
-    /// Adds what is taken at indices from a place at random on, of some of which none count.
-    fn taken(&self, alloc: Global, random: &mut Random, digest: &mut Digest) -> Result<()> {
-        let from = random.below(self.at_random.len() / 2);
+    /// Adds what is taken at a part of the indices, of which some don't count. Turns take the parts
+    /// in order, and no two overlap.
+    fn taken(
+        &self,
+        alloc: Global,
+        turn: usize,
+        random: &mut Random,
+        digest: &mut Digest,
+    ) -> Result<()> {
+        let from = INDICES * (turn % PARTS);
         let valid = window(&self.pages.random, random, INDICES)?;
         let bits = window(&self.pages.runs, random, self.values.len())?;
         if from + INDICES > self.at_random.len() || from + INDICES > self.rising.len() {
@@ -81,7 +90,7 @@ impl Tables {
 /// Indices at random, below a number.
 fn at_random(alloc: Global, random: &mut Random, end: usize) -> Result<Vec<u32>> {
     let mut indices = Vec::new(alloc);
-    for _ in 0..4 * INDICES {
+    for _ in 0..PARTS * INDICES {
         indices.push(random.below(end.min(4_294_967_295)) as u32)?;
     }
     Ok(indices)
@@ -91,7 +100,7 @@ fn at_random(alloc: Global, random: &mut Random, end: usize) -> Result<Vec<u32>>
 fn rising(alloc: Global, random: &mut Random, end: usize) -> Result<Vec<u64>> {
     let mut indices = Vec::new(alloc);
     let mut place = 0usize;
-    for _ in 0..4 * INDICES {
+    for _ in 0..PARTS * INDICES {
         place = place.saturating_add(random.below(20));
         if place >= end {
             place = 0;

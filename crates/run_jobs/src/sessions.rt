@@ -2,70 +2,86 @@
 use crate::digest::Digest;
 use crate::random::Random;
 use anyhow::Result;
-use std::alloc::Global;
+use std::alloc::{AllocError, Global};
 use vb_script::{FromRead, ToWrite, drive};
 
-/// Four sessions a round, each of tens of thousands of lines or of sets that print long lists.
+/// So many rounds of four sessions, each of tens of thousands of lines or of sets that print long
+/// lists.
 pub fn sessions(
     alloc: Global,
     rounds: u32,
     random: &mut Random,
     digest: &mut Digest,
 ) -> Result<()> {
+    let mut lines = Vec::new(alloc);
     for _ in 0..rounds {
-        let lines = questions(alloc, random)?;
-        answered(alloc, lines, digest)?;
-        let lines = edits(alloc, random)?;
-        answered(alloc, lines, digest)?;
-        let lines = imports(alloc, random)?;
-        answered(alloc, lines, digest)?;
-        let lines = lists(alloc, random)?;
-        answered(alloc, lines, digest)?;
+        round(alloc, &mut lines, random, digest)?;
     }
+    drop(lines);
     Ok(())
 }
 
-/// Adds the answers to these lines, each of which can be read.
-fn answered(alloc: Global, lines: Vec<u8>, digest: &mut Digest) -> Result<()> {
+/// Four sessions, whose lines share one room.
+fn round(
+    alloc: Global,
+    lines: &mut Vec<u8>,
+    random: &mut Random,
+    digest: &mut Digest,
+) -> Result<()> {
+    put_questions(lines, random)?;
+    answer(alloc, lines, digest)?;
+    put_edits(lines, random)?;
+    answer(alloc, lines, digest)?;
+    put_imports(lines, random)?;
+    answer(alloc, lines, digest)?;
+    put_lists(lines, random)?;
+    answer(alloc, lines, digest)
+}
+
+/// Adds the answers to these lines, each of which can be read, and takes the lines away.
+fn answer(alloc: Global, lines: &mut Vec<u8>, digest: &mut Digest) -> Result<()> {
     let mut input = FromRead::new(lines.as_slice());
     let mut output = ToWrite::new(Vec::new(alloc));
     let ended = drive(alloc, &mut input, &mut output);
     drop(input);
     let written = output.into_inner();
     digest.add_bytes(&written);
-    drop((written, lines));
+    drop(written);
+    lines.clear();
     Ok(ended?)
 }
 
-/// Adds words to a line.
-fn put(lines: &mut Vec<u8>, words: &str) -> Result<()> {
-    Ok(lines.extend_from_slice(words.as_bytes())?)
+/// What a call answers that adds to lines. There are millions of these calls, so it holds no text.
+type Added = Result<(), AllocError>;
+
+/// Adds words.
+fn put(lines: &mut Vec<u8>, words: &str) -> Added {
+    lines.extend_from_slice(words.as_bytes())
 }
 
 /// Adds a space and a number below ten million.
-fn put_number(lines: &mut Vec<u8>, number: usize) -> Result<()> {
-    put(lines, " ")?;
-    put_digits(lines, number)
+fn put_number(lines: &mut Vec<u8>, number: usize) -> Added {
+    put_behind(lines, b' ', number)
 }
 
-/// Adds a number below ten million.
-fn put_digits(lines: &mut Vec<u8>, number: usize) -> Result<()> {
-    let mut digits = [b'0'; 7];
+/// Adds a byte, and a number below ten million behind it.
+fn put_behind(lines: &mut Vec<u8>, before: u8, number: usize) -> Added {
+    let mut text = [before; 8];
     let mut left = (number % 10_000_000) as u32;
-    let mut start = 7usize;
+    let mut start = 0usize;
     for k in 0..7 {
         start = 6 - k;
-        digits[start] = 48 + (left % 10) as u8;
+        text[start + 1] = 48 + (left % 10) as u8;
         left /= 10;
         if left == 0 {
             break;
         }
     }
-    Ok(lines.extend_from_slice(&digits[start.min(7)..])?)
+    lines.extend_from_slice(&text[start.min(7)..])
 }
 
-/// Adds so many bytes in hexadecimal digits.
-fn put_bytes(lines: &mut Vec<u8>, random: &mut Random, words: usize) -> Result<()> {
+/// Adds so many words of bytes in hexadecimal digits.
+fn put_bytes(lines: &mut Vec<u8>, random: &mut Random, words: usize) -> Added {
     for _ in 0..words {
         let mut digits = [b'0'; 16];
         let mut left = random.number();
@@ -78,104 +94,101 @@ fn put_bytes(lines: &mut Vec<u8>, random: &mut Random, words: usize) -> Result<(
     Ok(())
 }
 
-/// A set of 1,000 random bits, and questions of it.
-fn questions(alloc: Global, random: &mut Random) -> Result<Vec<u8>> {
-    let mut lines = Vec::new(alloc);
-    put(&mut lines, "# a set of one thousand bits\nimport 0 3 1000 ")?;
-    put_bytes(&mut lines, random, 16)?;
-    put(&mut lines, "\n")?;
+/// Adds a set of 1,000 random bits, and questions of it.
+fn put_questions(lines: &mut Vec<u8>, random: &mut Random) -> Added {
+    put(lines, "# a set of one thousand bits\nimport 0 3 1000 ")?;
+    put_bytes(lines, random, 16)?;
+    put(lines, "\n")?;
     for _ in 0..100_000 {
         let place = random.below(1_010);
         match random.below(6) {
-            0 => put(&mut lines, "count 0")?,
-            1 => put(&mut lines, "len 0")?,
-            2 => question(&mut lines, "select 0", place / 2)?,
+            0 => put(lines, "count 0")?,
+            1 => put(lines, "len 0")?,
+            2 => put_question(lines, "select 0", place / 2)?,
             3 => {
-                question(&mut lines, "countrange 0", place / 2)?;
-                put_number(&mut lines, place)?;
+                put_question(lines, "countrange 0", place / 2)?;
+                put_number(lines, place)?;
             }
-            _ => question(&mut lines, "get 0", place)?,
+            _ => put_question(lines, "get 0", place)?,
         }
-        put(&mut lines, "\n")?;
+        put(lines, "\n")?;
     }
-    Ok(lines)
+    Ok(())
 }
 
 /// Adds words and a number.
-fn question(lines: &mut Vec<u8>, words: &str, number: usize) -> Result<()> {
+fn put_question(lines: &mut Vec<u8>, words: &str, number: usize) -> Added {
     put(lines, words)?;
     put_number(lines, number)
 }
 
-/// A set of 100,000 bits, edits of it, and now and then a frozen copy.
-fn edits(alloc: Global, random: &mut Random) -> Result<Vec<u8>> {
-    let mut lines = Vec::new(alloc);
-    put(&mut lines, "full 0 0 100000\n")?;
+/// Adds a set of 100,000 bits, edits of it, and now and then what shares it.
+fn put_edits(lines: &mut Vec<u8>, random: &mut Random) -> Added {
+    put(lines, "full 0 0 100000\n")?;
     for turn in 0..60_000 {
-        edit(&mut lines, random)?;
-        put(&mut lines, "\n")?;
+        put_edit(lines, random)?;
+        put(lines, "\n")?;
         if turn % 500 == 0 {
-            put(&mut lines, SHARED)?;
+            put(lines, SHARED)?;
         }
     }
-    Ok(lines)
+    Ok(())
 }
 
-/// An edit of one bit or of some, of which some are refused.
-fn edit(lines: &mut Vec<u8>, random: &mut Random) -> Result<()> {
-    let place = random.below(100_010);
+/// Adds an edit of one bit or of some; some are refused.
+fn put_edit(lines: &mut Vec<u8>, random: &mut Random) -> Added {
+    let place = random.below(103_000);
     match random.below(8) {
         0 => {
-            question(lines, "fill 0", place / 2)?;
+            put_question(lines, "fill 0", place / 2)?;
             put_number(lines, place)?;
         }
         1 => put(lines, "append 0")?,
-        2 => return question(lines, "appendn 0 1", place / 1_000),
-        _ => question(lines, "set 0", place)?,
+        2 => return put_question(lines, "appendn 0 1", place / 1_000),
+        _ => put_question(lines, "set 0", place)?,
     }
     put(lines, if place % 2 == 0 { " 1" } else { " 0" })
 }
 
-/// A set is frozen, has two other owners, and is opened, cut and edited beside them.
-const SHARED: &str = "count 0\nfreeze 0\nclone 0 1\nslice 0 5 90005 2\neq 0 1\nthaw 0\n\
-    truncate 0 100000\nand ref 2 1 3\nxor own 1 2 3\ncount 3\nlast 2\ndrop 1\ndrop 2\ndrop 3\n";
+/// A set of 100,000 bits or more is frozen, shared whole and by two windows of one length, and
+/// opened beside them. Operators combine the windows: into a new set, in a set of two owners, and
+/// in one of one owner.
+const SHARED: &str = "count 0\nfreeze 0\nclone 0 1\nslice 0 5 90005 2\nslice 0 8 90008 3\neq 0 1\n\
+    thaw 0\ntruncate 0 100000\nand ref 2 3 4\nxor own 3 2 3\nor own 4 2 4\nnot ref 4 5\n\
+    count 3\ncount 4\nlast 5\ndrop 1\ndrop 2\ndrop 3\ndrop 4\ndrop 5\n";
 
-/// Sets of 8 to 800 bytes that come, are asked and go.
-fn imports(alloc: Global, random: &mut Random) -> Result<Vec<u8>> {
-    let mut lines = Vec::new(alloc);
+/// Adds sets of 8 to 800 bytes that come, are asked and go.
+fn put_imports(lines: &mut Vec<u8>, random: &mut Random) -> Added {
     for turn in 0..20_000 {
         let words = if turn % 50 == 0 { 100 } else { 1 };
-        put(&mut lines, "import 5 0")?;
-        put_number(&mut lines, 64 * words)?;
-        put(&mut lines, " ")?;
-        put_bytes(&mut lines, random, words)?;
-        put(&mut lines, "\ncount 5\nlen 5\ndrop 5\n")?;
+        put_question(lines, "import 5 0", 64 * words)?;
+        put(lines, " ")?;
+        put_bytes(lines, random, words)?;
+        put(lines, "\ncount 5\nlen 5\ndrop 5\n")?;
     }
-    Ok(lines)
+    Ok(())
 }
 
-/// Random sets of 160,000 bits, and sets of runs, whose lists are printed.
-fn lists(alloc: Global, random: &mut Random) -> Result<Vec<u8>> {
-    let mut lines = Vec::new(alloc);
+/// Adds random sets of 160,000 bits whose lists are printed.
+fn put_lists(lines: &mut Vec<u8>, random: &mut Random) -> Added {
     for _ in 0..3 {
-        put(&mut lines, "import 0 0 160000 ")?;
-        put_bytes(&mut lines, random, 2_500)?;
+        put(lines, "import 0 0 160000 ")?;
+        put_bytes(lines, random, 2_500)?;
         put(
-            &mut lines,
+            lines,
             "\nplaces 0\nruns 0\nbits 0\nfreeze 0\nshow 0\ntake 0 1 -",
         )?;
-        put_indices(&mut lines, random)?;
-        put(&mut lines, "\nplaces 1\ndrop 0\ndrop 1\n")?;
+        put_indices(lines, random)?;
+        put(lines, "\nplaces 1\ndrop 0\ndrop 1\n")?;
     }
-    Ok(lines)
+    Ok(())
 }
 
 /// Adds ten thousand indices, with a comma between two.
-fn put_indices(lines: &mut Vec<u8>, random: &mut Random) -> Result<()> {
+fn put_indices(lines: &mut Vec<u8>, random: &mut Random) -> Added {
     put(lines, " 1")?;
     for _ in 0..10_000 {
-        put(lines, ",")?;
-        put_digits(lines, random.below(160_000))?;
+        put_behind(lines, b',', random.below(160_000))?;
     }
     Ok(())
 }
