@@ -43,6 +43,22 @@ const FIXED: Option<Level> = if cfg!(not(vortex_bits_native)) {
     None
 };
 
+#[cfg(all(
+    feature = "proved",
+    not(feature = "std"),
+    vortex_bits_native,
+    not(all(
+        target_feature = "sse4.2",
+        target_feature = "ssse3",
+        target_feature = "popcnt",
+        target_feature = "cmpxchg16b",
+    ))
+))]
+compile_error!(
+    "feature `proved`: without `std` the processor isn't tested, and only what the compiler was told \
+     counts: `-C target-cpu=x86-64-v2` or a higher one"
+);
+
 /// The level that calls use, as its place behind 0; 0 until the first call has chosen it.
 static CURRENT: AtomicU8 = AtomicU8::new(0);
 

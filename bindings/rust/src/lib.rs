@@ -21,6 +21,10 @@
 //!
 //! # Features
 //!
+//! - `proved`: the build fails where the archives of the proved functions aren't there, or the
+//!   target isn't x86-64 Linux; Miri, which can't run them, is let pass. Without it cargo warns of
+//!   missing archives for path dependencies alone. What the processor has shows when the program
+//!   runs: assert there that [`Level::current`] isn't [`Level::Portable`].
 //! - `std` (default): the processor is tested when the program runs. Without it, what the compiler
 //!   was told counts (`-C target-cpu`).
 //! - `alloc` (with `std`): `Bitmap`, bits with their bytes, and `Ranked`, those with their ranks.
