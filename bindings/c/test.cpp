@@ -5,6 +5,7 @@
 #include "vortex_bits.hpp"
 
 #include <cstdio>
+#include <cstring>
 #include <random>
 
 using vortex_bits::bits;
@@ -159,6 +160,89 @@ static void filters()
     refused([&] { (void)mask.keep_into(values, std::vector<std::uint16_t>(4)); }, "no room");
 }
 
+/* Takes of so many indices of a type, the last of them past what it names, by a loop. */
+template <class Index> static void take(const buffer &all, bool valid, std::size_t n, bool past)
+{
+    const std::size_t most = std::min<std::size_t>(100, 8 * all.size() - 3);
+    const bits window(all, 3, most), counts(all, 1, n);
+    std::vector<Index> indices;
+    for (std::size_t p = 0; p < n; p++) {
+        indices.push_back(static_cast<Index>((p * 37 + 5) % most));
+    }
+    const bool bad = past && n > 0 && (!valid || counts[n - 1]);
+    if (past && n > 0) {
+        indices[n - 1] = static_cast<Index>(std::is_signed_v<Index> ? -1 : static_cast<int>(most));
+    }
+    buffer out(n / 8 + 2, 0xA5);
+    const auto found =
+        valid ? window.take_into(indices, counts, out) : window.take_into(indices, out);
+    check(found == (bad ? std::optional(n - 1) : std::nullopt), "the first bad index of a type");
+    for (std::size_t p = 0; p < 8 * out.size() && !bad; p++) {
+        const bool taken = p < n && (!valid || counts[p])
+            && window[static_cast<std::size_t>(indices[p])];
+        check(bit(out, p) == (p < n ? taken : (0xA5 >> (p % 8) & 1) != 0), "takes of a type");
+    }
+}
+
+template <class... Index> static void takes_of_types(const buffer &all)
+{
+    for (const std::size_t n : {0, 1, 8, 511, 512, 513, 1300}) {
+        for (int k = 0; k < 4; k++) {
+            (take<Index>(all, k % 2 == 1, n, k >= 2), ...);
+        }
+    }
+}
+
+/* Values of a type that a mask keeps, by a loop. */
+template <class Value> static void keep(const buffer &all)
+{
+    const bits mask(all, 5, 190);
+    std::array<Value, 190> values;
+    std::array<Value, 190> out;
+    for (std::size_t i = 0; i < values.size(); i++) {
+        const std::uint64_t number = (i + 1) * 0x9E3779B97F4A7C15u;
+        std::memset(&values[i], static_cast<int>(number >> 56), sizeof(Value));
+        std::memcpy(&values[i], &number, std::min(sizeof number, sizeof(Value)));
+    }
+    std::memset(static_cast<void *>(&out), 0x5A, sizeof out);
+    const std::size_t kept = mask.keep_into(values, out);
+    check(kept == mask.count_ones(), "how many values of a type are kept");
+    std::size_t at = 0;
+    mask.for_each_set([&](std::size_t i) {
+        check(std::memcmp(&out[at++], &values[i], sizeof(Value)) == 0, "values of a type");
+    });
+}
+
+template <class... Value> static void keeps_of_types(const buffer &all)
+{
+    (keep<Value>(all), ...);
+}
+
+enum class color : std::uint16_t { red };
+
+struct pair_of_numbers {
+    std::int64_t first;
+    double second;
+};
+
+static void types(const buffer &all)
+{
+    takes_of_types<std::int8_t, std::uint8_t, std::int16_t, std::uint16_t, std::int32_t,
+        std::uint32_t, std::int64_t, std::uint64_t, long, long long, unsigned long long,
+        std::size_t, char>(all);
+    keeps_of_types<std::int8_t, std::uint8_t, std::int16_t, std::uint16_t, std::int32_t,
+        std::uint32_t, std::int64_t, std::uint64_t, long, long long, std::size_t, float, double,
+        long double, char, std::byte, color, vb_u128, pair_of_numbers>(all);
+#ifdef __SIZEOF_INT128__
+    __extension__ typedef __int128 wide;
+    keeps_of_types<wide>(all);
+#endif
+    const std::array<bool, 8> flags = {true, false, true, true, false, false, true, false};
+    std::array<bool, 8> kept = {};
+    check(bits(buffer{0x0D}, 0, 8).keep_into(flags, kept) == 3 && kept[0] && kept[1] && kept[2],
+        "bools that are kept");
+}
+
 static void refusals()
 {
     buffer two(2), none;
@@ -193,6 +277,9 @@ int main()
         questions(all, l, len, below(len + 2));
         writes(all, l, other, below(8 * other.size() - len + 1), len);
     }
+    buffer all(170);
+    std::generate(all.begin(), all.end(), [&] { return static_cast<std::uint8_t>(random()); });
+    types(all);
     takes();
     filters();
     refusals();

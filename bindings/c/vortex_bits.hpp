@@ -23,6 +23,7 @@
 #include <cstddef>
 #include <cstdint>
 #include <cstdlib>
+#include <limits>
 #include <optional>
 #include <stdexcept>
 #include <type_traits>
@@ -72,6 +73,53 @@ template <class Container, class Byte>
 using lends = std::enable_if_t<
     std::is_convertible_v<decltype(std::declval<Container &>().data()), Byte *>
     && std::is_convertible_v<decltype(std::declval<Container &>().size()), std::size_t>>;
+
+/* The type of what a container's data() points to; void where it has none. */
+template <class Container, class = void> struct lent { using type = void; };
+template <class Container>
+struct lent<Container, std::void_t<decltype(std::declval<Container &>().data())>> {
+    using type = std::remove_pointer_t<decltype(std::declval<Container &>().data())>;
+};
+template <class Container> using lent_t = typename lent<Container>::type;
+
+/* The type of the C functions for items of so many bytes, or void, and their filter. */
+template <class Type, std::size_t (*Keep)(Type *, std::size_t, const Type *, std::size_t,
+    const std::uint8_t *, std::size_t, std::size_t)>
+struct by {
+    using type = Type;
+    static constexpr auto keep = Keep;
+};
+template <std::size_t Size> struct laid { using type = void; };
+template <> struct laid<1> : by<std::uint8_t, vb_filter_u8> {};
+template <> struct laid<2> : by<std::uint16_t, vb_filter_u16> {};
+template <> struct laid<4> : by<std::uint32_t, vb_filter_u32> {};
+template <> struct laid<8> : by<std::uint64_t, vb_filter_u64> {};
+template <> struct laid<16> : by<vb_u128, vb_filter_u128> {};
+
+/* Whether items of the type may be copied as such a type's are. */
+template <class Item> constexpr bool is_value()
+{
+    if constexpr (std::is_object_v<Item>) {
+        using as = typename laid<sizeof(Item)>::type;
+        if constexpr (!std::is_void_v<as>) {
+            return std::is_trivially_copyable_v<Item> && alignof(Item) % alignof(as) == 0;
+        }
+    }
+    return false;
+}
+
+template <class Item> constexpr bool is_index()
+{
+    if constexpr (std::is_integral_v<Item> && !std::is_same_v<Item, bool>) {
+        return sizeof(Item) <= 8;
+    }
+    return false;
+}
+
+template <class Out> constexpr bool is_bytes()
+{
+    return std::is_same_v<lent_t<std::remove_reference_t<Out>>, std::uint8_t>;
+}
 
 } // namespace detail
 
@@ -183,15 +231,14 @@ public:
     }
 
     /*
-     * Writes the bits at the indices, of std::uint32_t or std::uint64_t, to the first bits of
+     * Writes the bits at the indices, of a whole number of 8 to 64 bits, to the first bits of
      * `out`, one each; answers the first position whose index is not a place, if there is one, and
      * these bits then hold anything.
      */
     template <class Indices, class Out>
     std::optional<std::size_t> take_into(const Indices &indices, Out &&out) const
     {
-        detail::expect(fits(out.size(), 0, indices.size()), "no room for a bit an index");
-        return detail::place(take(indices.data(), indices.size(), out.data(), out.size()));
+        return take(indices, nullptr, out);
     }
 
     /* The same where `valid` is true; at the other positions false is written. */
@@ -199,9 +246,7 @@ public:
     std::optional<std::size_t> take_into(const Indices &indices, bits valid, Out &&out) const
     {
         detail::expect(valid.len_ == indices.size(), "not a bit of validity for each index");
-        detail::expect(fits(out.size(), 0, indices.size()), "no room for a bit an index");
-        return detail::place(
-            take_valid(indices.data(), indices.size(), valid, out.data(), out.size()));
+        return take(indices, &valid, out);
     }
 
     /*
@@ -210,6 +255,7 @@ public:
      */
     template <class Out> std::size_t filter_into(bits mask, Out &&out) const
     {
+        static_assert(detail::is_bytes<Out>(), "filter_into writes bytes of std::uint8_t");
         detail::expect(mask.len_ == len_, "windows are of two lengths");
         detail::expect(fits(out.size(), 0, mask.count_ones()), "no room for the bits to keep");
         return vb_filter_bits(out.data(), out.size(), bytes_, size_, offset_, mask.bytes_,
@@ -218,14 +264,28 @@ public:
 
     /*
      * Writes those of as many values as there are bits whose bit is true, in order, to the front of
-     * `out`, and answers how many these are. They are unsigned, of 8, 16, 32 or 64 bits, or vb_u128.
+     * `out`, and answers how many these are. They are whole numbers, floats, bool, vb_u128, or
+     * others that are copied as bytes: of 1, 2, 4, 8 or 16 bytes, and aligned as a whole number of
+     * that size, those of 16 as one of 8.
      */
     template <class Values, class Out>
     std::size_t keep_into(const Values &values, Out &&out) const
     {
+        using value = std::remove_cv_t<detail::lent_t<const Values>>;
+        static_assert(detail::is_value<value>(),
+            "keep_into takes values of 1, 2, 4, 8 or 16 bytes that are copied and aligned as whole "
+            "numbers are: these, floats, bool, vb_u128. std::vector<bool> has none of them");
+        static_assert(std::is_same_v<detail::lent_t<std::remove_reference_t<Out>>, value>,
+            "keep_into writes values of the type that it reads");
         detail::expect(values.size() == len_, "not a bit for each value");
         detail::expect(count_ones() <= out.size(), "no room for the values to keep");
-        return keep(out.data(), out.size(), values.data());
+        if constexpr (detail::is_value<value>()) {
+            using laid = detail::laid<sizeof(value)>;
+            return laid::keep(reinterpret_cast<typename laid::type *>(out.data()), out.size(),
+                reinterpret_cast<const typename laid::type *>(values.data()), len_, bytes_, size_,
+                offset_);
+        }
+        return 0;
     }
 
 private:
@@ -243,55 +303,74 @@ private:
         }
     }
 
-    vb_place take(const std::uint32_t *indices, std::size_t n, std::uint8_t *out,
-        std::size_t size) const
+    template <class Indices, class Out>
+    std::optional<std::size_t> take(const Indices &indices, const bits *valid, Out &out) const
     {
-        return vb_take_u32(out, size, bytes_, size_, offset_, len_, indices, n);
+        using index = std::remove_cv_t<detail::lent_t<const Indices>>;
+        static_assert(detail::is_index<index>(),
+            "take_into takes indices of a whole number of 8, 16, 32 or 64 bits");
+        static_assert(detail::is_bytes<Out>(), "take_into writes bytes of std::uint8_t");
+        detail::expect(fits(out.size(), 0, indices.size()), "no room for a bit an index");
+        if constexpr (detail::is_index<index>()) {
+            const bits named = reach<index>();
+            if constexpr (sizeof(index) < 4) {
+                return named.take_narrow(indices.data(), indices.size(), valid, out);
+            } else {
+                using as = typename detail::laid<sizeof(index)>::type;
+                const as *from = reinterpret_cast<const as *>(indices.data());
+                return detail::place(
+                    named.take_laid(from, indices.size(), valid, out.data(), out.size()));
+            }
+        }
+        return std::nullopt;
     }
 
-    vb_place take(const std::uint64_t *indices, std::size_t n, std::uint8_t *out,
-        std::size_t size) const
+    /* The bits that indices of the type can name: negative ones are read as places behind them. */
+    template <class Index> bits reach() const
     {
-        return vb_take_u64(out, size, bytes_, size_, offset_, len_, indices, n);
+        if constexpr (std::is_signed_v<Index>) {
+            const auto most = static_cast<std::size_t>(std::numeric_limits<Index>::max()) + 1;
+            return slice(0, std::min(len_, most));
+        }
+        return *this;
     }
 
-    vb_place take_valid(const std::uint32_t *indices, std::size_t n, bits valid, std::uint8_t *out,
-        std::size_t size) const
+    /* By indices that are made wider, a block at a time. */
+    template <class Index, class Out>
+    std::optional<std::size_t> take_narrow(const Index *indices, std::size_t n, const bits *valid,
+        Out &out) const
     {
-        return vb_take_valid_u32(out, size, bytes_, size_, offset_, len_, indices, n, valid.bytes_,
-            valid.size_, valid.offset_);
+        std::array<std::uint32_t, 512> wide;
+        for (std::size_t at = 0; at < n; at += wide.size()) {
+            const std::size_t some = std::min(wide.size(), n - at);
+            const bits part = valid != nullptr ? valid->slice(at, some) : bits();
+            std::transform(indices + at, indices + at + some, wide.begin(),
+                [](Index index) { return static_cast<std::uint32_t>(index); });
+            const vb_place past = take_laid(wide.data(), some, valid != nullptr ? &part : nullptr,
+                out.data() + at / 8, out.size() - at / 8);
+            if (past.found) {
+                return at + past.index;
+            }
+        }
+        return std::nullopt;
     }
 
-    vb_place take_valid(const std::uint64_t *indices, std::size_t n, bits valid, std::uint8_t *out,
-        std::size_t size) const
+    vb_place take_laid(const std::uint32_t *indices, std::size_t n, const bits *valid,
+        std::uint8_t *out, std::size_t size) const
     {
-        return vb_take_valid_u64(out, size, bytes_, size_, offset_, len_, indices, n, valid.bytes_,
-            valid.size_, valid.offset_);
+        return valid == nullptr
+            ? vb_take_u32(out, size, bytes_, size_, offset_, len_, indices, n)
+            : vb_take_valid_u32(out, size, bytes_, size_, offset_, len_, indices, n, valid->bytes_,
+                  valid->size_, valid->offset_);
     }
 
-    std::size_t keep(std::uint8_t *out, std::size_t room, const std::uint8_t *values) const
+    vb_place take_laid(const std::uint64_t *indices, std::size_t n, const bits *valid,
+        std::uint8_t *out, std::size_t size) const
     {
-        return vb_filter_u8(out, room, values, len_, bytes_, size_, offset_);
-    }
-
-    std::size_t keep(std::uint16_t *out, std::size_t room, const std::uint16_t *values) const
-    {
-        return vb_filter_u16(out, room, values, len_, bytes_, size_, offset_);
-    }
-
-    std::size_t keep(std::uint32_t *out, std::size_t room, const std::uint32_t *values) const
-    {
-        return vb_filter_u32(out, room, values, len_, bytes_, size_, offset_);
-    }
-
-    std::size_t keep(std::uint64_t *out, std::size_t room, const std::uint64_t *values) const
-    {
-        return vb_filter_u64(out, room, values, len_, bytes_, size_, offset_);
-    }
-
-    std::size_t keep(vb_u128 *out, std::size_t room, const vb_u128 *values) const
-    {
-        return vb_filter_u128(out, room, values, len_, bytes_, size_, offset_);
+        return valid == nullptr
+            ? vb_take_u64(out, size, bytes_, size_, offset_, len_, indices, n)
+            : vb_take_valid_u64(out, size, bytes_, size_, offset_, len_, indices, n, valid->bytes_,
+                  valid->size_, valid->offset_);
     }
 
     const std::uint8_t *bytes_ = nullptr;
@@ -367,6 +446,7 @@ private:
 /* Packs bytes, each of which is true where it is not 0, into the first bytes of `out`. */
 template <class Bytes, class Out> void pack_truthy(const Bytes &truthy, Out &&out)
 {
+    static_assert(detail::is_bytes<Out>(), "pack_truthy writes bytes of std::uint8_t");
     detail::expect(fits(out.size(), 0, truthy.size()), "no room for a bit a byte");
     vb_pack_truthy(out.data(), out.size(), truthy.data(), truthy.size());
 }
