@@ -5,9 +5,11 @@
 mod call;
 mod filter;
 mod gather;
+mod walk;
 
 pub use filter::{filter, keep};
 pub use gather::{pack_bools, pack_truthy, take};
+pub use walk::{set_indices, set_slices};
 
 use crate::{Bits, BitsMut, blocks, portable};
 
@@ -113,24 +115,6 @@ pub fn equal(left: Bits<'_>, right: Bits<'_>) -> bool {
     }
     native!(equal_bits: start left, window right);
     portable::equal(left, right)
-}
-
-/// Writes the places of the true bits to the front of `out`, and answers how many have room.
-#[inline]
-pub fn set_indices(bits: Bits<'_>, out: &mut [usize]) -> usize {
-    if !is_word(bits) {
-        native!(set_indices: window bits, slice_mut out);
-    }
-    portable::set_indices(bits, out)
-}
-
-/// Writes the runs of true bits to the front of `out`, and answers how many have room.
-#[inline]
-pub fn set_slices(bits: Bits<'_>, out: &mut [Run]) -> usize {
-    if !is_word(bits) {
-        native!(set_slices: window bits, slice_mut out);
-    }
-    portable::set_slices(bits, out)
 }
 
 #[inline]

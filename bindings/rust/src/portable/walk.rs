@@ -1,12 +1,13 @@
-//! Places and runs of true bits, written into a slice.
+//! Places and runs of true bits, written into a slice. Nothing is read once the room is full.
 
-use super::word::words;
+use super::word::word_at;
 use crate::Bits;
 use crate::kernels::Run;
 
 pub fn set_indices(bits: Bits<'_>, out: &mut [usize]) -> usize {
-    let mut written = 0;
-    for (i, mut word) in words(bits).enumerate() {
+    let (mut written, mut i) = (0, 0);
+    while written < out.len() && 64 * i < bits.len() {
+        let mut word = word_at(bits, i);
         while word != 0 {
             let Some(place) = out.get_mut(written) else {
                 return written;
@@ -15,15 +16,17 @@ pub fn set_indices(bits: Bits<'_>, out: &mut [usize]) -> usize {
             word &= word - 1;
             written += 1;
         }
+        i += 1;
     }
     written
 }
 
 /// A run begins at each bit that differs from the one before it, and ends at the next one.
 pub fn set_slices(bits: Bits<'_>, out: &mut [Run]) -> usize {
-    let (mut runs, mut written) = (out.iter_mut(), 0);
+    let (mut written, mut i) = (0, 0);
     let (mut begun, mut last) = (None, 0);
-    for (i, word) in words(bits).enumerate() {
+    while written < out.len() && 64 * i < bits.len() {
+        let word = word_at(bits, i);
         let mut edges = word ^ (word << 1 | last);
         last = word >> 63;
         while edges != 0 {
@@ -33,14 +36,15 @@ pub fn set_slices(bits: Bits<'_>, out: &mut [Run]) -> usize {
                 begun = Some(place);
                 continue;
             };
-            let Some(run) = runs.next() else {
+            let Some(run) = out.get_mut(written) else {
                 return written;
             };
             *run = Run { start, end: place };
             written += 1;
         }
+        i += 1;
     }
-    if let (Some(start), Some(run)) = (begun, runs.next()) {
+    if let (Some(start), Some(run)) = (begun, out.get_mut(written)) {
         let end = bits.len();
         *run = Run { start, end };
         written += 1;

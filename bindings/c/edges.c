@@ -1,0 +1,148 @@
+/*
+ * Walks over pages of memory: beside a loop over single bits, and with a page behind what was asked
+ * for that can't be read. Packs of bools of all values that a byte has. It is C and C++ alike.
+ */
+#ifndef _DEFAULT_SOURCE
+#define _DEFAULT_SOURCE
+#endif
+#include "vortex_bits.h"
+
+#include <stdio.h>
+#include <string.h>
+#include <sys/mman.h>
+
+enum { PAGE = 4096, PAGES = 4, BYTES = PAGE * PAGES, BITS = 8 * BYTES, ROUNDS = 300 };
+
+static uint64_t state = 88172645463325252u;
+static int failures = 0;
+static size_t places[BITS];
+static vb_run runs[BITS / 2 + 1];
+
+static size_t random_below(size_t n)
+{
+    state ^= state << 13;
+    state ^= state >> 7;
+    state ^= state << 17;
+    return (size_t)(state % n);
+}
+
+static void check(bool holds, const char *what)
+{
+    if (!holds) {
+        failures++;
+        fprintf(stderr, "failed: %s\n", what);
+    }
+}
+
+static bool bit(const uint8_t *bytes, size_t i)
+{
+    return (bytes[i / 8] >> (i % 8) & 1) != 0;
+}
+
+/* Bytes of one kind after the other: all false, all true, and any. */
+static void randomize(uint8_t *bytes)
+{
+    size_t kind = 0;
+    for (size_t i = 0; i < BYTES; i++) {
+        if (random_below(700) == 0) {
+            kind = random_below(3);
+        }
+        bytes[i] = kind == 0 ? 0 : kind == 1 ? 255 : (uint8_t)random_below(256);
+    }
+}
+
+/* The first `room` places and runs of the window are what a loop finds. */
+static void walk(const uint8_t *bytes, size_t offset, size_t len, size_t room)
+{
+    size_t seen = 0, begun = 0, ended = 0, count = 0;
+    const size_t found = vb_set_indices(bytes, BYTES, offset, len, places, room);
+    check(vb_try_set_indices(bytes, BYTES, offset, len, places, room, &count) && count == found,
+        "vb_try_set_indices");
+    for (size_t i = 0; i < len; i++) {
+        if (bit(bytes, offset + i)) {
+            check(seen >= room || places[seen] == i, "a place");
+            seen++;
+        }
+    }
+    check(found == (seen < room ? seen : room), "vb_set_indices");
+    const size_t slices = vb_set_slices(bytes, BYTES, offset, len, runs, room);
+    check(vb_try_set_slices(bytes, BYTES, offset, len, runs, room, &count) && count == slices,
+        "vb_try_set_slices");
+    for (size_t i = 0; i <= len; i++) {
+        const bool here = i < len && bit(bytes, offset + i);
+        if (here && (i == 0 || !bit(bytes, offset + i - 1))) {
+            begun = i;
+        }
+        if (!here && i > 0 && bit(bytes, offset + i - 1)) {
+            check(ended >= room || (runs[ended].start == begun && runs[ended].end == i), "a run");
+            ended++;
+        }
+    }
+    check(slices == (ended < room ? ended : room), "vb_set_slices");
+}
+
+/* Memory whose last pages can't be read, behind `PAGES` that can. */
+static uint8_t *guarded(size_t behind)
+{
+    const size_t size = BYTES + behind;
+    void *all = mmap(NULL, size, PROT_READ | PROT_WRITE, MAP_PRIVATE | MAP_ANONYMOUS, -1, 0);
+    if (all == MAP_FAILED || mprotect((uint8_t *)all + BYTES, behind, PROT_NONE) != 0) {
+        perror("mmap");
+        return NULL;
+    }
+    return (uint8_t *)all;
+}
+
+/* As many items as have room are found, and what is behind the page of the last one isn't read. */
+static void stops(uint8_t *bytes, size_t behind)
+{
+    const size_t size = BYTES + behind;
+    memset(bytes, 0, BYTES);
+    bytes[1] = 0x15;
+    bytes[BYTES - 1] = 0x20;
+    check(vb_set_indices(bytes, size, 0, 8 * size, places, 4) == 4 && places[3] == BITS - 3,
+        "the last place before memory ends");
+    check(vb_set_slices(bytes, size, 3, 8 * size - 3, runs, 4) == 4 && runs[3].start == BITS - 6
+            && runs[3].end == BITS - 5, "the last run before memory ends");
+    check(vb_set_indices(bytes, size, 8 * size, 0, places, 0) == 0, "no room and no bits");
+    check(vb_set_slices(bytes, size, BITS, 8 * behind, runs, 0) == 0, "no room");
+}
+
+/* A byte of any value is true where it isn't 0, and changes no bit beside its own. */
+static void bools(void)
+{
+    enum { N = 200, OUT = N / 8 };
+    uint8_t bytes[N], got[OUT], wanted[OUT];
+    for (size_t value = 0; value < 256; value++) {
+        for (size_t n = 1; n <= N; n += 7) {
+            memset(wanted, 0, OUT);
+            for (size_t i = 0; i < n; i++) {
+                bytes[i] = (uint8_t)(random_below(3) == 0 ? value : random_below(2));
+                wanted[i / 8] |= (uint8_t)((bytes[i] != 0) << (i % 8));
+            }
+            memset(got, 0, OUT);
+            vb_pack_bools(got, OUT, (const bool *)(const void *)bytes, n);
+            check(memcmp(got, wanted, OUT) == 0, "vb_pack_bools of any bytes");
+            memset(got, 0, OUT);
+            check(vb_try_pack_bools(got, OUT, (const bool *)(const void *)bytes, n)
+                    && memcmp(got, wanted, OUT) == 0, "vb_try_pack_bools of any bytes");
+        }
+    }
+}
+
+int main(void)
+{
+    const size_t behind = 8 * (size_t)PAGE;
+    uint8_t *bytes = guarded(behind);
+    if (bytes == NULL) {
+        return 2;
+    }
+    for (int round = 0; round < ROUNDS; round++) {
+        randomize(bytes);
+        const size_t offset = random_below(BITS + 1), len = random_below(BITS - offset + 1);
+        walk(bytes, offset, len, random_below(3) == 0 ? random_below(50) : random_below(len + 1));
+    }
+    stops(bytes, behind);
+    bools();
+    return failures == 0 ? 0 : 1;
+}

@@ -1,0 +1,126 @@
+/*
+ * The functions of vortex_bits.h that aren't calls of a level and no more.
+ *
+ * Walks go by pages of memory: those of a level ask for one item more before they see that the room
+ * is full, and would read on up to it.
+ */
+#ifndef VORTEX_BITS_BY_HAND_H
+#define VORTEX_BITS_BY_HAND_H
+
+/* As large as a page of memory, or a part of one. */
+enum { PAGE = 4096 };
+
+/* How many of the `len` bits from bit `start` on lie before the end of its page. */
+static size_t in_page(const uint8_t *bytes, size_t start, size_t len)
+{
+    const size_t left = 8 * (PAGE - (uintptr_t)(bytes + start / 8) % PAGE) - start % 8;
+    return left < len ? left : len;
+}
+
+/* How many bytes have the bits before bit `end`. */
+static size_t bytes_of(size_t end)
+{
+    return end / 8 + (end % 8 != 0);
+}
+
+/* Whether the window lies in its bytes: a checked take tests it, and of no index reads none. */
+static bool fits(const uint8_t *bytes, size_t size, size_t offset, size_t len)
+{
+    uint8_t *const out = (uint8_t *)&nothing;
+    const uint32_t *const indices = (const uint32_t *)&nothing;
+    vb_place past;
+    return CALL(try_take_u32)(out, 0, ANY(bytes), size, offset, len, indices, 0, &past);
+}
+
+size_t vb_set_indices(const uint8_t *bytes, size_t size, size_t offset, size_t len, size_t *out,
+    size_t room)
+{
+    if (room >= len) {
+        return CALL(set_indices)(ANY(bytes), size, offset, len, ANY(out), room);
+    }
+    size_t written = 0;
+    for (size_t at = 0, n; at < len && written < room; at += n) {
+        const size_t start = offset + at;
+        n = in_page(bytes, start, len - at);
+        const size_t found = CALL(set_indices)(bytes, bytes_of(start + n), start, n, out + written,
+            room - written);
+        for (size_t k = 0; k < found; k++) {
+            out[written + k] += at;
+        }
+        written += found;
+    }
+    return written;
+}
+
+bool vb_try_set_indices(const uint8_t *bytes, size_t size, size_t offset, size_t len, size_t *out,
+    size_t room, size_t *count)
+{
+    if (!fits(bytes, size, offset, len)) {
+        return false;
+    }
+    *count = vb_set_indices(bytes, size, offset, len, out, room);
+    return true;
+}
+
+/* Where a run of true bits ends that reaches place `at` of a window, or ends there. */
+static size_t run_end(const uint8_t *bytes, size_t offset, size_t at, size_t len)
+{
+    for (size_t n; at < len; at += n) {
+        const size_t start = offset + at;
+        n = in_page(bytes, start, len - at);
+        const vb_place behind = CALL(bit_select_unset)(bytes, bytes_of(start + n), start, n, 0);
+        if (behind.found) {
+            return at + behind.index;
+        }
+    }
+    return len;
+}
+
+size_t vb_set_slices(const uint8_t *bytes, size_t size, size_t offset, size_t len, vb_run *out,
+    size_t room)
+{
+    /* There are no more runs than that. */
+    if (room >= len - len / 2) {
+        return CALL(set_slices)(ANY(bytes), size, offset, len, ANY(out), room);
+    }
+    size_t written = 0, at = 0;
+    while (at < len && written < room) {
+        const size_t start = offset + at, n = in_page(bytes, start, len - at);
+        const size_t found = CALL(set_slices)(bytes, bytes_of(start + n), start, n, out + written,
+            room - written);
+        for (size_t k = 0; k < found; k++) {
+            out[written + k].start += at;
+            out[written + k].end += at;
+        }
+        written += found;
+        at += n;
+        if (found != 0 && out[written - 1].end == at) {
+            at = run_end(bytes, offset, at, len);
+            out[written - 1].end = at;
+        }
+    }
+    return written;
+}
+
+bool vb_try_set_slices(const uint8_t *bytes, size_t size, size_t offset, size_t len, vb_run *out,
+    size_t room, size_t *count)
+{
+    if (!fits(bytes, size, offset, len)) {
+        return false;
+    }
+    *count = vb_set_slices(bytes, size, offset, len, out, room);
+    return true;
+}
+
+/* Bools are packed as bytes, so that one that no compiler makes changes no bit beside its own. */
+void vb_pack_bools(uint8_t *out, size_t out_size, const bool *bools, size_t count)
+{
+    CALL(pack_truthy)(ANY(out), out_size, ANY((const uint8_t *)bools), count);
+}
+
+bool vb_try_pack_bools(uint8_t *out, size_t out_size, const bool *bools, size_t count)
+{
+    return CALL(try_pack_truthy)(ANY(out), out_size, ANY((const uint8_t *)bools), count);
+}
+
+#endif

@@ -1,0 +1,109 @@
+//! Places and runs of true bits, written into a slice. The C functions ask for one item more before
+//! they see that the room is full, and would read on up to it: they go by pages of memory.
+
+use super::Run;
+use crate::{Bits, portable};
+
+#[cfg(vortex_bits_native)]
+use super::{is_word, select_unset};
+#[cfg(vortex_bits_native)]
+use crate::level::kernels;
+#[cfg(vortex_bits_native)]
+use crate::native::Kernels;
+
+/// Writes the places of the true bits to the front of `out`, and answers how many have room.
+#[inline]
+pub fn set_indices(bits: Bits<'_>, out: &mut [usize]) -> usize {
+    #[cfg(vortex_bits_native)]
+    if let Some(kernels) = kernels().filter(|_| !is_word(bits)) {
+        return indices_by_pages(kernels, bits, out);
+    }
+    portable::set_indices(bits, out)
+}
+
+/// Writes the runs of true bits to the front of `out`, and answers how many have room.
+#[inline]
+pub fn set_slices(bits: Bits<'_>, out: &mut [Run]) -> usize {
+    #[cfg(vortex_bits_native)]
+    if let Some(kernels) = kernels().filter(|_| !is_word(bits)) {
+        return slices_by_pages(kernels, bits, out);
+    }
+    portable::set_slices(bits, out)
+}
+
+/// The bits from place `start` on up to the end of their page, over bytes that end there.
+#[cfg(vortex_bits_native)]
+fn in_page(bits: Bits<'_>, start: usize) -> Bits<'_> {
+    const PAGE: usize = 4096;
+    let first = bits.offset() + start;
+    let within = (bits.bytes().as_ptr().addr() + first / 8) % PAGE;
+    let len = (8 * (PAGE - within) - first % 8).min(bits.len() - start);
+    Bits::new(&bits.bytes()[..(first + len).div_ceil(8)], first, len)
+}
+
+#[cfg(vortex_bits_native)]
+fn indices_by_pages(kernels: &Kernels, bits: Bits<'_>, out: &mut [usize]) -> usize {
+    if out.len() >= bits.len() {
+        return indices(kernels, bits, 0, out);
+    }
+    let (mut written, mut at) = (0, 0);
+    while at < bits.len() && written < out.len() {
+        let page = in_page(bits, at);
+        written += indices(kernels, page, at, &mut out[written..]);
+        at += page.len();
+    }
+    written
+}
+
+#[cfg(vortex_bits_native)]
+fn slices_by_pages(kernels: &Kernels, bits: Bits<'_>, out: &mut [Run]) -> usize {
+    if out.len() >= bits.len().div_ceil(2) {
+        return slices(kernels, bits, 0, out);
+    }
+    let (mut written, mut at) = (0, 0);
+    while at < bits.len() && written < out.len() {
+        let page = in_page(bits, at);
+        written += slices(kernels, page, at, &mut out[written..]);
+        at += page.len();
+        if let Some(last) = out[..written].last_mut().filter(|last| last.end == at) {
+            at = run_end(bits, at);
+            last.end = at;
+        }
+    }
+    written
+}
+
+/// Where a run of true bits ends that reaches this place, or ends there.
+#[cfg(vortex_bits_native)]
+fn run_end(bits: Bits<'_>, start: usize) -> usize {
+    let mut at = start;
+    while at < bits.len() {
+        let page = in_page(bits, at);
+        if let Some(behind) = select_unset(page, 0) {
+            return at + behind;
+        }
+        at += page.len();
+    }
+    at
+}
+
+/// The places of a page, counted from `base` on.
+#[cfg(vortex_bits_native)]
+fn indices(kernels: &Kernels, page: Bits<'_>, base: usize, out: &mut [usize]) -> usize {
+    let found = native!(@call kernels.set_indices, [] window page, slice_mut out);
+    for place in &mut out[..found] {
+        *place += base;
+    }
+    found
+}
+
+/// The runs of a page, counted from `base` on.
+#[cfg(vortex_bits_native)]
+fn slices(kernels: &Kernels, page: Bits<'_>, base: usize, out: &mut [Run]) -> usize {
+    let found = native!(@call kernels.set_slices, [] window page, slice_mut out);
+    for run in &mut out[..found] {
+        run.start += base;
+        run.end += base;
+    }
+    found
+}
