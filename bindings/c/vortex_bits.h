@@ -1,16 +1,21 @@
 /*
  * Windows of bits over the caller's bytes: counted, searched, compared, filled, copied, combined,
- * packed, taken, filtered, walked and ranked by functions that are proved to meet their definitions.
+ * packed, taken, filtered, walked and ranked by functions that are proved to meet their
+ * definitions.
  *
  *     cc -O2 app.c -I DIST/include DIST/lib/libvortex_bits.a
- *     cc -O2 app.c $(pkg-config --cflags --libs --static vortex_bits)
+ *     cc -O2 app.c $(pkg-config --cflags --libs vortex_bits-static)
+ *     cc -O2 app.c $(pkg-config --cflags --libs vortex_bits)
  *
- * A checkout has this file in bindings/c, and the libraries in bindings/out once bindings/run has
- * made them. vortex_bits.hpp beside it has the windows as C++ classes.
+ * The last is the shared library. A checkout has this file in bindings/c, and the libraries in
+ * bindings/out once bindings/run has made them. vortex_bits.hpp beside it has the windows as C++
+ * classes.
  *
- * libvortex_bits.a has code for x86-64-v2 and for x86-64-v3, and takes the higher one that the
- * processor has. libvortex_bits_x86-64-v2.a and libvortex_bits_x86-64-v3.a have one of them. A
- * processor that doesn't have the level gets an illegal instruction (SIGILL); vb_has_level tells.
+ * libvortex_bits.a and libvortex_bits.so have code for x86-64-v2 and for x86-64-v3, and take the
+ * higher one that the processor has. libvortex_bits_x86-64-v2.a and libvortex_bits_x86-64-v3.a have
+ * one of them. A processor that doesn't have the level gets an illegal instruction (SIGILL);
+ * vb_has_level tells. What an archive defines is hidden: a shared library that is made over it
+ * gives none of these names on.
  *
  * Bit i of some bytes is digit i % 8 of byte i / 8, least significant first. A window is the `len`
  * bits from bit `offset` on; no function reads or changes a bit outside of the windows that it
@@ -29,7 +34,9 @@
  * and all may be called on any thread.
  *
  * Proved are the functions of each level. Written by hand, and tested, is what stands before them:
- * a null pointer is made one that they accept, and the level is chosen.
+ * a null pointer is made one that they accept; the level is chosen; vb_set_indices, vb_set_slices
+ * and their checked forms go by pages of memory, and join runs that reach over their ends;
+ * vb_pack_bools is vb_pack_truthy of the same bytes. So are the classes of vortex_bits.hpp.
  */
 #ifndef VORTEX_BITS_H
 #define VORTEX_BITS_H
@@ -111,7 +118,8 @@ VB_CHECKED bool vb_try_equal_bits(const uint8_t *left, size_t left_size, size_t 
 
 /*
  * Writes the places of the true bits, in ascending order, to the front of `out`, as many as have
- * room, and answers (`count`) how many these are.
+ * room, and answers (`count`) how many these are. No page of memory is read behind that of the last
+ * one that has room.
  */
 size_t vb_set_indices(const uint8_t *bytes, size_t size, size_t offset, size_t len, size_t *out,
         size_t room);
@@ -120,7 +128,8 @@ VB_CHECKED bool vb_try_set_indices(const uint8_t *bytes, size_t size, size_t off
 
 /*
  * Writes the runs of true bits, from front to end, each as long as can be, to the front of `out`,
- * as many as have room, and answers (`count`) how many these are.
+ * as many as have room, and answers (`count`) how many these are. No page of memory is read behind
+ * that of the end of the last one that has room.
  */
 size_t vb_set_slices(const uint8_t *bytes, size_t size, size_t offset, size_t len, vb_run *out,
         size_t room);
@@ -215,8 +224,7 @@ VB_CHECKED bool vb_try_and_not_into(uint8_t *out, size_t out_size, size_t out_of
 /*
  * Packs `count` truth values into the first bytes of `out`, eight into each; the bits of the last
  * one behind them are false, and later bytes stay. `out` has room for as many bits. A `bool` is a
- * byte 0 or 1, as the compiler makes it: of another one, written through a pointer, the lowest bit
- * counts. vb_pack_truthy takes bytes that hold anything.
+ * byte 0 or 1, as the compiler makes it: another one, written through a pointer, counts as true.
  */
 void vb_pack_bools(uint8_t *out, size_t out_size, const bool *bools, size_t count);
 VB_CHECKED bool vb_try_pack_bools(uint8_t *out, size_t out_size, const bool *bools, size_t count);
@@ -273,7 +281,10 @@ VB_CHECKED bool vb_try_filter_bits(uint8_t *out, size_t out_size, const uint8_t 
 
 /*
  * The same of `count` values of 1, 2, 4, 8 or 16 bytes each, with a bit of `mask` for each; `room`
- * is how many of them `out` has room for.
+ * is how many of them `out` has room for. Values are copied as they are, so those of another type
+ * of the size, aligned as that one is, go by casts of both pointers:
+ *
+ *     vb_filter_u64((uint64_t *)kept, room, (const uint64_t *)doubles, count, mask, size, 0);
  */
 size_t vb_filter_u8(uint8_t *out, size_t room, const uint8_t *values, size_t count,
         const uint8_t *mask, size_t mask_size, size_t mask_offset);
