@@ -1,6 +1,6 @@
 //! The outbox as it was while each piece of an answer was put by itself: a number, a comma, a dash,
 //! a line feed. Sessions are compared with it, since no contract says how wide a write is.
-ghost use Rattle.std.specs.Prelude.{◌≡◌, [], OnOk};
+ghost use Rattle.std.specs.Prelude.{◌≡◌, ◌+◌, ◌≤◌, [], length, vec_capacity, OnOk};
 
 use itoa::Buffer;
 use std::alloc::{AllocError, Global};
@@ -91,17 +91,29 @@ impl OneByOne {
         self.put_number(end, output)
     }
 
-    /// Adds truth values as binary digits, at most as many as there is room for at all, and so as
-    /// one piece. Each digit is written as 1, since widths alone are compared.
+    /// Adds truth values as binary digits.
     fn put_bits<W: Sink>(&mut self, bits: &[bool], output: &mut W) -> Result<(), Fault> {
         if bits.is_empty() {
             return self.put(b"-", output);
         }
+        let mut start = 0;
+        while start < bits.len() {
+            let end = start + ROOM.min(bits.len() - start);
+            self.put_block(&bits[start..end], output)?;
+            start = end;
+        }
+        Ok(())
+    }
+
+    /// Adds truth values as binary digits, no more than there is room for. What waits is written
+    /// first where there is no room for both.
+    fn put_block<W: Sink>(&mut self, bits: &[bool], output: &mut W) -> Result<(), Fault>
+        requires { length bits.now ≤ 65536 }
+    {
         if bits.len() > ROOM - self.bytes.len() {
             self.flush(output)?;
         }
-        let count = bits.len().min(ROOM - self.bytes.len());
-        self.bytes.resize(self.bytes.len() + count, b'1').unwrap();
+        push_digits(&mut self.bytes, bits);
         Ok(())
     }
 
@@ -128,4 +140,29 @@ impl OneByOne {
         self.bytes.clear();
         Ok(())
     }
+}
+
+/// Adds truth values as binary digits to bytes that have room for them.
+fn push_digits(bytes: &mut Vec<u8>, bits: &[bool])
+    requires { length bytes.old.items + length bits.now ≤ vec_capacity bytes.old }
+    ensures len { length bytes.new.items ≡ length bytes.old.items + length bits.now }
+    ensures room { vec_capacity bytes.old ≤ vec_capacity bytes.new }
+{
+    let len = bytes.len();
+    bytes.resize(len + bits.len(), 0).unwrap();
+    write_digits(&mut bytes[len..], bits);
+}
+
+/// Makes as many bytes as there are truth values the codes of their binary digits.
+fn write_digits(bytes: &mut [u8], bits: &[bool])
+    requires { length bytes.old ≡ length bits.now }
+{
+    for k in 0..bits.len() {
+        bytes[k] = digit_byte(bits[k]);
+    }
+}
+
+/// The code of a truth value's binary digit.
+fn digit_byte(bit: bool) -> u8 {
+    if bit { b'1' } else { b'0' }
 }

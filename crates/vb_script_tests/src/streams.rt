@@ -301,15 +301,15 @@ fn answers_do_not_pile_up(rt: HostRuntime) {
 const SETS: &str = "indices 1 20000 5,6,7,10,12,99,100,101,1000,12345,12346\n\
     full 2 1 7\nfreeze 2\n";
 
-/// Lines over these sets. They are answered by words, by a number, by words and a number, by places
-/// and by runs.
-const LAST_LINES: [&str; 5] = ["len 9", "last 1", "take 2 3 - 0,7", "places 1", "runs 1"];
+/// Lines over these sets. They are answered by a number, by words, by words and a number, by places
+/// and by runs, in 132 bytes.
+const LAST_LINES: &str = "last 1\nlen 9\ntake 2 3 - 0,7\nplaces 1\nruns 1\n";
 
-/// Lines whose answers fill the room of 65,536 bytes up to so many, and a last one.
-fn lines_to_room(alloc: Global, room: usize, last: &str) -> Result<String, AllocError> {
+/// Lines whose answers fill the room of 65,536 bytes up to so many, and the last ones.
+fn lines_to_room(alloc: Global, room: usize) -> Result<String, AllocError> {
     // Each `ok` takes three bytes, and so many bits one more.
     let bits = 65_536usize.saturating_sub(4 * 3 + 1).saturating_sub(room);
-    format!(in alloc; "{SETS}full 0 1 {bits}\nbits 0\n{last}\n")
+    format!(in alloc; "{SETS}full 0 1 {bits}\nbits 0\n{LAST_LINES}")
 }
 
 /// The lines are answered, and what they are answered is put into the sink piece by piece.
@@ -327,7 +327,7 @@ fn put_one_by_one(rt: &impl Abort, alloc: Global, lines: &str, sink: &mut impl S
 }
 
 /// A session over these lines writes as many bytes at each write as it does piece by piece.
-fn is_cut_between_pieces(rt: &impl Abort, alloc: Global, case: (usize, &str), lines: &str) {
+fn is_cut_between_pieces(rt: &impl Abort, alloc: Global, lines: &str) {
     let (given, wanted) = (Written::default(), Written::default());
     let mut sink = ToWrite::new(Counting(&given));
     let ended = end_of(alloc, FromRead::new(lines.as_bytes()), &mut sink);
@@ -337,18 +337,33 @@ fn is_cut_between_pieces(rt: &impl Abort, alloc: Global, case: (usize, &str), li
     drop(sink);
     let widths = (given.widths.get(), wanted.widths.get());
     drop((given, wanted));
-    equal(rt, (case, ended, widths.0), (case, Ok(()), widths.1));
+    equal(rt, (lines, ended, widths.0), (lines, Ok(()), widths.1));
 }
 
-/// With each room from 0 up to past 24, which is that of a number and the byte beside it, each
-/// write has the bytes that it has where pieces come one by one.
+/// Each piece of the last answers ends at the end of the room, and at each distance from it up to
+/// past 24 bytes, which is that of a number and the byte beside it. Each write has the bytes that
+/// it has where pieces come one by one.
 #[test]
 fn writes_are_cut_between_pieces(rt: HostRuntime) {
-    for room in 0..28 {
-        for last in LAST_LINES {
-            let lines = lines_to_room(rt.alloc(), room, last).expect(&rt, "memory");
-            is_cut_between_pieces(&rt, rt.alloc(), (room, last), &lines);
-            drop(lines);
-        }
+    for room in 0..160 {
+        let lines = lines_to_room(rt.alloc(), room).expect(&rt, "memory");
+        is_cut_between_pieces(&rt, rt.alloc(), &lines);
+        drop(lines);
+    }
+}
+
+/// Lines that list as many bits as the room has bytes, and more, before other answers and behind
+/// them.
+const LONG_LISTS: &[&str] = &[
+    "full 0 1 65536\nfreeze 0\nbits 0\nlen 0\n",
+    "full 0 1 65537\nbits 0\nlen 0\n",
+    "full 0 1 131072\nbits 0\nbits 0\n",
+    "len 9\nfull 0 1 131073\nbits 0\nlast 0\nfull 1 1 65000\nbits 1\nbits 0\n",
+];
+
+#[test]
+fn lists_wider_than_the_room_are_cut_at_its_end(rt: HostRuntime) {
+    for lines in LONG_LISTS {
+        is_cut_between_pieces(&rt, rt.alloc(), lines);
     }
 }
