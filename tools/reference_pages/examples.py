@@ -257,10 +257,13 @@ class Examples:
         return self.methods[id(owner)].get(name)
 
     def methods_of(self, owner: Item) -> dict[str, Item]:
+        """The methods of a type by name, as a call finds them: its own before those of traits.
+
+        What a trait says of references to the type is no method of it.
+        """
+        of_type = [it for it in self.library.impls if it[4] is owner and not it[2].startswith("&")]
         found: dict[str, Item] = {}
-        for impl, _, _, trait, of in self.library.impls:
-            if of is owner:
-                block = trait if trait is not None else impl
-                for it in block.of_kind("fn"):
-                    found.setdefault(it.name, it)
+        for impl, trait, _, which, _ in sorted(of_type, key=lambda it: it[1] != ""):
+            for it in (which or impl).of_kind("fn"):
+                found.setdefault(it.name, it)
         return found

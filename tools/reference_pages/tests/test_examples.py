@@ -1,0 +1,40 @@
+"""Which call is shown as the example of a method that has namesakes."""
+import unittest
+from pathlib import Path
+
+from reference_pages.site import Site
+from reference_pages.tests.fixture import Repository
+
+COUNTER, USER = "crates/low/src/counter.rt", "crates/use_low/src/lib.rt"
+IMPORTED = (COUNTER, "use std::marker::Model;\n", "use crate::step::Step;\nuse std::marker::Model;\n")
+OWN = "    /// Steps.\n    pub fn step(&mut self, n: usize) {}\n"
+CALLED = (USER, "    counter.add(1);\n", "    counter.add(1);\n    counter.step(2);\n")
+
+
+def step_of(kind: str) -> str:
+    """What says how far a type steps."""
+    ghosts = "    ghost far = { λ n. n };\n\n"
+    return f"impl Step for {kind} {{\n{ghosts}    fn step(&mut self, n: usize) {{}}\n}}\n\n"
+
+
+def shown(before: str, own: str = "") -> list[str]:
+    """Which `step` shows the call of it, where this stands before the methods of the type."""
+    methods = (COUNTER, "impl Counter {\n", f"{before}impl Counter {{\n{own}")
+    with Repository(IMPORTED, methods, CALLED) as root:
+        examples = Site(Path(root)).fragments.examples
+    called = [it.called for it in examples.best.values() if it.called.name == "step"]
+    return [it.owner.head_text for it in called]
+
+
+class Namesakes(unittest.TestCase):
+    def test_a_method_of_a_type_comes_before_that_of_a_trait(self):
+        self.assertEqual(shown(step_of("Counter")), ["pub trait Step"])
+        self.assertEqual(shown(step_of("Counter"), OWN), ["impl Counter"])
+
+    def test_what_a_trait_says_of_references_is_no_method_of_the_type(self):
+        self.assertEqual(shown(step_of("&mut Counter")), [])
+        self.assertEqual(shown(step_of("&mut Counter"), OWN), ["impl Counter"])
+
+
+if __name__ == "__main__":
+    unittest.main()
