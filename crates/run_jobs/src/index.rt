@@ -1,10 +1,10 @@
 //! A bitmap index: sets of rows, combined and counted, their first places and their runs.
 use crate::digest::Digest;
-use crate::pages::{random_page, runs_page, window};
+use crate::pages::{random_page, runs_page, scattered, window};
 use crate::random::Random;
 use anyhow::Result;
 use std::alloc::Global;
-use vortex_buffer::{BitBuffer, BitBufferMut, Buffer, ByteBuffer};
+use vortex_buffer::{BitBuffer, Buffer, ByteBuffer};
 
 /// How many sets an index has.
 const SETS: usize = 22;
@@ -42,9 +42,9 @@ fn sets(alloc: Global, rows: usize, random: &mut Random) -> Result<Vec<BitBuffer
 /// none.
 fn page(alloc: Global, kind: usize, bits: usize, random: &mut Random) -> Result<ByteBuffer> {
     match kind % 10 {
-        0 => scattered(alloc, bits, 10_000, random),
-        1 | 2 => scattered(alloc, bits, 200, random),
-        3 => scattered(alloc, bits, 10, random),
+        0 => scattered(alloc, bits, 10_000, true, random),
+        1 | 2 => scattered(alloc, bits, 200, true, random),
+        3 => scattered(alloc, bits, 10, true, random),
         4 => random_page(alloc, random, bits.div_ceil(64)),
         5 => runs_page(alloc, random, bits, 60),
         6 => runs_page(alloc, random, bits, 5_000),
@@ -52,21 +52,6 @@ fn page(alloc: Global, kind: usize, bits: usize, random: &mut Random) -> Result<
         8 => Ok(Buffer::full(alloc, 0xFF, bits.div_ceil(8))?),
         _ => Ok(Buffer::zeroed(alloc, bits.div_ceil(8))?),
     }
-}
-
-/// So many bits, of which one in `each` is set.
-fn scattered(alloc: Global, bits: usize, each: usize, random: &mut Random) -> Result<ByteBuffer> {
-    let mut set = BitBufferMut::new_unset(alloc, bits)?;
-    let mut place = 0usize;
-    for _ in 0..bits {
-        let step = random.below(each.saturating_mul(2)).saturating_add(1);
-        place = place.saturating_add(step);
-        if place >= set.len() {
-            break;
-        }
-        set.set(place);
-    }
-    Ok(set.into_inner().freeze()?)
 }
 
 /// Asks each set with each other one: both, one of them, and the first alone.

@@ -10,6 +10,7 @@ mod digest;
 mod directory;
 mod gather;
 mod index;
+mod nulls;
 mod pages;
 mod random;
 mod records;
@@ -42,7 +43,15 @@ fn main(rt: HostRuntime) -> Result<()> {
 }
 
 /// The jobs. All of them together are one too.
-const JOBS: &[&str] = &["scan", "index", "build", "directory", "gather", "sessions"];
+const JOBS: &[&str] = &[
+    "scan",
+    "index",
+    "build",
+    "directory",
+    "gather",
+    "nulls",
+    "sessions",
+];
 
 /// Goes so many rounds of a job, or of each.
 fn do_jobs(alloc: Global, job: &str, rounds: u32, seed: u64, digest: &mut Digest) -> Result<()> {
@@ -70,6 +79,7 @@ fn do_job(
         "build" => build::build(alloc, rounds, random, digest),
         "directory" => directory::directory(alloc, rounds, random, digest),
         "gather" => gather::gather(alloc, rounds, random, digest),
+        "nulls" => nulls::nulls(alloc, rounds, random, digest),
         "sessions" => sessions::sessions(alloc, rounds, random, digest),
         _ => bail!("no job of this name"),
     }

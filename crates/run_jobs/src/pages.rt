@@ -55,6 +55,27 @@ pub fn runs_page(
     Ok(set.into_inner().freeze()?)
 }
 
+/// The bytes of so many bits, of which at random one in `each` is `value`, and the others aren't.
+pub fn scattered(
+    alloc: Global,
+    bits: usize,
+    each: usize,
+    value: bool,
+    random: &mut Random,
+) -> Result<ByteBuffer> {
+    let mut set = BitBufferMut::full(alloc, !value, bits)?;
+    let mut place = 0usize;
+    for _ in 0..bits {
+        let step = random.below(each.saturating_mul(2)).saturating_add(1);
+        place = place.saturating_add(step);
+        if place >= set.len() {
+            break;
+        }
+        set.set_to(place, value);
+    }
+    Ok(set.into_inner().freeze()?)
+}
+
 /// So many bits of a page, from a place at random on, which share its storage.
 pub fn window(page: &ByteBuffer, random: &mut Random, bits: usize) -> Result<BitBuffer>
     ensures { IfOk result (λ s. length s.bits ≡ bits) }
