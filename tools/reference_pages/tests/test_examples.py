@@ -6,7 +6,8 @@ from reference_pages.site import Site
 from reference_pages.tests.fixture import Repository
 
 COUNTER, USER = "crates/low/src/counter.rt", "crates/use_low/src/lib.rt"
-IMPORTED = (COUNTER, "use std::marker::Model;\n", "use crate::step::Step;\nuse std::marker::Model;\n")
+MODEL = "use std::marker::Model;\n"
+IMPORTED = (COUNTER, MODEL, f"use crate::step::Step;\n{MODEL}")
 OWN = "    /// Steps.\n    pub fn step(&mut self, n: usize) {}\n"
 CALLED = (USER, "    counter.add(1);\n", "    counter.add(1);\n    counter.step(2);\n")
 
