@@ -78,6 +78,11 @@ class Repository:
         return found
 
     @cached_property
+    def paths(self) -> list[str]:
+        """The files that aren't made, by their paths from the top."""
+        return [it.relative_to(self.root).as_posix() for it in self.files()]
+
+    @cached_property
     def words(self) -> set[str]:
         """The words of the sources, and the names of files."""
         found: set[str] = set()

@@ -1,0 +1,173 @@
+"""Where a name stands that a new command, kernel or file of definitions has its like at."""
+import re
+from dataclasses import dataclass
+
+from documents.files import Repository
+
+LIBRARY = r"crates/(?!\w+_tests/|vb_c/|vb_command/|vb_pool/|vb_script/|use_|run_)\w+"
+RUST = r"bindings/rust/src/"
+Places = list[tuple[str, list[str]]]
+COMMENT = re.compile(r"\s*(?:///?|//!|/?\*|--)(?: .*|$)|(?<=\s)(?://|--) .*")
+IMPORT = re.compile(r"\s*(?:ghost )?use ")
+
+
+@dataclass
+class Task:
+    """What there is to do, in which files, and at which lines: each a path and a text, as patterns.
+
+    NAME stands for the name in any of its forms. A place without a text is the file itself.
+    """
+
+    text: str
+    at: list[tuple[str, str]]
+
+
+COMMAND = [
+    Task("Say what it does: `Order`, `order_of`, `Step`, `GivesUp`; what its line says", [
+        (r"crates/vb_command/specs/", r"\bNAME\b"),
+    ]),
+    Task("The variant, with its line as docstring, and the arm that reads it", [
+        (r"crates/vb_command/src/", r"\bNAME\b"),
+    ]),
+    Task("What carries it out: a method, and an arm of `serve`", [
+        (r"crates/vb_pool/src/", r"\bfn NAME\b|Command::NAME\b"),
+        (r"crates/vb_script/src/", r"\bNAME\b"),
+    ]),
+    Task("Lines with known answers; what a plain list answers", [
+        (r"crates/(vb_command_tests|vb_script_tests|vb_script_plain_tests)/src/", r"\bNAME\b"),
+        (r"crates/vbits/stdin$", r"\bNAME\b"),
+    ]),
+    Task("Wrong bodies, and proofs", [
+        (r"crates/(vb_command|vb_pool|vb_script)/(edits|must-fail)/NAME[-_]", ""),
+        (r"crates/(vb_command|vb_pool|vb_script)/proofs/(.*/)?NAME/[A-Z]\w+\.antt$", ""),
+    ]),
+    Task("The row that users read", [(r"docs/COMMANDS\.md$", r"\bNAME\b")]),
+]
+KERNEL = [
+    Task("What it answers, over lists of truth values", [
+        (r"crates/\w+/specs/(?!Lib\.antt)", r"\bNAME\b"),
+    ]),
+    Task("Names that are given on, by `pub use` and by specs/Lib.antt", [
+        (r"crates/(?!vb_c/)\w+/src/lib\.rt$", r"(?<![.\w])NAME(?=[,;} ]|$)"),
+        (r"crates/vortex_buffer_tests/src/reached\.rt$", r"\bNAME\b"),
+        (r"crates/\w+/specs/Lib\.antt$", r"\bNAME$"),
+    ]),
+    Task("The body with its contract; methods, and their calls", [
+        (rf"{LIBRARY}/src/", r"\bfn NAME\b"),
+        (r"crates/(vb_view|vb_bit_buffer|vb_set)/src/", r"(?<![.\w])NAME\("),
+    ]),
+    Task("Wrong bodies, and proofs", [
+        (rf"{LIBRARY}/(edits|must-fail)/NAME[-_]", ""),
+        (rf"{LIBRARY}/proofs/(.*/)?NAME/[A-Z]\w+\.antt$", ""),
+    ]),
+    Task("Tests, and the plain loop", [(r"crates/\w+_tests/src/(?!reached)", r"\bNAME\b")]),
+    Task("C: the call and its form `vb_try_`; the header, in C++ too, and its tests", [
+        (r"crates/vb_c/src/", r"\bvb_NAME\(|::NAME\("),
+        (r"bindings/c/\w+\.hp?p?$", r"\bvb_NAME\("),
+        (r"bindings/c/test\.c(pp)?$", r"\b(?:vb_NAME|NAME)\("),
+    ]),
+    Task("Rust: the table, the calls, plain Rust, the methods, and the limits", [
+        (rf"{RUST}native\.rs$", r"^    NAME\("),
+        (RUST, r"\bfn NAME\b|!\(NAME:"),
+        (rf"{RUST}\w+\.rs$", r"::NAME\("),
+        (r"bindings/rust/tests/", r"\bNAME\("),
+    ]),
+    Task("The comparison with a loop over bits, and with upstream's call", [
+        (r"bindings/diff/src/", r"\bNAME\("),
+    ]),
+    Task("A timed row, its plain loop, and upstream's call", [
+        (r"bench/src/\w+\.rs$", r"\bfn (vb_)?NAME\b"),
+        (r"bench/src/parts/", r'"`NAME`'),
+    ]),
+    Task("What users read", [
+        (r"(README|docs/(?!PERF)\w+|crates/\w+/CALLING|bindings/\w+/README)\.md$", r"\bNAME\b"),
+    ]),
+]
+
+
+class Name:
+    """A name in its forms: its words apart by `_` or not, and for C behind `vb_` or `vb_try_`.
+
+    One in small letters, of a command or a call, stands for those with capitals too. One with a
+    capital is that of a definition.
+    """
+
+    def __init__(self, text: str) -> None:
+        self.form = "_?".join(re.escape(it) for it in text.replace("_", ""))
+        self.is_small = text == text.lower()
+
+    def pattern(self, text: str) -> re.Pattern:
+        text = text.replace("vb_NAME", "vb_(?:try_)?NAME").replace("NAME", self.form)
+        return re.compile(text, re.IGNORECASE if self.is_small else 0)
+
+    def is_command(self, repository: Repository) -> bool:
+        command = repository.read("crates/vb_command/src/command.rt")
+        _, _, variants = command.partition("\npub enum Command")
+        return self.pattern(r"(?m)^    NAME\(").search(variants) is not None
+
+
+def code_of(path: str, text: str) -> list[str]:
+    """The lines of a file without comments and imports; of a document what is code."""
+    if path.endswith(".md"):
+        return quoted(text)
+    lines = [COMMENT.sub("", it.replace("\\n", "  ")) for it in text.split("\n")]
+    if path.endswith(("/lib.rt", "/reached.rt", "/Lib.antt")):
+        return lines
+    return ["" if IMPORT.match(it) else it for it in lines]
+
+
+def quoted(text: str) -> list[str]:
+    """The lines of a document: of those outside of code blocks what stands in backquotes."""
+    found, within = [], False
+    for line in text.split("\n"):
+        within ^= line.startswith("```")
+        found.append(line if within else " ".join(re.findall(r"`[^`]*`", line)))
+    return found
+
+
+def is_of_std(name: Name, text: str) -> bool:
+    """Whether a file of definitions has the name from the standard library."""
+    return name.pattern(r"(?m)^use Rattle\.std\..*\bNAME\b").search(text) is not None
+
+
+def found_at(repository: Repository, name: Name, tasks: list[Task]) -> Places:
+    """The tasks that have places, each with these; a place belongs to the first that has it."""
+    taken: set[str] = set()
+    groups = []
+    for task in tasks:
+        found = [it for at in task.at for it in found_by(repository, name, at)]
+        lines = [it for it in dict.fromkeys(found) if it not in taken]
+        taken.update(lines)
+        if lines:
+            groups.append((task.text, lines))
+    return groups
+
+
+def found_by(repository: Repository, name: Name, at: tuple[str, str]) -> list[str]:
+    where, what = at
+    paths = sorted(it for it in repository.paths if name.pattern(where).match(it))
+    return [it for path in paths for it in found_in(repository, name, path, what)]
+
+
+def found_in(repository: Repository, name: Name, path: str, what: str) -> list[str]:
+    if not what:
+        return [path]
+    text = repository.read(path)
+    if path.endswith(".antt") and is_of_std(name, text):
+        return []
+    pattern, lines = name.pattern(what), text.split("\n")
+    return [
+        f"{path}:{n}: {' '.join(lines[n - 1].split())[:100]}"
+        for n, it in enumerate(code_of(path, text), 1)
+        if pattern.search(it)
+    ]
+
+
+def places(repository: Repository, text: str, is_all: bool) -> Places:
+    """The places of a name by what there is to do; of a command alone those of commands."""
+    name = Name(text)
+    if not name.is_small:
+        return found_at(repository, name, KERNEL[:2])
+    if not name.is_command(repository):
+        return found_at(repository, name, KERNEL)
+    return found_at(repository, name, COMMAND + KERNEL if is_all else COMMAND)
