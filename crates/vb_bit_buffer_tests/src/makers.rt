@@ -61,7 +61,7 @@ const ROWS: &[(Call, &str, u64)] = &[
 ];
 
 #[test]
-fn sets_are_made_or_refused(rt: HostRuntime) {
+fn filled_cloned_and_sliced_sets_are_made_or_refused(rt: HostRuntime) {
     let heap = Refusing::new(rt.alloc(), 0);
     for (call, bits, least) in ROWS {
         for _ in heap.in_turn() {

@@ -6,7 +6,7 @@ use vb_kernel::{
 };
 
 #[test]
-fn single_bits(rt: HostRuntime) {
+fn a_single_bit_is_set_unset_and_read(rt: HostRuntime) {
     let rt = &rt;
     let mut bytes = [0u8, 0];
     set_bit_unchecked(&mut bytes, 3);
@@ -33,7 +33,7 @@ const WINDOWS: [(usize, usize, bool); 8] = [
 ];
 
 #[test]
-fn windows(rt: HostRuntime) {
+fn windows_fit_where_they_end_in_the_bytes(rt: HostRuntime) {
     for (offset, len, fits) in WINDOWS {
         equal_at(&rt, window_fits(&[0], offset, len), fits, (offset, len));
     }

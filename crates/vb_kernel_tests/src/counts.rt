@@ -71,7 +71,7 @@ const LOOKS: [(usize, usize, u64); 8] = [
 ];
 
 #[test]
-fn looks(rt: HostRuntime) {
+fn looks_of_counts_are_exact(rt: HostRuntime) {
     let bytes = &[0xFF; 1001];
     for (offset, len, looks) in LOOKS {
         holds(&rt, window_fits(bytes, offset, len));

@@ -6,13 +6,13 @@ use std::process::Abort;
 use vb_set::{BitBuffer, BitBufferMut, Result};
 
 #[test]
-fn truthy(rt: HostRuntime) {
+fn numbers_but_zero_are_packed_as_true(rt: HostRuntime) {
     let made = BitBufferMut::from_truthy(rt.alloc(), &[0, 1, 2, 255]);
     packs_open(&rt, made, 4, &[0b1110]);
 }
 
 #[test]
-fn bools(rt: HostRuntime) {
+fn bools_are_packed_from_the_lowest_digit_on(rt: HostRuntime) {
     let bools = &[true, false, true];
     packs_open(
         &rt,
@@ -24,7 +24,7 @@ fn bools(rt: HostRuntime) {
 }
 
 #[test]
-fn vectors_of_bools(rt: HostRuntime) {
+fn vectors_of_bools_are_packed(rt: HostRuntime) {
     let bools = Vec::from_elem(rt.alloc(), true, 2).expect(&rt, "memory");
     packs_open(
         &rt,

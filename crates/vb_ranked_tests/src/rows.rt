@@ -87,7 +87,7 @@ fn every_fifth_bit(rt: HostRuntime) {
 }
 
 #[test]
-fn no_bits(rt: HostRuntime) {
+fn no_bits_have_rank_0_and_no_places(rt: HostRuntime) {
     let set = BitBufferMut::empty(rt.alloc());
     drop(indexed(&rt, rt.alloc(), set, (&[], NO_BITS)));
 }

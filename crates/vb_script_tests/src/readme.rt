@@ -3,7 +3,7 @@ use crate::compared::equal;
 use vb_script::{Answer, Command, Pool, run};
 
 #[test]
-fn commands(rt: HostRuntime) {
+fn commands_without_text_are_answered(rt: HostRuntime) {
     // Ten rows from bit 3 of the first byte on, questioned by commands.
     let bytes = [0b1110_1000u8, 0b0000_0110].to_vec(rt.alloc());
     let commands = [

@@ -134,7 +134,7 @@ fn is_made_or_refused(
 }
 
 #[test]
-fn sets_are_made_or_refused(rt: HostRuntime) {
+fn open_sets_are_made_or_refused(rt: HostRuntime) {
     let heap = Refusing::new(rt.alloc(), 0);
     for (call, bits, least) in ROWS {
         is_made_or_refused(&rt, &heap, (call, bits, *least));

@@ -64,7 +64,7 @@ fn makes<A: Allocator + Clone>(
 }
 
 #[test]
-fn sets_are_made_or_refused(rt: HostRuntime) {
+fn sets_at_indices_are_made_or_refused(rt: HostRuntime) {
     let heap = &Refusing::new(rt.alloc(), 0);
     for (call, bits, least) in ROWS {
         for _ in heap.in_turn() {

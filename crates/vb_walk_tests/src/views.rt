@@ -7,7 +7,7 @@ use std::process::Abort;
 use vb_view::{BitBufferMeta, BitBufferMutView, BitBufferView};
 
 #[test]
-fn metadata(rt: HostRuntime) {
+fn metadata_begins_in_its_first_byte(rt: HostRuntime) {
     let rt = &rt;
     let (byte, part) = BitBufferMeta::new(5, 20).slice(7..17);
     equal(rt, byte, 1);

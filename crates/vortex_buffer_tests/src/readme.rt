@@ -3,7 +3,7 @@ use std::test::Fail;
 use vortex_buffer::{BitBufferMut, Buffer, bit_select, count_ones, window_fits};
 
 #[test]
-fn bits(rt: HostRuntime) {
+fn bits_are_counted_and_selected(rt: HostRuntime) {
     // Which of ten rows are valid, from bit 3 of the first byte on.
     let valid = [0b1110_1000u8, 0b0000_0110];
     assert!(rt; window_fits(&valid, 3, 10));
@@ -12,7 +12,7 @@ fn bits(rt: HostRuntime) {
 }
 
 #[test]
-fn buffers(rt: HostRuntime) -> Result<(), Fail> {
+fn buffers_are_sliced_copied_and_edited(rt: HostRuntime) -> Result<(), Fail> {
     // Four values, a slice that shares them, and a copy of the slice that is edited.
     let values = Buffer::copy_from(rt.alloc(), &[10u32, 20, 30, 40])?;
     let middle = values.slice_unaligned(1..3)?;
@@ -24,7 +24,7 @@ fn buffers(rt: HostRuntime) -> Result<(), Fail> {
 }
 
 #[test]
-fn sets(rt: HostRuntime) -> Result<(), Fail> {
+fn sets_are_edited_and_shared(rt: HostRuntime) -> Result<(), Fail> {
     // A set of rows that is edited, and then shared.
     let mut rows = BitBufferMut::new_set(rt.alloc(), 4)?;
     rows.append(false)?;
