@@ -21,7 +21,7 @@ f-requires g c =
     let from : c.args.offset + c.args.base + i ≡ c.args.offset + place = omega arith in
     let bit : c.digit.result ≡ bit_of c.args.bytes.now (c.args.offset + place) =
     c.digit.ensures ∙ has_bit-bits c.args.bytes.now c.read_word-word.result
-    (c.args.offset + c.args.base) c.args.len i c.read_word-word.ensures (omega arith)
+    (c.args.offset + c.args.base) c.args.len i c.read_word-word.ensures.digits (omega arith)
     ∙ ap (bit_of c.args.bytes.now) from in
     let next = span_first place (c.args.len - i) (omega arith) in
     let can = subst (CanAsk (λ p i. goal.F-pre g p i (bit_of c.args.bytes.now (c.args.offset + i)))
@@ -37,7 +37,7 @@ loop-i-preserved g c =
     let from : c.args.offset + c.args.base + i ≡ c.args.offset + place = omega arith in
     let bit : c.digit.result ≡ bit_of c.args.bytes.now (c.args.offset + place) =
     c.digit.ensures ∙ has_bit-bits c.args.bytes.now c.read_word-word.result
-    (c.args.offset + c.args.base) n i c.read_word-word.ensures (omega arith)
+    (c.args.offset + c.args.base) n i c.read_word-word.ensures.digits (omega arith)
     ∙ ap (bit_of c.args.bytes.now) from in
     let said = subst (λ x. goal.F-step g c.loop-i.f place x tt c.f.new.self) bit c.f.ensures in
     let next = span_first place (n - i) (omega arith) in
