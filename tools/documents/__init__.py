@@ -1,1 +1,1 @@
-"""The checks of documents, and the picture of the crates."""
+"""The checks of documents, the picture of the crates, and the places of a name."""
