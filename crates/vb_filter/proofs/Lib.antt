@@ -3,4 +3,5 @@ pub mod GatherLemmas
 mod PackedDigits
 mod PendingLemmas
 mod PackedOnes
+mod PackedSteps
 mod RunsLemmas

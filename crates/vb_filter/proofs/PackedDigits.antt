@@ -20,7 +20,7 @@ use Rattle.vb_bits.proofs.KeptLemmas.{kept_by-append, length-kept_by}
 use Rattle.vb_pack.proofs.MaskLemmas.{mask_l-append}
 use Rattle.vb_pack.proofs.WordsLemmas.{digits_above}
 use Rattle.vb_filter.proofs.FilteredBits.{kept_none}
-use Rattle.vb_filter.specs.declared.digits.TheConstants.{KEPT}
+use Rattle.vb_filter.specs.declared.kept.TheConstants.{KEPT}
 
 -- the k digits of the word from digit a on that the mask keeps
 abbrev pub kept_digits : ℕ → ℕ → ℕ → ℕ → List Bool

@@ -9,7 +9,7 @@ use Rattle.vb_bits.specs.Digits.{digits}
 use Rattle.vb_bits.proofs.BitsLemmas.{count-le}
 use Rattle.vb_bits.proofs.DigitsLemmas.{digits_masked, ones_masked, count-digits-add, length-digits}
 use Rattle.vb_pack.proofs.MaskLemmas.{digits-mask_l}
-use Rattle.vb_filter.specs.declared.digits.TheConstants.{KEPT}
+use Rattle.vb_filter.specs.declared.kept.TheConstants.{KEPT}
 use Rattle.vb_filter.proofs.PackedDigits.{kept_digits, length-kept_digits, in_table, kept_past}
 use Rattle.vb_filter.proofs.PackedDigits.{packed-more}
 use Rattle.vb_filter.proofs.digits.pack_sixes.Goals as goal
