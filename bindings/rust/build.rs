@@ -1,7 +1,7 @@
 //! Links the archives of the processor levels, those in `native/` or in the folder that
 //! `VORTEX_BITS_NATIVE` names, and says so by `cfg(vortex_bits_native)`. Without them, for another
-//! machine than x86-64 Linux, and under Miri, nothing is linked; but for Miri that is an error where
-//! the feature `proved` is asked for.
+//! machine than x86-64 Linux, and under Miri, nothing is linked; but for Miri that is an error
+//! where the feature `proved` is asked for.
 use std::env;
 use std::path::{Path, PathBuf};
 

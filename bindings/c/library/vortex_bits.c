@@ -1,7 +1,7 @@
 /*
  * The functions of vortex_bits.h before those of the processor levels, vb_v2_count_ones and the
- * like: a null pointer to no items becomes one that these accept, and one level is chosen. What else
- * some of them do is in by_hand.h.
+ * like: a null pointer to no items becomes one that these accept, and one level is chosen. What
+ * else some of them do is in by_hand.h.
  *
  * With VB_LEVEL, 2, 3 or 4, that level alone is called; without, the higher one of v2 and v3 that
  * the processor has.

@@ -41,7 +41,7 @@ fn answer(
     let mut bytes = room(case, len);
     match take(BitsMut::new(&mut bytes, case.r, len)) {
         Ok(()) => Ok(Ok(bytes)),
-        Err(TakeError::Index { position }) => Ok(Err(position)),
+        Err(TakeError::Index { position, .. }) => Ok(Err(position)),
         Err(refused) => Err(refused.to_string()),
     }
 }

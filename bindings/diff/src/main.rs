@@ -9,6 +9,7 @@
 mod ask;
 mod case;
 mod gather;
+mod own;
 mod plain;
 mod random;
 #[cfg(feature = "upstream")]
@@ -31,7 +32,10 @@ fn number(place: usize, otherwise: u64) -> Result<u64, String> {
 }
 
 fn compare(case: &Case, random: &mut Random) -> Result<u64, String> {
-    let calls = ask::compare(case)? + write::compare(case)? + gather::compare(case, random)?;
+    let calls = ask::compare(case)?
+        + write::compare(case)?
+        + gather::compare(case, random)?
+        + own::compare(case, random)?;
     #[cfg(feature = "upstream")]
     let calls = calls + upstream::compare(case)?;
     Ok(calls)

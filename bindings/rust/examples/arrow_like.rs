@@ -15,7 +15,7 @@ struct Numbers {
 
 impl Numbers {
     fn null_count(&self) -> usize {
-        self.valid.bits().count_zeros()
+        self.valid.count_zeros()
     }
 
     fn above(&self, limit: u32) -> Bools {
@@ -26,17 +26,18 @@ impl Numbers {
     }
 
     fn filter(&self, mask: &Bitmap) -> Numbers {
-        let rows = mask.bits().set_indices();
+        let mut values = vec![0; mask.count_ones()];
+        mask.bits().keep_into(&self.values, &mut values);
         Numbers {
-            values: rows.map(|row| self.values[row]).collect(),
-            valid: self.valid.bits().filter(mask.bits()),
+            values,
+            valid: self.valid.filter(mask),
         }
     }
 
     fn take(&self, rows: &[u32]) -> Numbers {
         Numbers {
             values: rows.iter().map(|&row| self.values[row as usize]).collect(),
-            valid: self.valid.bits().take(rows),
+            valid: self.valid.take(rows),
         }
     }
 
@@ -48,10 +49,8 @@ impl Numbers {
     }
 
     fn sum(&self) -> u64 {
-        let runs = self.valid.bits().set_slices();
-        runs.flat_map(|run| &self.values[run])
-            .map(|&it| u64::from(it))
-            .sum()
+        let rows = self.valid.set_indices();
+        rows.map(|row| u64::from(self.values[row])).sum()
     }
 }
 
@@ -64,13 +63,13 @@ struct Bools {
 impl Bools {
     /// The rows that are valid and true: what a filter keeps.
     fn mask(&self) -> Bitmap {
-        self.values.bits() & self.valid.bits()
+        &self.values & &self.valid
     }
 
     fn filter(&self, mask: &Bitmap) -> Bools {
         Bools {
-            values: self.values.bits().filter(mask.bits()),
-            valid: self.valid.bits().filter(mask.bits()),
+            values: self.values.filter(mask),
+            valid: self.valid.filter(mask),
         }
     }
 }
@@ -89,7 +88,7 @@ fn numbers() -> Numbers {
 
 /// By a loop over the rows: how many are valid and above a limit, and their sum.
 fn plain(numbers: &Numbers, limit: u32) -> (usize, u64) {
-    let valid = numbers.values.iter().zip(numbers.valid.bits());
+    let valid = numbers.values.iter().zip(&numbers.valid);
     let kept = valid.filter(|&(&value, valid)| valid && value > limit);
     kept.fold((0, 0), |(rows, sum), (&value, _)| {
         (rows + 1, sum + u64::from(value))
@@ -103,18 +102,18 @@ fn main() {
     let kept = part.filter(&above.mask());
     assert_eq!((kept.values.len(), kept.sum()), plain(&part, 500));
     assert_eq!(kept.null_count(), 0);
-    assert!(above.filter(&above.mask()).values.bits().all());
+    assert!(above.filter(&above.mask()).values.all());
 
     let valid = part.valid.clone().ranked();
     let nulls: Vec<u32> = (0..3)
-        .filter_map(|n| valid.ranks().select_unset(n))
+        .filter_map(|n| valid.select_unset(n))
         .map(|row| u32::try_from(row).unwrap())
         .collect();
     assert_eq!(part.take(&nulls).null_count(), 3);
     println!(
         "{} of {} rows are null, the first at {nulls:?}; {} are above 500, with sum {}",
         part.null_count(),
-        valid.ranks().len(),
+        valid.len(),
         kept.values.len(),
         kept.sum()
     );

@@ -1,40 +1,49 @@
 //! Bits with their bytes.
 
-use alloc::sync::Arc;
-use alloc::vec::Vec;
-use core::fmt;
-use core::iter::repeat_n;
-use core::ops::{BitAnd, BitOr, BitXor, RangeBounds};
+mod ask;
+mod grow;
+mod made;
+mod traits;
 
-use crate::error::{OutOfBounds, TakeError, expect};
+use core::ops::RangeBounds;
+
+use crate::bytes::{AlignedBytes, SharedBytes};
+use crate::error::{BadIndex, OutOfBounds, expect};
 use crate::rank::Ranked;
-use crate::{BitIndex, Bits, BitsMut};
+use crate::{BitIndex, Bits, BitsMut, portable};
 
 /// Bits with the bytes in which they lie, to be kept and returned: shared ones, of which a slice is
-/// another window, or those of an engine's own buffer `B`.
+/// another window, or those of an engine's own buffer `B`. It answers what [`Bits`] answer; in
+/// [`SharedBytes`] and in [`AlignedBytes`] it grows and is edited too.
 ///
 /// ```
 /// use vortex_bits::{Bits, Bitmap};
 ///
 /// let valid: Bitmap = (0..100).map(|row| row % 7 != 0).collect();
-/// let part = valid.slice(13..50);
-/// assert_eq!(part.bits().count_zeros(), 6);
-/// assert_eq!(part.bits().filter(part.bits()).bits().count_ones(), 31);
+/// let mut part = valid.slice(13..50);
+/// assert_eq!((part.count_zeros(), part[1]), (6, false));
+/// part &= valid.slice(0..37);
+/// part.append(true);
+/// assert_eq!((part.count_ones(), valid.count_ones()), (26, 85));
 ///
-/// // Operators of three.
-/// let (a, b, c) = (part.bits(), valid.slice(0..37), valid.slice(1..38));
-/// assert_eq!((a & b.bits() & c.bits()).bits().count_ones(), 20);
+/// // Operators take windows and bitmaps, by value and by reference.
+/// let (a, b, c) = (part.bits(), valid.slice(0..38), valid.slice(1..39));
+/// assert_eq!((a & &b & c).count_ones(), a.and_count(&(&b & valid.slice(1..39))));
 ///
 /// // Over bytes of another's.
 /// let lent = Bitmap::new(vec![0b1110_1000u8, 0b0000_0110], 3, 10);
-/// assert_eq!(lent.bits().select(1), Some(2));
+/// assert_eq!(lent.select(1), Some(2));
 /// ```
 #[derive(Clone)]
-pub struct Bitmap<B = Arc<[u8]>> {
+pub struct Bitmap<B = SharedBytes> {
     bytes: B,
     offset: usize,
     len: usize,
 }
+
+/// A [`Bitmap`] with bytes of its own, which grows without a test that no one shares them: for bits
+/// that come one by one. [`Bitmap::growing`] makes one.
+pub type BitmapMut = Bitmap<AlignedBytes>;
 
 impl<B: AsRef<[u8]>> Bitmap<B> {
     /// The window of these bits.
@@ -60,7 +69,7 @@ impl<B: AsRef<[u8]>> Bitmap<B> {
         Ok(Bitmap { bytes, offset, len })
     }
 
-    /// The bits, which have all the questions.
+    /// The bits as a window.
     ///
     /// # Panics
     ///
@@ -86,7 +95,8 @@ impl<B: AsRef<[u8]>> Bitmap<B> {
         self.len == 0
     }
 
-    /// The bits of a range of places, in a clone of `B`, which shares the bytes of an [`Arc`].
+    /// The bits of a range of places, in a clone of `B`, which shares the bytes of [`SharedBytes`]
+    /// and of an [`Arc`](alloc::sync::Arc).
     ///
     /// # Panics
     ///
@@ -97,21 +107,39 @@ impl<B: AsRef<[u8]>> Bitmap<B> {
     where
         B: Clone,
     {
-        let part = self.bits().slice(range);
-        Bitmap {
+        expect(self.try_slice(range))
+    }
+
+    /// [`Bitmap::slice`].
+    ///
+    /// ```
+    /// use vortex_bits::Bitmap;
+    ///
+    /// assert!(Bitmap::new_set(13).try_slice(5..14).is_err());
+    /// ```
+    ///
+    /// # Errors
+    ///
+    /// Where the range begins behind its end, or ends behind the bits.
+    pub fn try_slice(&self, range: impl RangeBounds<usize>) -> Result<Bitmap<B>, OutOfBounds>
+    where
+        B: Clone,
+    {
+        let part = self.bits().try_slice(range)?;
+        Ok(Bitmap {
             bytes: self.bytes.clone(),
             offset: part.offset(),
             len: part.len(),
-        }
+        })
     }
 
-    /// With a table that answers ranks. It counts the bits once.
+    /// With a table that answers ranks, which takes memory. It counts the bits once.
     #[must_use]
     pub fn ranked(self) -> Ranked<B> {
         Ranked::new(self)
     }
 
-    /// What has the bytes.
+    /// What has the bytes, among which the bits begin at [`Bits::offset`].
     #[inline]
     pub fn into_inner(self) -> B {
         self.bytes
@@ -144,8 +172,8 @@ impl Bitmap {
     /// ```
     /// use vortex_bits::Bitmap;
     ///
-    /// assert!(Bitmap::new_set(13).bits().all());
-    /// assert!(!Bitmap::new_unset(13).bits().any());
+    /// assert!(Bitmap::new_set(13).all());
+    /// assert!(!Bitmap::new_unset(13).any());
     /// ```
     #[must_use]
     pub fn new_set(len: usize) -> Bitmap {
@@ -158,200 +186,120 @@ impl Bitmap {
         Bitmap::make(len, |_| ())
     }
 
+    /// `len` bits, of which those at the indices are true; an index may stand more than once.
+    ///
+    /// ```
+    /// use vortex_bits::Bitmap;
+    ///
+    /// let nulls = Bitmap::from_indices(5, &[4u32, 0, 4]);
+    /// assert_eq!(format!("{nulls:?}"), "Bits(10001)");
+    /// ```
+    ///
+    /// # Panics
+    ///
+    /// Where an index isn't below `len`.
+    #[must_use]
+    #[track_caller]
+    pub fn from_indices<I: BitIndex>(len: usize, indices: &[I]) -> Bitmap {
+        expect(Bitmap::try_from_indices(len, indices))
+    }
+
+    /// [`Bitmap::from_indices`].
+    ///
+    /// ```
+    /// use vortex_bits::Bitmap;
+    ///
+    /// let refused = Bitmap::try_from_indices(5, &[4, -1]).unwrap_err();
+    /// assert_eq!(refused.to_string(), "index -1 at position 1 is no place of 5 bits");
+    /// ```
+    ///
+    /// # Errors
+    ///
+    /// At the first index that isn't below `len`.
+    pub fn try_from_indices<I: BitIndex>(len: usize, indices: &[I]) -> Result<Bitmap, BadIndex> {
+        Bitmap::try_make(len, |mut out| {
+            let refused = portable::set_all(&mut out, indices);
+            refused.map_or(Ok(()), |position| {
+                Err(BadIndex {
+                    position,
+                    index: indices[position].number(),
+                    len,
+                })
+            })
+        })
+    }
+
+    /// No bits, and room for some, in bytes of their own: [`share`](BitmapMut::share) makes it a
+    /// bitmap that clones share.
+    ///
+    /// ```
+    /// use vortex_bits::{Bitmap, BitmapMut};
+    ///
+    /// let mut valid: BitmapMut = Bitmap::growing(1000);
+    /// for row in 0..1000 {
+    ///     valid.append(row % 7 != 0);
+    /// }
+    /// let valid: Bitmap = valid.share();
+    /// assert_eq!(valid.count_zeros(), 143);
+    /// ```
+    #[must_use]
+    pub fn growing(bits: usize) -> BitmapMut {
+        Bitmap {
+            bytes: AlignedBytes::with_capacity(bits.div_ceil(8)),
+            offset: 0,
+            len: 0,
+        }
+    }
+
+    /// With bytes of its own: a copy of them where they have others too.
+    ///
+    /// ```
+    /// use vortex_bits::Bitmap;
+    ///
+    /// let mut rows = Bitmap::new_set(3).into_owned();
+    /// rows.append(false);
+    /// assert_eq!(rows.first_unset(), Some(3));
+    /// ```
+    #[must_use]
+    pub fn into_owned(self) -> BitmapMut {
+        Bitmap {
+            bytes: self.bytes.into_owned(),
+            offset: self.offset,
+            len: self.len,
+        }
+    }
+
     fn try_make<E>(
         len: usize,
         write: impl FnOnce(BitsMut<'_>) -> Result<(), E>,
     ) -> Result<Bitmap, E> {
-        let mut bytes: Arc<[u8]> = repeat_n(0, len.div_ceil(8)).collect();
-        if let Some(bytes) = Arc::get_mut(&mut bytes) {
-            write(BitsMut::new(bytes, 0, len))?;
-        }
+        let mut bytes = AlignedBytes::zeroed(len.div_ceil(8));
+        write(BitsMut::new(&mut bytes, 0, len))?;
         Ok(Bitmap {
-            bytes,
+            bytes: SharedBytes::from(bytes),
             offset: 0,
             len,
         })
     }
 }
 
-impl From<&[bool]> for Bitmap {
-    fn from(bools: &[bool]) -> Bitmap {
-        Bitmap::make(bools.len(), |mut out| out.copy_from_bools(bools))
-    }
-}
-
-impl From<Bits<'_>> for Bitmap {
-    fn from(bits: Bits<'_>) -> Bitmap {
-        Bitmap::make(bits.len(), |mut out| out.copy_from(bits))
-    }
-}
-
-/// It takes a byte a bit in between.
-impl FromIterator<bool> for Bitmap {
-    fn from_iter<I: IntoIterator<Item = bool>>(bools: I) -> Bitmap {
-        let bools: Vec<bool> = bools.into_iter().collect();
-        Bitmap::from(&bools[..])
-    }
-}
-
-impl<B: AsRef<[u8]>> fmt::Debug for Bitmap<B> {
-    fn fmt(&self, f: &mut fmt::Formatter<'_>) -> fmt::Result {
-        self.bits().fmt(f)
-    }
-}
-
-/// The same bits, wherever these lie.
-impl<B: AsRef<[u8]>, C: AsRef<[u8]>> PartialEq<Bitmap<C>> for Bitmap<B> {
-    fn eq(&self, other: &Bitmap<C>) -> bool {
-        self.bits() == other.bits()
-    }
-}
-
-impl<B: AsRef<[u8]>> Eq for Bitmap<B> {}
-
-/// Calls into new memory.
-impl Bits<'_> {
-    /// The bits at the places that are true in `mask`, as [`filter_into`](Bits::filter_into)
-    /// writes them.
+impl BitmapMut {
+    /// With bytes that clones and slices share. It copies nothing.
     ///
-    /// # Panics
+    /// ```
+    /// use vortex_bits::Bitmap;
     ///
-    /// Where `mask` isn't as long as the window.
+    /// let mut rows = Bitmap::growing(0);
+    /// rows.append_n(3, true);
+    /// let rows = rows.share();
+    /// assert_eq!(rows.slice(1..).len(), 2);
+    /// ```
     #[must_use]
-    #[track_caller]
-    pub fn filter(self, mask: Bits<'_>) -> Bitmap {
-        same_len(self, mask);
-        Bitmap::make(mask.count_ones(), |out| self.filter_into(mask, out))
-    }
-
-    /// The bits at the indices, as [`take_into`](Bits::take_into) writes them.
-    ///
-    /// # Panics
-    ///
-    /// Where an index isn't a place of the window.
-    #[must_use]
-    #[track_caller]
-    pub fn take<I: BitIndex>(self, indices: &[I]) -> Bitmap {
-        expect(self.try_take(indices))
-    }
-
-    /// The bits at the indices.
-    ///
-    /// # Errors
-    ///
-    /// At the first index that isn't a place of the window.
-    pub fn try_take<I: BitIndex>(self, indices: &[I]) -> Result<Bitmap, TakeError> {
-        Bitmap::try_make(indices.len(), |out| self.try_take_into(indices, out))
-    }
-
-    /// [`take`](Bits::take) of the indices that are valid: the others give false, whatever they
-    /// are.
-    ///
-    /// # Panics
-    ///
-    /// Where [`try_take_valid`](Bits::try_take_valid) answers an error.
-    #[must_use]
-    #[track_caller]
-    pub fn take_valid<I: BitIndex>(self, indices: &[I], validity: Bits<'_>) -> Bitmap {
-        expect(self.try_take_valid(indices, validity))
-    }
-
-    /// [`try_take`](Bits::try_take) of the indices that are valid: the others give false, whatever
-    /// they are.
-    ///
-    /// # Errors
-    ///
-    /// Where `validity` hasn't a bit for each index, and at the first index that is valid and isn't
-    /// a place of the window.
-    pub fn try_take_valid<I: BitIndex>(
-        self,
-        indices: &[I],
-        validity: Bits<'_>,
-    ) -> Result<Bitmap, TakeError> {
-        let len = indices.len();
-        Bitmap::try_make(len, |out| self.try_take_valid_into(indices, validity, out))
-    }
-
-    /// The bits that are true here and false on the right.
-    ///
-    /// # Panics
-    ///
-    /// Where the windows aren't of one length, as of `&`, `|` and `^`.
-    #[must_use]
-    #[track_caller]
-    pub fn and_not(self, right: Bits<'_>) -> Bitmap {
-        same_len(self, right);
-        Bitmap::make(self.len(), |mut out| out.and_not_of(self, right))
-    }
-}
-
-/// Panics, at the line of the caller, where the windows aren't of one length.
-#[track_caller]
-fn same_len(left: Bits<'_>, right: Bits<'_>) {
-    assert!(
-        left.len() == right.len(),
-        "windows of {} and {} bits",
-        left.len(),
-        right.len()
-    );
-}
-
-macro_rules! operators {
-    ($($operator:ident, $name:ident, $of:ident;)*) => {$(
-        /// # Panics
-        ///
-        /// Where the windows aren't of one length.
-        impl $operator<Bits<'_>> for Bits<'_> {
-            type Output = Bitmap;
-
-            #[track_caller]
-            fn $name(self, right: Bits<'_>) -> Bitmap {
-                same_len(self, right);
-                Bitmap::make(self.len(), |mut out| out.$of(self, right))
-            }
+    pub fn share(self) -> Bitmap {
+        Bitmap {
+            bytes: SharedBytes::from(self.bytes),
+            offset: self.offset,
+            len: self.len,
         }
-
-        /// As of two windows, so that operators follow each other: `a & b & c`.
-        ///
-        /// # Panics
-        ///
-        /// Where the windows aren't of one length.
-        impl<B: AsRef<[u8]>> $operator<Bits<'_>> for Bitmap<B> {
-            type Output = Bitmap;
-
-            #[track_caller]
-            fn $name(self, right: Bits<'_>) -> Bitmap {
-                self.bits().$name(right)
-            }
-        }
-
-        /// # Panics
-        ///
-        /// Where the windows aren't of one length.
-        impl<B: AsRef<[u8]>, C: AsRef<[u8]>> $operator<&Bitmap<C>> for &Bitmap<B> {
-            type Output = Bitmap;
-
-            #[track_caller]
-            fn $name(self, right: &Bitmap<C>) -> Bitmap {
-                self.bits().$name(right.bits())
-            }
-        }
-    )*};
-}
-
-operators! {
-    BitAnd, bitand, and_of;
-    BitOr, bitor, or_of;
-    BitXor, bitxor, xor_of;
-}
-
-impl core::ops::Not for Bits<'_> {
-    type Output = Bitmap;
-
-    fn not(self) -> Bitmap {
-        Bitmap::make(self.len(), |mut out| {
-            out.copy_from(self);
-            out.negate();
-        })
     }
 }

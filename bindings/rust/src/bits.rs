@@ -3,8 +3,8 @@
 use core::ops::{Bound, RangeBounds};
 
 use crate::error::{OutOfBounds, expect};
-use crate::iter::{Iter, SetIndices, SetSlices, Words};
-use crate::kernels;
+use crate::iter::{Iter, SetIndices, SetSlices, UnsetIndices, UnsetSlices, Words};
+use crate::{kernels, portable};
 
 /// The `len` bits from bit `offset` on of some bytes, least significant bit first: bit `i` of the
 /// bytes is digit `i % 8` of byte `i / 8`, and place `i` of the window is bit `offset + i`.
@@ -214,11 +214,40 @@ impl<'a> Bits<'a> {
         kernels::select_unset(self, n)
     }
 
+    /// The place of the first true bit; None where all are false.
+    ///
+    /// ```
+    /// use vortex_bits::Bits;
+    ///
+    /// let bits = Bits::new(&[0b0111_0110], 0, 7);
+    /// assert_eq!((bits.first_set(), bits.first_unset()), (Some(1), Some(0)));
+    /// assert_eq!((bits.last_set(), bits.last_unset()), (Some(6), Some(3)));
+    /// ```
+    #[inline]
+    #[must_use]
+    pub fn first_set(self) -> Option<usize> {
+        self.select(0)
+    }
+
+    /// The place of the first false bit; None where all are true.
+    #[inline]
+    #[must_use]
+    pub fn first_unset(self) -> Option<usize> {
+        self.select_unset(0)
+    }
+
     /// The place of the last true bit; None where all are false. It reads from the end.
     #[inline]
     #[must_use]
     pub fn last_set(self) -> Option<usize> {
         kernels::last_set(self)
+    }
+
+    /// The place of the last false bit; None where all are true. It reads from the end.
+    #[inline]
+    #[must_use]
+    pub fn last_unset(self) -> Option<usize> {
+        portable::last_unset(self)
     }
 
     /// Whether a bit is true: false of no bits. It reads up to the first one.
@@ -268,6 +297,34 @@ impl<'a> Bits<'a> {
     #[must_use]
     pub fn set_slices(self) -> SetSlices<'a> {
         SetSlices::new(self)
+    }
+
+    /// The places of the false bits, in ascending order, as of the nulls of a column.
+    ///
+    /// ```
+    /// use vortex_bits::Bits;
+    ///
+    /// let valid = Bits::new(&[0b0111_0110], 0, 7);
+    /// assert_eq!(valid.unset_indices().collect::<Vec<_>>(), [0, 3]);
+    /// ```
+    #[inline]
+    #[must_use]
+    pub fn unset_indices(self) -> UnsetIndices<'a> {
+        UnsetIndices::new(self)
+    }
+
+    /// The runs of false bits from front to end, each as long as can be, as ranges of places.
+    ///
+    /// ```
+    /// use vortex_bits::Bits;
+    ///
+    /// let bits = Bits::new(&[0b0110_0010], 0, 7);
+    /// assert_eq!(bits.unset_slices().collect::<Vec<_>>(), [0..1, 2..5]);
+    /// ```
+    #[inline]
+    #[must_use]
+    pub fn unset_slices(self) -> UnsetSlices<'a> {
+        UnsetSlices::new(self)
     }
 
     /// The bits as words of 64, the first one lowest; the last word is filled up with false.

@@ -165,6 +165,19 @@ impl<'a> BitsMut<'a> {
         portable::write(self.bytes, self.offset + start, len, word);
     }
 
+    /// The bit at a place; None where the window has no such place.
+    ///
+    /// ```
+    /// use vortex_bits::BitsMut;
+    ///
+    /// assert_eq!(BitsMut::new(&mut [0b10], 0, 2).get(1), Some(true));
+    /// ```
+    #[inline]
+    #[must_use]
+    pub fn get(&self, place: usize) -> Option<bool> {
+        self.as_bits().get(place)
+    }
+
     /// Makes one bit `value`.
     ///
     /// # Panics
@@ -258,14 +271,14 @@ impl<'a> BitsMut<'a> {
 
     #[inline]
     #[track_caller]
-    fn combine(&mut self, right: Bits<'_>, operator: Operator) {
+    pub(crate) fn combine(&mut self, right: Bits<'_>, operator: Operator) {
         alike(self.len, right.len());
         kernels::combine(self, right, operator);
     }
 
     #[inline]
     #[track_caller]
-    fn combine_into(&mut self, left: Bits<'_>, right: Bits<'_>, operator: Operator) {
+    pub(crate) fn combine_into(&mut self, left: Bits<'_>, right: Bits<'_>, operator: Operator) {
         alike(self.len, left.len());
         alike(self.len, right.len());
         kernels::combine_into(self, left, right, operator);

@@ -56,6 +56,10 @@ pub enum TakeError {
     Index {
         /// The position among the indices.
         position: usize,
+        /// The index.
+        index: i128,
+        /// How many bits the window that is read has.
+        len: usize,
     },
 }
 
@@ -68,14 +72,43 @@ impl fmt::Display for TakeError {
             TakeError::Validity { bits, indices } => {
                 write!(f, "{indices} indices and {bits} bits of validity")
             }
-            TakeError::Index { position } => {
-                write!(f, "the index at position {position} is out of range")
-            }
+            &TakeError::Index {
+                position,
+                index,
+                len,
+            } => no_place(f, position, index, len),
         }
     }
 }
 
 impl Error for TakeError {}
+
+fn no_place(f: &mut fmt::Formatter<'_>, position: usize, index: i128, len: usize) -> fmt::Result {
+    write!(
+        f,
+        "index {index} at position {position} is no place of {len} bits"
+    )
+}
+
+/// An index that is no place of the bits that are to be made; it is the first one.
+#[derive(Clone, Copy, Debug, PartialEq, Eq, Hash)]
+#[non_exhaustive]
+pub struct BadIndex {
+    /// The position among the indices.
+    pub position: usize,
+    /// The index.
+    pub index: i128,
+    /// How many bits there are to be.
+    pub len: usize,
+}
+
+impl fmt::Display for BadIndex {
+    fn fmt(&self, f: &mut fmt::Formatter<'_>) -> fmt::Result {
+        no_place(f, self.position, self.index, self.len)
+    }
+}
+
+impl Error for BadIndex {}
 
 /// A table of counts that is too short for its window.
 #[derive(Clone, Copy, Debug, PartialEq, Eq, Hash)]

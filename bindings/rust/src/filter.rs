@@ -1,9 +1,16 @@
 //! Bits and values that a mask keeps.
 
 use crate::bits_mut::alike;
-use crate::{Bits, BitsMut, kernels};
+use crate::mask::sealed::Mask as _;
+use crate::{Bits, BitsMut, Mask, kernels};
 
-/// A type of values that are filtered: whole numbers of any width, and floats.
+/// A type of values that are filtered: whole numbers of any width, floats, `bool` and `char`, and
+/// the two halves of a number of 128 bits, as `[u64; 2]`, which Arrow's decimals are aligned as.
+#[diagnostic::on_unimplemented(
+    message = "values of `{Self}` aren't filtered",
+    label = "values are whole numbers or floats",
+    note = "those of another type go by their places: `mask.set_indices().map(|row| &values[row])`"
+)]
 pub trait Value: sealed::Sealed {}
 
 pub(crate) mod sealed {
@@ -37,11 +44,11 @@ pub(crate) mod sealed {
     }
 
     values! {
-        u8, filter_u8: u8 i8;
+        u8, filter_u8: u8 i8 bool;
         u16, filter_u16: u16 i16;
-        u32, filter_u32: u32 i32 f32;
+        u32, filter_u32: u32 i32 f32 char;
         u64, filter_u64: u64 i64 f64 usize isize;
-        Wide, filter_u128: u128 i128;
+        Wide, filter_u128: u128 i128 [u64; 2] [i64; 2];
     }
 }
 
@@ -61,8 +68,10 @@ impl Bits<'_> {
     /// assert_eq!(kept, [0b1010]);
     /// ```
     #[track_caller]
-    pub fn filter_into(self, mask: Bits<'_>, mut out: BitsMut<'_>) {
-        masks(mask, self.len());
+    pub fn filter_into(self, mask: impl Mask, mut out: BitsMut<'_>) {
+        let Some(mask) = mask.of_len(self.len()) else {
+            return out.copy_from(self);
+        };
         alike(out.len(), mask.count_ones());
         kernels::filter(&mut out, self, mask);
     }
@@ -84,15 +93,9 @@ impl Bits<'_> {
     /// ```
     #[track_caller]
     pub fn keep_into<T: Value>(self, values: &[T], out: &mut [T]) -> usize {
-        masks(self, values.len());
+        self.of_len(values.len());
         let (kept, room) = (self.count_ones(), out.len());
         assert!(kept <= room, "room for {room} values and {kept} to keep");
         kernels::keep(out, values, self)
     }
-}
-
-/// Refuses a mask that hasn't a bit for each of `len` bits or values.
-#[track_caller]
-fn masks(mask: Bits<'_>, len: usize) {
-    assert!(mask.len() == len, "a mask of {} bits for {len}", mask.len());
 }

@@ -7,6 +7,9 @@ mod filter;
 mod gather;
 mod walk;
 
+#[cfg(vortex_bits_native)]
+use gather::BLOCK;
+
 pub use filter::{filter, keep};
 pub use gather::{pack_bools, pack_truthy, take};
 pub use walk::{set_indices, set_slices};
@@ -35,19 +38,8 @@ pub enum Operator {
     AndNot,
 }
 
+#[cfg(vortex_bits_native)]
 impl Operator {
-    /// Of each digit of two words.
-    #[inline]
-    pub fn of(self, left: u64, right: u64) -> u64 {
-        match self {
-            Operator::And => left & right,
-            Operator::Or => left | right,
-            Operator::Xor => left ^ right,
-            Operator::AndNot => left & !right,
-        }
-    }
-
-    #[cfg(vortex_bits_native)]
     fn native(self, kernels: &Kernels) -> Combine {
         match self {
             Operator::And => kernels.and_bits,
@@ -57,7 +49,6 @@ impl Operator {
         }
     }
 
-    #[cfg(vortex_bits_native)]
     fn native_into(self, kernels: &Kernels) -> CombineInto {
         match self {
             Operator::And => kernels.and_into,
@@ -168,6 +159,35 @@ pub fn combine_into(out: &mut BitsMut<'_>, left: Bits<'_>, right: Bits<'_>, oper
         }
     }
     portable::combine_into(out, left, right, operator);
+}
+
+/// How many bits the operator makes true, of windows of one length. The C functions combine a block
+/// at a time, and count it.
+#[inline]
+pub fn combined_count(left: Bits<'_>, right: Bits<'_>, operator: Operator) -> usize {
+    debug_assert_eq!(left.len(), right.len());
+    #[cfg(vortex_bits_native)]
+    if left.len() > BLOCK && kernels().is_some() {
+        return count_by_blocks(left, right, operator);
+    }
+    portable::combined_count(left, right, operator)
+}
+
+#[cfg(vortex_bits_native)]
+fn count_by_blocks(left: Bits<'_>, right: Bits<'_>, operator: Operator) -> usize {
+    let mut made = [0; BLOCK / 8];
+    let block = |start: usize| {
+        let len = (left.len() - start).min(BLOCK);
+        let mut out = BitsMut::new(&mut made, 0, len);
+        combine_into(
+            &mut out,
+            left.part(start, len),
+            right.part(start, len),
+            operator,
+        );
+        count_ones(out.into_bits())
+    };
+    (0..left.len()).step_by(BLOCK).map(block).sum()
 }
 
 /// Writes how many bits before each block are true; the table has an entry for each. It answers

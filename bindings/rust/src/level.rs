@@ -55,8 +55,8 @@ const FIXED: Option<Level> = if cfg!(not(vortex_bits_native)) {
     ))
 ))]
 compile_error!(
-    "feature `proved`: without `std` the processor isn't tested, and only what the compiler was told \
-     counts: `-C target-cpu=x86-64-v2` or a higher one"
+    "feature `proved`: without `std` the processor isn't tested, and only what the compiler was \
+     told counts: `-C target-cpu=x86-64-v2` or a higher one"
 );
 
 /// The level that calls use, as its place behind 0; 0 until the first call has chosen it.

@@ -3,21 +3,30 @@
 //! by masks, which filter values too, and ranked over a table of counts.
 //!
 //! Bit `i` of some bytes is digit `i % 8` of byte `i / 8`. A window is the `len` bits from bit
-//! `offset` on: [`Bits`] reads one, [`BitsMut`] writes one. No call reads or changes a bit outside
-//! of its windows, whatever else the bytes hold. Lengths, offsets and places are counted in bits.
+//! `offset` on: [`Bits`] reads one, [`BitsMut`] writes one, and [`Validity`] may be without one. No
+//! call reads or changes a bit outside of its windows, whatever else the bytes hold. Lengths,
+//! offsets and places are counted in bits.
 //!
 //! That a window lies in its bytes is tested once, where it is made. After that a call panics only
 //! for what its windows can't know, and says so: that two of them are of one length, or that a
-//! place is one of theirs. Only calls that give a `Bitmap`, bits with their bytes, take memory.
+//! place is one of theirs. Memory is taken by calls that give a `Bitmap`, bits with their bytes,
+//! and by those that make one grow, write one whose bytes are shared, or make it `Ranked`.
 //!
 //! # What is proved
 //!
-//! On x86-64 Linux the calls go to C functions that are proved in Rattle to meet their definitions
-//! at every offset and length, for x86-64-v2 or for x86-64-v3, by what the processor has. Two
-//! things are Rust of this crate alone, which is compared with loops over single bits and isn't
-//! proved: single bits and windows of at most 64 bits, which need no call; and everything on other
-//! machines, under Miri, and where the archives of those functions aren't there when the crate is
-//! built. [`Level::current`] says which it is.
+//! On x86-64 Linux calls on windows above 64 bits go to C functions that are proved in Rattle to
+//! meet their definitions at every offset and length, for x86-64-v2 or for x86-64-v3, by what the
+//! processor has. The rest is Rust of this crate alone, which is compared with loops over single
+//! bits and isn't proved:
+//!
+//! - single bits, and windows of at most 64;
+//! - what puts calls together: writes of filters, takes and packs to windows that don't begin with
+//!   a byte, `fill_with`, counts of two windows, and the blocks in which iterators are filled;
+//! - walks over false bits, `last_unset`, how bitmaps are made and grow, and [`Validity`];
+//! - everything on other machines, under Miri, and where the archives of those functions aren't
+//!   there when the crate is built.
+//!
+//! [`Level::current`] says which code runs.
 //!
 //! # Features
 //!
@@ -27,7 +36,8 @@
 //!   runs: assert there that [`Level::current`] isn't [`Level::Portable`].
 //! - `std` (default): the processor is tested when the program runs. Without it, what the compiler
 //!   was told counts (`-C target-cpu`).
-//! - `alloc` (with `std`): `Bitmap`, bits with their bytes, and `Ranked`, those with their ranks.
+//! - `alloc` (with `std`): `Bitmap`, bits with their bytes, `Ranked`, those with their ranks, and
+//!   what gives one.
 //! - `levels`: `Level::make_current`, to measure and to test.
 #![no_std]
 #![cfg_attr(not(vortex_bits_native), forbid(unsafe_code))]
@@ -41,29 +51,39 @@ extern crate std;
 mod bitmap;
 mod bits;
 mod bits_mut;
+#[cfg(feature = "alloc")]
+mod bytes;
+mod counts;
 mod error;
 mod filter;
 pub mod iter;
 mod kernels;
 mod level;
 mod looks;
+mod mask;
 #[cfg(vortex_bits_native)]
 mod native;
+mod operators;
 mod portable;
 mod rank;
 mod take;
+mod validity;
 
 #[cfg(feature = "alloc")]
-pub use bitmap::Bitmap;
+pub use bitmap::{Bitmap, BitmapMut};
 pub use bits::Bits;
 pub use bits_mut::BitsMut;
-pub use error::{OutOfBounds, ShortTable, TakeError};
+#[cfg(feature = "alloc")]
+pub use bytes::{AlignedBytes, Grow, SharedBytes};
+pub use error::{BadIndex, OutOfBounds, ShortTable, TakeError};
 pub use filter::Value;
 pub use level::Level;
+pub use mask::Mask;
 #[cfg(feature = "alloc")]
 pub use rank::Ranked;
 pub use rank::{Ranks, blocks};
 pub use take::BitIndex;
+pub use validity::Validity;
 
 /// The examples of the README.
 #[cfg(all(doctest, feature = "std"))]

@@ -79,6 +79,28 @@ impl Index<usize> for Bits<'_> {
     #[inline]
     #[track_caller]
     fn index(&self, place: usize) -> &bool {
+        self.at(place)
+    }
+}
+
+/// # Panics
+///
+/// Where the window has no such place: [`get`](BitsMut::get) answers that.
+impl Index<usize> for BitsMut<'_> {
+    type Output = bool;
+
+    #[inline]
+    #[track_caller]
+    fn index(&self, place: usize) -> &bool {
+        self.as_bits().at(place)
+    }
+}
+
+impl Bits<'_> {
+    /// The bit at a place, as what `[]` answers.
+    #[inline]
+    #[track_caller]
+    pub(crate) fn at(self, place: usize) -> &'static bool {
         match self.get(place) {
             Some(true) => &true,
             Some(false) => &false,

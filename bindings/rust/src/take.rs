@@ -1,10 +1,15 @@
 //! Bits taken at indices.
 
 use crate::error::{TakeError, expect};
-use crate::{Bits, BitsMut, kernels};
+use crate::{Bits, BitsMut, Mask, kernels};
 
 /// A type of indices: `u32`, `u64`, `usize`, and `i32` and `i64`, of which a negative one is no
 /// place of any window.
+#[diagnostic::on_unimplemented(
+    message = "bits aren't taken at indices of `{Self}`",
+    label = "indices are `u32`, `u64`, `usize`, `i32` or `i64`",
+    note = "narrower ones are made wider first: `indices.iter().map(|&it| u32::from(it))`"
+)]
 pub trait BitIndex: sealed::Sealed {}
 
 impl BitIndex for u32 {}
@@ -21,6 +26,9 @@ pub(crate) mod sealed {
     pub trait Sealed: Copy {
         /// The place that it names, if it is one.
         fn place(self) -> Option<usize>;
+
+        /// Itself.
+        fn number(self) -> i128;
 
         /// The indices below this are its own numbers, and those that it reads as one at or above
         /// it are no places.
@@ -44,6 +52,12 @@ pub(crate) mod sealed {
                 #[inline]
                 fn place(self) -> Option<usize> {
                     usize::try_from(self).ok()
+                }
+
+                #[inline]
+                #[allow(clippy::cast_lossless, reason = "`usize` has no `From`")]
+                fn number(self) -> i128 {
+                    self as i128
                 }
 
                 #[cfg(vortex_bits_native)]
@@ -106,7 +120,7 @@ impl Bits<'_> {
         indices: &[I],
         out: BitsMut<'_>,
     ) -> Result<(), TakeError> {
-        take(self, indices, None, out)
+        take(self, indices, &None::<Bits<'_>>, out)
     }
 
     /// [`take_into`](Bits::take_into) of the indices that are valid: at the others false is
@@ -127,7 +141,12 @@ impl Bits<'_> {
     /// ```
     #[inline]
     #[track_caller]
-    pub fn take_valid_into<I: BitIndex>(self, indices: &[I], validity: Bits<'_>, out: BitsMut<'_>) {
+    pub fn take_valid_into<I: BitIndex>(
+        self,
+        indices: &[I],
+        validity: impl Mask,
+        out: BitsMut<'_>,
+    ) {
         expect(self.try_take_valid_into(indices, validity, out));
     }
 
@@ -142,34 +161,65 @@ impl Bits<'_> {
     pub fn try_take_valid_into<I: BitIndex>(
         self,
         indices: &[I],
-        validity: Bits<'_>,
+        validity: impl Mask,
         out: BitsMut<'_>,
     ) -> Result<(), TakeError> {
-        take(self, indices, Some(validity), out)
+        take(self, indices, &validity, out)
     }
 }
 
 fn take<I: BitIndex>(
     bits: Bits<'_>,
     indices: &[I],
-    validity: Option<Bits<'_>>,
+    validity: &impl Mask,
     mut out: BitsMut<'_>,
 ) -> Result<(), TakeError> {
-    let (room, indices_len) = (out.len(), indices.len());
-    if room != indices_len {
+    let (room, count) = (out.len(), indices.len());
+    if room != count {
         return Err(TakeError::Room {
             bits: room,
-            indices: indices_len,
+            indices: count,
         });
     }
-    if let Some(validity) = validity.filter(|validity| validity.len() != indices_len) {
-        return Err(TakeError::Validity {
-            bits: validity.len(),
-            indices: indices_len,
-        });
+    one_each(indices, validity)?;
+    match kernels::take(&mut out, bits, indices, validity.mask()) {
+        Some(position) => Err(refused(indices, position, bits.len())),
+        None => Ok(()),
     }
-    match kernels::take(&mut out, bits, indices, validity) {
-        Some(position) => Err(TakeError::Index { position }),
+}
+
+fn refused<I: BitIndex>(indices: &[I], position: usize, len: usize) -> TakeError {
+    TakeError::Index {
+        position,
+        index: indices[position].number(),
+        len,
+    }
+}
+
+/// Whether a validity of the indices has a bit for each, or none since all are valid.
+pub(crate) fn one_each<I>(indices: &[I], validity: &impl Mask) -> Result<(), TakeError> {
+    match validity.mask_len() {
+        Some(bits) if bits != indices.len() => Err(TakeError::Validity {
+            bits,
+            indices: indices.len(),
+        }),
+        _ => Ok(()),
+    }
+}
+
+/// Whether the indices that are valid are places of `len` bits.
+#[cfg(feature = "alloc")]
+pub(crate) fn all_below<I: BitIndex>(
+    indices: &[I],
+    len: usize,
+    validity: Option<Bits<'_>>,
+) -> Result<(), TakeError> {
+    let is_bad = |&position: &usize| {
+        let counts = validity.is_none_or(|valid| valid[position]);
+        counts && indices[position].place().is_none_or(|place| place >= len)
+    };
+    match (0..indices.len()).find(is_bad) {
+        Some(position) => Err(refused(indices, position, len)),
         None => Ok(()),
     }
 }

@@ -13,6 +13,15 @@ fn panics(call: impl FnOnce()) -> Option<String> {
     text.or_else(|| refused.downcast_ref::<&str>().map(ToString::to_string))
 }
 
+/// What a take answers of the first bad index.
+fn no_place(position: usize, index: i128, len: usize) -> TakeError {
+    TakeError::Index {
+        position,
+        index,
+        len,
+    }
+}
+
 #[test]
 fn windows_that_end_with_their_bytes_are_made() {
     for (offset, len) in [(0, 16), (3, 13), (15, 1), (16, 0)] {
@@ -161,20 +170,14 @@ fn takes_want_a_bit_for_each_index_and_name_the_first_bad_one() {
         })
     );
     assert_eq!([untouched, still], [[0x5A; 2]; 2]);
-    assert_eq!(
-        take(&[14, 15, 16], None, 3).0,
-        Err(TakeError::Index { position: 1 })
-    );
-    assert_eq!(
-        take(&[14, -1], None, 2).0,
-        Err(TakeError::Index { position: 1 })
-    );
+    assert_eq!(take(&[14, 15, 16], None, 3).0, Err(no_place(1, 15, 15)));
+    assert_eq!(take(&[14, -1], None, 2).0, Err(no_place(1, -1, 15)));
     let (taken, after) = take(&[14, -1], Some(valid), 2);
     assert_eq!((taken, after[0] >> 3 & 0b11), (Ok(()), 0b01));
     let text = panics(|| bits.take_into(&[15u64], BitsMut::new(&mut [0], 0, 1)));
     assert_eq!(
         text.as_deref(),
-        Some("the index at position 0 is out of range")
+        Some("index 15 at position 0 is no place of 15 bits")
     );
 }
 
@@ -255,10 +258,7 @@ fn calls_into_new_memory_give_what_the_others_write() {
         shown(left.take_valid(&[0, 9, 1], left.slice(1..4))),
         "Bits(100)"
     );
-    assert_eq!(
-        left.try_take(&[6u32]),
-        Err(TakeError::Index { position: 0 })
-    );
+    assert_eq!(left.try_take(&[6u32]), Err(no_place(0, 6, 6)));
     let short = left.try_take_valid(&[6u32], left);
     assert_eq!(
         short,
@@ -273,6 +273,92 @@ fn calls_into_new_memory_give_what_the_others_write() {
 }
 
 #[test]
+#[allow(clippy::op_ref, reason = "references are what is tested")]
+fn operators_take_windows_and_bitmaps_in_every_mixture() {
+    let bytes = [0b1010_0110];
+    let (a, b) = (Bits::new(&bytes, 1, 6), Bits::new(&[0b0011_0100], 0, 6));
+    let (m, n) = (Bitmap::from(a), Bitmap::new(vec![0b0011_0100], 0, 6));
+    let want = Bitmap::from([false, false, false, false, true, false]);
+    let all = [
+        a & b,
+        a & &b,
+        &a & b,
+        a & &n,
+        a & n.clone(),
+        &m & b,
+        m.clone() & &b,
+        m.clone() & n.clone(),
+        &m & &n,
+        a & Some(b),
+        a & Some(&n) & None::<Bits>,
+        !(!&m | !n.clone()),
+        (a ^ !b) ^ !a,
+    ];
+    let (last, same) = all.split_last().unwrap();
+    assert!(same.iter().all(|it| *it == want));
+    assert_eq!(*last, Bitmap::from(b));
+    let mut copy = bytes;
+    let mut out = BitsMut::new(&mut copy, 1, 6);
+    out &= &n;
+    assert_eq!((out.get(4), out[5]), (Some(true), false));
+    out |= None::<Bitmap>;
+    out ^= b;
+    assert_eq!(copy, [0b1001_0110]);
+    let text = panics(|| drop(a & &m.slice(1..)));
+    assert_eq!(text.as_deref(), Some("windows of 6 and 5 bits"));
+    let text = panics(|| _ = a.and_count(Validity::new(None, 7)));
+    assert_eq!(text.as_deref(), Some("a mask of 7 bits for 6"));
+}
+
+#[test]
+fn bitmaps_grow_in_aligned_bytes_and_share_what_they_had() {
+    let mut rows = Bitmap::default();
+    assert!(rows.is_empty() && rows.bits().bytes().is_empty());
+    for row in 0..10_000 {
+        rows.append(row % 3 == 0);
+    }
+    let address = |rows: &Bitmap| rows.bits().bytes().as_ptr().addr();
+    let (before, kept) = (address(&rows), rows.clone());
+    assert_eq!(address(&kept), before);
+    rows.set(1, true);
+    assert_ne!(address(&rows), before);
+    assert_eq!((kept[1], rows.count_ones()), (false, 3335));
+    let mut owned = rows.slice(3..9).into_owned();
+    owned.append_bits(kept.bits());
+    assert_eq!((owned.len(), owned.first_set()), (10_006, Some(0)));
+    let places = [address(&rows), before, owned.bits().bytes().as_ptr().addr()];
+    assert_eq!(places.map(|place| place % 64), [0; 3]);
+    rows.truncate(20_000);
+    assert_eq!(rows.len(), 10_000);
+    let text = panics(|| rows.set(10_000, true));
+    assert_eq!(text.as_deref(), Some("place 10000 is not among 10000 bits"));
+}
+
+#[test]
+fn indices_and_validity_are_refused_by_name() {
+    let refused = Bitmap::try_from_indices(9, &[8u64, 9, 1 << 40]).unwrap_err();
+    assert_eq!((refused.position, refused.index, refused.len), (1, 9, 9));
+    let all = Validity::new(None, 9);
+    assert_eq!(all.try_take(&[8i64, -1]), Err(no_place(1, -1, 9)));
+    let short = all.try_take_valid(&[1u32, 2], Validity::new(None, 3));
+    assert_eq!(
+        short,
+        Err(TakeError::Validity {
+            bits: 3,
+            indices: 2
+        })
+    );
+    let text = panics(|| _ = Validity::new(Some(Bits::default()), 9));
+    assert_eq!(text.as_deref(), Some("a mask of 0 bits for 9"));
+    let text = panics(|| drop(all.and(Validity::new(None, 8))));
+    assert_eq!(text.as_deref(), Some("a mask of 8 bits for 9"));
+    assert_eq!(
+        (all.get(8), all.get(9), all.slice(2..).len()),
+        (Some(true), None, 7)
+    );
+}
+
+#[test]
 fn equal_windows_look_and_hash_alike() {
     let left = Bits::new(&[0b0001_0110], 1, 4);
     let right = Bits::new(&[0b1011_0000, 0b1111_1110], 4, 4);
@@ -282,18 +368,21 @@ fn equal_windows_look_and_hash_alike() {
         "Bits(1101) BitsMut(010)"
     );
     assert_eq!(HashSet::from([left, right]).len(), 1);
+    let maps = [left, right].map(Bitmap::from);
+    assert_eq!(HashSet::from(maps).len(), 1);
+    assert_eq!(Vec::from(Bitmap::from(left)), [true, true, false, true]);
 }
 
 #[test]
 fn errors_print_once() {
     let errors: [&dyn Error; 3] = [
         &Bits::try_new(&[0], 1, 8).unwrap_err(),
-        &TakeError::Index { position: 7 },
+        &no_place(7, 9, 8),
         &Ranks::try_with_table(Bits::new(&[0], 0, 1), &[]).unwrap_err(),
     ];
     let texts = [
         "the 8 bits from bit 1 on are not among 8 bits",
-        "the index at position 7 is out of range",
+        "index 9 at position 7 is no place of 8 bits",
         "a table of 0 entries for 1 blocks",
     ];
     for (error, text) in errors.into_iter().zip(texts) {
@@ -305,7 +394,8 @@ fn errors_print_once() {
 #[test]
 fn windows_and_bitmaps_may_cross_threads() {
     fn crosses<T: Send + Sync>() {}
-    crosses::<(Bits<'_>, BitsMut<'_>, Ranks<'_>, Bitmap, Ranked<Vec<u8>>)>();
+    crosses::<(Bits<'_>, BitsMut<'_>, Ranks<'_>, Validity<'_>)>();
+    crosses::<(Bitmap, BitmapMut, Ranked<Vec<u8>>)>();
 }
 
 #[test]

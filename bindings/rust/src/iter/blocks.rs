@@ -4,16 +4,19 @@ use core::fmt;
 use core::iter::FusedIterator;
 use core::ops::Range;
 
-use crate::Bits;
 use crate::kernels::{Run, set_indices, set_slices};
+use crate::{Bits, portable};
 
 /// How many items are asked for at once.
 const ROOM: usize = 64;
 
 /// What a walk finds in a window.
 trait Found: Copy + Default {
-    /// Writes the first ones to `out`, and answers how many have room.
+    /// Writes the first ones of true bits to `out`, and answers how many have room.
     fn find(bits: Bits<'_>, out: &mut [Self]) -> usize;
+
+    /// The same of false bits.
+    fn find_unset(bits: Bits<'_>, out: &mut [Self]) -> usize;
 
     /// The place behind it.
     fn end(self) -> usize;
@@ -23,6 +26,11 @@ impl Found for usize {
     #[inline]
     fn find(bits: Bits<'_>, out: &mut [usize]) -> usize {
         set_indices(bits, out)
+    }
+
+    #[inline]
+    fn find_unset(bits: Bits<'_>, out: &mut [usize]) -> usize {
+        portable::unset_indices(bits, out)
     }
 
     #[inline]
@@ -38,14 +46,19 @@ impl Found for Run {
     }
 
     #[inline]
+    fn find_unset(bits: Bits<'_>, out: &mut [Run]) -> usize {
+        portable::unset_slices(bits, out)
+    }
+
+    #[inline]
     fn end(self) -> usize {
         self.end
     }
 }
 
-/// The items of a window, by blocks.
+/// The items of the bits of a window that are `VALUE`, by blocks.
 #[derive(Clone)]
-struct Blocks<'a, T> {
+struct Blocks<'a, T, const VALUE: bool> {
     bits: Bits<'a>,
     /// The place from which those of the block are counted.
     base: usize,
@@ -56,7 +69,7 @@ struct Blocks<'a, T> {
     filled: usize,
 }
 
-impl<'a, T: Found> Blocks<'a, T> {
+impl<'a, T: Found, const VALUE: bool> Blocks<'a, T, VALUE> {
     #[inline]
     fn new(bits: Bits<'a>) -> Self {
         Blocks {
@@ -80,12 +93,24 @@ impl<'a, T: Found> Blocks<'a, T> {
         let rest = self.rest();
         self.base = self.end;
         self.next = 0;
-        self.filled = T::find(rest, &mut self.found);
+        self.filled = if VALUE {
+            T::find(rest, &mut self.found)
+        } else {
+            T::find_unset(rest, &mut self.found)
+        };
         self.end = match self.found.last() {
             Some(last) if self.filled == ROOM => self.base + last.end(),
             _ => self.bits.len(),
         };
         self.filled > 0
+    }
+
+    /// How many items of single bits are left, for which it counts the bits.
+    #[inline]
+    fn left(&self) -> usize {
+        let rest = self.rest();
+        let ones = rest.count_ones();
+        self.filled - self.next + if VALUE { ones } else { rest.len() - ones }
     }
 
     /// The next item, and the place from which it is counted.
@@ -113,93 +138,117 @@ impl<'a, T: Found> Blocks<'a, T> {
     }
 }
 
-/// The places of the true bits, in ascending order: [`Bits::set_indices`].
-#[derive(Clone)]
-pub struct SetIndices<'a>(Blocks<'a, usize>);
-
-impl<'a> SetIndices<'a> {
-    #[inline]
-    pub(crate) fn new(bits: Bits<'a>) -> Self {
-        SetIndices(Blocks::new(bits))
-    }
-}
-
-impl Iterator for SetIndices<'_> {
-    type Item = usize;
-
-    #[inline]
-    fn next(&mut self) -> Option<usize> {
-        self.0.next().map(|(base, place)| base + place)
-    }
-
-    /// The number of places that are left, for which it counts the bits.
-    #[inline]
-    fn size_hint(&self) -> (usize, Option<usize>) {
-        let left = self.0.filled - self.0.next + self.0.rest().count_ones();
-        (left, Some(left))
-    }
-
-    #[inline]
-    fn count(self) -> usize {
-        self.len()
-    }
-
-    #[inline]
-    fn fold<A, F: FnMut(A, usize) -> A>(self, first: A, mut f: F) -> A {
-        self.0
-            .fold(first, |all, (base, place)| f(all, base + place))
-    }
-}
-
-impl ExactSizeIterator for SetIndices<'_> {}
-impl FusedIterator for SetIndices<'_> {}
-
-/// The runs of true bits from front to end: [`Bits::set_slices`].
-#[derive(Clone)]
-pub struct SetSlices<'a>(Blocks<'a, Run>);
-
-impl<'a> SetSlices<'a> {
-    #[inline]
-    pub(crate) fn new(bits: Bits<'a>) -> Self {
-        SetSlices(Blocks::new(bits))
-    }
-}
-
 #[inline]
 fn range((base, run): (usize, Run)) -> Range<usize> {
     base + run.start..base + run.end
 }
 
-impl Iterator for SetSlices<'_> {
-    type Item = Range<usize>;
+/// The walks over places.
+macro_rules! indices {
+    ($($(#[$doc:meta])* $name:ident: $value:literal;)*) => {$(
+        $(#[$doc])*
+        #[derive(Clone)]
+        pub struct $name<'a>(Blocks<'a, usize, $value>);
 
-    #[inline]
-    fn next(&mut self) -> Option<Range<usize>> {
-        self.0.next().map(range)
-    }
+        impl<'a> $name<'a> {
+            #[inline]
+            pub(crate) fn new(bits: Bits<'a>) -> Self {
+                $name(Blocks::new(bits))
+            }
+        }
 
-    #[inline]
-    fn size_hint(&self) -> (usize, Option<usize>) {
-        let found = self.0.filled - self.0.next;
-        (found, Some(found + self.0.rest().len().div_ceil(2)))
-    }
+        impl Iterator for $name<'_> {
+            type Item = usize;
 
-    #[inline]
-    fn fold<A, F: FnMut(A, Range<usize>) -> A>(self, first: A, mut f: F) -> A {
-        self.0.fold(first, |all, found| f(all, range(found)))
-    }
+            #[inline]
+            fn next(&mut self) -> Option<usize> {
+                self.0.next().map(|(base, place)| base + place)
+            }
+
+            /// The number of places that are left, for which it counts the bits.
+            #[inline]
+            fn size_hint(&self) -> (usize, Option<usize>) {
+                let left = self.0.left();
+                (left, Some(left))
+            }
+
+            #[inline]
+            fn count(self) -> usize {
+                self.len()
+            }
+
+            #[inline]
+            fn fold<A, F: FnMut(A, usize) -> A>(self, first: A, mut f: F) -> A {
+                self.0
+                    .fold(first, |all, (base, place)| f(all, base + place))
+            }
+        }
+
+        impl ExactSizeIterator for $name<'_> {}
+        impl FusedIterator for $name<'_> {}
+
+        impl fmt::Debug for $name<'_> {
+            fn fmt(&self, f: &mut fmt::Formatter<'_>) -> fmt::Result {
+                f.debug_list().entries(self.clone()).finish()
+            }
+        }
+    )*};
 }
 
-impl FusedIterator for SetSlices<'_> {}
-
-impl fmt::Debug for SetIndices<'_> {
-    fn fmt(&self, f: &mut fmt::Formatter<'_>) -> fmt::Result {
-        f.debug_list().entries(self.clone()).finish()
-    }
+indices! {
+    /// The places of the true bits, in ascending order: [`Bits::set_indices`].
+    SetIndices: true;
+    /// The places of the false bits, in ascending order: [`Bits::unset_indices`].
+    UnsetIndices: false;
 }
 
-impl fmt::Debug for SetSlices<'_> {
-    fn fmt(&self, f: &mut fmt::Formatter<'_>) -> fmt::Result {
-        f.debug_list().entries(self.clone()).finish()
-    }
+/// The walks over runs.
+macro_rules! slices {
+    ($($(#[$doc:meta])* $name:ident: $value:literal;)*) => {$(
+        $(#[$doc])*
+        #[derive(Clone)]
+        pub struct $name<'a>(Blocks<'a, Run, $value>);
+
+        impl<'a> $name<'a> {
+            #[inline]
+            pub(crate) fn new(bits: Bits<'a>) -> Self {
+                $name(Blocks::new(bits))
+            }
+        }
+
+        impl Iterator for $name<'_> {
+            type Item = Range<usize>;
+
+            #[inline]
+            fn next(&mut self) -> Option<Range<usize>> {
+                self.0.next().map(range)
+            }
+
+            #[inline]
+            fn size_hint(&self) -> (usize, Option<usize>) {
+                let found = self.0.filled - self.0.next;
+                (found, Some(found + self.0.rest().len().div_ceil(2)))
+            }
+
+            #[inline]
+            fn fold<A, F: FnMut(A, Range<usize>) -> A>(self, first: A, mut f: F) -> A {
+                self.0.fold(first, |all, found| f(all, range(found)))
+            }
+        }
+
+        impl FusedIterator for $name<'_> {}
+
+        impl fmt::Debug for $name<'_> {
+            fn fmt(&self, f: &mut fmt::Formatter<'_>) -> fmt::Result {
+                f.debug_list().entries(self.clone()).finish()
+            }
+        }
+    )*};
+}
+
+slices! {
+    /// The runs of true bits from front to end: [`Bits::set_slices`].
+    SetSlices: true;
+    /// The runs of false bits from front to end: [`Bits::unset_slices`].
+    UnsetSlices: false;
 }

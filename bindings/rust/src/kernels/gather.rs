@@ -28,7 +28,7 @@ pub fn pack_bools(out: &mut BitsMut<'_>, bools: &[bool]) {
             }
         });
     }
-    portable::pack(out, bools, |&value| value);
+    portable::pack(out, bools, |value| value);
 }
 
 /// Of as many bytes as bits.
@@ -45,7 +45,7 @@ pub fn pack_truthy(out: &mut BitsMut<'_>, truthy: &[u8]) {
             }
         });
     }
-    portable::pack(out, truthy, |&value| value != 0);
+    portable::pack(out, truthy, |value| value != 0);
 }
 
 /// Packs as many values as bits by `pack`, which makes the bits of a last byte behind them false:

@@ -1,7 +1,8 @@
 //! Questions on windows.
 
-use super::word::{first_eight, low, only_word, word_at, words};
+use super::word::{first_eight, low, only_word, quick_words, word_at, words};
 use crate::Bits;
+use crate::kernels::Operator;
 
 fn ones(word: u64) -> usize {
     word.count_ones() as usize
@@ -50,14 +51,58 @@ fn nth_one(word: u64, n: usize) -> usize {
 }
 
 pub fn last_set(bits: Bits<'_>) -> Option<usize> {
+    last(bits, |word| word)
+}
+
+pub fn last_unset(bits: Bits<'_>) -> Option<usize> {
+    last(bits, |word| !word)
+}
+
+/// The place of the last bit that is true in the words that `seen` makes of those of the window.
+fn last(bits: Bits<'_>, seen: impl Fn(u64) -> u64) -> Option<usize> {
     words(bits)
         .enumerate()
         .rev()
+        .map(|(i, word)| (i, seen(word) & low(bits.len() - 64 * i)))
         .find(|&(_, word)| word != 0)
         .map(|(i, word)| 64 * i + word.ilog2() as usize)
 }
 
-/// Of windows of one length.
+/// Of windows of one length. No block behind the one with the first difference is read.
 pub fn equal(left: Bits<'_>, right: Bits<'_>) -> bool {
-    words(left).eq(words(right))
+    const BLOCK: usize = 4096;
+    let differences = |start: usize| {
+        let len = (left.len() - start).min(BLOCK);
+        let (left, right) = (left.part(start, len), right.part(start, len));
+        fold(left, right, 0, |all, left, right| all | (left ^ right))
+    };
+    let mut blocks = (0..left.len()).step_by(BLOCK);
+    blocks.all(|start| differences(start) == 0)
+}
+
+/// How many bits the operator makes true, of windows of one length.
+pub fn combined_count(left: Bits<'_>, right: Bits<'_>, operator: Operator) -> usize {
+    match operator {
+        Operator::And => count_by(left, right, |left, right| left & right),
+        Operator::Or => count_by(left, right, |left, right| left | right),
+        Operator::Xor => count_by(left, right, |left, right| left ^ right),
+        Operator::AndNot => count_by(left, right, |left, right| left & !right),
+    }
+}
+
+/// How many bits are true in the words that `of` makes of those of two windows, of which it makes
+/// false of false ones.
+fn count_by(left: Bits<'_>, right: Bits<'_>, of: impl Fn(u64, u64) -> u64) -> usize {
+    fold(left, right, 0, |count, left, right| {
+        count + ones(of(left, right))
+    })
+}
+
+/// Folds the words of two windows of one length: first those that are quick, and then the others.
+#[inline]
+fn fold<A>(left: Bits<'_>, right: Bits<'_>, first: A, f: impl Fn(A, u64, u64) -> A) -> A {
+    let quick = quick_words(left).zip(quick_words(right));
+    let rest = quick.len()..left.len().div_ceil(64);
+    let all = quick.fold(first, |all, (left, right)| f(all, left, right));
+    rest.fold(all, |all, i| f(all, word_at(left, i), word_at(right, i)))
 }

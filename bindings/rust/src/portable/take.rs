@@ -1,4 +1,4 @@
-//! Bits taken at indices.
+//! Bits taken and set at indices.
 
 use super::word::word_at;
 use crate::take::BitIndex;
@@ -16,14 +16,30 @@ pub fn take<I: BitIndex>(
         let counts = validity.map_or(u64::MAX, |validity| word_at(validity, i));
         let mut word = 0;
         for (at, index) in indices.iter().enumerate() {
+            word >>= 1;
             if counts >> at & 1 == 1 {
                 let Some(bit) = index.place().and_then(|place| bits.get(place)) else {
                     return Some(64 * i + at);
                 };
-                word |= u64::from(bit) << at;
+                word |= u64::from(bit) << 63;
             }
         }
-        out.write(64 * i, indices.len(), word);
+        out.write(64 * i, indices.len(), word >> (64 - indices.len()));
+    }
+    None
+}
+
+/// Makes the bits at the indices true; or answers the first position whose index isn't a place.
+#[cfg(feature = "alloc")]
+pub fn set_all<I: BitIndex>(out: &mut BitsMut<'_>, indices: &[I]) -> Option<usize> {
+    let (offset, len) = (out.offset(), out.len());
+    let bytes = out.bytes_mut();
+    for (position, index) in indices.iter().enumerate() {
+        let Some(place) = index.place().filter(|&place| place < len) else {
+            return Some(position);
+        };
+        let bit = offset + place;
+        bytes[bit / 8] |= 1 << (bit % 8);
     }
     None
 }

@@ -1,13 +1,38 @@
-//! Places and runs of true bits, written into a slice. Nothing is read once the room is full.
+//! Places and runs of true bits and of false ones, written into a slice. Nothing is read once the
+//! room is full.
 
-use super::word::word_at;
+use super::word::{low, word_at};
 use crate::Bits;
 use crate::kernels::Run;
 
 pub fn set_indices(bits: Bits<'_>, out: &mut [usize]) -> usize {
+    indices(bits, out, |word| word)
+}
+
+pub fn unset_indices(bits: Bits<'_>, out: &mut [usize]) -> usize {
+    indices(bits, out, |word| !word)
+}
+
+pub fn set_slices(bits: Bits<'_>, out: &mut [Run]) -> usize {
+    slices(bits, out, |word| word)
+}
+
+pub fn unset_slices(bits: Bits<'_>, out: &mut [Run]) -> usize {
+    slices(bits, out, |word| !word)
+}
+
+/// The `i`-th word that `seen` makes of those of a window; what is behind its end is false.
+#[inline]
+fn seen_at(bits: Bits<'_>, i: usize, seen: impl Fn(u64) -> u64) -> u64 {
+    seen(word_at(bits, i)) & low(bits.len() - 64 * i)
+}
+
+/// The places of the bits that are true in what `seen` makes of the words.
+#[inline]
+fn indices(bits: Bits<'_>, out: &mut [usize], seen: impl Fn(u64) -> u64 + Copy) -> usize {
     let (mut written, mut i) = (0, 0);
     while written < out.len() && 64 * i < bits.len() {
-        let mut word = word_at(bits, i);
+        let mut word = seen_at(bits, i, seen);
         while word != 0 {
             let Some(place) = out.get_mut(written) else {
                 return written;
@@ -21,12 +46,14 @@ pub fn set_indices(bits: Bits<'_>, out: &mut [usize]) -> usize {
     written
 }
 
-/// A run begins at each bit that differs from the one before it, and ends at the next one.
-pub fn set_slices(bits: Bits<'_>, out: &mut [Run]) -> usize {
+/// The runs of these bits. A run begins at each bit that differs from the one before it, and ends
+/// at the next one.
+#[inline]
+fn slices(bits: Bits<'_>, out: &mut [Run], seen: impl Fn(u64) -> u64 + Copy) -> usize {
     let (mut written, mut i) = (0, 0);
     let (mut begun, mut last) = (None, 0);
     while written < out.len() && 64 * i < bits.len() {
-        let word = word_at(bits, i);
+        let word = seen_at(bits, i, seen);
         let mut edges = word ^ (word << 1 | last);
         last = word >> 63;
         while edges != 0 {

@@ -41,6 +41,26 @@ pub fn only_word(bits: Bits<'_>) -> u64 {
     word & low(bits.len())
 }
 
+/// The first words of a window, those that lie in nine bytes each: all whole ones but perhaps the
+/// last. Each is put together from the two words of bytes that have it.
+#[inline]
+pub fn quick_words(bits: Bits<'_>) -> impl ExactSizeIterator<Item = u64> {
+    let (first, shift) = (bits.offset() / 8, bits.offset() % 8);
+    let bytes = &bits.bytes()[first..];
+    let n = (bits.len() / 64).min(bytes.len().saturating_sub(1) / 8);
+    let high = bytes.get(1..=8 * n).unwrap_or_default();
+    let words = bytes[..8 * n].chunks_exact(8).zip(high.chunks_exact(8));
+    words.map(move |(low, high)| eight_of(low) >> shift | eight_of(high) << (8 - shift))
+}
+
+/// Eight bytes as a number, lowest first, with no way for fewer: so that a loop becomes vectors.
+#[inline]
+pub fn eight_of(bytes: &[u8]) -> u64 {
+    bytes
+        .first_chunk()
+        .map_or(0, |eight| u64::from_le_bytes(*eight))
+}
+
 /// The bits as words of 64, the last one filled up with false.
 #[inline]
 pub fn words(bits: Bits<'_>) -> impl DoubleEndedIterator<Item = u64> + ExactSizeIterator {
@@ -53,6 +73,10 @@ pub fn write(bytes: &mut [u8], offset: usize, len: usize, word: u64) {
     let (first, shift) = (offset / 8, offset % 8);
     let (mask, word) = (low(len), word & low(len));
     let bytes = &mut bytes[first..];
+    if let Some(eight) = bytes.first_chunk_mut().filter(|_| shift == 0 && len == 64) {
+        *eight = word.to_le_bytes();
+        return;
+    }
     let merged = first_eight(bytes) & !(mask << shift) | word << shift;
     let eight = merged.to_le_bytes();
     if let Some(first) = bytes.first_chunk_mut() {

@@ -1,6 +1,6 @@
 //! Windows filled, negated, copied, combined and packed, by words.
 
-use super::word::{first_eight, only_word, word_at};
+use super::word::{eight_of, only_word, quick_words};
 use crate::kernels::Operator;
 use crate::{Bits, BitsMut};
 
@@ -17,58 +17,126 @@ pub fn fill(out: &mut BitsMut<'_>, value: bool) {
     out.bytes_mut()[first..first + whole].fill(word.to_le_bytes()[0]);
 }
 
-/// Makes each word what `of` answers for it and for the words at the same places of windows of the
-/// same length. It goes by whole words of bytes behind the first byte that the window begins.
-fn each_word<const N: usize>(
+/// Makes each word what `of` answers for it and for the words at the same places of two windows of
+/// the same length. It goes by whole words of bytes behind the first byte that the window begins.
+#[inline]
+fn each_word(
     out: &mut BitsMut<'_>,
-    sources: [Bits<'_>; N],
-    of: impl Fn(u64, [u64; N]) -> u64,
+    left: Bits<'_>,
+    right: Bits<'_>,
+    of: impl Fn(u64, u64, u64) -> u64 + Copy,
 ) {
     let head = out.len().min(out.offset().wrapping_neg() % 8);
-    let whole = (out.len() - head) / 64;
-    let tail = head + 64 * whole;
-    for (start, len) in [(0, head), (tail, out.len() - tail)] {
-        let word = |bits: Bits<'_>| only_word(bits.part(start, len));
-        let made = of(word(out.as_bits()), sources.map(word));
-        out.write(start, len, made);
+    each_slow(out, left, right, 0, head, of);
+    let len = out.len() - head;
+    let words = [left, right].map(|bits| quick_words(bits.part(head, len)));
+    let [left_words, right_words] = words;
+    let words = left_words.zip(right_words);
+    let (first, whole) = ((out.offset() + head) / 8, words.len());
+    each_quick(&mut out.bytes_mut()[first..first + 8 * whole], words, of);
+    let end = out.len();
+    each_slow(out, left, right, head + 64 * whole, end, of);
+}
+
+/// The same of whole words, in a function of its own, where the compiler sees that what is written
+/// overlaps nothing that is read.
+#[inline(never)]
+fn each_quick(
+    bytes: &mut [u8],
+    words: impl Iterator<Item = (u64, u64)>,
+    of: impl Fn(u64, u64, u64) -> u64,
+) {
+    for (eight, (left, right)) in bytes.chunks_exact_mut(8).zip(words) {
+        if let Some(eight) = eight.first_chunk_mut() {
+            *eight = of(u64::from_le_bytes(*eight), left, right).to_le_bytes();
+        }
     }
-    let first = (out.offset() + head) / 8;
-    let bytes = &mut out.bytes_mut()[first..first + 8 * whole];
-    let sources = sources.map(|bits| bits.part(head, 64 * whole));
-    for (i, eight) in bytes.chunks_exact_mut(8).enumerate() {
-        let made = of(first_eight(eight), sources.map(|bits| word_at(bits, i)));
-        eight.copy_from_slice(&made.to_le_bytes());
+}
+
+/// The same from place `start` to `end`.
+fn each_slow(
+    out: &mut BitsMut<'_>,
+    left: Bits<'_>,
+    right: Bits<'_>,
+    start: usize,
+    end: usize,
+    of: impl Fn(u64, u64, u64) -> u64,
+) {
+    for start in (start..end).step_by(64) {
+        let len = (end - start).min(64);
+        let [left, right] = [left, right].map(|bits| only_word(bits.part(start, len)));
+        let made = of(only_word(out.as_bits().part(start, len)), left, right);
+        out.write(start, len, made);
     }
 }
 
 pub fn negate(out: &mut BitsMut<'_>) {
-    each_word(out, [], |old, []| !old);
+    let head = out.len().min(out.offset().wrapping_neg() % 8);
+    let whole = (out.len() - head) / 8;
+    let tail = head + 8 * whole;
+    let first = (out.offset() + head) / 8;
+    for (start, len) in [(0, head), (tail, out.len() - tail)] {
+        out.write(start, len, !only_word(out.as_bits().part(start, len)));
+    }
+    for byte in &mut out.bytes_mut()[first..first + whole] {
+        *byte = !*byte;
+    }
 }
 
 /// Of windows of one length.
 pub fn copy(out: &mut BitsMut<'_>, source: Bits<'_>) {
-    each_word(out, [source], |_, [word]| word);
+    each_word(out, source, source, |_, word, _| word);
 }
 
-/// Of windows of one length.
+/// Of windows of one length. Each operator has a loop of its own.
 pub fn combine(out: &mut BitsMut<'_>, right: Bits<'_>, operator: Operator) {
-    each_word(out, [right], |left, [right]| operator.of(left, right));
+    match operator {
+        Operator::And => each_word(out, right, right, |left, right, _| left & right),
+        Operator::Or => each_word(out, right, right, |left, right, _| left | right),
+        Operator::Xor => each_word(out, right, right, |left, right, _| left ^ right),
+        Operator::AndNot => each_word(out, right, right, |left, right, _| left & !right),
+    }
 }
 
-/// Of windows of one length.
+/// Of windows of one length. Each operator has a loop of its own.
 pub fn combine_into(out: &mut BitsMut<'_>, left: Bits<'_>, right: Bits<'_>, operator: Operator) {
-    each_word(out, [left, right], |_, [left, right]| {
-        operator.of(left, right)
-    });
+    match operator {
+        Operator::And => each_word(out, left, right, |_, left, right| left & right),
+        Operator::Or => each_word(out, left, right, |_, left, right| left | right),
+        Operator::Xor => each_word(out, left, right, |_, left, right| left ^ right),
+        Operator::AndNot => each_word(out, left, right, |_, left, right| left & !right),
+    }
 }
 
 /// Of as many values as bits.
-pub fn pack<T>(out: &mut BitsMut<'_>, values: &[T], is_true: impl Fn(&T) -> bool) {
+pub fn pack<T: Copy>(out: &mut BitsMut<'_>, values: &[T], is_true: impl Fn(T) -> bool) {
     for (i, values) in values.chunks(64).enumerate() {
-        let digits = values.iter().enumerate();
-        let word = digits.fold(0, |word, (at, value)| {
-            word | u64::from(is_true(value)) << at
-        });
+        let word = match values.first_chunk() {
+            Some(values) => word_of(values, &is_true),
+            None => few(values, &is_true),
+        };
         out.write(64 * i, values.len(), word);
     }
+}
+
+/// Eight bytes of 0 or 1 are multiplied by a number that moves each of them to its digit of the
+/// highest byte.
+#[inline]
+fn word_of<T: Copy>(values: &[T; 64], is_true: impl Fn(T) -> bool) -> u64 {
+    let bytes = values.map(|value| u8::from(is_true(value)));
+    let mut packed = [0; 8];
+    for (packed, eight) in packed.iter_mut().zip(bytes.chunks_exact(8)) {
+        *packed = eight_of(eight)
+            .wrapping_mul(0x0102_0408_1020_4080)
+            .to_le_bytes()[7];
+    }
+    u64::from_le_bytes(packed)
+}
+
+/// Of less than 64.
+fn few<T: Copy>(values: &[T], is_true: impl Fn(T) -> bool) -> u64 {
+    let digits = values.iter().enumerate();
+    digits.fold(0, |word, (at, &value)| {
+        word | u64::from(is_true(value)) << at
+    })
 }

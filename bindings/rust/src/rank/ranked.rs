@@ -5,19 +5,21 @@ use alloc::vec::Vec;
 use core::fmt;
 
 use super::{Ranks, blocks};
-use crate::{Bitmap, Bits};
+use crate::{Bitmap, Bits, SharedBytes};
 
-/// A [`Bitmap`] with the table of its [`Ranks`], which can be kept where they are needed.
+/// A [`Bitmap`] with the table of its [`Ranks`], which can be kept where they are needed. It
+/// answers what they answer.
 ///
 /// ```
 /// use vortex_bits::Bitmap;
 ///
 /// let ranked = Bitmap::new(vec![0b0111_0110; 1000], 3, 7997).ranked();
-/// assert_eq!(ranked.ranks().count(), 4998);
-/// assert_eq!(ranked.ranks().select(2), Some(3));
+/// assert_eq!((ranked.len(), ranked.count()), (7997, 4998));
+/// assert_eq!((ranked.rank(100), ranked.try_rank(7998)), (63, None));
+/// assert_eq!((ranked.select(2), ranked.select_unset(2)), (Some(3), Some(5)));
 /// ```
 #[derive(Clone)]
-pub struct Ranked<B> {
+pub struct Ranked<B = SharedBytes> {
     bitmap: Bitmap<B>,
     /// An entry for each block.
     table: Vec<usize>,
@@ -48,6 +50,60 @@ impl<B: AsRef<[u8]>> Ranked<B> {
     #[track_caller]
     pub fn ranks(&self) -> Ranks<'_> {
         Ranks::with_table(self.bits(), &self.table)
+    }
+
+    /// How many bits there are.
+    #[inline]
+    #[must_use]
+    pub const fn len(&self) -> usize {
+        self.bitmap.len()
+    }
+
+    /// Whether there are none.
+    #[inline]
+    #[must_use]
+    pub const fn is_empty(&self) -> bool {
+        self.bitmap.is_empty()
+    }
+
+    /// How many bits are true, in constant time.
+    #[inline]
+    #[must_use]
+    pub fn count(&self) -> usize {
+        self.ranks().count()
+    }
+
+    /// How many of the first `place` bits are true, in constant time.
+    ///
+    /// # Panics
+    ///
+    /// Where `place` is above the length: [`try_rank`](Ranked::try_rank) answers that.
+    #[inline]
+    #[must_use]
+    #[track_caller]
+    pub fn rank(&self, place: usize) -> usize {
+        self.ranks().rank(place)
+    }
+
+    /// How many of the first `place` bits are true; None where `place` is above the length.
+    #[inline]
+    #[must_use]
+    pub fn try_rank(&self, place: usize) -> Option<usize> {
+        self.ranks().try_rank(place)
+    }
+
+    /// The place of the `n`-th true bit, counted from 0; None where there are at most `n`.
+    #[inline]
+    #[must_use]
+    pub fn select(&self, n: usize) -> Option<usize> {
+        self.ranks().select(n)
+    }
+
+    /// The place of the `n`-th false bit, counted from 0; None where there are at most `n`.
+    #[inline]
+    #[must_use]
+    pub fn select_unset(&self, n: usize) -> Option<usize> {
+        self.ranks().select_unset(n)
     }
 
     /// The bitmap without its table.

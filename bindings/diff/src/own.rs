@@ -1,0 +1,203 @@
+//! Bitmaps with their bytes, counts of two windows, walks over false bits, and validity that may be
+//! missing.
+
+use vortex_bits::{Bitmap, Bits, Validity};
+
+use crate::ask::same;
+use crate::case::Case;
+use crate::plain;
+use crate::random::Random;
+
+/// What an operator makes of two lists.
+fn by(left: &[bool], right: &[bool], of: impl Fn(bool, bool) -> bool) -> Vec<bool> {
+    left.iter()
+        .zip(right)
+        .map(|(&left, &right)| of(left, right))
+        .collect()
+}
+
+fn ones(list: &[bool]) -> usize {
+    list.iter().filter(|&&bit| bit).count()
+}
+
+fn list(bitmap: &Bitmap) -> Vec<bool> {
+    plain::bits(bitmap.bits())
+}
+
+/// Lists that should be the same.
+fn lists(name: &str, got: impl AsRef<[bool]>, wanted: impl AsRef<[bool]>) -> Result<u64, String> {
+    same(name, got.as_ref(), wanted.as_ref())
+}
+
+/// The counts of two windows, and the operators that give new bits and that write.
+fn operators(case: &Case, left: &[bool], right: &[bool]) -> Result<u64, String> {
+    let (l, r) = (case.left(), case.right());
+    let (and, or) = (by(left, right, |a, b| a & b), by(left, right, |a, b| a | b));
+    let (xor, not) = (
+        by(left, right, |a, b| a ^ b),
+        by(left, right, |a, b| a & !b),
+    );
+    let mut map = Bitmap::from(l).slice(..);
+    let kept = map.clone();
+    map &= r;
+    let anded = list(&map);
+    map |= Some(&kept);
+    map ^= None::<Bits>;
+    Ok(same("and_count", l.and_count(r), ones(&and))?
+        + same("or_count", l.or_count(r), ones(&or))?
+        + same("xor_count", l.xor_count(r), ones(&xor))?
+        + same("and_not_count", l.and_not_count(r), ones(&not))?
+        + lists("&", list(&(&kept & r)), &and)?
+        + lists("|", list(&(l | Bitmap::from(r))), &or)?
+        + lists("^", list(&(kept.clone() ^ &r)), &xor)?
+        + lists("and_not", list(&l.and_not(r)), &not)?
+        + lists("&=", &anded, &and)?
+        + lists("|= and ^=", list(&map), by(left, left, |a, _| !a))?
+        + lists("what shared the bytes", list(&kept), left)?)
+}
+
+/// Walks over false bits, by steps up to the `n`-th, and then in one go.
+fn unset(bits: Bits<'_>, n: usize, left: &[bool]) -> Result<u64, String> {
+    let negated: Vec<bool> = left.iter().map(|bit| !bit).collect();
+    let falses = plain::places(left, false);
+    let mut places = bits.unset_indices();
+    let mut stepped: Vec<usize> = places.by_ref().take(n).collect();
+    let rest = places.len();
+    places.for_each(|place| stepped.push(place));
+    Ok(same("unset_indices", &stepped, &falses)?
+        + same("unset_indices, left", rest, falses.len().saturating_sub(n))?
+        + same(
+            "unset_slices",
+            bits.unset_slices().collect::<Vec<_>>(),
+            plain::runs(&negated),
+        )?
+        + same("first_unset", bits.first_unset(), falses.first().copied())?
+        + same("last_unset", bits.last_unset(), falses.last().copied())?
+        + same(
+            "first_set",
+            bits.first_set(),
+            left.iter().position(|&bit| bit),
+        )?)
+}
+
+/// Growth in bytes of its own and in shared ones, of which another one keeps a part.
+fn grows(case: &Case, random: &mut Random, left: &[bool], right: &[bool]) -> Result<u64, String> {
+    let start = random.below(left.len() + 1);
+    let mut shared = Bitmap::new(case.left.as_slice(), case.l, case.len);
+    let whole = Bitmap::from(shared.bits());
+    let mut part = whole.slice(start..);
+    let mut owned = part.clone().into_owned();
+    let mut wanted = left[start..].to_vec();
+    shared = shared.slice(..case.len);
+    let mut calls = 0;
+    for _ in 0..random.below(6) {
+        match random.below(5) {
+            0 => {
+                let bit = random.below(2) == 0;
+                part.append(bit);
+                owned.append(bit);
+                wanted.push(bit);
+            }
+            1 => {
+                let (n, bit) = (random.below(100), random.below(2) == 0);
+                part.append_n(n, bit);
+                owned.append_n(n, bit);
+                wanted.resize(wanted.len() + n, bit);
+            }
+            2 => {
+                part.append_bits(case.right());
+                owned.extend([case.right()]);
+                wanted.extend(right);
+            }
+            3 => {
+                let len = random.below(wanted.len() + 1);
+                part.truncate(len);
+                owned.truncate(len);
+                wanted.truncate(len);
+            }
+            _ => {
+                part.extend(right.iter().copied());
+                owned.append_bools(right);
+                wanted.extend(right);
+            }
+        }
+        calls += lists("a bitmap that grows", list(&part), &wanted)?
+            + lists("one of its own", plain::bits(owned.bits()), &wanted)?;
+    }
+    let joined: Bitmap = [shared.bits(), case.right()].into_iter().collect();
+    Ok(calls
+        + lists("what shared its bytes", list(&whole), left)?
+        + lists("joined", list(&joined), [left, right].concat())?
+        + lists("share", list(&owned.share()), &wanted)?)
+}
+
+/// The bits of a validity that was made, or as many true ones.
+fn filled(made: Option<Bitmap>, len: usize) -> Vec<bool> {
+    made.map_or(vec![true; len], |made| list(&made))
+}
+
+/// Of two validities each may be missing.
+fn validity(
+    case: &Case,
+    random: &mut Random,
+    left: &[bool],
+    right: &[bool],
+) -> Result<u64, String> {
+    let len = case.len;
+    let [a, b] = [case.left(), case.right()].map(|bits| (random.below(2) == 0).then_some(bits));
+    let [x, y] = [(a, left), (b, right)].map(|(bits, list)| match bits {
+        Some(_) => list.to_vec(),
+        None => vec![true; len],
+    });
+    let (one, other) = (Validity::new(a, len), Validity::new(b, len));
+    let count = if len == 0 { 0 } else { random.below(len + 1) };
+    let indices: Vec<u32> = (0..count).map(|_| random.below(len) as u32).collect();
+    let taken: Vec<bool> = indices.iter().map(|&row| x[row as usize]).collect();
+    let both: Vec<bool> = by(&taken, &right[..count], |a, b| a & b);
+    let of_indices = Validity::from(case.right().slice(..count));
+    let kept: Vec<bool> = plain::places(right, true)
+        .into_iter()
+        .map(|row| x[row])
+        .collect();
+    let mut set = vec![false; len];
+    for &row in &indices {
+        set[row as usize] = true;
+    }
+    Ok(lists(
+        "validity and",
+        filled(one.and(other), len),
+        by(&x, &y, |a, b| a & b),
+    )? + lists(
+        "validity or",
+        filled(one.or(other), len),
+        by(&x, &y, |a, b| a | b),
+    )? + lists(
+        "validity filter",
+        filled(one.filter(case.right()), kept.len()),
+        kept,
+    )? + lists("validity take", filled(one.take(&indices), count), taken)?
+        + lists(
+            "validity take_valid",
+            filled(one.take_valid(&indices, of_indices), count),
+            both,
+        )?
+        + same("validity count", one.count_ones(), ones(&x))?
+        + same(
+            "& a missing mask",
+            list(&(case.left() & b)),
+            by(left, &y, |a, b| a & b),
+        )?
+        + lists(
+            "from_indices",
+            list(&Bitmap::from_indices(len, &indices)),
+            set,
+        )?)
+}
+
+pub fn compare(case: &Case, random: &mut Random) -> Result<u64, String> {
+    let [left, right] = [case.left(), case.right()].map(plain::bits);
+    Ok(operators(case, &left, &right)?
+        + unset(case.left(), case.n, &left)?
+        + grows(case, random, &left, &right)?
+        + validity(case, random, &left, &right)?)
+}

@@ -1,0 +1,242 @@
+//! Bits that grow and are edited.
+
+use super::Bitmap;
+use crate::bytes::AlignedBytes;
+use crate::kernels;
+use crate::{Bits, BitsMut, Grow};
+
+/// Calls that write: in the bytes at once where they have no other owner, else in a copy of the
+/// bits, which takes memory.
+impl<B: Grow> Bitmap<B> {
+    /// The bytes, which have no other owner now, with the place of the first bit and the length.
+    #[inline]
+    fn owned(&mut self) -> (&mut AlignedBytes, usize, &mut usize) {
+        if !self.bytes.is_owned() {
+            self.copy();
+        }
+        match self.bytes.owned() {
+            Some(bytes) => (bytes, self.offset, &mut self.len),
+            None => unreachable!("a copy has one owner"),
+        }
+    }
+
+    #[cold]
+    #[inline(never)]
+    fn copy(&mut self) {
+        let bits = self.bits();
+        let mut bytes = AlignedBytes::zeroed(bits.len().div_ceil(8));
+        BitsMut::new(&mut bytes, 0, bits.len()).copy_from(bits);
+        self.bytes = B::from(bytes);
+        self.offset = 0;
+    }
+
+    /// Adds `n` bits, which hold anything, and answers them to be written.
+    ///
+    /// # Panics
+    ///
+    /// Where the end of the bits is no `usize`.
+    fn grow(&mut self, n: usize) -> BitsMut<'_> {
+        let (bytes, offset, len) = self.owned();
+        let start = offset + *len;
+        let end = start.checked_add(n).expect("an end is a usize");
+        if bytes.len() < end.div_ceil(8) {
+            bytes.resize(end.div_ceil(8));
+        }
+        *len += n;
+        BitsMut::new(bytes, start, n)
+    }
+
+    /// The bits, to be written.
+    ///
+    /// ```
+    /// use vortex_bits::Bitmap;
+    ///
+    /// let mut rows = Bitmap::new_unset(10);
+    /// rows.bits_mut().slice(3..7).fill(true);
+    /// assert_eq!(rows.count_ones(), 4);
+    /// ```
+    #[must_use]
+    pub fn bits_mut(&mut self) -> BitsMut<'_> {
+        let (bytes, offset, len) = self.owned();
+        BitsMut::new(bytes, offset, *len)
+    }
+
+    /// Makes one bit `value`: many are sooner made by [`bits_mut`](Bitmap::bits_mut).
+    ///
+    /// ```
+    /// use vortex_bits::Bitmap;
+    ///
+    /// let mut rows = Bitmap::new_unset(10);
+    /// rows.set(3, true);
+    /// assert_eq!(rows.first_set(), Some(3));
+    /// ```
+    ///
+    /// # Panics
+    ///
+    /// Where there is no such place.
+    #[inline]
+    #[track_caller]
+    pub fn set(&mut self, place: usize, value: bool) {
+        self.bits_mut().set(place, value);
+    }
+
+    /// Makes room for so many more bits.
+    ///
+    /// ```
+    /// use vortex_bits::Bitmap;
+    ///
+    /// let mut rows = Bitmap::default();
+    /// rows.reserve(1000);
+    /// assert!(rows.is_empty());
+    /// ```
+    pub fn reserve(&mut self, bits: usize) {
+        let (bytes, offset, len) = self.owned();
+        let size = (offset + *len).saturating_add(bits).div_ceil(8);
+        bytes.reserve(size.saturating_sub(bytes.len()));
+    }
+
+    /// Adds a bit. Where the bits may have other owners each call tests that they don't: a
+    /// [`BitmapMut`](crate::BitmapMut) spares the test, and [`Extend`] has it once.
+    ///
+    /// ```
+    /// use vortex_bits::Bitmap;
+    ///
+    /// let mut rows = Bitmap::default();
+    /// rows.append(true);
+    /// assert_eq!(format!("{rows:?}"), "Bits(1)");
+    /// ```
+    #[inline]
+    pub fn append(&mut self, value: bool) {
+        let (bytes, offset, len) = self.owned();
+        let end = offset + *len;
+        match bytes.byte_mut(end / 8) {
+            Some(byte) => *byte = *byte & !(1 << (end % 8)) | u8::from(value) << (end % 8),
+            None => bytes.push(u8::from(value)),
+        }
+        *len += 1;
+    }
+
+    /// Adds `n` bits, all `value`.
+    ///
+    /// ```
+    /// use vortex_bits::Bitmap;
+    ///
+    /// let mut rows = Bitmap::new_set(3);
+    /// rows.append_n(10, false);
+    /// assert_eq!((rows.len(), rows.count_ones()), (13, 3));
+    /// ```
+    pub fn append_n(&mut self, n: usize, value: bool) {
+        self.grow(n).fill(value);
+    }
+
+    /// Adds the bits of a window, wherever they lie.
+    ///
+    /// ```
+    /// use vortex_bits::{Bitmap, Bits};
+    ///
+    /// let mut rows = Bitmap::new_unset(3);
+    /// rows.append_bits(Bits::new(&[0b1110_1000], 3, 5));
+    /// assert_eq!(format!("{rows:?}"), "Bits(00010111)");
+    /// ```
+    pub fn append_bits(&mut self, bits: Bits<'_>) {
+        self.grow(bits.len()).copy_from(bits);
+    }
+
+    /// Adds truth values.
+    ///
+    /// ```
+    /// use vortex_bits::Bitmap;
+    ///
+    /// let mut rows = Bitmap::new_unset(3);
+    /// rows.append_bools(&[true, false]);
+    /// assert_eq!(format!("{rows:?}"), "Bits(00010)");
+    /// ```
+    pub fn append_bools(&mut self, bools: &[bool]) {
+        kernels::pack_bools(&mut self.grow(bools.len()), bools);
+    }
+
+    /// Leaves the first `len` bits; all where there are no more.
+    ///
+    /// ```
+    /// use vortex_bits::Bitmap;
+    ///
+    /// let mut rows = Bitmap::new_set(13);
+    /// rows.truncate(5);
+    /// assert_eq!(rows.len(), 5);
+    /// ```
+    pub fn truncate(&mut self, len: usize) {
+        self.len = self.len.min(len);
+    }
+
+    /// Leaves no bit; the memory stays.
+    ///
+    /// ```
+    /// use vortex_bits::Bitmap;
+    ///
+    /// let mut rows = Bitmap::new_set(13);
+    /// rows.clear();
+    /// assert!(rows.is_empty());
+    /// ```
+    pub fn clear(&mut self) {
+        self.truncate(0);
+    }
+}
+
+/// Fills the block with the next truth values, and answers how many there were.
+#[inline]
+fn fill(block: &mut [bool], bools: &mut impl Iterator<Item = bool>) -> usize {
+    let mut filled = 0;
+    for (place, bool) in block.iter_mut().zip(bools) {
+        *place = bool;
+        filled += 1;
+    }
+    filled
+}
+
+/// The truth values, packed by blocks.
+///
+/// ```
+/// use vortex_bits::Bitmap;
+///
+/// let mut rows = Bitmap::new_set(2);
+/// rows.extend((0..3).map(|row| row % 2 == 0));
+/// assert_eq!(format!("{rows:?}"), "Bits(11101)");
+/// ```
+impl<B: Grow> Extend<bool> for Bitmap<B> {
+    fn extend<I: IntoIterator<Item = bool>>(&mut self, bools: I) {
+        let mut bools = bools.into_iter();
+        self.reserve(bools.size_hint().0);
+        let mut block = [false; 512];
+        loop {
+            let filled = fill(&mut block, &mut bools);
+            self.append_bools(&block[..filled]);
+            if filled < block.len() {
+                return;
+            }
+        }
+    }
+}
+
+/// The bits of each window, one behind the other.
+///
+/// ```
+/// use vortex_bits::{Bitmap, Bits};
+///
+/// let mut rows = Bitmap::default();
+/// rows.extend([Bits::new(&[0b01], 0, 2), Bits::new(&[0b110], 1, 2)]);
+/// assert_eq!(format!("{rows:?}"), "Bits(1011)");
+/// ```
+impl<'a, B: Grow> Extend<Bits<'a>> for Bitmap<B> {
+    fn extend<I: IntoIterator<Item = Bits<'a>>>(&mut self, windows: I) {
+        for bits in windows {
+            self.append_bits(bits);
+        }
+    }
+}
+
+/// The bits of each bitmap, one behind the other.
+impl<'a, B: Grow, C: AsRef<[u8]>> Extend<&'a Bitmap<C>> for Bitmap<B> {
+    fn extend<I: IntoIterator<Item = &'a Bitmap<C>>>(&mut self, bitmaps: I) {
+        self.extend(bitmaps.into_iter().map(Bitmap::bits));
+    }
+}

@@ -1,0 +1,83 @@
+//! Calls of windows into new memory.
+
+use super::Bitmap;
+use crate::error::{TakeError, expect};
+use crate::{BitIndex, Bits, Mask};
+
+impl Bits<'_> {
+    /// The bits at the places that are true in `mask`, as [`filter_into`](Bits::filter_into)
+    /// writes them.
+    ///
+    /// ```
+    /// use vortex_bits::{Bitmap, Bits};
+    ///
+    /// let (valid, mask) = (Bits::new(&[0b0110], 0, 4), Bitmap::from([true, false, true, true]));
+    /// assert_eq!(format!("{:?}", valid.filter(&mask)), "Bits(010)");
+    /// ```
+    ///
+    /// # Panics
+    ///
+    /// Where `mask` isn't as long as the window.
+    #[must_use]
+    #[track_caller]
+    pub fn filter(self, mask: impl Mask) -> Bitmap {
+        let mask = mask.of_len(self.len());
+        let kept = mask.map_or(self.len(), Bits::count_ones);
+        Bitmap::make(kept, |out| self.filter_into(mask, out))
+    }
+
+    /// The bits at the indices, as [`take_into`](Bits::take_into) writes them.
+    ///
+    /// ```
+    /// use vortex_bits::Bits;
+    ///
+    /// let valid = Bits::new(&[0b0110], 0, 4);
+    /// assert_eq!(format!("{:?}", valid.take(&[3u32, 1, 1])), "Bits(011)");
+    /// ```
+    ///
+    /// # Panics
+    ///
+    /// Where an index isn't a place of the window.
+    #[must_use]
+    #[track_caller]
+    pub fn take<I: BitIndex>(self, indices: &[I]) -> Bitmap {
+        expect(self.try_take(indices))
+    }
+
+    /// The bits at the indices.
+    ///
+    /// # Errors
+    ///
+    /// At the first index that isn't a place of the window.
+    pub fn try_take<I: BitIndex>(self, indices: &[I]) -> Result<Bitmap, TakeError> {
+        Bitmap::try_make(indices.len(), |out| self.try_take_into(indices, out))
+    }
+
+    /// [`take`](Bits::take) of the indices that are valid: the others give false, whatever they
+    /// are.
+    ///
+    /// # Panics
+    ///
+    /// Where [`try_take_valid`](Bits::try_take_valid) answers an error.
+    #[must_use]
+    #[track_caller]
+    pub fn take_valid<I: BitIndex>(self, indices: &[I], validity: impl Mask) -> Bitmap {
+        expect(self.try_take_valid(indices, validity))
+    }
+
+    /// [`try_take`](Bits::try_take) of the indices that are valid: the others give false, whatever
+    /// they are.
+    ///
+    /// # Errors
+    ///
+    /// Where `validity` hasn't a bit for each index, and at the first index that is valid and isn't
+    /// a place of the window.
+    pub fn try_take_valid<I: BitIndex>(
+        self,
+        indices: &[I],
+        validity: impl Mask,
+    ) -> Result<Bitmap, TakeError> {
+        let len = indices.len();
+        Bitmap::try_make(len, |out| self.try_take_valid_into(indices, validity, out))
+    }
+}

@@ -1,0 +1,148 @@
+//! How bitmaps are made, compared, hashed, shown and walked.
+
+use alloc::vec::Vec;
+use core::fmt;
+use core::hash::{Hash, Hasher};
+use core::ops::Index;
+
+use super::Bitmap;
+use crate::Bits;
+use crate::iter::Iter;
+
+/// No bits.
+impl Default for Bitmap {
+    fn default() -> Bitmap {
+        Bitmap::growing(0).share()
+    }
+}
+
+impl From<&[bool]> for Bitmap {
+    fn from(bools: &[bool]) -> Bitmap {
+        Bitmap::make(bools.len(), |mut out| out.copy_from_bools(bools))
+    }
+}
+
+impl From<Vec<bool>> for Bitmap {
+    fn from(bools: Vec<bool>) -> Bitmap {
+        Bitmap::from(&bools[..])
+    }
+}
+
+impl<const N: usize> From<[bool; N]> for Bitmap {
+    fn from(bools: [bool; N]) -> Bitmap {
+        Bitmap::from(&bools[..])
+    }
+}
+
+impl<const N: usize> From<&[bool; N]> for Bitmap {
+    fn from(bools: &[bool; N]) -> Bitmap {
+        Bitmap::from(&bools[..])
+    }
+}
+
+impl From<Bits<'_>> for Bitmap {
+    fn from(bits: Bits<'_>) -> Bitmap {
+        Bitmap::make(bits.len(), |mut out| out.copy_from(bits))
+    }
+}
+
+/// The truth values, a byte each.
+///
+/// ```
+/// use vortex_bits::Bitmap;
+///
+/// assert_eq!(Vec::from(Bitmap::new_set(2)), [true, true]);
+/// ```
+impl<B: AsRef<[u8]>> From<Bitmap<B>> for Vec<bool> {
+    fn from(bitmap: Bitmap<B>) -> Vec<bool> {
+        bitmap.iter().collect()
+    }
+}
+
+/// It takes a byte a bit in between.
+impl FromIterator<bool> for Bitmap {
+    fn from_iter<I: IntoIterator<Item = bool>>(bools: I) -> Bitmap {
+        let bools: Vec<bool> = bools.into_iter().collect();
+        Bitmap::from(bools)
+    }
+}
+
+/// The bits of each window, one behind the other.
+///
+/// ```
+/// use vortex_bits::{Bitmap, Bits};
+///
+/// let parts = [Bits::new(&[0b01], 0, 2), Bits::new(&[0b110], 1, 2)];
+/// assert_eq!(format!("{:?}", parts.into_iter().collect::<Bitmap>()), "Bits(1011)");
+/// ```
+impl<'a> FromIterator<Bits<'a>> for Bitmap {
+    fn from_iter<I: IntoIterator<Item = Bits<'a>>>(windows: I) -> Bitmap {
+        let mut joined = Bitmap::growing(0);
+        joined.extend(windows);
+        joined.share()
+    }
+}
+
+/// The bits of each bitmap, one behind the other.
+impl<'a, B: AsRef<[u8]>> FromIterator<&'a Bitmap<B>> for Bitmap {
+    fn from_iter<I: IntoIterator<Item = &'a Bitmap<B>>>(bitmaps: I) -> Bitmap {
+        bitmaps.into_iter().map(Bitmap::bits).collect()
+    }
+}
+
+impl<B: AsRef<[u8]>> fmt::Debug for Bitmap<B> {
+    fn fmt(&self, f: &mut fmt::Formatter<'_>) -> fmt::Result {
+        self.bits().fmt(f)
+    }
+}
+
+/// The same bits, wherever these lie.
+impl<B: AsRef<[u8]>, C: AsRef<[u8]>> PartialEq<Bitmap<C>> for Bitmap<B> {
+    fn eq(&self, other: &Bitmap<C>) -> bool {
+        self.bits() == other.bits()
+    }
+}
+
+impl<B: AsRef<[u8]>> Eq for Bitmap<B> {}
+
+impl<B: AsRef<[u8]>> PartialEq<Bits<'_>> for Bitmap<B> {
+    fn eq(&self, other: &Bits<'_>) -> bool {
+        self.bits() == *other
+    }
+}
+
+impl<B: AsRef<[u8]>> PartialEq<Bitmap<B>> for Bits<'_> {
+    fn eq(&self, other: &Bitmap<B>) -> bool {
+        *self == other.bits()
+    }
+}
+
+/// As its window.
+impl<B: AsRef<[u8]>> Hash for Bitmap<B> {
+    fn hash<H: Hasher>(&self, state: &mut H) {
+        self.bits().hash(state);
+    }
+}
+
+/// # Panics
+///
+/// Where there is no such place: [`get`](Bitmap::get) answers that.
+impl<B: AsRef<[u8]>> Index<usize> for Bitmap<B> {
+    type Output = bool;
+
+    #[inline]
+    #[track_caller]
+    fn index(&self, place: usize) -> &bool {
+        self.bits().at(place)
+    }
+}
+
+impl<'a, B: AsRef<[u8]>> IntoIterator for &'a Bitmap<B> {
+    type Item = bool;
+    type IntoIter = Iter<'a>;
+
+    #[inline]
+    fn into_iter(self) -> Iter<'a> {
+        self.iter()
+    }
+}

@@ -1,0 +1,260 @@
+//! Bytes that begin at a multiple of 64, of one owner and of several.
+
+use alloc::sync::Arc;
+use alloc::vec;
+use alloc::vec::Vec;
+use core::fmt;
+use core::ops::{Deref, DerefMut};
+
+/// What the first byte's address is a multiple of.
+const ALIGNMENT: usize = 64;
+
+/// Bytes of one owner, which grow. Where there are any the first one's address is a multiple of 64,
+/// as a line of the cache is and as Arrow recommends for buffers.
+///
+/// ```
+/// use vortex_bits::{AlignedBytes, Bitmap};
+///
+/// let mut bytes = AlignedBytes::zeroed(100);
+/// bytes[99] = 0b1010_0000;
+/// assert_eq!(bytes.as_ptr().addr() % 64, 0);
+/// assert_eq!(Bitmap::new(bytes, 700, 100).last_set(), Some(99));
+/// ```
+#[derive(Default)]
+pub struct AlignedBytes {
+    /// Up to 63 bytes that aren't used, and the bytes.
+    all: Vec<u8>,
+    start: usize,
+}
+
+impl AlignedBytes {
+    /// No bytes, and room for some.
+    ///
+    /// ```
+    /// assert!(vortex_bits::AlignedBytes::with_capacity(100).is_empty());
+    /// ```
+    ///
+    /// # Panics
+    ///
+    /// Where they are more than memory can hold, as of a [`Vec`], and so below.
+    #[must_use]
+    pub fn with_capacity(bytes: usize) -> AlignedBytes {
+        if bytes == 0 {
+            return AlignedBytes::default();
+        }
+        AlignedBytes::cut(Vec::with_capacity(bytes.saturating_add(ALIGNMENT - 1)), 0)
+    }
+
+    /// So many bytes, all 0.
+    ///
+    /// ```
+    /// assert_eq!(*vortex_bits::AlignedBytes::zeroed(3), [0; 3]);
+    /// ```
+    #[must_use]
+    pub fn zeroed(bytes: usize) -> AlignedBytes {
+        if bytes == 0 {
+            return AlignedBytes::default();
+        }
+        AlignedBytes::cut(vec![0; bytes.saturating_add(ALIGNMENT - 1)], bytes)
+    }
+
+    /// The first `len` aligned bytes of some memory, which has room for 63 more.
+    fn cut(mut all: Vec<u8>, len: usize) -> AlignedBytes {
+        let start = all.as_ptr().align_offset(ALIGNMENT).min(ALIGNMENT - 1);
+        all.resize(start + len, 0);
+        AlignedBytes { all, start }
+    }
+
+    /// Makes room for some more, and for as many again as there are where it has to be new.
+    #[inline]
+    pub(crate) fn reserve(&mut self, more: usize) {
+        if self.all.capacity() - self.all.len() < more {
+            self.move_to(self.len().max(more).saturating_add(self.len()));
+        }
+    }
+
+    #[cold]
+    #[inline(never)]
+    fn move_to(&mut self, capacity: usize) {
+        let mut moved = AlignedBytes::with_capacity(capacity);
+        moved.all.extend_from_slice(self);
+        *self = moved;
+    }
+
+    /// One of them.
+    #[inline]
+    pub(crate) fn byte_mut(&mut self, place: usize) -> Option<&mut u8> {
+        self.all.get_mut(self.start + place)
+    }
+
+    /// Adds one.
+    #[inline]
+    pub(crate) fn push(&mut self, byte: u8) {
+        if self.all.len() == self.all.capacity() {
+            self.reserve(1);
+        }
+        self.all.push(byte);
+    }
+
+    /// Makes them so many; those that are new are 0.
+    #[inline]
+    pub(crate) fn resize(&mut self, len: usize) {
+        self.reserve(len.saturating_sub(self.len()));
+        self.all.resize(self.start + len, 0);
+    }
+}
+
+impl Deref for AlignedBytes {
+    type Target = [u8];
+
+    #[inline]
+    fn deref(&self) -> &[u8] {
+        &self.all[self.start..]
+    }
+}
+
+impl DerefMut for AlignedBytes {
+    #[inline]
+    fn deref_mut(&mut self) -> &mut [u8] {
+        &mut self.all[self.start..]
+    }
+}
+
+impl AsRef<[u8]> for AlignedBytes {
+    #[inline]
+    fn as_ref(&self) -> &[u8] {
+        self
+    }
+}
+
+/// A copy.
+impl Clone for AlignedBytes {
+    fn clone(&self) -> AlignedBytes {
+        AlignedBytes::from(&self[..])
+    }
+}
+
+/// A copy.
+impl From<&[u8]> for AlignedBytes {
+    fn from(bytes: &[u8]) -> AlignedBytes {
+        let mut copy = AlignedBytes::with_capacity(bytes.len());
+        copy.all.extend_from_slice(bytes);
+        copy
+    }
+}
+
+impl fmt::Debug for AlignedBytes {
+    fn fmt(&self, f: &mut fmt::Formatter<'_>) -> fmt::Result {
+        self[..].fmt(f)
+    }
+}
+
+/// [`AlignedBytes`] that clones share, on any thread.
+///
+/// ```
+/// use vortex_bits::{AlignedBytes, SharedBytes};
+///
+/// let bytes = SharedBytes::from(AlignedBytes::zeroed(3));
+/// assert_eq!(bytes.as_ptr(), bytes.clone().as_ptr());
+/// ```
+#[derive(Clone, Default)]
+pub struct SharedBytes(Arc<AlignedBytes>);
+
+impl SharedBytes {
+    /// The bytes with one owner: a copy of them where they have others too.
+    ///
+    /// ```
+    /// use vortex_bits::{AlignedBytes, SharedBytes};
+    ///
+    /// let bytes = SharedBytes::from(AlignedBytes::zeroed(3));
+    /// let place = bytes.as_ptr();
+    /// assert_eq!(bytes.into_owned().as_ptr(), place);
+    /// ```
+    #[must_use]
+    pub fn into_owned(self) -> AlignedBytes {
+        Arc::unwrap_or_clone(self.0)
+    }
+}
+
+impl Deref for SharedBytes {
+    type Target = [u8];
+
+    #[inline]
+    fn deref(&self) -> &[u8] {
+        &self.0
+    }
+}
+
+impl AsRef<[u8]> for SharedBytes {
+    #[inline]
+    fn as_ref(&self) -> &[u8] {
+        self
+    }
+}
+
+impl From<AlignedBytes> for SharedBytes {
+    fn from(bytes: AlignedBytes) -> SharedBytes {
+        SharedBytes(Arc::new(bytes))
+    }
+}
+
+/// A copy.
+impl From<SharedBytes> for Arc<[u8]> {
+    fn from(bytes: SharedBytes) -> Arc<[u8]> {
+        Arc::from(&bytes[..])
+    }
+}
+
+impl fmt::Debug for SharedBytes {
+    fn fmt(&self, f: &mut fmt::Formatter<'_>) -> fmt::Result {
+        self[..].fmt(f)
+    }
+}
+
+/// Bytes in which a [`Bitmap`](crate::Bitmap) grows and is edited: [`AlignedBytes`], at once, and
+/// [`SharedBytes`], after a test that no one shares them, else in a copy.
+#[diagnostic::on_unimplemented(
+    message = "the bits of a `Bitmap<{Self}>` are read, and don't grow",
+    label = "bits in `{Self}`",
+    note = "`Bitmap::from(bitmap.bits())` is a copy that grows"
+)]
+pub trait Grow: sealed::Grow {}
+
+impl Grow for AlignedBytes {}
+impl Grow for SharedBytes {}
+
+pub(crate) mod sealed {
+    use super::{AlignedBytes, Arc, SharedBytes};
+
+    pub trait Grow: AsRef<[u8]> + From<AlignedBytes> {
+        /// Whether they have no other owner.
+        fn is_owned(&self) -> bool;
+
+        /// The bytes, where they have none.
+        fn owned(&mut self) -> Option<&mut AlignedBytes>;
+    }
+
+    impl Grow for AlignedBytes {
+        #[inline]
+        fn is_owned(&self) -> bool {
+            true
+        }
+
+        #[inline]
+        fn owned(&mut self) -> Option<&mut AlignedBytes> {
+            Some(self)
+        }
+    }
+
+    impl Grow for SharedBytes {
+        #[inline]
+        fn is_owned(&self) -> bool {
+            Arc::strong_count(&self.0) == 1
+        }
+
+        #[inline]
+        fn owned(&mut self) -> Option<&mut AlignedBytes> {
+            Arc::get_mut(&mut self.0)
+        }
+    }
+}

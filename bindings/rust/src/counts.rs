@@ -1,0 +1,62 @@
+//! How many bits two windows have in common, with no third one made.
+
+use crate::kernels::{self, Operator};
+use crate::{Bits, Mask};
+
+impl Bits<'_> {
+    /// How many bits are true here and in `right`. It takes no memory.
+    ///
+    /// ```
+    /// use vortex_bits::Bits;
+    ///
+    /// let (left, right) = (Bits::new(&[0b1100], 0, 4), Bits::new(&[0b1010], 0, 4));
+    /// assert_eq!((left.and_count(right), left.or_count(right)), (1, 3));
+    /// assert_eq!((left.xor_count(right), left.and_not_count(right)), (2, 1));
+    /// ```
+    ///
+    /// # Panics
+    ///
+    /// Where the windows aren't of one length, as in all calls below.
+    #[inline]
+    #[must_use]
+    #[track_caller]
+    pub fn and_count(self, right: impl Mask) -> usize {
+        self.count(right.of_len(self.len()), Operator::And)
+    }
+
+    /// How many bits are true here, in `right`, or in both.
+    #[inline]
+    #[must_use]
+    #[track_caller]
+    pub fn or_count(self, right: impl Mask) -> usize {
+        self.count(right.of_len(self.len()), Operator::Or)
+    }
+
+    /// How many bits are true here or in `right`, and not in both: how many are another than there.
+    #[inline]
+    #[must_use]
+    #[track_caller]
+    pub fn xor_count(self, right: impl Mask) -> usize {
+        self.count(right.of_len(self.len()), Operator::Xor)
+    }
+
+    /// How many bits are true here and false in `right`.
+    #[inline]
+    #[must_use]
+    #[track_caller]
+    pub fn and_not_count(self, right: impl Mask) -> usize {
+        self.count(right.of_len(self.len()), Operator::AndNot)
+    }
+
+    fn count(self, right: Option<Bits<'_>>, operator: Operator) -> usize {
+        let Some(right) = right else {
+            return match operator {
+                Operator::And => self.count_ones(),
+                Operator::Or => self.len(),
+                Operator::Xor => self.count_zeros(),
+                Operator::AndNot => 0,
+            };
+        };
+        kernels::combined_count(self, right, operator)
+    }
+}

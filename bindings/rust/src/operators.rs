@@ -1,0 +1,179 @@
+//! `&`, `|`, `^` and `!`, which give new bits, and `&=`, `|=` and `^=`, which write.
+
+use core::ops::{BitAndAssign, BitOrAssign, BitXorAssign};
+
+use crate::kernels::Operator;
+use crate::{Bits, BitsMut, Mask};
+
+#[cfg(feature = "alloc")]
+use crate::{Bitmap, Grow};
+#[cfg(feature = "alloc")]
+use core::ops::{BitAnd, BitOr, BitXor, Not};
+
+/// The bits of the right side, which has as many where it says how many.
+///
+/// # Panics
+///
+/// Where it has another number of them.
+#[track_caller]
+fn right_of(left: usize, right: &impl Mask) -> Option<Bits<'_>> {
+    let len = right.mask_len().unwrap_or(left);
+    assert!(left == len, "windows of {left} and {len} bits");
+    right.mask()
+}
+
+/// What the operator makes of the bits and of those of the right side.
+#[cfg(feature = "alloc")]
+#[track_caller]
+fn combined(left: Bits<'_>, right: &impl Mask, operator: Operator) -> Bitmap {
+    let right = right_of(left.len(), right);
+    Bitmap::make(left.len(), |mut out| {
+        if let Some(right) = right {
+            return out.combine_into(left, right, operator);
+        }
+        out.copy_from(left);
+        by_all(&mut out, operator);
+    })
+}
+
+/// The operator with a right side that is all true.
+fn by_all(bits: &mut BitsMut<'_>, operator: Operator) {
+    match operator {
+        Operator::And => (),
+        Operator::Or => bits.fill(true),
+        Operator::Xor => bits.negate(),
+        Operator::AndNot => bits.fill(false),
+    }
+}
+
+#[track_caller]
+fn write(bits: &mut BitsMut<'_>, right: &impl Mask, operator: Operator) {
+    match right_of(bits.len(), right) {
+        Some(right) => bits.combine(right, operator),
+        None => by_all(bits, operator),
+    }
+}
+
+/// An operator on this left side, which gives new bits.
+#[cfg(feature = "alloc")]
+macro_rules! on {
+    ($operator:ident, $trait:ident, $name:ident, [$($generic:tt)*] $left:ty, $bits:expr) => {
+        /// New bits. The right side is what has some, by value or by reference.
+        ///
+        /// # Panics
+        ///
+        /// Where there are another number of these.
+        impl<$($generic)* R: Mask> $trait<R> for $left {
+            type Output = Bitmap;
+
+            #[track_caller]
+            fn $name(self, right: R) -> Bitmap {
+                let bits: fn(&Self) -> Bits<'_> = $bits;
+                combined(bits(&self), &right, Operator::$operator)
+            }
+        }
+    };
+}
+
+macro_rules! operators {
+    ($($operator:ident: $trait:ident, $name:ident, $assign:ident, $assign_name:ident;)*) => {$(
+        #[cfg(feature = "alloc")]
+        on!($operator, $trait, $name, [] Bits<'_>, |bits| *bits);
+        #[cfg(feature = "alloc")]
+        on!($operator, $trait, $name, [] &Bits<'_>, |bits| **bits);
+        #[cfg(feature = "alloc")]
+        on!($operator, $trait, $name, [B: AsRef<[u8]>,] Bitmap<B>, |bitmap| bitmap.bits());
+        #[cfg(feature = "alloc")]
+        on!($operator, $trait, $name, [B: AsRef<[u8]>,] &Bitmap<B>, |bitmap| bitmap.bits());
+
+        /// # Panics
+        ///
+        /// Where the right side has another number of bits.
+        impl<R: Mask> $assign<R> for BitsMut<'_> {
+            #[track_caller]
+            fn $assign_name(&mut self, right: R) {
+                write(self, &right, Operator::$operator);
+            }
+        }
+
+        /// In the bytes at once where they have no other owner, else in a copy.
+        ///
+        /// # Panics
+        ///
+        /// Where the right side has another number of bits.
+        #[cfg(feature = "alloc")]
+        impl<B: Grow, R: Mask> $assign<R> for Bitmap<B> {
+            #[track_caller]
+            fn $assign_name(&mut self, right: R) {
+                write(&mut self.bits_mut(), &right, Operator::$operator);
+            }
+        }
+    )*};
+}
+
+operators! {
+    And: BitAnd, bitand, BitAndAssign, bitand_assign;
+    Or: BitOr, bitor, BitOrAssign, bitor_assign;
+    Xor: BitXor, bitxor, BitXorAssign, bitxor_assign;
+}
+
+#[cfg(feature = "alloc")]
+impl Bits<'_> {
+    /// The bits that are true here and false on the right.
+    ///
+    /// ```
+    /// use vortex_bits::Bits;
+    ///
+    /// let (left, right) = (Bits::new(&[0b1100], 0, 4), Bits::new(&[0b1010], 0, 4));
+    /// assert_eq!(left.and_not(right), Bits::new(&[0b0100], 0, 4));
+    /// assert_eq!((left & right, left | !right), (right & left, !(right.and_not(left))));
+    /// ```
+    ///
+    /// # Panics
+    ///
+    /// Where the windows aren't of one length, as of `&`, `|` and `^`.
+    #[must_use]
+    #[track_caller]
+    pub fn and_not(self, right: impl Mask) -> Bitmap {
+        combined(self, &right, Operator::AndNot)
+    }
+}
+
+#[cfg(feature = "alloc")]
+impl Not for Bits<'_> {
+    type Output = Bitmap;
+
+    fn not(self) -> Bitmap {
+        Bitmap::make(self.len(), |mut out| {
+            out.copy_from(self);
+            out.negate();
+        })
+    }
+}
+
+#[cfg(feature = "alloc")]
+impl Not for &Bits<'_> {
+    type Output = Bitmap;
+
+    fn not(self) -> Bitmap {
+        !*self
+    }
+}
+
+#[cfg(feature = "alloc")]
+impl<B: AsRef<[u8]>> Not for Bitmap<B> {
+    type Output = Bitmap;
+
+    fn not(self) -> Bitmap {
+        !self.bits()
+    }
+}
+
+#[cfg(feature = "alloc")]
+impl<B: AsRef<[u8]>> Not for &Bitmap<B> {
+    type Output = Bitmap;
+
+    fn not(self) -> Bitmap {
+        !self.bits()
+    }
+}

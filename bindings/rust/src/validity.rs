@@ -1,0 +1,307 @@
+//! Bits that may be left out where all are true.
+
+use core::ops::RangeBounds;
+
+use crate::bits::within;
+use crate::error::{OutOfBounds, expect};
+use crate::mask::sealed::Mask as _;
+use crate::{Bits, BitsMut, Mask};
+
+#[cfg(feature = "alloc")]
+use crate::error::TakeError;
+#[cfg(feature = "alloc")]
+use crate::{BitIndex, Bitmap};
+
+/// Which of some rows are valid: a bit for each, or none where all are, as Arrow leaves out the
+/// validity of a column that has no null. What is made of such is left out too.
+///
+/// ```
+/// use vortex_bits::{Bits, Validity};
+///
+/// let some = Validity::new(Some(Bits::new(&[0b0110], 0, 4)), 4);
+/// let all = Validity::new(None, 4);
+/// assert_eq!((some.count_zeros(), all.count_zeros()), (2, 0));
+/// assert_eq!(some.and(all).unwrap(), Bits::new(&[0b0110], 0, 4));
+/// assert_eq!((all.and(all), all.take(&[3u32, 0]), some.or(all)), (None, None, None));
+/// ```
+#[derive(Clone, Copy, Debug)]
+pub struct Validity<'a> {
+    /// As many as there are rows.
+    bits: Option<Bits<'a>>,
+    len: usize,
+}
+
+impl<'a> Validity<'a> {
+    /// Of `len` rows.
+    ///
+    /// # Panics
+    ///
+    /// Where there are bits, and not as many.
+    #[must_use]
+    #[track_caller]
+    pub fn new(bits: Option<Bits<'a>>, len: usize) -> Validity<'a> {
+        Validity {
+            bits: bits.and_then(|bits| bits.of_len(len).map(|_| bits)),
+            len,
+        }
+    }
+
+    /// The bits; None where all rows are valid.
+    ///
+    /// ```
+    /// assert!(vortex_bits::Validity::new(None, 4).bits().is_none());
+    /// ```
+    #[inline]
+    #[must_use]
+    pub const fn bits(self) -> Option<Bits<'a>> {
+        self.bits
+    }
+
+    /// How many rows there are.
+    #[inline]
+    #[must_use]
+    pub const fn len(self) -> usize {
+        self.len
+    }
+
+    /// Whether there are none.
+    #[inline]
+    #[must_use]
+    pub const fn is_empty(self) -> bool {
+        self.len == 0
+    }
+
+    /// Whether a row is valid; None where there is no such row.
+    ///
+    /// ```
+    /// let all = vortex_bits::Validity::new(None, 4);
+    /// assert_eq!((all.get(3), all.get(4)), (Some(true), None));
+    /// ```
+    #[inline]
+    #[must_use]
+    pub fn get(self, row: usize) -> Option<bool> {
+        match self.bits {
+            Some(bits) => bits.get(row),
+            None => (row < self.len).then_some(true),
+        }
+    }
+
+    /// How many rows are valid.
+    ///
+    /// ```
+    /// assert_eq!(vortex_bits::Validity::new(None, 4).count_ones(), 4);
+    /// ```
+    #[inline]
+    #[must_use]
+    pub fn count_ones(self) -> usize {
+        self.bits.map_or(self.len, Bits::count_ones)
+    }
+
+    /// How many rows are null.
+    ///
+    /// ```
+    /// assert_eq!(vortex_bits::Validity::new(None, 4).count_zeros(), 0);
+    /// ```
+    #[inline]
+    #[must_use]
+    pub fn count_zeros(self) -> usize {
+        self.bits.map_or(0, Bits::count_zeros)
+    }
+
+    /// The rows of a range.
+    ///
+    /// ```
+    /// assert_eq!(vortex_bits::Validity::new(None, 4).slice(1..).len(), 3);
+    /// ```
+    ///
+    /// # Panics
+    ///
+    /// Where the range begins behind its end, or ends behind the rows.
+    #[must_use]
+    #[track_caller]
+    pub fn slice(self, range: impl RangeBounds<usize>) -> Validity<'a> {
+        expect(self.try_slice(range))
+    }
+
+    /// [`Validity::slice`].
+    ///
+    /// ```
+    /// assert!(vortex_bits::Validity::new(None, 4).try_slice(3..5).is_err());
+    /// ```
+    ///
+    /// # Errors
+    ///
+    /// Where the range begins behind its end, or ends behind the rows.
+    pub fn try_slice(self, range: impl RangeBounds<usize>) -> Result<Validity<'a>, OutOfBounds> {
+        let (start, len) = within(&range, self.len)?;
+        let bits = self.bits.map(|bits| bits.part(start, len));
+        Ok(Validity { bits, len })
+    }
+
+    /// Writes to `out` which of the rows that a mask keeps are valid, in their order.
+    ///
+    /// ```
+    /// use vortex_bits::{Bits, BitsMut, Validity};
+    ///
+    /// let (all, mask, mut kept) = (Validity::new(None, 4), Bits::new(&[0b1010], 0, 4), [0]);
+    /// all.filter_into(mask, BitsMut::new(&mut kept, 3, 2));
+    /// assert_eq!(kept, [0b1_1000]);
+    /// ```
+    ///
+    /// # Panics
+    ///
+    /// Where `mask` isn't one for these rows, or `out` hasn't a bit for each row that is kept.
+    #[track_caller]
+    pub fn filter_into(self, mask: impl Mask, mut out: BitsMut<'_>) {
+        if let Some(bits) = self.bits {
+            return bits.filter_into(mask, out);
+        }
+        let kept = mask.of_len(self.len).map_or(self.len, Bits::count_ones);
+        crate::bits_mut::alike(out.len(), kept);
+        out.fill(true);
+    }
+}
+
+/// Of as many rows as there are bits.
+impl<'a> From<Bits<'a>> for Validity<'a> {
+    fn from(bits: Bits<'a>) -> Validity<'a> {
+        Validity::new(Some(bits), bits.len())
+    }
+}
+
+/// Calls into new memory, which answer None where all rows are valid without a look at bits.
+#[cfg(feature = "alloc")]
+impl Validity<'_> {
+    /// Which rows are valid here and in `right`.
+    ///
+    /// # Panics
+    ///
+    /// Where the two have another number of rows.
+    #[must_use]
+    #[track_caller]
+    pub fn and(self, right: Validity<'_>) -> Option<Bitmap> {
+        right.of_len(self.len);
+        match (self.bits, right.bits) {
+            (Some(left), Some(right)) => Some(left & right),
+            (left, right) => left.or(right).map(Bitmap::from),
+        }
+    }
+
+    /// Which rows are valid here, in `right`, or in both.
+    ///
+    /// ```
+    /// use vortex_bits::{Bits, Validity};
+    ///
+    /// let [left, right] = [[0b0011], [0b0110]];
+    /// let [left, right] = [&left, &right].map(|it| Validity::from(Bits::new(it, 0, 4)));
+    /// assert_eq!(left.or(right).unwrap(), Bits::new(&[0b0111], 0, 4));
+    /// ```
+    ///
+    /// # Panics
+    ///
+    /// Where the two have another number of rows.
+    #[must_use]
+    #[track_caller]
+    pub fn or(self, right: Validity<'_>) -> Option<Bitmap> {
+        right.of_len(self.len);
+        Some(self.bits? | right.bits?)
+    }
+
+    /// Which of the rows that a mask keeps are valid, in their order.
+    ///
+    /// ```
+    /// use vortex_bits::{Bits, Validity};
+    ///
+    /// let (mask, all) = (Bits::new(&[0b1010], 0, 4), Validity::new(None, 4));
+    /// assert_eq!(all.filter(mask), None);
+    /// assert_eq!(Validity::from(mask).filter(mask).unwrap(), Bits::new(&[0b11], 0, 2));
+    /// ```
+    ///
+    /// # Panics
+    ///
+    /// Where `mask` isn't one for these rows.
+    #[must_use]
+    #[track_caller]
+    pub fn filter(self, mask: impl Mask) -> Option<Bitmap> {
+        mask.of_len(self.len);
+        Some(self.bits?.filter(mask))
+    }
+
+    /// Which of the rows at the indices are valid.
+    ///
+    /// # Panics
+    ///
+    /// Where an index isn't one of a row.
+    #[must_use]
+    #[track_caller]
+    pub fn take<I: BitIndex>(self, indices: &[I]) -> Option<Bitmap> {
+        expect(self.try_take(indices))
+    }
+
+    /// [`Validity::take`].
+    ///
+    /// ```
+    /// use vortex_bits::{TakeError, Validity};
+    ///
+    /// let refused = Validity::new(None, 4).try_take(&[3u32, 4]).unwrap_err();
+    /// assert_eq!(refused.to_string(), "index 4 at position 1 is no place of 4 bits");
+    /// ```
+    ///
+    /// # Errors
+    ///
+    /// At the first index that isn't one of a row.
+    pub fn try_take<I: BitIndex>(self, indices: &[I]) -> Result<Option<Bitmap>, TakeError> {
+        let Some(bits) = self.bits else {
+            return crate::take::all_below(indices, self.len, None).map(|()| None);
+        };
+        bits.try_take(indices).map(Some)
+    }
+
+    /// Which of the rows at the indices are valid, of indices with a validity of their own: a null
+    /// one gives a null row, whatever it is.
+    ///
+    /// ```
+    /// use vortex_bits::{Bits, Validity};
+    ///
+    /// let (rows, indices) = (Validity::new(None, 4), Validity::from(Bits::new(&[0b01], 0, 2)));
+    /// assert_eq!(rows.take_valid(&[3, -9], indices).unwrap(), Bits::new(&[0b01], 0, 2));
+    /// ```
+    ///
+    /// # Panics
+    ///
+    /// Where `validity` isn't one for the indices, or a valid index isn't one of a row.
+    #[must_use]
+    #[track_caller]
+    pub fn take_valid<I: BitIndex>(self, indices: &[I], validity: Validity<'_>) -> Option<Bitmap> {
+        expect(self.try_take_valid(indices, validity))
+    }
+
+    /// [`Validity::take_valid`].
+    ///
+    /// ```
+    /// use vortex_bits::Validity;
+    ///
+    /// let (rows, indices) = (Validity::new(None, 4), Validity::new(None, 1));
+    /// assert!(rows.try_take_valid(&[4u32], indices).is_err());
+    /// ```
+    ///
+    /// # Errors
+    ///
+    /// Where `validity` isn't one for the indices, and at the first index that is valid and isn't
+    /// one of a row.
+    pub fn try_take_valid<I: BitIndex>(
+        self,
+        indices: &[I],
+        validity: Validity<'_>,
+    ) -> Result<Option<Bitmap>, TakeError> {
+        crate::take::one_each(indices, &validity)?;
+        let Some(valid) = validity.bits else {
+            return self.try_take(indices);
+        };
+        let Some(bits) = self.bits else {
+            crate::take::all_below(indices, self.len, Some(valid))?;
+            return Ok(Some(Bitmap::from(valid)));
+        };
+        bits.try_take_valid(indices, valid).map(Some)
+    }
+}
