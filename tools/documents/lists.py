@@ -1,9 +1,10 @@
-"""Whether what is said in several places agrees: the C functions in header, Rust table and crate;
-what the crate to depend on gives, and what its tests reach; the commands, their table and their
+"""Whether what is said in several places agrees: the C functions in header, Rust table and crate,
+with their parameters and types; what the crate to depend on gives, and what its tests reach; the commands, their table and their
 tests; the version; the picture of the crates.
 """
 import re
 
+from documents import signatures
 from documents.files import Repository
 from documents.picture import picture
 
@@ -12,8 +13,6 @@ EXPORT = re.compile(r"^pub use [\w:]+?::(?:\{([^}]*)\}|(\w+));", re.MULTILINE)
 OF_THE_LIBRARY = {"vb_level", "vb_has_level"}
 # What the Rust crate does without a call.
 INLINE = {"vb_get_bit"}
-C_FUNCTION = re.compile(r'^pub extern "C" fn (\w+)', re.MULTILINE)
-NATIVE = re.compile(r"^    (\w+)\(", re.MULTILINE)
 
 
 def exported(text: str) -> set[str]:
@@ -35,19 +34,19 @@ def headers(repository: Repository) -> list[str]:
 
 
 def c_functions(repository: Repository) -> list[str]:
-    """The functions of the header, of the Rust table, and of the crate."""
+    """The functions of the header, of the Rust table, and of the crate, and how these are called."""
     crate, table = "crates/vb_c", "bindings/rust/src/native.rs"
     sources = [text for path, text in repository.code.items() if path.startswith(f"{crate}/src/")]
-    given = {it for text in sources for it in C_FUNCTION.findall(text)}
-    found = []
+    given = signatures.of_crate("\n".join(sources))
+    native = signatures.of_table(repository.read(table))
+    declared = {}
     for header in headers(repository):
-        declared = set(re.findall(r"^\w[\w ]*?\W(vb_\w+)\(", repository.read(header), re.MULTILINE))
-        declared -= OF_THE_LIBRARY
-        found += differ(crate, given, header, declared)
-    _, _, listed = repository.read(table).partition("\nkernels! {")
-    native = {f"vb_{it}" for it in NATIVE.findall(listed.partition("\n}")[0])}
+        declared = signatures.of_header(repository.read(header))
+        found = differ(crate, set(given), header, set(declared) - OF_THE_LIBRARY)
+        found += signatures.differences(header, given, declared)
     plain = {it for it in given if not it.startswith("vb_try_")} - INLINE
-    return found + differ(crate, plain, table, native)
+    found += differ(crate, plain, table, set(native))
+    return found + signatures.differences(table, declared, native)
 
 
 def facade(repository: Repository) -> list[str]:

@@ -109,65 +109,66 @@ macro_rules! kernels {
 kernels! {
     count_ones(bytes: *const u8, size: usize, offset: usize, len: usize) -> usize;
     bit_select(bytes: *const u8, size: usize, offset: usize, len: usize, n: usize) -> Place;
-    bit_select_unset(bytes: *const u8, size: usize, offset: usize, len: usize,
-        n: usize) -> Place;
+    bit_select_unset(bytes: *const u8, size: usize, offset: usize, len: usize, n: usize) -> Place;
     last_set_index(bytes: *const u8, size: usize, offset: usize, len: usize) -> Place;
-    equal_bits(left: *const u8, left_size: usize, l: usize,
-        right: *const u8, right_size: usize, r: usize, len: usize) -> bool;
-    set_indices(bytes: *const u8, size: usize, offset: usize, len: usize,
-        out: *mut usize, room: usize) -> usize;
-    set_slices(bytes: *const u8, size: usize, offset: usize, len: usize,
-        out: *mut Run, room: usize) -> usize;
+    equal_bits(left: *const u8, left_size: usize, left_offset: usize, right: *const u8,
+        right_size: usize, right_offset: usize, len: usize) -> bool;
+    set_indices(bytes: *const u8, size: usize, offset: usize, len: usize, out: *mut usize,
+        room: usize) -> usize;
+    set_slices(bytes: *const u8, size: usize, offset: usize, len: usize, out: *mut Run,
+        room: usize) -> usize;
     fill_bits(bytes: *mut u8, size: usize, start: usize, end: usize, value: bool);
     negate_bits(bytes: *mut u8, size: usize, offset: usize, len: usize);
-    copy_bits(dst: *mut u8, dst_size: usize, d: usize,
-        src: *const u8, src_size: usize, s: usize, len: usize);
-    and_bits(dst: *mut u8, dst_size: usize, d: usize,
-        src: *const u8, src_size: usize, s: usize, len: usize);
-    or_bits(dst: *mut u8, dst_size: usize, d: usize,
-        src: *const u8, src_size: usize, s: usize, len: usize);
-    xor_bits(dst: *mut u8, dst_size: usize, d: usize,
-        src: *const u8, src_size: usize, s: usize, len: usize);
-    and_not_bits(dst: *mut u8, dst_size: usize, d: usize,
-        src: *const u8, src_size: usize, s: usize, len: usize);
-    and_into(out: *mut u8, out_size: usize, o: usize, left: *const u8, left_size: usize, l: usize,
-        right: *const u8, right_size: usize, r: usize, len: usize);
-    or_into(out: *mut u8, out_size: usize, o: usize, left: *const u8, left_size: usize, l: usize,
-        right: *const u8, right_size: usize, r: usize, len: usize);
-    xor_into(out: *mut u8, out_size: usize, o: usize, left: *const u8, left_size: usize, l: usize,
-        right: *const u8, right_size: usize, r: usize, len: usize);
-    and_not_into(out: *mut u8, out_size: usize, o: usize, left: *const u8, left_size: usize,
-        l: usize, right: *const u8, right_size: usize, r: usize, len: usize);
-    pack_bools(out: *mut u8, out_size: usize, bools: *const bool, n: usize);
-    pack_truthy(out: *mut u8, out_size: usize, truthy: *const u8, n: usize);
+    copy_bits(dst: *mut u8, dst_size: usize, dst_offset: usize, src: *const u8, src_size: usize,
+        src_offset: usize, len: usize);
+    and_bits(dst: *mut u8, dst_size: usize, dst_offset: usize, src: *const u8, src_size: usize,
+        src_offset: usize, len: usize);
+    or_bits(dst: *mut u8, dst_size: usize, dst_offset: usize, src: *const u8, src_size: usize,
+        src_offset: usize, len: usize);
+    xor_bits(dst: *mut u8, dst_size: usize, dst_offset: usize, src: *const u8, src_size: usize,
+        src_offset: usize, len: usize);
+    and_not_bits(dst: *mut u8, dst_size: usize, dst_offset: usize, src: *const u8,
+        src_size: usize, src_offset: usize, len: usize);
+    and_into(out: *mut u8, out_size: usize, out_offset: usize, left: *const u8, left_size: usize,
+        left_offset: usize, right: *const u8, right_size: usize, right_offset: usize, len: usize);
+    or_into(out: *mut u8, out_size: usize, out_offset: usize, left: *const u8, left_size: usize,
+        left_offset: usize, right: *const u8, right_size: usize, right_offset: usize, len: usize);
+    xor_into(out: *mut u8, out_size: usize, out_offset: usize, left: *const u8, left_size: usize,
+        left_offset: usize, right: *const u8, right_size: usize, right_offset: usize, len: usize);
+    and_not_into(out: *mut u8, out_size: usize, out_offset: usize, left: *const u8,
+        left_size: usize, left_offset: usize, right: *const u8, right_size: usize,
+        right_offset: usize, len: usize);
+    pack_bools(out: *mut u8, out_size: usize, bools: *const bool, count: usize);
+    pack_truthy(out: *mut u8, out_size: usize, truthy: *const u8, count: usize);
     take_u32(out: *mut u8, out_size: usize, bytes: *const u8, size: usize, offset: usize,
-        len: usize, indices: *const u32, n: usize) -> Place;
+        len: usize, indices: *const u32, index_count: usize) -> Place;
     take_u64(out: *mut u8, out_size: usize, bytes: *const u8, size: usize, offset: usize,
-        len: usize, indices: *const u64, n: usize) -> Place;
+        len: usize, indices: *const u64, index_count: usize) -> Place;
     take_valid_u32(out: *mut u8, out_size: usize, bytes: *const u8, size: usize, offset: usize,
-        len: usize, indices: *const u32, n: usize, validity: *const u8, validity_size: usize,
-        v: usize) -> Place;
+        len: usize, indices: *const u32, index_count: usize, validity: *const u8,
+        validity_size: usize, validity_offset: usize) -> Place;
     take_valid_u64(out: *mut u8, out_size: usize, bytes: *const u8, size: usize, offset: usize,
-        len: usize, indices: *const u64, n: usize, validity: *const u8, validity_size: usize,
-        v: usize) -> Place;
-    filter_bits(out: *mut u8, out_size: usize, values: *const u8, values_size: usize, v: usize,
-        mask: *const u8, mask_size: usize, m: usize, len: usize) -> usize;
-    filter_u8(out: *mut u8, room: usize, values: *const u8, n: usize,
-        mask: *const u8, mask_size: usize, m: usize) -> usize;
-    filter_u16(out: *mut u16, room: usize, values: *const u16, n: usize,
-        mask: *const u8, mask_size: usize, m: usize) -> usize;
-    filter_u32(out: *mut u32, room: usize, values: *const u32, n: usize,
-        mask: *const u8, mask_size: usize, m: usize) -> usize;
-    filter_u64(out: *mut u64, room: usize, values: *const u64, n: usize,
-        mask: *const u8, mask_size: usize, m: usize) -> usize;
-    filter_u128(out: *mut Wide, room: usize, values: *const Wide, n: usize,
-        mask: *const u8, mask_size: usize, m: usize) -> usize;
-    block_counts(bytes: *const u8, size: usize, offset: usize, len: usize,
-        table: *mut usize, room: usize) -> usize;
-    rank(bytes: *const u8, size: usize, offset: usize, len: usize,
-        table: *const usize, entries: usize, i: usize) -> usize;
-    ranked_select(bytes: *const u8, size: usize, offset: usize, len: usize,
-        table: *const usize, entries: usize, n: usize) -> Place;
+        len: usize, indices: *const u64, index_count: usize, validity: *const u8,
+        validity_size: usize, validity_offset: usize) -> Place;
+    filter_bits(out: *mut u8, out_size: usize, values: *const u8, values_size: usize,
+        values_offset: usize, mask: *const u8, mask_size: usize, mask_offset: usize,
+        len: usize) -> usize;
+    filter_u8(out: *mut u8, room: usize, values: *const u8, count: usize, mask: *const u8,
+        mask_size: usize, mask_offset: usize) -> usize;
+    filter_u16(out: *mut u16, room: usize, values: *const u16, count: usize, mask: *const u8,
+        mask_size: usize, mask_offset: usize) -> usize;
+    filter_u32(out: *mut u32, room: usize, values: *const u32, count: usize, mask: *const u8,
+        mask_size: usize, mask_offset: usize) -> usize;
+    filter_u64(out: *mut u64, room: usize, values: *const u64, count: usize, mask: *const u8,
+        mask_size: usize, mask_offset: usize) -> usize;
+    filter_u128(out: *mut Wide, room: usize, values: *const Wide, count: usize, mask: *const u8,
+        mask_size: usize, mask_offset: usize) -> usize;
+    block_counts(bytes: *const u8, size: usize, offset: usize, len: usize, table: *mut usize,
+        room: usize) -> usize;
+    rank(bytes: *const u8, size: usize, offset: usize, len: usize, table: *const usize,
+        entries: usize, place: usize) -> usize;
+    ranked_select(bytes: *const u8, size: usize, offset: usize, len: usize, table: *const usize,
+        entries: usize, n: usize) -> Place;
     ranked_select_unset(bytes: *const u8, size: usize, offset: usize, len: usize,
         table: *const usize, entries: usize, n: usize) -> Place;
 }

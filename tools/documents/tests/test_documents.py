@@ -48,9 +48,10 @@ pub fn two(n: u8) -> u8
     "    let a = one(1);\n    assert!(rt;\n        matches!(\n            a,\n            [1, 2],\n"
     "        )\n    );\n}\n",
     "crates/use_low/specs/F.antt": "-- f\nabbrev pub f : A\nf = b\n",
-    "crates/vb_c/src/bit.rt": 'pub extern "C" fn vb_get(\npub extern "C" fn vb_try_get(\n',
-    "bindings/c/any.h": "bool vb_get(const uint8_t *b);\nbool vb_try_get(size_t n);\n",
-    "bindings/rust/src/native.rs": "\nkernels! {\n    get(b: *const u8) -> bool;\n}\n",
+    "crates/vb_c/src/bit.rt": 'pub extern "C" fn vb_get(n: usize) -> bool\n'
+    'pub extern "C" fn vb_try_get(n: usize) -> bool\n',
+    "bindings/c/any.h": "bool vb_get(size_t n);\nbool vb_try_get(size_t n);\n",
+    "bindings/rust/src/native.rs": "\nkernels! {\n    get(n: usize) -> bool;\n}\n",
     "crates/vortex_buffer/src/lib.rt": "pub use low::{one,\n    two};\npub use low::Type;\n",
     "crates/vortex_buffer_tests/src/reached.rt": "pub use vortex_buffer::{Type, one, two};\n",
     "crates/vb_command/src/command.rt": "pub enum Mode {\n    Ref(u8),\n}\n\n"
