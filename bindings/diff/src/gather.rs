@@ -99,6 +99,28 @@ fn keeps<T: Value + Copy + PartialEq + Debug>(
     same("keep_into", (count, out), (kept.len(), wanted))
 }
 
+/// By types of few indices, of the bits that these can name. Half of the cases have one that is past
+/// these.
+fn narrow<I, J>(case: &Case, random: &mut Random, past: I, negative: J) -> Result<u64, String>
+where
+    I: BitIndex + TryFrom<usize> + Debug + Copy,
+    J: BitIndex + TryFrom<usize> + Debug + Copy,
+{
+    let below = (0..case.len.min(200))
+        .take_while(|&place| J::try_from(place).is_ok())
+        .count();
+    let few = Case {
+        left: case.left.clone(),
+        right: case.right.clone(),
+        len: below,
+        ..*case
+    };
+    let most = below + random.below(2);
+    let count = random.below(if most == 0 { 1 } else { case.len + 1 });
+    let places: Vec<usize> = (0..count).map(|_| random.below(most)).collect();
+    Ok(takes(&few, &places, past)? + takes(&few, &places, negative)?)
+}
+
 /// Of two cases one has indices past the window among its own.
 pub fn compare(case: &Case, random: &mut Random) -> Result<u64, String> {
     let most = case.len + random.below(2);
@@ -114,6 +136,8 @@ pub fn compare(case: &Case, random: &mut Random) -> Result<u64, String> {
         + keeps(case, |i| i as f32)?
         + keeps(case, |i| i as u64)?
         + keeps(case, |i| i as u128)?
+        + narrow(case, random, u8::MAX, -1i8)?
+        + narrow(case, random, u16::MAX, i16::MIN)?
         + takes(case, &places, u32::MAX)?
         + takes(case, &places, case.len as u64)?
         + takes(case, &places, case.len)?

@@ -3,20 +3,13 @@
 use crate::error::{TakeError, expect};
 use crate::{Bits, BitsMut, Mask, kernels};
 
-/// A type of indices: `u32`, `u64`, `usize`, and `i32` and `i64`, of which a negative one is no
-/// place of any window.
+/// A type of indices: whole numbers of 8 to 64 bits, of which a negative one is no place of any
+/// window. Those of 8 and 16 bits, as of dictionaries, are made wider by blocks.
 #[diagnostic::on_unimplemented(
     message = "bits aren't taken at indices of `{Self}`",
-    label = "indices are `u32`, `u64`, `usize`, `i32` or `i64`",
-    note = "narrower ones are made wider first: `indices.iter().map(|&it| u32::from(it))`"
+    label = "indices are whole numbers of 8 to 64 bits, in a slice of their own"
 )]
 pub trait BitIndex: sealed::Sealed {}
-
-impl BitIndex for u32 {}
-impl BitIndex for u64 {}
-impl BitIndex for usize {}
-impl BitIndex for i32 {}
-impl BitIndex for i64 {}
 
 pub(crate) mod sealed {
     #[cfg(vortex_bits_native)]
@@ -30,12 +23,17 @@ pub(crate) mod sealed {
         /// Itself.
         fn number(self) -> i128;
 
+        /// Whether it has to be made wider before a C function takes it.
+        #[cfg(vortex_bits_native)]
+        const IS_NARROW: bool = size_of::<Self>() < size_of::<u32>();
+
         /// The indices below this are its own numbers, and those that it reads as one at or above
         /// it are no places.
         #[cfg(vortex_bits_native)]
         const END: usize;
 
-        /// The type that the C functions take, which is laid out as this one.
+        /// The type that the C functions take, which is laid out as this one, unless that is
+        /// narrow.
         #[cfg(vortex_bits_native)]
         type Laid;
 
@@ -48,6 +46,8 @@ pub(crate) mod sealed {
 
     macro_rules! index {
         ($($index:ty, $end:expr, $laid:ty, $take:ident, $take_valid:ident;)*) => {$(
+            impl super::BitIndex for $index {}
+
             impl Sealed for $index {
                 #[inline]
                 fn place(self) -> Option<usize> {
@@ -79,6 +79,10 @@ pub(crate) mod sealed {
     }
 
     index! {
+        u8, 1 << 8, u32, take_u32, take_valid_u32;
+        i8, 1 << 7, u32, take_u32, take_valid_u32;
+        u16, 1 << 16, u32, take_u32, take_valid_u32;
+        i16, 1 << 15, u32, take_u32, take_valid_u32;
         u32, 1 << 32, u32, take_u32, take_valid_u32;
         i32, 1 << 31, u32, take_u32, take_valid_u32;
         u64, usize::MAX, u64, take_u64, take_valid_u64;

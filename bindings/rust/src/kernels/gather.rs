@@ -82,6 +82,9 @@ pub fn take<I: BitIndex>(
     #[cfg(vortex_bits_native)]
     if let Some(kernels) = kernels() {
         let bits = bits.part(0, bits.len().min(I::END));
+        if I::IS_NARROW {
+            return take_narrow(out, bits, indices, validity);
+        }
         if out.offset() % 8 == 0 {
             let first = out.offset() / 8;
             return take_first(
@@ -95,6 +98,36 @@ pub fn take<I: BitIndex>(
         return take_by_blocks(kernels, out, bits, indices, validity);
     }
     portable::take(out, bits, indices, validity)
+}
+
+/// By indices of 32 bits, which are made of a block at a time.
+#[cfg(vortex_bits_native)]
+fn take_narrow<I: BitIndex>(
+    out: &mut BitsMut<'_>,
+    bits: Bits<'_>,
+    indices: &[I],
+    validity: Option<Bits<'_>>,
+) -> Option<usize> {
+    let mut wide = [0; 512];
+    for (i, indices) in indices.chunks(wide.len()).enumerate() {
+        let (start, n) = (wide.len() * i, indices.len());
+        let wide = widened(&mut wide, indices);
+        let validity = validity.map(|validity| validity.part(start, n));
+        if let Some(position) = take(&mut out.part(start, n), bits, wide, validity) {
+            return Some(start + position);
+        }
+    }
+    None
+}
+
+/// The indices at the front of `wide`; one that is no place of any window becomes none of these.
+#[cfg(vortex_bits_native)]
+fn widened<'a, I: BitIndex>(wide: &'a mut [u32], indices: &[I]) -> &'a [u32] {
+    for (wide, index) in wide.iter_mut().zip(indices) {
+        let place = index.place().and_then(|place| u32::try_from(place).ok());
+        *wide = place.unwrap_or(u32::MAX);
+    }
+    &wide[..indices.len()]
 }
 
 #[cfg(vortex_bits_native)]
