@@ -9,20 +9,16 @@ use vb_take::take_values_into;
 use vb_view::BitBufferView;
 
 /// How many positions there are: blocks alone, one fewer and one more.
-const LENGTHS: &[usize] = &[0, 1, 16, 63, 64, 65, 128, 130];
+const LENGTHS: &[usize] = &[0, 1, 63, 64, 65, 128];
 
 /// Which positions count: all, none, and on both sides of 20 of 64.
 const COUNTING: &[Kept] = &[
     Kept::OneIn(1),
-    Kept::OneIn(2),
-    Kept::OneIn(5),
-    Kept::OneIn(64),
     Kept::OneIn(5000),
     Kept::AllButOneIn(10),
-    Kept::AllButOneIn(64),
     Kept::Runs(20, 64),
     Kept::Runs(21, 64),
-    Kept::Runs(70, 140),
+    Kept::Runs(70, 90),
 ];
 
 /// The plain loop over the positions: what it leaves in `out`, and the position that it refuses.
@@ -54,7 +50,7 @@ fn named<T: Copy, I: BitIndex>(values: &[T], index: I) -> Option<T> {
 /// So many items.
 fn copies<T: Copy>(rt: &impl Abort, alloc: Global, item: T) -> Vec<T> {
     let mut items = Vec::new(alloc);
-    for _ in 0..140 {
+    for _ in 0..130 {
         items.push(item).expect(rt, "memory");
     }
     items
@@ -87,8 +83,26 @@ fn leaves_what_a_loop_leaves<T: Element + PartialEq + Debug, I: BitIndex>(
     drop((out, wanted));
 }
 
+/// So many of the five indices in turn, and one at a position that names no value.
+fn indices<I: BitIndex>(
+    rt: &impl Abort,
+    alloc: Global,
+    five: &[I],
+    bad: I,
+    len: usize,
+    at: usize,
+) -> Vec<I> {
+    let mut indices = Vec::new(alloc);
+    for k in 0..len {
+        let good = five.get(k % 5).copied().unwrap_or(bad);
+        let index = if k == at { bad } else { good };
+        indices.push(index).expect(rt, "memory");
+    }
+    indices
+}
+
 /// Takes at these positions, of which each in its turn has an index that names no value, and then
-/// none; the others have the five indices in turn.
+/// none.
 fn is_that_of_a_loop<T: Element + PartialEq + Debug, I: BitIndex>(
     rt: &impl Abort,
     alloc: Global,
@@ -99,20 +113,31 @@ fn is_that_of_a_loop<T: Element + PartialEq + Debug, I: BitIndex>(
     other: T,
 ) {
     let mask = mask(alloc, row).expect(rt, "memory");
-    let all = Row(row.0, 0, Kept::OneIn(1));
-    for at in 0..131 {
-        let mut indices = Vec::new(alloc);
-        for k in 0..row.0 {
-            let good = five.get(k % 5).copied().unwrap_or(bad);
-            let index = if k == at { bad } else { good };
-            indices.push(index).expect(rt, "memory");
-        }
+    for at in 0..row.0.saturating_add(1) {
+        let indices = indices(rt, alloc, five, bad, row.0, at);
         let valid = Some(mask.as_view());
         leaves_what_a_loop_leaves(rt, alloc, values, indices.as_slice(), row, valid, other);
-        leaves_what_a_loop_leaves(rt, alloc, values, indices.as_slice(), &all, None, other);
         drop(indices);
     }
     drop(mask);
+}
+
+/// The same where there is no validity, at so many positions.
+fn is_that_of_a_loop_over_all<T: Element + PartialEq + Debug, I: BitIndex>(
+    rt: &impl Abort,
+    alloc: Global,
+    values: &[T],
+    five: &[I],
+    bad: I,
+    len: usize,
+    other: T,
+) {
+    let all = Row(len, 0, Kept::OneIn(1));
+    for at in 0..len.saturating_add(1) {
+        let indices = indices(rt, alloc, five, bad, len, at);
+        leaves_what_a_loop_leaves(rt, alloc, values, indices.as_slice(), &all, None, other);
+        drop(indices);
+    }
 }
 
 /// Takes by these five indices at all kinds of positions.
@@ -125,6 +150,7 @@ fn beside_a_loop<T: Element + PartialEq + Debug, I: BitIndex>(
     other: T,
 ) {
     for len in LENGTHS {
+        is_that_of_a_loop_over_all(rt, alloc, values, five, bad, *len, other);
         for kept in COUNTING {
             let row = Row(*len, 3, *kept);
             is_that_of_a_loop(rt, alloc, values, five, bad, &row, other);

@@ -6,8 +6,8 @@ use std::process::Abort;
 use vb_bit_buffer::BitBuffer;
 use vb_core::{BitIndex, BufferError, Result};
 use vb_gather::Take;
-use vb_take::take_values_into;
 use vb_mem::Buffer;
+use vb_take::take_values_into;
 use vb_testing::{Handle, Refusing};
 
 /// The squares that are taken from.

@@ -11,8 +11,8 @@ use Rattle.std.specs.Prelude.{IsSome}
 use Rattle.std.proofs.lemmas.Option.{slice_get-get_or}
 use Rattle.vb_bits.specs.Digits.{has_bit}
 use Rattle.vb_bits.proofs.DigitsLemmas.{has_bit-and}
-use Rattle.vb_take.specs.Takes.{is_valid}
-use Rattle.vb_take.specs.ItemsTaken.{item_named, item_taken, AreTaken, TakenTo, IsFirstUntaken}
+use Rattle.vb_take.specs.Takes.{is_valid, TakenTo}
+use Rattle.vb_take.specs.ItemsTaken.{item_named, item_or, item_taken, AreTaken, IsFirstUntaken}
 
 -- the first of two holds
 first_of_both : (a b : Bool) → (a && b) ≡ true → a ≡ true
@@ -32,7 +32,8 @@ module _ {T X : Type 0} (f : X → ℤ) (zero : T) (items : List T) (xs : List X
       ∙ ap (λ b. cond b (item_named items (f x)) (Some zero)) (sym valid) ∙ sym e
 
   -- a position that takes nothing is the first, where those before it have what they take
-  pub first_here : (k : ℕ) (out : List T) → TakenTo zero items (map f xs) v k out → k < length xs
+  pub first_here : (k : ℕ) (out : List T)
+      → TakenTo k (item_taken zero items (map f xs) v) (item_or zero out) → k < length xs
       → item_taken zero items (map f xs) v k ≡ None
       → IsFirstUntaken zero items (map f xs) v k
   first_here k out before h none = record {
@@ -42,9 +43,10 @@ module _ {T X : Type 0} (f : X → ℤ) (zero : T) (items : List T) (xs : List X
   }
 
   -- one more position has what it takes
-  pub taken_more : (k : ℕ) (value : T) (out : List T) → TakenTo zero items (map f xs) v k out
+  pub taken_more : (k : ℕ) (value : T) (out : List T)
+      → TakenTo k (item_taken zero items (map f xs) v) (item_or zero out)
       → k < length out → item_taken zero items (map f xs) v k ≡ Some value
-      → TakenTo zero items (map f xs) v (k + 1) (slice_set out k value)
+      → TakenTo (k + 1) (item_taken zero items (map f xs) v) (item_or zero (slice_set out k value))
   taken_more k value out before inside here = λ i h. elim (cases_lt i k) [
     | inl low ↦ before i low
         ∙ ap Some (sym (get_or-set_other out k i value zero (λ e. absurd (omega arith))))
@@ -57,7 +59,7 @@ module _ {T X : Type 0} (f : X → ℤ) (zero : T) (items : List T) (xs : List X
 
   -- all positions
   pub all_taken : (out : List T) → length xs ≤ length out
-      → TakenTo zero items (map f xs) v (length xs) out
+      → TakenTo (length xs) (item_taken zero items (map f xs) v) (item_or zero out)
       → AreTaken zero items (map f xs) v (take (length xs) out)
   all_taken out room all =
       let many : length (take (length xs) out) ≡ length xs = simp (length-take) (omega arith) in

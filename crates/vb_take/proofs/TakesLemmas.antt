@@ -14,8 +14,8 @@ use Rattle.vb_bits.specs.Writes.{Writes}
 use Rattle.vb_bits.proofs.BitsLemmas.{length-bits, at-bits}
 use Rattle.vb_bits.proofs.DigitsLemmas.{length-digits, at-digits}
 use Rattle.vb_bits.proofs.WritesLemmas.{Writes-at}
-use Rattle.vb_take.specs.Takes.{is_valid, value_at, taken_at, IsTaken, IsFirstPast}
-use Rattle.vb_take.specs.Blocks.{narrow_place, TakesBlock, TakenTo}
+use Rattle.vb_take.specs.Takes.{is_valid, value_at, taken_at, TakenTo, IsTaken, IsFirstPast}
+use Rattle.vb_take.specs.Blocks.{narrow_place, TakesBlock}
 
 -- ---- one position
 -- the value at a place, which may be any number
@@ -49,9 +49,10 @@ taken_here f l xs v k x r t h read valid e =
 
 -- ---- one after the other
 -- one more position has what it takes
-pub TakenTo-bit : (k : ℕ) (l : List Bool)
-    (xs : List ℤ) (v : Option (List Bool)) (out new : List ℕ) (b : Bool) → TakenTo k l xs v out
-    → taken_at l xs v k ≡ Some b → Writes out new k (b ∷ []) → TakenTo (k + 1) l xs v new
+pub TakenTo-bit : (k : ℕ) (l : List Bool) (xs : List ℤ) (v : Option (List Bool))
+    (out new : List ℕ) (b : Bool) → TakenTo k (taken_at l xs v) (bit_of out)
+    → taken_at l xs v k ≡ Some b → Writes out new k (b ∷ [])
+    → TakenTo (k + 1) (taken_at l xs v) (bit_of new)
 TakenTo-bit k l xs v out new b before here w = λ i h. elim (cases_lt i k) [
   | inl low ↦ before i low ∙ ap Some (sym (w.others i (inl low)))
   | inr high ↦
@@ -63,7 +64,7 @@ TakenTo-bit k l xs v out new b before here w = λ i h. elim (cases_lt i k) [
 
 -- a position that takes nothing is the first, where those before it have what they take
 pub IsFirstPast-here : (k : ℕ) (l : List Bool) (xs : List ℤ) (v : Option (List Bool)) (out : List ℕ)
-    → TakenTo k l xs v out → k < length xs → taken_at l xs v k ≡ None → IsFirstPast l xs v k
+    → TakenTo k (taken_at l xs v) (bit_of out) → k < length xs → taken_at l xs v k ≡ None → IsFirstPast l xs v k
 IsFirstPast-here k l xs v out before h none = record {
   within = h;
   past = none;
@@ -87,8 +88,9 @@ pub TakenTo-word : (t : ℕ) (l : List Bool) (xs : List ℤ)
     (v : Option (List Bool)) (out new block : List ℕ) (valid word : ℕ) → length l < 2 ^ 32
     → ((k : ℕ) → k < 64 → get_or block k 0 ≡ narrow_place (get_or xs (64 * t + k) (negsuc 0)))
     → ((k : ℕ) → k < 64 → has_bit valid k ≡ is_valid v (64 * t + k))
-    → TakenTo (64 * t) l xs v out → TakesBlock l block valid (Ok word)
-    → Writes out new (8 * (8 * t)) (digits word 0 64) → TakenTo (64 * (t + 1)) l xs v new
+    → TakenTo (64 * t) (taken_at l xs v) (bit_of out) → TakesBlock l block valid (Ok word)
+    → Writes out new (8 * (8 * t)) (digits word 0 64)
+    → TakenTo (64 * (t + 1)) (taken_at l xs v) (bit_of new)
 TakenTo-word t l xs v out new block valid word few narrow counts before takes w = λ i h.
     let size : length (digits word 0 64) ≡ 64 = length-digits word 0 64 in
     elim (cases_lt i (64 * t)) [
@@ -111,7 +113,7 @@ pub IsFirstPast-block : (t p : ℕ) (l : List Bool)
     (xs : List ℤ) (v : Option (List Bool)) (out block : List ℕ) (valid : ℕ) → length l < 2 ^ 32
     → ((k : ℕ) → k < 64 → get_or block k 0 ≡ narrow_place (get_or xs (64 * t + k) (negsuc 0)))
     → ((k : ℕ) → k < 64 → has_bit valid k ≡ is_valid v (64 * t + k))
-    → TakenTo (64 * t) l xs v out → 64 * t + 64 ≤ length xs
+    → TakenTo (64 * t) (taken_at l xs v) (bit_of out) → 64 * t + 64 ≤ length xs
     → TakesBlock l block valid (Err p) → IsFirstPast l xs v (64 * t + p)
 IsFirstPast-block t p l xs v out block valid few narrow counts before within takes =
     let inside : p < 64 = takes.0 in
@@ -144,7 +146,8 @@ IsFirstPast-block t p l xs v out block valid few narrow counts before within tak
 -- they are the bits taken
 pub IsTaken-all : {X : Type 0}
     (f : X → ℤ) (l : List Bool) (xs : List X) (v : Option (List Bool)) (out : List ℕ) (k : ℕ)
-    → length xs ≤ k → TakenTo k l (map f xs) v out → IsTaken l (map f xs) v (bits out 0 (length xs))
+    → length xs ≤ k → TakenTo k (taken_at l (map f xs) v) (bit_of out)
+    → IsTaken l (map f xs) v (bits out 0 (length xs))
 IsTaken-all f l xs v out k enough all =
     let size : length (map f xs) ≡ length xs = length-map xs f in
     record {

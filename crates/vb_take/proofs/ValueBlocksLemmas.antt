@@ -11,9 +11,9 @@ use Rattle.std.specs.Int.Bits.{bit_and}
 use Rattle.std.specs.Prelude.{Result, Ok, Err, IfOk, IfErr}
 use Rattle.vb_bits.specs.Digits.{has_bit, digits}
 use Rattle.vb_bits.proofs.DigitsLemmas.{at-digits, has_bit-bit_not}
-use Rattle.vb_take.specs.Takes.{is_valid}
+use Rattle.vb_take.specs.Takes.{is_valid, TakenTo}
 use Rattle.vb_take.specs.ValueBlocks.{PutsOnes, StopsAt, PutsZeros}
-use Rattle.vb_take.specs.ItemsTaken.{item_named, TakenTo, IsFirstUntaken}
+use Rattle.vb_take.specs.ItemsTaken.{item_named, item_or, item_taken, IsFirstUntaken}
 use Rattle.vb_take.proofs.ItemsLemmas.{first_here}
 use Rattle.vb_walk.proofs.OnesLemmas.{lowest_off}
 
@@ -103,12 +103,13 @@ module _ {T X : Type 0} (f : X → ℤ) (zero : T) (items : List T) (xs : List X
   module _ (v : Option (List Bool)) (a word : ℕ)
       (counts : (k : ℕ) → k < 64 → has_bit word k ≡ is_valid v (a + k)) where
     -- positions before the block have what they take, and so have those of the block
-    block_taken : (n : ℕ) (old new : List T) → n ≤ 64 → TakenTo zero items (map f xs) v a old
+    block_taken : (n : ℕ) (old new : List T) → n ≤ 64
+        → TakenTo a (item_taken zero items (map f xs) v) (item_or zero old)
         → ((i : ℕ) → i < a → get_or new i zero ≡ get_or old i zero)
         → ((k : ℕ) → k < n → has_bit word k ≡ true
         → item_named items (get_or (map f xs) (a + k) (negsuc 0)) ≡ Some (get_or new (a + k) zero))
         → ((k : ℕ) → k < n → has_bit word k ≡ false → get_or new (a + k) zero ≡ zero)
-        → TakenTo zero items (map f xs) v (a + n) new
+        → TakenTo (a + n) (item_taken zero items (map f xs) v) (item_or zero new)
     block_taken n old new few before same ones zeros = λ i h. elim (cases_lt i a) [
       | inl low ↦ before i low ∙ ap Some (sym (same i low))
       | inr high ↦
@@ -132,9 +133,9 @@ module _ {T X : Type 0} (f : X → ℤ) (zero : T) (items : List T) (xs : List X
 
     -- all digits are 1
     pub taken_full : (n : ℕ) (old new : List T) → n ≤ 64 → word ≡ 2 ^ 64 - 1
-        → TakenTo zero items (map f xs) v a old
+        → TakenTo a (item_taken zero items (map f xs) v) (item_or zero old)
         → PutsOnes zero items (map f xs) a (2 ^ 64 - 1) n old new
-        → TakenTo zero items (map f xs) v (a + n) new
+        → TakenTo (a + n) (item_taken zero items (map f xs) v) (item_or zero new)
     taken_full n old new few full before put =
         block_taken n old new few before
         (λ i h. put.kept i (omega arith) (λ at. absurd (omega arith)))
@@ -144,8 +145,9 @@ module _ {T X : Type 0} (f : X → ℤ) (zero : T) (items : List T) (xs : List X
 
     -- the ones got their items, and then the others zero
     pub taken_split : (n : ℕ) (old mid new : List T) → n ≤ 64
-        → TakenTo zero items (map f xs) v a old → PutsOnes zero items (map f xs) a word n old mid
-        → PutsZeros zero a word n mid new → TakenTo zero items (map f xs) v (a + n) new
+        → TakenTo a (item_taken zero items (map f xs) v) (item_or zero old)
+        → PutsOnes zero items (map f xs) a word n old mid → PutsZeros zero a word n mid new
+        → TakenTo (a + n) (item_taken zero items (map f xs) v) (item_or zero new)
     taken_split n old mid new few before put clear =
         block_taken n old new few before
         (λ i h. clear.kept i (omega arith) (λ at. absurd (omega arith))
@@ -159,7 +161,8 @@ module _ {T X : Type 0} (f : X → ℤ) (zero : T) (items : List T) (xs : List X
     -- what it is stopped at is the first position that takes nothing
     pub stop_first : (p : ℕ) (old new out : List T)
         → StopsAt zero items (map f xs) a word p old new → a + 64 ≤ length xs
-        → TakenTo zero items (map f xs) v p out → IsFirstUntaken zero items (map f xs) v p
+        → TakenTo p (item_taken zero items (map f xs) v) (item_or zero out)
+        → IsFirstUntaken zero items (map f xs) v p
     stop_first p old new out stop inside before =
         let place : a + (p - a) ≡ p = omega (arith, stop.from) in
         let valid : is_valid v p ≡ true =

@@ -3,10 +3,8 @@ use Rattle.std.specs.Prelude.{◌≡◌, ℕ, ℤ, ◌-◌, ◌^◌, ◌<◌, �
 use Rattle.std.specs.Prelude.{min, slice_get, slice_index, Option, Some, Result, Ok, Err}
 use Rattle.std.specs.Prelude.{IsTrue, if◌then◌else◌}
 use Rattle.std.specs.Option.{unwrap_or}
-use Rattle.vb_bits.specs.Bits.{bit_of}
 use Rattle.vb_bits.specs.Digits.{has_bit}
 use Rattle.vb_core.specs.Indices.{place_of}
-use Rattle.vb_take.specs.Takes.{taken_at}
 
 -- the place that a number names as one of 32 bits; the greatest of these where it names none, or
 -- none below that
@@ -22,8 +20,3 @@ TakesBlock l block valid (Ok word) = (k : ℕ) → k < 64
 TakesBlock l block valid (Err p) =
     (p < 64) × IsTrue (has_bit valid p) × (length l ≤ slice_index block p)
     × ((k : ℕ) → k < p → IsTrue (has_bit valid k) → slice_index block k < length l)
-
--- the first n positions have what they take
-abbrev pub TakenTo : ℕ → List Bool → List ℤ → Option (List Bool) → List ℕ → Type 0
-TakenTo n l indices validity bytes = (i : ℕ) → i < n
-    → taken_at l indices validity i ≡ Some (bit_of bytes i)

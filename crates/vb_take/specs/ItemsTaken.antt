@@ -9,6 +9,10 @@ use Rattle.vb_take.specs.Takes.{is_valid}
 abbrev pub item_named : {T : Type 0} → List T → ℤ → Option T
 item_named items index = option_and_then (slice_get items) (place_of index)
 
+-- item i, and zero where there is none
+abbrev pub item_or : {T : Type 0} → T → List T → ℕ → T
+item_or zero items i = slice_index_or items i zero
+
 module _ {T : Type 0} (zero : T) (items : List T) (indices : List ℤ)
     (validity : Option (List Bool)) where
   -- what position i takes: the item that its index names, if it names one; zero where the position
@@ -22,10 +26,6 @@ module _ {T : Type 0} (zero : T) (items : List T) (indices : List ℤ)
   pub record AreTaken (taken : List T) : Type 0 where
     pub same_len : length taken ≡ length indices
     pub each : (i : ℕ) → i < length indices → item_taken i ≡ slice_get taken i
-
-  -- the first n positions have what they take
-  abbrev pub TakenTo : ℕ → List T → Type 0
-  TakenTo n taken = (i : ℕ) → i < n → item_taken i ≡ Some (slice_index_or taken i zero)
 
   -- position p is the first that takes nothing: it counts, and its index names no place of the list
   pub record IsFirstUntaken (p : ℕ) : Type 0 where

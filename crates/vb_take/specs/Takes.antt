@@ -13,6 +13,10 @@ abbrev pub is_valid : Option (List Bool) → ℕ → Bool
 is_valid None i = true
 is_valid (Some validity) i = at validity i
 
+-- the first n positions have what they take
+abbrev pub TakenTo : {T : Type 0} → ℕ → (ℕ → Option T) → (ℕ → T) → Type 0
+TakenTo n taken has = (i : ℕ) → i < n → taken i ≡ Some (has i)
+
 -- the value at the place that a number names, if it names one of the list
 abbrev pub value_at : List Bool → ℤ → Option Bool
 value_at l index = option_and_then (slice_get l) (place_of index)

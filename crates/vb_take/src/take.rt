@@ -2,12 +2,11 @@
 ghost use Rattle.std.specs.Prelude.{◌≡◌, ℕ, ◌+◌, ◌*◌, ◌^◌, ◌<◌, ◌≤◌, Some, false, length, map};
 ghost use Rattle.std.specs.Prelude.{IfOk, IfErr, if◌then◌else◌};
 ghost use Rattle.std.specs.Option.{ForSome, option_map};
-ghost use Rattle.vb_bits.specs.Bits.{at, bits as window};
+ghost use Rattle.vb_bits.specs.Bits.{at, bit_of, bits as window};
 ghost use Rattle.vb_bits.specs.Digits.{has_bit};
 ghost use Rattle.vb_bits.specs.Writes.{Writes, KeepsBehind};
 ghost use Rattle.vb_view.specs.View.{bits_of};
-ghost use Rattle.vb_take.specs.Blocks.{TakenTo};
-ghost use Rattle.vb_take.specs.Takes.{is_valid, value_at, IsTaken, IsFirstPast};
+ghost use Rattle.vb_take.specs.Takes.{is_valid, value_at, taken_at, TakenTo, IsTaken, IsFirstPast};
 
 use crate::block::{narrow_block, take_block};
 use crate::valid::{is_valid, valid_word};
@@ -65,8 +64,8 @@ fn take_words<I: BitIndex>(
     requires words { 64 * words ≤ length indices.now }
     requires some { 0 < words → 0 < length (bits_of bits) }
     requires few { 0 < words → length (bits_of bits) + 8 < 2 ^ 32 }
-    ensures taken { IfOk result (λ _. TakenTo (64 * words) (bits_of bits.entry)
-        (map I.number indices.now) (option_map bits_of validity.entry) out.new) }
+    ensures taken { IfOk result (λ _. TakenTo (64 * words) (taken_at (bits_of bits.entry)
+        (map I.number indices.now) (option_map bits_of validity.entry)) (bit_of out.new)) }
     ensures past { IfErr result (λ p. IsFirstPast (bits_of bits.entry) (map I.number indices.now)
         (option_map bits_of validity.entry) p) }
     ensures keeps { KeepsBehind (length indices.now) out.old out.new }
@@ -92,8 +91,8 @@ fn take_rest<I: BitIndex>(
     requires room { length indices.now ≤ 8 * length out.old }
     requires validity { ForSome validity (λ v. length (bits_of v) ≡ length indices.now) }
     requires begun { from ≤ length indices.now }
-    requires before { TakenTo from (bits_of bits) (map I.number indices.now)
-        (option_map bits_of validity) out.old }
+    requires before { TakenTo from (taken_at (bits_of bits) (map I.number indices.now)
+        (option_map bits_of validity)) (bit_of out.old) }
     ensures taken { IfOk result (λ _. IsTaken (bits_of bits.entry) (map I.number indices.now)
         (option_map bits_of validity.entry) (window out.new 0 (length indices.now))) }
     ensures past { IfErr result (λ p. IsFirstPast (bits_of bits.entry) (map I.number indices.now)

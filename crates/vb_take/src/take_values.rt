@@ -4,7 +4,8 @@ ghost use Rattle.std.specs.Prelude.{Some, IsSome, length, map, take, drop, slice
 ghost use Rattle.std.specs.Prelude.{IfOk, IfErr, IsTrue, if◌then◌else◌};
 ghost use Rattle.std.specs.Option.{ForSome, option_map};
 ghost use Rattle.vb_bits.specs.Digits.{has_bit};
-ghost use Rattle.vb_take.specs.ItemsTaken.{item_named, AreTaken, TakenTo, IsFirstUntaken};
+ghost use Rattle.vb_take.specs.ItemsTaken.{item_named, item_or, item_taken, AreTaken, IsFirstUntaken};
+ghost use Rattle.vb_take.specs.Takes.{TakenTo};
 ghost use Rattle.vb_take.specs.ValueBlocks.{PutsOnes, StopsAt, PutsZeros};
 ghost use Rattle.vb_view.specs.View.{bits_of};
 
@@ -86,14 +87,14 @@ fn take_block<T: Element, I: BitIndex>(
     requires room { length indices.now ≤ length out.old }
     requires validity { length (bits_of valid) ≡ length indices.now }
     requires inside { at + 64 ≤ length indices.now }
-    requires before { TakenTo T.zero values.now (map I.number indices.now)
-        (Some (bits_of valid)) at out.old }
-    ensures taken { IfOk result (λ _. TakenTo T.zero values.now (map I.number indices.now)
-        (Some (bits_of valid.entry)) (at + 64) out.new) }
+    requires before { TakenTo at (item_taken T.zero values.now (map I.number indices.now)
+        (Some (bits_of valid))) (item_or T.zero out.old) }
+    ensures taken { IfOk result (λ _. TakenTo (at + 64) (item_taken T.zero values.now
+        (map I.number indices.now) (Some (bits_of valid.entry))) (item_or T.zero out.new)) }
     ensures past { IfErr result (λ p. IsFirstUntaken T.zero values.now (map I.number indices.now)
         (Some (bits_of valid.entry)) p) }
-    ensures begun { IfErr result (λ p. TakenTo T.zero values.now (map I.number indices.now)
-        (Some (bits_of valid.entry)) p out.new) }
+    ensures begun { IfErr result (λ p. TakenTo p (item_taken T.zero values.now
+        (map I.number indices.now) (Some (bits_of valid.entry))) (item_or T.zero out.new)) }
     ensures stays { IfErr result (λ p. drop p out.new ≡ drop p out.old) }
     ensures others { drop (length indices.now) out.new ≡ drop (length indices.now) out.old }
 {
@@ -230,8 +231,8 @@ fn take_rest<T: Element, I: BitIndex>(
     requires room { length indices.now ≤ length out.old }
     requires validity { ForSome validity (λ v. length (bits_of v) ≡ length indices.now) }
     requires begun { from ≤ length indices.now }
-    requires before { TakenTo T.zero values.now (map I.number indices.now)
-        (option_map bits_of validity) from out.old }
+    requires before { TakenTo from (item_taken T.zero values.now (map I.number indices.now)
+        (option_map bits_of validity)) (item_or T.zero out.old) }
     ensures taken { IfOk result (λ _. AreTaken T.zero values.now (map I.number indices.now)
         (option_map bits_of validity.entry) (take (length indices.now) out.new)) }
     ensures past { IfErr result (λ p. IsFirstUntaken T.zero values.now (map I.number indices.now)

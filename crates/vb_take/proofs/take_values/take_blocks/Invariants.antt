@@ -1,11 +1,13 @@
 use Rattle.std.proofs.Common.{◌≡◌, ◌*◌, Some, drop, length, map}
 use Rattle.vb_view.specs.View.{bits_of}
-use Rattle.vb_take.specs.ItemsTaken.{TakenTo}
+use Rattle.vb_take.specs.ItemsTaken.{item_or, item_taken}
+use Rattle.vb_take.specs.Takes.{TakenTo}
 use Rattle.vb_take.proofs.take_values.take_blocks.Given as goal
 
 abbrev pub invariant-loop-t : goal.invariant-loop-t
 invariant-loop-t g l = record {
-  taken : TakenTo g.T.Element.zero l.values (map g.I.BitIndex.number l.indices)
-      (Some (bits_of l.valid)) (64 * l.t) l.out;
+  taken : TakenTo (64 * l.t) (item_taken g.T.Element.zero l.values
+      (map g.I.BitIndex.number l.indices) (Some (bits_of l.valid)))
+      (item_or g.T.Element.zero l.out);
   others : drop (length l.indices) l.out ≡ drop (length l.indices) l.fn.out;
 }
