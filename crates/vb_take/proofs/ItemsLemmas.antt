@@ -43,17 +43,18 @@ module _ {T X : Type 0} (f : X → ℤ) (zero : T) (items : List T) (xs : List X
   }
 
   -- one more position has what it takes
-  pub taken_more : (k : ℕ) (value : T) (out : List T)
-      → TakenTo k (item_taken zero items (map f xs) v) (item_or zero out)
-      → k < length out → item_taken zero items (map f xs) v k ≡ Some value
-      → TakenTo (k + 1) (item_taken zero items (map f xs) v) (item_or zero (slice_set out k value))
-  taken_more k value out before inside here = λ i h. elim (cases_lt i k) [
-    | inl low ↦ before i low
-        ∙ ap Some (sym (get_or-set_other out k i value zero (λ e. absurd (omega arith))))
+  pub taken_more : (k : ℕ) (value : T) (out new : List T)
+      → TakenTo k (item_taken zero items (map f xs) v) (item_or zero out) → k < length out
+      → item_taken zero items (map f xs) v k ≡ Some value → new ≡ slice_set out k value
+      → TakenTo (k + 1) (item_taken zero items (map f xs) v) (item_or zero new)
+  taken_more k value out new before inside here set = λ i h. elim (cases_lt i k) [
+    | inl low ↦ before i low ∙ ap Some
+        (sym (ap (λ o. get_or o i zero) set
+        ∙ get_or-set_other out k i value zero (λ e. absurd (omega arith))))
     | inr high ↦
         let same : i ≡ k = omega arith in
         ap (item_taken zero items (map f xs) v) same ∙ here
-        ∙ ap Some (sym (ap (λ j. get_or (slice_set out k value) j zero) same
+        ∙ ap Some (sym (ap (λ j. get_or new j zero) same ∙ ap (λ o. get_or o k zero) set
         ∙ get_or-set_same out k value zero inside))
   ]
 

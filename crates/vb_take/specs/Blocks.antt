@@ -1,6 +1,6 @@
 -- Blocks of 64 indices.
 use Rattle.std.specs.Prelude.{◌≡◌, ℕ, ℤ, ◌-◌, ◌^◌, ◌<◌, ◌≤◌, Bool, false, List, length}
-use Rattle.std.specs.Prelude.{min, slice_get, slice_index, Option, Some, Result, Ok, Err}
+use Rattle.std.specs.Prelude.{min, slice_get, slice_index, Some, Result, Ok, Err}
 use Rattle.std.specs.Prelude.{IsTrue, if◌then◌else◌}
 use Rattle.std.specs.Option.{unwrap_or}
 use Rattle.vb_bits.specs.Digits.{has_bit}

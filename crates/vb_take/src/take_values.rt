@@ -220,6 +220,9 @@ fn clear_block<T: Element>(out: &mut [T], at: usize)
 
 /// [`take_values_into`] of the positions from `from` on, one by one, where those before them are
 /// taken.
+///
+/// A value goes straight to its place, and so does 0: to choose between them first would hold one
+/// of any size on the stack.
 #[inline(always)]
 fn take_rest<T: Element, I: BitIndex>(
     out: &mut [T],
@@ -240,25 +243,16 @@ fn take_rest<T: Element, I: BitIndex>(
     ensures others { drop (length indices.now) out.new ≡ drop (length indices.now) out.old }
 {
     for k in from..indices.len() {
-        match value_taken(values, indices[k], is_valid(validity, k)) {
-            Some(value) => out[k] = value,
-            None => return Err(k),
+        if is_valid(validity, k) {
+            match value_named(values, indices[k]) {
+                Some(value) => out[k] = value,
+                None => return Err(k),
+            }
+        } else {
+            out[k] = T::zero();
         }
     }
     Ok(())
-}
-
-/// What is taken at a position: 0 where it isn't valid, else the value that the index names.
-#[inline(always)]
-fn value_taken<T: Element, I: BitIndex>(values: &[T], index: I, valid: bool) -> Option<T>
-    ensures { result
-        ≡ (if valid then item_named values.now (I.number index) else Some T.zero) }
-{
-    if valid {
-        value_named(values, index)
-    } else {
-        Some(T::zero())
-    }
 }
 
 /// The value that the index names, if it names one.
