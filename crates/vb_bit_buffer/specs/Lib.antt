@@ -4,7 +4,7 @@ pub mod SharedSet
 pub mod Stops
 pub use Rattle.vb_bit_bytes.specs.AskedOf
 pub use Rattle.vb_bit_bytes.specs.Given
-pub use Rattle.vb_bit_bytes.specs.Indices
+pub use Rattle.vb_bit_bytes.specs.FromIndices
 pub use Rattle.vb_bits.specs.Bits
 pub use Rattle.vb_bits.specs.InBytes
 pub use Rattle.vb_bits.specs.Marks

@@ -1,6 +1,6 @@
 pub mod AskedOf
 pub mod Given
-pub mod Indices
+pub mod FromIndices
 pub use Rattle.vb_bits.specs.Bits
 pub use Rattle.vb_bits.specs.InBytes
 pub use Rattle.vb_bits.specs.Marks

@@ -4,7 +4,7 @@ ghost use Rattle.std.specs.Int.{div_ceil};
 ghost use Rattle.std.specs.Iterator.{IsFiniteIterable};
 ghost use Rattle.vb_bits.specs.Bits.{bits};
 ghost use Rattle.vb_mem.specs.Collected.{OfItems};
-ghost use Rattle.vb_bit_bytes.specs.Indices.{IndexRefused};
+ghost use Rattle.vb_bit_bytes.specs.FromIndices.{IndexRefused};
 ghost use Rattle.vb_bits.specs.Marks.{with_true};
 
 use crate::make::full;

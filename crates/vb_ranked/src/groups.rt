@@ -15,7 +15,7 @@ use vb_kernel::Glance;
 use vb_rank::{BLOCK_BITS, find_block, rank_from, select_from};
 
 /// How many of the first `i` of the `len` bits from bit `offset` on are true, as
-/// [`rank_by`](vb_rank::rank_by) answers, from the groups of these bits, by at most two probes.
+/// `rank_by` answers, from the groups of these bits, by at most two probes.
 pub(crate) fn rank_in_groups<G: Glance, S: ProbeGroups>(
     src: &mut G,
     offset: usize,
@@ -54,7 +54,7 @@ fn ones_before<S: ProbeGroups>(groups: &mut S, block: usize) -> usize
 
 /// The place of the `n`-th bit of the window that is `value`, from the groups of its bits: its
 /// block is sought in them, and then the block is searched. It takes as many probes at most as
-/// [`select_by`](vb_rank::select_by) promises.
+/// `select_by` promises.
 pub(crate) fn select_in_groups<G: Glance, S: ProbeGroups>(
     src: &mut G,
     offset: usize,

@@ -76,7 +76,7 @@ impl<A: Allocator + Clone> Ranked<A> {
         self.set
     }
 
-    /// How many of the first `i` bits are true, in constant time, as [`rank_by`](vb_rank::rank_by)
+    /// How many of the first `i` bits are true, in constant time, as `rank_by`
     /// answers of the set and a table of it. `i` has to be at most the length.
     pub fn rank(&self, i: usize) -> usize
         requires { i ≤ length self.now.bits }
@@ -93,7 +93,7 @@ impl<A: Allocator + Clone> Ranked<A> {
 
     /// The place of the `n`-th true bit, counted from 0; `None` where at most `n` bits are true. It
     /// halves the groups until one is left, and then the blocks of that group, and takes no memory.
-    /// It answers as [`select_by`](vb_rank::select_by) of the set and a table of it.
+    /// It answers as `select_by` of the set and a table of it.
     pub fn select(&self, n: usize) -> Option<usize>
         ensures place { Selects self.now.bits n result }
         ensures each { InvertsCount self.now.bits n result }

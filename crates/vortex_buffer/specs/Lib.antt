@@ -6,7 +6,7 @@ pub use Rattle.vb_bit_buffer.specs.SharedSet
 pub use Rattle.vb_bit_buffer.specs.Stops
 pub use Rattle.vb_bit_bytes.specs.AskedOf
 pub use Rattle.vb_bit_bytes.specs.Given
-pub use Rattle.vb_bit_bytes.specs.Indices
+pub use Rattle.vb_bit_bytes.specs.FromIndices
 pub use Rattle.vb_bits.specs.Bits
 pub use Rattle.vb_bits.specs.Digits
 pub use Rattle.vb_bits.specs.Edits

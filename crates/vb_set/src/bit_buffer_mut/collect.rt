@@ -7,7 +7,7 @@ ghost use Rattle.vb_mem.specs.Makes.{Makes};
 ghost use Rattle.vb_mem.specs.Collected.{OfItems};
 ghost use Rattle.vb_pack.specs.Asked.{Answers, CanAsk, span};
 ghost use Rattle.vb_set.specs.OpenSet.{IsFreshOpenSet};
-ghost use Rattle.vb_bit_bytes.specs.Indices.{IndexRefused};
+ghost use Rattle.vb_bit_bytes.specs.FromIndices.{IndexRefused};
 ghost use Rattle.vb_bits.specs.Marks.{with_true};
 
 use super::BitBufferMut;
