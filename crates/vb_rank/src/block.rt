@@ -47,7 +47,7 @@ pub fn find_block<S, L: Level<S>>(
     (low, before)
 }
 
-/// How many bits that are `value` are before block `j`, by one probe.
+/// How many bits that are `value` are before block `j`, which isn't the first, by one probe.
 fn bits_before<S, L: Level<S>>(
     source: &mut S,
     level: &L,
@@ -55,6 +55,7 @@ fn bits_before<S, L: Level<S>>(
     j: usize,
     value: bool,
 ) -> usize
+    requires some { 0 < j }
     requires within { j < length (L.seen level.now source.old).entries }
     requires fits { width * j < 2 ^ 64 }
     ensures value { slice_index (L.seen level.now source.old).entries j ≤ width * j

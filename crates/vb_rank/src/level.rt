@@ -15,9 +15,10 @@ pub trait Level<S> {
     // These counts, and how many probes the source has had.
     ghost seen: { Self → S → CountedEntries };
 
-    /// Count `j`, by one probe.
+    /// Count `j`, by one probe. Count 0 is 0, and so is never read.
     fn entry(&self, source: &mut S, j: usize) -> usize
-        requires { j < length (seen self.now source.old).entries }
+        requires some { 0 < j }
+        requires within { j < length (seen self.now source.old).entries }
         ensures value { result ≡ slice_index (seen self.now source.old).entries j }
         ensures same { held source.new ≡ held source.old }
         ensures probe { ProbesExactly 1 (seen self.now source.old) (seen self.now source.new) };

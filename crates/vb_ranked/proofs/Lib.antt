@@ -1,2 +1,2 @@
-mod GroupsLemmas
-mod GroupEditsLemmas
+mod CountEditsLemmas
+mod CountsLemmas

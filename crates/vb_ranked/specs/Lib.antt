@@ -1,4 +1,4 @@
-pub mod Groups
+pub mod Counts
 pub use Rattle.vb_bits.specs.InBytes
 pub use Rattle.vb_bits.specs.Bits
 pub use Rattle.vb_bits.specs.Writes

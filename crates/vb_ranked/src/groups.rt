@@ -1,13 +1,14 @@
 //! Ranks and places of ranks by groups, over any source of their counts.
-ghost use Rattle.std.specs.Prelude.{◌≡◌, ℕ, Bool, true, false, List, ◌+◌, ◌-◌, ◌*◌, ◌/◌, ◌^◌, ◌<◌};
-ghost use Rattle.std.specs.Prelude.{◌≤◌, length, min, take};
+ghost use Rattle.std.specs.Prelude.{◌≡◌, ℕ, Bool, true, false, List, ◌+◌, ◌-◌, ◌*◌, ◌/◌, ◌%◌, ◌^◌};
+ghost use Rattle.std.specs.Prelude.{◌<◌, ◌≤◌, length, min, take};
 ghost use Rattle.std.specs.Int.{div_ceil};
 ghost use Rattle.vb_bits.specs.Bits.{bits, count, Selects};
 ghost use Rattle.vb_bits.specs.InBytes.{InBytes};
 ghost use Rattle.vb_kernel.specs.Looks.{LooksAtMost};
 ghost use Rattle.vb_kernel.specs.Searches.{hits};
-ghost use Rattle.vb_ranked.specs.Groups.{AreGroups, AreWhole, ProbesGroups, ProbesGroupsAtMost};
 ghost use Rattle.vb_rank.specs.Tables.{blocks, block_counts, binary_digits, BeginsBefore, Rises};
+ghost use Rattle.vb_rank.specs.Tables.{ProbesExactly, ProbesAtMost};
+ghost use Rattle.vb_ranked.specs.Counts.{AreCounts, numbers_for};
 
 use crate::probe_groups::{Befores, ProbeGroups, Withins};
 use crate::size::{GROUP_BITS, GROUP_BLOCKS};
@@ -15,7 +16,7 @@ use vb_kernel::Glance;
 use vb_rank::{BLOCK_BITS, find_block, rank_from, select_from};
 
 /// How many of the first `i` of the `len` bits from bit `offset` on are true, as
-/// `rank_by` answers, from the groups of these bits, by at most two probes.
+/// [`rank_by`](vb_rank::rank_by) answers, from the counts of these bits, by at most two probes.
 pub(crate) fn rank_in_groups<G: Glance, S: ProbeGroups>(
     src: &mut G,
     offset: usize,
@@ -24,35 +25,38 @@ pub(crate) fn rank_in_groups<G: Glance, S: ProbeGroups>(
     i: usize,
 ) -> usize
     requires window { InBytes (G.seen src.old).bytes offset len }
-    requires groups { AreGroups (bits (G.seen src.old).bytes offset len)
-        (S.seen groups.old).groups }
+    requires counts { AreCounts (bits (G.seen src.old).bytes offset len)
+        (S.seen groups.old).entries }
     requires some { 0 < i }
     requires within { i ≤ len }
     ensures value { result ≡ count (take i (bits (G.seen src.old).bytes offset len)) }
     ensures looks { LooksAtMost 16 (G.seen src.old) (G.seen src.new) }
-    ensures probes { ProbesGroupsAtMost 2 (S.seen groups.old) (S.seen groups.new) }
+    ensures probes { ProbesAtMost 2 (S.seen groups.old) (S.seen groups.new) }
 {
     // The block of the last of the bits, as in `rank_by`.
     let block = (i - 1) / BLOCK_BITS;
-    let before = ones_before(groups, block);
+    let before = ones_before(groups, len, block);
     rank_from(src, offset, block, before, i)
 }
 
-/// How many true bits are before a block, by two probes.
-fn ones_before<S: ProbeGroups>(groups: &mut S, block: usize) -> usize
-    requires group { block / GROUP_BLOCKS < length (S.seen groups.old).groups }
-    requires whole { AreWhole (S.seen groups.old).groups }
-    ensures value { (l : List Bool) → AreGroups l (S.seen groups.old).groups → length l < 2 ^ 64
-        → BLOCK_BITS * block < length l → result ≡ count (take (BLOCK_BITS * block) l) }
-    ensures probes { ProbesGroups 2 (S.seen groups.old) (S.seen groups.new) }
+/// How many of the `len` bits are true before a block, by at most two probes: the first block of a
+/// group has no count of its own.
+fn ones_before<S: ProbeGroups>(groups: &mut S, len: usize, block: usize) -> usize
+    requires block { BLOCK_BITS * block < len }
+    requires size { length (S.seen groups.old).entries ≡ numbers_for len }
+    ensures value { (l : List Bool) → AreCounts l (S.seen groups.old).entries → length l ≡ len
+        → result ≡ count (take (BLOCK_BITS * block) l) }
+    ensures probes { ProbesAtMost 2 (S.seen groups.old) (S.seen groups.new) }
 {
     let (group, place) = (block / GROUP_BLOCKS, block % GROUP_BLOCKS);
     let before = groups.before(group);
-    let more = groups.within(group, place);
-    before.wrapping_add(more)
+    if place == 0 {
+        return before;
+    }
+    before.wrapping_add(groups.within(group, place))
 }
 
-/// The place of the `n`-th bit of the window that is `value`, from the groups of its bits: its
+/// The place of the `n`-th bit of the window that is `value`, from the counts of its bits: its
 /// block is sought in them, and then the block is searched. It takes as many probes at most as
 /// `select_by` promises.
 pub(crate) fn select_in_groups<G: Glance, S: ProbeGroups>(
@@ -65,19 +69,19 @@ pub(crate) fn select_in_groups<G: Glance, S: ProbeGroups>(
 ) -> Option<usize>
     requires window { InBytes (G.seen src.old).bytes offset len }
     requires some { 0 < len }
-    requires groups { AreGroups (bits (G.seen src.old).bytes offset len)
-        (S.seen groups.old).groups }
+    requires counts { AreCounts (bits (G.seen src.old).bytes offset len)
+        (S.seen groups.old).entries }
     ensures place { Selects (hits value (bits (G.seen src.old).bytes offset len)) n result }
     ensures looks { LooksAtMost 16 (G.seen src.old) (G.seen src.new) }
-    ensures probes { ProbesGroupsAtMost (binary_digits (blocks len + 1))
+    ensures probes { ProbesAtMost (binary_digits (blocks len + 1))
         (S.seen groups.old) (S.seen groups.new) }
 {
     let found = find_in_groups(groups, len, n, value);
     select_from(src, offset, len, found, n, value)
 }
 
-/// What [`find_block`] answers of the table of `len` bits, from their groups: the group of the bit
-/// is sought first, and then its block among those of the group.
+/// What [`find_block`] answers of the table of `len` bits, from their counts by groups: the group
+/// of the bit is sought first, and then its block among those of the group.
 fn find_in_groups<S: ProbeGroups>(
     groups: &mut S,
     len: usize,
@@ -85,21 +89,20 @@ fn find_in_groups<S: ProbeGroups>(
     value: bool,
 ) -> (usize, usize)
     requires some { 0 < len }
-    requires groups { length (S.seen groups.old).groups ≡ div_ceil len GROUP_BITS }
-    requires whole { AreWhole (S.seen groups.old).groups }
+    requires size { length (S.seen groups.old).entries ≡ numbers_for len }
     ensures within { BLOCK_BITS * result.0 < len }
     ensures low { result.1 ≤ n }
-    ensures block { (l : List Bool) → length l ≡ len → AreGroups l (S.seen groups.old).groups
+    ensures block { (l : List Bool) → length l ≡ len → AreCounts l (S.seen groups.old).entries
         → Rises BLOCK_BITS true (block_counts l) → Rises BLOCK_BITS false (block_counts l)
         → BeginsBefore BLOCK_BITS value (block_counts l) n result.0 result.1 }
-    ensures probes { ProbesGroups (binary_digits (length (S.seen groups.old).groups - 1)
+    ensures probes { ProbesExactly (binary_digits (div_ceil len GROUP_BITS - 1)
         + binary_digits
         (min (blocks len - GROUP_BLOCKS * (result.0 / GROUP_BLOCKS)) GROUP_BLOCKS - 1))
         (S.seen groups.old) (S.seen groups.new) }
-    ensures most { ProbesGroupsAtMost (binary_digits (blocks len + 1))
+    ensures most { ProbesAtMost (binary_digits (blocks len + 1))
         (S.seen groups.old) (S.seen groups.new) }
 {
-    let size = groups.size();
+    let size = len.div_ceil(GROUP_BITS);
     let (group, before) = find_block(groups, &Befores, size, GROUP_BITS, n, value);
     let blocks = (len - GROUP_BITS * group)
         .div_ceil(BLOCK_BITS)

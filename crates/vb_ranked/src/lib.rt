@@ -4,10 +4,11 @@
 //! table, and has its counts by groups, so that an edit moves few of them.
 #![tactic(auto)]
 
-mod group;
+mod counts;
 mod groups;
 mod probe_groups;
 mod ranked;
+mod room;
 mod size;
 #[cfg(test)]
 mod tests;

@@ -1,36 +1,35 @@
 //! Counts of two levels whose reads are counted, and what a search of one of them reads.
-ghost use Rattle.std.specs.Prelude.{◌≡◌, List, ◌<◌, length, slice_index};
-ghost use Rattle.vb_ranked.specs.declared.group.Group.{Group};
-ghost use Rattle.vb_ranked.specs.Groups.{CountedGroups, ProbesGroups, group_at};
-ghost use Rattle.vb_ranked.specs.Groups.{counts_before, counts_within};
+ghost use Rattle.std.specs.Prelude.{◌≡◌, ℕ, List, ◌+◌, ◌*◌, ◌<◌, ◌≤◌, length};
+ghost use Rattle.vb_rank.specs.Tables.{CountedEntries, ProbesExactly};
+ghost use Rattle.vb_ranked.specs.Counts.{count_before_group, count_in_group};
+ghost use Rattle.vb_ranked.specs.Counts.{counts_before, counts_within};
 
+use crate::size::{BEFORE_DIGITS, GROUP_NUMBERS};
 use vb_rank::Level;
 
-/// Groups of counts that never change.
+/// Counts by groups that never change.
 ///
 /// Each call of [`before`](ProbeGroups::before) and of [`within`](ProbeGroups::within) is one
 /// probe, and there is no other way to a count. So a function that is generic over `ProbeGroups`
 /// can't read more often than its contract says.
 pub(crate) trait ProbeGroups {
-    // The groups, which no call changes, and how many probes their counts have had.
-    ghost seen: { Self → CountedGroups };
-
-    /// How many groups there are.
-    fn size(&self) -> usize
-        ensures { result ≡ length (seen self.now).groups };
+    // The numbers, which no call changes, and how many probes their counts have had.
+    ghost seen: { Self → CountedEntries };
 
     /// How many true bits are before group `k`, by one probe.
     fn before(&mut self, k: usize) -> usize
-        requires { k < length (seen self.old).groups }
-        ensures value { result ≡ (group_at (seen self.old).groups k).before }
-        ensures probe { ProbesGroups 1 (seen self.old) (seen self.new) };
+        requires { GROUP_NUMBERS * k + BEFORE_DIGITS ≤ length (seen self.old).entries }
+        ensures value { result ≡ count_before_group (seen self.old).entries k }
+        ensures probe { ProbesExactly 1 (seen self.old) (seen self.new) };
 
-    /// How many true bits of group `k` are before its block `place`, by one probe.
+    /// How many true bits of group `k` are before its block `place`, which isn't its first one, by
+    /// one probe.
     fn within(&mut self, k: usize, place: usize) -> usize
-        requires group { k < length (seen self.old).groups }
-        requires place { place < length (group_at (seen self.old).groups k).within }
-        ensures value { result ≡ slice_index (group_at (seen self.old).groups k).within place }
-        ensures probe { ProbesGroups 1 (seen self.old) (seen self.new) };
+        requires some { 0 < place }
+        requires number { GROUP_NUMBERS * k + BEFORE_DIGITS + place
+            ≤ length (seen self.old).entries }
+        ensures value { result ≡ count_in_group (seen self.old).entries k place }
+        ensures probe { ProbesExactly 1 (seen self.old) (seen self.new) };
 }
 
 /// The counts before the groups.
@@ -38,12 +37,12 @@ pub(crate) trait ProbeGroups {
 pub(crate) struct Befores;
 
 impl<S: ProbeGroups> Level<S> for Befores {
-    ghost Held = { List Group };
+    ghost Held = { List ℕ };
 
-    ghost held = { λ s. (S.seen s).groups };
+    ghost held = { λ s. (S.seen s).entries };
 
     ghost seen = { λ _ s. record {
-      entries = counts_before (S.seen s).groups;
+      entries = counts_before (S.seen s).entries;
       probes = (S.seen s).probes;
     } };
 
@@ -60,12 +59,12 @@ pub(crate) struct Withins {
 }
 
 impl<S: ProbeGroups> Level<S> for Withins {
-    ghost Held = { List Group };
+    ghost Held = { List ℕ };
 
-    ghost held = { λ s. (S.seen s).groups };
+    ghost held = { λ s. (S.seen s).entries };
 
     ghost seen = { λ w s. record {
-      entries = counts_within (S.seen s).groups w.group w.blocks;
+      entries = counts_within (S.seen s).entries w.group w.blocks;
       probes = (S.seen s).probes;
     } };
 

@@ -7,9 +7,9 @@ ghost use Rattle.vb_kernel.specs.Searches.{hits};
 ghost use Rattle.vb_set.specs.OpenSet.{AddsBits, KeepsStart, KeepsLayout};
 ghost use Rattle.vb_set.specs.View.{bits_of, offset_of, bytes_of};
 
-use crate::group::{Group, PlainGroups, groups_of, move_counts, reserve_group, write_count};
+use crate::counts::Counts;
 use crate::groups::{rank_in_groups, select_in_groups};
-use crate::size::GROUP_BITS;
+use crate::room::make_room;
 use std::alloc::{Allocator, Global};
 use std::marker::Model;
 use vb_kernel::Plain;
@@ -19,37 +19,44 @@ use vb_set::{BitBufferMut, BitBufferView, BufferError, Result};
 /// A set of bits that one owner edits, with the counts of true bits before each block of 512. Every
 /// edit keeps the counts exact, so each question is answered as by a table made anew.
 ///
-/// Counts are kept by groups of 128 blocks: a number for the bits before the group, and for each
-/// block 16 bits, for the bits from there on.
+/// Counts are kept by groups of 128 blocks: 64 bits for those before the group, and for each of its
+/// blocks but the first 16 bits, for those from there on. So the counts of up to 512 bits take 8
+/// bytes, and each 512 bits more take two; where a group begins, eight.
 ///
 /// A contract sees the set: its bits, the offset of the first one, its bytes, and its room.
 #[derive(Drop)]
 pub struct Ranked<A: Allocator + Clone = Global> {
     set: BitBufferMut<A>,
-    groups: Vec<Group, A>,
+    counts: Counts<A>,
 }
 
 impl<A: Allocator + Clone> Model for Ranked<A> {
-    ghost use Rattle.vb_ranked.specs.Groups.{AreGroups};
+    ghost use Rattle.std.specs.Prelude.{◌<◌, ◌≤◌, length};
+    ghost use Rattle.vb_ranked.specs.Counts.{AreCounts, numbers_for};
     ghost use Rattle.vb_set.specs.OpenSet.{OpenSet};
 
     ghost Value = { OpenSet };
 
     ghost view = { λ s. s.set };
 
-    ghost invariant = { λ s. AreGroups s.set.bits s.groups.items };
+    // There is room for the counts of as many bits as the set has room for, unless it has none.
+    ghost invariant = { λ s. record {
+      counts : AreCounts s.set.bits s.counts.numbers;
+      room : 0 < length s.set.bits → numbers_for s.set.room ≤ s.counts.room;
+    } };
 }
 
 impl<A: Allocator + Clone> Ranked<A> {
-    /// The set with its counts, for which it takes memory by one request, and none for no bits:
-    /// 264 bytes for each 65,536 bits, and for those that are left over. Refused by `OutOfMemory`
-    /// alone; then the set is gone.
+    /// The set with its counts, for which it takes memory by one request, and none for no bits: for
+    /// the [`capacity`](BitBufferMut::capacity) of the set, 8 bytes for up to 512 bits, 2 bytes for
+    /// each 512 bits more, and 6 bytes more for each 65,536 bits that are full. Refused by
+    /// `OutOfMemory` alone; then the set is gone.
     pub fn new(alloc: A, set: BitBufferMut<A>) -> Result<Self>
         ensures set { IfOk result (λ r. r ≡ set) }
         ensures refused { IsOkUnless result BufferError.OutOfMemory }
     {
-        let groups = groups_of(alloc, set.as_view())?;
-        Ok(Ranked { set, groups })
+        let counts = Counts::of(alloc, set.as_view(), set.capacity())?;
+        Ok(Ranked { set, counts })
     }
 
     /// How many bits there are.
@@ -87,7 +94,7 @@ impl<A: Allocator + Clone> Ranked<A> {
         }
         let bits = self.as_view();
         let src = &mut Plain::new(bits.inner());
-        let groups = &mut PlainGroups::new(self.groups.as_slice());
+        let groups = &mut self.counts.groups();
         rank_in_groups(src, bits.offset(), bits.len(), groups, i)
     }
 
@@ -124,7 +131,7 @@ impl<A: Allocator + Clone> Ranked<A> {
         let was = self.as_view().value(i);
         self.set.set_to(i, v);
         if was != v {
-            move_counts(self.groups.as_mut_slice(), self.set.len(), i, v);
+            self.counts.move_behind(i, v);
         }
     }
 
@@ -132,12 +139,13 @@ impl<A: Allocator + Clone> Ranked<A> {
     ///
     /// Refused by `TooManyBits` where offset and length together are `usize::MAX`, else by
     /// `OutOfMemory` alone. Then the set and its room are unchanged. Within the room of
-    /// the set it takes no memory and succeeds, unless the length is a multiple of 512: then the
-    /// counts may need a group more.
+    /// the set it takes no memory and succeeds, unless the set is empty: then it may ask for the
+    /// counts. Where the set is full, it asks at most once for counts, of as many bits as there
+    /// then is room for, and once for twice the bytes.
     pub fn append(&mut self, v: bool) -> Result<()>
         ensures ok { OnOk result (AddsBits (v ∷ []) self.old self.new) }
         ensures grows { KeepsStart self.old self.new }
-        ensures in_room { 0 < length self.old.bits % 512
+        ensures in_room { 0 < length self.old.bits
             → length self.old.bits + 1 ≤ self.old.room → IsOk result }
         ensures fits { self.old.offset + length self.old.bits + 1 < 2 ^ 64
             → IsOkUnless result BufferError.OutOfMemory }
@@ -146,22 +154,16 @@ impl<A: Allocator + Clone> Ranked<A> {
         ensures err { OnErr result (self.new ≡ self.old) }
     {
         let len = self.len();
+        if len == 0 || len == self.set.capacity() {
+            make_room(&mut self.set, &mut self.counts)?;
+        }
         if len % BLOCK_BITS != 0 {
             self.set.append(v)?;
             return Ok(());
         }
         let ones = self.rank(len);
-        if len % GROUP_BITS != 0 {
-            self.set.append(v)?;
-            write_count(self.groups.as_mut_slice(), len / BLOCK_BITS, ones);
-            return Ok(());
-        }
-        if usize::MAX - len <= self.set.offset() {
-            return Err(BufferError::TooManyBits);
-        }
-        reserve_group(&mut self.groups)?;
         self.set.append(v)?;
-        self.groups.push_reserved(Group::after(ones));
+        self.counts.push(len / BLOCK_BITS, ones);
         Ok(())
     }
 
@@ -175,7 +177,7 @@ impl<A: Allocator + Clone> Ranked<A> {
             return None;
         }
         let src = &mut Plain::new(bits.inner());
-        let groups = &mut PlainGroups::new(self.groups.as_slice());
+        let groups = &mut self.counts.groups();
         select_in_groups(src, bits.offset(), bits.len(), groups, n, value)
     }
 }

@@ -1,29 +1,34 @@
-use Rattle.std.proofs.Common.{◌≡◌, ℕ, List, ◌+◌, ◌-◌, ◌*◌, ◌/◌, min, length, refl, sym, ap}
+use Rattle.std.proofs.Common.{◌≡◌, ℕ, List, ◌+◌, ◌-◌, ◌*◌, ◌/◌, ◌<◌, min, length, refl, sym, ap}
 use Rattle.std.proofs.Common.{◌∙◌, arith}
-use Rattle.vb_ranked.proofs.GroupsLemmas.{BeginsBefore-group, length_counts_before}
-use Rattle.vb_ranked.proofs.GroupsLemmas.{length_counts_within}
+use Rattle.std.specs.Int.{div_ceil}
+use Rattle.vb_ranked.proofs.CountsLemmas.{BeginsBefore-group, length_counts_before}
+use Rattle.vb_ranked.proofs.CountsLemmas.{length_counts_within}
 use Rattle.vb_rank.proofs.TablesLemmas.{digits-of_group-le}
-use Rattle.vb_ranked.specs.declared.group.Group.{Group}
-use Rattle.vb_ranked.specs.Groups.{counts_within}
+use Rattle.vb_ranked.specs.Counts.{counts_within}
 use Rattle.vb_rank.specs.Tables.{blocks, binary_digits}
 use Rattle.vb_ranked.proofs.groups.find_in_groups.Goals as goal
 
+pub find_block-group-requires-clause-size : goal.find_block-group-requires-clause-size
+find_block-group-requires-clause-size g c = c.div_ceil-size.ensures ∙ sym (length_counts_before
+    (g.S.ProbeGroups.seen c.args.groups.now).entries c.args.len c.requires.size)
+
 pub find_block-block-requires-clause-size : goal.find_block-block-requires-clause-size
 find_block-block-requires-clause-size g c =
-    let gs : List Group = (g.S.ProbeGroups.seen c.args.groups.now).groups in
+    let e : List ℕ = (g.S.ProbeGroups.seen c.args.groups.now).entries in
     let k : ℕ = c.find_block-group.result.0 in
     let b : ℕ = c.min-blocks.result in
-    let long : length (counts_within gs k b) ≡ b = length_counts_within gs k b c.requires.whole
-    (omega (arith, c.find_block-group.ensures.within, c.size-size.ensures))
-    (omega (arith, c.min-blocks.ensures)) in
+    let long : length (counts_within e k b) ≡ b =
+    length_counts_within e c.args.len k b c.requires.size
+    (omega (arith, c.find_block-group.ensures.within, c.div_ceil-size.ensures))
+    (omega (arith, c.min-blocks.ensures, c.div_ceil.ensures)) in
     sym (ap (λ x. length (counts_within x k b)) c.find_block-group.ensures.same ∙ long)
 
 pub returns-clause-block : goal.returns-clause-block
 returns-clause-block g c = λ l size p up down.
-    let gs : List Group = (g.S.ProbeGroups.seen c.args.groups.now).groups in
+    let e : List ℕ = (g.S.ProbeGroups.seen c.args.groups.now).entries in
     let k : ℕ = c.find_block-group.result.0 in
     let b : ℕ = c.min-blocks.result in
-    BeginsBefore-group c.args.value l gs (counts_within gs k b) c.args.n k
+    BeginsBefore-group c.args.value l e (counts_within e k b) c.args.n k
     c.find_block-group.result.1 b
     c.find_block-block.result.0 c.find_block-block.result.1 p up down
     c.find_block-group.ensures.block refl
@@ -33,13 +38,15 @@ returns-clause-block g c = λ l size p up down.
 -- how many the two searches take
 sum : goal.returns-clause-probes
 sum g c =
-    let gs : List Group = (g.S.ProbeGroups.seen c.args.groups.now).groups in
+    let e : List ℕ = (g.S.ProbeGroups.seen c.args.groups.now).entries in
     let digits : ℕ → ℕ = λ n. binary_digits (n - 1) in
     let k : ℕ = c.find_block-group.result.0 in
     let b : ℕ = c.min-blocks.result in
-    let long : length (counts_within gs k b) ≡ b = length_counts_within gs k b c.requires.whole
-    (omega (arith, c.find_block-group.ensures.within, c.size-size.ensures))
-    (omega (arith, c.min-blocks.ensures)) in
+    let inside : 65536 * k < c.args.len =
+    omega (arith, c.find_block-group.ensures.within, c.div_ceil-size.ensures) in
+    let long : length (counts_within e k b) ≡ b =
+    length_counts_within e c.args.len k b c.requires.size inside
+    (omega (arith, c.min-blocks.ensures, c.div_ceil.ensures)) in
     let j : ℕ = 128 * k + c.find_block-block.result.0 in
     let part : b ≡ min (blocks c.args.len - 128 * (j / 128)) 128 = omega (
       arith,
@@ -52,7 +59,7 @@ sum g c =
       probes = omega (
         arith,
         c.find_block-group.ensures.probes.probes,
-        ap digits (length_counts_before gs),
+        ap digits (length_counts_before e c.args.len c.requires.size),
         c.find_block-block.ensures.probes.probes,
         ap (λ x. digits (length (counts_within x k b))) c.find_block-group.ensures.same,
         ap digits long,
@@ -65,7 +72,6 @@ returns-clause-probes g c = sum g c
 
 pub returns-clause-most : goal.returns-clause-most
 returns-clause-most g c =
-    let gs : List Group = (g.S.ProbeGroups.seen c.args.groups.now).groups in
     let j : ℕ = 128 * c.find_block-group.result.0 + c.find_block-block.result.0 in
     let b : ℕ = min (blocks c.args.len - 128 * (j / 128)) 128 in
     record {
@@ -73,7 +79,7 @@ returns-clause-most g c =
       probes = omega (
         arith,
         (sum g c).probes,
-        digits-of_group-le c.args.len (length gs) b (omega (arith, c.requires.groups)) (omega arith)
+        digits-of_group-le c.args.len (div_ceil c.args.len 65536) b refl (omega arith)
             (omega arith),
       );
     }

@@ -1,17 +1,16 @@
-use Rattle.std.proofs.Common.{ℕ, ◌*◌, arith}
-use Rattle.vb_bits.proofs.BitsLemmas.{count-le, count-take-le}
-use Rattle.vb_ranked.proofs.GroupsLemmas.{ones-of_group}
+use Rattle.std.proofs.Common.{◌≡◌, ℕ, List, ◌*◌, ◌/◌, ◌%◌, arith, ap}
+use Rattle.vb_ranked.specs.Counts.{count_in_group}
+use Rattle.vb_ranked.proofs.CountsLemmas.{ones-of_group}
 use Rattle.vb_ranked.proofs.groups.ones_before.Goals as goal
 
-pub returns-clause-value : goal.returns-clause-value
-returns-clause-value g c = λ l p fits inside.
+pub returns-then-place-eq0-clause-value : goal.returns-then-place-eq0-clause-value
+returns-then-place-eq0-clause-value g c = λ l p size.
+    let e : List ℕ = (g.S.ProbeGroups.seen c.args.groups.now).entries in
     let j : ℕ = c.args.block in
+    let first : j % 128 ≡ 0 = omega (arith, c.if-place-eq0.true) in
     omega (
       arith,
-      ones-of_group l (g.S.ProbeGroups.seen c.args.groups.now).groups j p inside,
+      ones-of_group l e j p (omega (arith, c.requires.block, size)),
+      ap (count_in_group e (j / 128)) first,
       c.before-before.ensures.value,
-      rw c.before-before.ensures.probe.same at c.within-more.ensures.value,
-      count-take-le (512 * j) l,
-      count-le l,
-      fits,
     )

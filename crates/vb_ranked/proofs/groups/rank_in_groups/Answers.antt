@@ -1,16 +1,12 @@
 use Rattle.std.proofs.Common.{◌≡◌, ℕ, Bool, List, ◌-◌, ◌*◌, ◌/◌, ◌<◌, sym, ap, ◌∙◌, arith}
 use Rattle.vb_bits.specs.Bits.{bits, count}
 use Rattle.vb_kernel.proofs.BitsLemmas.{length-bits, take-bits}
+use Rattle.vb_ranked.specs.Counts.{numbers_for}
 use Rattle.vb_ranked.proofs.groups.rank_in_groups.Goals as goal
 
-pub ones_before-before-requires-clause-group : goal.ones_before-before-requires-clause-group
-ones_before-before-requires-clause-group g c = omega (
-  arith,
-  c.requires.groups.long,
-  length-bits (g.G.Glance.seen c.args.src.now).bytes c.args.offset c.args.len,
-  c.requires.within,
-  c.requires.some,
-)
+pub ones_before-before-requires-clause-size : goal.ones_before-before-requires-clause-size
+ones_before-before-requires-clause-size g c = c.requires.counts.long ∙ ap numbers_for
+    (length-bits (g.G.Glance.seen c.args.src.now).bytes c.args.offset c.args.len)
 
 pub returns-clause-value : goal.returns-clause-value
 returns-clause-value g c =
@@ -20,8 +16,6 @@ returns-clause-value g c =
     let j : ℕ = (i - 1) / 512 in
     let begins : 512 * j < n = omega (arith, c.requires.within, c.requires.some) in
     let before : c.ones_before-before.result ≡ count (bits b o (512 * j)) =
-    c.ones_before-before.ensures.value l c.requires.groups
-    (omega (arith, length-bits b o n, c.requires.window.fits))
-    (omega (arith, length-bits b o n, begins))
+    c.ones_before-before.ensures.value l c.requires.counts (length-bits b o n)
     ∙ ap count (take-bits b o n (512 * j) (omega (arith, begins))) in
     c.rank_from.ensures.value before ∙ sym (ap count (take-bits b o n i c.requires.within))

@@ -1,38 +1,40 @@
-//! Groups whose probes are counted when a test runs.
+//! Counts whose probes are counted when a test runs.
 ghost use Rattle.std.specs.Prelude.{◌≡◌, min};
 ghost use Rattle.std.below.core.specs.declared.int.u64.TheConstants.{MAX};
-ghost use Rattle.vb_ranked.specs.Groups.{CountedGroups};
+ghost use Rattle.vb_rank.specs.Tables.{CountedEntries};
 
-use crate::group::Group;
+use super::{Counts, before_group};
 use crate::probe_groups::ProbeGroups;
+use crate::size::{BEFORE_DIGITS, GROUP_NUMBERS};
 use ghost_count::GhostCount;
+use std::alloc::Allocator;
 use std::marker::Model;
 
-/// The groups of a slice, and a count of the probes of their counts.
+/// The counts of a slice, and a count of their probes.
 #[derive(Drop)]
 pub(crate) struct TallyGroups<'a> {
-    data: &'a [Group],
+    data: &'a [u16],
     count: GhostCount,
     seen: u64,
 }
 
 impl<'a> Model for TallyGroups<'a> {
-    ghost Value = { CountedGroups };
+    ghost Value = { CountedEntries };
 
-    ghost view = { λ s. record { groups = s.data.now; probes = s.count.count } };
+    ghost view = { λ s. record { entries = s.data.now; probes = s.count.count } };
 
     // The counter stops at `u64::MAX`; the count of contracts does not.
     ghost invariant = { λ s. s.seen ≡ min s.count.count MAX };
 }
 
 impl<'a> TallyGroups<'a> {
-    /// These groups, with no probe so far.
-    pub(crate) fn new(groups: &'a [Group]) -> Self
-        ensures groups { result.groups ≡ groups.now }
+    /// These counts, with no probe so far.
+    pub(crate) fn new<A: Allocator>(counts: &'a Counts<A>) -> Self
+        ensures entries { result.entries ≡ counts.now.numbers }
         ensures unread { result.probes ≡ 0 }
     {
         TallyGroups {
-            data: groups,
+            data: counts.numbers.as_slice(),
             count: GhostCount::zero(),
             seen: 0,
         }
@@ -49,20 +51,15 @@ impl<'a> TallyGroups<'a> {
 impl ProbeGroups for TallyGroups<'_> {
     ghost seen = { λ s. s };
 
-    fn size(&self) -> usize {
-        self.data.len()
-    }
-
     fn before(&mut self, k: usize) -> usize {
         self.count.add_one();
         self.seen = self.seen.saturating_add(1);
-        self.data[k].before
+        before_group(self.data, k)
     }
 
     fn within(&mut self, k: usize, place: usize) -> usize {
         self.count.add_one();
         self.seen = self.seen.saturating_add(1);
-        let counts: &[u16] = &self.data[k].within;
-        usize::from(counts[place])
+        usize::from(self.data[GROUP_NUMBERS * k + (BEFORE_DIGITS - 1) + place])
     }
 }
