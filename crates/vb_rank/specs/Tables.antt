@@ -54,8 +54,3 @@ pub record BeginsBefore (w : ℕ) (v : Bool) (t : List ℕ) (n j m : ℕ) : Type
   pub before : m ≡ count_before w v t j
   pub low : m ≤ n
   pub high : j + 1 < length t → n < count_before w v t (j + 1)
-
--- one more, or one fewer
-abbrev pub bump : Bool → ℕ → ℕ
-bump true n = n + 1
-bump false n = n - 1

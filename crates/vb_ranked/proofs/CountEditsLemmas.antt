@@ -11,8 +11,7 @@ use Rattle.vb_bits.specs.Bits.{at, count}
 use Rattle.vb_kernel.proofs.BitsLemmas.{count-le, count-take-le, count-take_more, count-take-mono}
 use Rattle.vb_ranked.specs.Counts.{AreCounts, numbers_for, count_before_group, count_in_group}
 use Rattle.vb_ranked.proofs.CountsLemmas.{at-count_in_group, before-of_group}
-use Rattle.vb_rank.specs.Tables.{bump}
-use Rattle.vb_rank.proofs.EditsLemmas.{count-take_range, count-take-set_before}
+use Rattle.vb_rank.proofs.EditsLemmas.{bump, count-take_range, count-take-set_before}
 use Rattle.vb_rank.proofs.EditsLemmas.{count-take-set_after}
 
 -- ---- a part of a front

@@ -138,10 +138,10 @@ impl<A: Allocator + Clone> Ranked<A> {
     /// Adds one bit, in amortized constant time.
     ///
     /// Refused by `TooManyBits` where offset and length together are `usize::MAX`, else by
-    /// `OutOfMemory` alone. Then the set and its room are unchanged. Within the room of
-    /// the set it takes no memory and succeeds, unless the set is empty: then it may ask for the
-    /// counts. Where the set is full, it asks at most once for counts, of as many bits as there
-    /// then is room for, and once for twice the bytes.
+    /// `OutOfMemory` alone. Then the set and its room are unchanged. Within the room of the set it
+    /// takes no memory and succeeds, unless there are no bits: then it asks for the counts of as
+    /// many bits as there is room for. Where the set is full, it asks for those that it will have
+    /// room for, unless they have room already, and for twice the bytes.
     pub fn append(&mut self, v: bool) -> Result<()>
         ensures ok { OnOk result (AddsBits (v ∷ []) self.old self.new) }
         ensures grows { KeepsStart self.old self.new }
@@ -153,10 +153,8 @@ impl<A: Allocator + Clone> Ranked<A> {
             → IsErrOf result BufferError.TooManyBits }
         ensures err { OnErr result (self.new ≡ self.old) }
     {
-        let len = self.len();
-        if len == 0 || len == self.set.capacity() {
-            make_room(&mut self.set, &mut self.counts)?;
-        }
+        make_room(&mut self.set, &mut self.counts)?;
+        let len = self.set.len();
         if len % BLOCK_BITS != 0 {
             self.set.append(v)?;
             return Ok(());

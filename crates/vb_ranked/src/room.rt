@@ -1,5 +1,5 @@
 //! Room for bits and their counts.
-ghost use Rattle.std.specs.Prelude.{◌≡◌, ◌+◌, ◌^◌, ◌≤◌, ◌<◌, length, IsOkUnless, IsErrOf};
+ghost use Rattle.std.specs.Prelude.{◌≡◌, ◌+◌, ◌^◌, ◌≤◌, ◌<◌, length, IsOk, IsOkUnless};
 ghost use Rattle.std.specs.Prelude.{OnOk, OnErr};
 ghost use Rattle.vb_ranked.specs.Counts.{numbers_for};
 
@@ -7,18 +7,44 @@ use crate::counts::Counts;
 use std::alloc::Allocator;
 use vb_set::{BitBufferMut, BufferError, Result};
 
-/// The fewest bits that a set has room for once it has grown.
+/// For how many bits there is room at least where a set has grown.
 const LEAST_ROOM: usize = 64;
 
-/// Makes room for a bit more in a set that is full, and for the counts of as many bits as there
-/// then is room for. A set that isn't full has room for bits, and gets that for their counts.
-///
-/// The bytes become twice as many, and so a bit takes amortized constant time. The counts are asked
-/// for first: refused, the set and its room are unchanged.
+/// Makes room for a bit more, where there is none, and for the counts of as many bits as the set
+/// then has room for. Refused, it leaves the set and its room as they were.
+#[inline(always)]
 pub(crate) fn make_room<A: Allocator + Clone>(
     set: &mut BitBufferMut<A>,
     counts: &mut Counts<A>,
 ) -> Result<()>
+    requires counts_room { 0 < length set.old.bits → numbers_for set.old.room ≤ counts.old.room }
+    ensures set { set.new ≡ record set.old { room = set.new.room } }
+    ensures set_grows { set.old.room ≤ set.new.room }
+    ensures numbers { counts.new.numbers ≡ counts.old.numbers }
+    ensures counts_grow { counts.old.room ≤ counts.new.room }
+    ensures room { OnOk result (length set.old.bits + 1 ≤ set.new.room) }
+    ensures counts_room { OnOk result (numbers_for set.new.room ≤ counts.new.room) }
+    ensures in_room { 0 < length set.old.bits → length set.old.bits + 1 ≤ set.old.room
+        → IsOk result }
+    ensures fits { set.old.offset + length set.old.bits + 1 < 2 ^ 64
+        → IsOkUnless result BufferError.OutOfMemory }
+    ensures too_many { 2 ^ 64 ≤ set.old.offset + length set.old.bits + 1
+        → IsOkUnless result BufferError.TooManyBits }
+    ensures err { OnErr result (set.new ≡ set.old) }
+{
+    let len = set.len();
+    if 0 < len && len < set.capacity() {
+        return Ok(());
+    }
+    grow(set, counts)
+}
+
+/// [`make_room`] for a set that is full or has no bits.
+///
+/// A full set gets twice the bytes, and so a bit takes amortized constant time. The counts are
+/// asked for first, so that the room of the set stays where they are refused.
+#[cold]
+fn grow<A: Allocator + Clone>(set: &mut BitBufferMut<A>, counts: &mut Counts<A>) -> Result<()>
     ensures set { set.new ≡ record set.old { room = set.new.room } }
     ensures set_grows { set.old.room ≤ set.new.room }
     ensures numbers { counts.new.numbers ≡ counts.old.numbers }
@@ -28,20 +54,23 @@ pub(crate) fn make_room<A: Allocator + Clone>(
     ensures fits { set.old.offset + length set.old.bits + 1 < 2 ^ 64
         → IsOkUnless result BufferError.OutOfMemory }
     ensures too_many { 2 ^ 64 ≤ set.old.offset + length set.old.bits + 1
-        → IsErrOf result BufferError.TooManyBits }
+        → IsOkUnless result BufferError.TooManyBits }
     ensures err { OnErr result (set.new ≡ set.old) }
 {
     let (len, room) = (set.len(), set.capacity());
-    if len < room {
-        return counts.reserve(room);
-    }
     let end = len.saturating_add(set.offset());
     let left = usize::MAX - end;
     if left == 0 {
         return Err(BufferError::TooManyBits);
     }
+    if len < room {
+        return counts.reserve(room);
+    }
     let more = end.max(LEAST_ROOM.saturating_sub(end)).min(left);
-    // The room may be larger than what is asked for, by less than a byte.
+    // The room may become larger than what is asked for, by less than a byte.
     counts.reserve((len + more).saturating_add(7))?;
-    set.reserve_exact(more)
+    set.reserve_exact(more)?;
+    // The room is a `usize`.
+    let _room = set.capacity();
+    Ok(())
 }

@@ -1,12 +1,14 @@
-//! How often questions look at the bits and probe the table.
+//! How often questions look at the bits and probe the table, and how much memory counts take.
 use crate::compared::{Row, equal, holds};
-use crate::made::{by_fives, mixed};
+use crate::made::{by_fives, mixed, ones};
 use crate::rows::BY_FIVES;
-use std::alloc::Global;
+use std::alloc::{Allocator, Global};
 use std::process::Abort;
 use vb_kernel::Tally;
 use vb_rank::{TallyTable, rank_by, select_by, select_unset_by, table_of};
-use vb_set::BitBufferView;
+use vb_ranked::Ranked;
+use vb_set::{BitBufferMut, BitBufferView};
+use vb_testing::Refusing;
 
 /// Answers one row over counted readers, by at most 16 looks and so many probes.
 fn tallied(rt: &impl Abort, alloc: Global, bits: BitBufferView<'_>, row: Row, probes: u64) {
@@ -59,5 +61,104 @@ fn tables_are_halved(rt: HostRuntime) {
             }
             drop(set);
         }
+    }
+}
+
+/// Makes a directory of true bits. The bits and the counts have allocators of their own.
+fn make<A: Allocator + Clone>(rt: &impl Abort, (bits, counts): (A, A), len: usize) {
+    let set = ones(bits, len).expect(rt, "a set");
+    drop(Ranked::new(counts, set).expect(rt, "counts"));
+}
+
+/// Numbers of bits, and how many bytes their counts take: 8 for a block, 2 for each block more, and
+/// 6 more for each group more.
+const TAKEN: [(usize, usize); 8] = [
+    (1, 8),
+    (512, 8),
+    (513, 10),
+    (16_384, 70),
+    (65_536, 262),
+    (65_537, 270),
+    (66_049, 272),
+    (200_000, 806),
+];
+
+#[test]
+fn counts_are_asked_for_once(rt: HostRuntime) {
+    let bits = Refusing::new(rt.alloc(), 0);
+    let counts = Refusing::new(rt.alloc(), 0);
+    make(&rt, (&bits, &counts), 0);
+    equal(&rt, (counts.asked(), counts.asked_bytes()), (0, 0));
+    for (len, bytes) in TAKEN {
+        counts.refuse(0);
+        make(&rt, (&bits, &counts), len);
+        equal(&rt, (counts.asked(), counts.asked_bytes()), (1, bytes));
+    }
+}
+
+/// A directory of one bit, of a set that has room for more, which are added.
+fn fill<A: Allocator + Clone>(rt: &impl Abort, (bits, counts): (A, A), room: usize) {
+    let mut set = BitBufferMut::with_capacity(bits, room).expect(rt, "room");
+    set.append(true).expect(rt, "room");
+    let mut ranked = Ranked::new(counts, set).expect(rt, "counts");
+    for _ in 1..room {
+        ranked.append(true).expect(rt, "room");
+    }
+    equal(rt, ranked.len(), room);
+    drop(ranked);
+}
+
+/// The counts of all bits that there is room for are asked for at once.
+#[test]
+fn room_is_asked_for_once(rt: HostRuntime) {
+    let bits = Refusing::new(rt.alloc(), 0);
+    let counts = Refusing::new(rt.alloc(), 0);
+    fill(&rt, (&bits, &counts), 200_000);
+    equal(&rt, (bits.asked(), bits.asked_bytes()), (1, 25_000));
+    equal(&rt, (counts.asked(), counts.asked_bytes()), (1, 806));
+}
+
+/// Adds bits to none.
+fn append<A: Allocator + Clone>(rt: &impl Abort, (bits, counts): (A, A), count: usize) {
+    let mut ranked = Ranked::new(counts, BitBufferMut::empty(bits)).expect(rt, "no counts");
+    for _ in 0..count {
+        ranked.append(true).expect(rt, "room");
+    }
+    drop(ranked);
+}
+
+/// Adds bits to a set alone.
+fn append_alone<A: Allocator + Clone>(rt: &impl Abort, bits: A, count: usize) {
+    let mut set = BitBufferMut::empty(bits);
+    for _ in 0..count {
+        set.append(true).expect(rt, "room");
+    }
+    drop(set);
+}
+
+/// How many bits are added, how often counts are asked for, and for how many bytes in all.
+const ADDED: [(usize, u64, usize); 5] = [
+    (1, 1, 24),
+    (4_096, 1, 24),
+    (4_097, 2, 72),
+    (65_537, 6, 1_512),
+    (200_000, 7, 3_048),
+];
+
+/// Bits that are added ask as seldom as those of a set alone, and their counts seldom too.
+#[test]
+fn added_bits_ask_seldom(rt: HostRuntime) {
+    let bits = Refusing::new(rt.alloc(), 0);
+    let counts = Refusing::new(rt.alloc(), 0);
+    let alone = Refusing::new(rt.alloc(), 0);
+    for (count, requests, bytes) in ADDED {
+        bits.refuse(0);
+        counts.refuse(0);
+        alone.refuse(0);
+        append(&rt, (&bits, &counts), count);
+        append_alone(&rt, &alone, count);
+        equal(&rt, bits.asked(), alone.asked());
+        equal(&rt, bits.asked_bytes(), alone.asked_bytes());
+        equal(&rt, (counts.asked(), counts.asked_bytes()), (requests, bytes));
     }
 }

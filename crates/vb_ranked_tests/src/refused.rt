@@ -45,11 +45,19 @@ fn a_refused_request_refuses_the_directory(rt: HostRuntime) {
 }
 
 /// Places to ask about, of the first three blocks.
-const PLACES: [usize; 5] = [0, 511, 512, 1023, 1024];
+const IN_BLOCKS: [usize; 5] = [0, 511, 512, 1023, 1024];
+
+/// Places of four groups.
+const IN_GROUPS: [usize; 5] = [65_535, 65_536, 131_071, 131_072, 196_608];
 
 /// Adds true bits to none. A refused append leaves the directory as it was, and the next one adds
 /// the bit.
-fn append<A: Allocator + Clone + Copy>(rt: &impl Abort, alloc: A, count: usize) -> Result<()> {
+fn append<A: Allocator + Clone + Copy>(
+    rt: &impl Abort,
+    alloc: A,
+    count: usize,
+    places: &[usize],
+) -> Result<()> {
     let mut ranked = Ranked::new(alloc, BitBufferMut::empty(alloc))?;
     let mut answer = Ok(());
     for len in 0..count {
@@ -61,8 +69,8 @@ fn append<A: Allocator + Clone + Copy>(rt: &impl Abort, alloc: A, count: usize) 
         }
     }
     equal(rt, ranked.len(), count);
-    for i in PLACES {
-        equal(rt, answers_at(rt, &ranked, i), (i, Some(i), None));
+    for i in places {
+        equal(rt, answers_at(rt, &ranked, *i), (*i, Some(*i), None));
     }
     drop(ranked);
     answer
@@ -73,12 +81,51 @@ fn append<A: Allocator + Clone + Copy>(rt: &impl Abort, alloc: A, count: usize) 
 fn a_refused_append_leaves_the_directory(rt: HostRuntime) {
     let heap = Refusing::new(rt.alloc(), 0);
     for _ in heap.in_turn() {
-        let answer = append(&rt, &heap, 1025);
+        let answer = append(&rt, &heap, 1025, &IN_BLOCKS);
         let wanted = heap.wanted(Ok(()), Err(BufferError::OutOfMemory));
         equal(&rt, answer, wanted);
     }
-    // Six for the bytes, whose room doubles, and one for the table.
+    // Six for the bytes, whose room doubles, and one for the counts.
     equal(&rt, (heap.asked(), heap.has_refused()), (7, false));
+}
+
+/// The same over several groups.
+#[test]
+fn a_refused_append_leaves_the_groups(rt: HostRuntime) {
+    let heap = Refusing::new(rt.alloc(), 0);
+    for _ in heap.in_turn() {
+        let answer = append(&rt, &heap, 196_609, &IN_GROUPS);
+        let wanted = heap.wanted(Ok(()), Err(BufferError::OutOfMemory));
+        equal(&rt, answer, wanted);
+    }
+    // Thirteen for the bytes, and seven for the counts.
+    equal(&rt, (heap.asked(), heap.has_refused()), (20, false));
+}
+
+/// Adds a true bit to none, in a set that has room for it.
+fn append_first<A: Allocator + Clone + Copy>(rt: &impl Abort, alloc: A) -> Result<()> {
+    let set = BitBufferMut::with_capacity(alloc, 1000)?;
+    let mut ranked = Ranked::new(alloc, set)?;
+    let answer = ranked.append(true);
+    if answer.is_err() {
+        equal(rt, answers_at(rt, &ranked, 0), (0, None, None));
+        ranked.append(true).expect(rt, "room");
+    }
+    equal(rt, answers_at(rt, &ranked, 0), (0, Some(0), None));
+    drop(ranked);
+    answer
+}
+
+#[test]
+fn a_refused_first_append_leaves_the_directory(rt: HostRuntime) {
+    let heap = Refusing::new(rt.alloc(), 0);
+    for _ in heap.in_turn() {
+        let answer = append_first(&rt, &heap);
+        let wanted = heap.wanted(Ok(()), Err(BufferError::OutOfMemory));
+        equal(&rt, answer, wanted);
+    }
+    // The room of the set, and the counts of as many bits.
+    equal(&rt, (heap.asked(), heap.has_refused()), (2, false));
 }
 
 /// Adds a true bit behind a whole group of blocks. A refused append leaves the directory as it was,
@@ -110,6 +157,6 @@ fn a_refused_group_leaves_the_directory(rt: HostRuntime) {
         let wanted = heap.wanted(Ok(()), Err(BufferError::OutOfMemory));
         equal(&rt, answer, wanted);
     }
-    // The set and the group before it, and then more of both.
+    // The set and its counts, and then more of both.
     equal(&rt, (heap.asked(), heap.has_refused()), (4, false));
 }

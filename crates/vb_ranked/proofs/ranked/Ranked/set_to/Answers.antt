@@ -1,13 +1,12 @@
-use Rattle.std.proofs.Common.{◌≡◌, ℕ, Bool, true, false, not, List, Some, ◌++◌, length}
-use Rattle.std.proofs.Common.{take, drop, get_or, slice_get, set, refl, sym, ap, ◌∙◌, arith, subst}
-use Rattle.std.proofs.lemmas.List.{set-get_or, length-set}
+use Rattle.std.proofs.Common.{◌≡◌, ℕ, Bool, true, false, not, List, Some, ◌<◌, ◌^◌, length}
+use Rattle.std.proofs.Common.{get_or, slice_get, set, refl, sym, ap, ◌∙◌, arith, subst}
+use Rattle.std.proofs.lemmas.List.{set-get_or}
 use Rattle.std.proofs.lemmas.Option.{get_or_from_slice_get}
 use Rattle.std.proofs.Math.Bool.{beq}
-use Rattle.std.proofs.Math.Seq.{take-append_seam}
 use Rattle.vb_bits.specs.Bits.{at}
+use Rattle.vb_kernel.proofs.BitsLemmas.{length-bits}
 use Rattle.vb_set.specs.View.{bits_of}
-use Rattle.vb_ranked.specs.declared.group.Group.{Group}
-use Rattle.vb_ranked.specs.Groups.{AreGroups}
+use Rattle.vb_ranked.specs.Counts.{AreCounts}
 use Rattle.vb_ranked.proofs.ranked.Ranked.set_to.Goals as goal
 
 -- a test for another value, passed and failed
@@ -27,31 +26,40 @@ same_value false false e = refl
 bit_read : (k l : List Bool) (i : ℕ) (v : Bool) → k ≡ l → slice_get k i ≡ Some v → at l i ≡ v
 bit_read k l i v same read = get_or_from_slice_get l i v false (rw same at read)
 
+pub move_behind-requires : goal.move_behind-requires
+move_behind-requires g c = omega (
+  arith,
+  c.self.invariant.counts.long,
+  c.requires,
+  ap (λ s. length s.bits) c.self.view_is,
+)
+
 pub invariant_of-self : goal.invariant_of-self
 invariant_of-self g c =
     let l : List Bool = c.self.inside.set.bits in
-    let p : AreGroups l c.as_mut_slice.result.now =
-    subst (AreGroups l) (sym c.as_mut_slice.ensures.value) c.self.invariant in
+    let shown : bits_of c.as_view.result ≡ l =
+    c.as_view.ensures.bits ∙ sym (ap (λ s. s.bits) c.self.view_is) in
     let bit : at l c.args.i ≡ not c.args.v =
-    bit_read (bits_of c.as_view.result) l c.args.i c.value-was.result
-    (c.as_view.ensures.bits ∙ sym (ap (λ s. s.bits) c.self.view_is)) c.value-was.ensures
+    bit_read (bits_of c.as_view.result) l c.args.i c.value-was.result shown c.value-was.ensures
     ∙ other_value c.value-was.result c.args.v c.if-was-v.true in
-    let long : c.len.result ≡ length l =
-    c.len.ensures ∙ ap length c.set_to.ensures.bits ∙ length-set l c.args.i c.args.v in
-    let new : List Group = c.move_counts.new.groups in
-    let moved : AreGroups (set l c.args.i c.args.v) new =
-    c.move_counts.ensures l p (sym long) bit in
-    let whole : c.self.inside.groups.len ≡ length new = omega (
+    let fits : length l < 2 ^ 64 = omega (
       arith,
-      c.as_mut_slice.ensures.len,
-      p.long,
-      moved.long,
-      length-set l c.args.i c.args.v,
+      ap length shown,
+      length-bits c.as_view.result.bytes.now c.as_view.result.offset c.as_view.result.len,
+      c.as_view.result.fits,
     ) in
-    subst (AreGroups c.set_to.new.self.bits)
-    (sym (ap (λ n. take n (new ++ drop (length new) c.self.inside.groups.items)) whole
-    ∙ take-append_seam new _))
-    (subst (λ x. AreGroups x new) (sym c.set_to.ensures.bits) moved)
+    record {
+      counts = subst (λ x. AreCounts x c.move_behind.new.self.numbers)
+          (sym c.set_to.ensures.bits)
+          (c.move_behind.ensures.moved l c.self.invariant.counts fits
+          (omega (arith, c.requires, ap (λ s. length s.bits) c.self.view_is)) bit);
+      room = λ some. omega (
+        arith,
+        c.self.invariant.room (omega (arith, some, c.set_to.ensures.keeps.len)),
+        c.set_to.ensures.keeps.room,
+        c.move_behind.ensures.room,
+      );
+    }
 
 pub invariant_of-self-else-was-v : goal.invariant_of-self-else-was-v
 invariant_of-self-else-was-v g c =
@@ -62,5 +70,12 @@ invariant_of-self-else-was-v g c =
     ∙ same_value c.value-was.result c.args.v c.if-was-v.false in
     let stays : set l c.args.i c.args.v ≡ l =
     ap (set l c.args.i) (sym bit) ∙ set-get_or l c.args.i false in
-    subst (λ x. AreGroups x c.self.inside.groups.items)
-    (sym (c.set_to.ensures.bits ∙ stays)) c.self.invariant
+    record {
+      counts = subst (λ x. AreCounts x c.self.inside.counts.numbers)
+          (sym (c.set_to.ensures.bits ∙ stays)) c.self.invariant.counts;
+      room = λ some. omega (
+        arith,
+        c.self.invariant.room (omega (arith, some, c.set_to.ensures.keeps.len)),
+        c.set_to.ensures.keeps.room,
+      );
+    }
