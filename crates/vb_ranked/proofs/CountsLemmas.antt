@@ -128,6 +128,25 @@ before-of_group l c k p h =
       ap (λ x. count (take x l)) place,
     )
 
+-- before the first group there are none
+none-before : (l : List Bool) (c : List ℕ)
+    → AreCounts l c → 0 < length l → count_before_group c 0 ≡ 0
+none-before l c p h =
+    let none : count (take (65536 * 0) l) ≡ 0 = refl in
+    before-of_group l c 0 p (omega (arith, h)) ∙ none
+
+-- the count before a block of the first group
+pub ones-of_first : (l : List Bool) (c : List ℕ) (j : ℕ) → AreCounts l c → 512 * j < length l
+    → j < 128 → count_in_group c 0 j ≡ count (take (512 * j) l)
+ones-of_first l c j p h small =
+    let place : 65536 * 0 + 512 * j ≡ 512 * j = omega arith in
+    omega (
+      arith,
+      p.each 0 j small (omega (arith, h)),
+      none-before l c p (omega (arith, h)),
+      ap (λ x. count (take x l)) place,
+    )
+
 -- it is that before its first block
 before-of_table : (l : List Bool) (c : List ℕ) (k : ℕ) → AreCounts l c → 65536 * k < length l
     → count_before_group c k ≡ get_or (block_counts l) (128 * k) 0

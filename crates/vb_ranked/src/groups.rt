@@ -39,8 +39,9 @@ pub(crate) fn rank_in_groups<G: Glance, S: ProbeGroups>(
     rank_from(src, offset, block, before, i)
 }
 
-/// How many of the `len` bits are true before a block, by at most two probes: the first block of a
-/// group has no count of its own.
+/// How many of the `len` bits are true before a block: by no probe for the first one, by one in the
+/// first group, before which there are none, and else by at most two. The first block of a group
+/// has no count of its own.
 fn ones_before<S: ProbeGroups>(groups: &mut S, len: usize, block: usize) -> usize
     requires block { BLOCK_BITS * block < len }
     requires size { length (S.seen groups.old).entries ≡ numbers_for len }
@@ -48,6 +49,12 @@ fn ones_before<S: ProbeGroups>(groups: &mut S, len: usize, block: usize) -> usiz
         → result ≡ count (take (BLOCK_BITS * block) l) }
     ensures probes { ProbesAtMost 2 (S.seen groups.old) (S.seen groups.new) }
 {
+    if block == 0 {
+        return 0;
+    }
+    if block < GROUP_BLOCKS {
+        return groups.within(0, block);
+    }
     let (group, place) = (block / GROUP_BLOCKS, block % GROUP_BLOCKS);
     let before = groups.before(group);
     if place == 0 {

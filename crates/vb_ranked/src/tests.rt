@@ -30,7 +30,19 @@ fn by_fives(rt: &impl Abort, alloc: Global, len: usize) -> BitBufferMut<Global> 
     set
 }
 
-/// A rank of any bits takes two probes, and one in the first block of a group.
+/// How many probes a rank takes in a block: none in the first one, one in the first group and in
+/// the first block of another one, and else two.
+fn probes_in(block: usize) -> u64 {
+    if block == 0 {
+        0
+    } else if block < 128 || block % 128 == 0 {
+        1
+    } else {
+        2
+    }
+}
+
+/// A rank of any bits takes so many probes.
 fn ranks(rt: &impl Abort, alloc: Global, bits: BitBufferView<'_>, i: usize) {
     holds(rt, 0 < i);
     holds(rt, i <= bits.len());
@@ -39,8 +51,7 @@ fn ranks(rt: &impl Abort, alloc: Global, bits: BitBufferView<'_>, i: usize) {
     let mut src = Plain::new(bits.inner());
     let ones = rank_in_groups(&mut src, bits.offset(), bits.len(), &mut tally, i);
     equal(rt, ones, bits.slice(0..i).true_count());
-    let wanted = if (i - 1) / 512 % 128 == 0 { 1 } else { 2 };
-    equal(rt, tally.probes(), wanted);
+    equal(rt, tally.probes(), probes_in((i - 1) / 512));
     drop(counts);
 }
 

@@ -1,7 +1,13 @@
-use Rattle.std.proofs.Common.{◌≡◌, ℕ, List, ◌*◌, ◌/◌, ◌%◌, arith, ap}
+use Rattle.std.proofs.Common.{◌≡◌, ℕ, List, ◌*◌, ◌/◌, ◌%◌, take, refl, sym, ap, ◌∙◌, arith}
+use Rattle.vb_bits.specs.Bits.{count}
 use Rattle.vb_ranked.specs.Counts.{count_in_group}
-use Rattle.vb_ranked.proofs.CountsLemmas.{ones-of_group}
+use Rattle.vb_ranked.proofs.CountsLemmas.{ones-of_first, ones-of_group}
 use Rattle.vb_ranked.proofs.groups.ones_before.Goals as goal
+
+pub returns-then-block-eq0-clause-value : goal.returns-then-block-eq0-clause-value
+returns-then-block-eq0-clause-value g c = λ l p size.
+    let first : c.args.block ≡ 0 = omega (arith, c.if-block-eq0.true) in
+    sym (ap (λ x. count (take (512 * x) l)) first)
 
 pub returns-then-place-eq0-clause-value : goal.returns-then-place-eq0-clause-value
 returns-then-place-eq0-clause-value g c = λ l p size.
