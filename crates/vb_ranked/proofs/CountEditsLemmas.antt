@@ -76,16 +76,21 @@ before-set_behind l c k i w v p bit was fits h some step =
       arith,
       true-between l i 0 (65536 * k) v bit was (omega arith) after e,
       before,
-    ) in
-    (pos, (wide-step v w (count_before_group c k) _ step
-    (omega (arith, before, count-take-le (65536 * k) l, count-le l, fits))
-    (omega (
-      arith,
-      count-take-le (65536 * k) (set l i v),
-      count-le (set l i v),
-      length-set l i v,
-      fits,
-    )) pos moved, moved))
+    ) in (
+      pos,
+      (
+        wide-step v w (count_before_group c k) _ step
+            (omega (arith, before, count-take-le (65536 * k) l, count-le l, fits))
+            (omega (
+              arith,
+              count-take-le (65536 * k) (set l i v),
+              count-le (set l i v),
+              length-set l i v,
+              fits,
+            )) pos moved,
+        moved,
+      ),
+    )
 
 -- a count in the group of the bit, behind its block
 within-set_own : (l : List Bool) (c : List ℕ) (k j i s : ℕ) (v : Bool) → AreCounts l c

@@ -92,7 +92,8 @@ impl<A: Allocator> Counts<A> {
         let size = size_for(bits);
         if self.numbers.capacity() < size {
             let wanted = size.max(FIRST_NUMBERS);
-            self.numbers.reserve(wanted.saturating_sub(self.numbers.len()))?;
+            self.numbers
+                .reserve(wanted.saturating_sub(self.numbers.len()))?;
         }
         Ok(())
     }

@@ -9,7 +9,7 @@ ghost use Rattle.vb_set.specs.View.{bits_of, offset_of, bytes_of};
 
 use crate::counts::Counts;
 use crate::groups::{rank_in_groups, select_in_groups};
-use crate::room::make_room;
+use crate::room::{make_room, make_room_within};
 use std::alloc::{Allocator, Global};
 use std::marker::Model;
 use vb_kernel::Plain;
@@ -31,19 +31,14 @@ pub struct Ranked<A: Allocator + Clone = Global> {
 }
 
 impl<A: Allocator + Clone> Model for Ranked<A> {
-    ghost use Rattle.std.specs.Prelude.{◌<◌, ◌≤◌, length};
-    ghost use Rattle.vb_ranked.specs.Counts.{AreCounts, numbers_for};
+    ghost use Rattle.vb_ranked.specs.Counts.{AreCounts};
     ghost use Rattle.vb_set.specs.OpenSet.{OpenSet};
 
     ghost Value = { OpenSet };
 
     ghost view = { λ s. s.set };
 
-    // There is room for the counts of as many bits as the set has room for, unless it has none.
-    ghost invariant = { λ s. record {
-      counts : AreCounts s.set.bits s.counts.numbers;
-      room : 0 < length s.set.bits → numbers_for s.set.room ≤ s.counts.room;
-    } };
+    ghost invariant = { λ s. AreCounts s.set.bits s.counts.numbers };
 }
 
 impl<A: Allocator + Clone> Ranked<A> {
@@ -145,7 +140,7 @@ impl<A: Allocator + Clone> Ranked<A> {
     pub fn append(&mut self, v: bool) -> Result<()>
         ensures ok { OnOk result (AddsBits (v ∷ []) self.old self.new) }
         ensures grows { KeepsStart self.old self.new }
-        ensures in_room { 0 < length self.old.bits
+        ensures in_room { 0 < length self.old.bits % 512
             → length self.old.bits + 1 ≤ self.old.room → IsOk result }
         ensures fits { self.old.offset + length self.old.bits + 1 < 2 ^ 64
             → IsOkUnless result BufferError.OutOfMemory }
@@ -153,13 +148,14 @@ impl<A: Allocator + Clone> Ranked<A> {
             → IsErrOf result BufferError.TooManyBits }
         ensures err { OnErr result (self.new ≡ self.old) }
     {
-        make_room(&mut self.set, &mut self.counts)?;
         let len = self.set.len();
         if len % BLOCK_BITS != 0 {
+            make_room_within(&mut self.set, &mut self.counts)?;
             self.set.append(v)?;
             return Ok(());
         }
         let ones = self.rank(len);
+        make_room(&mut self.set, &mut self.counts)?;
         self.set.append(v)?;
         self.counts.push(len / BLOCK_BITS, ones);
         Ok(())

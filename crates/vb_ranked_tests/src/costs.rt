@@ -159,6 +159,10 @@ fn added_bits_ask_seldom(rt: HostRuntime) {
         append_alone(&rt, &alone, count);
         equal(&rt, bits.asked(), alone.asked());
         equal(&rt, bits.asked_bytes(), alone.asked_bytes());
-        equal(&rt, (counts.asked(), counts.asked_bytes()), (requests, bytes));
+        equal(
+            &rt,
+            (counts.asked(), counts.asked_bytes()),
+            (requests, bytes),
+        );
     }
 }

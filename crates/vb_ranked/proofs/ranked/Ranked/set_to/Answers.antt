@@ -29,7 +29,7 @@ bit_read k l i v same read = get_or_from_slice_get l i v false (rw same at read)
 pub move_behind-requires : goal.move_behind-requires
 move_behind-requires g c = omega (
   arith,
-  c.self.invariant.counts.long,
+  c.self.invariant.long,
   c.requires,
   ap (λ s. length s.bits) c.self.view_is,
 )
@@ -48,18 +48,9 @@ invariant_of-self g c =
       length-bits c.as_view.result.bytes.now c.as_view.result.offset c.as_view.result.len,
       c.as_view.result.fits,
     ) in
-    record {
-      counts = subst (λ x. AreCounts x c.move_behind.new.self.numbers)
-          (sym c.set_to.ensures.bits)
-          (c.move_behind.ensures.moved l c.self.invariant.counts fits
-          (omega (arith, c.requires, ap (λ s. length s.bits) c.self.view_is)) bit);
-      room = λ some. omega (
-        arith,
-        c.self.invariant.room (omega (arith, some, c.set_to.ensures.keeps.len)),
-        c.set_to.ensures.keeps.room,
-        c.move_behind.ensures.room,
-      );
-    }
+    subst (λ x. AreCounts x c.move_behind.new.self.numbers) (sym c.set_to.ensures.bits)
+    (c.move_behind.ensures.moved l c.self.invariant fits
+    (omega (arith, c.requires, ap (λ s. length s.bits) c.self.view_is)) bit)
 
 pub invariant_of-self-else-was-v : goal.invariant_of-self-else-was-v
 invariant_of-self-else-was-v g c =
@@ -70,12 +61,5 @@ invariant_of-self-else-was-v g c =
     ∙ same_value c.value-was.result c.args.v c.if-was-v.false in
     let stays : set l c.args.i c.args.v ≡ l =
     ap (set l c.args.i) (sym bit) ∙ set-get_or l c.args.i false in
-    record {
-      counts = subst (λ x. AreCounts x c.self.inside.counts.numbers)
-          (sym (c.set_to.ensures.bits ∙ stays)) c.self.invariant.counts;
-      room = λ some. omega (
-        arith,
-        c.self.invariant.room (omega (arith, some, c.set_to.ensures.keeps.len)),
-        c.set_to.ensures.keeps.room,
-      );
-    }
+    subst (λ x. AreCounts x c.self.inside.counts.numbers)
+    (sym (c.set_to.ensures.bits ∙ stays)) c.self.invariant
