@@ -42,9 +42,10 @@ impl<A: Allocator + Clone> Model for Ranked<A> {
 }
 
 impl<A: Allocator + Clone> Ranked<A> {
-    /// The set with its counts, for which it takes memory by one request, and none for no bits: for
-    /// the [`capacity`](BitBufferMut::capacity) of the set, 8 bytes for up to 512 bits, 2 bytes for
-    /// each 512 bits more, and 6 bytes more for each 65,536 bits that are full. Refused by
+    /// The set with its counts, for which it takes memory by one request, and none for no bits.
+    /// There is room for the counts of as many bits as the set's
+    /// [`capacity`](BitBufferMut::capacity): 8 bytes for up to 512 bits, 2 bytes for each 512 bits
+    /// more, and 6 bytes more wherever 65,536 bits are full and more follow. Refused by
     /// `OutOfMemory` alone; then the set is gone.
     pub fn new(alloc: A, set: BitBufferMut<A>) -> Result<Self>
         ensures set { IfOk result (λ r. r ≡ set) }
@@ -134,9 +135,9 @@ impl<A: Allocator + Clone> Ranked<A> {
     ///
     /// Refused by `TooManyBits` where offset and length together are `usize::MAX`, else by
     /// `OutOfMemory` alone. Then the set and its room are unchanged. Within the room of the set it
-    /// takes no memory and succeeds, unless there are no bits: then it asks for the counts of as
-    /// many bits as there is room for. Where the set is full, it asks for those that it will have
-    /// room for, unless they have room already, and for twice the bytes.
+    /// takes no memory and succeeds, unless the length is a multiple of 512: then it may ask for
+    /// the counts of as many bits as there is room for, as it does for the first bit. Where the set
+    /// is full, it asks for the counts of the room that it gets, and for twice the bytes.
     pub fn append(&mut self, v: bool) -> Result<()>
         ensures ok { OnOk result (AddsBits (v ∷ []) self.old self.new) }
         ensures grows { KeepsStart self.old self.new }
