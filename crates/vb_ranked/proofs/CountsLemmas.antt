@@ -323,3 +323,21 @@ BeginsBefore-group v l c w n k m b j r p up down seek cut end find =
           ))
           (cases_lt (j + 1) (length w));
     }
+
+-- a single block has it all
+pub BeginsBefore-single : (v : Bool) (l : List Bool) (n : ℕ)
+    → 0 < length l → length l ≤ 512 → BeginsBefore 512 v (block_counts l) n 0 0
+BeginsBefore-single v l n some small =
+    let long = length-block_counts l in
+    let first : get_or (block_counts l) 0 0 ≡ 0 = at-block_counts l 0 (omega (arith, some)) in
+    record {
+      within = omega (arith, some, long);
+      before = single v first;
+      low = omega arith;
+      high = λ more. absurd (omega (arith, more, small, long));
+    }
+  where
+    single : (v : Bool) → get_or (block_counts l) 0 0 ≡ 0
+        → 0 ≡ count_before 512 v (block_counts l) 0
+    single true e = sym e
+    single false e = omega (arith, e)

@@ -88,7 +88,8 @@ pub(crate) fn select_in_groups<G: Glance, S: ProbeGroups>(
 }
 
 /// What [`find_block`] answers of the table of `len` bits, from their counts by groups: the group
-/// of the bit is sought first, and then its block among those of the group.
+/// of the bit is sought first, and then its block among those of the group. A single block is not
+/// sought.
 fn find_in_groups<S: ProbeGroups>(
     groups: &mut S,
     len: usize,
@@ -109,6 +110,9 @@ fn find_in_groups<S: ProbeGroups>(
     ensures most { ProbesAtMost (binary_digits (blocks len + 1))
         (S.seen groups.old) (S.seen groups.new) }
 {
+    if len <= BLOCK_BITS {
+        return (0, 0);
+    }
     let size = len.div_ceil(GROUP_BITS);
     let (group, before) = find_block(groups, &Befores, size, GROUP_BITS, n, value);
     let blocks = (len - GROUP_BITS * group)

@@ -1,12 +1,17 @@
 use Rattle.std.proofs.Common.{◌≡◌, ℕ, List, ◌+◌, ◌-◌, ◌*◌, ◌/◌, ◌<◌, min, length, refl, sym, ap}
 use Rattle.std.proofs.Common.{◌∙◌, arith}
 use Rattle.std.specs.Int.{div_ceil}
-use Rattle.vb_ranked.proofs.CountsLemmas.{BeginsBefore-group, length_counts_before}
+use Rattle.vb_ranked.proofs.CountsLemmas.{BeginsBefore-group, BeginsBefore-single, length_counts_before}
 use Rattle.vb_ranked.proofs.CountsLemmas.{length_counts_within}
 use Rattle.vb_rank.proofs.TablesLemmas.{digits-of_group-le}
 use Rattle.vb_ranked.specs.Counts.{counts_within}
 use Rattle.vb_rank.specs.Tables.{blocks, binary_digits}
 use Rattle.vb_ranked.proofs.groups.find_in_groups.Goals as goal
+
+pub returns-then-len-le-BLOCK_BITS-clause-block : goal.returns-then-len-le-BLOCK_BITS-clause-block
+returns-then-len-le-BLOCK_BITS-clause-block g c = λ l size p up down.
+    BeginsBefore-single c.args.value l c.args.n (omega (arith, size, c.requires.some))
+    (omega (arith, size, c.if-len-le-BLOCK_BITS.true))
 
 pub find_block-group-requires-clause-size : goal.find_block-group-requires-clause-size
 find_block-group-requires-clause-size g c = c.div_ceil-size.ensures ∙ sym (length_counts_before
