@@ -44,7 +44,7 @@ size_t vb_set_indices(const uint8_t *bytes, size_t size, size_t offset, size_t l
         n = in_page(bytes, start, len - at);
         const size_t found = CALL(set_indices)(bytes, bytes_of(start + n), start, n, out + written,
             room - written);
-        for (size_t k = 0; k < found; k++) {
+        for (size_t k = 0; at != 0 && k < found; k++) {
             out[written + k] += at;
         }
         written += found;
@@ -88,7 +88,7 @@ size_t vb_set_slices(const uint8_t *bytes, size_t size, size_t offset, size_t le
         const size_t start = offset + at, n = in_page(bytes, start, len - at);
         const size_t found = CALL(set_slices)(bytes, bytes_of(start + n), start, n, out + written,
             room - written);
-        for (size_t k = 0; k < found; k++) {
+        for (size_t k = 0; at != 0 && k < found; k++) {
             out[written + k].start += at;
             out[written + k].end += at;
         }

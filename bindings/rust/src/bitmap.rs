@@ -139,10 +139,25 @@ impl<B: AsRef<[u8]>> Bitmap<B> {
         Ranked::new(self)
     }
 
-    /// What has the bytes, among which the bits begin at [`Bits::offset`].
+    /// What has the bytes: [`into_parts`](Bitmap::into_parts) says too where the bits lie in them.
     #[inline]
     pub fn into_inner(self) -> B {
         self.bytes
+    }
+
+    /// What has the bytes, the bit of them that is the first one, and the length, as
+    /// [`new`](Bitmap::new) takes them.
+    ///
+    /// ```
+    /// use vortex_bits::Bitmap;
+    ///
+    /// let (bytes, offset, len) = Bitmap::new_set(13).slice(2..).into_parts();
+    /// assert_eq!((offset, len), (2, 11));
+    /// assert!(Bitmap::new(bytes, offset, len).all());
+    /// ```
+    #[inline]
+    pub fn into_parts(self) -> (B, usize, usize) {
+        (self.bytes, self.offset, self.len)
     }
 }
 

@@ -91,7 +91,8 @@ fn run_end(bits: Bits<'_>, start: usize) -> usize {
 #[cfg(vortex_bits_native)]
 fn indices(kernels: &Kernels, page: Bits<'_>, base: usize, out: &mut [usize]) -> usize {
     let found = native!(@call kernels.set_indices, [] window page, slice_mut out);
-    for place in &mut out[..found] {
+    let moved = if base > 0 { found } else { 0 };
+    for place in &mut out[..moved] {
         *place += base;
     }
     found
@@ -101,7 +102,8 @@ fn indices(kernels: &Kernels, page: Bits<'_>, base: usize, out: &mut [usize]) ->
 #[cfg(vortex_bits_native)]
 fn slices(kernels: &Kernels, page: Bits<'_>, base: usize, out: &mut [Run]) -> usize {
     let found = native!(@call kernels.set_slices, [] window page, slice_mut out);
-    for run in &mut out[..found] {
+    let moved = if base > 0 { found } else { 0 };
+    for run in &mut out[..moved] {
         run.start += base;
         run.end += base;
     }
