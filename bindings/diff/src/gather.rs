@@ -10,7 +10,7 @@ use crate::random::Random;
 
 /// Bytes for `len` bits from bit `r` on and some more, which hold anything.
 fn room(case: &Case, len: usize) -> Vec<u8> {
-    let size = (case.r + len).div_ceil(8) + 2;
+    let size = (case.l.max(case.r) + len).div_ceil(8) + 2;
     case.right.iter().copied().cycle().take(size).collect()
 }
 
@@ -79,7 +79,19 @@ fn filters(case: &Case) -> Result<u64, String> {
     let mut bytes = room(case, kept.len());
     let out = BitsMut::new(&mut bytes, case.r, kept.len());
     case.left().filter_into(mask, out);
-    same("filter_into", Ok(bytes), taken(case, &kept, |_| true))
+    let some = Bits::new(&bytes, case.r, kept.len());
+    let mut back = room(case, case.len);
+    some.deposit_into(mask, BitsMut::new(&mut back, case.l, case.len));
+    let mut wanted = room(case, case.len);
+    for i in 0..case.len {
+        let both = bit(&case.left, case.l + i) && bit(&case.right, case.r + i);
+        put(&mut wanted, case.l + i, both);
+    }
+    Ok(same(
+        "filter_into",
+        Ok(&bytes),
+        taken(case, &kept, |_| true).as_ref(),
+    )? + same("deposit_into", &back, &wanted)?)
 }
 
 /// Values of one width, of which the mask keeps some.

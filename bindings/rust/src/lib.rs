@@ -22,7 +22,8 @@
 //! - single bits, and windows of at most 64;
 //! - what puts calls together: writes of filters, takes and packs to windows that don't begin with
 //!   a byte, `fill_with`, counts of two windows, and the blocks in which iterators are filled;
-//! - walks over false bits, `last_unset`, how bitmaps are made and grow, and [`Validity`];
+//! - walks over false bits, `last_unset`, `deposit`, how bitmaps are made and grow, and
+//!   [`Validity`];
 //! - everything on other machines, under Miri, and where the archives of those functions aren't
 //!   there when the crate is built.
 //!
@@ -54,6 +55,7 @@ mod bits_mut;
 #[cfg(feature = "alloc")]
 mod bytes;
 mod counts;
+mod deposit;
 mod error;
 mod filter;
 pub mod iter;

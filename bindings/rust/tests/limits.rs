@@ -132,6 +132,11 @@ fn windows_of_two_lengths_are_told_apart_and_not_combined() {
     let room = panics(|| eight.filter_into(eight, BitsMut::new(&mut bytes, 0, 7)));
     assert_eq!(room.as_deref(), Some("7 bits to write and 8 to read"));
     assert_eq!(bytes, [0x5A; 2]);
+    let mask = panics(|| eight.deposit_into(seven, BitsMut::new(&mut bytes, 0, 7)));
+    assert_eq!(mask.as_deref(), Some("7 bits to write and 8 to read"));
+    let room = panics(|| seven.deposit_into(seven, BitsMut::new(&mut bytes, 0, 6)));
+    assert_eq!(room.as_deref(), Some("6 bits to write and 7 to read"));
+    assert_eq!(bytes, [0x5A; 2]);
     let mut out = [9u16; 7];
     let mask = panics(|| _ = eight.keep_into(&[1; 7], &mut out));
     assert_eq!(mask.as_deref(), Some("a mask of 8 bits for 7"));

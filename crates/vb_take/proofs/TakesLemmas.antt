@@ -64,7 +64,8 @@ TakenTo-bit k l xs v out new b before here w = λ i h. elim (cases_lt i k) [
 
 -- a position that takes nothing is the first, where those before it have what they take
 pub IsFirstPast-here : (k : ℕ) (l : List Bool) (xs : List ℤ) (v : Option (List Bool)) (out : List ℕ)
-    → TakenTo k (taken_at l xs v) (bit_of out) → k < length xs → taken_at l xs v k ≡ None → IsFirstPast l xs v k
+    → TakenTo k (taken_at l xs v) (bit_of out) → k < length xs → taken_at l xs v k ≡ None
+    → IsFirstPast l xs v k
 IsFirstPast-here k l xs v out before h none = record {
   within = h;
   past = none;

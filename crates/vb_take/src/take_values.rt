@@ -4,7 +4,8 @@ ghost use Rattle.std.specs.Prelude.{Some, IsSome, length, map, take, drop, slice
 ghost use Rattle.std.specs.Prelude.{IfOk, IfErr, IsTrue, if◌then◌else◌};
 ghost use Rattle.std.specs.Option.{ForSome, option_map};
 ghost use Rattle.vb_bits.specs.Digits.{has_bit};
-ghost use Rattle.vb_take.specs.ItemsTaken.{item_named, item_or, item_taken, AreTaken, IsFirstUntaken};
+ghost use Rattle.vb_take.specs.ItemsTaken.{item_named, item_or, item_taken};
+ghost use Rattle.vb_take.specs.ItemsTaken.{AreTaken, IsFirstUntaken};
 ghost use Rattle.vb_take.specs.Takes.{TakenTo};
 ghost use Rattle.vb_take.specs.ValueBlocks.{PutsOnes, StopsAt, PutsZeros};
 ghost use Rattle.vb_view.specs.View.{bits_of};

@@ -1,6 +1,6 @@
-//! The bits and values that a mask keeps.
+//! The bits and values that a mask keeps, and bits that go back to where it kept them.
 
-use super::word::words;
+use super::word::{only_word, words};
 use crate::{Bits, BitsMut};
 
 /// Writes the bits of `source` at the places that are true in `mask`, which is as long, to the
@@ -50,4 +50,27 @@ fn compress(word: u64, mask: u64) -> u64 {
         gaps &= !odd;
     }
     word
+}
+
+/// Writes the bits of `source`, one for each true bit of `mask`, to the places where these are, and
+/// false to the others. `out` is as long as `mask`.
+pub fn deposit(out: &mut BitsMut<'_>, source: Bits<'_>, mask: Bits<'_>) {
+    let mut at = 0;
+    for (i, mask) in words(mask).enumerate() {
+        let kept = mask.count_ones() as usize;
+        let word = expand(only_word(source.part(at, kept)), mask);
+        out.write(64 * i, (out.len() - 64 * i).min(64), word);
+        at += kept;
+    }
+}
+
+/// The lowest digits of `word`, one for each digit 1 of `mask`, at the places of these.
+fn expand(word: u64, mask: u64) -> u64 {
+    let (mut digits, mut left, mut placed) = (word, mask, 0);
+    while left != 0 {
+        placed |= left & left.wrapping_neg() & (digits & 1).wrapping_neg();
+        digits >>= 1;
+        left &= left - 1;
+    }
+    placed
 }

@@ -18,7 +18,8 @@ returns-in-None-clause-past g c =
       within = within;
       counts = full_digits (p - a) (omega arith);
       past = named_here g.I.BitIndex.number g.T.Element.zero c.args.values.now c.args.indices.now p
-          c.index-indices-position.result None (omega (arith, c.requires.inside)) c.index-indices-position.is
+          c.index-indices-position.result None (omega (arith, c.requires.inside))
+          c.index-indices-position.is
           (sym c.in-None.is ∙ c.value_named.ensures);
       put = record {
         put = λ k h on. inv.put (a + k) (omega arith) (omega arith);
