@@ -24,6 +24,7 @@ use vb_view::BitBufferView;
 /// unspecified then.
 ///
 /// Where there is a `validity`, whole blocks of 64 positions go by the ones of its words.
+#[inline]
 pub fn take_values_into<T: Element, I: BitIndex>(
     out: &mut [T],
     values: &[T],
