@@ -15,7 +15,8 @@ returns-clause-moved c = λ l p fits bit was.
     let s : ℕ = c.if-up.narrow in let w : ℕ = c.if-up-2.wide in
     let d : List ℕ = c.add_within.new.numbers in
     let from : ℕ = 131 * g + 4 + block in
-    let end : c.min-end.result ≡ min (131 * g + 131) (length e) = omega (arith, c.min-end.ensures) in
+    let end : c.min-end.result ≡ min (131 * g + 131) (length e) =
+    omega (arith, c.min-end.ensures) in
     let narrow : s ≡ cond v 1 65535 = elim c.if-up.branch [
       | then-up u ↦ u.narrow-is ∙ sym (ap (λ b. cond b 1 65535) u.if-up.true)
       | else-up u ↦ u.narrow-is ∙ sym (ap (λ b. cond b 1 65535) u.if-up.false)

@@ -1,8 +1,8 @@
 use Rattle.std.proofs.Common.{◌≡◌, ℕ, List, ◌+◌, ◌-◌, ◌*◌, ◌/◌, ◌<◌, min, length, refl, sym, ap}
 use Rattle.std.proofs.Common.{◌∙◌, arith}
 use Rattle.std.specs.Int.{div_ceil}
-use Rattle.vb_ranked.proofs.CountsLemmas.{BeginsBefore-group, BeginsBefore-single, length_counts_before}
-use Rattle.vb_ranked.proofs.CountsLemmas.{length_counts_within}
+use Rattle.vb_ranked.proofs.CountsLemmas.{BeginsBefore-group, BeginsBefore-single}
+use Rattle.vb_ranked.proofs.CountsLemmas.{length_counts_before, length_counts_within}
 use Rattle.vb_rank.proofs.TablesLemmas.{digits-of_group-le}
 use Rattle.vb_ranked.specs.Counts.{counts_within}
 use Rattle.vb_rank.specs.Tables.{blocks, binary_digits}

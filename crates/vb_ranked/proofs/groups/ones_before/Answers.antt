@@ -1,7 +1,7 @@
-use Rattle.std.proofs.Common.{◌≡◌, ℕ, List, ◌*◌, ◌/◌, ◌%◌, take, refl, sym, ap, ◌∙◌, arith}
+use Rattle.std.proofs.Common.{◌≡◌, ℕ, List, ◌*◌, ◌/◌, ◌%◌, take, sym, ap, arith}
 use Rattle.vb_bits.specs.Bits.{count}
 use Rattle.vb_ranked.specs.Counts.{count_in_group}
-use Rattle.vb_ranked.proofs.CountsLemmas.{ones-of_first, ones-of_group}
+use Rattle.vb_ranked.proofs.CountsLemmas.{ones-of_group}
 use Rattle.vb_ranked.proofs.groups.ones_before.Goals as goal
 
 pub returns-then-block-eq0-clause-value : goal.returns-then-block-eq0-clause-value

@@ -1,4 +1,4 @@
-use Rattle.std.proofs.Common.{ℕ, List, sym, ◌∙◌}
+use Rattle.std.proofs.Common.{sym, ◌∙◌}
 use Rattle.vb_ranked.proofs.CountsLemmas.{within-inside, at_counts_within}
 use Rattle.vb_ranked.proofs.probe_groups.WithinsLevel.entry.Goals as goal
 
