@@ -7,9 +7,6 @@ mod filter;
 mod gather;
 mod walk;
 
-#[cfg(vortex_bits_native)]
-use gather::BLOCK;
-
 pub use filter::{filter, keep};
 pub use gather::{pack_bools, pack_truthy, take};
 pub use walk::{set_indices, set_slices};
@@ -161,13 +158,18 @@ pub fn combine_into(out: &mut BitsMut<'_>, left: Bits<'_>, right: Bits<'_>, oper
     portable::combine_into(out, left, right, operator);
 }
 
+/// How many bits are combined before they are counted: few enough that the bytes of a block stay
+/// near the processor in between.
+#[cfg(vortex_bits_native)]
+const COUNTED: usize = 32_768;
+
 /// How many bits the operator makes true, of windows of one length. The C functions combine a block
-/// at a time, and count it.
+/// at a time, and count it; up to an eighth of a block they take longer than words.
 #[inline]
 pub fn combined_count(left: Bits<'_>, right: Bits<'_>, operator: Operator) -> usize {
     debug_assert_eq!(left.len(), right.len());
     #[cfg(vortex_bits_native)]
-    if left.len() > BLOCK && kernels().is_some() {
+    if left.len() > COUNTED / 8 && kernels().is_some() {
         return count_by_blocks(left, right, operator);
     }
     portable::combined_count(left, right, operator)
@@ -175,9 +177,9 @@ pub fn combined_count(left: Bits<'_>, right: Bits<'_>, operator: Operator) -> us
 
 #[cfg(vortex_bits_native)]
 fn count_by_blocks(left: Bits<'_>, right: Bits<'_>, operator: Operator) -> usize {
-    let mut made = [0; BLOCK / 8];
+    let mut made = [0; COUNTED / 8];
     let block = |start: usize| {
-        let len = (left.len() - start).min(BLOCK);
+        let len = (left.len() - start).min(COUNTED);
         let mut out = BitsMut::new(&mut made, 0, len);
         combine_into(
             &mut out,
@@ -187,7 +189,7 @@ fn count_by_blocks(left: Bits<'_>, right: Bits<'_>, operator: Operator) -> usize
         );
         count_ones(out.into_bits())
     };
-    (0..left.len()).step_by(BLOCK).map(block).sum()
+    (0..left.len()).step_by(COUNTED).map(block).sum()
 }
 
 /// Writes how many bits before each block are true; the table has an entry for each. It answers

@@ -110,6 +110,25 @@ impl Iterator for Iter<'_> {
     fn size_hint(&self) -> (usize, Option<usize>) {
         (self.left, Some(self.left))
     }
+
+    /// A word at a time.
+    #[inline]
+    fn fold<A, F: FnMut(A, bool) -> A>(self, first: A, mut f: F) -> A {
+        let begun = self.in_word.min(self.left);
+        let all = fold_word(self.word, begun, first, &mut f);
+        let mut left = self.left - begun;
+        self.words.fold(all, |all, word| {
+            let len = left.min(64);
+            left -= len;
+            fold_word(word, len, all, &mut f)
+        })
+    }
+}
+
+/// Folds the `len` lowest digits of a word.
+#[inline]
+fn fold_word<A>(word: u64, len: usize, first: A, f: &mut impl FnMut(A, bool) -> A) -> A {
+    (0..len).fold(first, |all, at| f(all, word >> at & 1 == 1))
 }
 
 impl ExactSizeIterator for Iter<'_> {}
