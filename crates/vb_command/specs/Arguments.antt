@@ -9,7 +9,7 @@ use Rattle.vb_command.specs.Machine.{Order}
 use Rattle.vb_command.specs.Machine as orders
 use Rattle.vb_command.specs.Optional.{◌>>=◌}
 use Rattle.vb_command.specs.Words.{number, optional_number, truth, mode}
-use Rattle.vb_command.specs.declared.command.Mode.{Mode}
+use Rattle.vb_command.specs.declared.mode.Mode.{Mode}
 
 -- a question to the set in one slot
 unfoldable pub question_of_number : List ℕ → ℕ → Option Order

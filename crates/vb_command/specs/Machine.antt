@@ -12,15 +12,15 @@ use Rattle.vb_bits.specs.Runs.{runs, last_place}
 use Rattle.vb_bits.specs.Shown.{bits_text}
 use Rattle.vb_bits.specs.declared.zip.BitOp.{BitOp}
 use Rattle.vb_bits.specs.declared.zip.BitOp.TheVariants.{And, Or, Xor, AndNot}
-use Rattle.vb_command.specs.declared.answer.Refusal.{Refusal}
-use Rattle.vb_command.specs.declared.answer.Refusal.TheVariants.{BadSlot, BadWindow}
-use Rattle.vb_command.specs.declared.answer.Refusal.TheVariants.{OutOfRange, LengthMismatch}
-use Rattle.vb_command.specs.declared.answer.Refusal.TheVariants.{TakeOutOfRange, TooManyBits}
-use Rattle.vb_command.specs.declared.answer.Refusal.TheVariants.{OutOfMemory}
+use Rattle.vb_command.specs.declared.refusal.Refusal.{Refusal}
+use Rattle.vb_command.specs.declared.refusal.Refusal.TheVariants.{BadSlot, BadWindow}
+use Rattle.vb_command.specs.declared.refusal.Refusal.TheVariants.{OutOfRange, LengthMismatch}
+use Rattle.vb_command.specs.declared.refusal.Refusal.TheVariants.{TakeOutOfRange, TooManyBits}
+use Rattle.vb_command.specs.declared.refusal.Refusal.TheVariants.{OutOfMemory}
 use Rattle.vb_command.specs.declared.command.Command.{Command}
 use Rattle.vb_command.specs.declared.command.Command.TheVariants as commands
-use Rattle.vb_command.specs.declared.command.Mode.{Mode}
-use Rattle.vb_command.specs.declared.command.Mode.TheVariants.{Ref, Own}
+use Rattle.vb_command.specs.declared.mode.Mode.{Mode}
+use Rattle.vb_command.specs.declared.mode.Mode.TheVariants.{Ref, Own}
 use Rattle.vb_bits.specs.Marks.{with_true}
 use Rattle.vb_take.specs.Takes.{IsTaken, IsFirstPast}
 

@@ -3,11 +3,11 @@ use Rattle.std.specs.Prelude.{ℕ, Bool, true, false, List, [], ◌∷◌, ◌++
 use Rattle.std.specs.List.{flat_map}
 use Rattle.vb_command.specs.Machine.{Reply, Done, Number, Truth, Place, Listed, ListedPlaces}
 use Rattle.vb_command.specs.Machine.{ListedRuns, Text, Refused}
-use Rattle.vb_command.specs.declared.answer.Refusal.{Refusal}
-use Rattle.vb_command.specs.declared.answer.Refusal.TheVariants.{BadSlot, BadWindow}
-use Rattle.vb_command.specs.declared.answer.Refusal.TheVariants.{OutOfRange, LengthMismatch}
-use Rattle.vb_command.specs.declared.answer.Refusal.TheVariants.{TakeOutOfRange, TooManyBits}
-use Rattle.vb_command.specs.declared.answer.Refusal.TheVariants.{OutOfMemory}
+use Rattle.vb_command.specs.declared.refusal.Refusal.{Refusal}
+use Rattle.vb_command.specs.declared.refusal.Refusal.TheVariants.{BadSlot, BadWindow}
+use Rattle.vb_command.specs.declared.refusal.Refusal.TheVariants.{OutOfRange, LengthMismatch}
+use Rattle.vb_command.specs.declared.refusal.Refusal.TheVariants.{TakeOutOfRange, TooManyBits}
+use Rattle.vb_command.specs.declared.refusal.Refusal.TheVariants.{OutOfMemory}
 
 -- the name of a refusal, and where it has one its position
 abbrev pub name_of : Refusal → List ℕ

@@ -5,8 +5,8 @@ use Rattle.std.specs.List.{slice_split}
 use Rattle.std.specs.Option.{option_map}
 use Rattle.std.specs.Str.{all_ascii_digits, bytes_eq}
 use Rattle.std.specs.Str.Parse.{digits_value}
-use Rattle.vb_command.specs.declared.command.Mode.{Mode}
-use Rattle.vb_command.specs.declared.command.Mode.TheVariants.{Ref, Own}
+use Rattle.vb_command.specs.declared.mode.Mode.{Mode}
+use Rattle.vb_command.specs.declared.mode.Mode.TheVariants.{Ref, Own}
 
 -- whether a byte is a space, whose code is 32
 abbrev pub is_space : ℕ → Bool

@@ -1,15 +1,7 @@
 //! What a line asks for.
 
+use crate::mode::Mode;
 use std::alloc::{Allocator, Global};
-
-/// How an operator treats the slot of its left set.
-#[derive(Clone, Copy, Debug, PartialEq, Eq)]
-pub enum Mode {
-    /// The slot keeps its set.
-    Ref,
-    /// The slot gives its set away and is empty afterwards, unless the result goes there.
-    Own,
-}
 
 /// A command over slots of bit sets. There is one variant a line, with the fields of the line in
 /// their order.

@@ -7,12 +7,16 @@
 
 mod answer;
 mod command;
+mod mode;
 mod print;
 mod read;
+mod refusal;
 mod unread;
 
-pub use answer::{Answer, Refusal};
-pub use command::{Command, Mode};
+pub use answer::Answer;
+pub use command::Command;
+pub use mode::Mode;
 pub use print::{Part, digit};
 pub use read::command_of;
+pub use refusal::Refusal;
 pub use unread::Unread;

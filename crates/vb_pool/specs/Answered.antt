@@ -3,8 +3,8 @@ use Rattle.std.specs.Prelude.{◌≡◌, Option, Some, None, Result, Ok, Err}
 use Rattle.vb_command.specs.Machine.{Reply, Refused}
 use Rattle.vb_command.specs.Views.{reply}
 use Rattle.vb_command.specs.declared.answer.Answer.{Answer}
-use Rattle.vb_command.specs.declared.answer.Refusal.{Refusal}
-use Rattle.vb_command.specs.declared.answer.Refusal.TheVariants.{BadSlot}
+use Rattle.vb_command.specs.declared.refusal.Refusal.{Refusal}
+use Rattle.vb_command.specs.declared.refusal.Refusal.TheVariants.{BadSlot}
 use Rattle.vb_set.specs.declared.BufferError.{BufferError}
 use Rattle.vb_set.specs.declared.BufferError.TheVariants.{OutOfMemory, TakeOutOfRange}
 use Rattle.vb_set.specs.declared.BufferError.TheVariants.{TooManyBits}

@@ -1,7 +1,7 @@
 //! Frozen sets that are combined or negated. By `own` the left slot gives its set away: where
 //! memory is refused it is empty afterwards.
 ghost use Rattle.std.specs.Prelude.{◌≡◌, true, false, IsSome, IfErr, OnOk};
-ghost use Rattle.vb_bit_buffer.specs.Gives.{GivesCombined};
+ghost use Rattle.vb_set.specs.Gives.{GivesCombined};
 ghost use Rattle.vb_command.specs.Machine.{Outcome, frozen_at, after_release, vacant_at};
 ghost use Rattle.vb_command.specs.Machine as machine;
 ghost use Rattle.vb_pool.specs.Answered.{GivesHeld, reply_of};

@@ -23,7 +23,8 @@ pub trait Sink {
 }
 
 /// The [`Sink`] that writes to a writer of `std`. Each error of the writer is a fault, and so is a
-/// write that takes none of the bytes: no write is tried again, also not after `Interrupted`.
+/// write that takes none of the bytes: no write is tried again, also not after `Interrupted`. The
+/// writer is never flushed.
 #[derive(Drop)]
 pub struct ToWrite<T: Write> {
     inner: T,

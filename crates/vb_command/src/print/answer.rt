@@ -3,10 +3,11 @@ ghost use Rattle.std.specs.Prelude.{◌≡◌, Some};
 ghost use Rattle.std.specs.Fmt.{WritesOnOk};
 ghost use Rattle.vb_command.specs.Parts.{part_text, parts_text};
 
-use crate::answer::{Answer, Refusal};
+use crate::answer::Answer;
 use crate::print::digits::{Digits, digit};
 use crate::print::places::Places;
 use crate::print::runs::Runs;
+use crate::refusal::Refusal;
 use std::alloc::Allocator;
 use std::fmt;
 

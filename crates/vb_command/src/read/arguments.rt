@@ -9,7 +9,8 @@ ghost use Rattle.vb_command.specs.Arguments.{question_of_numbers, of_value, of_o
 ghost use Rattle.vb_command.specs.Machine.{order_of};
 ghost use Rattle.vb_command.specs.Reading.{Gives, Tells, asks_memory};
 
-use crate::command::{Command, Mode};
+use crate::command::Command;
+use crate::mode::Mode;
 use crate::read::field::Field;
 use crate::read::hex::{bytes_of_pairs, hex_pairs};
 use crate::read::listed::list;

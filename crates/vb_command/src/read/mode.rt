@@ -1,5 +1,5 @@
 //! Modes that are written as a word.
-use crate::command::Mode;
+use crate::mode::Mode;
 use crate::read::field::Field;
 use crate::unread::Unread;
 
