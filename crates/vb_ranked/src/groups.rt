@@ -16,7 +16,7 @@ use vb_kernel::Glance;
 use vb_rank::{BLOCK_BITS, find_block, rank_from, select_from};
 
 /// How many of the first `i` of the `len` bits from bit `offset` on are true, as
-/// [`rank_by`](vb_rank::rank_by) answers, from the counts of these bits, by at most two probes.
+/// `rank_by` answers, from the counts of these bits, by at most two probes.
 pub(crate) fn rank_in_groups<G: Glance, S: ProbeGroups>(
     src: &mut G,
     offset: usize,
