@@ -41,6 +41,7 @@ pub struct Outbox<A: Allocator> {
 
 impl<A: Allocator> Model for Outbox<A> {
     ghost use Rattle.std.specs.Prelude.{ℕ, List, ◌≤◌, length, vec_capacity};
+    ghost use Rattle.vb_script.specs.declared.outbox.TheConstants.{ROOM};
 
     ghost Value = { List ℕ };
 
