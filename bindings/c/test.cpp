@@ -160,6 +160,30 @@ static void filters()
     refused([&] { (void)mask.keep_into(values, std::vector<std::uint16_t>(4)); }, "no room");
 }
 
+static void values_at_indices()
+{
+    using vortex_bits::take_values;
+    const std::vector<double> column = {0.5, 1.5, 2.5, 3.5};
+    std::vector<double> out(4, 9.0);
+    check(!take_values(column, std::vector<std::uint8_t>{3, 0, 3}, out), "no position");
+    check(out == std::vector<double>({3.5, 0.5, 3.5, 9.0}), "values at indices of 8 bits");
+    const buffer valid = {0x05};
+    check(!take_values(column, std::array<std::int32_t, 3>{2, -1, 1}, bits(valid, 0, 3), out),
+        "an index that doesn't count");
+    check(out == std::vector<double>({2.5, 0.0, 1.5, 9.0}), "0 where it doesn't");
+    check(take_values(column, std::vector<std::int64_t>{0, -1}, out) == 1, "a negative index");
+    check(take_values(column, std::vector<std::uint16_t>{4}, out) == 0, "an index past the values");
+    const std::vector<char> many(300, 'x');
+    std::vector<char> one(1);
+    check(take_values(many, std::vector<std::int8_t>{-1}, one) == 0, "-1 isn't 255");
+    const std::vector<vb_u128> wides = {{1, 2}, {3, 4}};
+    std::vector<vb_u128> wide(1);
+    check(!take_values(wides, std::vector<std::size_t>{1}, wide) && wide[0].high == 4, "a wide value");
+    refused([&] { (void)take_values(column, std::vector<std::uint8_t>(5), out); }, "no room");
+    refused([&] { (void)take_values(column, std::vector<std::uint8_t>(2), bits(valid, 0, 3), out); },
+        "a long validity");
+}
+
 /* Takes of so many indices of a type, the last of them past what it names, by a loop. */
 template <class Index> static void take(const buffer &all, bool valid, std::size_t n, bool past)
 {
@@ -282,6 +306,7 @@ int main()
     types(all);
     takes();
     filters();
+    values_at_indices();
     refusals();
     return failures == 0 ? 0 : 1;
 }

@@ -8,8 +8,8 @@
  *     cc -O2 app.c $(pkg-config --cflags --libs vortex_bits)
  *
  * The last is the shared library. A checkout has this file in bindings/c, and the libraries in
- * bindings/out once bindings/run has made them. vortex_bits.hpp beside it has the windows as C++
- * classes.
+ * bindings/out once bindings/run has made them. vortex_bits_values.h beside it, which this file
+ * includes, has what is done with values; vortex_bits.hpp has the windows as C++ classes.
  *
  * libvortex_bits.a and libvortex_bits.so have code for x86-64-v2 and for x86-64-v3, and take the
  * higher one that the processor has. libvortex_bits_x86-64-v2.a and libvortex_bits_x86-64-v3.a have
@@ -69,12 +69,6 @@ typedef struct {
     size_t start;
     size_t end;
 } vb_run;
-
-/* A value of 16 bytes. */
-typedef struct {
-    uint64_t low;
-    uint64_t high;
-} vb_u128;
 
 /* Bit `place`, which lies in the bytes. */
 bool vb_get_bit(const uint8_t *bytes, size_t size, size_t place);
@@ -280,34 +274,6 @@ VB_CHECKED bool vb_try_filter_bits(uint8_t *out, size_t out_size, const uint8_t 
         size_t mask_offset, size_t len, size_t *written);
 
 /*
- * The same of `count` values of 1, 2, 4, 8 or 16 bytes each, with a bit of `mask` for each; `room`
- * is how many of them `out` has room for. Values are copied as they are, so those of another type
- * of the size, aligned as that one is, go by casts of both pointers:
- *
- *     vb_filter_u64((uint64_t *)kept, room, (const uint64_t *)doubles, count, mask, size, 0);
- */
-size_t vb_filter_u8(uint8_t *out, size_t room, const uint8_t *values, size_t count,
-        const uint8_t *mask, size_t mask_size, size_t mask_offset);
-VB_CHECKED bool vb_try_filter_u8(uint8_t *out, size_t room, const uint8_t *values,
-        size_t count, const uint8_t *mask, size_t mask_size, size_t mask_offset, size_t *written);
-size_t vb_filter_u16(uint16_t *out, size_t room, const uint16_t *values, size_t count,
-        const uint8_t *mask, size_t mask_size, size_t mask_offset);
-VB_CHECKED bool vb_try_filter_u16(uint16_t *out, size_t room, const uint16_t *values,
-        size_t count, const uint8_t *mask, size_t mask_size, size_t mask_offset, size_t *written);
-size_t vb_filter_u32(uint32_t *out, size_t room, const uint32_t *values, size_t count,
-        const uint8_t *mask, size_t mask_size, size_t mask_offset);
-VB_CHECKED bool vb_try_filter_u32(uint32_t *out, size_t room, const uint32_t *values,
-        size_t count, const uint8_t *mask, size_t mask_size, size_t mask_offset, size_t *written);
-size_t vb_filter_u64(uint64_t *out, size_t room, const uint64_t *values, size_t count,
-        const uint8_t *mask, size_t mask_size, size_t mask_offset);
-VB_CHECKED bool vb_try_filter_u64(uint64_t *out, size_t room, const uint64_t *values,
-        size_t count, const uint8_t *mask, size_t mask_size, size_t mask_offset, size_t *written);
-size_t vb_filter_u128(vb_u128 *out, size_t room, const vb_u128 *values, size_t count,
-        const uint8_t *mask, size_t mask_size, size_t mask_offset);
-VB_CHECKED bool vb_try_filter_u128(vb_u128 *out, size_t room, const vb_u128 *values,
-        size_t count, const uint8_t *mask, size_t mask_size, size_t mask_offset, size_t *written);
-
-/*
  * Ranks over a table that the caller keeps: it has, for each block of 512 bits of the window, how
  * many true bits are before it, which is ceil(len / 512) numbers. Writes these to the front of
  * `table`, as many as have room, and answers (`written`) how many these are. It counts the bits
@@ -351,5 +317,7 @@ bool vb_has_level(void);
 #ifdef __cplusplus
 }
 #endif
+
+#include "vortex_bits_values.h"
 
 #endif

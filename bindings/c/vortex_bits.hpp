@@ -1,5 +1,6 @@
 /*
- * The windows of vortex_bits.h as C++ classes, of C++17 and later; this file is all of it.
+ * The windows of vortex_bits.h as C++ classes, of C++17 and later. Values at indices are in
+ * vortex_bits_values.hpp, which this file includes.
  *
  *     c++ -std=c++17 -O2 app.cpp -I DIST/include DIST/lib/libvortex_bits.a
  *
@@ -62,12 +63,6 @@ inline std::optional<std::size_t> place(vb_place it)
     return it.found ? std::optional<std::size_t>(it.index) : std::nullopt;
 }
 
-/* Whether the window lies in so many bytes, and its end is a std::size_t. */
-constexpr bool fits(std::size_t size, std::size_t offset, std::size_t len)
-{
-    return len <= SIZE_MAX - offset && (offset + len) / 8 + ((offset + len) % 8 != 0) <= size;
-}
-
 /* What lends bytes: a std::vector, std::array, std::span, .. of std::uint8_t. */
 template <class Container, class Byte>
 using lends = std::enable_if_t<
@@ -123,10 +118,10 @@ template <class Out> constexpr bool is_bytes()
 
 } // namespace detail
 
-/* Whether a window lies in so many bytes: then it can be made. */
+/* Whether a window lies in so many bytes, and its end is a std::size_t: then it can be made. */
 constexpr bool fits(std::size_t size, std::size_t offset, std::size_t len)
 {
-    return detail::fits(size, offset, len);
+    return len <= SIZE_MAX - offset && (offset + len) / 8 + ((offset + len) % 8 != 0) <= size;
 }
 
 /* A window that is read: the `len` bits from bit `offset` on of some bytes. */
@@ -291,6 +286,9 @@ public:
 private:
     friend class bits_mut;
     friend class ranks;
+    template <class Values, class Indices, class Out>
+    friend std::optional<std::size_t> take_values(const Values &, const Indices &,
+        const std::optional<bits> &, Out &&);
 
     template <class Items, class Find, class End, class Each>
     void walk(Items &items, Find find, End end, Each each) const
@@ -495,5 +493,7 @@ private:
 };
 
 } // namespace vortex_bits
+
+#include "vortex_bits_values.hpp"
 
 #endif

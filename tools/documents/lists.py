@@ -9,6 +9,8 @@ from documents.files import Repository
 from documents.picture import picture
 
 EXPORT = re.compile(r"^pub use [\w:]+?::(?:\{([^}]*)\}|(\w+));", re.MULTILINE)
+# The sources of the crates that have C functions.
+OF_C = re.compile(r"crates/vb_c(_\w+)?/src/")
 # What the C library says of itself, which no function of the crate does.
 OF_THE_LIBRARY = {"vb_level", "vb_has_level"}
 # What the Rust crate does without a call.
@@ -34,18 +36,19 @@ def headers(repository: Repository) -> list[str]:
 
 
 def c_functions(repository: Repository) -> list[str]:
-    """The functions of the header, of the Rust table, and of the crate, and how these are called."""
-    crate, table = "crates/vb_c", "bindings/rust/src/native.rs"
-    sources = [text for path, text in repository.code.items() if path.startswith(f"{crate}/src/")]
+    """The functions of the headers, of the Rust table, and of the crates, and how these are called."""
+    crates, table = "crates/vb_c*", "bindings/rust/src/native.rs"
+    sources = [text for path, text in repository.code.items() if OF_C.match(path)]
     given = signatures.of_crate("\n".join(sources))
     native = signatures.of_table(repository.read(table))
-    declared = {}
+    declared, found = {}, []
     for header in headers(repository):
-        declared = signatures.of_header(repository.read(header))
-        found = differ(crate, set(given), header, set(declared) - OF_THE_LIBRARY)
-        found += signatures.differences(header, given, declared)
+        own = signatures.of_header(repository.read(header))
+        found += signatures.differences(header, given, own)
+        declared |= own
+    found += differ(crates, set(given), "bindings/c/*.h", set(declared) - OF_THE_LIBRARY)
     plain = {it for it in given if not it.startswith("vb_try_")} - INLINE
-    found += differ(crate, plain, table, set(native))
+    found += differ(crates, plain, table, set(native))
     return found + signatures.differences(table, declared, native)
 
 

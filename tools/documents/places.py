@@ -4,7 +4,7 @@ from dataclasses import dataclass
 
 from documents.files import Repository
 
-LIBRARY = r"crates/(?!\w+_tests/|vb_c/|vb_command/|vb_pool/|vb_script/|use_|run_)\w+"
+LIBRARY = r"crates/(?!\w+_tests/|vb_c(?:_\w+)?/|vb_command/|vb_pool/|vb_script/|use_|run_)\w+"
 RUST = r"bindings/rust/src/"
 Places = list[tuple[str, list[str]]]
 COMMENT = re.compile(r"\s*(?:///?|//!|/?\*|--)(?: .*|$)|(?<=\s)(?://|--) .*")
@@ -48,7 +48,7 @@ KERNEL = [
         (r"crates/\w+/specs/(?!Lib\.antt)", r"\bNAME\b"),
     ]),
     Task("Names that are given on, by `pub use` and by specs/Lib.antt", [
-        (r"crates/(?!vb_c/)\w+/src/lib\.rt$", r"(?<![.\w])NAME(?=[,;} ]|$)"),
+        (r"crates/(?!vb_c(?:_\w+)?/)\w+/src/lib\.rt$", r"(?<![.\w])NAME(?=[,;} ]|$)"),
         (r"crates/vortex_buffer_tests/src/reached\.rt$", r"\bNAME\b"),
         (r"crates/\w+/specs/Lib\.antt$", r"\bNAME$"),
     ]),
@@ -62,7 +62,7 @@ KERNEL = [
     ]),
     Task("Tests, and the plain loop", [(r"crates/\w+_tests/src/(?!reached)", r"\bNAME\b")]),
     Task("C: the call and its form `vb_try_`; the header, in C++ too, and its tests", [
-        (r"crates/vb_c/src/", r"\bvb_NAME\(|::NAME\("),
+        (r"crates/vb_c(_\w+)?/src/", r"\bvb_NAME\(|::NAME\("),
         (r"bindings/c/\w+\.hp?p?$", r"\bvb_NAME\("),
         (r"bindings/c/test\.c(pp)?$", r"\b(?:vb_NAME|NAME)\("),
     ]),

@@ -1,8 +1,8 @@
 /*
  * The functions of vortex_bits.h that aren't calls of a level and no more.
  *
- * Walks go by pages of memory: those of a level ask for one item more before they see that the room
- * is full, and would read on up to it.
+ * Walks go by pages of memory: those of a level pass four words of zeros at once, which may lie on
+ * two pages, and so read behind the page of the last item that has room.
  */
 #ifndef VORTEX_BITS_BY_HAND_H
 #define VORTEX_BITS_BY_HAND_H

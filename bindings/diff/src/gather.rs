@@ -1,8 +1,8 @@
-//! Bits taken at indices, and bits that a mask keeps, into windows at any offset.
+//! Bits and values taken at indices, and those that a mask keeps; bits into windows at any offset.
 
 use std::fmt::Debug;
 
-use vortex_bits::{BitIndex, Bits, BitsMut, TakeError, Value};
+use vortex_bits::{BitIndex, Bits, BitsMut, TakeError, TakeValuesError, Value, values};
 
 use crate::ask::same;
 use crate::case::{Case, bit, put};
@@ -68,7 +68,46 @@ where
     })?;
     let counts = |p| bit(&case.right, case.r + p);
     Ok(same("take_into", all, taken(case, places, |_| true))?
-        + same("take_valid_into", some, taken(case, places, counts))?)
+        + same("take_valid_into", some, taken(case, places, counts))?
+        + values_at(case, places, &indices, |i| i as u8)?
+        + values_at(case, places, &indices, |i| i as i16)?
+        + values_at(case, places, &indices, |i| i as f32)?
+        + values_at(case, places, &indices, |i| [i as u16, 7])?
+        + values_at(case, places, &indices, |i| i as u64)?
+        + values_at(case, places, &indices, |i| !(i as i128))?)
+}
+
+/// Values of one type at the same places: all of them, and those that are valid.
+fn values_at<T: Value + PartialEq + Debug, I: BitIndex>(
+    case: &Case,
+    places: &[usize],
+    indices: &[I],
+    value: impl Fn(usize) -> T,
+) -> Result<u64, String> {
+    let column: Vec<T> = (0..case.len).map(&value).collect();
+    let valid = Bits::new(&case.right, case.r, places.len());
+    let taken = |counts: &dyn Fn(usize) -> bool| -> Result<Vec<Option<T>>, usize> {
+        (0..places.len())
+            .map(|p| match counts(p) {
+                true => column.get(places[p]).copied().map(Some).ok_or(p),
+                false => Ok(None),
+            })
+            .collect()
+    };
+    let given = |wanted: &Result<Vec<Option<T>>, usize>, out: Result<Vec<T>, TakeValuesError>| {
+        match (wanted, out) {
+            (Ok(wanted), Ok(out)) => {
+                let zero = values::take_valid(&column, &[0u8], Bits::new(&[0], 0, 1))[0];
+                wanted.iter().map(|it| it.unwrap_or(zero)).eq(out)
+            }
+            (Err(wanted), Err(TakeValuesError::Index { position, .. })) => *wanted == position,
+            _ => false,
+        }
+    };
+    let counts = |p| bit(&case.right, case.r + p);
+    let all = given(&taken(&|_| true), values::try_take(&column, indices));
+    let some = given(&taken(&counts), values::try_take_valid(&column, indices, valid));
+    Ok(same("values::take", all, true)? + same("values::take_valid", some, true)?)
 }
 
 fn filters(case: &Case) -> Result<u64, String> {

@@ -56,7 +56,7 @@ pub enum TakeError {
     Index {
         /// The position among the indices.
         position: usize,
-        /// The index.
+        /// The index; `i128::MAX` where it is above that.
         index: i128,
         /// How many bits the window that is read has.
         len: usize,
@@ -69,9 +69,7 @@ impl fmt::Display for TakeError {
             TakeError::Room { bits, indices } => {
                 write!(f, "{indices} indices and {bits} bits to write")
             }
-            TakeError::Validity { bits, indices } => {
-                write!(f, "{indices} indices and {bits} bits of validity")
-            }
+            TakeError::Validity { bits, indices } => no_validity(f, *indices, *bits),
             &TakeError::Index {
                 position,
                 index,
@@ -90,13 +88,68 @@ fn no_place(f: &mut fmt::Formatter<'_>, position: usize, index: i128, len: usize
     )
 }
 
+/// Why values aren't taken at indices.
+#[derive(Clone, Copy, Debug, PartialEq, Eq, Hash)]
+#[non_exhaustive]
+pub enum TakeValuesError {
+    /// What is written isn't as long as the indices; it is as it was.
+    Room {
+        /// How many values it has.
+        room: usize,
+        /// How many indices there are.
+        indices: usize,
+    },
+    /// The validity hasn't a bit for each index; what is written is as it was.
+    Validity {
+        /// How many bits it has.
+        bits: usize,
+        /// How many indices there are.
+        indices: usize,
+    },
+    /// The index at this position is negative, or isn't below the number of values. It is the first
+    /// one that counts and is so; what is written holds any values.
+    Index {
+        /// The position among the indices.
+        position: usize,
+        /// The index; `i128::MAX` where it is above that.
+        index: i128,
+        /// How many values there are.
+        values: usize,
+    },
+}
+
+impl fmt::Display for TakeValuesError {
+    fn fmt(&self, f: &mut fmt::Formatter<'_>) -> fmt::Result {
+        match self {
+            TakeValuesError::Room { room, indices } => {
+                write!(f, "{indices} indices and {room} values to write")
+            }
+            TakeValuesError::Validity { bits, indices } => no_validity(f, *indices, *bits),
+            TakeValuesError::Index {
+                position,
+                index,
+                values,
+            } => write!(
+                f,
+                "index {index} at position {position} names none of {values} values"
+            ),
+        }
+    }
+}
+
+impl Error for TakeValuesError {}
+
+fn no_validity(f: &mut fmt::Formatter<'_>, indices: usize, bits: usize) -> fmt::Result {
+    write!(f, "{indices} indices and {bits} bits of validity")
+}
+
 /// An index that is no place of the bits that are to be made; it is the first one.
 #[derive(Clone, Copy, Debug, PartialEq, Eq, Hash)]
 #[non_exhaustive]
 pub struct BadIndex {
     /// The position among the indices.
     pub position: usize,
-    /// The index.
+    /// The index; `i128::MAX` where it is above that.
     pub index: i128,
     /// How many bits there are to be.
     pub len: usize,

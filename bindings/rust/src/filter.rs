@@ -2,55 +2,7 @@
 
 use crate::bits_mut::alike;
 use crate::mask::sealed::Mask as _;
-use crate::{Bits, BitsMut, Mask, kernels};
-
-/// A type of values that are filtered: whole numbers of any width, floats, `bool` and `char`, and
-/// the two halves of a number of 128 bits, as `[u64; 2]`, which Arrow's decimals are aligned as.
-#[diagnostic::on_unimplemented(
-    message = "values of `{Self}` aren't filtered",
-    label = "values are whole numbers or floats",
-    note = "those of another type go by their places: `mask.set_indices().map(|row| &values[row])`"
-)]
-pub trait Value: sealed::Sealed {}
-
-pub(crate) mod sealed {
-    #[cfg(vortex_bits_native)]
-    use crate::native::{Filter, Kernels, Wide};
-
-    /// What a type of values answers.
-    pub trait Sealed: Copy {
-        /// The type that the C function takes, which is as wide, and aligned no more than this one.
-        #[cfg(vortex_bits_native)]
-        type Laid;
-
-        #[cfg(vortex_bits_native)]
-        fn filter(kernels: &Kernels) -> Filter<Self::Laid>;
-    }
-
-    macro_rules! values {
-        ($($laid:ty, $filter:ident: $($value:ty)*;)*) => {$($(
-            impl super::Value for $value {}
-
-            impl Sealed for $value {
-                #[cfg(vortex_bits_native)]
-                type Laid = $laid;
-
-                #[cfg(vortex_bits_native)]
-                fn filter(kernels: &Kernels) -> Filter<$laid> {
-                    kernels.$filter
-                }
-            }
-        )*)*};
-    }
-
-    values! {
-        u8, filter_u8: u8 i8 bool;
-        u16, filter_u16: u16 i16;
-        u32, filter_u32: u32 i32 f32 char;
-        u64, filter_u64: u64 i64 f64 usize isize;
-        Wide, filter_u128: u128 i128 [u64; 2] [i64; 2];
-    }
-}
+use crate::{Bits, BitsMut, Mask, Value, kernels};
 
 impl Bits<'_> {
     /// Writes the bits at the places that are true in `mask` to `out`, in their order.

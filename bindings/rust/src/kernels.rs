@@ -5,10 +5,12 @@
 mod call;
 mod filter;
 mod gather;
+mod values;
 mod walk;
 
 pub use filter::{filter, keep};
 pub use gather::{pack_bools, pack_truthy, take};
+pub use values::take_values;
 pub use walk::{set_indices, set_slices};
 
 use crate::{Bits, BitsMut, blocks, portable};

@@ -1,6 +1,7 @@
 //! Windows of bits over byte slices, least significant bit first: counted, searched, compared,
 //! walked, filled, negated, copied and combined; packed of truth values, taken at indices, filtered
-//! by masks, which filter values too, and ranked over a table of counts.
+//! by masks, which filter values too, and ranked over a table of counts. Values at indices are in
+//! [`values`].
 //!
 //! Bit `i` of some bytes is digit `i % 8` of byte `i / 8`. A window is the `len` bits from bit
 //! `offset` on: [`Bits`] reads one, [`BitsMut`] writes one, and [`Validity`] may be without one. No
@@ -19,7 +20,8 @@
 //! processor has. The rest is Rust of this crate alone, which is compared with loops over single
 //! bits and isn't proved:
 //!
-//! - single bits, and windows of at most 64;
+//! - single bits, windows of at most 64, and values at up to 16 indices, or such as
+//!   [`Value`] and [`BitIndex`] say;
 //! - what puts calls together: writes of filters, takes and packs to windows that don't begin with
 //!   a byte, `fill_with`, counts of two windows, and the blocks in which iterators are filled;
 //! - walks over false bits, `last_unset`, `deposit`, how bitmaps are made and grow, and
@@ -70,6 +72,8 @@ mod portable;
 mod rank;
 mod take;
 mod validity;
+mod value;
+pub mod values;
 
 #[cfg(feature = "alloc")]
 pub use bitmap::{Bitmap, BitmapMut};
@@ -77,8 +81,7 @@ pub use bits::Bits;
 pub use bits_mut::BitsMut;
 #[cfg(feature = "alloc")]
 pub use bytes::{AlignedBytes, Grow, SharedBytes};
-pub use error::{BadIndex, OutOfBounds, ShortTable, TakeError};
-pub use filter::Value;
+pub use error::{BadIndex, OutOfBounds, ShortTable, TakeError, TakeValuesError};
 pub use level::Level;
 pub use mask::Mask;
 #[cfg(feature = "alloc")]
@@ -86,6 +89,7 @@ pub use rank::Ranked;
 pub use rank::{Ranks, blocks};
 pub use take::BitIndex;
 pub use validity::Validity;
+pub use value::Value;
 
 /// The examples of the README.
 #[cfg(all(doctest, feature = "std"))]

@@ -5,7 +5,8 @@
 //! Of each function: a pointer is followed by the number of items that it points to, and isn't
 //! null; they may be read, and written where it is `*mut`; nothing else writes them during the
 //! call. Windows end within their bytes, and at a `usize`; those of takes, packs and filters are the
-//! first bits of `out`, one for each item, or for each that is kept. A table has as many entries as
+//! first bits of `out`, one for each item, or for each that is kept. There is room for a value at
+//! each index, and a bit of validity for each unless all are valid. A table has as many entries as
 //! the window has blocks of 512 bits, whatever they are. The processor has the level.
 //!
 //! A function changes only the windows and the items that it is said to write.
@@ -27,25 +28,6 @@ impl From<Place> for Option<usize> {
     }
 }
 
-/// A take of the bits at indices of this type: `out`, the window, and the indices.
-pub type Take<I> =
-    unsafe extern "C" fn(*mut u8, usize, *const u8, usize, usize, usize, *const I, usize) -> Place;
-
-/// The same, and the bytes and the offset of a window with a bit for each index.
-pub type TakeValid<I> = unsafe extern "C" fn(
-    *mut u8,
-    usize,
-    *const u8,
-    usize,
-    usize,
-    usize,
-    *const I,
-    usize,
-    *const u8,
-    usize,
-    usize,
-) -> Place;
-
 /// An operator on one window and another of the same length.
 pub type Combine = unsafe extern "C" fn(*mut u8, usize, usize, *const u8, usize, usize, usize);
 
@@ -62,11 +44,6 @@ pub type CombineInto = unsafe extern "C" fn(
     usize,
     usize,
 );
-
-/// A filter of values of this type: `out`, the values, and the bytes and the offset of a window with
-/// a bit for each value. It answers how many it writes, for which `out` has room.
-pub type Filter<T> =
-    unsafe extern "C" fn(*mut T, usize, *const T, usize, *const u8, usize, usize) -> usize;
 
 /// A value of 16 bytes.
 #[repr(C)]
@@ -163,6 +140,66 @@ kernels! {
         mask_size: usize, mask_offset: usize) -> usize;
     filter_u128(out: *mut Wide, room: usize, values: *const Wide, count: usize, mask: *const u8,
         mask_size: usize, mask_offset: usize) -> usize;
+    take_values_u8_u8(out: *mut u8, room: usize, values: *const u8, count: usize, indices:
+        *const u8, index_count: usize, all_valid: bool, validity: *const u8, validity_size:
+        usize, validity_offset: usize) -> Place;
+    take_values_u16_u8(out: *mut u16, room: usize, values: *const u16, count: usize, indices:
+        *const u8, index_count: usize, all_valid: bool, validity: *const u8, validity_size:
+        usize, validity_offset: usize) -> Place;
+    take_values_u32_u8(out: *mut u32, room: usize, values: *const u32, count: usize, indices:
+        *const u8, index_count: usize, all_valid: bool, validity: *const u8, validity_size:
+        usize, validity_offset: usize) -> Place;
+    take_values_u64_u8(out: *mut u64, room: usize, values: *const u64, count: usize, indices:
+        *const u8, index_count: usize, all_valid: bool, validity: *const u8, validity_size:
+        usize, validity_offset: usize) -> Place;
+    take_values_u128_u8(out: *mut Wide, room: usize, values: *const Wide, count: usize, indices:
+        *const u8, index_count: usize, all_valid: bool, validity: *const u8, validity_size:
+        usize, validity_offset: usize) -> Place;
+    take_values_u8_u16(out: *mut u8, room: usize, values: *const u8, count: usize, indices:
+        *const u16, index_count: usize, all_valid: bool, validity: *const u8, validity_size:
+        usize, validity_offset: usize) -> Place;
+    take_values_u16_u16(out: *mut u16, room: usize, values: *const u16, count: usize, indices:
+        *const u16, index_count: usize, all_valid: bool, validity: *const u8, validity_size:
+        usize, validity_offset: usize) -> Place;
+    take_values_u32_u16(out: *mut u32, room: usize, values: *const u32, count: usize, indices:
+        *const u16, index_count: usize, all_valid: bool, validity: *const u8, validity_size:
+        usize, validity_offset: usize) -> Place;
+    take_values_u64_u16(out: *mut u64, room: usize, values: *const u64, count: usize, indices:
+        *const u16, index_count: usize, all_valid: bool, validity: *const u8, validity_size:
+        usize, validity_offset: usize) -> Place;
+    take_values_u128_u16(out: *mut Wide, room: usize, values: *const Wide, count: usize,
+        indices: *const u16, index_count: usize, all_valid: bool, validity: *const u8,
+        validity_size: usize, validity_offset: usize) -> Place;
+    take_values_u8_u32(out: *mut u8, room: usize, values: *const u8, count: usize, indices:
+        *const u32, index_count: usize, all_valid: bool, validity: *const u8, validity_size:
+        usize, validity_offset: usize) -> Place;
+    take_values_u16_u32(out: *mut u16, room: usize, values: *const u16, count: usize, indices:
+        *const u32, index_count: usize, all_valid: bool, validity: *const u8, validity_size:
+        usize, validity_offset: usize) -> Place;
+    take_values_u32_u32(out: *mut u32, room: usize, values: *const u32, count: usize, indices:
+        *const u32, index_count: usize, all_valid: bool, validity: *const u8, validity_size:
+        usize, validity_offset: usize) -> Place;
+    take_values_u64_u32(out: *mut u64, room: usize, values: *const u64, count: usize, indices:
+        *const u32, index_count: usize, all_valid: bool, validity: *const u8, validity_size:
+        usize, validity_offset: usize) -> Place;
+    take_values_u128_u32(out: *mut Wide, room: usize, values: *const Wide, count: usize,
+        indices: *const u32, index_count: usize, all_valid: bool, validity: *const u8,
+        validity_size: usize, validity_offset: usize) -> Place;
+    take_values_u8_u64(out: *mut u8, room: usize, values: *const u8, count: usize, indices:
+        *const u64, index_count: usize, all_valid: bool, validity: *const u8, validity_size:
+        usize, validity_offset: usize) -> Place;
+    take_values_u16_u64(out: *mut u16, room: usize, values: *const u16, count: usize, indices:
+        *const u64, index_count: usize, all_valid: bool, validity: *const u8, validity_size:
+        usize, validity_offset: usize) -> Place;
+    take_values_u32_u64(out: *mut u32, room: usize, values: *const u32, count: usize, indices:
+        *const u64, index_count: usize, all_valid: bool, validity: *const u8, validity_size:
+        usize, validity_offset: usize) -> Place;
+    take_values_u64_u64(out: *mut u64, room: usize, values: *const u64, count: usize, indices:
+        *const u64, index_count: usize, all_valid: bool, validity: *const u8, validity_size:
+        usize, validity_offset: usize) -> Place;
+    take_values_u128_u64(out: *mut Wide, room: usize, values: *const Wide, count: usize,
+        indices: *const u64, index_count: usize, all_valid: bool, validity: *const u8,
+        validity_size: usize, validity_offset: usize) -> Place;
     block_counts(bytes: *const u8, size: usize, offset: usize, len: usize, table: *mut usize,
         room: usize) -> usize;
     rank(bytes: *const u8, size: usize, offset: usize, len: usize, table: *const usize,

@@ -3,91 +3,64 @@
 use crate::error::{TakeError, expect};
 use crate::{Bits, BitsMut, Mask, kernels};
 
-/// A type of indices: whole numbers of 8 to 64 bits, of which a negative one is no place of any
-/// window. Those of 8 and 16 bits, as of dictionaries, are made wider by blocks.
+/// A type of indices: the twelve whole-number types. A negative one names no place, nor does one
+/// past `usize::MAX`. To take bits, those of 8 and 16 bits, as of dictionaries, are made wider by
+/// blocks; those of 128 go by plain Rust.
 #[diagnostic::on_unimplemented(
-    message = "bits aren't taken at indices of `{Self}`",
-    label = "indices are whole numbers of 8 to 64 bits, in a slice of their own"
+    message = "nothing is taken at indices of `{Self}`",
+    label = "indices are whole numbers, in a slice of their own"
 )]
 pub trait BitIndex: sealed::Sealed {}
 
 pub(crate) mod sealed {
-    #[cfg(vortex_bits_native)]
-    use crate::native::{Kernels, Take, TakeValid};
-
     /// What a type of indices answers.
     pub trait Sealed: Copy {
-        /// The place that it names, if it is one.
-        fn place(self) -> Option<usize>;
-
-        /// Itself.
-        fn number(self) -> i128;
-
-        /// Whether it has to be made wider before a C function takes it.
-        #[cfg(vortex_bits_native)]
-        const IS_NARROW: bool = size_of::<Self>() < size_of::<u32>();
-
-        /// The indices below this are its own numbers, and those that it reads as one at or above
-        /// it are no places.
+        /// The indices below this are its own numbers; those that an unsigned type of the width
+        /// reads as one at or above it name no place.
         #[cfg(vortex_bits_native)]
         const END: usize;
 
-        /// The type that the C functions take, which is laid out as this one, unless that is
-        /// narrow.
-        #[cfg(vortex_bits_native)]
-        type Laid;
+        /// The place that it names, if it is one.
+        fn place(self) -> Option<usize>;
 
-        #[cfg(vortex_bits_native)]
-        fn take(kernels: &Kernels) -> Take<Self::Laid>;
-
-        #[cfg(vortex_bits_native)]
-        fn take_valid(kernels: &Kernels) -> TakeValid<Self::Laid>;
+        /// Itself; `i128::MAX` where it is above that.
+        fn number(self) -> i128;
     }
 
-    macro_rules! index {
-        ($($index:ty, $end:expr, $laid:ty, $take:ident, $take_valid:ident;)*) => {$(
+    macro_rules! indices {
+        ($($index:ty, $end:expr;)*) => {$(
             impl super::BitIndex for $index {}
 
             impl Sealed for $index {
+                #[cfg(vortex_bits_native)]
+                const END: usize = $end;
+
                 #[inline]
                 fn place(self) -> Option<usize> {
                     usize::try_from(self).ok()
                 }
 
                 #[inline]
-                #[allow(clippy::cast_lossless, reason = "`usize` has no `From`")]
                 fn number(self) -> i128 {
-                    self as i128
-                }
-
-                #[cfg(vortex_bits_native)]
-                const END: usize = $end;
-                #[cfg(vortex_bits_native)]
-                type Laid = $laid;
-
-                #[cfg(vortex_bits_native)]
-                fn take(kernels: &Kernels) -> Take<$laid> {
-                    kernels.$take
-                }
-
-                #[cfg(vortex_bits_native)]
-                fn take_valid(kernels: &Kernels) -> TakeValid<$laid> {
-                    kernels.$take_valid
+                    i128::try_from(self).unwrap_or(i128::MAX)
                 }
             }
         )*};
     }
 
-    index! {
-        u8, 1 << 8, u32, take_u32, take_valid_u32;
-        i8, 1 << 7, u32, take_u32, take_valid_u32;
-        u16, 1 << 16, u32, take_u32, take_valid_u32;
-        i16, 1 << 15, u32, take_u32, take_valid_u32;
-        u32, 1 << 32, u32, take_u32, take_valid_u32;
-        i32, 1 << 31, u32, take_u32, take_valid_u32;
-        u64, usize::MAX, u64, take_u64, take_valid_u64;
-        i64, 1 << 63, u64, take_u64, take_valid_u64;
-        usize, usize::MAX, u64, take_u64, take_valid_u64;
+    indices! {
+        u8, 1 << 8;
+        i8, 1 << 7;
+        u16, 1 << 16;
+        i16, 1 << 15;
+        u32, 1 << 32;
+        i32, 1 << 31;
+        u64, usize::MAX;
+        i64, 1 << 63;
+        usize, usize::MAX;
+        isize, 1 << 63;
+        u128, usize::MAX;
+        i128, usize::MAX;
     }
 }
 

@@ -1,1 +1,2 @@
 pub mod CombineLemmas
+pub mod FilledLemmas

@@ -1,9 +1,7 @@
 pub mod Combined
 pub mod Filled
 pub mod Filtered
-pub mod Fits
 pub mod Packed
-pub mod Place
 pub mod Ranked
 pub mod Taken
 pub mod Windows

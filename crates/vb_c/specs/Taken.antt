@@ -3,7 +3,7 @@ use Rattle.std.specs.Prelude.{◌≡◌, ℕ, ℤ, true, false, Bool, List, Opti
 use Rattle.vb_bits.specs.Bits.{bits}
 use Rattle.vb_bits.specs.Writes.{Writes}
 use Rattle.vb_take.specs.Takes.{IsTaken, IsFirstPast}
-use Rattle.vb_c.specs.declared.place.Place.{Place}
+use Rattle.vb_c_core.specs.declared.place.Place.{Place}
 
 -- no place where each position takes a bit of the list, and these stand in front, one for each
 -- index; else the first position that takes none; behind those in front every bit is as before

@@ -1,7 +1,7 @@
 //! One bit.
 ghost use Rattle.std.specs.Prelude.{◌≡◌, ◌*◌, ◌/◌, ◌<◌, length};
 ghost use Rattle.vb_bits.specs.Bits.{bit_of};
-ghost use Rattle.vb_c.specs.Fits.{DoneIf};
+ghost use Rattle.vb_c_core.specs.Fits.{DoneIf};
 
 /// Bit `i`, which has to lie in the bytes.
 #[unsafe(no_mangle)]

@@ -2,7 +2,7 @@
 ghost use Rattle.std.specs.Prelude.{◌≡◌};
 ghost use Rattle.vb_bits.specs.Bits.{bits};
 ghost use Rattle.vb_c.specs.Combined.{Combines};
-ghost use Rattle.vb_c.specs.Fits.{DoneIf};
+ghost use Rattle.vb_c_core.specs.Fits.{DoneIf};
 ghost use Rattle.vb_c.specs.Windows.{AllInBytes, BothInBytes};
 
 use vb_bits::{BitOp, copy_bits, window_fits, zip_words};

@@ -2,7 +2,7 @@
 ghost use Rattle.std.specs.Prelude.{◌≡◌};
 ghost use Rattle.vb_bits.specs.Bits.{bits, count};
 ghost use Rattle.vb_bits.specs.InBytes.{InBytes};
-ghost use Rattle.vb_c.specs.Fits.{DoneIf};
+ghost use Rattle.vb_c_core.specs.Fits.{DoneIf};
 
 /// How many of the `len` bits from bit `offset` on are true. The window is read once, 64 bytes at a
 /// time.

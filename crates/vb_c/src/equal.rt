@@ -1,7 +1,7 @@
 //! Windows compared.
 ghost use Rattle.std.specs.Prelude.{◌≡◌, ◌↔◌, IsTrue};
 ghost use Rattle.vb_bits.specs.Bits.{bits};
-ghost use Rattle.vb_c.specs.Fits.{DoneIf};
+ghost use Rattle.vb_c_core.specs.Fits.{DoneIf};
 ghost use Rattle.vb_c.specs.Windows.{BothInBytes};
 
 /// Whether the `len` bits of `left` from bit `l` on are those of `right` from bit `r` on. No block

@@ -18,7 +18,6 @@ pub mod count;
 pub mod equal;
 pub mod filter;
 pub mod pack;
-pub mod place;
 pub mod rank;
 pub mod select;
 pub mod take;

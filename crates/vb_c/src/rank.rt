@@ -2,13 +2,13 @@
 ghost use Rattle.std.specs.Prelude.{◌≡◌, ◌≤◌, ◌↔◌, IsTrue, take};
 ghost use Rattle.vb_bits.specs.Bits.{bits, count, complement, Selects};
 ghost use Rattle.vb_bits.specs.InBytes.{InBytes};
-ghost use Rattle.vb_c.specs.Fits.{DoneIf};
-ghost use Rattle.vb_c.specs.Place.{answered_place};
+ghost use Rattle.vb_c_core.specs.Fits.{DoneIf};
+ghost use Rattle.vb_c_core.specs.Place.{answered_place};
 ghost use Rattle.vb_c.specs.Ranked.{HasTable};
 ghost use Rattle.vb_bits.specs.Fills.{Fills};
 ghost use Rattle.vb_rank.specs.Tables.{block_counts};
 
-use crate::place::Place;
+use vb_c_core::Place;
 use vb_kernel::Plain;
 use vb_rank::PlainTable;
 

@@ -3,10 +3,10 @@ ghost use Rattle.std.specs.Prelude.{◌≡◌};
 ghost use Rattle.vb_bits.specs.Bits.{bits, complement, Selects, InvertsCount};
 ghost use Rattle.vb_bits.specs.InBytes.{InBytes};
 ghost use Rattle.vb_bits.specs.Runs.{last_place};
-ghost use Rattle.vb_c.specs.Fits.{DoneIf};
-ghost use Rattle.vb_c.specs.Place.{answered_place};
+ghost use Rattle.vb_c_core.specs.Fits.{DoneIf};
+ghost use Rattle.vb_c_core.specs.Place.{answered_place};
 
-use crate::place::Place;
+use vb_c_core::Place;
 
 /// The place, relative to the window of `len` bits from bit `offset` on, of its `n`-th true bit,
 /// counted from 0; none where the window has at most `n`. It counts from the front, 64 bytes at a

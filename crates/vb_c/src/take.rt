@@ -3,12 +3,12 @@ ghost use Rattle.std.specs.Prelude.{◌≡◌, ◌*◌, ◌≤◌, Some, None, l
 ghost use Rattle.std.specs.Option.{ForSome, option_map};
 ghost use Rattle.vb_bits.specs.Bits.{bits};
 ghost use Rattle.vb_bits.specs.InBytes.{InBytes};
-ghost use Rattle.vb_c.specs.Fits.{DoneIf};
+ghost use Rattle.vb_c_core.specs.Fits.{DoneIf};
 ghost use Rattle.vb_c.specs.Taken.{Takes};
 ghost use Rattle.vb_view.specs.View.{bits_of};
 
-use crate::place::Place;
 use vb_bits::window_fits;
+use vb_c_core::Place;
 use vb_core::BitIndex;
 use vb_view::BitBufferView;
 

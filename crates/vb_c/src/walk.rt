@@ -4,7 +4,7 @@ ghost use Rattle.vb_bits.specs.Bits.{bits, places};
 ghost use Rattle.vb_bits.specs.InBytes.{InBytes};
 ghost use Rattle.vb_bits.specs.Runs.{runs};
 ghost use Rattle.vb_c.specs.Filled.{run_of};
-ghost use Rattle.vb_c.specs.Fits.{DoneIf};
+ghost use Rattle.vb_c_core.specs.Fits.{DoneIf};
 ghost use Rattle.vb_bits.specs.Fills.{Fills};
 
 use vb_walk::{BitIndexIterator, BitSliceIterator};
@@ -20,7 +20,8 @@ pub struct Run {
 }
 
 /// Writes the places of the true bits among the `len` bits from bit `offset` on, in ascending
-/// order, to the front of `out`, as many as have room there, and answers how many these are.
+/// order, to the front of `out`, as many as have room there, and answers how many these are. Once
+/// `out` is full, no further place is sought.
 #[unsafe(no_mangle)]
 pub extern "C" fn vb_set_indices(
     bytes: &[u8],
@@ -31,34 +32,41 @@ pub extern "C" fn vb_set_indices(
     requires window { InBytes bytes.now offset len }
     ensures { Fills (places (bits bytes.now offset len)) out.old out.new result }
 {
+    if out.is_empty() {
+        return 0;
+    }
     let mut written = 0;
     for place in BitIndexIterator::new(bytes, offset, len) {
+        out[written] = place;
+        written += 1;
         if written == out.len() {
             break;
         }
-        out[written] = place;
-        written += 1;
     }
     written
 }
 
 /// Writes the runs of true bits among the `len` bits from bit `offset` on, from front to end, to
-/// the front of `out`, as many as have room there, and answers how many these are.
+/// the front of `out`, as many as have room there, and answers how many these are. Once `out` is
+/// full, no further run is sought.
 #[unsafe(no_mangle)]
 pub extern "C" fn vb_set_slices(bytes: &[u8], offset: usize, len: usize, out: &mut [Run]) -> usize
     requires window { InBytes bytes.now offset len }
     ensures { Fills (map run_of (runs (bits bytes.now offset len))) out.old out.new result }
 {
+    if out.is_empty() {
+        return 0;
+    }
     let mut written = 0;
     for run in BitSliceIterator::new(bytes, offset, len) {
-        if written == out.len() {
-            break;
-        }
         out[written] = Run {
             start: run.0,
             end: run.1,
         };
         written += 1;
+        if written == out.len() {
+            break;
+        }
     }
     written
 }

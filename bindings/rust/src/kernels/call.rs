@@ -5,9 +5,10 @@
 ///
 /// - `window bits`, the bytes, their number, the offset and the length;
 /// - `start bits`, the same without the length, since the other window is as long;
-/// - `slice items`, the items and their number;
+/// - `slice items`, the items, of a type that is laid out as that of the function, and their number;
 /// - `value n`, the number itself;
-/// - and `start_mut` and `slice_mut`, which are written.
+/// - and `start_mut` and `slice_mut`, which are written, and `cast_mut`, items of another type that
+///   is laid out alike.
 ///
 /// What the function wants ([`crate::native`]) is so: a [`Bits`] and a [`BitsMut`] lie in their
 /// bytes and end at a `usize`, references may be read and written, a `&mut` overlaps nothing, and
@@ -40,6 +41,10 @@ macro_rules! native {
     };
     (@call $function:expr, [$($done:expr,)*] slice_mut $items:expr $(, $($rest:tt)*)?) => {
         native!(@call $function, [$($done,)* $items.as_mut_ptr(), $items.len(),] $($($rest)*)?)
+    };
+    (@call $function:expr, [$($done:expr,)*] cast_mut $items:expr $(, $($rest:tt)*)?) => {
+        native!(@call $function, [$($done,)* $items.as_mut_ptr().cast(), $items.len(),]
+            $($($rest)*)?)
     };
     (@call $function:expr, [$($done:expr,)*] value $value:expr $(, $($rest:tt)*)?) => {
         native!(@call $function, [$($done,)* $value,] $($($rest)*)?)

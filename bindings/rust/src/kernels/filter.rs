@@ -1,8 +1,7 @@
 //! Bits and values that a mask keeps. The C function writes the first bits of some bytes: to a window
 //! that doesn't begin with a byte it goes by blocks, which are copied.
 
-use crate::filter::Value;
-use crate::{Bits, BitsMut, portable};
+use crate::{Bits, BitsMut, Value, portable};
 
 #[cfg(vortex_bits_native)]
 use super::gather::BLOCK;
@@ -12,6 +11,8 @@ use super::{copy, is_word};
 use crate::level::kernels;
 #[cfg(vortex_bits_native)]
 use crate::native::Kernels;
+#[cfg(vortex_bits_native)]
+use crate::value::Laid;
 
 /// Of a mask as long as the bits, and as many bits of `out` as are true in it.
 #[inline]
@@ -70,21 +71,23 @@ pub fn keep<T: Value>(out: &mut [T], values: &[T], mask: Bits<'_>) -> usize {
     debug_assert_eq!(values.len(), mask.len());
     debug_assert!(portable::count_ones(mask) <= out.len());
     #[cfg(vortex_bits_native)]
-    if let Some(kernels) = kernels().filter(|_| !is_word(mask)) {
-        let (filter, by) = (T::filter(kernels), mask.bytes());
-        let (to, from) = (out.as_mut_ptr().cast(), values.as_ptr().cast());
-        // SAFETY: slices are what they say, a value is laid out as C's, the window has a bit for
-        // each value and lies in its bytes, and `out` has room for those whose bit is true.
-        return unsafe {
-            filter(
-                to,
-                out.len(),
-                from,
-                values.len(),
-                by.as_ptr(),
-                by.len(),
-                mask.offset(),
-            )
+    if let (Some(kernels), Some(laid)) = (kernels().filter(|_| !is_word(mask)), Laid::of::<T>()) {
+        return match laid {
+            Laid::One => {
+                native!(@call kernels.filter_u8, [] cast_mut out, slice values, start mask)
+            }
+            Laid::Two => {
+                native!(@call kernels.filter_u16, [] cast_mut out, slice values, start mask)
+            }
+            Laid::Four => {
+                native!(@call kernels.filter_u32, [] cast_mut out, slice values, start mask)
+            }
+            Laid::Eight => {
+                native!(@call kernels.filter_u64, [] cast_mut out, slice values, start mask)
+            }
+            Laid::Sixteen => {
+                native!(@call kernels.filter_u128, [] cast_mut out, slice values, start mask)
+            }
         };
     }
     portable::keep(out, values, mask)

@@ -80,9 +80,9 @@ pub fn take<I: BitIndex>(
     debug_assert!(validity.is_none_or(|validity| validity.len() == indices.len()));
     debug_assert_eq!(out.len(), indices.len());
     #[cfg(vortex_bits_native)]
-    if let Some(kernels) = kernels() {
+    if let Some(kernels) = kernels().filter(|_| size_of::<I>() <= size_of::<u64>()) {
         let bits = bits.part(0, bits.len().min(I::END));
-        if I::IS_NARROW {
+        if size_of::<I>() < size_of::<u32>() {
             return take_narrow(out, bits, indices, validity);
         }
         if out.offset() % 8 == 0 {
@@ -150,7 +150,7 @@ fn take_by_blocks<I: BitIndex>(
     None
 }
 
-/// To the first bits of `out`, which has one for each index.
+/// To the first bits of `out`, which has one for each index, of 32 or of 64 bits.
 #[cfg(vortex_bits_native)]
 fn take_first<I: BitIndex>(
     kernels: &Kernels,
@@ -159,32 +159,16 @@ fn take_first<I: BitIndex>(
     indices: &[I],
     validity: Option<Bits<'_>>,
 ) -> Option<usize> {
-    let (to, size) = (out.as_mut_ptr(), out.len());
-    let (bytes, offset, len) = (bits.bytes(), bits.offset(), bits.len());
-    let (from, n) = (indices.as_ptr().cast(), indices.len());
-    let Some(validity) = validity else {
-        let take = I::take(kernels);
-        // SAFETY: slices are what they say, an index is laid out as C's, the window lies in its
-        // bytes, and `out` has a bit for each index.
-        return unsafe { take(to, size, bytes.as_ptr(), bytes.len(), offset, len, from, n) }.into();
-    };
-    let (valid, v) = (validity.bytes(), validity.offset());
-    let take = I::take_valid(kernels);
-    // SAFETY: as before, and the window of validity has a bit for each index.
-    unsafe {
-        take(
-            to,
-            size,
-            bytes.as_ptr(),
-            bytes.len(),
-            offset,
-            len,
-            from,
-            n,
-            valid.as_ptr(),
-            valid.len(),
-            v,
-        )
+    match (size_of::<I>() == size_of::<u32>(), validity) {
+        (true, None) => {
+            native!(@call kernels.take_u32, [] slice_mut out, window bits, slice indices)
+        }
+        (false, None) => {
+            native!(@call kernels.take_u64, [] slice_mut out, window bits, slice indices)
+        }
+        (true, Some(valid)) => native!(@call kernels.take_valid_u32,
+            [] slice_mut out, window bits, slice indices, start valid),
+        (false, Some(valid)) => native!(@call kernels.take_valid_u64,
+            [] slice_mut out, window bits, slice indices, start valid),
     }
-    .into()
 }

@@ -1,5 +1,5 @@
-//! Places and runs of true bits, written into a slice. The C functions ask for one item more before
-//! they see that the room is full, and would read on up to it: they go by pages of memory.
+//! Places and runs of true bits, written into a slice. The C functions pass four words of zeros at
+//! once, which may lie on two pages of memory: so they go by pages.
 
 use super::Run;
 use crate::{Bits, portable};

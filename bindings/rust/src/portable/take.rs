@@ -1,8 +1,8 @@
-//! Bits taken and set at indices.
+//! Bits and values taken at indices, and bits set there.
 
 use super::word::word_at;
 use crate::take::BitIndex;
-use crate::{Bits, BitsMut};
+use crate::{Bits, BitsMut, Value};
 
 /// Writes the bits at the indices, of which there are as many as bits of `out` and of `validity`;
 /// or answers the first position that counts and whose index isn't a place.
@@ -25,6 +25,32 @@ pub fn take<I: BitIndex>(
             }
         }
         out.write(64 * i, indices.len(), word >> (64 - indices.len()));
+    }
+    None
+}
+
+/// Writes the values at the indices, of which there are as many as items of `out` and bits of
+/// `validity`; or answers the first position that counts and whose index names no value.
+#[inline]
+pub fn take_values<T: Value, I: BitIndex>(
+    out: &mut [T],
+    values: &[T],
+    indices: &[I],
+    validity: Option<Bits<'_>>,
+) -> Option<usize> {
+    let named = |index: I| index.place().and_then(|place| values.get(place));
+    for (i, (out, indices)) in out.chunks_mut(64).zip(indices.chunks(64)).enumerate() {
+        let mut counts = validity.map_or(u64::MAX, |validity| word_at(validity, i));
+        for (at, (out, &index)) in out.iter_mut().zip(indices).enumerate() {
+            *out = if counts & 1 == 0 {
+                T::ZERO
+            } else if let Some(value) = named(index) {
+                *value
+            } else {
+                return Some(64 * i + at);
+            };
+            counts >>= 1;
+        }
     }
     None
 }

@@ -1,4 +1,4 @@
-use Rattle.std.proofs.Common.{◌≡◌, ◌≤◌, ◌++◌, length, drop}
+use Rattle.std.proofs.Common.{◌≡◌, ◌<◌, ◌++◌, length, drop}
 use Rattle.vb_bits.specs.Bits.{bits, places}
 use Rattle.vb_c.proofs.walk.vb_set_indices.Given as goal
 
@@ -8,7 +8,7 @@ invariant-loop-place l = record {
   is_finite : goal.iterator-loop-place.is_finite l.place-iterator;
   whole : l.yielded ++ l.place-iterator ≡ places (bits l.bytes l.offset l.len);
   count : l.written ≡ length l.yielded;
-  room : l.written ≤ length l.initial.out;
+  room : l.written < length l.initial.out;
   len : length l.out ≡ length l.initial.out;
   items : l.out ≡ l.yielded ++ drop l.written l.initial.out;
 }

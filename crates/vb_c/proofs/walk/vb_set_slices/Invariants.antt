@@ -1,4 +1,4 @@
-use Rattle.std.proofs.Common.{◌≡◌, ◌≤◌, ◌++◌, length, drop, map}
+use Rattle.std.proofs.Common.{◌≡◌, ◌<◌, ◌++◌, length, drop, map}
 use Rattle.vb_bits.specs.Bits.{bits}
 use Rattle.vb_bits.specs.Runs.{runs}
 use Rattle.vb_c.specs.Filled.{run_of}
@@ -10,7 +10,7 @@ invariant-loop-run l = record {
   is_finite : goal.iterator-loop-run.is_finite l.run-iterator;
   whole : l.yielded ++ l.run-iterator ≡ runs (bits l.bytes l.offset l.len);
   count : l.written ≡ length l.yielded;
-  room : l.written ≤ length l.initial.out;
+  room : l.written < length l.initial.out;
   len : length l.out ≡ length l.initial.out;
   items : l.out ≡ map run_of l.yielded ++ drop l.written l.initial.out;
 }

@@ -1,6 +1,6 @@
 //! Places as they cross to C.
 ghost use Rattle.std.specs.Prelude.{◌≡◌};
-ghost use Rattle.vb_c.specs.Place.{answered_place};
+ghost use Rattle.vb_c_core.specs.Place.{answered_place};
 
 /// The place of a bit, as an `Option<usize>` crosses to C: `index` says something only where
 /// `found` is true.

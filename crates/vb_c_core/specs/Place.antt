@@ -1,6 +1,6 @@
 -- What a place that crosses to C stands for.
 use Rattle.std.specs.Prelude.{ℕ, Option, Some, None, if◌then◌else◌}
-use Rattle.vb_c.specs.declared.place.Place.{Place}
+use Rattle.vb_c_core.specs.declared.place.Place.{Place}
 
 -- the index, if there is one
 abbrev pub answered_place : Place → Option ℕ

@@ -1,0 +1,189 @@
+/*
+ * Values of 1, 2, 4, 8 or 16 bytes in the order of a mask or of indices. vortex_bits.h includes
+ * this file, and its head says what the caller owes of every call.
+ */
+#ifndef VORTEX_BITS_VALUES_H
+#define VORTEX_BITS_VALUES_H
+
+#include "vortex_bits.h"
+
+#ifdef __cplusplus
+extern "C" {
+#endif
+
+/* A value of 16 bytes. */
+typedef struct {
+    uint64_t low;
+    uint64_t high;
+} vb_u128;
+
+/*
+ * Writes those of `count` values whose bit of `mask` from bit `mask_offset` on is true, in order,
+ * to the front of `out`, and answers (`written`) how many these are; `room` is how many `out` has
+ * room for, at least as many. The items behind them stay. The checked form tests the room too. 64
+ * values go at a time. Values are copied as they are, so those of another type of the size, aligned
+ * as that one is, go by casts of both pointers:
+ *
+ *     vb_filter_u64((uint64_t *)kept, room, (const uint64_t *)doubles, count, mask, size, 0);
+ */
+size_t vb_filter_u8(uint8_t *out, size_t room, const uint8_t *values, size_t count,
+        const uint8_t *mask, size_t mask_size, size_t mask_offset);
+VB_CHECKED bool vb_try_filter_u8(uint8_t *out, size_t room, const uint8_t *values,
+        size_t count, const uint8_t *mask, size_t mask_size, size_t mask_offset, size_t *written);
+size_t vb_filter_u16(uint16_t *out, size_t room, const uint16_t *values, size_t count,
+        const uint8_t *mask, size_t mask_size, size_t mask_offset);
+VB_CHECKED bool vb_try_filter_u16(uint16_t *out, size_t room, const uint16_t *values,
+        size_t count, const uint8_t *mask, size_t mask_size, size_t mask_offset, size_t *written);
+size_t vb_filter_u32(uint32_t *out, size_t room, const uint32_t *values, size_t count,
+        const uint8_t *mask, size_t mask_size, size_t mask_offset);
+VB_CHECKED bool vb_try_filter_u32(uint32_t *out, size_t room, const uint32_t *values,
+        size_t count, const uint8_t *mask, size_t mask_size, size_t mask_offset, size_t *written);
+size_t vb_filter_u64(uint64_t *out, size_t room, const uint64_t *values, size_t count,
+        const uint8_t *mask, size_t mask_size, size_t mask_offset);
+VB_CHECKED bool vb_try_filter_u64(uint64_t *out, size_t room, const uint64_t *values,
+        size_t count, const uint8_t *mask, size_t mask_size, size_t mask_offset, size_t *written);
+size_t vb_filter_u128(vb_u128 *out, size_t room, const vb_u128 *values, size_t count,
+        const uint8_t *mask, size_t mask_size, size_t mask_offset);
+VB_CHECKED bool vb_try_filter_u128(vb_u128 *out, size_t room, const vb_u128 *values,
+        size_t count, const uint8_t *mask, size_t mask_size, size_t mask_offset, size_t *written);
+
+/*
+ * Writes the values at `index_count` indices to the front of `out`, one each, and answers no place;
+ * or answers the first position that counts and whose index is not below `count`. `room` is how
+ * many values `out` has room for, at least as many as indices. Where `all_valid` is true, each
+ * position counts, and the validity may be null, of no bytes; else a position counts if the bit of
+ * `validity` from bit `validity_offset` on is true there: at the others 0 is written, and their
+ * indices are not looked at. The items of `out` behind those of the indices stay; where a position
+ * is answered, the ones in front hold anything. The checked forms answer that in `past`.
+ *
+ * vb_take_values_u64_u32 takes values of 64 bits at indices of 32. Values of another type of the
+ * size go by casts, as above. So do signed indices, where `count` is at most what they can name: a
+ * negative one is then read as one that names nothing. Pass a smaller `count` where there are more
+ * values, as of 2^31 for int32_t.
+ */
+vb_place vb_take_values_u8_u8(uint8_t *out, size_t room, const uint8_t *values, size_t count,
+        const uint8_t *indices, size_t index_count, bool all_valid, const uint8_t *validity,
+        size_t validity_size, size_t validity_offset);
+VB_CHECKED bool vb_try_take_values_u8_u8(uint8_t *out, size_t room, const uint8_t *values, size_t
+        count, const uint8_t *indices, size_t index_count, bool all_valid, const uint8_t
+        *validity, size_t validity_size, size_t validity_offset, vb_place *past);
+vb_place vb_take_values_u16_u8(uint16_t *out, size_t room, const uint16_t *values, size_t count,
+        const uint8_t *indices, size_t index_count, bool all_valid, const uint8_t *validity,
+        size_t validity_size, size_t validity_offset);
+VB_CHECKED bool vb_try_take_values_u16_u8(uint16_t *out, size_t room, const uint16_t *values,
+        size_t count, const uint8_t *indices, size_t index_count, bool all_valid, const uint8_t
+        *validity, size_t validity_size, size_t validity_offset, vb_place *past);
+vb_place vb_take_values_u32_u8(uint32_t *out, size_t room, const uint32_t *values, size_t count,
+        const uint8_t *indices, size_t index_count, bool all_valid, const uint8_t *validity,
+        size_t validity_size, size_t validity_offset);
+VB_CHECKED bool vb_try_take_values_u32_u8(uint32_t *out, size_t room, const uint32_t *values,
+        size_t count, const uint8_t *indices, size_t index_count, bool all_valid, const uint8_t
+        *validity, size_t validity_size, size_t validity_offset, vb_place *past);
+vb_place vb_take_values_u64_u8(uint64_t *out, size_t room, const uint64_t *values, size_t count,
+        const uint8_t *indices, size_t index_count, bool all_valid, const uint8_t *validity,
+        size_t validity_size, size_t validity_offset);
+VB_CHECKED bool vb_try_take_values_u64_u8(uint64_t *out, size_t room, const uint64_t *values,
+        size_t count, const uint8_t *indices, size_t index_count, bool all_valid, const uint8_t
+        *validity, size_t validity_size, size_t validity_offset, vb_place *past);
+vb_place vb_take_values_u128_u8(vb_u128 *out, size_t room, const vb_u128 *values, size_t count,
+        const uint8_t *indices, size_t index_count, bool all_valid, const uint8_t *validity,
+        size_t validity_size, size_t validity_offset);
+VB_CHECKED bool vb_try_take_values_u128_u8(vb_u128 *out, size_t room, const vb_u128 *values,
+        size_t count, const uint8_t *indices, size_t index_count, bool all_valid, const uint8_t
+        *validity, size_t validity_size, size_t validity_offset, vb_place *past);
+vb_place vb_take_values_u8_u16(uint8_t *out, size_t room, const uint8_t *values, size_t count,
+        const uint16_t *indices, size_t index_count, bool all_valid, const uint8_t *validity,
+        size_t validity_size, size_t validity_offset);
+VB_CHECKED bool vb_try_take_values_u8_u16(uint8_t *out, size_t room, const uint8_t *values, size_t
+        count, const uint16_t *indices, size_t index_count, bool all_valid, const uint8_t
+        *validity, size_t validity_size, size_t validity_offset, vb_place *past);
+vb_place vb_take_values_u16_u16(uint16_t *out, size_t room, const uint16_t *values, size_t count,
+        const uint16_t *indices, size_t index_count, bool all_valid, const uint8_t *validity,
+        size_t validity_size, size_t validity_offset);
+VB_CHECKED bool vb_try_take_values_u16_u16(uint16_t *out, size_t room, const uint16_t *values,
+        size_t count, const uint16_t *indices, size_t index_count, bool all_valid, const uint8_t
+        *validity, size_t validity_size, size_t validity_offset, vb_place *past);
+vb_place vb_take_values_u32_u16(uint32_t *out, size_t room, const uint32_t *values, size_t count,
+        const uint16_t *indices, size_t index_count, bool all_valid, const uint8_t *validity,
+        size_t validity_size, size_t validity_offset);
+VB_CHECKED bool vb_try_take_values_u32_u16(uint32_t *out, size_t room, const uint32_t *values,
+        size_t count, const uint16_t *indices, size_t index_count, bool all_valid, const uint8_t
+        *validity, size_t validity_size, size_t validity_offset, vb_place *past);
+vb_place vb_take_values_u64_u16(uint64_t *out, size_t room, const uint64_t *values, size_t count,
+        const uint16_t *indices, size_t index_count, bool all_valid, const uint8_t *validity,
+        size_t validity_size, size_t validity_offset);
+VB_CHECKED bool vb_try_take_values_u64_u16(uint64_t *out, size_t room, const uint64_t *values,
+        size_t count, const uint16_t *indices, size_t index_count, bool all_valid, const uint8_t
+        *validity, size_t validity_size, size_t validity_offset, vb_place *past);
+vb_place vb_take_values_u128_u16(vb_u128 *out, size_t room, const vb_u128 *values, size_t count,
+        const uint16_t *indices, size_t index_count, bool all_valid, const uint8_t *validity,
+        size_t validity_size, size_t validity_offset);
+VB_CHECKED bool vb_try_take_values_u128_u16(vb_u128 *out, size_t room, const vb_u128 *values,
+        size_t count, const uint16_t *indices, size_t index_count, bool all_valid, const uint8_t
+        *validity, size_t validity_size, size_t validity_offset, vb_place *past);
+vb_place vb_take_values_u8_u32(uint8_t *out, size_t room, const uint8_t *values, size_t count,
+        const uint32_t *indices, size_t index_count, bool all_valid, const uint8_t *validity,
+        size_t validity_size, size_t validity_offset);
+VB_CHECKED bool vb_try_take_values_u8_u32(uint8_t *out, size_t room, const uint8_t *values, size_t
+        count, const uint32_t *indices, size_t index_count, bool all_valid, const uint8_t
+        *validity, size_t validity_size, size_t validity_offset, vb_place *past);
+vb_place vb_take_values_u16_u32(uint16_t *out, size_t room, const uint16_t *values, size_t count,
+        const uint32_t *indices, size_t index_count, bool all_valid, const uint8_t *validity,
+        size_t validity_size, size_t validity_offset);
+VB_CHECKED bool vb_try_take_values_u16_u32(uint16_t *out, size_t room, const uint16_t *values,
+        size_t count, const uint32_t *indices, size_t index_count, bool all_valid, const uint8_t
+        *validity, size_t validity_size, size_t validity_offset, vb_place *past);
+vb_place vb_take_values_u32_u32(uint32_t *out, size_t room, const uint32_t *values, size_t count,
+        const uint32_t *indices, size_t index_count, bool all_valid, const uint8_t *validity,
+        size_t validity_size, size_t validity_offset);
+VB_CHECKED bool vb_try_take_values_u32_u32(uint32_t *out, size_t room, const uint32_t *values,
+        size_t count, const uint32_t *indices, size_t index_count, bool all_valid, const uint8_t
+        *validity, size_t validity_size, size_t validity_offset, vb_place *past);
+vb_place vb_take_values_u64_u32(uint64_t *out, size_t room, const uint64_t *values, size_t count,
+        const uint32_t *indices, size_t index_count, bool all_valid, const uint8_t *validity,
+        size_t validity_size, size_t validity_offset);
+VB_CHECKED bool vb_try_take_values_u64_u32(uint64_t *out, size_t room, const uint64_t *values,
+        size_t count, const uint32_t *indices, size_t index_count, bool all_valid, const uint8_t
+        *validity, size_t validity_size, size_t validity_offset, vb_place *past);
+vb_place vb_take_values_u128_u32(vb_u128 *out, size_t room, const vb_u128 *values, size_t count,
+        const uint32_t *indices, size_t index_count, bool all_valid, const uint8_t *validity,
+        size_t validity_size, size_t validity_offset);
+VB_CHECKED bool vb_try_take_values_u128_u32(vb_u128 *out, size_t room, const vb_u128 *values,
+        size_t count, const uint32_t *indices, size_t index_count, bool all_valid, const uint8_t
+        *validity, size_t validity_size, size_t validity_offset, vb_place *past);
+vb_place vb_take_values_u8_u64(uint8_t *out, size_t room, const uint8_t *values, size_t count,
+        const uint64_t *indices, size_t index_count, bool all_valid, const uint8_t *validity,
+        size_t validity_size, size_t validity_offset);
+VB_CHECKED bool vb_try_take_values_u8_u64(uint8_t *out, size_t room, const uint8_t *values, size_t
+        count, const uint64_t *indices, size_t index_count, bool all_valid, const uint8_t
+        *validity, size_t validity_size, size_t validity_offset, vb_place *past);
+vb_place vb_take_values_u16_u64(uint16_t *out, size_t room, const uint16_t *values, size_t count,
+        const uint64_t *indices, size_t index_count, bool all_valid, const uint8_t *validity,
+        size_t validity_size, size_t validity_offset);
+VB_CHECKED bool vb_try_take_values_u16_u64(uint16_t *out, size_t room, const uint16_t *values,
+        size_t count, const uint64_t *indices, size_t index_count, bool all_valid, const uint8_t
+        *validity, size_t validity_size, size_t validity_offset, vb_place *past);
+vb_place vb_take_values_u32_u64(uint32_t *out, size_t room, const uint32_t *values, size_t count,
+        const uint64_t *indices, size_t index_count, bool all_valid, const uint8_t *validity,
+        size_t validity_size, size_t validity_offset);
+VB_CHECKED bool vb_try_take_values_u32_u64(uint32_t *out, size_t room, const uint32_t *values,
+        size_t count, const uint64_t *indices, size_t index_count, bool all_valid, const uint8_t
+        *validity, size_t validity_size, size_t validity_offset, vb_place *past);
+vb_place vb_take_values_u64_u64(uint64_t *out, size_t room, const uint64_t *values, size_t count,
+        const uint64_t *indices, size_t index_count, bool all_valid, const uint8_t *validity,
+        size_t validity_size, size_t validity_offset);
+VB_CHECKED bool vb_try_take_values_u64_u64(uint64_t *out, size_t room, const uint64_t *values,
+        size_t count, const uint64_t *indices, size_t index_count, bool all_valid, const uint8_t
+        *validity, size_t validity_size, size_t validity_offset, vb_place *past);
+vb_place vb_take_values_u128_u64(vb_u128 *out, size_t room, const vb_u128 *values, size_t count,
+        const uint64_t *indices, size_t index_count, bool all_valid, const uint8_t *validity,
+        size_t validity_size, size_t validity_offset);
+VB_CHECKED bool vb_try_take_values_u128_u64(vb_u128 *out, size_t room, const vb_u128 *values,
+        size_t count, const uint64_t *indices, size_t index_count, bool all_valid, const uint8_t
+        *validity, size_t validity_size, size_t validity_offset, vb_place *past);
+
+#ifdef __cplusplus
+}
+#endif
+
+#endif

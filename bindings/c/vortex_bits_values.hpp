@@ -1,0 +1,98 @@
+/*
+ * Values at indices, for vortex_bits.hpp, which includes this file.
+ *
+ *     std::vector<std::int64_t> column = {10, 20, 30, 40}, taken(2);
+ *     vortex_bits::take_values(column, std::vector<std::uint8_t>{3, 0}, taken);    // 40, 10
+ */
+#ifndef VORTEX_BITS_VALUES_HPP
+#define VORTEX_BITS_VALUES_HPP
+
+#include "vortex_bits.hpp"
+
+namespace vortex_bits {
+
+namespace detail {
+
+/* The C function for values of so many bytes at indices of so many. */
+template <std::size_t Value, std::size_t Index> struct taken_by;
+#define VB_TAKEN_BY(value, index, name)                                                           \
+    template <> struct taken_by<value, index> {                                                   \
+        static constexpr auto take = vb_take_values_##name;                                       \
+    };
+VB_TAKEN_BY(1, 1, u8_u8)
+VB_TAKEN_BY(2, 1, u16_u8)
+VB_TAKEN_BY(4, 1, u32_u8)
+VB_TAKEN_BY(8, 1, u64_u8)
+VB_TAKEN_BY(16, 1, u128_u8)
+VB_TAKEN_BY(1, 2, u8_u16)
+VB_TAKEN_BY(2, 2, u16_u16)
+VB_TAKEN_BY(4, 2, u32_u16)
+VB_TAKEN_BY(8, 2, u64_u16)
+VB_TAKEN_BY(16, 2, u128_u16)
+VB_TAKEN_BY(1, 4, u8_u32)
+VB_TAKEN_BY(2, 4, u16_u32)
+VB_TAKEN_BY(4, 4, u32_u32)
+VB_TAKEN_BY(8, 4, u64_u32)
+VB_TAKEN_BY(16, 4, u128_u32)
+VB_TAKEN_BY(1, 8, u8_u64)
+VB_TAKEN_BY(2, 8, u16_u64)
+VB_TAKEN_BY(4, 8, u32_u64)
+VB_TAKEN_BY(8, 8, u64_u64)
+VB_TAKEN_BY(16, 8, u128_u64)
+#undef VB_TAKEN_BY
+
+/* How many of so many values indices of the type can name: negative ones are read as behind them. */
+template <class Index> std::size_t reached(std::size_t count)
+{
+    if constexpr (std::is_signed_v<Index>) {
+        return std::min(count, static_cast<std::size_t>(std::numeric_limits<Index>::max()) + 1);
+    }
+    return count;
+}
+
+} // namespace detail
+
+/*
+ * Writes the values at the indices, of a whole number of 8 to 64 bits, to the front of `out`, one
+ * each; where `valid` is false, 0, whatever the index. Answers the first position that counts and
+ * whose index names no value, if there is one, and the items in front then hold anything; those of
+ * `out` behind them stay. Values are of the types that keep_into takes.
+ */
+template <class Values, class Indices, class Out>
+std::optional<std::size_t> take_values(const Values &values, const Indices &indices,
+    const std::optional<bits> &valid, Out &&out)
+{
+    using value = std::remove_cv_t<detail::lent_t<const Values>>;
+    using index = std::remove_cv_t<detail::lent_t<const Indices>>;
+    static_assert(detail::is_value<value>(),
+        "take_values takes values of 1, 2, 4, 8 or 16 bytes that are copied and aligned as whole "
+        "numbers are: these, floats, bool, vb_u128. std::vector<bool> has none of them");
+    static_assert(detail::is_index<index>(),
+        "take_values takes indices of a whole number of 8, 16, 32 or 64 bits");
+    static_assert(std::is_same_v<detail::lent_t<std::remove_reference_t<Out>>, value>,
+        "take_values writes values of the type that it reads");
+    detail::expect(indices.size() <= out.size(), "no room for a value an index");
+    detail::expect(!valid || valid->size() == indices.size(), "not a bit of validity for each index");
+    if constexpr (detail::is_value<value>() && detail::is_index<index>()) {
+        using laid = typename detail::laid<sizeof(value)>::type;
+        using as = typename detail::laid<sizeof(index)>::type;
+        const bits counts = valid.value_or(bits());
+        return detail::place(detail::taken_by<sizeof(value), sizeof(index)>::take(
+            reinterpret_cast<laid *>(out.data()), out.size(),
+            reinterpret_cast<const laid *>(values.data()), detail::reached<index>(values.size()),
+            reinterpret_cast<const as *>(indices.data()), indices.size(), !valid, counts.bytes_,
+            counts.size_, counts.offset_));
+    }
+    return std::nullopt;
+}
+
+/* The same where every position counts. */
+template <class Values, class Indices, class Out>
+std::optional<std::size_t> take_values(const Values &values, const Indices &indices, Out &&out)
+{
+    return take_values(values, indices, std::nullopt, std::forward<Out>(out));
+}
+
+} // namespace vortex_bits
+
+#endif

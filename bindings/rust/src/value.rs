@@ -1,0 +1,81 @@
+//! Types of values.
+
+/// A type of values that are filtered and taken: whole numbers of any width, floats, `bool` and
+/// `char`, and arrays of these, as Arrow's decimals of 256 bits are `[u64; 4]`. Of them the C
+/// functions take those of 1, 2, 4, 8 and 16 bytes that are aligned as a whole number of that size,
+/// those of 16 as one of 8; the others go by plain Rust.
+#[diagnostic::on_unimplemented(
+    message = "values of `{Self}` are neither filtered nor taken",
+    label = "values are whole numbers, floats, or arrays of these",
+    note = "those of another type go by their places: `mask.set_indices().map(|row| &values[row])`"
+)]
+pub trait Value: sealed::Value {}
+
+pub(crate) mod sealed {
+    /// What a type of values answers.
+    pub trait Value: Copy {
+        /// What stands where a position has no value: all bytes are 0.
+        const ZERO: Self;
+    }
+}
+
+macro_rules! values {
+    ($($value:ty, $zero:expr;)*) => {$(
+        impl Value for $value {}
+
+        impl sealed::Value for $value {
+            const ZERO: $value = $zero;
+        }
+    )*};
+}
+
+values! {
+    u8, 0;
+    u16, 0;
+    u32, 0;
+    u64, 0;
+    u128, 0;
+    usize, 0;
+    i8, 0;
+    i16, 0;
+    i32, 0;
+    i64, 0;
+    i128, 0;
+    isize, 0;
+    f32, 0.0;
+    f64, 0.0;
+    bool, false;
+    char, '\0';
+}
+
+impl<V: Value, const N: usize> Value for [V; N] {}
+
+impl<V: Value, const N: usize> sealed::Value for [V; N] {
+    const ZERO: [V; N] = [V::ZERO; N];
+}
+
+/// How the C functions see a value that is copied.
+#[cfg(vortex_bits_native)]
+#[derive(Clone, Copy)]
+pub(crate) enum Laid {
+    One,
+    Two,
+    Four,
+    Eight,
+    Sixteen,
+}
+
+#[cfg(vortex_bits_native)]
+impl Laid {
+    /// How they see one of this type; None where they don't.
+    pub(crate) const fn of<T>() -> Option<Laid> {
+        match (size_of::<T>(), align_of::<T>()) {
+            (1, _) => Some(Laid::One),
+            (2, 2..) => Some(Laid::Two),
+            (4, 4..) => Some(Laid::Four),
+            (8, 8..) => Some(Laid::Eight),
+            (16, 8..) => Some(Laid::Sixteen),
+            _ => None,
+        }
+    }
+}

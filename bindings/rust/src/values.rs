@@ -1,0 +1,178 @@
+//! Values at indices: `take_into` writes them into a slice that is there, `take` into a new `Vec`.
+//!
+//! Each has a form with a validity, of which a position counts where its bit is true, and a form
+//! `try_` that answers an error where the other panics.
+//!
+//! ```
+//! use vortex_bits::{Bits, values};
+//!
+//! let column = [10i64, 20, 30, 40];
+//! let valid = Bits::new(&[0b011], 0, 3);
+//! assert_eq!(values::take(&column, &[3u8, 0]), [40, 10]);
+//! assert_eq!(values::take_valid(&column, &[3i32, 1, -1], valid), [40, 20, 0]);
+//! assert!(values::try_take(&column, &[4u32]).is_err());
+//! ```
+
+#[cfg(feature = "alloc")]
+use alloc::vec;
+#[cfg(feature = "alloc")]
+use alloc::vec::Vec;
+
+use crate::error::{TakeValuesError, expect};
+use crate::{BitIndex, Bits, Mask, Value, kernels};
+
+/// Writes the values at the indices to `out`, one each.
+///
+/// # Panics
+///
+/// Where [`try_take_into`] answers an error.
+///
+/// ```
+/// use vortex_bits::values;
+///
+/// let mut taken = [0.0; 3];
+/// values::take_into(&[0.5, 1.5, 2.5], &[2u32, 0, 2], &mut taken);
+/// assert_eq!(taken, [2.5, 0.5, 2.5]);
+/// ```
+#[inline]
+#[track_caller]
+pub fn take_into<T: Value, I: BitIndex>(values: &[T], indices: &[I], out: &mut [T]) {
+    expect(try_take_into(values, indices, out));
+}
+
+/// Writes the values at the indices to `out`, one each.
+///
+/// # Errors
+///
+/// Where `out` isn't as long as the indices, and at the first index that names no value.
+#[inline]
+pub fn try_take_into<T: Value, I: BitIndex>(
+    values: &[T],
+    indices: &[I],
+    out: &mut [T],
+) -> Result<(), TakeValuesError> {
+    try_take_valid_into(values, indices, None::<Bits<'_>>, out)
+}
+
+/// [`take_into`] of the indices that are valid: at the others 0 is written, whatever they are.
+///
+/// # Panics
+///
+/// Where [`try_take_valid_into`] answers an error.
+///
+/// ```
+/// use vortex_bits::{Bits, values};
+///
+/// let mut taken = [9; 3];
+/// let valid = Bits::new(&[0b101], 0, 3);
+/// values::take_valid_into(&[1u8, 2, 3], &[2i64, -1, 0], valid, &mut taken);
+/// assert_eq!(taken, [3, 0, 1]);
+/// ```
+#[inline]
+#[track_caller]
+pub fn take_valid_into<T: Value, I: BitIndex>(
+    values: &[T],
+    indices: &[I],
+    validity: impl Mask,
+    out: &mut [T],
+) {
+    expect(try_take_valid_into(values, indices, validity, out));
+}
+
+/// [`try_take_into`] of the indices that are valid: at the others 0 is written, whatever they are.
+///
+/// # Errors
+///
+/// Where `out` or `validity` isn't as long as the indices, and at the first index that is valid and
+/// names no value.
+#[inline]
+pub fn try_take_valid_into<T: Value, I: BitIndex>(
+    values: &[T],
+    indices: &[I],
+    validity: impl Mask,
+    out: &mut [T],
+) -> Result<(), TakeValuesError> {
+    let (room, count) = (out.len(), indices.len());
+    if room != count {
+        return Err(TakeValuesError::Room {
+            room,
+            indices: count,
+        });
+    }
+    if let Some(bits) = validity.mask_len().filter(|&bits| bits != count) {
+        return Err(TakeValuesError::Validity {
+            bits,
+            indices: count,
+        });
+    }
+    match kernels::take_values(out, values, indices, validity.mask()) {
+        Some(position) => Err(TakeValuesError::Index {
+            position,
+            index: indices[position].number(),
+            values: values.len(),
+        }),
+        None => Ok(()),
+    }
+}
+
+/// The values at the indices.
+///
+/// # Panics
+///
+/// Where [`try_take`] answers an error.
+#[cfg(feature = "alloc")]
+#[must_use]
+#[inline]
+#[track_caller]
+pub fn take<T: Value, I: BitIndex>(values: &[T], indices: &[I]) -> Vec<T> {
+    expect(try_take(values, indices))
+}
+
+/// The values at the indices.
+///
+/// # Errors
+///
+/// At the first index that names no value.
+#[cfg(feature = "alloc")]
+#[inline]
+pub fn try_take<T: Value, I: BitIndex>(
+    values: &[T],
+    indices: &[I],
+) -> Result<Vec<T>, TakeValuesError> {
+    try_take_valid(values, indices, None::<Bits<'_>>)
+}
+
+/// The values at the indices that are valid, and 0 at the others.
+///
+/// # Panics
+///
+/// Where [`try_take_valid`] answers an error.
+#[cfg(feature = "alloc")]
+#[must_use]
+#[inline]
+#[track_caller]
+pub fn take_valid<T: Value, I: BitIndex>(
+    values: &[T],
+    indices: &[I],
+    validity: impl Mask,
+) -> Vec<T> {
+    expect(try_take_valid(values, indices, validity))
+}
+
+/// The values at the indices that are valid, and 0 at the others.
+///
+/// # Errors
+///
+/// Where `validity` isn't as long as the indices, and at the first index that is valid and names no
+/// value.
+#[cfg(feature = "alloc")]
+#[inline]
+pub fn try_take_valid<T: Value, I: BitIndex>(
+    values: &[T],
+    indices: &[I],
+    validity: impl Mask,
+) -> Result<Vec<T>, TakeValuesError> {
+    let mut taken = vec![T::ZERO; indices.len()];
+    try_take_valid_into(values, indices, validity, &mut taken)?;
+    Ok(taken)
+}

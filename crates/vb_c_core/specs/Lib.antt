@@ -1,0 +1,4 @@
+pub mod Fits
+pub mod Place
+pub use Rattle.vb_bits.specs.Bits
+pub use Rattle.vb_bits.specs.InBytes

@@ -1,0 +1,9 @@
+pub mod Filtered
+pub mod Taken
+pub mod WideLaws
+pub use Rattle.vb_bits.specs.Bits
+pub use Rattle.vb_bits.specs.InBytes
+pub use Rattle.vb_bits.specs.Kept
+pub use Rattle.vb_c_core.specs.Fits
+pub use Rattle.vb_core.specs.Elements
+pub use Rattle.vb_take.specs.ItemsTaken

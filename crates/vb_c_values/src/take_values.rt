@@ -1,0 +1,62 @@
+//! Values at indices. A file has those of one width of indices.
+ghost use Rattle.std.specs.Prelude.{◌≡◌, ◌≤◌, length, map};
+ghost use Rattle.vb_c_core.specs.Fits.{DoneIf};
+ghost use Rattle.vb_c_values.specs.Taken.{HasValidity, TakesValues, validity_of};
+
+pub mod by_u16;
+pub mod by_u32;
+pub mod by_u64;
+pub mod by_u8;
+
+use vb_bits::window_fits;
+use vb_c_core::Place;
+use vb_core::{BitIndex, Element};
+use vb_take::take_values_into;
+use vb_view::BitBufferView;
+
+/// Writes the values at the indices to the front of `out`, and answers no place, or the first
+/// position that counts and whose index names no value.
+fn take_values<T: Element, I: BitIndex>(
+    out: &mut [T],
+    values: &[T],
+    indices: &[I],
+    all_valid: bool,
+    validity: &[u8],
+    v: usize,
+) -> Place
+    requires room { length indices.now ≤ length out.old }
+    requires validity { HasValidity all_valid validity.now v (length indices.now) }
+    ensures { TakesValues T.zero values.now (map I.number indices.now)
+        (validity_of all_valid validity.now v (length indices.now)) out.old out.new result }
+{
+    let valid = if all_valid {
+        None
+    } else {
+        Some(BitBufferView::new_with_offset(validity, indices.len(), v))
+    };
+    take_values_into(out, values, indices, valid).err().into()
+}
+
+/// Whether the numbers are good; `past` is then what [`take_values`] answers, and else all is as it
+/// was.
+fn try_take_values<T: Element, I: BitIndex>(
+    out: &mut [T],
+    values: &[T],
+    indices: &[I],
+    all_valid: bool,
+    validity: &[u8],
+    v: usize,
+    past: &mut Place,
+) -> bool
+    ensures { DoneIf ((length indices.now ≤ length out.old)
+        × HasValidity all_valid validity.now v (length indices.now))
+        (TakesValues T.zero values.now (map I.number indices.now)
+        (validity_of all_valid validity.now v (length indices.now)) out.old out.new past.new)
+        ((out.new ≡ out.old) × (past.new ≡ past.old)) result }
+{
+    if out.len() < indices.len() || !all_valid && !window_fits(validity, v, indices.len()) {
+        return false;
+    }
+    *past = take_values(out, values, indices, all_valid, validity, v);
+    true
+}
