@@ -7,6 +7,7 @@
 
 mod bit;
 mod bytes;
+mod copy;
 mod equal;
 mod fill;
 mod lanes;
@@ -24,6 +25,7 @@ mod zip;
 
 pub use bit::{get_bit, get_bit_unchecked, set_bit_to, set_bit_unchecked, unset_bit_unchecked};
 pub use bytes::{chunk_at, word_at, write_word};
+pub use copy::copy_bits;
 pub use equal::equal_bits;
 pub use fill::fill_bits;
 pub use last::last_set_index;
@@ -34,4 +36,4 @@ pub use read::{full_word, read_bits, read_u64_le, read_word};
 pub use select::{select_in_byte, select_in_word};
 pub use window::window_fits;
 pub use word::{digit, low_digits};
-pub use zip::{BitOp, copy_bits, zip_words};
+pub use zip::{BitOp, zip_words};

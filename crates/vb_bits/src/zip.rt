@@ -1,4 +1,4 @@
-//! Windows combined by an operator, and copied.
+//! Windows combined by an operator.
 ghost use Rattle.std.specs.Prelude.{◌+◌, ◌*◌, ◌^◌, ◌<◌, ◌≤◌, length};
 ghost use Rattle.vb_bits.specs.Bits.{bits};
 ghost use Rattle.vb_bits.specs.InBytes.{InBytes};
@@ -6,7 +6,7 @@ ghost use Rattle.vb_bits.specs.Operators.{combined_by};
 ghost use Rattle.vb_bits.specs.Writes.{Writes};
 
 use crate::merge::merge_bits;
-use crate::operator::{And, AndNot, Or, Right, Xor};
+use crate::operator::{And, AndNot, Or, Xor};
 
 /// How two bits are combined.
 #[derive(Clone, Copy, Debug, PartialEq, Eq)]
@@ -40,16 +40,4 @@ pub fn zip_words(dst: &mut [u8], d: usize, src: &[u8], s: usize, len: usize, op:
         BitOp::Xor => merge_bits::<Xor>(dst, d, src, s, len),
         BitOp::AndNot => merge_bits::<AndNot>(dst, d, src, s, len),
     }
-}
-
-/// Copies the `len` bits of `src` from bit `s` on to the bits of `dst` from bit `d` on, and leaves
-/// every other bit of `dst`.
-///
-/// It goes by words of 64 bits, four at a time, whatever the two offsets are.
-pub fn copy_bits(dst: &mut [u8], d: usize, src: &[u8], s: usize, len: usize)
-    requires into { InBytes dst.old d len }
-    requires from { InBytes src.now s len }
-    ensures { Writes dst.old dst.new d (bits src.now s len) }
-{
-    merge_bits::<Right>(dst, d, src, s, len);
 }

@@ -3,7 +3,7 @@ use Rattle.vb_bits.specs.Bits.{bits}
 use Rattle.vb_bits.specs.Writes.{Writes}
 use Rattle.vb_bits.proofs.BitsLemmas.{length-bits}
 use Rattle.vb_bits.proofs.OperatorsLemmas.{merged_right}
-use Rattle.vb_bits.proofs.zip.copy_bits.Goals as goal
+use Rattle.vb_bits.proofs.copy.copy_bits.Goals as goal
 
 pub returns : goal.returns
 returns c =
