@@ -6,7 +6,7 @@
 #![tactic(auto)]
 
 ghost use Rattle.std.specs.Prelude.{◌≡◌, ◌≢◌, ◌+◌, ◌*◌, ◌%◌, ◌^◌, ◌<◌, ◌≤◌, [], ◌++◌};
-ghost use Rattle.std.specs.Prelude.{length, vec_capacity, IfOk, IsOk, IsErrOf};
+ghost use Rattle.std.specs.Prelude.{length, vec_capacity, IfOk, IfErr, IsOk, IsErrOf};
 ghost use Rattle.vb_bytes.specs.MakesBytes.{MakesBytes, ReadsBytes};
 ghost use Rattle.vb_bytes.specs.ByteForm.{byteform, IsReadFrom};
 
@@ -21,6 +21,9 @@ use vb_core::{BufferError, Element, Result};
 pub fn byte_count<T: Element>(items: usize) -> Result<usize>
     ensures fits { items * T.SIZE < 2 ^ 64 → result ≡ Ok (items * T.SIZE) }
     ensures too_many { 2 ^ 64 ≤ items * T.SIZE → IsErrOf result BufferError.TooManyBytes }
+    ensures ok { IfOk result (λ bytes. bytes ≡ items * T.SIZE) }
+    ensures err { IfErr result (λ e. (2 ^ 64 ≤ items * T.SIZE)
+        × (e ≡ BufferError.TooManyBytes)) }
 {
     items.checked_mul(T::SIZE).ok_or(BufferError::TooManyBytes)
 }
@@ -39,11 +42,12 @@ pub fn item_count<T: Element>(len: usize) -> Result<usize>
     Ok(len / size)
 }
 
-/// Adds the bytes of items behind those that are there, where there is room for them. It compiles
-/// to moves of blocks, and writes each byte once.
+/// Adds the bytes of items behind those that are there, where there is room for them; the capacity
+/// stays. It compiles to moves of blocks, and writes each byte once.
 pub fn push_bytes<T: Element, A: Allocator>(items: &[T], bytes: &mut Vec<u8, A>)
     requires { length bytes.old.items + length items.now * T.SIZE ≤ vec_capacity bytes.old }
-    ensures { bytes.new.items ≡ bytes.old.items ++ byteform T.form items.now }
+    ensures form { bytes.new.items ≡ bytes.old.items ++ byteform T.form items.now }
+    ensures capacity { vec_capacity bytes.new ≡ vec_capacity bytes.old }
 {
     for item in items {
         push_form(*item, bytes);

@@ -1,11 +1,12 @@
 -- Powers of two: their one digit, and which divides which.
 use Rattle.std.proofs.Common.{◌≡◌, ℕ, ◌+◌, ◌-◌, ◌*◌, ◌^◌, ◌<◌, ◌≤◌, ◌%◌, IsTrue, count_ones, sym}
-use Rattle.std.proofs.Common.{ap, subst, ◌∙◌, arith, rules}
+use Rattle.std.proofs.Common.{ap, subst, ◌∙◌, inl, inr, arith, rules}
 use Rattle.std.proofs.Math.Nat.{mod-eq_of_lt, mod_self}
 use Rattle.std.proofs.Math.Pow.{mod-mod-pow, pow-lt}
 use Rattle.std.proofs.lemmas.Nat.{pow_pos, zero_from_ones}
 use Rattle.std.specs.Int.{is_power_of_two}
 use Rattle.std.specs.Int.Count.{ones, ones_cat}
+use Rattle.vb_core.specs.Alignments.{IsPower, halvings}
 
 -- a digit in front of k others, by itself
 count_ones-above : (k rest : ℕ) → rest < 2 ^ k → count_ones (2 ^ k + rest) ≡ 1 + count_ones rest
@@ -31,6 +32,14 @@ is_power_of_two-pow k =
     let digits : count_ones (2 ^ k) ≡ 1 =
     ap count_ones (omega arith) ∙ count_ones-above k 0 (pow_pos k) in
     search rules
+
+-- a power of two, however it is shown, has one digit
+pub is_power_of_two-IsPower : (n : ℕ) → IsPower n → IsTrue (is_power_of_two n)
+is_power_of_two-IsPower n power = elim power [
+  | inl one_digit ↦ one_digit
+  | inr halved ↦
+      subst (λ n. IsTrue (is_power_of_two n)) halved (is_power_of_two-pow (halvings 64 n))
+]
 
 -- a power of two is a multiple of each lower one
 pub pow-mod-pow : (n k : ℕ) → k ≤ n → 2 ^ n % 2 ^ k ≡ 0

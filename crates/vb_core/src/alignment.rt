@@ -1,6 +1,6 @@
 //! Alignments in bytes.
-ghost use Rattle.std.specs.Prelude.{◌≡◌, ◌^◌, ◌<◌, ◌≤◌, ◌%◌, ◌↔◌, IsTrue, IsErrOf, IsOkAnd, Some};
-ghost use Rattle.std.specs.Int.{is_power_of_two};
+ghost use Rattle.std.specs.Prelude.{◌≡◌, ◌^◌, ◌<◌, ◌≤◌, ◌%◌, ◌↔◌, IsTrue, Some};
+ghost use Rattle.std.specs.Prelude.{IfOk, IfErr, IsErrOf, IsOkAnd};
 ghost use Rattle.std.specs.Fmt.{decimal};
 ghost use Rattle.vb_core.specs.Alignments.{IsPower};
 
@@ -88,6 +88,9 @@ impl Alignment {
     pub fn try_from_exponent(exponent: u8) -> Result<Self>
         ensures fits { exponent < 64 → result ≡ Ok exponent }
         ensures too_large { 64 ≤ exponent → IsErrOf result (BufferError.ExponentTooLarge exponent) }
+        ensures ok { IfOk result (λ alignment. (exponent < 64) × (alignment ≡ exponent)) }
+        ensures err { IfErr result (λ e. (64 ≤ exponent)
+            × (e ≡ BufferError.ExponentTooLarge exponent)) }
     {
         if exponent >= 64 {
             return Err(BufferError::ExponentTooLarge { exponent });
@@ -103,6 +106,10 @@ impl Alignment {
         ensures untrusted { 16 < exponent → exponent < 64 →
             IsErrOf result (BufferError.Untrusted exponent) }
         ensures too_large { 64 ≤ exponent → IsErrOf result (BufferError.ExponentTooLarge exponent) }
+        ensures ok { IfOk result (λ alignment. (exponent ≤ 16) × (alignment ≡ exponent)) }
+        ensures err { IfErr result (λ e. (16 < exponent)
+            × (exponent < 64 → e ≡ BufferError.Untrusted exponent)
+            × (64 ≤ exponent → e ≡ BufferError.ExponentTooLarge exponent)) }
     {
         let alignment = Alignment::try_from_exponent(exponent)?;
         if alignment > Alignment::MAX_UNTRUSTED {
@@ -114,11 +121,12 @@ impl Alignment {
     /// The alignment of `align` bytes. Refused by `AlignmentZero` exactly where `align` is 0, and
     /// by `NotPowerOfTwo` exactly where it is another number that is no power of two.
     pub fn try_from_u32(align: u32) -> Result<Self>
-        ensures power { IsTrue (is_power_of_two align) →
-            IsOkAnd result (λ alignment. 2 ^ alignment ≡ align) }
+        ensures power { IsPower align → IsOkAnd result (λ alignment. 2 ^ alignment ≡ align) }
         ensures zero { align ≡ 0 → IsErrOf result BufferError.AlignmentZero }
-        ensures no_power { 0 < align → ¬ IsTrue (is_power_of_two align) →
+        ensures no_power { 0 < align → ¬ IsPower align →
             IsErrOf result (BufferError.NotPowerOfTwo align) }
+        ensures ok { IfOk result (λ alignment. 2 ^ alignment ≡ align) }
+        ensures err { IfErr result (λ _. ¬ IsPower align) }
     {
         let value = align as usize;
         if value == 0 {
@@ -134,6 +142,8 @@ impl Alignment {
     pub fn to_u32(self) -> Result<u32>
         ensures fits { self < 32 → result ≡ Ok (2 ^ self) }
         ensures past { 32 ≤ self → IsErrOf result (BufferError.PastU32 self) }
+        ensures ok { IfOk result (λ bytes. (self < 32) × (bytes ≡ 2 ^ self)) }
+        ensures err { IfErr result (λ e. (32 ≤ self) × (e ≡ BufferError.PastU32 self)) }
     {
         if self.exponent >= 32 {
             return Err(BufferError::PastU32 {
