@@ -4,7 +4,7 @@ ghost use Rattle.std.specs.Borrow.{Lends, Array, sem};
 ghost use Rattle.vb_mem.specs.OpenBuffer.{Holds, with_items};
 ghost use Rattle.vb_mem.specs.contracts.buffer_mut.BufferMut.{the_row};
 
-use crate::content::Window;
+use crate::window::Window;
 use std::alloc::{Allocator, Global};
 use std::marker::Model;
 use vb_core::{Alignment, Element};

@@ -7,18 +7,11 @@ ghost use Rattle.vb_mem.specs.Loans.{LendsStorage};
 
 use crate::Result;
 use crate::buffer_mut::BufferMut;
+use crate::window::Window;
 use std::alloc::Allocator;
 use std::ops::Range;
 use std::rc::Rc;
 use vb_core::{Alignment, BufferError, Element};
-
-/// Items of a storage, from `start` on, and the alignment that is reported of them.
-#[derive(Clone, Copy)]
-pub(crate) struct Window {
-    pub(crate) start: usize,
-    pub(crate) len: usize,
-    pub(crate) alignment: Alignment,
-}
 
 /// What a buffer shows of a storage that other buffers may show too.
 #[derive(Drop)]

@@ -10,6 +10,7 @@ mod buffer_mut;
 mod compare;
 mod content;
 mod iter;
+mod window;
 
 pub use buffer::Buffer;
 pub use buffer_mut::BufferMut;
