@@ -13,13 +13,17 @@ use std::alloc::Allocator;
 use vb_core::{BufferError, Element, ExtendError, TrustedLen};
 
 impl<T: Element, A: Allocator> BufferMut<T, A> {
-    /// Makes room for so many more items. Refused by `OutOfMemory`; the buffer is unchanged then.
+    /// Makes room for so many more items. Where there is room it takes no memory, succeeds, and the
+    /// capacity stays; else it is refused by `OutOfMemory`, and the buffer is unchanged then.
     pub fn reserve(&mut self, additional: usize) -> Result<()>
         ensures ok { OnOk result (Lengthens [] self.old self.new) }
         ensures room { OnOk result (HasRoom self.new additional) }
+        ensures stays { HasRoom self.old additional → self.new.room ≡ self.old.room }
         ensures needs_room { NeedsRoom additional result self.old self.new }
     {
-        self.items.reserve(additional)?;
+        if self.items.capacity() - self.items.len() < additional {
+            self.items.reserve(additional)?;
+        }
         Ok(())
     }
 
@@ -36,10 +40,12 @@ impl<T: Element, A: Allocator> BufferMut<T, A> {
         Ok(())
     }
 
-    /// Adds an item. Within the capacity it takes no memory and succeeds; else it is refused by
-    /// `OutOfMemory`, and the buffer is unchanged then. Amortized, the cost of a push is constant.
+    /// Adds an item. Within the capacity it takes no memory, succeeds, and the capacity stays; else
+    /// it is refused by `OutOfMemory`, and the buffer is unchanged then. Amortized, the cost of a
+    /// push is constant.
     pub fn push(&mut self, item: T) -> Result<()>
         ensures ok { OnOk result (Lengthens (item ∷ []) self.old self.new) }
+        ensures stays { HasRoom self.old 1 → self.new.room ≡ self.old.room }
         ensures needs_room { NeedsRoom 1 result self.old self.new }
     {
         self.reserve(1)?;
@@ -47,10 +53,11 @@ impl<T: Element, A: Allocator> BufferMut<T, A> {
         Ok(())
     }
 
-    /// Adds an item, for which there is room.
+    /// Adds an item, for which there is room. The capacity stays.
     pub fn push_unchecked(&mut self, item: T)
         requires { HasRoom self.old 1 }
-        ensures { Lengthens (item ∷ []) self.old self.new }
+        ensures adds { Lengthens (item ∷ []) self.old self.new }
+        ensures stays { self.new.room ≡ self.old.room }
     {
         self.items.push_reserved(item);
     }
