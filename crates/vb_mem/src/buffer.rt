@@ -21,8 +21,10 @@ mod make;
 /// is at least that of an item and at most the declared one. Unless the buffer is empty, the byte
 /// offset of its first item from the start of the storage is a multiple of the reported one.
 ///
-/// "Over-aligned to 256 bytes" says that the storage is declared with 256 bytes, or with the
-/// reported alignment if that is greater. Equality, order and hash are those of the list.
+/// A constructor reports its argument `alignment`, which has to be at least that of an item; where
+/// it has no such argument, it reports that of an item. "Over-aligned to 256 bytes" says that the
+/// storage is declared with 256 bytes, or with the reported alignment if that is greater. Equality,
+/// order and hash are those of the list.
 #[derive(Drop)]
 pub struct Buffer<T: Element, A: Allocator = Global> {
     content: Content<T, A>,

@@ -70,8 +70,8 @@ impl<T: Element, A: Allocator + Clone> Buffer<T, A> {
         Buffer::from_byte_buffer_aligned(bytes, Alignment::of::<T>())
     }
 
-    /// The items whose bytes a buffer has, with an alignment, copied and over-aligned to 256 bytes.
-    /// Refused as [`Buffer::from_byte_buffer`] is.
+    /// The items whose bytes a buffer has, with an alignment, which is at least that of an item,
+    /// copied and over-aligned to 256 bytes. Refused as [`Buffer::from_byte_buffer`] is.
     pub fn from_byte_buffer_aligned(bytes: Buffer<u8, A>, alignment: Alignment) -> Result<Self>
         requires { T.align_exponent ≤ alignment }
         ensures { ReadsBytes (length bytes.list) T.SIZE
@@ -91,8 +91,9 @@ impl<T: Element, A: Allocator + Clone> Buffer<T, A> {
         Buffer::from_bytes_aligned(alloc, bytes, Alignment::of::<T>())
     }
 
-    /// The items whose bytes `Bytes` of any allocator has, with an alignment, copied and
-    /// over-aligned to 256 bytes. Refused as [`Buffer::from_byte_buffer`] is.
+    /// The items whose bytes `Bytes` of any allocator has, with an alignment, which is at least
+    /// that of an item, copied and over-aligned to 256 bytes. Refused as
+    /// [`Buffer::from_byte_buffer`] is.
     pub fn from_bytes_aligned<B: Allocator>(
         alloc: A,
         bytes: Bytes<B>,

@@ -23,7 +23,8 @@ impl<T: Element, A: Allocator> Buffer<T, A> {
         Buffer::empty_aligned(alloc, Alignment::of::<T>())
     }
 
-    /// No items and no storage, with an alignment. It takes no memory.
+    /// No items and no storage, with an alignment, which is at least that of an item. It takes no
+    /// memory.
     pub fn empty_aligned(alloc: A, alignment: Alignment) -> Self
         requires { T.align_exponent ≤ alignment }
         ensures list { result.list ≡ [] }
@@ -44,7 +45,8 @@ impl<T: Element, A: Allocator + Clone> Buffer<T, A> {
         BufferMut::copy_from(alloc, items)?.freeze()
     }
 
-    /// A copy of a slice with an alignment, over-aligned to 256 bytes. Refused by `OutOfMemory`.
+    /// A copy of a slice with an alignment, which is at least that of an item, over-aligned to 256
+    /// bytes. Refused by `OutOfMemory`.
     pub fn copy_from_aligned(alloc: A, items: &[T], alignment: Alignment) -> Result<Self>
         requires { T.align_exponent ≤ alignment }
         ensures { Makes (ShowsMade items.now alignment) result }
@@ -52,7 +54,8 @@ impl<T: Element, A: Allocator + Clone> Buffer<T, A> {
         BufferMut::copy_from_aligned(alloc, items, alignment)?.freeze()
     }
 
-    /// A copy of a slice, over-aligned to the preferred alignment. Refused by `OutOfMemory`.
+    /// A copy of a slice with an alignment, which is at least that of an item, over-aligned to the
+    /// preferred alignment. Refused by `OutOfMemory`.
     pub fn copy_from_preferred_aligned(
         alloc: A,
         items: &[T],
@@ -72,7 +75,8 @@ impl<T: Element, A: Allocator + Clone> Buffer<T, A> {
         BufferMut::zeroed(alloc, len)?.freeze()
     }
 
-    /// `len` zeros with an alignment, over-aligned to 256 bytes. Refused by `OutOfMemory`.
+    /// `len` zeros with an alignment, which is at least that of an item, over-aligned to 256 bytes.
+    /// Refused by `OutOfMemory`.
     pub fn zeroed_aligned(alloc: A, len: usize, alignment: Alignment) -> Result<Self>
         requires { T.align_exponent ≤ alignment }
         ensures { Makes (ShowsMade (replicate len T.zero) alignment) result }
@@ -80,7 +84,8 @@ impl<T: Element, A: Allocator + Clone> Buffer<T, A> {
         BufferMut::zeroed_aligned(alloc, len, alignment)?.freeze()
     }
 
-    /// `len` zeros, over-aligned to the preferred alignment. Refused by `OutOfMemory`.
+    /// `len` zeros with an alignment, which is at least that of an item, over-aligned to the
+    /// preferred alignment. Refused by `OutOfMemory`.
     pub fn zeroed_preferred_aligned(
         alloc: A,
         len: usize,

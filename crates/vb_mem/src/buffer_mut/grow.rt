@@ -91,10 +91,12 @@ impl<T: Element, A: Allocator> BufferMut<T, A> {
         Ok(())
     }
 
-    /// Adds the items that an iterator gives. Within the capacity it takes no memory and succeeds.
+    /// Adds the items that an iterator gives, which has to end. Within the capacity it takes no
+    /// memory and succeeds.
     ///
     /// Else it may be refused by `OutOfMemory`: the items that came until the capacity was full
-    /// stay then. The iterator's hint guides how much room is asked for, and decides no answer.
+    /// stay then, and the one that found no room is lost. The iterator's hint guides how much room
+    /// is asked for, and decides no answer.
     pub fn extend<I: IntoIterator<Item = T>>(&mut self, iter: I) -> Result<()>
         requires { IsFiniteIterable I.into_iter_gives I.IntoIter.can_next
             I.IntoIter.remaining iter }

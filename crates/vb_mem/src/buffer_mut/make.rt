@@ -18,8 +18,8 @@ impl<T: Element, A: Allocator> BufferMut<T, A> {
         BufferMut::with_capacity_aligned(alloc, capacity, Alignment::of::<T>())
     }
 
-    /// Room for `capacity` items with an alignment, over-aligned to 256 bytes.
-    /// Refused by `OutOfMemory`.
+    /// Room for `capacity` items with an alignment, which is at least that of an item, over-aligned
+    /// to 256 bytes. Refused by `OutOfMemory`.
     pub fn with_capacity_aligned(alloc: A, capacity: usize, alignment: Alignment) -> Result<Self>
         requires { T.align_exponent ≤ alignment }
         ensures { Makes (λ b. HoldsMade [] alignment b × (capacity ≤ b.room)) result }
@@ -52,7 +52,8 @@ impl<T: Element, A: Allocator> BufferMut<T, A> {
         BufferMut::zeroed_aligned(alloc, len, Alignment::of::<T>())
     }
 
-    /// `len` zeros with an alignment, over-aligned to 256 bytes. Refused by `OutOfMemory`.
+    /// `len` zeros with an alignment, which is at least that of an item, over-aligned to 256 bytes.
+    /// Refused by `OutOfMemory`.
     pub fn zeroed_aligned(alloc: A, len: usize, alignment: Alignment) -> Result<Self>
         requires { T.align_exponent ≤ alignment }
         ensures { Makes (HoldsMade (replicate len T.zero) alignment) result }
@@ -60,7 +61,8 @@ impl<T: Element, A: Allocator> BufferMut<T, A> {
         BufferMut::zeroed_preferred_aligned(alloc, len, alignment, DEFAULT)
     }
 
-    /// `len` zeros, over-aligned to the preferred alignment. Refused by `OutOfMemory`.
+    /// `len` zeros with an alignment, which is at least that of an item, over-aligned to the
+    /// preferred alignment. Refused by `OutOfMemory`.
     pub fn zeroed_preferred_aligned(
         alloc: A,
         len: usize,
@@ -83,7 +85,8 @@ impl<T: Element, A: Allocator> BufferMut<T, A> {
         BufferMut::empty_aligned(alloc, Alignment::of::<T>())
     }
 
-    /// An empty buffer with an alignment, over-aligned to 256 bytes. It takes no memory.
+    /// An empty buffer with an alignment, which is at least that of an item, over-aligned to 256
+    /// bytes. It takes no memory.
     pub fn empty_aligned(alloc: A, alignment: Alignment) -> Self
         requires { T.align_exponent ≤ alignment }
         ensures { HoldsMade [] alignment result }
@@ -91,7 +94,8 @@ impl<T: Element, A: Allocator> BufferMut<T, A> {
         BufferMut::empty_preferred_aligned(alloc, alignment, DEFAULT)
     }
 
-    /// An empty buffer with an alignment, over-aligned to the preferred one. It takes no memory.
+    /// An empty buffer with an alignment, which is at least that of an item, over-aligned to the
+    /// preferred one. It takes no memory.
     pub fn empty_preferred_aligned(
         alloc: A,
         alignment: Alignment,
@@ -135,7 +139,8 @@ impl<T: Element, A: Allocator> BufferMut<T, A> {
         BufferMut::copy_from_aligned(alloc, items, Alignment::of::<T>())
     }
 
-    /// A copy of a slice with an alignment, over-aligned to 256 bytes. Refused by `OutOfMemory`.
+    /// A copy of a slice with an alignment, which is at least that of an item, over-aligned to 256
+    /// bytes. Refused by `OutOfMemory`.
     pub fn copy_from_aligned(alloc: A, items: &[T], alignment: Alignment) -> Result<Self>
         requires { T.align_exponent ≤ alignment }
         ensures { Makes (HoldsMade items.now alignment) result }
@@ -143,7 +148,8 @@ impl<T: Element, A: Allocator> BufferMut<T, A> {
         BufferMut::copy_from_preferred_aligned(alloc, items, alignment, DEFAULT)
     }
 
-    /// A copy of a slice, over-aligned to the preferred alignment. Refused by `OutOfMemory`.
+    /// A copy of a slice with an alignment, which is at least that of an item, over-aligned to the
+    /// preferred alignment. Refused by `OutOfMemory`.
     pub fn copy_from_preferred_aligned(
         alloc: A,
         items: &[T],
