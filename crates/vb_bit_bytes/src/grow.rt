@@ -14,7 +14,7 @@ use vb_mem::ByteBufferMut;
 /// byte of its own.
 ///
 /// Refused by `OutOfMemory` alone; then the bytes and their room are unchanged. Within the room it
-/// takes no memory and succeeds.
+/// takes no memory, succeeds, and the room stays.
 #[tactic(auto, using(crate::proofs::BytesLemmas::edits))]
 pub fn push_bit<A: Allocator + Clone>(
     bytes: &mut ByteBufferMut<A>,
@@ -29,6 +29,8 @@ pub fn push_bit<A: Allocator + Clone>(
     ensures alignment { bytes.new.alignment ≡ bytes.old.alignment }
     ensures room { bytes.old.room ≤ bytes.new.room }
     ensures in_room { end + 1 ≤ 8 * max (length bytes.old.list) bytes.old.room → IsOk result }
+    ensures stays { end + 1 ≤ 8 * max (length bytes.old.list) bytes.old.room
+        → bytes.new.room ≡ bytes.old.room }
     ensures err { OnErr result (bytes.new ≡ bytes.old) }
     ensures refused { IsOkUnless result BufferError.OutOfMemory }
 {
