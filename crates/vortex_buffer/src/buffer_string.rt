@@ -119,7 +119,8 @@ impl<A: Allocator + Clone> BufferString<A> {
     }
 
     /// One more owner of the same text, in constant time and without memory for the storage.
-    /// Refused by `OutOfMemory` where a copy of the allocator finds no memory.
+    /// Refused by `OutOfMemory` where a copy of the allocator finds no memory, or where the storage
+    /// has as many owners as can be counted.
     pub fn clone(&self) -> Result<Self>
         ensures { Makes (λ text. text ≡ self.now) result }
     {

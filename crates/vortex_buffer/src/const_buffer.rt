@@ -129,7 +129,8 @@ impl<T: Element, const N: usize, A: Allocator + Clone> ConstBuffer<T, N, A> {
     }
 
     /// One more owner of the same items, in constant time and without memory for the storage.
-    /// Refused by `OutOfMemory` where a copy of the allocator finds no memory.
+    /// Refused by `OutOfMemory` where a copy of the allocator finds no memory, or where the storage
+    /// has as many owners as can be counted.
     pub fn clone(&self) -> Result<Self>
         ensures { Makes (λ fixed. fixed ≡ self.now) result }
     {
