@@ -1,15 +1,14 @@
 -- Windows of units of w bytes, one after the other.
-use Rattle.std.proofs.Common.{◌≡◌, ℕ, ◌+◌, ◌*◌, ◌/◌, ◌%◌, ◌<◌, ◌≤◌, Bool, List, sym, ap, ◌∙◌, arith}
-use Rattle.std.proofs.Common.{subst}
+use Rattle.std.proofs.Common.{◌≡◌, ℕ, ◌+◌, ◌*◌, ◌/◌, ◌%◌, ◌<◌, ◌≤◌, Bool, List, ap, arith, subst}
 use Rattle.std.proofs.Math.Nat.{mul-zero, mul-add, mul-one}
 use Rattle.std.proofs.lemmas.Nat.{column_fits}
 use Rattle.std.below.core.specs.declared.ops.ControlFlow.TheVariants.{Break}
 use Rattle.std.specs.Prelude.{slice_range}
 use Rattle.vb_bits.specs.Bits.{bits, count}
-use Rattle.vb_kernel.specs.Searches.{hits, Searched}
+use Rattle.vb_count.specs.Hits.{hits}
+use Rattle.vb_kernel.specs.Searches.{Searched}
 use Rattle.vb_bits.proofs.BytesLemmas.{bits_of_read}
-use Rattle.vb_kernel.proofs.SearchesLemmas.{count-hits-bits-add, Searched_after}
-use Rattle.vb_kernel.proofs.SearchesLemmas.{Searched_longer}
+use Rattle.vb_kernel.proofs.SearchesLemmas.{Searched_after, Searched_longer}
 
 -- no unit has bits
 pub units_none : (w : ℕ) → 8 * (w * 0) ≡ 0
@@ -29,15 +28,6 @@ pub bits_of_unit : (b c xs : List ℕ) (o p w s k : ℕ)
     → xs ≡ slice_range c (o / 8 + s * k) (o / 8 + s * k + w) → bits xs 0 (8 * w) ≡ bits b p (8 * w)
 bits_of_unit b c xs o p w s k same size aligned place read =
     bits_of_read b c xs (o / 8 + s * k) w p same read (omega (arith, ap (λ x. x * k) size))
-
--- how many are v in a window that is longer by one unit
-pub count_unit_more : (v : Bool) (b xs : List ℕ) (o m z w : ℕ)
-    → z ≡ m + 8 * w → bits xs 0 (8 * w) ≡ bits b (o + m) (8 * w)
-    → count (hits v (bits b o z))
-    ≡ count (hits v (bits b o m)) + count (hits v (bits xs 0 (8 * w)))
-count_unit_more v b xs o m z w longer is =
-    ap (λ n. count (hits v (bits b o n))) longer ∙ count-hits-bits-add v b o m (8 * w)
-    ∙ ap (λ l. count (hits v (bits b o m)) + count (hits v l)) (sym is)
 
 -- found in the unit at place m of a window
 pub found_in_unit : (v : Bool) (b xs : List ℕ) (o m z w n left p : ℕ)

@@ -1,11 +1,7 @@
 -- How a window is cut for reading.
-use Rattle.std.specs.Prelude.{◌≡◌, ℕ, ◌+◌, ◌*◌, ◌/◌, ◌%◌, ◌<◌, ◌≤◌, min}
+use Rattle.std.specs.Prelude.{◌≡◌, ℕ, ◌+◌, ◌*◌, ◌%◌, ◌<◌, ◌≤◌, min}
 use Rattle.vb_kernel.specs.declared.parts.Parts.{Parts}
-use Rattle.vb_kernel.specs.Looks.{looks}
-
--- the looks that n bits from a whole byte on take without chunks: words, bytes and a part of a byte
-abbrev pub rest_looks : ℕ → ℕ
-rest_looks n = n / 64 + n % 64 / 8 + min (n % 8) 1
+use Rattle.vb_count.specs.Looks.{looks, rest_looks}
 
 -- the parts of the window of n bits from bit o on: the head is of one byte, what follows begins at
 -- a whole byte

@@ -1,15 +1,10 @@
 -- A search that goes from list to list with what is left of a rank.
-use Rattle.std.specs.Prelude.{◌≡◌, ℕ, ◌+◌, ◌*◌, ◌^◌, ◌<◌, ◌≤◌, Bool, true, false, List, Some}
-use Rattle.std.specs.Prelude.{length}
+use Rattle.std.specs.Prelude.{◌≡◌, ℕ, ◌+◌, ◌*◌, ◌^◌, ◌<◌, ◌≤◌, Bool, List, Some, length}
 use Rattle.std.below.core.specs.declared.ops.ControlFlow.{ControlFlow}
 use Rattle.std.below.core.specs.declared.ops.ControlFlow.TheVariants.{Continue, Break}
 use Rattle.vb_kernel.specs.declared.search.Search.{Search}
-use Rattle.vb_bits.specs.Bits.{bits, count, complement, Selects}
-
--- for each value, whether it is v
-abbrev pub hits : Bool → List Bool → List Bool
-hits true l = l
-hits false l = complement l
+use Rattle.vb_bits.specs.Bits.{bits, count, Selects}
+use Rattle.vb_count.specs.Hits.{hits}
 
 -- the place of the n-th true value of the list, or the rank that is left for what comes after the
 -- list

@@ -10,27 +10,18 @@
 #![tactic(auto)]
 
 mod chunk;
-mod count;
-mod counter;
-mod glance;
-mod lanes;
-mod looks;
 mod parts;
-mod rest;
 mod search;
 mod select;
 mod unit;
-mod word;
 
-pub use count::{count_ones, count_ones_by};
-pub use glance::{Glance, Plain, Tally};
-pub use looks::most_looks;
 pub use select::{bit_select, bit_select_by, bit_select_unset, bit_select_unset_by};
 pub use vb_bits::{
     BitOp, copy_bits, equal_bits, fill_bits, full_word, get_bit, get_bit_unchecked, last_set_index,
     map_words, read_bits, read_u64_le, set_bit_to, set_bit_unchecked, unset_bit_unchecked,
     window_fits, zip_words,
 };
+pub use vb_count::{Glance, Plain, Tally, count_ones, count_ones_by, most_looks};
 pub use vb_pack::{
     collect_bool_word, collect_bool_word_scalar, collect_bool_words,
     collect_bool_words_multiversioned, pack_bool_word_lanes, pack_bool_word_swar,

@@ -1,14 +1,13 @@
 //! Searches of parts of a window for a bit by its rank.
 ghost use Rattle.std.specs.Prelude.{◌≡◌, ◌+◌, ◌*◌, ◌/◌, ◌%◌, ◌<◌, ◌≤◌, min};
 ghost use Rattle.vb_kernel.specs.Searches.{IsWithin, SearchAnswers};
-ghost use Rattle.vb_kernel.specs.Parts.{rest_looks};
-ghost use Rattle.vb_kernel.specs.Looks.{LooksExactly, LooksAtMost};
+ghost use Rattle.vb_count.specs.Looks.{rest_looks};
+ghost use Rattle.vb_count.specs.Looks.{LooksExactly, LooksAtMost};
 
-use crate::glance::Glance;
 use crate::unit::Unit;
-use crate::word::byte_part;
 use std::ops::ControlFlow;
 use vb_bits::select_in_byte;
+use vb_count::{Glance, byte_part};
 
 /// Where a search of a window stands, and what it seeks: of the bits from place `from` on that are
 /// `value`, the `n`-th.

@@ -2,15 +2,15 @@
 ghost use Rattle.std.specs.Prelude.{◌≡◌, ◌+◌, ◌-◌, ◌*◌, ◌/◌, ◌%◌, ◌^◌, ◌<◌, ◌≤◌, length};
 ghost use Rattle.vb_bits.specs.Bits.{bits, count, complement, Selects, InvertsCount};
 ghost use Rattle.vb_bits.specs.InBytes.{InBytes};
-ghost use Rattle.vb_kernel.specs.Looks.{looks, LooksExactly, LooksAtMost};
-ghost use Rattle.vb_kernel.specs.Searches.{hits, Searched, IsWithin, SearchAnswers};
+ghost use Rattle.vb_count.specs.Looks.{looks, LooksExactly, LooksAtMost};
+ghost use Rattle.vb_count.specs.Hits.{hits};
+ghost use Rattle.vb_kernel.specs.Searches.{Searched, IsWithin, SearchAnswers};
 
 use crate::chunk::find_in_chunk;
-use crate::count::add_chunks;
-use crate::glance::{Glance, Plain};
 use crate::parts::Parts;
 use crate::search::{Search, find_in_part, find_in_rest, find_in_units};
 use std::ops::ControlFlow;
+use vb_count::{Glance, Plain, add_chunks};
 
 /// Fewer chunks than these are searched by their words at once, which takes no longer than to count
 /// them first.

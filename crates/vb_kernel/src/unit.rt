@@ -3,12 +3,11 @@ ghost use Rattle.std.specs.Prelude.{◌≡◌, ℕ, ◌+◌, ◌*◌, ◌<◌, �
 ghost use Rattle.std.specs.Prelude.{slice_range};
 ghost use Rattle.std.specs.Int.{w64, to_le_bytes};
 ghost use Rattle.vb_bits.specs.Bits.{bits, count, Selects};
-ghost use Rattle.vb_kernel.specs.Searches.{hits};
-ghost use Rattle.vb_kernel.specs.Looks.{LooksExactly};
+ghost use Rattle.vb_count.specs.Hits.{hits};
+ghost use Rattle.vb_count.specs.Looks.{LooksExactly};
 
-use crate::glance::Glance;
-use crate::word::{byte_part, matching_word};
 use vb_bits::{select_in_byte, select_in_word};
+use vb_count::{Glance, byte_part, matching_word};
 
 /// Bytes that one look reads, and that are then counted and searched without another look.
 ///

@@ -9,9 +9,9 @@ use Rattle.std.proofs.lemmas.Bool.{cases_lt}
 use Rattle.std.proofs.lemmas.Int.Digits.{length-digits_of_step, length-digits_of-le}
 use Rattle.vb_bits.specs.Bits.{bits, count, Selects}
 use Rattle.vb_kernel.specs.Looks.{looks}
-use Rattle.vb_kernel.specs.Searches.{hits}
+use Rattle.vb_kernel.specs.Hits.{hits}
 use Rattle.vb_kernel.proofs.BitsLemmas.{length-bits, take-bits, count-bits-le}
-use Rattle.vb_kernel.proofs.SearchesLemmas.{count-hits-bits_split, count-hits-bits_false}
+use Rattle.vb_kernel.proofs.HitsLemmas.{count-hits-bits_split, count-hits-bits_false}
 use Rattle.vb_kernel.proofs.SearchesLemmas.{Searched_after, Searched_longer}
 use Rattle.vb_rank.specs.Tables.{CountedEntries, ProbesExactly, ProbesAtMost, blocks}
 use Rattle.vb_rank.specs.Tables.{block_counts, binary_digits}

@@ -3,7 +3,7 @@ ghost use Rattle.std.specs.Prelude.{◌≡◌, ℕ, List, ◌+◌, ◌*◌, ◌^
 ghost use Rattle.vb_bits.specs.Bits.{bits, complement, Selects, InvertsCount};
 ghost use Rattle.vb_bits.specs.InBytes.{InBytes};
 ghost use Rattle.vb_kernel.specs.Looks.{LooksAtMost};
-ghost use Rattle.vb_kernel.specs.Searches.{hits};
+ghost use Rattle.vb_kernel.specs.Hits.{hits};
 ghost use Rattle.vb_rank.specs.Tables.{blocks, binary_digits, block_counts, BeginsBefore};
 ghost use Rattle.vb_rank.specs.Tables.{ProbesAtMost, IsTableOf};
 

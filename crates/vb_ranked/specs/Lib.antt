@@ -2,8 +2,8 @@ pub mod Counts
 pub use Rattle.vb_bits.specs.InBytes
 pub use Rattle.vb_bits.specs.Bits
 pub use Rattle.vb_bits.specs.Writes
+pub use Rattle.vb_kernel.specs.Hits
 pub use Rattle.vb_kernel.specs.Looks
-pub use Rattle.vb_kernel.specs.Searches
 pub use Rattle.vb_rank.specs.Tables
 pub use Rattle.vb_set.specs.OpenSet
 pub use Rattle.vb_set.specs.View

@@ -5,7 +5,7 @@ ghost use Rattle.std.specs.Int.{div_ceil};
 ghost use Rattle.vb_bits.specs.Bits.{bits, count, Selects};
 ghost use Rattle.vb_bits.specs.InBytes.{InBytes};
 ghost use Rattle.vb_kernel.specs.Looks.{LooksAtMost};
-ghost use Rattle.vb_kernel.specs.Searches.{hits};
+ghost use Rattle.vb_kernel.specs.Hits.{hits};
 ghost use Rattle.vb_rank.specs.Tables.{blocks, block_counts, binary_digits, BeginsBefore, Rises};
 ghost use Rattle.vb_rank.specs.Tables.{ProbesExactly, ProbesAtMost};
 ghost use Rattle.vb_ranked.specs.Counts.{AreCounts, numbers_for};

@@ -27,8 +27,8 @@ pub use Rattle.vb_core.specs.Lengths
 pub use Rattle.vb_core.specs.LittleEndian
 pub use Rattle.vb_gather.specs.Filtered
 pub use Rattle.vb_gather.specs.TakenItems
+pub use Rattle.vb_kernel.specs.Hits
 pub use Rattle.vb_kernel.specs.Looks
-pub use Rattle.vb_kernel.specs.Searches
 pub use Rattle.vb_mem.specs.Makes
 pub use Rattle.vb_mem.specs.Collected
 pub use Rattle.vb_mem.specs.Loans

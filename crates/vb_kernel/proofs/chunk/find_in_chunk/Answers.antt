@@ -1,5 +1,6 @@
 use Rattle.std.proofs.Common.{ℕ, List, Bool, arith, refl}
-use Rattle.vb_kernel.proofs.SearchesLemmas.{Searched_on, count-hits-bits_none}
+use Rattle.vb_count.proofs.HitsLemmas.{count-hits-bits_none}
+use Rattle.vb_kernel.proofs.SearchesLemmas.{Searched_on}
 use Rattle.vb_kernel.proofs.chunk.find_in_chunk.Goals as goal
 
 pub returns : goal.returns

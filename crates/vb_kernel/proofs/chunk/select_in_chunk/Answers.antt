@@ -1,6 +1,6 @@
 use Rattle.std.proofs.Common.{sym, subst, ◌∙◌}
 use Rattle.vb_bits.specs.Bits.{bits, Selects}
-use Rattle.vb_kernel.specs.Searches.{hits}
+use Rattle.vb_count.specs.Hits.{hits}
 use Rattle.vb_kernel.proofs.SearchesLemmas.{Searched-Selects, IsSome-Selects}
 use Rattle.vb_kernel.proofs.chunk.select_in_chunk.Goals as goal
 

@@ -2,10 +2,12 @@ use Rattle.std.proofs.Common.{◌+◌, ◌^◌, ◌≤◌, ℕ, List, Bool, Some
 use Rattle.std.proofs.Common.{pow_mono}
 use Rattle.std.below.core.specs.declared.ops.ControlFlow.TheVariants.{Break}
 use Rattle.vb_bits.specs.Bits.{bits, count, Selects}
-use Rattle.vb_kernel.specs.Searches.{hits, Searched}
+use Rattle.vb_count.specs.Hits.{hits}
+use Rattle.vb_kernel.specs.Searches.{Searched}
 use Rattle.vb_bits.proofs.BytesLemmas.{bits_of_read_byte}
 use Rattle.vb_bits.proofs.DigitsLemmas.{count-digits_below}
-use Rattle.vb_kernel.proofs.SearchesLemmas.{count-hits-bits-add, Searched_inside}
+use Rattle.vb_count.proofs.HitsLemmas.{count-hits-bits-add}
+use Rattle.vb_kernel.proofs.SearchesLemmas.{Searched_inside}
 use Rattle.vb_kernel.proofs.SearchesLemmas.{Searched_after, Selects-digits_below}
 use Rattle.vb_kernel.proofs.search.find_in_part.Given.{Over}
 use Rattle.vb_kernel.proofs.search.find_in_part.Goals as goal

@@ -1,7 +1,7 @@
 use Rattle.std.proofs.Common.{◌+◌, ◌*◌, ◌/◌, ◌%◌, ℕ, List, Bool, refl, arith, ◌∙◌}
 use Rattle.std.below.core.specs.declared.ops.ControlFlow.TheVariants.{Continue, Break}
 use Rattle.vb_bits.specs.Bits.{bits, count}
-use Rattle.vb_kernel.specs.Searches.{hits}
+use Rattle.vb_count.specs.Hits.{hits}
 use Rattle.vb_kernel.proofs.SearchesLemmas.{Searched_on, Searched_longer}
 use Rattle.vb_kernel.proofs.search.find_in_rest.Goals as goal
 

@@ -1,10 +1,12 @@
 use Rattle.std.proofs.Common.{◌+◌, ◌*◌, ℕ, List, refl, arith, ◌∙◌, ap}
 use Rattle.std.below.core.specs.declared.ops.ControlFlow.TheVariants.{Break}
 use Rattle.vb_bits.specs.Bits.{bits, count}
-use Rattle.vb_kernel.specs.Searches.{hits, Searched}
+use Rattle.vb_count.specs.Hits.{hits}
+use Rattle.vb_kernel.specs.Searches.{Searched}
 use Rattle.vb_kernel.proofs.SearchesLemmas.{Searched_inside}
+use Rattle.vb_count.proofs.HitsLemmas.{count_unit_more}
 use Rattle.vb_kernel.proofs.UnitsLemmas.{units_none, units_more, units_within, bits_of_unit}
-use Rattle.vb_kernel.proofs.UnitsLemmas.{count_unit_more, found_in_unit}
+use Rattle.vb_kernel.proofs.UnitsLemmas.{found_in_unit}
 use Rattle.vb_kernel.proofs.search.find_in_units.Given.{Over}
 use Rattle.vb_kernel.proofs.search.find_in_units.Goals as goal
 use Rattle.vb_kernel.proofs.search.find_in_units.Goals.{After-struct_known-then-left-here-1}

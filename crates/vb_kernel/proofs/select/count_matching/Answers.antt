@@ -1,5 +1,5 @@
 use Rattle.std.proofs.Common.{◌*◌, arith}
-use Rattle.vb_kernel.proofs.SearchesLemmas.{count-hits-bits_true, count-hits-bits_false}
+use Rattle.vb_count.proofs.HitsLemmas.{count-hits-bits_true, count-hits-bits_false}
 use Rattle.vb_kernel.proofs.select.count_matching.Goals as goal
 
 pub returns-then-value-clause-value : goal.returns-then-value-clause-value

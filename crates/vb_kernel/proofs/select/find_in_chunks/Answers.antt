@@ -1,9 +1,11 @@
 use Rattle.std.proofs.Common.{◌+◌, ◌*◌, ℕ, List, Bool, refl, arith, ◌∙◌}
 use Rattle.std.below.core.specs.declared.ops.ControlFlow.TheVariants.{Break}
 use Rattle.vb_bits.specs.Bits.{bits, count}
-use Rattle.vb_kernel.specs.Searches.{hits, Searched}
+use Rattle.vb_count.specs.Hits.{hits}
+use Rattle.vb_kernel.specs.Searches.{Searched}
 use Rattle.vb_kernel.proofs.SearchesLemmas.{Searched_inside}
-use Rattle.vb_kernel.proofs.UnitsLemmas.{bits_of_unit, count_unit_more, found_in_unit}
+use Rattle.vb_count.proofs.HitsLemmas.{count_unit_more}
+use Rattle.vb_kernel.proofs.UnitsLemmas.{bits_of_unit, found_in_unit}
 use Rattle.vb_kernel.proofs.select.find_in_chunks.Given.{Over}
 use Rattle.vb_kernel.proofs.select.find_in_chunks.Goals as goal
 use Rattle.vb_kernel.proofs.select.find_in_chunks.Goals.{After-struct_known-in-Break-1}

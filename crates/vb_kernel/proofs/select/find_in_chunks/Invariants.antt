@@ -1,7 +1,7 @@
 use Rattle.std.proofs.Common.{◌≡◌, ◌+◌, ◌*◌}
 use Rattle.vb_bits.specs.Bits.{bits, count}
-use Rattle.vb_kernel.specs.Searches.{hits}
-use Rattle.vb_kernel.specs.Looks.{LooksExactly}
+use Rattle.vb_count.specs.Hits.{hits}
+use Rattle.vb_count.specs.Looks.{LooksExactly}
 use Rattle.vb_kernel.proofs.select.find_in_chunks.Given as goal
 
 abbrev pub invariant-loop-k : goal.invariant-loop-k

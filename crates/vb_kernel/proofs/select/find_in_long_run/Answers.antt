@@ -1,9 +1,9 @@
 use Rattle.std.proofs.Common.{◌≡◌, ◌+◌, ◌*◌, ℕ, List, Bool, refl, arith, ◌∙◌}
 use Rattle.std.below.core.specs.declared.ops.ControlFlow.TheVariants.{Continue}
 use Rattle.vb_bits.specs.Bits.{bits, count}
-use Rattle.vb_kernel.specs.Searches.{hits}
+use Rattle.vb_count.specs.Hits.{hits}
 use Rattle.vb_kernel.proofs.SearchesLemmas.{Searched_on, Searched_longer, Searched_front}
-use Rattle.vb_kernel.proofs.SearchesLemmas.{count-hits-bits-add, count-hits-bits_split}
+use Rattle.vb_count.proofs.HitsLemmas.{count-hits-bits-add, count-hits-bits_split}
 use Rattle.vb_kernel.proofs.select.find_in_long_run.Goals as goal
 
 pub returns-in_err-search-clause-found : goal.returns-in_err-search-clause-found

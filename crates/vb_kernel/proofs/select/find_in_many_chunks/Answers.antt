@@ -1,7 +1,8 @@
 use Rattle.std.proofs.Common.{◌≡◌, ◌+◌, ◌-◌, ◌*◌, ℕ, List, Bool, arith}
 use Rattle.vb_bits.specs.Bits.{bits, count}
-use Rattle.vb_kernel.specs.Searches.{hits}
-use Rattle.vb_kernel.proofs.SearchesLemmas.{Searched_on, count-hits-bits-add}
+use Rattle.vb_count.specs.Hits.{hits}
+use Rattle.vb_count.proofs.HitsLemmas.{count-hits-bits-add}
+use Rattle.vb_kernel.proofs.SearchesLemmas.{Searched_on}
 use Rattle.vb_kernel.proofs.select.find_in_many_chunks.Goals as goal
 
 pub returns-clause-found : goal.returns-clause-found

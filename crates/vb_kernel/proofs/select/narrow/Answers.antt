@@ -1,8 +1,8 @@
 use Rattle.std.proofs.Common.{◌≡◌, ◌+◌, ◌-◌, ◌*◌, ◌/◌, ℕ, List, Bool, refl, arith, ap, ◌∙◌}
 use Rattle.vb_bits.specs.Bits.{bits, count}
-use Rattle.vb_kernel.specs.Searches.{hits}
-use Rattle.vb_kernel.proofs.SearchesLemmas.{count-hits-bits-le, count-hits-bits_none}
-use Rattle.vb_kernel.proofs.SearchesLemmas.{count-hits-bits_split}
+use Rattle.vb_count.specs.Hits.{hits}
+use Rattle.vb_count.proofs.HitsLemmas.{count-hits-bits-le, count-hits-bits_none}
+use Rattle.vb_count.proofs.HitsLemmas.{count-hits-bits_split}
 use Rattle.vb_kernel.proofs.select.narrow.Goals as goal
 
 pub loop-stretch-init : goal.loop-stretch-init

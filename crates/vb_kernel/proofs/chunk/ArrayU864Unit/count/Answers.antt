@@ -1,6 +1,6 @@
 use Rattle.std.proofs.Common.{arith}
 use Rattle.vb_bits.proofs.BitsLemmas.{count-bits-le}
-use Rattle.vb_kernel.proofs.SearchesLemmas.{count-hits-bits_true, count-hits-bits_false}
+use Rattle.vb_count.proofs.HitsLemmas.{count-hits-bits_true, count-hits-bits_false}
 use Rattle.vb_kernel.proofs.chunk.ArrayU864Unit.count.Goals as goal
 
 pub overflow_sub-result : goal.overflow_sub-result

@@ -1,7 +1,7 @@
 use Rattle.std.proofs.Common.{◌≡◌, ◌<◌, List, ℕ, Some, take, sym, subst, arith}
 use Rattle.std.proofs.lemmas.List.{take_all}
 use Rattle.vb_bits.specs.Bits.{bits, count, Selects}
-use Rattle.vb_kernel.specs.Searches.{hits}
+use Rattle.vb_count.specs.Hits.{hits}
 use Rattle.vb_kernel.proofs.chunk.ArrayU864Unit.select.Goals as goal
 
 pub select_in_chunk-requires : goal.select_in_chunk-requires

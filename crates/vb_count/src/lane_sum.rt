@@ -1,0 +1,81 @@
+//! Sums of the true bits of chunks.
+ghost use Rattle.std.specs.Prelude.{◌≡◌, ℕ, ◌+◌, ◌*◌, ◌^◌, ◌<◌, ◌≤◌, length};
+ghost use Rattle.vb_bits.specs.Bits.{bits, count};
+
+use std::marker::Model;
+use vb_bits::word_at;
+
+/// A sum in four parts. They are kept apart, as the lanes of a vector are, so that the counts of a
+/// chunk's words don't wait for one another.
+#[derive(Drop)]
+pub(crate) struct LaneSum {
+    a: usize,
+    b: usize,
+    c: usize,
+    d: usize,
+}
+
+impl Model for LaneSum {
+    ghost Value = { ℕ };
+
+    ghost view = { λ s. s.a + s.b + s.c + s.d };
+
+    ghost invariant = { λ s. s.a + s.b + s.c + s.d < 2 ^ 64 };
+}
+
+impl LaneSum {
+    /// A sum that has come to so much.
+    pub(crate) fn of(ones: usize) -> LaneSum
+        ensures { result ≡ ones }
+    {
+        LaneSum {
+            a: ones,
+            b: 0,
+            c: 0,
+            d: 0,
+        }
+    }
+
+    /// Adds the true bits of a chunk: words 0 and 4 to the first part, 1 and 5 to the second, and
+    /// so on, which is the order that a vector of four words has.
+    pub(crate) fn add(self, chunk: &[u8; 64]) -> LaneSum
+        requires { self + 512 < 2 ^ 64 }
+        ensures { result ≡ self + count (bits chunk.now 0 512) }
+    {
+        LaneSum {
+            a: self.a + word_ones(chunk, 0) + word_ones(chunk, 32),
+            b: self.b + word_ones(chunk, 8) + word_ones(chunk, 40),
+            c: self.c + word_ones(chunk, 16) + word_ones(chunk, 48),
+            d: self.d + word_ones(chunk, 24) + word_ones(chunk, 56),
+        }
+    }
+
+    /// Both sums.
+    pub(crate) fn plus(self, other: LaneSum) -> LaneSum
+        requires { self + other < 2 ^ 64 }
+        ensures { result ≡ self + other }
+    {
+        LaneSum {
+            a: self.a + other.a,
+            b: self.b + other.b,
+            c: self.c + other.c,
+            d: self.d + other.d,
+        }
+    }
+
+    /// The whole sum.
+    pub(crate) fn total(self) -> usize
+        ensures { result ≡ self }
+    {
+        self.a + self.b + self.c + self.d
+    }
+}
+
+/// How many bits of the eight bytes from `at` on are true.
+fn word_ones(bytes: &[u8], at: usize) -> usize
+    requires { at + 8 ≤ length bytes.now }
+    ensures value { result ≡ count (bits bytes.now (8 * at) 64) }
+    ensures few { result ≤ 64 }
+{
+    word_at(bytes, at).count_ones() as usize
+}

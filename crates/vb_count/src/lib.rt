@@ -1,0 +1,25 @@
+//! Counts of the true bits of a window, by looks that are counted.
+//!
+//! A window is the `len` bits from bit `offset` on. It has to lie in the bytes, and its end has to
+//! be a `usize`; `vb_bits::window_fits` is the test. Counts are of bits.
+//!
+//! Counting reads a [`Glance`], a source of bytes that counts its reads: see [`count_ones_by`] for
+//! the exact number, and [`most_looks`] for a bound on it.
+#![tactic(auto)]
+
+mod chunk;
+mod count;
+mod counter;
+mod glance;
+mod lane_sum;
+mod looks;
+mod ones;
+mod rest;
+mod sums;
+mod word;
+
+pub use chunk::chunk_ones;
+pub use count::{add_chunks, count_ones, count_ones_by};
+pub use glance::{Glance, Plain, Tally};
+pub use looks::most_looks;
+pub use word::{byte_part, matching_word};

@@ -1,0 +1,66 @@
+//! The bits of eight words, and the adder of such vectors.
+ghost use Rattle.std.specs.Prelude.{◌≡◌, ℕ, ◌+◌, ◌*◌, length};
+ghost use Rattle.vb_bits.specs.Bits.{bits, count};
+ghost use Rattle.vb_count.specs.Lanes.{EightWords, ones};
+
+use crate::sums::Sums;
+use std::marker::Model;
+use std::simd::prelude::*;
+
+/// Eight words. Its value is how many of its bits are true.
+#[derive(Drop)]
+pub(crate) struct Ones {
+    lanes: u64x8,
+}
+
+impl Model for Ones {
+    ghost Value = { ℕ };
+
+    ghost view = { λ s. ones s.lanes };
+
+    ghost invariant = { λ s. EightWords s.lanes };
+}
+
+impl Ones {
+    /// No bit is true.
+    pub(crate) fn zero() -> Ones
+        ensures { result ≡ 0 }
+    {
+        Ones {
+            lanes: u64x8::splat(0),
+        }
+    }
+
+    /// The bits of a chunk.
+    ///
+    /// It is taken as a slice, since a proof knows of a slice's bytes, and not of an array's, that
+    /// they are below 256.
+    pub(crate) fn of(chunk: &[u8]) -> Ones
+        requires { length chunk.now ≡ 64 }
+        ensures { result ≡ count (bits chunk.now 0 512) }
+    {
+        Ones {
+            lanes: u64x8::from_le_bytes(u8x64::from_slice(chunk)),
+        }
+    }
+
+    /// How many bits of each word are true.
+    pub(crate) fn sums(self) -> Sums
+        ensures { result ≡ self }
+    {
+        Sums {
+            lanes: self.lanes.count_ones(),
+        }
+    }
+}
+
+/// The full adder: in each place the sum of three bits, and what it carries into the next place.
+#[inline(always)]
+pub(crate) fn full_add(a: Ones, b: Ones, c: Ones) -> (Ones, Ones)
+    ensures { result.0 + 2 * result.1 ≡ a + b + c }
+{
+    let half = a.lanes ^ b.lanes;
+    let sum = half ^ c.lanes;
+    let carry = (a.lanes & b.lanes) | (half & c.lanes);
+    (Ones { lanes: sum }, Ones { lanes: carry })
+}
