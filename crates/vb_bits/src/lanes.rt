@@ -7,9 +7,9 @@ ghost use Rattle.vb_bits.specs.Writes.{Writes};
 
 use std::simd::prelude::*;
 
-/// The four words from byte `at` on.
+/// The four words from byte `at` on, least significant byte first, by one load of a vector.
 #[inline(always)]
-pub(crate) fn words_at(bytes: &[u8], at: usize) -> u64x4
+pub fn words_at(bytes: &[u8], at: usize) -> u64x4
     requires { at + 32 ≤ length bytes.now }
     ensures len { length result ≡ 4 }
     ensures words { Each1 (λ x. x < 2 ^ 64) result }
@@ -30,9 +30,10 @@ fn words_of(bytes: &[u8]) -> u64x4
     u64x4::from_le_bytes(u8x32::from_slice(bytes))
 }
 
-/// The four words from bit `shift` of byte `first` on: as `shifted_word` reads one.
+/// The four words from bit `shift` of byte `first` on: the digits of the 32 bytes that begin there,
+/// and those of the 32 that begin a byte later, which have the missing ones.
 #[inline(always)]
-pub(crate) fn shifted_words(bytes: &[u8], first: usize, shift: usize) -> u64x4
+pub fn shifted_words(bytes: &[u8], first: usize, shift: usize) -> u64x4
     requires part { 0 < shift }
     requires in_byte { shift < 8 }
     requires inside { first + 33 ≤ length bytes.now }

@@ -28,6 +28,7 @@ pub use bytes::{chunk_at, word_at, write_word};
 pub use copy::copy_bits;
 pub use equal::equal_bits;
 pub use fill::fill_bits;
+pub use lanes::{shifted_words, words_at};
 pub use last::last_set_index;
 pub use map::map_words;
 pub use mark::set_bits_at;

@@ -36,6 +36,14 @@ impl LaneSum {
         }
     }
 
+    /// A sum of four parts.
+    pub(crate) fn of_four(a: usize, b: usize, c: usize, d: usize) -> LaneSum
+        requires { a + b + c + d < 2 ^ 64 }
+        ensures { result ≡ a + b + c + d }
+    {
+        LaneSum { a, b, c, d }
+    }
+
     /// Adds the true bits of a chunk: words 0 and 4 to the first part, 1 and 5 to the second, and
     /// so on, which is the order that a vector of four words has.
     pub(crate) fn add(self, chunk: &[u8; 64]) -> LaneSum

@@ -1,7 +1,7 @@
 //! The digits of a word or a byte that are sought.
 ghost use Rattle.std.specs.Prelude.{◌≡◌, ◌+◌, ◌^◌, ◌<◌, ◌≤◌, [], ◌∷◌};
 ghost use Rattle.std.specs.Int.{w64, to_le_bytes};
-ghost use Rattle.vb_bits.specs.Bits.{bits};
+ghost use Rattle.vb_bits.specs.Bits.{bits, count};
 ghost use Rattle.vb_bits.specs.Digits.{digits};
 ghost use Rattle.vb_count.specs.Hits.{hits};
 
@@ -21,4 +21,12 @@ pub fn matching_word(word: u64, value: bool) -> u64
     ensures { digits result 0 64 ≡ hits value (bits (to_le_bytes w64 word) 0 64) }
 {
     if value { word } else { !word }
+}
+
+/// How many digits of the word are 1.
+pub(crate) fn digit_ones(word: u64) -> usize
+    ensures value { result ≡ count (digits word 0 64) }
+    ensures few { result ≤ 64 }
+{
+    word.count_ones() as usize
 }

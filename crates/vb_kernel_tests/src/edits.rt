@@ -1,5 +1,6 @@
 //! Fills, negated, copied and combined windows, compared with single bits.
 use crate::compared::{equal, equal_at, holds};
+use crate::plain;
 use crate::sample::mix;
 use std::process::Abort;
 use vb_kernel::{BitOp, copy_bits, fill_bits, get_bit, map_words, zip_words};
@@ -49,10 +50,7 @@ const COMBINED: [Combined; 5] = [
 fn combined_bit(how: Combined, left: bool, right: bool) -> bool {
     match how {
         None => right,
-        Some(BitOp::And) => left && right,
-        Some(BitOp::Or) => left || right,
-        Some(BitOp::Xor) => left != right,
-        Some(BitOp::AndNot) => left && !right,
+        Some(op) => plain::combined_bit(op, left, right),
     }
 }
 

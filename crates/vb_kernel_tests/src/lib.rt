@@ -4,6 +4,8 @@
 #[cfg(test)]
 mod bits;
 #[cfg(test)]
+mod combined;
+#[cfg(test)]
 mod compared;
 #[cfg(test)]
 mod counts;

@@ -1,9 +1,40 @@
-//! Counting and selecting bit by bit, as the definitions say it.
+//! Counting, selecting and combining bit by bit, as the definitions say it.
 ghost use Rattle.std.specs.Prelude.{◌≡◌, ◌+◌, ◌*◌, ◌^◌, ◌<◌, ◌≤◌, length};
 ghost use Rattle.vb_bits.specs.InBytes.{InBytes};
 ghost use Rattle.vb_kernel.specs.Bits.{bits, count, complement, Selects};
 
-use vb_kernel::get_bit;
+use vb_kernel::{BitOp, get_bit};
+
+/// What an operator makes of two bits.
+pub(crate) fn combined_bit(op: BitOp, left: bool, right: bool) -> bool {
+    match op {
+        BitOp::And => left && right,
+        BitOp::Or => left || right,
+        BitOp::Xor => left != right,
+        BitOp::AndNot => left && !right,
+    }
+}
+
+/// How many bits of two windows an operator makes true.
+pub(crate) fn combined_count(
+    op: BitOp,
+    left: &[u8],
+    l: usize,
+    right: &[u8],
+    r: usize,
+    len: usize,
+) -> usize
+    requires left { InBytes left.now l len }
+    requires right { InBytes right.now r len }
+{
+    let mut ones = 0usize;
+    for i in 0..len {
+        if combined_bit(op, get_bit(left, l + i), get_bit(right, r + i)) {
+            ones = ones.saturating_add(1);
+        }
+    }
+    ones
+}
 
 /// How many bits of the window are true.
 #[tactic(auto, using(vb_bits::proofs::BitsLemmas::windows))]
