@@ -24,6 +24,9 @@ STYLE = """
 """
 
 
+FOR_TESTS = ("_tests", "vb_testing", "vb_plain_machine")
+
+
 @dataclass
 class Node:
     """A crate, or a place that a long line passes, in its row."""
@@ -51,7 +54,7 @@ def dependencies(text: str) -> dict[str, list[str]]:
         if line.strip() and not line.startswith("#"):
             left, _, right = line.partition(":")
             found[left.split()[0]] = right.split()
-    drawn = [it for it in found if not it.endswith("_tests") and it != "vb_testing"]
+    drawn = [it for it in found if not it.endswith(FOR_TESTS)]
     return {it: [dep for dep in found[it] if dep in drawn] for it in drawn}
 
 

@@ -4,7 +4,9 @@ from dataclasses import dataclass
 
 from documents.files import Repository
 
-LIBRARY = r"crates/(?!\w+_tests/|vb_c(?:_\w+)?/|vb_command/|vb_pool/|vb_script/|use_|run_)\w+"
+LIBRARY = (
+    r"crates/(?!\w+_tests/|vb_c(?:_\w+)?/|vb_command/|vb_pool/|vb_script/|vb_plain_|use_|run_)\w+"
+)
 RUST = r"bindings/rust/src/"
 Places = list[tuple[str, list[str]]]
 COMMENT = re.compile(r"\s*(?:///?|//!|/?\*|--)(?: .*|$)|(?<=\s)(?://|--) .*")
@@ -34,7 +36,7 @@ COMMAND = [
         (r"crates/vb_script/src/", r"\bNAME\b"),
     ]),
     Task("Lines with known answers; what a plain list answers", [
-        (r"crates/(vb_command_tests|vb_script_tests|vb_script_plain_tests)/src/", r"\bNAME\b"),
+        (r"crates/(vb_command_tests|vb_script_(plain_)?tests|vb_plain_machine)/src/", r"\bNAME\b"),
         (r"crates/vbits/stdin$", r"\bNAME\b"),
     ]),
     Task("Wrong bodies, and proofs", [

@@ -6,7 +6,7 @@ from reference_pages.docs_html import Lookup, docs_html
 from reference_pages.fragments import Fragments
 from reference_pages.html_text import name_html, tag
 from reference_pages.item_pages import display
-from reference_pages.library import FACADE, Crate, Reach, sentence
+from reference_pages.library import FACADE, FOR_TESTS, Crate, Reach, sentence
 from reference_pages.pages import Page
 from reference_pages.rust_items import Item
 
@@ -27,7 +27,7 @@ class CratePages:
         library.sort(key=lambda it: it is not facade)
         rest = [it for it in self.library.shown if it not in library]
         examples = [it for it in rest if it.is_example]
-        other = [it for it in rest if it.is_static or it.name == "vb_testing"]
+        other = [it for it in rest if it.is_static or it.name in FOR_TESTS]
         commands = [it for it in rest if it not in examples and it not in other]
         return [
             ("The library", library),

@@ -10,6 +10,7 @@ from reference_pages.rust_items import File, Item, parse
 from reference_pages.rust_text import Source
 
 FACADE = "vortex_buffer"  # the crate that users name
+FOR_TESTS = ("vb_testing", "vb_plain_machine")  # libraries on which tests alone stand
 NAMED = {"fn", "struct", "enum", "trait", "type", "const", "static"}
 Path_ = tuple[str, ...]
 

@@ -1,9 +1,8 @@
 //! Comparisons of what was answered with what the plain machine answers.
-use crate::line::{Call, Line, read};
-use crate::plain::Plain;
 use std::alloc::Global;
 use std::fmt::Debug;
 use std::process::Abort;
+use vb_plain_machine::{Call, Line, Plain, read};
 use vb_script::DriveError;
 
 /// The two values are equal. In a case of many each stands beside what tells the case.
@@ -42,7 +41,7 @@ fn is_answered(
     told: Option<&str>,
 ) -> Result<(), DriveError> {
     let told = told.ok_or(DriveError::Memory)?;
-    let wanted = plain.serve(rt, call, told);
+    let wanted = plain.serve(call, told).expect(rt, "memory");
     equal(rt, (line, call.text, told), (line, call.text, wanted));
     Ok(())
 }

@@ -71,7 +71,7 @@ fn random_sessions_are_plain(
         }
         random.text.clear();
         left = left.saturating_sub(random.add_session(left));
-        let lines = random.text.whole(rt);
+        let lines = random.text.whole().expect(rt, "memory");
         match memory {
             Memory::Ample => drive_is_plain(rt, global, &heap, lines),
             Memory::Refused => each_is_refused(rt, global, &heap, lines, 1),

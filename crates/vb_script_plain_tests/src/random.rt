@@ -1,8 +1,6 @@
 //! Random lines, told by a seed.
-use crate::form::{FORMS, Kind, form_of};
-use crate::line::{Line, read};
-use crate::text::Text;
 use std::alloc::Global;
+use vb_plain_machine::{FORMS, Kind, Line, Text, form_of, read};
 
 /// Lines that have no answer.
 const SKIPPED: &[&str] = &["", "  ", "# len 0", " #"];

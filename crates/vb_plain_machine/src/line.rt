@@ -23,23 +23,28 @@ pub(crate) fn index(word: &str) -> usize {
 
 /// What a line is.
 #[derive(Clone, Copy)]
-pub(crate) enum Line<'a> {
+pub enum Line<'a> {
+    /// It is this command.
     Command(Call<'a>),
     /// It has no words, or is a comment.
     Skipped,
+    /// It can't be read.
     Unreadable,
 }
 
 /// A line that is a command.
 #[derive(Clone, Copy)]
-pub(crate) struct Call<'a> {
+pub struct Call<'a> {
+    /// Its first word.
     pub name: &'a str,
+    /// All of the line.
     pub text: &'a str,
+    /// Which words it has, and what becomes of its list.
     pub form: &'static Form,
 }
 
 /// Reads a line.
-pub(crate) fn read(text: &str) -> Line<'_> {
+pub fn read(text: &str) -> Line<'_> {
     let name = word(text, 0);
     if !text.is_ascii() {
         return Line::Unreadable;

@@ -5,7 +5,7 @@ use Then::{Answers, Empties, Freezes, Keeps, Opens};
 
 /// What a word of a line is.
 #[derive(Clone, Copy)]
-pub(crate) enum Kind {
+pub enum Kind {
     /// A slot that has to hold an open list.
     Open,
     /// A slot that has to hold a frozen list.
@@ -16,17 +16,23 @@ pub(crate) enum Kind {
     Vacant,
     /// A slot that has to hold a frozen list, or `-`.
     Validity,
+    /// A number in decimal.
     Number,
+    /// `0` or `1`.
     Truth,
+    /// `ref` or `own`.
     Mode,
+    /// Bytes in pairs of digits, or `-`.
     Hex,
+    /// Numbers with commas between two, or `-`.
     Numbers,
+    /// Numbers that may have a `-` before them, with commas between two, or `-`.
     Indexes,
 }
 
 /// What becomes of the list of a line.
 #[derive(Clone, Copy)]
-pub(crate) enum Then {
+pub enum Then {
     /// It is put down as an open list.
     Opens,
     /// It is put down as a frozen list.
@@ -41,17 +47,19 @@ pub(crate) enum Then {
 
 /// Whether a command can be refused memory.
 #[derive(Clone, Copy)]
-pub(crate) enum Memory {
+pub enum Memory {
+    /// It can.
     Asks,
+    /// It can't.
     Never,
 }
 
 /// The name of a command, its other words, what becomes of its list, and of its memory.
 #[derive(Clone, Copy)]
-pub(crate) struct Form(pub &'static str, pub &'static [Kind], pub Then, pub Memory);
+pub struct Form(pub &'static str, pub &'static [Kind], pub Then, pub Memory);
 
 /// The form of the command of this name.
-pub(crate) fn form_of(name: &str) -> Option<&'static Form> {
+pub fn form_of(name: &str) -> Option<&'static Form> {
     for form in FORMS {
         if form.0 == name {
             return Some(form);
@@ -60,7 +68,8 @@ pub(crate) fn form_of(name: &str) -> Option<&'static Form> {
     None
 }
 
-pub(crate) const FORMS: &[Form] = &[
+/// The form of each command.
+pub const FORMS: &[Form] = &[
     Form("import", &[Vacant, Number, Number, Hex], Opens, Asks),
     Form("full", &[Vacant, Truth, Number], Opens, Asks),
     Form("indices", &[Vacant, Number, Numbers], Opens, Asks),

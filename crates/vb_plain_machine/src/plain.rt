@@ -7,7 +7,6 @@ use crate::stop::{BAD_SLOT, OUT_OF_MEMORY, Stop};
 use crate::text::Text;
 use std::alloc::{AllocError, Global};
 use std::mem;
-use std::process::Abort;
 
 /// What a slot holds.
 #[derive(Clone, Copy)]
@@ -36,9 +35,9 @@ fn may_name(kind: Kind, holds: Option<Holds>) -> bool {
     }
 }
 
-/// Sixteen slots for plain lists.
+/// Sixteen slots for plain lists of truth values.
 #[derive(Drop)]
-pub(crate) struct Plain {
+pub struct Plain {
     slots: Vec<Slot>,
     /// The list of the line at hand.
     list: Vec<bool>,
@@ -50,7 +49,7 @@ pub(crate) struct Plain {
 
 impl Plain {
     /// All slots are empty.
-    pub(crate) fn new(alloc: Global, may_refuse: bool) -> Result<Plain, AllocError> {
+    pub fn new(alloc: Global, may_refuse: bool) -> Result<Plain, AllocError> {
         let mut slots = Vec::with_capacity(alloc, 16)?;
         for _ in 0..16 {
             let (holds, bits) = (Holds::Nothing, Vec::new(alloc));
@@ -64,9 +63,9 @@ impl Plain {
         })
     }
 
-    /// Carries out a command and answers it. Its memory is refused where the pool told so, and
-    /// where it asks for memory.
-    pub(crate) fn serve(&mut self, rt: &impl Abort, call: Call<'_>, told: &str) -> &str {
+    /// Carries out a command and answers it, unless there is no memory for the answer. The
+    /// command's own memory is refused where the pool told so, and where it asks for memory.
+    pub fn serve(&mut self, call: Call<'_>, told: &str) -> Option<&str> {
         let is_told = told == "refused OutOfMemory";
         let asks = matches!(call.form.3, Memory::Asks);
         self.text.clear();
@@ -75,7 +74,7 @@ impl Plain {
             Err(Stop::TooLong) if is_told => self.text.add(told),
             Err(stop) => add_refused(&mut self.text, stop),
         }
-        self.text.whole(rt)
+        self.text.whole()
     }
 
     fn carry_out(&mut self, call: Call<'_>, is_refused: bool) -> Result<(), Stop> {

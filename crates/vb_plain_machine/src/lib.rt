@@ -1,0 +1,16 @@
+//! The plain machine, for tests alone: it splits each line at its spaces and keeps a list of truth
+//! values for each slot. [`FORMS`] has a row for each command.
+#![tactic(auto)]
+
+mod answer;
+mod form;
+mod line;
+mod list;
+mod plain;
+mod stop;
+mod text;
+
+pub use form::{FORMS, Form, Kind, Memory, Then, form_of};
+pub use line::{Call, Line, read};
+pub use plain::Plain;
+pub use text::Text;
