@@ -11,17 +11,22 @@ use Rattle.vb_command.specs.Optional.{◌>>=◌}
 use Rattle.vb_command.specs.Words.{number, optional_number, truth, mode}
 use Rattle.vb_command.specs.declared.mode.Mode.{Mode}
 
+-- a question to the set in one slot, which is answered by a list or a text
+unfoldable pub listing_of_number : List ℕ → ℕ → Option Order
+listing_of_number name k =
+    if bytes_eq name (codes "bits") then Some (orders.Bits k) else
+    if bytes_eq name (codes "places") then Some (orders.Places k) else
+    if bytes_eq name (codes "runs") then Some (orders.Runs k) else
+    if bytes_eq name (codes "show") then Some (orders.Show k) else
+    None
+
 -- a question to the set in one slot
 unfoldable pub question_of_number : List ℕ → ℕ → Option Order
 question_of_number name k =
     if bytes_eq name (codes "len") then Some (orders.Len k) else
     if bytes_eq name (codes "count") then Some (orders.Count k) else
     if bytes_eq name (codes "last") then Some (orders.Last k) else
-    if bytes_eq name (codes "bits") then Some (orders.Bits k) else
-    if bytes_eq name (codes "places") then Some (orders.Places k) else
-    if bytes_eq name (codes "runs") then Some (orders.Runs k) else
-    if bytes_eq name (codes "show") then Some (orders.Show k) else
-    None
+    listing_of_number name k
 
 -- the order of a name and a number
 unfoldable pub of_number : List ℕ → ℕ → Option Order

@@ -4,8 +4,9 @@ ghost use Rattle.vb_command.specs.Arguments.{arguments_of, one_word, two_words, 
 ghost use Rattle.vb_command.specs.Arguments.{four_words, append_of, indices_of, set_of, not_of};
 ghost use Rattle.vb_command.specs.Arguments.{countrange_of, value_of, import_of, take_of, fill_of};
 ghost use Rattle.vb_command.specs.Arguments.{slice_of, operator_of, two_numbers, three_numbers};
-ghost use Rattle.vb_command.specs.Arguments.{of_number, question_of_number, of_numbers};
-ghost use Rattle.vb_command.specs.Arguments.{question_of_numbers, of_value, of_operator};
+ghost use Rattle.vb_command.specs.Arguments.{of_number, question_of_number, listing_of_number};
+ghost use Rattle.vb_command.specs.Arguments.{of_numbers, question_of_numbers, of_value};
+ghost use Rattle.vb_command.specs.Arguments.{of_operator};
 ghost use Rattle.vb_command.specs.Machine.{order_of};
 ghost use Rattle.vb_command.specs.Reading.{Gives, Tells, asks_memory};
 
@@ -137,6 +138,16 @@ fn question_of_number<A: Allocator>(name: &str, k: usize) -> Result<Command<A>, 
         "len" => Ok(Command::Len(k)),
         "count" => Ok(Command::Count(k)),
         "last" => Ok(Command::Last(k)),
+        _ => listing_of_number(name, k),
+    }
+}
+
+/// The question of this name to the set in one slot, which is answered by a list or a text.
+#[tactic(auto, unfolding(crate::specs::Arguments::listing_of_number))]
+fn listing_of_number<A: Allocator>(name: &str, k: usize) -> Result<Command<A>, Unread>
+    ensures { Tells order_of result (listing_of_number name.now k) }
+{
+    match name {
         "bits" => Ok(Command::Bits(k)),
         "places" => Ok(Command::Places(k)),
         "runs" => Ok(Command::Runs(k)),
