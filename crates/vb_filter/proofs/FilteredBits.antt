@@ -35,7 +35,7 @@ kept_by-narrow keep w n clear few =
     ∙ ap (λ l. front ++ l) (kept_none (64 - n) behind) ∙ append-nil front
 
 -- a front, and n values more
-front-add : {T : Type 0} (xs : List T) (a n : ℕ)
+pub front-add : {T : Type 0} (xs : List T) (a n : ℕ)
     → take (a + n) xs ≡ take a xs ++ slice_range xs a (a + n)
 front-add xs a n =
     let len : a + n - a ≡ n = omega arith in

@@ -1,3 +1,4 @@
+mod DepositLemmas
 mod FilteredBits
 pub mod GatherLemmas
 mod PackedDigits
@@ -5,3 +6,5 @@ mod PendingLemmas
 mod PackedOnes
 mod PackedSteps
 mod RunsLemmas
+mod SpreadDigits
+mod SpreadLemmas

@@ -21,7 +21,7 @@ kept_true (suc n) [] same = absurd (omega arith)
 kept_true (suc n) (x ∷ xs) same = ap (λ ys. x ∷ ys) (kept_true n xs (omega arith))
 
 -- digits that are all the same
-digits_same : (w s k : ℕ) (v : Bool) → ((i : ℕ) → i < k → has_bit w (s + i) ≡ v)
+pub digits_same : (w s k : ℕ) (v : Bool) → ((i : ℕ) → i < k → has_bit w (s + i) ≡ v)
     → digits w s k ≡ replicate k v
 digits_same w s k v h =
     same_lists (digits w s k) (replicate k v) (length-digits w s k ∙ sym (length-replicate k v))

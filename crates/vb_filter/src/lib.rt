@@ -1,13 +1,17 @@
-//! Bits and values that a mask keeps, in order, over slices.
+//! Bits and values that a mask keeps, in order, over slices, and bits put back to their places.
 //!
 //! Lengths and places are counted in bits, or in values. No call takes memory.
 #![tactic(auto)]
 
+mod deposit;
 mod digits;
 mod filter;
 mod filter_values;
 mod kept;
 mod pending;
+mod spread;
+mod spread_table;
 
+pub use deposit::deposit_into;
 pub use filter::filter_into;
 pub use filter_values::filter_values_into;
