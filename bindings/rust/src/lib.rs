@@ -24,8 +24,8 @@
 //!   [`Value`] and [`BitIndex`] say;
 //! - what puts calls together: writes of filters, takes and packs to windows that don't begin with
 //!   a byte, `fill_with`, counts of two windows, and the blocks in which iterators are filled;
-//! - walks over false bits, `last_unset`, `deposit`, how bitmaps are made and grow, and
-//!   [`Validity`];
+//! - walks over false bits, `last_unset`, `deposit`, how bitmaps are made and grow, [`Validity`],
+//!   and `arrow`;
 //! - everything on other machines, under Miri, and where the archives of those functions aren't
 //!   there when the crate is built.
 //!
@@ -41,15 +41,21 @@
 //!   was told counts (`-C target-cpu`).
 //! - `alloc` (with `std`): `Bitmap`, bits with their bytes, `Ranked`, those with their ranks, and
 //!   what gives one.
+//! - `arrow` (with `alloc`): arrays and streams of Arrow's C interfaces, read where they lie and
+//!   handed on. It is the one part that has `unsafe` beside the calls of proved functions.
 //! - `levels`: `Level::make_current`, to measure and to test.
 #![no_std]
-#![cfg_attr(not(vortex_bits_native), forbid(unsafe_code))]
+#![cfg_attr(not(any(vortex_bits_native, feature = "arrow")), forbid(unsafe_code))]
+#![cfg_attr(not(vortex_bits_native), deny(unsafe_code))]
 
 #[cfg(feature = "alloc")]
 extern crate alloc;
 #[cfg(feature = "std")]
 extern crate std;
 
+#[cfg(feature = "arrow")]
+#[allow(unsafe_code, reason = "the structs of the interface have pointers")]
+pub mod arrow;
 #[cfg(feature = "alloc")]
 mod bitmap;
 mod bits;
@@ -92,6 +98,6 @@ pub use validity::Validity;
 pub use value::Value;
 
 /// The examples of the README.
-#[cfg(all(doctest, feature = "std"))]
+#[cfg(all(doctest, feature = "arrow", feature = "std"))]
 #[doc = include_str!("../README.md")]
 struct Readme;

@@ -1,0 +1,126 @@
+//! The query, by the calls of the crate.
+
+use std::fmt;
+
+use vortex_bits::arrow::{Array, ArrowError};
+use vortex_bits::{Bitmap, Value};
+
+/// What is asked: `select b, c where a > limit and b is not null`.
+pub struct Question {
+    pub limit: i32,
+    /// Which of the rows that are kept is looked for, from 0 on.
+    pub nth: usize,
+    /// Rows among those that are kept, by their places; those that there aren't are left out.
+    pub at: Vec<u32>,
+}
+
+impl Question {
+    pub fn new(limit: i32, nth: usize) -> Question {
+        let at = (0..1000u32).map(|it| it.wrapping_mul(2_654_435_761) >> 16);
+        Question {
+            limit,
+            nth,
+            at: at.collect(),
+        }
+    }
+}
+
+/// What is answered.
+#[derive(Debug, Default, PartialEq)]
+pub struct Answer {
+    /// How many rows there are.
+    pub rows: usize,
+    /// The columns of the rows that are kept, and which values of c are valid.
+    pub b: Vec<i64>,
+    pub c: Vec<f64>,
+    pub c_valid: Bitmap,
+    /// Of the rows that are kept and valid.
+    pub sum_b: i64,
+    pub sum_c: f64,
+    /// The rows of the first one that is kept, and of that which is looked for.
+    pub first: Option<usize>,
+    pub nth: Option<usize>,
+    /// In how many rows a or b is null, and in how many the flag is true.
+    pub nulls: usize,
+    pub flags: usize,
+    /// The values of b at the places, and how many of c are null there.
+    pub taken: Vec<i64>,
+    pub taken_nulls: usize,
+}
+
+impl fmt::Display for Answer {
+    fn fmt(&self, f: &mut fmt::Formatter<'_>) -> fmt::Result {
+        let kept = self.b.len();
+        writeln!(f, "{kept} of {} rows are kept", self.rows)?;
+        writeln!(f, "sums {} and {}", self.sum_b, self.sum_c)?;
+        writeln!(f, "first {:?}, n-th {:?}", self.first, self.nth)?;
+        write!(f, "{} nulls, {} flags", self.nulls, self.flags)
+    }
+}
+
+impl Answer {
+    fn add(&mut self, batch: &Array, question: &Question) -> Result<(), ArrowError> {
+        let [a, b, c, flag] = ["a", "b", "c", "flag"].map(|name| batch.column(name));
+        let (a, b, c, flag) = (a?, b?, c?, flag?);
+        let (a_valid, b_valid) = (a.validity()?, b.validity()?);
+
+        let mask = above(a.values()?, question.limit) & a_valid & b_valid;
+        self.find(&mask, question);
+        keep(&mask, b.values()?, &mut self.b);
+        keep(&mask, c.values()?, &mut self.c);
+        match c.validity()?.filter(&mask) {
+            Some(valid) => self.c_valid.append_bits(valid.bits()),
+            None => self.c_valid.append_n(mask.count_ones(), true),
+        }
+        let both = a_valid.and(b_valid);
+        self.nulls += both.map_or(0, |valid| valid.count_zeros());
+        self.flags += flag.bits()?.and_count(flag.validity()?);
+        self.rows += batch.len();
+        Ok(())
+    }
+
+    /// The first row and the n-th one, where they are among these.
+    fn find(&mut self, mask: &Bitmap, question: &Question) {
+        let place = |row: usize| self.rows + row;
+        self.first = self.first.or_else(|| mask.first_set().map(place));
+        if let (None, Some(n)) = (self.nth, question.nth.checked_sub(self.b.len())) {
+            self.nth = mask.select(n).map(place);
+        }
+    }
+
+    /// The sums of what is kept, and the rows at places of it.
+    fn finish(&mut self, question: &Question) {
+        self.sum_b = self.b.iter().sum();
+        let valid = self.c_valid.set_indices();
+        self.sum_c = valid.map(|row| self.c[row]).sum();
+        let at = question.at.iter().copied();
+        let at: Vec<u32> = at.filter(|&row| (row as usize) < self.b.len()).collect();
+        self.taken = at.iter().map(|&row| self.b[row as usize]).collect();
+        self.taken_nulls = self.c_valid.take(&at).count_zeros();
+    }
+}
+
+fn above(values: &[i32], limit: i32) -> Bitmap {
+    Bitmap::make(values.len(), |mut out| {
+        out.fill_with(|row| values[row] > limit);
+    })
+}
+
+/// Adds the values that the mask keeps.
+fn keep<T: Value + Default>(mask: &Bitmap, values: &[T], kept: &mut Vec<T>) {
+    let from = kept.len();
+    kept.resize(from + mask.count_ones(), T::default());
+    mask.bits().keep_into(values, &mut kept[from..]);
+}
+
+pub fn ask(
+    batches: impl Iterator<Item = Result<Array, ArrowError>>,
+    question: &Question,
+) -> Result<Answer, ArrowError> {
+    let mut answer = Answer::default();
+    for batch in batches {
+        answer.add(&batch?, question)?;
+    }
+    answer.finish(question);
+    Ok(answer)
+}

@@ -1,0 +1,60 @@
+//! Arrays of the [Arrow C data interface] and of the C stream interface, read where they lie and
+//! handed on: the structs, what owns them, and the windows and values in them.
+//!
+//! [`Stream`] reads the batches of another part of the program; the columns of an [`Array`] give
+//! slices of values, [`Bits`](crate::Bits) and a [`Validity`](crate::Validity). [`Export`] hands a
+//! [`Bitmap`](crate::Bitmap) and values on, to any consumer. No value is copied either way.
+//!
+//! ```
+//! use vortex_bits::Bitmap;
+//! use vortex_bits::arrow::{Export, ExportStream, Field, Stream};
+//!
+//! // What another part of the program gives: here a stream of two batches.
+//! let batches = [[7i32, 0, 9], [2, 8, 4]].map(|values| {
+//!     let valid = Bitmap::from(values.map(|value| value != 0));
+//!     Ok(Export::batch([Export::values(values.to_vec(), Some(valid)).named("a")]))
+//! });
+//! let mut given = ExportStream::new(Field::batch([Field::new("a", "i")?]), batches).into_raw();
+//!
+//! // SAFETY: it is as the interface asks for, and no one else has it.
+//! let stream = unsafe { Stream::from_raw(&raw mut given)? };
+//! let mut kept = Vec::new();
+//! for batch in stream {
+//!     let batch = batch?;
+//!     let a = batch.column("a")?;
+//!     let mut mask: Bitmap = a.values::<i32>()?.iter().map(|&value| value > 5).collect();
+//!     mask &= a.validity()?;
+//!     let from = kept.len();
+//!     kept.resize(from + mask.count_ones(), 0);
+//!     mask.bits().keep_into(a.values()?, &mut kept[from..]);
+//! }
+//! assert_eq!(kept, [7, 9, 8]);
+//! # Ok::<(), vortex_bits::arrow::ArrowError>(())
+//! ```
+//!
+//! The structs come from outside, so their numbers are tested: lengths, offsets, numbers of nulls,
+//! of buffers and of children, which buffers are there, formats, and that columns are as long as
+//! their struct. What can't be tested is the caller's promise, by `unsafe`: that pointers lead to as
+//! much as the numbers say. Types without a value or a bit an item, as texts, lists and unions, may
+//! stand in a batch, and have a length and a validity here, no more. Metadata isn't kept.
+//!
+//! [Arrow C data interface]: https://arrow.apache.org/docs/format/CDataInterface.html
+
+mod array;
+mod error;
+mod export;
+mod ffi;
+mod field;
+mod layout;
+mod node;
+mod primitive;
+mod schema;
+mod stream;
+
+pub use array::Array;
+pub use error::{ArrowError, Fault, StreamError};
+pub use export::Export;
+pub use ffi::{ArrowArray, ArrowArrayStream, ArrowSchema};
+pub use field::Field;
+pub use primitive::{Primitive, Unaligned};
+pub use stream::{ExportStream, Stream};

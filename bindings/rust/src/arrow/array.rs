@@ -1,0 +1,326 @@
+//! Arrays that another part of the program made.
+
+use alloc::string::String;
+use alloc::sync::Arc;
+use core::fmt;
+use core::ops::RangeBounds;
+use core::slice;
+
+use super::error::ArrowError;
+use super::ffi::{ArrowArray, ArrowSchema, Owned};
+use super::field::Field;
+use super::layout::Layout;
+use super::node::Node;
+use super::primitive::{Primitive, Unaligned};
+use crate::bits::within;
+use crate::error::{OutOfBounds, expect};
+use crate::{Bits, Validity};
+
+/// Rows of an array of the Arrow C data interface: an own owner of what another part of the program
+/// made, whose values, bits and validity are read where they lie. Clones, columns and slices share
+/// it; the last one of them that is dropped releases it, on whichever thread.
+///
+/// A column has the rows that its struct has, whatever the offsets of both are.
+///
+/// ```
+/// use vortex_bits::arrow::Export;
+/// use vortex_bits::{Bitmap, Bits};
+///
+/// let valid = Bitmap::from([true, true, false]);
+/// let a = Export::values(vec![7i32, 9, 0], Some(valid)).named("a");
+/// let flag = Export::bits(Bitmap::from([true, false, true]), None).named("flag");
+/// let rows = Export::batch([a, flag]).into_array()?.slice(1..);
+///
+/// let (a, flag) = (rows.column("a")?, rows.column("flag")?);
+/// assert_eq!(a.values::<i32>()?, [9, 0]);
+/// assert_eq!(a.validity()?.bits(), Some(Bits::new(&[0b01], 0, 2)));
+/// assert_eq!(flag.bits()?, Bits::new(&[0b10], 0, 2));
+/// assert!(flag.validity()?.bits().is_none());
+/// assert_eq!(
+///     a.values::<i64>().unwrap_err().to_string(),
+///     "column \"a\": format \"i\" isn't that of values of i64"
+/// );
+/// # Ok::<(), vortex_bits::arrow::ArrowError>(())
+/// ```
+#[derive(Clone)]
+pub struct Array {
+    node: Arc<Node>,
+    /// How many items are before the first row in the buffers.
+    start: usize,
+    /// The rows are items of the node.
+    len: usize,
+}
+
+impl Array {
+    /// Takes the array and its type over, as a consumer of the interface does: both structs are
+    /// left released, whatever the answer is, and the array is released with the last part of it.
+    ///
+    /// It tests each number that can be tested; the values aren't looked at.
+    ///
+    /// # Errors
+    ///
+    /// Where a struct isn't as the interface asks for. Both are released then.
+    ///
+    /// # Safety
+    ///
+    /// Each pointer is null, or to a struct that may be read and written, and that is released or
+    /// as the interface asks for: pointers in it are null or to as much as the numbers say, and
+    /// that stays, and isn't written, until it is released. The callbacks may be called on any
+    /// thread, and no one else calls them.
+    pub unsafe fn from_raw(
+        array: *mut ArrowArray,
+        schema: *mut ArrowSchema,
+    ) -> Result<Array, ArrowError> {
+        // SAFETY: as of this function.
+        let (array, schema) = unsafe { (Owned::take(array), Owned::take(schema)) };
+        // SAFETY: as of this function.
+        let field = unsafe { Field::read(schema.get(), 0)? };
+        // SAFETY: as of this function.
+        unsafe { Array::of(array, &Arc::new(field)) }
+    }
+
+    /// # Safety
+    ///
+    /// As of [`Array::from_raw`].
+    pub(super) unsafe fn of(
+        array: Owned<ArrowArray>,
+        field: &Arc<Field>,
+    ) -> Result<Array, ArrowError> {
+        let owner = Arc::new(array);
+        // SAFETY: as of this function; the node keeps the owner.
+        let node = unsafe { Node::read(owner.get(), field, &owner)? };
+        Ok(Array::whole(&Arc::new(node)))
+    }
+
+    fn whole(node: &Arc<Node>) -> Array {
+        Array {
+            start: node.offset,
+            len: node.len,
+            node: Arc::clone(node),
+        }
+    }
+
+    /// The name and the type.
+    #[must_use]
+    pub fn field(&self) -> &Field {
+        &self.node.field
+    }
+
+    /// How many rows there are.
+    #[inline]
+    #[must_use]
+    pub fn len(&self) -> usize {
+        self.len
+    }
+
+    /// Whether there are none.
+    #[inline]
+    #[must_use]
+    pub fn is_empty(&self) -> bool {
+        self.len == 0
+    }
+
+    /// Which rows are valid. One that is may still be of a struct's row that isn't: `and` of both
+    /// says which rows are there.
+    ///
+    /// # Errors
+    ///
+    /// Of nulls alone, of unions, and of runs, whose arrays have no such bits.
+    #[inline]
+    pub fn validity(&self) -> Result<Validity<'_>, ArrowError> {
+        if !self.node.field.layout.has_validity() {
+            return Err(self.is_not("of arrays that have a validity"));
+        }
+        let has_bits = !self.node.validity.is_null();
+        let bits = has_bits.then(|| {
+            // SAFETY: there is a bit for each item.
+            unsafe { self.bits_of(self.node.validity) }
+        });
+        Ok(Validity::new(bits, self.len))
+    }
+
+    /// How many rows are null: what the array says where these are all of its rows, else counted.
+    ///
+    /// # Errors
+    ///
+    /// As of [`validity`](Array::validity).
+    pub fn null_count(&self) -> Result<usize, ArrowError> {
+        match self.node.nulls {
+            Some(nulls) if self.len == self.node.len => Ok(nulls),
+            _ => self.validity().map(Validity::count_zeros),
+        }
+    }
+
+    /// The truth values of an array of these; those of null rows are any.
+    ///
+    /// # Errors
+    ///
+    /// Of another type.
+    #[inline]
+    pub fn bits(&self) -> Result<Bits<'_>, ArrowError> {
+        match self.node.field.layout {
+            // SAFETY: there is a bit for each item.
+            Layout::Bits => Ok(unsafe { self.bits_of(self.node.values) }),
+            _ => Err(self.is_not("that of truth values")),
+        }
+    }
+
+    /// The rows' bits of a buffer.
+    ///
+    /// # Safety
+    ///
+    /// It has a bit for each item of the node, or is null where there are none.
+    #[inline]
+    unsafe fn bits_of(&self, buffer: *const u8) -> Bits<'_> {
+        if self.len == 0 {
+            return Bits::default();
+        }
+        let (first, end) = (self.start / 8, (self.start + self.len).div_ceil(8));
+        // SAFETY: these are bytes of the items from the first row to the last one.
+        let bytes = unsafe { slice::from_raw_parts(buffer.add(first), end - first) };
+        Bits::new(bytes, self.start % 8, self.len)
+    }
+
+    /// The values, or the indices of an array with a dictionary; those of null rows are any.
+    /// [`Primitive`] says of which arrays they are which type.
+    ///
+    /// # Errors
+    ///
+    /// Of another type, and where the buffer isn't aligned as the values are.
+    #[inline]
+    pub fn values<T: Primitive>(&self) -> Result<&[T], ArrowError> {
+        self.has_values::<T>()?;
+        if self.len == 0 || size_of::<T>() == 0 {
+            // SAFETY: they take no bytes.
+            return Ok(unsafe { slice::from_raw_parts(core::ptr::dangling(), self.len) });
+        }
+        let values = self.node.values.cast::<T>();
+        if !values.is_aligned() {
+            return Err(ArrowError::Unaligned {
+                column: self.name(),
+                alignment: align_of::<T>(),
+            });
+        }
+        // SAFETY: the buffer has as many values as there are items, which take at most `isize::MAX`
+        // bytes; it is aligned, and each arrangement of bytes is a value.
+        Ok(unsafe { slice::from_raw_parts(values.add(self.start), self.len) })
+    }
+
+    /// The values, wherever the buffer begins: decimals are read as `i128` so.
+    ///
+    /// ```
+    /// use vortex_bits::arrow::Export;
+    ///
+    /// let prices = Export::values(vec![1250i128, -3], None).into_array()?;
+    /// assert_eq!(prices.unaligned::<i128>()?.iter().sum::<i128>(), 1247);
+    /// assert_eq!(prices.field().format(), "d:38,0");
+    /// # Ok::<(), vortex_bits::arrow::ArrowError>(())
+    /// ```
+    ///
+    /// # Errors
+    ///
+    /// Of another type.
+    pub fn unaligned<T: Primitive>(&self) -> Result<Unaligned<'_, T>, ArrowError> {
+        self.has_values::<T>()?;
+        let size = self.len * size_of::<T>();
+        if size == 0 {
+            return Ok(Unaligned::new(&[], self.len));
+        }
+        // SAFETY: as of `values`, of bytes.
+        let bytes = unsafe {
+            let first = self.node.values.add(self.start * size_of::<T>());
+            slice::from_raw_parts(first, size)
+        };
+        Ok(Unaligned::new(bytes, self.len))
+    }
+
+    #[inline]
+    fn has_values<T: Primitive>(&self) -> Result<(), ArrowError> {
+        if T::is_in(self.node.field.layout) {
+            return Ok(());
+        }
+        Err(self.is_not(T::WANTED))
+    }
+
+    /// The column of a name, the first one of several: its rows are those of the struct.
+    ///
+    /// # Errors
+    ///
+    /// Of another type, and where no column has the name.
+    pub fn column(&self, name: &str) -> Result<Array, ArrowError> {
+        let mut columns = self.columns()?;
+        let found = columns.find(|column| column.field().name() == name);
+        found.ok_or_else(|| ArrowError::NoColumn { name: name.into() })
+    }
+
+    /// The columns of a struct, in their order: their rows are those of the struct.
+    ///
+    /// # Errors
+    ///
+    /// Of another type.
+    pub fn columns(&self) -> Result<impl ExactSizeIterator<Item = Array> + '_, ArrowError> {
+        if self.node.field.layout != Layout::Struct {
+            return Err(self.is_not("that of a struct"));
+        }
+        Ok(self.node.children.iter().map(|child| Array {
+            node: Arc::clone(child),
+            start: child.offset + self.start,
+            len: self.len,
+        }))
+    }
+
+    /// The items that the values are indices of; None where they aren't indices.
+    #[must_use]
+    pub fn dictionary(&self) -> Option<Array> {
+        self.node.dictionary.as_ref().map(Array::whole)
+    }
+
+    /// The rows of a range, which share the array.
+    ///
+    /// # Panics
+    ///
+    /// Where the range begins behind its end, or ends behind the rows.
+    #[must_use]
+    #[track_caller]
+    pub fn slice(&self, range: impl RangeBounds<usize>) -> Array {
+        expect(self.try_slice(range))
+    }
+
+    /// [`Array::slice`].
+    ///
+    /// # Errors
+    ///
+    /// Where the range begins behind its end, or ends behind the rows.
+    pub fn try_slice(&self, range: impl RangeBounds<usize>) -> Result<Array, OutOfBounds> {
+        let (start, len) = within(&range, self.len)?;
+        Ok(Array {
+            node: Arc::clone(&self.node),
+            start: self.start + start,
+            len,
+        })
+    }
+
+    fn name(&self) -> String {
+        self.node.field.name.clone()
+    }
+
+    #[cold]
+    fn is_not(&self, wanted: &'static str) -> ArrowError {
+        ArrowError::Type {
+            column: self.name(),
+            format: self.node.field.format.clone(),
+            wanted,
+        }
+    }
+}
+
+impl fmt::Debug for Array {
+    fn fmt(&self, f: &mut fmt::Formatter<'_>) -> fmt::Result {
+        let field = self.field();
+        f.debug_struct("Array")
+            .field("name", &field.name)
+            .field("format", &field.format)
+            .field("len", &self.len)
+            .finish_non_exhaustive()
+    }
+}

@@ -1,0 +1,203 @@
+//! Why an array isn't read.
+
+use alloc::string::String;
+use core::error::Error;
+use core::fmt;
+
+/// What a stream says of a call that fails: its errno, and its text, which is empty where it has
+/// none. The producer of an [`ExportStream`](super::ExportStream) says it too.
+#[derive(Clone, Debug, PartialEq, Eq)]
+pub struct StreamError {
+    /// As of `errno.h`: 5 is EIO, 12 ENOMEM, 22 EINVAL.
+    pub errno: i32,
+    /// For people.
+    pub text: String,
+}
+
+impl fmt::Display for StreamError {
+    fn fmt(&self, f: &mut fmt::Formatter<'_>) -> fmt::Result {
+        write!(f, "errno {}", self.errno)?;
+        if !self.text.is_empty() {
+            write!(f, ": {}", self.text)?;
+        }
+        Ok(())
+    }
+}
+
+impl Error for StreamError {}
+
+/// Why an array, its values or a stream aren't read.
+#[derive(Clone, Debug, PartialEq, Eq)]
+#[non_exhaustive]
+pub enum ArrowError {
+    /// A call of the stream answered an error.
+    Stream {
+        /// `get_schema` or `get_next`.
+        call: &'static str,
+        /// What the stream says.
+        error: StreamError,
+    },
+    /// A struct isn't as the interface asks for.
+    Malformed {
+        /// The names of the columns from the outermost one on, with a point between two; empty for
+        /// the array itself. A child without a name is named by its place.
+        column: String,
+        /// What is wrong.
+        fault: Fault,
+    },
+    /// The array has another type than the call is for.
+    Type {
+        /// The name of the column.
+        column: String,
+        /// Its type.
+        format: String,
+        /// What the call is for.
+        wanted: &'static str,
+    },
+    /// The buffer of the values doesn't begin at a multiple of their alignment:
+    /// [`unaligned`](super::Array::unaligned) reads them.
+    Unaligned {
+        /// The name of the column.
+        column: String,
+        /// The alignment, in bytes.
+        alignment: usize,
+    },
+    /// A struct has no column of the name.
+    NoColumn {
+        /// The name that was asked for.
+        name: String,
+    },
+}
+
+/// What is wrong with a struct of the interface.
+#[derive(Clone, Debug, PartialEq, Eq)]
+#[non_exhaustive]
+pub enum Fault {
+    /// It was released, or a pointer to it is null.
+    Released(&'static str),
+    /// This pointer is null.
+    Null(&'static str),
+    /// This number is negative, or no `usize`.
+    OutOfRange(&'static str, i64),
+    /// The number of nulls is below -1 or above the length.
+    NullCount {
+        /// The number.
+        null_count: i64,
+        /// The length.
+        length: i64,
+    },
+    /// The items up to the last one have more bytes than memory can.
+    TooLong {
+        /// The offset.
+        offset: i64,
+        /// The length.
+        length: i64,
+    },
+    /// It has another number of this than its type.
+    Number {
+        /// What they are: buffers or children.
+        of: &'static str,
+        /// How many the type has.
+        wanted: i64,
+        /// How many it has.
+        got: i64,
+    },
+    /// A buffer that is wanted is null: that of the values where there are items, and that of the
+    /// validity where there are nulls.
+    NoBuffer(&'static str),
+    /// It ends before the parent's items do.
+    Short {
+        /// How many items the parent asks for, from its offset 0 on.
+        wanted: usize,
+        /// How many there are.
+        got: usize,
+    },
+    /// The text of the type is none that the interface has.
+    Format(String),
+    /// This text isn't UTF-8.
+    Utf8(&'static str),
+    /// The type or the array has a dictionary, and the other hasn't, or its indices aren't whole
+    /// numbers.
+    Dictionary,
+    /// It has this many levels of children and dictionaries, or more.
+    Deep(usize),
+}
+
+impl fmt::Display for Fault {
+    fn fmt(&self, f: &mut fmt::Formatter<'_>) -> fmt::Result {
+        match self {
+            Fault::Released(what) => write!(f, "{what} is released"),
+            Fault::Null(what) => write!(f, "{what} is null"),
+            Fault::OutOfRange(what, number) => write!(f, "{what} is {number}"),
+            Fault::NullCount { null_count, length } => {
+                write!(f, "null_count is {null_count} and length {length}")
+            }
+            Fault::TooLong { offset, length } => {
+                write!(f, "memory can't hold offset {offset} and length {length}")
+            }
+            Fault::Number { of, wanted, got } => write!(f, "{of} is {got} in place of {wanted}"),
+            Fault::NoBuffer(what) => write!(f, "the buffer of the {what} is null"),
+            Fault::Short { wanted, got } => {
+                write!(f, "it has {got} items, of which its parent wants {wanted}")
+            }
+            Fault::Format(format) => write!(f, "no type has the format {format:?}"),
+            Fault::Utf8(what) => write!(f, "{what} isn't UTF-8"),
+            Fault::Dictionary => f.write_str("no array of its type has such a dictionary"),
+            Fault::Deep(levels) => write!(f, "it has {levels} levels of children or more"),
+        }
+    }
+}
+
+impl fmt::Display for ArrowError {
+    fn fmt(&self, f: &mut fmt::Formatter<'_>) -> fmt::Result {
+        match self {
+            ArrowError::Stream { call, error } => write!(f, "{call}: {error}"),
+            ArrowError::Malformed { column, fault } => write!(f, "{}{fault}", Of(column)),
+            ArrowError::Type {
+                column,
+                format,
+                wanted,
+            } => write!(f, "{}format {format:?} isn't {wanted}", Of(column)),
+            ArrowError::Unaligned { column, alignment } => {
+                let column = Of(column);
+                write!(f, "{column}values don't begin at a multiple of {alignment}")
+            }
+            ArrowError::NoColumn { name } => write!(f, "no column {name:?}"),
+        }
+    }
+}
+
+/// Before what is said of a column.
+struct Of<'a>(&'a str);
+
+impl fmt::Display for Of<'_> {
+    fn fmt(&self, f: &mut fmt::Formatter<'_>) -> fmt::Result {
+        match self.0 {
+            "" => Ok(()),
+            column => write!(f, "column {column:?}: "),
+        }
+    }
+}
+
+impl Error for ArrowError {}
+
+impl ArrowError {
+    /// The same, of the column of a parent.
+    pub(super) fn under(mut self, parent: &str) -> ArrowError {
+        if let ArrowError::Malformed { column, .. } = &mut self {
+            let point = if column.is_empty() { "" } else { "." };
+            *column = alloc::format!("{parent}{point}{column}");
+        }
+        self
+    }
+}
+
+/// Of the array itself.
+impl From<Fault> for ArrowError {
+    fn from(fault: Fault) -> ArrowError {
+        ArrowError::Malformed {
+            column: String::new(),
+            fault,
+        }
+    }
+}

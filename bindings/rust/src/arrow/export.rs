@@ -1,0 +1,330 @@
+//! Bits and values that are handed on as arrays.
+
+use alloc::boxed::Box;
+use alloc::sync::Arc;
+use alloc::vec;
+use alloc::vec::Vec;
+use core::any::Any;
+use core::ffi::c_void;
+use core::fmt;
+use core::ptr;
+
+use super::array::Array;
+use super::error::{ArrowError, Fault};
+use super::ffi::{ArrowArray, ArrowSchema, Below, Owned};
+use super::field::Field;
+use super::layout::Layout;
+use super::primitive::Primitive;
+use crate::Bitmap;
+
+/// An array of the Arrow C data interface over values or bits of this program, with its type, to be
+/// handed on to any consumer. No value is copied: the array keeps what has them, until it is
+/// released, by the consumer or, where none took it, when this is dropped.
+///
+/// ```
+/// use vortex_bits::Bitmap;
+/// use vortex_bits::arrow::{Array, Export};
+///
+/// let valid = Bitmap::from([true, false, true]);
+/// let days = Export::values(vec![19_000i32, 0, 19_002], Some(valid)).with_format("tdD")?;
+/// let (mut array, mut schema) = days.named("day").into_raw();
+/// assert_eq!((array.length, array.null_count), (3, 1));
+///
+/// // A consumer that is given the two pointers takes both over, as this crate does:
+/// // SAFETY: they are as the interface asks for, and no one else has them.
+/// let day = unsafe { Array::from_raw(&raw mut array, &raw mut schema)? };
+/// assert_eq!(day.values::<i32>()?, [19_000, 0, 19_002]);
+/// assert!(array.release.is_none() && schema.release.is_none());
+/// # Ok::<(), vortex_bits::arrow::ArrowError>(())
+/// ```
+pub struct Export {
+    array: Owned<ArrowArray>,
+    field: Field,
+    len: usize,
+}
+
+impl Export {
+    /// Values, and which of them are valid; all are where that is None. The values are those of a
+    /// [`Vec`], or of another owner, as an `Arc<[T]>`. The bits of the validity are copied where
+    /// the first one is within a byte, and left out where all are true.
+    ///
+    /// # Panics
+    ///
+    /// Where there isn't a bit for each value.
+    #[must_use]
+    #[track_caller]
+    pub fn values<T: Primitive>(
+        values: impl AsRef<[T]> + Send + Sync + 'static,
+        valid: Option<Bitmap>,
+    ) -> Export {
+        // Moved to where it stays before it is asked where its values are.
+        let kept = Arc::new(values);
+        let values = (*kept).as_ref();
+        let (len, pointer) = (values.len(), values.as_ptr().cast());
+        let format = T::format();
+        let layout = Layout::of(&format).unwrap_or(Layout::Bits);
+        let field = Field::of("", &format, layout);
+        Export::column(field, len, 0, pointer, kept, valid)
+    }
+
+    /// Truth values, and which of them are valid; all are where that is None. The bits of the
+    /// validity are copied where their first one and the first of the truth values aren't at one
+    /// place of a byte, and left out where all are true.
+    ///
+    /// # Panics
+    ///
+    /// Where the two are of different lengths.
+    #[must_use]
+    #[track_caller]
+    pub fn bits<B: AsRef<[u8]> + Send + Sync + 'static>(
+        bits: Bitmap<B>,
+        valid: Option<Bitmap>,
+    ) -> Export {
+        let kept = Arc::new(bits);
+        let bits = kept.bits();
+        let (len, offset, pointer) = (bits.len(), bits.offset() % 8, start_of(bits));
+        Export::column(
+            Field::of("", "b", Layout::Bits),
+            len,
+            offset,
+            pointer,
+            kept,
+            valid,
+        )
+    }
+
+    #[track_caller]
+    fn column(
+        field: Field,
+        len: usize,
+        offset: usize,
+        values: *const c_void,
+        kept: Arc<dyn Any + Send + Sync>,
+        valid: Option<Bitmap>,
+    ) -> Export {
+        let nulls = valid.as_ref().map_or(0, Bitmap::count_zeros);
+        if let Some(valid) = &valid {
+            let bits = valid.len();
+            assert!(bits == len, "{bits} bits of validity for {len} values");
+        }
+        let valid = valid.filter(|_| nulls > 0).map(|it| from_bit(it, offset));
+        let validity = valid
+            .as_ref()
+            .map_or(ptr::null(), |valid| start_of(valid.bits()));
+        let held = Held {
+            buffers: vec![validity, values],
+            below: Below::new([]),
+            _kept: (Some(kept), valid),
+        };
+        Export {
+            array: held.array(len, nulls, offset),
+            field,
+            len,
+        }
+    }
+
+    /// Rows of columns, which the consumer finds by their names.
+    ///
+    /// # Panics
+    ///
+    /// Where the columns are of different lengths.
+    #[must_use]
+    #[track_caller]
+    pub fn batch(columns: impl IntoIterator<Item = Export>) -> Export {
+        let columns: Vec<Export> = columns.into_iter().collect();
+        let len = columns.first().map_or(0, Export::len);
+        let mut fields = Vec::new();
+        let mut children = Vec::new();
+        for column in columns {
+            let own = column.len;
+            assert!(own == len, "columns of {len} and {own} rows");
+            fields.push(column.field);
+            children.push(column.array);
+        }
+        let held = Held {
+            buffers: vec![ptr::null()],
+            below: Below::new(children),
+            _kept: (None, None),
+        };
+        Export {
+            array: held.array(len, 0, 0),
+            field: Field::batch(fields),
+            len,
+        }
+    }
+
+    /// The same with a name. A consumer sees it up to its first character 0, if it has one.
+    #[must_use]
+    pub fn named(mut self, name: &str) -> Export {
+        self.field.name = name.into();
+        self
+    }
+
+    /// The same values as those of another type, as the interface writes it: `i32` as days `tdD`,
+    /// `i128` as decimals `d:19,2`.
+    ///
+    /// # Errors
+    ///
+    /// Where no type is written so, or its values lie in another way.
+    pub fn with_format(mut self, format: &str) -> Result<Export, ArrowError> {
+        let layout = Layout::of(format).ok_or_else(|| Fault::Format(format.into()))?;
+        let is_same = match (layout, self.field.layout) {
+            (Layout::Fixed(_, new), Layout::Fixed(_, old)) => new == old,
+            (new, old) => new == old,
+        };
+        let is_index = self.field.dictionary.is_none() || layout.is_index();
+        if !is_same || !is_index {
+            return Err(ArrowError::Type {
+                column: self.field.name,
+                format: format.into(),
+                wanted: "that of values as wide",
+            });
+        }
+        self.field.format = format.into();
+        self.field.layout = layout;
+        Ok(self)
+    }
+
+    /// The items that the values are indices of, as of texts that stand once each: the consumer
+    /// reads the items. No index is tested.
+    ///
+    /// ```
+    /// use vortex_bits::arrow::Export;
+    ///
+    /// let prices = Export::values(vec![9.5, 12.0], None);
+    /// let rows = Export::values(vec![1i8, 1, 0], None).with_dictionary(prices)?.into_array()?;
+    /// let prices = rows.dictionary().unwrap();
+    /// let of = |&index: &i8| prices.values::<f64>().unwrap()[index as usize];
+    /// assert_eq!(rows.values::<i8>()?.iter().map(of).sum::<f64>(), 33.5);
+    /// # Ok::<(), vortex_bits::arrow::ArrowError>(())
+    /// ```
+    ///
+    /// # Errors
+    ///
+    /// Where the values aren't whole numbers of 8 to 64 bits, or have a dictionary.
+    pub fn with_dictionary(mut self, items: Export) -> Result<Export, ArrowError> {
+        if !self.field.layout.is_index() || self.field.dictionary.is_some() {
+            return Err(Fault::Dictionary.into());
+        }
+        let array = self.array.as_mut_ptr();
+        // SAFETY: the array is of `Held::array`, which made what is behind `private_data`.
+        unsafe {
+            let below = &raw mut (*(*array).private_data.cast::<Held>()).below;
+            (*below).set_dictionary(items.array);
+            (*array).dictionary = (*below).dictionary;
+        }
+        self.field.dictionary = Some(Arc::new(items.field));
+        Ok(self)
+    }
+
+    /// The name and the type.
+    #[must_use]
+    pub fn field(&self) -> &Field {
+        &self.field
+    }
+
+    /// How many rows there are.
+    #[must_use]
+    pub fn len(&self) -> usize {
+        self.len
+    }
+
+    /// Whether there are none.
+    #[must_use]
+    pub fn is_empty(&self) -> bool {
+        self.len == 0
+    }
+
+    /// The two structs, each of which its new owner has to release, on any thread: they are plain
+    /// data here, and keep their memory where no one does.
+    #[must_use]
+    pub fn into_raw(self) -> (ArrowArray, ArrowSchema) {
+        let schema = self.field.schema();
+        (self.array.into_raw(), schema.into_raw())
+    }
+
+    /// The array without its type.
+    pub(super) fn into_owned(self) -> Owned<ArrowArray> {
+        self.array
+    }
+
+    /// The array as this crate reads those of others.
+    ///
+    /// # Errors
+    ///
+    /// As of [`Array::from_raw`]; there is no export that it refuses.
+    pub fn into_array(self) -> Result<Array, ArrowError> {
+        // SAFETY: the array is as the interface asks for, and this is its only owner.
+        unsafe { Array::of(self.array, &Arc::new(self.field)) }
+    }
+}
+
+impl fmt::Debug for Export {
+    fn fmt(&self, f: &mut fmt::Formatter<'_>) -> fmt::Result {
+        f.debug_struct("Export")
+            .field("field", &self.field)
+            .field("len", &self.len)
+            .finish_non_exhaustive()
+    }
+}
+
+/// The byte that has the first bit.
+fn start_of(bits: crate::Bits<'_>) -> *const c_void {
+    bits.bytes()[bits.offset() / 8..].as_ptr().cast()
+}
+
+/// The bits, of which the first one is at this place of its byte.
+fn from_bit(bits: Bitmap, place: usize) -> Bitmap {
+    if bits.bits().offset() % 8 == place {
+        return bits;
+    }
+    let len = place + bits.len();
+    let copy = Bitmap::make(len, |mut out| out.slice(place..).copy_from(bits.bits()));
+    copy.slice(place..)
+}
+
+/// What an array keeps until it is released.
+struct Held {
+    buffers: Vec<*const c_void>,
+    below: Below<ArrowArray>,
+    /// What has the values, and the validity.
+    _kept: (Option<Arc<dyn Any + Send + Sync>>, Option<Bitmap>),
+}
+
+impl Held {
+    fn array(self, len: usize, nulls: usize, offset: usize) -> Owned<ArrowArray> {
+        let mut held = Box::new(self);
+        let mut array = ArrowArray {
+            length: number(len),
+            null_count: number(nulls),
+            offset: number(offset),
+            n_buffers: number(held.buffers.len()),
+            n_children: number(held.below.children.len()),
+            buffers: held.buffers.as_mut_ptr(),
+            children: held.below.children.as_mut_ptr(),
+            dictionary: ptr::null_mut(),
+            release: Some(release),
+            private_data: ptr::null_mut(),
+        };
+        array.private_data = Box::into_raw(held).cast();
+        // SAFETY: it is as the interface asks for: its bits and values stay where they are for as
+        // long as what is kept, which may be dropped on any thread. No one else has it.
+        unsafe { Owned::take(&raw mut array) }
+    }
+}
+
+/// # Safety
+///
+/// The array is of [`Held::array`], and isn't released.
+unsafe extern "C" fn release(array: *mut ArrowArray) {
+    // SAFETY: as of this function.
+    unsafe {
+        drop(Box::from_raw((*array).private_data.cast::<Held>()));
+        array.write(ArrowArray::empty());
+    }
+}
+
+/// A number of items or bits in memory.
+pub(super) fn number(usize: usize) -> i64 {
+    i64::try_from(usize).unwrap_or(i64::MAX)
+}

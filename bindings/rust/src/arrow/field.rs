@@ -1,0 +1,226 @@
+//! What the arrays of a column have in common.
+
+use alloc::borrow::ToOwned;
+use alloc::string::{String, ToString};
+use alloc::sync::Arc;
+use alloc::vec::Vec;
+use core::ffi::{CStr, c_char};
+use core::ptr::NonNull;
+
+use super::error::{ArrowError, Fault};
+use super::ffi::ArrowSchema;
+use super::layout::Layout;
+
+/// How many levels of children and dictionaries are read.
+pub(super) const DEPTH: usize = 64;
+const NULLABLE: i64 = 2;
+
+/// The name and the type of a column: an `ArrowSchema` without its metadata, in memory of its own.
+///
+/// ```
+/// use vortex_bits::arrow::Field;
+///
+/// let rows = Field::batch([Field::new("a", "i")?, Field::new("b", "l")?]);
+/// assert_eq!((rows.format(), rows.fields().len()), ("+s", 2));
+/// assert_eq!(Field::new("a", "int").unwrap_err().to_string(), "no type has the format \"int\"");
+/// # Ok::<(), vortex_bits::arrow::ArrowError>(())
+/// ```
+#[derive(Clone, Debug, PartialEq, Eq)]
+pub struct Field {
+    pub(super) name: String,
+    pub(super) format: String,
+    pub(super) layout: Layout,
+    pub(super) is_nullable: bool,
+    pub(super) children: Vec<Arc<Field>>,
+    pub(super) dictionary: Option<Arc<Field>>,
+}
+
+impl Field {
+    /// A column of values or of truth values, whose type is written as the interface does: `i` for
+    /// `i32`, `tdD` for days, `d:19,2` for decimals. It may have nulls.
+    ///
+    /// # Errors
+    ///
+    /// Where it is no such type.
+    pub fn new(name: &str, format: &str) -> Result<Field, ArrowError> {
+        match Layout::of(format) {
+            Some(layout @ (Layout::Bits | Layout::Fixed(..))) => {
+                Ok(Field::of(name, format, layout))
+            }
+            _ => Err(Fault::Format(format.to_owned()).into()),
+        }
+    }
+
+    pub(super) fn of(name: &str, format: &str, layout: Layout) -> Field {
+        Field {
+            name: name.to_owned(),
+            format: format.to_owned(),
+            layout,
+            is_nullable: true,
+            children: Vec::new(),
+            dictionary: None,
+        }
+    }
+
+    /// The rows of columns, without a name and without nulls.
+    #[must_use]
+    pub fn batch(columns: impl IntoIterator<Item = Field>) -> Field {
+        Field {
+            is_nullable: false,
+            children: columns.into_iter().map(Arc::new).collect(),
+            ..Field::of("", "+s", Layout::Struct)
+        }
+    }
+
+    /// The name; empty where there is none.
+    #[must_use]
+    pub fn name(&self) -> &str {
+        &self.name
+    }
+
+    /// The type, as the interface writes it; of a column with a dictionary that of the indices.
+    #[must_use]
+    pub fn format(&self) -> &str {
+        &self.format
+    }
+
+    /// Whether rows may be null.
+    #[must_use]
+    pub fn is_nullable(&self) -> bool {
+        self.is_nullable
+    }
+
+    /// Those of the children, in their order.
+    pub fn fields(&self) -> impl ExactSizeIterator<Item = &Field> {
+        self.children.iter().map(AsRef::as_ref)
+    }
+
+    /// That of the dictionary.
+    #[must_use]
+    pub fn dictionary(&self) -> Option<&Field> {
+        self.dictionary.as_deref()
+    }
+
+    /// What an error names the child at a place.
+    pub(super) fn name_of(&self, child: usize) -> String {
+        match self.children.get(child) {
+            Some(field) if !field.name.is_empty() => field.name.clone(),
+            _ => child.to_string(),
+        }
+    }
+
+    /// What a schema says, `depth` levels below the outermost one.
+    ///
+    /// # Safety
+    ///
+    /// It is released, or is as the interface asks for: its pointers are null or to what it says.
+    pub(super) unsafe fn read(schema: &ArrowSchema, depth: usize) -> Result<Field, ArrowError> {
+        if schema.release.is_none() {
+            return Err(Fault::Released("ArrowSchema").into());
+        }
+        if depth == DEPTH {
+            return Err(Fault::Deep(DEPTH).into());
+        }
+        // SAFETY: they are null or texts that end with 0.
+        let (format, name) = unsafe { (text(schema.format, "format")?, name(schema.name)?) };
+        let layout = Layout::of(&format).ok_or_else(|| Fault::Format(format.clone()))?;
+        // SAFETY: as of this function.
+        let (children, dictionary) =
+            unsafe { (children(schema, layout, depth)?, dictionary(schema, depth)?) };
+        if dictionary.is_some() && !layout.is_index() {
+            return Err(Fault::Dictionary.into());
+        }
+        Ok(Field {
+            name,
+            format,
+            layout,
+            is_nullable: schema.flags & NULLABLE != 0,
+            children,
+            dictionary,
+        })
+    }
+
+    /// The flags of its schema.
+    pub(super) fn flags(&self) -> i64 {
+        if self.is_nullable { NULLABLE } else { 0 }
+    }
+}
+
+/// # Safety
+///
+/// As of [`Field::read`].
+unsafe fn children(
+    schema: &ArrowSchema,
+    layout: Layout,
+    depth: usize,
+) -> Result<Vec<Arc<Field>>, ArrowError> {
+    let number = count("n_children", schema.n_children, layout.children())?;
+    (0..number)
+        .map(|place| {
+            // SAFETY: there are as many children as it says.
+            let read = match unsafe { child(schema.children, place) } {
+                // SAFETY: it is the parent's, which isn't released.
+                Ok(child) => unsafe { Field::read(child.as_ref(), depth + 1) },
+                Err(fault) => Err(fault.into()),
+            };
+            read.map(Arc::new)
+                .map_err(|error| error.under(&place.to_string()))
+        })
+        .collect()
+}
+
+/// # Safety
+///
+/// As of [`Field::read`].
+unsafe fn dictionary(schema: &ArrowSchema, depth: usize) -> Result<Option<Arc<Field>>, ArrowError> {
+    let Some(dictionary) = NonNull::new(schema.dictionary) else {
+        return Ok(None);
+    };
+    // SAFETY: as of this function.
+    let field = unsafe { Field::read(dictionary.as_ref(), depth + 1) };
+    field
+        .map(|field| Some(Arc::new(field)))
+        .map_err(|error| error.under("dictionary"))
+}
+
+/// A number of a struct, which is that of its type where this has one.
+pub(super) fn count(of: &'static str, got: i64, wanted: Option<i64>) -> Result<usize, Fault> {
+    match wanted {
+        Some(wanted) if wanted != got => Err(Fault::Number { of, wanted, got }),
+        _ => usize::try_from(got).map_err(|_| Fault::OutOfRange(of, got)),
+    }
+}
+
+/// The child at a place.
+///
+/// # Safety
+///
+/// The pointer is null, or to more pointers than `place`.
+pub(super) unsafe fn child<S>(children: *mut *mut S, place: usize) -> Result<NonNull<S>, Fault> {
+    let children = NonNull::new(children).ok_or(Fault::Null("children"))?;
+    // SAFETY: as of this function.
+    NonNull::new(unsafe { *children.as_ptr().add(place) }).ok_or(Fault::Null("a child"))
+}
+
+/// # Safety
+///
+/// The pointer is null, or to a text that ends with 0.
+unsafe fn text(pointer: *const c_char, what: &'static str) -> Result<String, Fault> {
+    if pointer.is_null() {
+        return Err(Fault::Null(what));
+    }
+    // SAFETY: as of this function.
+    let text = unsafe { CStr::from_ptr(pointer) }.to_str();
+    text.map(str::to_owned).map_err(|_| Fault::Utf8(what))
+}
+
+/// # Safety
+///
+/// As of [`text`].
+unsafe fn name(pointer: *const c_char) -> Result<String, Fault> {
+    if pointer.is_null() {
+        return Ok(String::new());
+    }
+    // SAFETY: as of this function.
+    unsafe { text(pointer, "name") }
+}

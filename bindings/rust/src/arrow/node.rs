@@ -1,0 +1,212 @@
+//! The numbers and the buffers of a struct, once they are tested.
+
+use alloc::sync::Arc;
+use alloc::vec::Vec;
+use core::ptr::{self, NonNull};
+
+use super::error::{ArrowError, Fault};
+use super::ffi::{ArrowArray, Owned};
+use super::field::{Field, child, count};
+use super::layout::Layout;
+
+/// An array of a tree, and what keeps the tree.
+pub(super) struct Node {
+    pub field: Arc<Field>,
+    /// How many items are before it in its buffers.
+    pub offset: usize,
+    /// How many items it has; together with those before they have at most `isize::MAX` bytes.
+    pub len: usize,
+    /// How many of them are null, where that is said.
+    pub nulls: Option<usize>,
+    /// A bit for each item; null where all are valid.
+    pub validity: *const u8,
+    /// The bits or the values; null only where these take no bytes.
+    pub values: *const u8,
+    /// Those of a struct, each with as many items as the struct's window ends at.
+    pub children: Vec<Arc<Node>>,
+    pub dictionary: Option<Arc<Node>>,
+    /// The outermost array, which is released with the last node of the tree.
+    _owner: Arc<Owned<ArrowArray>>,
+}
+
+// SAFETY: its pointers are to buffers of `_owner`, which may be released on any thread.
+unsafe impl Send for Node {}
+
+// SAFETY: nothing writes to the buffers before they are released.
+unsafe impl Sync for Node {}
+
+impl Node {
+    /// What an array of a type has.
+    ///
+    /// # Safety
+    ///
+    /// It is released, or is as the interface asks for: its pointers are null or to what it says,
+    /// and what that is stays until `owner`, the array or a parent of it, is released.
+    pub unsafe fn read(
+        array: &ArrowArray,
+        field: &Arc<Field>,
+        owner: &Arc<Owned<ArrowArray>>,
+    ) -> Result<Node, ArrowError> {
+        if array.release.is_none() {
+            return Err(Fault::Released("ArrowArray").into());
+        }
+        let (offset, len) = window(array, field.layout)?;
+        let nulls = null_count(array)?;
+        // SAFETY: as of this function.
+        let (validity, values) = unsafe { buffers(array, field.layout)? };
+        let has_validity = field.layout.has_validity();
+        if has_validity && validity.is_null() && nulls > Some(0) {
+            return Err(Fault::NoBuffer("validity").into());
+        }
+        let all_valid = validity.is_null() || nulls == Some(0);
+        Ok(Node {
+            field: Arc::clone(field),
+            offset,
+            len,
+            nulls: if all_valid && has_validity {
+                Some(0)
+            } else {
+                nulls
+            },
+            validity: if all_valid { ptr::null() } else { validity },
+            values,
+            // SAFETY: as of this function.
+            children: unsafe { children(array, field, owner)? },
+            // SAFETY: as of this function.
+            dictionary: unsafe { dictionary(array, field, owner)? },
+            _owner: Arc::clone(owner),
+        })
+    }
+}
+
+/// The offset and the length.
+fn window(array: &ArrowArray, layout: Layout) -> Result<(usize, usize), Fault> {
+    let (offset, length) = (array.offset, array.length);
+    let (start, len) = (
+        count("offset", offset, None)?,
+        count("length", length, None)?,
+    );
+    let width = match layout {
+        Layout::Fixed(_, width) => width.max(1),
+        _ => 1,
+    };
+    let size = start
+        .checked_add(len)
+        .and_then(|end| end.checked_mul(width));
+    match size.map(isize::try_from) {
+        Some(Ok(_)) => Ok((start, len)),
+        _ => Err(Fault::TooLong { offset, length }),
+    }
+}
+
+/// The number of nulls, where it is said.
+fn null_count(array: &ArrowArray) -> Result<Option<usize>, Fault> {
+    let (null_count, length) = (array.null_count, array.length);
+    match usize::try_from(null_count) {
+        Ok(nulls) if null_count <= length => Ok(Some(nulls)),
+        Err(_) if null_count == -1 => Ok(None),
+        _ => Err(Fault::NullCount { null_count, length }),
+    }
+}
+
+/// The buffers of the validity and of the values: null where the layout has none.
+///
+/// # Safety
+///
+/// As of [`Node::read`].
+unsafe fn buffers(array: &ArrowArray, layout: Layout) -> Result<(*const u8, *const u8), Fault> {
+    let number = count("n_buffers", array.n_buffers, layout.buffers())?;
+    if number > 0 && array.buffers.is_null() {
+        return Err(Fault::Null("buffers"));
+    }
+    let buffer = |place: usize| {
+        if place >= number {
+            return ptr::null();
+        }
+        // SAFETY: there are as many pointers as it says.
+        unsafe { *array.buffers.add(place) }.cast::<u8>()
+    };
+    let validity = if layout.has_validity() {
+        buffer(0)
+    } else {
+        ptr::null()
+    };
+    let is_wanted = match layout {
+        Layout::Bits => true,
+        Layout::Fixed(_, width) => width > 0,
+        Layout::Struct | Layout::Other { .. } => return Ok((validity, ptr::null())),
+    };
+    let values = buffer(1);
+    if values.is_null() && is_wanted && array.length > 0 {
+        return Err(Fault::NoBuffer("values"));
+    }
+    Ok((validity, values))
+}
+
+/// Those of a struct; of others none are read.
+///
+/// # Safety
+///
+/// As of [`Node::read`].
+unsafe fn children(
+    array: &ArrowArray,
+    field: &Field,
+    owner: &Arc<Owned<ArrowArray>>,
+) -> Result<Vec<Arc<Node>>, ArrowError> {
+    let wanted = i64::try_from(field.children.len()).ok();
+    count("n_children", array.n_children, wanted)?;
+    if field.layout != Layout::Struct {
+        return Ok(Vec::new());
+    }
+    let (offset, len) = window(array, field.layout)?;
+    field
+        .children
+        .iter()
+        .enumerate()
+        .map(|(place, of)| {
+            // SAFETY: as of this function.
+            unsafe { column(array, place, of, owner, offset + len) }
+                .map(Arc::new)
+                .map_err(|error| error.under(&field.name_of(place)))
+        })
+        .collect()
+}
+
+/// The child of a struct, which has so many items at least.
+///
+/// # Safety
+///
+/// As of [`Node::read`], and there are more children than `place`.
+unsafe fn column(
+    array: &ArrowArray,
+    place: usize,
+    field: &Arc<Field>,
+    owner: &Arc<Owned<ArrowArray>>,
+    wanted: usize,
+) -> Result<Node, ArrowError> {
+    // SAFETY: as of this function.
+    let node = unsafe { Node::read(child(array.children, place)?.as_ref(), field, owner)? };
+    if node.len < wanted {
+        let got = node.len;
+        return Err(Fault::Short { wanted, got }.into());
+    }
+    Ok(node)
+}
+
+/// # Safety
+///
+/// As of [`Node::read`].
+unsafe fn dictionary(
+    array: &ArrowArray,
+    field: &Field,
+    owner: &Arc<Owned<ArrowArray>>,
+) -> Result<Option<Arc<Node>>, ArrowError> {
+    match (NonNull::new(array.dictionary), &field.dictionary) {
+        (None, None) => Ok(None),
+        // SAFETY: as of this function.
+        (Some(items), Some(field)) => unsafe { Node::read(items.as_ref(), field, owner) }
+            .map(|node| Some(Arc::new(node)))
+            .map_err(|error| error.under("dictionary")),
+        _ => Err(Fault::Dictionary.into()),
+    }
+}

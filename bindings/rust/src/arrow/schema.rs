@@ -1,0 +1,60 @@
+//! Fields that are handed on as schemas.
+
+use alloc::boxed::Box;
+use alloc::ffi::CString;
+use core::ptr;
+
+use super::export::number;
+use super::ffi::{ArrowSchema, Below, Owned};
+use super::field::Field;
+
+/// What a schema keeps until it is released.
+struct Held {
+    format: CString,
+    name: CString,
+    below: Below<ArrowSchema>,
+}
+
+impl Field {
+    pub(super) fn schema(&self) -> Owned<ArrowSchema> {
+        let mut held = Box::new(Held {
+            format: c_string(&self.format),
+            name: c_string(&self.name),
+            below: Below::new(self.fields().map(Field::schema)),
+        });
+        if let Some(dictionary) = self.dictionary() {
+            held.below.set_dictionary(dictionary.schema());
+        }
+        let mut schema = ArrowSchema {
+            format: held.format.as_ptr(),
+            name: held.name.as_ptr(),
+            metadata: ptr::null(),
+            flags: self.flags(),
+            n_children: number(held.below.children.len()),
+            children: held.below.children.as_mut_ptr(),
+            dictionary: held.below.dictionary,
+            release: Some(release),
+            private_data: ptr::null_mut(),
+        };
+        schema.private_data = Box::into_raw(held).cast();
+        // SAFETY: it is as the interface asks for, and no one else has it.
+        unsafe { Owned::take(&raw mut schema) }
+    }
+}
+
+/// The text up to its first character 0.
+pub(super) fn c_string(text: &str) -> CString {
+    let text = text.split('\0').next().unwrap_or_default();
+    CString::new(text).unwrap_or_default()
+}
+
+/// # Safety
+///
+/// The schema is of [`Field::schema`], and isn't released.
+unsafe extern "C" fn release(schema: *mut ArrowSchema) {
+    // SAFETY: as of this function.
+    unsafe {
+        drop(Box::from_raw((*schema).private_data.cast::<Held>()));
+        schema.write(ArrowSchema::empty());
+    }
+}

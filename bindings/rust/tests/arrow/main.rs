@@ -1,0 +1,7 @@
+//! Arrays and streams of the Arrow C interfaces: made by hand, beside plain loops over single bits.
+mod export;
+mod import;
+mod malformed;
+mod plain;
+mod raw;
+mod stream;
