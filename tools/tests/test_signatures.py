@@ -68,9 +68,9 @@ class Signatures(unittest.TestCase):
 
     def test_another_type_or_answer_or_number_is_found(self):
         edits = [
-            ("uint64_t *out, size_t room, const uint64_t *values,",
-             "int64_t *out, size_t room, const uint64_t *values,",
-             "parameter 1 is `out: *mut int64_t`"),
+            ("void vb_pack_truthy(uint8_t *out, size_t out_size,",
+             "void vb_pack_truthy(int8_t *out, size_t out_size,",
+             "parameter 1 is `out: *mut int8_t`"),
             ("bool vb_get_bit(const uint8_t *bytes, size_t size, size_t place);",
              "size_t vb_get_bit(const uint8_t *bytes, size_t size, size_t place);",
              "it answers `usize` in place of `bool`"),

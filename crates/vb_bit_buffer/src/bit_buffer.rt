@@ -342,8 +342,8 @@ impl<A: Allocator + Clone> BitBuffer<A> {
         self.as_view().select_unset(n)
     }
 
-    /// The place of the last true bit; `None` where no bit is true. It reads from the end, in blocks
-    /// of eight words, up to the word that has it.
+    /// The place of the last true bit; `None` where no bit is true. It reads from the end, in
+    /// blocks of eight words, up to the word that has it.
     pub fn last_set_index(&self) -> Option<usize>
         ensures { result ≡ last_place self.now.bits }
     {

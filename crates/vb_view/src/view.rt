@@ -221,8 +221,8 @@ impl<'a> BitBufferView<'a> {
         bit_select_unset(self.bytes, self.offset, self.len, n)
     }
 
-    /// The place of the last true bit; `None` where no bit is true. It reads from the end, in blocks
-    /// of eight words, up to the word that has it.
+    /// The place of the last true bit; `None` where no bit is true. It reads from the end, in
+    /// blocks of eight words, up to the word that has it.
     pub fn last_set_index(&self) -> Option<usize>
         ensures { result ≡ last_place (bits_of self.now) }
     {

@@ -1,0 +1,69 @@
+"""The programs of README.md, as they stand, by the commands that stand beside them."""
+import os
+import re
+import shutil
+import subprocess
+import tempfile
+import unittest
+from pathlib import Path
+
+TOP = Path(__file__).resolve().parent.parent.parent
+README = (TOP / "README.md").read_text()
+ARCHIVE = TOP / "bindings/out/libvortex_bits.a"
+VBITS = TOP / "crates/vbits/out/vbits"
+
+
+def block(language: str) -> tuple[str, list[str]]:
+    """The one block of a language, and the lines that it prints, as is said behind it."""
+    found = re.findall(
+        rf"^```{language}\n(.*?)^```\n\nIt prints (.*?)[.:] ", README, re.MULTILINE | re.DOTALL
+    )
+    assert len(found) == 1, f"{len(found)} blocks of {language}"
+    return found[0][0], re.findall(r"`([^`]+)`", found[0][1])
+
+
+def printed(command: list[str], **options) -> list[str]:
+    ended = subprocess.run(command, capture_output=True, text=True, check=False, **options)
+    assert ended.returncode == 0, ended.stderr
+    return ended.stdout.splitlines()
+
+
+class Readme(unittest.TestCase):
+    def setUp(self):
+        folder = tempfile.TemporaryDirectory()
+        self.addCleanup(folder.cleanup)
+        self.folder = Path(folder.name)
+
+    @unittest.skipUnless(shutil.which("cargo"), "no cargo")
+    def test_rust_runs_over_a_clone_as_it_is(self):
+        code, lines = block("rs")
+        dependency = 'vortex_bits = { path = "bindings/rust" }'
+        self.assertIn(f"`{dependency}`", README)
+        (self.folder / "src").mkdir()
+        (self.folder / "src/main.rs").write_text(code)
+        (self.folder / "bindings").symlink_to(TOP / "bindings")
+        package = '[package]\nname = "app"\nedition = "2024"\n[dependencies]\n'
+        (self.folder / "Cargo.toml").write_text(f"{package}{dependency}\n")
+        env = {**os.environ, "CARGO_TARGET_DIR": str(self.folder / "target")}
+        command = ["cargo", "run", "--quiet", "--offline"]
+        self.assertEqual(printed(command, cwd=self.folder, env=env), lines)
+
+    @unittest.skipUnless(shutil.which("cc"), "no cc")
+    @unittest.skipUnless(ARCHIVE.is_file(), f"no {ARCHIVE}: bindings/build makes it")
+    def test_c_runs_over_the_archive(self):
+        code, lines = block("c")
+        command = "cc -O2 app.c -I bindings/c bindings/out/libvortex_bits.a"
+        self.assertIn(f"`{command}`", README)
+        (self.folder / "app.c").write_text(code)
+        (self.folder / "bindings").symlink_to(TOP / "bindings")
+        self.assertEqual(printed(command.split(), cwd=self.folder), [])
+        self.assertEqual(printed([str(self.folder / "a.out")]), lines)
+
+    @unittest.skipUnless(VBITS.is_file(), f"no {VBITS}: `rt run` makes it")
+    def test_vbits_answers(self):
+        code, lines = block("sh")
+        self.assertEqual(printed(["sh", "-c", code], cwd=TOP), lines)
+
+
+if __name__ == "__main__":
+    unittest.main()
