@@ -9,6 +9,7 @@ pub mod ReadLemmas
 pub mod ShiftLemmas
 pub mod WindowLemmas
 pub mod WrittenLemmas
+pub mod WordLemmas
 pub mod WritesLemmas
 pub mod MasksLemmas
 pub mod OperatorsLemmas

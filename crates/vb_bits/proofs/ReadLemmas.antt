@@ -16,7 +16,7 @@ use Rattle.vb_bits.proofs.BitsLemmas.{at-bits, same_bits}
 use Rattle.vb_bits.proofs.DigitsLemmas.{at-digits, same_digits, has_bit-or}
 use Rattle.vb_bits.proofs.BytesLemmas.{bits-digits, bits-to_le_bytes, bits_of_read}
 use Rattle.vb_bits.proofs.ShiftLemmas.{has_bit_shr, shl_low, shl_high, bit_at_cut}
-use Rattle.vb_bits.proofs.WindowLemmas.{bit_of-drop}
+use Rattle.vb_bits.proofs.WindowLemmas.{bit_of-drop, digits-clear}
 use Rattle.vb_bits.proofs.WritesLemmas.{get_or-put_mid_inside, get_or-put_mid_outside}
 use Rattle.vb_bits.proofs.WritesLemmas.{length-put_mid}
 
@@ -132,6 +132,23 @@ digits_cut w n = same_digits (w % 2 ^ n) w 0 0 n
 pub bits_of_rest : (b : List ℕ) (a n : ℕ) → bits (drop a b) 0 n ≡ bits b (8 * a) n
 bits_of_rest b a n = same_bits (drop a b) b 0
     (8 * a) n (λ i l. ap (bit_of (drop a b)) (zero-add i) ∙ bit_of-drop a b i)
+
+-- they are the upper ones of the last eight
+pub digits_of_last : (b : List ℕ) (w a : ℕ) → digits w 0 64 ≡ bits b (8 * (length b - 8)) 64
+    → w < 2 ^ 64 → 8 ≤ length b → a ≤ length b → length b - a < 8
+    → digits (w / 2 ^ (8 * (7 - (length b - a))) / 2 ^ 8) 0 64 ≡ bits b (8 * a) 64
+digits_of_last b w a read fits eight inside few =
+    let s : ℕ = 8 * (7 - (length b - a)) in
+    digits-bits b (w / 2 ^ s / 2 ^ 8) (8 * a) 64 (λ i l.
+    has_bit_shr (w / 2 ^ s) 8 i ∙ has_bit_shr w s (8 + i) ∙ elim (cases_lt (s + (8 + i)) 64) [
+      | inl here ↦
+          let place : 8 * (length b - 8) + (s + (8 + i)) ≡ 8 * a + i = omega arith in
+          has_bit-bits b w (8 * (length b - 8)) 64 (s + (8 + i)) read here ∙ ap (bit_of b) place
+      | inr past ↦
+          ap (λ y. eqb y 1) (bit_at_above w 64 (s + (8 + i)) fits past)
+          ∙ sym (ap (λ x. has_bit x ((8 * a + i) % 8))
+          (get_or_past b ((8 * a + i) / 8) 0 (omega arith)) ∙ digits-clear ((8 * a + i) % 8))
+    ])
 
 -- a place past the items of a list of zeros
 zeros_only : (n j : ℕ) → get_or {A = ℕ} (replicate n 0) j 0 ≡ 0

@@ -56,6 +56,9 @@ fn merge_in_byte<M: Merge>(dst: &mut [u8], d: usize, src: &[u8], s: usize, len: 
     ensures { Writes dst.old dst.new d
         (merged_by (M.bit) (bits dst.old d len) (bits src.now s len)) }
 {
+    if len == 0 {
+        return;
+    }
     let left = read_bits(dst, d, len);
     let right = read_bits(src, s, len);
     write_in_byte(dst, d, len, M::word(left, right));
@@ -169,6 +172,9 @@ fn merge_rest<M: Merge>(dst: &mut [u8], d: usize, src: &[u8], s: usize, len: usi
     ensures { Writes dst.old dst.new d
         (merged_by (M.bit) (bits dst.old d len) (bits src.now s len)) }
 {
+    if len == 0 {
+        return;
+    }
     let left = read_bits(dst, d, len);
     let right = read_bits(src, s, len);
     write_few(dst, d, len, M::word(left, right));

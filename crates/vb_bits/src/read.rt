@@ -47,12 +47,17 @@ fn read_shifted(bytes: &[u8], at: usize, count: usize) -> u64
 }
 
 /// The eight bytes from byte `first` on, or those that are left, as one number.
+///
+/// Fewer than eight are the upper ones of the last eight, where the slice has so many.
 fn word_from(bytes: &[u8], first: usize) -> u64
     requires { first ≤ length bytes.now }
     ensures { digits result 0 64 ≡ bits bytes.now (8 * first) 64 }
 {
-    if bytes.len() - first >= 8 {
+    let left = bytes.len() - first;
+    if left >= 8 {
         word_at(bytes, first)
+    } else if bytes.len() >= 8 {
+        word_at(bytes, bytes.len() - 8) >> (8 * (7 - left)) >> 8
     } else {
         read_u64_le(&bytes[first..])
     }

@@ -1,6 +1,10 @@
 use Rattle.std.proofs.Common.{refl, arith}
-use Rattle.vb_bits.proofs.OperatorsLemmas.{Writes_merged_digits}
+use Rattle.vb_bits.proofs.OperatorsLemmas.{Writes_merged_none, Writes_merged_digits}
 use Rattle.vb_bits.proofs.merge.merge_in_byte.Goals as goal
+
+pub returns-then-len-eq0 : goal.returns-then-len-eq0
+returns-then-len-eq0 g c =
+    Writes_merged_none g.M.Merge.bit _ _ _ _ _ (omega (arith, c.if-len-eq0.true))
 
 pub returns : goal.returns
 returns g c =

@@ -1,7 +1,7 @@
 use Rattle.std.proofs.Common.{◌-◌, ◌%◌, ◌≡◌, ◌≤◌, ◌⊎◌}
 use Rattle.vb_bits.specs.Digits.{digits}
 use Rattle.vb_bits.specs.Writes.{Writes}
-use Rattle.vb_bits.proofs.write.write_few.Given as goal
+use Rattle.vb_bits.proofs.write.write_by_bytes.Given as goal
 
 abbrev pub invariant-loop-done : goal.invariant-loop-done
 invariant-loop-done l = record {
