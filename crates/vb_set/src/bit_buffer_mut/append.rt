@@ -48,10 +48,12 @@ impl<A: Allocator + Clone> BitBufferMut<A> {
     ///
     /// Refused by `TooManyBits` where offset and length together are `usize::MAX`, else by
     /// `OutOfMemory` alone. In both cases the set and its room are unchanged. Where the length is
-    /// below [`capacity`](Self::capacity), it takes no memory and succeeds.
+    /// below [`capacity`](Self::capacity), it takes no memory, succeeds, and the capacity stays.
     pub fn append(&mut self, v: bool) -> Result<()>
         ensures ok { OnOk result (AddsBits (v ∷ []) self.old self.new) }
         ensures grows { KeepsStart self.old self.new }
+        ensures stays { length self.old.bits + 1 ≤ self.old.room
+            → self.new.room ≡ self.old.room }
         ensures needs { NeedsBits 1 result self.old self.new }
     {
         let end = self.offset + self.len;
@@ -67,6 +69,8 @@ impl<A: Allocator + Clone> BitBufferMut<A> {
     pub fn append_true(&mut self) -> Result<()>
         ensures ok { OnOk result (AddsBits (true ∷ []) self.old self.new) }
         ensures grows { KeepsStart self.old self.new }
+        ensures stays { length self.old.bits + 1 ≤ self.old.room
+            → self.new.room ≡ self.old.room }
         ensures needs { NeedsBits 1 result self.old self.new }
     {
         self.append(true)
@@ -76,6 +80,8 @@ impl<A: Allocator + Clone> BitBufferMut<A> {
     pub fn append_false(&mut self) -> Result<()>
         ensures ok { OnOk result (AddsBits (false ∷ []) self.old self.new) }
         ensures grows { KeepsStart self.old self.new }
+        ensures stays { length self.old.bits + 1 ≤ self.old.room
+            → self.new.room ≡ self.old.room }
         ensures needs { NeedsBits 1 result self.old self.new }
     {
         self.append(false)
