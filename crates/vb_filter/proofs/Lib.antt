@@ -1,5 +1,7 @@
 mod DepositLemmas
+mod FieldsLemmas
 mod FilteredBits
+mod FourLanes
 pub mod GatherLemmas
 mod PackedDigits
 mod PendingLemmas

@@ -1,3 +1,4 @@
+pub mod Fields
 pub mod Gathered
 pub mod Pending
 pub mod Spread

@@ -6,15 +6,15 @@ ghost use Rattle.vb_bits.specs.Bits.{count};
 ghost use Rattle.vb_bits.specs.Digits.{digits, has_bit};
 ghost use Rattle.vb_bits.specs.Kept.{kept_by};
 
-use crate::kept::KEPT;
+use crate::fields::pack_fields;
 use vb_bits::{digit, low_digits};
 use vb_walk::lowest_run;
 
 /// The digits of `word` where `mask` has a 1, packed to the lowest ones; 0 behind them.
 ///
 /// Where the ones of the mask are few it goes by these, where they stand in long runs by the runs,
-/// else by six digits. The processor has an instruction for it from x86-64-v3 on (`pext`), which
-/// the language doesn't name.
+/// else by fields of four digits. The processor has an instruction for it from x86-64-v3 on
+/// (`pext`), which the language doesn't name.
 #[inline(always)]
 pub(crate) fn pack_digits(word: u64, mask: u64) -> u64
     ensures kept { digits result 0 (count (digits mask 0 64))
@@ -24,27 +24,22 @@ pub(crate) fn pack_digits(word: u64, mask: u64) -> u64
     let ones = mask.count_ones();
     if ones <= FEWEST {
         pack_ones(word, mask)
-    } else if ones <= FEWER {
-        pack_steps(word, mask, FEWER)
     } else if ones <= FEW {
         pack_steps(word, mask, FEW)
     } else if LONG * (mask & !(mask << 1)).count_ones() < ones {
         pack_runs(word, mask)
     } else {
-        pack_sixes(word, mask)
+        pack_fields(word, mask)
     }
 }
 
 /// Up to so many ones take no longer in a loop, which ends with them, than in eight steps.
 const FEWEST: u32 = 4;
 
-/// Up to so many ones take less time in as many steps than in those of [`FEW`].
-const FEWER: u32 = 8;
+/// Up to so many ones take less time in as many steps than by fields.
+const FEW: u32 = 8;
 
-/// Up to so many ones take less time in as many steps than eleven looks at a table.
-const FEW: u32 = 12;
-
-/// Runs that are longer than this take less time than eleven looks at a table.
+/// Runs that are longer than this take less time than fields.
 const LONG: u32 = 12;
 
 /// [`pack_digits`] by the runs of ones of the mask.
@@ -118,22 +113,4 @@ fn lowest_kept(word: u64, left: u64) -> (bool, u64)
 {
     let rest = left & left.wrapping_sub(1);
     (word & (left ^ rest) != 0, rest)
-}
-
-/// [`pack_digits`] by six digits of the mask, with a table. The last six have two behind the word.
-#[inline(always)]
-fn pack_sixes(word: u64, mask: u64) -> u64
-    ensures kept { digits result 0 (count (digits mask 0 64))
-        ≡ kept_by (digits mask 0 64) (digits word 0 64) }
-    ensures clear { result < 2 ^ count (digits mask 0 64) }
-{
-    let mut packed = 0;
-    let mut n = 0;
-    for k in 0..11u32 {
-        let six = (mask >> (6 * k)) & 63;
-        let row = 64 * six + ((word >> (6 * k)) & 63);
-        packed |= u64::from(KEPT[row as usize]) << n;
-        n += six.count_ones();
-    }
-    packed
 }

@@ -5,9 +5,9 @@
 
 mod deposit;
 mod digits;
+mod fields;
 mod filter;
 mod filter_values;
-mod kept;
 mod pending;
 mod spread;
 mod spread_table;

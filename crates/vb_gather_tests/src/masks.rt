@@ -34,6 +34,8 @@ pub(crate) const ROWS: &[Row] = &[
     Row(1000, 2, Kept::OneIn(7)),
     Row(1000, 5, Kept::OneIn(8)),
     Row(1000, 0, Kept::OneIn(10)),
+    Row(1000, 4, Kept::OneIn(13)),
+    Row(1000, 0, Kept::OneIn(16)),
     Row(1000, 0, Kept::Runs(8, 64)),
     Row(1000, 3, Kept::Runs(9, 64)),
     Row(1000, 0, Kept::Runs(8, 32)),
