@@ -1,0 +1,2 @@
+mod LaneLemmas
+pub mod TruthLemmas

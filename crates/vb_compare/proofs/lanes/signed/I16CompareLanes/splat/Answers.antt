@@ -1,0 +1,6 @@
+use mir.Syntax.{w16}
+use Rattle.vb_compare.proofs.LaneLemmas.{repeated}
+use Rattle.vb_compare.proofs.lanes.signed.I16CompareLanes.splat.Goals as goal
+
+pub returns-clause-block : goal.returns-clause-block
+returns-clause-block c = repeated w16 c.args.value c.ranges.value

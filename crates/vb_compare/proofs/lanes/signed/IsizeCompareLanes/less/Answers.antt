@@ -1,0 +1,8 @@
+use mir.Syntax.{w64}
+use Rattle.vb_compare.proofs.LaneLemmas.{signed_less}
+use Rattle.vb_compare.proofs.lanes.signed.IsizeCompareLanes.less.Goals as goal
+
+pub returns : goal.returns
+returns c =
+    let l = c.requires.left in let r = c.requires.right in
+    signed_less w64 c.args.left c.args.right l.0 r.0 l.1 r.1

@@ -1,0 +1,7 @@
+use mir.Syntax.{w16}
+use Rattle.vb_compare.proofs.LaneLemmas.{unsigned_less}
+use Rattle.vb_compare.proofs.lanes.unsigned.U16CompareLanes.less.Goals as goal
+
+pub returns : goal.returns
+returns c =
+    unsigned_less w16 c.args.left c.args.right c.requires.left c.requires.right

@@ -1,0 +1,7 @@
+use mir.Syntax.{w64}
+use Rattle.vb_compare.proofs.LaneLemmas.{unsigned_equal}
+use Rattle.vb_compare.proofs.lanes.unsigned.U64CompareLanes.equal.Goals as goal
+
+pub returns : goal.returns
+returns c =
+    unsigned_equal w64 c.args.left c.args.right c.requires.left c.requires.right

@@ -1,0 +1,7 @@
+use mir.Syntax.{w64}
+use Rattle.vb_compare.proofs.LaneLemmas.{unsigned_less}
+use Rattle.vb_compare.proofs.lanes.unsigned.UsizeCompareLanes.less.Goals as goal
+
+pub returns : goal.returns
+returns c =
+    unsigned_less w64 c.args.left c.args.right c.requires.left c.requires.right

@@ -1,0 +1,4 @@
+pub mod Compares
+pub use Rattle.vb_bits.specs.Digits
+pub use Rattle.vb_bits.specs.InBytes
+pub use Rattle.vb_bits.specs.Writes

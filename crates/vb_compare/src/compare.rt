@@ -1,0 +1,103 @@
+//! Values compared, into bits.
+ghost use Rattle.std.specs.Prelude.{◌≡◌, length, map};
+ghost use Rattle.std.specs.Simd.Lanes.{zip2};
+ghost use Rattle.vb_compare.specs.Compares.{compares};
+ghost use Rattle.vb_compare.specs.InBytes.{InBytes};
+ghost use Rattle.vb_compare.specs.Writes.{Writes};
+
+use crate::comparison::Comparison;
+use crate::lanes::CompareLanes;
+use crate::test::{IsEqual, IsGreater, IsLess, IsNot};
+use crate::truths::{ToNumber, ToOthers};
+use crate::write::write_truths;
+
+/// Writes to bit `offset + k` of `out`, for each `k` below the number of values, how `values[k]`
+/// compares with `number`. No other bit changes.
+///
+/// These bits have to lie in `out`, and `offset` plus the number of values has to fit in a `usize`.
+///
+/// 64 values are compared at once by vectors, those of 128 bits one by one; fewer than 64 are
+/// copied to the front of 64 first.
+pub fn compare_into<T: CompareLanes>(
+    out: &mut [u8],
+    offset: usize,
+    values: &[T],
+    op: Comparison,
+    number: T,
+)
+    requires window { InBytes out.old offset (length values.now) }
+    ensures { Writes out.old out.new offset
+        (map (λ value. compares op (T.number value) (T.number number)) values.now) }
+{
+    match op {
+        Comparison::Equal => {
+            write_truths(out, offset, &ToNumber::<T, IsEqual>::new(values, number))
+        }
+        Comparison::NotEqual => write_truths(
+            out,
+            offset,
+            &ToNumber::<T, IsNot<IsEqual>>::new(values, number),
+        ),
+        Comparison::Less => write_truths(out, offset, &ToNumber::<T, IsLess>::new(values, number)),
+        Comparison::LessOrEqual => write_truths(
+            out,
+            offset,
+            &ToNumber::<T, IsNot<IsGreater>>::new(values, number),
+        ),
+        Comparison::Greater => {
+            write_truths(out, offset, &ToNumber::<T, IsGreater>::new(values, number))
+        }
+        Comparison::GreaterOrEqual => write_truths(
+            out,
+            offset,
+            &ToNumber::<T, IsNot<IsLess>>::new(values, number),
+        ),
+    }
+}
+
+/// Writes to bit `offset + k` of `out`, for each `k` below the number of values, how `values[k]`
+/// compares with `others[k]`. No other bit changes.
+///
+/// There have to be as many others. These bits have to lie in `out`, and `offset` plus the number
+/// of values has to fit in a `usize`.
+///
+/// 64 values are compared at once by vectors, those of 128 bits one by one; fewer than 64 are
+/// copied to the front of 64 first.
+#[tactic(auto, using(crate::proofs::TruthLemmas::length_paired))]
+pub fn compare_with_into<T: CompareLanes>(
+    out: &mut [u8],
+    offset: usize,
+    values: &[T],
+    op: Comparison,
+    others: &[T],
+)
+    requires others { length others.now ≡ length values.now }
+    requires window { InBytes out.old offset (length values.now) }
+    ensures { Writes out.old out.new offset
+        (zip2 (λ left right. compares op (T.number left) (T.number right)) values.now others.now) }
+{
+    match op {
+        Comparison::Equal => {
+            write_truths(out, offset, &ToOthers::<T, IsEqual>::new(values, others))
+        }
+        Comparison::NotEqual => write_truths(
+            out,
+            offset,
+            &ToOthers::<T, IsNot<IsEqual>>::new(values, others),
+        ),
+        Comparison::Less => write_truths(out, offset, &ToOthers::<T, IsLess>::new(values, others)),
+        Comparison::LessOrEqual => write_truths(
+            out,
+            offset,
+            &ToOthers::<T, IsNot<IsGreater>>::new(values, others),
+        ),
+        Comparison::Greater => {
+            write_truths(out, offset, &ToOthers::<T, IsGreater>::new(values, others))
+        }
+        Comparison::GreaterOrEqual => write_truths(
+            out,
+            offset,
+            &ToOthers::<T, IsNot<IsLess>>::new(values, others),
+        ),
+    }
+}

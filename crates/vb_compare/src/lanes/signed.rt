@@ -1,0 +1,169 @@
+//! The signed whole numbers, compared by lanes.
+//!
+//! A vector is made of an array of the values, one by one, since a contract knows of a value that
+//! was read alone that it is one of the type; what is built is a load.
+ghost use Rattle.std.specs.Prelude.{◌≡◌, All, length, FitsSigned};
+ghost use Rattle.std.specs.Int.{w8, w16, w32, w64};
+
+use crate::lanes::{CompareLanes, first_values, padded_values};
+use std::simd::prelude::*;
+
+impl CompareLanes for i8 {
+    type Block = Simd<i8, 64>;
+
+    ghost numbers = { λ block. block };
+
+    ghost is_block = { λ block. (length block ≡ 64) × All (FitsSigned w8) block };
+
+    #[inline(always)]
+    fn load(values: &[i8]) -> Simd<i8, 64> {
+        Simd::<i8, 64>::from_array(first_values(values))
+    }
+
+    fn load_few(values: &[i8]) -> Simd<i8, 64> {
+        Self::load(&padded_values(values))
+    }
+
+    #[inline(always)]
+    fn splat(value: i8) -> Simd<i8, 64> {
+        Simd::<i8, 64>::splat(value)
+    }
+
+    #[inline(always)]
+    fn equal(left: Simd<i8, 64>, right: Simd<i8, 64>) -> u64 {
+        left.simd_eq(right).to_bitmask()
+    }
+
+    #[inline(always)]
+    fn less(left: Simd<i8, 64>, right: Simd<i8, 64>) -> u64 {
+        left.simd_lt(right).to_bitmask()
+    }
+}
+
+impl CompareLanes for i16 {
+    type Block = Simd<i16, 64>;
+
+    ghost numbers = { λ block. block };
+
+    ghost is_block = { λ block. (length block ≡ 64) × All (FitsSigned w16) block };
+
+    #[inline(always)]
+    fn load(values: &[i16]) -> Simd<i16, 64> {
+        Simd::<i16, 64>::from_array(first_values(values))
+    }
+
+    fn load_few(values: &[i16]) -> Simd<i16, 64> {
+        Self::load(&padded_values(values))
+    }
+
+    #[inline(always)]
+    fn splat(value: i16) -> Simd<i16, 64> {
+        Simd::<i16, 64>::splat(value)
+    }
+
+    #[inline(always)]
+    fn equal(left: Simd<i16, 64>, right: Simd<i16, 64>) -> u64 {
+        left.simd_eq(right).to_bitmask()
+    }
+
+    #[inline(always)]
+    fn less(left: Simd<i16, 64>, right: Simd<i16, 64>) -> u64 {
+        left.simd_lt(right).to_bitmask()
+    }
+}
+
+impl CompareLanes for i32 {
+    type Block = Simd<i32, 64>;
+
+    ghost numbers = { λ block. block };
+
+    ghost is_block = { λ block. (length block ≡ 64) × All (FitsSigned w32) block };
+
+    #[inline(always)]
+    fn load(values: &[i32]) -> Simd<i32, 64> {
+        Simd::<i32, 64>::from_array(first_values(values))
+    }
+
+    fn load_few(values: &[i32]) -> Simd<i32, 64> {
+        Self::load(&padded_values(values))
+    }
+
+    #[inline(always)]
+    fn splat(value: i32) -> Simd<i32, 64> {
+        Simd::<i32, 64>::splat(value)
+    }
+
+    #[inline(always)]
+    fn equal(left: Simd<i32, 64>, right: Simd<i32, 64>) -> u64 {
+        left.simd_eq(right).to_bitmask()
+    }
+
+    #[inline(always)]
+    fn less(left: Simd<i32, 64>, right: Simd<i32, 64>) -> u64 {
+        left.simd_lt(right).to_bitmask()
+    }
+}
+
+impl CompareLanes for i64 {
+    type Block = Simd<i64, 64>;
+
+    ghost numbers = { λ block. block };
+
+    ghost is_block = { λ block. (length block ≡ 64) × All (FitsSigned w64) block };
+
+    #[inline(always)]
+    fn load(values: &[i64]) -> Simd<i64, 64> {
+        Simd::<i64, 64>::from_array(first_values(values))
+    }
+
+    fn load_few(values: &[i64]) -> Simd<i64, 64> {
+        Self::load(&padded_values(values))
+    }
+
+    #[inline(always)]
+    fn splat(value: i64) -> Simd<i64, 64> {
+        Simd::<i64, 64>::splat(value)
+    }
+
+    #[inline(always)]
+    fn equal(left: Simd<i64, 64>, right: Simd<i64, 64>) -> u64 {
+        left.simd_eq(right).to_bitmask()
+    }
+
+    #[inline(always)]
+    fn less(left: Simd<i64, 64>, right: Simd<i64, 64>) -> u64 {
+        left.simd_lt(right).to_bitmask()
+    }
+}
+
+impl CompareLanes for isize {
+    type Block = Simd<isize, 64>;
+
+    ghost numbers = { λ block. block };
+
+    ghost is_block = { λ block. (length block ≡ 64) × All (FitsSigned w64) block };
+
+    #[inline(always)]
+    fn load(values: &[isize]) -> Simd<isize, 64> {
+        Simd::<isize, 64>::from_array(first_values(values))
+    }
+
+    fn load_few(values: &[isize]) -> Simd<isize, 64> {
+        Self::load(&padded_values(values))
+    }
+
+    #[inline(always)]
+    fn splat(value: isize) -> Simd<isize, 64> {
+        Simd::<isize, 64>::splat(value)
+    }
+
+    #[inline(always)]
+    fn equal(left: Simd<isize, 64>, right: Simd<isize, 64>) -> u64 {
+        left.simd_eq(right).to_bitmask()
+    }
+
+    #[inline(always)]
+    fn less(left: Simd<isize, 64>, right: Simd<isize, 64>) -> u64 {
+        left.simd_lt(right).to_bitmask()
+    }
+}

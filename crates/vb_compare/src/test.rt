@@ -1,0 +1,70 @@
+//! The comparisons as types.
+ghost use Rattle.std.specs.Prelude.{◌≡◌, ℤ, Bool, not, int_lt};
+ghost use Rattle.std.specs.Ordering.{int_eq};
+ghost use Rattle.std.specs.Simd.Lanes.{zip2};
+ghost use Rattle.vb_compare.specs.Digits.{digits};
+
+use crate::lanes::CompareLanes;
+use std::marker::PhantomData;
+
+/// A comparison of two values. It is a type, so that each has loops of its own.
+pub(crate) trait Test {
+    // What it answers of two numbers.
+    ghost holds: { ℤ → ℤ → Bool };
+
+    /// The word whose digit `k` is what it answers of value `k` of each block.
+    fn word<T: CompareLanes>(left: T::Block, right: T::Block) -> u64
+        requires left { T.is_block left }
+        requires right { T.is_block right }
+        ensures { digits result 0 64 ≡ zip2 holds (T.numbers left) (T.numbers right) };
+}
+
+/// The left value is the right one.
+pub(crate) struct IsEqual;
+
+/// The left value is below the right one.
+pub(crate) struct IsLess;
+
+/// The left value is above the right one.
+pub(crate) struct IsGreater;
+
+/// The other comparison answers false.
+pub(crate) struct IsNot<C> {
+    test: PhantomData<C>,
+}
+
+impl Test for IsEqual {
+    ghost holds = { int_eq };
+
+    #[inline(always)]
+    fn word<T: CompareLanes>(left: T::Block, right: T::Block) -> u64 {
+        T::equal(left, right)
+    }
+}
+
+impl Test for IsLess {
+    ghost holds = { int_lt };
+
+    #[inline(always)]
+    fn word<T: CompareLanes>(left: T::Block, right: T::Block) -> u64 {
+        T::less(left, right)
+    }
+}
+
+impl Test for IsGreater {
+    ghost holds = { λ a b. int_lt b a };
+
+    #[inline(always)]
+    fn word<T: CompareLanes>(left: T::Block, right: T::Block) -> u64 {
+        T::less(right, left)
+    }
+}
+
+impl<C: Test> Test for IsNot<C> {
+    ghost holds = { λ a b. not (C.holds a b) };
+
+    #[inline(always)]
+    fn word<T: CompareLanes>(left: T::Block, right: T::Block) -> u64 {
+        !C::word::<T>(left, right)
+    }
+}
