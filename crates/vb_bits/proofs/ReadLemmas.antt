@@ -40,44 +40,55 @@ digits_of_word b w a read = sym (bits-to_le_bytes w 0 64 (omega arith))
     ∙ bits_of_read b b (to_le_bytes w64 w) a 8 (8 * a) refl read refl
 
 -- ---- windows that begin within a byte
--- a window that begins within the first byte of a word and ends in the word
-pub digits_shifted : (b : List ℕ) (f s n w at : ℕ) → digits w 0 64 ≡ bits b (8 * f) 64
-    → at ≡ 8 * f + s → s + n ≤ 64 → digits (w / 2 ^ s) 0 n ≡ bits b at n
-digits_shifted b f s n w at e from within =
+-- a window that begins within the first byte of a number of z digits and ends in them
+pub digits_shifted : (b : List ℕ) (z f s n w at : ℕ) → digits w 0 z ≡ bits b (8 * f) z
+    → at ≡ 8 * f + s → s + n ≤ z → digits (w / 2 ^ s) 0 n ≡ bits b at n
+digits_shifted b z f s n w at e from within =
     digits-bits b (w / 2 ^ s) at n (λ i l.
     let place : 8 * f + (s + i) ≡ at + i = omega arith in
-    has_bit_shr w s i ∙ has_bit-bits b w (8 * f) 64 (s + i) e (omega arith) ∙ ap (bit_of b) place)
+    has_bit_shr w s i ∙ has_bit-bits b w (8 * f) z (s + i) e (omega arith) ∙ ap (bit_of b) place)
 
--- one that ends in the byte behind the word
-pub digits_joined : (b : List ℕ) (f s n w at : ℕ)
-    → digits w 0 64 ≡ bits b (8 * f) 64 → at ≡ 8 * f + s → w < 2 ^ 64 → s < 8 → n ≤ 64
-    → digits (bit_or (w / 2 ^ s) (get_or b (f + 8) 0 * 2 ^ (64 - s) % 2 ^ 64)) 0 n ≡ bits b at n
-digits_joined b f s n w at e from fits small within =
-    let x : ℕ = get_or b (f + 8) 0 in
-    digits-bits b (bit_or (w / 2 ^ s) (x * 2 ^ (64 - s) % 2 ^ 64)) at n (λ i l.
-    let cut : bit_at (x * 2 ^ (64 - s) % 2 ^ 64) i ≡ bit_at (x * 2 ^ (64 - s)) i =
-    bit_at_cut (x * 2 ^ (64 - s)) 64 i (omega arith) in
+-- one that ends in the byte behind a number of k bytes
+pub digits_joined : (b : List ℕ) (k f s n w at : ℕ)
+    → digits w 0 (8 * k) ≡ bits b (8 * f) (8 * k) → at ≡ 8 * f + s → w < 2 ^ (8 * k) → s < 8
+    → n ≤ 8 * k → k ≤ 8
+    → digits (bit_or (w / 2 ^ s) (get_or b (f + k) 0 * 2 ^ (8 * k - s) % 2 ^ 64)) 0 n ≡ bits b at n
+digits_joined b k f s n w at e from fits small within most =
+    let x : ℕ = get_or b (f + k) 0 in
+    let z : ℕ = 8 * k in
+    digits-bits b (bit_or (w / 2 ^ s) (x * 2 ^ (z - s) % 2 ^ 64)) at n (λ i l.
+    let cut : bit_at (x * 2 ^ (z - s) % 2 ^ 64) i ≡ bit_at (x * 2 ^ (z - s)) i =
+    bit_at_cut (x * 2 ^ (z - s)) 64 i (omega arith) in
     let moved : bit_at (w / 2 ^ s) i ≡ bit_at w (s + i) = ap (λ y. y % 2) (shr-shr w s i) in
     let digit : bit_at w (s + i) < 2 = bit_at-lt w (s + i) in
-    ap (λ y. eqb y 1) (bit_at_or (w / 2 ^ s) (x * 2 ^ (64 - s) % 2 ^ 64) i)
-    ∙ elim (cases_lt (s + i) 64) [
+    ap (λ y. eqb y 1) (bit_at_or (w / 2 ^ s) (x * 2 ^ (z - s) % 2 ^ 64) i)
+    ∙ elim (cases_lt (s + i) z) [
       | inl low ↦
-          let none : bit_at (x * 2 ^ (64 - s)) i ≡ 0 = shl_low x (64 - s) i (omega arith) in
-          let here : max (bit_at (w / 2 ^ s) i) (bit_at (x * 2 ^ (64 - s) % 2 ^ 64) i)
+          let none : bit_at (x * 2 ^ (z - s)) i ≡ 0 = shl_low x (z - s) i (omega arith) in
+          let here : max (bit_at (w / 2 ^ s) i) (bit_at (x * 2 ^ (z - s) % 2 ^ 64) i)
           ≡ bit_at w (s + i) = omega arith in
           let place : 8 * f + (s + i) ≡ at + i = omega arith in
-          ap (λ y. eqb y 1) here ∙ has_bit-bits b w (8 * f) 64 (s + i) e low ∙ ap (bit_of b) place
+          ap (λ y. eqb y 1) here ∙ has_bit-bits b w (8 * f) z (s + i) e low ∙ ap (bit_of b) place
       | inr high ↦
-          let none : bit_at w (s + i) ≡ 0 = bit_at_above w 64 (s + i) fits high in
-          let there : bit_at (x * 2 ^ (64 - s)) i ≡ bit_at x (i - (64 - s)) =
-          shl_high x (64 - s) i (omega arith) in
-          let here : max (bit_at (w / 2 ^ s) i) (bit_at (x * 2 ^ (64 - s) % 2 ^ 64) i)
-          ≡ bit_at x (i - (64 - s)) = omega arith in
-          let byte : (at + i) / 8 ≡ f + 8 = omega arith in
-          let place : (at + i) % 8 ≡ i - (64 - s) = omega arith in
+          let none : bit_at w (s + i) ≡ 0 = bit_at_above w z (s + i) fits high in
+          let there : bit_at (x * 2 ^ (z - s)) i ≡ bit_at x (i - (z - s)) =
+          shl_high x (z - s) i (omega arith) in
+          let here : max (bit_at (w / 2 ^ s) i) (bit_at (x * 2 ^ (z - s) % 2 ^ 64) i)
+          ≡ bit_at x (i - (z - s)) = omega arith in
+          let byte : (at + i) / 8 ≡ f + k = omega arith in
+          let place : (at + i) % 8 ≡ i - (z - s) = omega arith in
           ap (λ y. eqb y 1) here
           ∙ sym (ap (λ j. has_bit (get_or b j 0) ((at + i) % 8)) byte ∙ ap (has_bit x) place)
     ])
+
+-- a byte
+pub digits_of_byte : (b : List ℕ) (f : ℕ) → digits (get_or b f 0) 0 8 ≡ bits b (8 * f) 8
+digits_of_byte b f =
+    let x : ℕ = get_or b f 0 in
+    digits-bits b x (8 * f) 8 (λ i l.
+    let byte : (8 * f + i) / 8 ≡ f = omega arith in
+    let place : (8 * f + i) % 8 ≡ i = omega arith in
+    sym (ap (λ j. has_bit (get_or b j 0) ((8 * f + i) % 8)) byte ∙ ap (has_bit x) place))
 
 -- two words, the second from the next byte on: where they overlap both have the digit
 pub digits_overlapped : (b : List ℕ) (f s v w : ℕ) → digits v 0 64 ≡ bits b (8 * f) 64

@@ -8,7 +8,7 @@ ghost use Rattle.vb_bits.specs.Writes.{Writes};
 use crate::bytes::{word_at, write_word};
 use crate::lanes::{shifted_words, words_at, write_words};
 use crate::operator::Merge;
-use crate::read::{full_word, read_bits};
+use crate::read::{full_word, read_bits, read_few};
 use crate::write::{write_few, write_in_byte};
 
 /// From so many bits on, those up to a multiple of four words of `dst` are combined first: then no
@@ -59,8 +59,8 @@ fn merge_in_byte<M: Merge>(dst: &mut [u8], d: usize, src: &[u8], s: usize, len: 
     if len == 0 {
         return;
     }
-    let left = read_bits(dst, d, len);
-    let right = read_bits(src, s, len);
+    let left = read_few(dst, d, len);
+    let right = read_few(src, s, len);
     write_in_byte(dst, d, len, M::word(left, right));
 }
 

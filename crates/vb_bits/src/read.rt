@@ -46,6 +46,24 @@ fn read_shifted(bytes: &[u8], at: usize, count: usize) -> u64
     }
 }
 
+/// [`read_shifted`] of at most eight bits: of one byte, or of two.
+#[inline(always)]
+pub(crate) fn read_few(bytes: &[u8], at: usize, count: usize) -> u64
+    requires some { 0 < count }
+    requires few { count ≤ 8 }
+    requires inside { at + count ≤ 8 * length bytes.now }
+    ensures { digits result 0 count ≡ bits bytes.now at count }
+{
+    let first = at / 8;
+    let shift = at % 8;
+    let low = u64::from(bytes[first]) >> shift;
+    if shift + count > 8 {
+        low | u64::from(bytes[first + 1]) << (8 - shift)
+    } else {
+        low
+    }
+}
+
 /// The eight bytes from byte `first` on, or those that are left, as one number.
 ///
 /// Fewer than eight are the upper ones of the last eight, where the slice has so many.

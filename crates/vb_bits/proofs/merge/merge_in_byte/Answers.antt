@@ -10,5 +10,5 @@ pub returns : goal.returns
 returns g c =
     Writes_merged_digits g.M.Merge.bit c.args.dst.now _ c.args.src.now _ _ _ c.args.len _ _ _
     (omega (arith, c.requires.in_byte))
-    c.read_bits-left.ensures.digits
-    c.read_bits-right.ensures.digits c.word.ensures c.write_in_byte.ensures refl
+    c.read_few-left.ensures
+    c.read_few-right.ensures c.word.ensures c.write_in_byte.ensures refl
