@@ -9,7 +9,7 @@ ghost use Rattle.vb_set.specs.View.{bits_of, offset_of, bytes_of};
 
 use crate::counts::Counts;
 use crate::groups::{rank_in_groups, select_in_groups};
-use crate::room::{make_room, make_room_within};
+use crate::room::make_room;
 use std::alloc::{Allocator, Global};
 use std::marker::Model;
 use vb_kernel::Plain;
@@ -31,14 +31,19 @@ pub struct Ranked<A: Allocator + Clone = Global> {
 }
 
 impl<A: Allocator + Clone> Model for Ranked<A> {
-    ghost use Rattle.vb_ranked.specs.Counts.{AreCounts};
+    ghost use Rattle.std.specs.Prelude.{◌<◌, ◌≤◌, length};
+    ghost use Rattle.vb_ranked.specs.Counts.{AreCounts, numbers_for};
     ghost use Rattle.vb_set.specs.OpenSet.{OpenSet};
 
     ghost Value = { OpenSet };
 
     ghost view = { λ s. s.set };
 
-    ghost invariant = { λ s. AreCounts s.set.bits s.counts.numbers };
+    // A set with bits has the counts of as many bits as it has room for.
+    ghost invariant = { λ s. record {
+      exact : AreCounts s.set.bits s.counts.numbers;
+      held : 0 < length s.set.bits → numbers_for s.set.room ≤ s.counts.room;
+    } };
 }
 
 impl<A: Allocator + Clone> Ranked<A> {
@@ -134,15 +139,18 @@ impl<A: Allocator + Clone> Ranked<A> {
     /// Adds one bit, in amortized constant time.
     ///
     /// Refused by `TooManyBits` where offset and length together are `usize::MAX`, else by
-    /// `OutOfMemory` alone. Then the set and its room are unchanged. Within the room of the set it
-    /// takes no memory and succeeds, unless the length is a multiple of 512: then it may ask for
-    /// the counts of as many bits as there is room for, as it does for the first bit. Where the set
-    /// is full, it asks for the counts of the room that it gets, and for twice the bytes.
+    /// `OutOfMemory` alone. Then the set and its room are unchanged. Where there are bits, and
+    /// fewer than the set's [`capacity`](BitBufferMut::capacity), it takes no memory, succeeds, and
+    /// the capacity stays. The first bit may ask for the counts of as many bits as there is room
+    /// for. Where the set is full, it asks for the counts of the room that it gets, and for twice
+    /// the bytes.
     pub fn append(&mut self, v: bool) -> Result<()>
         ensures ok { OnOk result (AddsBits (v ∷ []) self.old self.new) }
         ensures grows { KeepsStart self.old self.new }
-        ensures in_room { 0 < length self.old.bits % 512
-            → length self.old.bits + 1 ≤ self.old.room → IsOk result }
+        ensures in_room { 0 < length self.old.bits → length self.old.bits + 1 ≤ self.old.room
+            → IsOk result }
+        ensures stays { length self.old.bits + 1 ≤ self.old.room
+            → self.new.room ≡ self.old.room }
         ensures fits { self.old.offset + length self.old.bits + 1 < 2 ^ 64
             → IsOkUnless result BufferError.OutOfMemory }
         ensures too_many { 2 ^ 64 ≤ self.old.offset + length self.old.bits + 1
@@ -151,7 +159,7 @@ impl<A: Allocator + Clone> Ranked<A> {
     {
         let len = self.set.len();
         if len % BLOCK_BITS != 0 {
-            make_room_within(&mut self.set, &mut self.counts)?;
+            make_room(&mut self.set, &mut self.counts)?;
             self.set.append(v)?;
             return Ok(());
         }

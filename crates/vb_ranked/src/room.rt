@@ -10,44 +10,52 @@ use vb_set::{BitBufferMut, BufferError, Result};
 /// For how many bits there is room at least where a set has grown.
 const LEAST_ROOM: usize = 64;
 
-/// [`make_room`] for a bit with which no block begins: where the set has room, that is all.
+/// Makes room for a bit more, and for the counts of as many bits as the set then has room for. A
+/// set with bits has the counts of its room, and so where it has room, that is all.
 #[inline(always)]
-pub(crate) fn make_room_within<A: Allocator + Clone>(
+pub(crate) fn make_room<A: Allocator + Clone>(
     set: &mut BitBufferMut<A>,
     counts: &mut Counts<A>,
 ) -> Result<()>
+    requires held { 0 < length set.old.bits → numbers_for set.old.room ≤ counts.old.room }
     ensures set { set.new ≡ record set.old { room = set.new.room } }
     ensures set_grows { set.old.room ≤ set.new.room }
     ensures numbers { counts.new.numbers ≡ counts.old.numbers }
+    ensures counts_grow { counts.old.room ≤ counts.new.room }
     ensures room { OnOk result (length set.old.bits + 1 ≤ set.new.room) }
-    ensures in_room { length set.old.bits + 1 ≤ set.old.room → IsOk result }
+    ensures counts_room { OnOk result (numbers_for set.new.room ≤ counts.new.room) }
+    ensures in_room { 0 < length set.old.bits → length set.old.bits + 1 ≤ set.old.room
+        → IsOk result }
+    ensures stays { length set.old.bits + 1 ≤ set.old.room → set.new ≡ set.old }
     ensures fits { set.old.offset + length set.old.bits + 1 < 2 ^ 64
         → IsOkUnless result BufferError.OutOfMemory }
     ensures too_many { 2 ^ 64 ≤ set.old.offset + length set.old.bits + 1
         → IsOkUnless result BufferError.TooManyBits }
     ensures err { OnErr result (set.new ≡ set.old) }
 {
-    if set.len() < set.capacity() {
+    if !set.is_empty() && set.len() < set.capacity() {
         return Ok(());
     }
-    make_room(set, counts)
+    ask_for_room(set, counts)
 }
 
-/// Makes room for a bit more, and for the counts of as many bits as the set then has room for:
-/// where these have room already, as after each growth, it asks for none.
+/// [`make_room`] of a set that is full or has no bits: where the counts have room already, as after
+/// each growth, it asks for none.
 ///
 /// A full set gets twice the bytes, and so a bit takes amortized constant time. The counts are
 /// asked for first, so that the room of the set stays where they are refused.
 #[cold]
-pub(crate) fn make_room<A: Allocator + Clone>(
+fn ask_for_room<A: Allocator + Clone>(
     set: &mut BitBufferMut<A>,
     counts: &mut Counts<A>,
 ) -> Result<()>
     ensures set { set.new ≡ record set.old { room = set.new.room } }
     ensures set_grows { set.old.room ≤ set.new.room }
     ensures numbers { counts.new.numbers ≡ counts.old.numbers }
+    ensures counts_grow { counts.old.room ≤ counts.new.room }
     ensures room { OnOk result (length set.old.bits + 1 ≤ set.new.room) }
     ensures counts_room { OnOk result (numbers_for set.new.room ≤ counts.new.room) }
+    ensures stays { length set.old.bits + 1 ≤ set.old.room → set.new ≡ set.old }
     ensures fits { set.old.offset + length set.old.bits + 1 < 2 ^ 64
         → IsOkUnless result BufferError.OutOfMemory }
     ensures too_many { 2 ^ 64 ≤ set.old.offset + length set.old.bits + 1

@@ -29,7 +29,7 @@ bit_read k l i v same read = get_or_from_slice_get l i v false (rw same at read)
 pub move_behind-requires : goal.move_behind-requires
 move_behind-requires g c = omega (
   arith,
-  c.self.invariant.long,
+  c.self.invariant.exact.long,
   c.requires,
   ap (λ s. length s.bits) c.self.view_is,
 )
@@ -48,9 +48,15 @@ invariant_of-self g c =
       length-bits c.as_view.result.bytes.now c.as_view.result.offset c.as_view.result.len,
       c.as_view.result.fits,
     ) in
-    subst (λ x. AreCounts x c.move_behind.new.self.numbers) (sym c.set_to.ensures.bits)
-    (c.move_behind.ensures.moved l c.self.invariant fits
-    (omega (arith, c.requires, ap (λ s. length s.bits) c.self.view_is)) bit)
+    let moved = c.move_behind.ensures.moved l c.self.invariant.exact fits
+    (omega (arith, c.requires, ap (λ s. length s.bits) c.self.view_is)) bit in
+    let keeps = c.set_to.ensures.keeps in
+    record {
+      exact = subst (λ x. AreCounts x c.move_behind.new.self.numbers) (sym c.set_to.ensures.bits)
+          moved;
+      held = λ some. rw (keeps.room, c.move_behind.ensures.room)
+          (c.self.invariant.held (omega (arith, some, keeps.len)));
+    }
 
 pub invariant_of-self-else-was-v : goal.invariant_of-self-else-was-v
 invariant_of-self-else-was-v g c =
@@ -61,5 +67,9 @@ invariant_of-self-else-was-v g c =
     ∙ same_value c.value-was.result c.args.v c.if-was-v.false in
     let stays : set l c.args.i c.args.v ≡ l =
     ap (set l c.args.i) (sym bit) ∙ set-get_or l c.args.i false in
-    subst (λ x. AreCounts x c.self.inside.counts.numbers)
-    (sym (c.set_to.ensures.bits ∙ stays)) c.self.invariant
+    let keeps = c.set_to.ensures.keeps in
+    record {
+      exact = subst (λ x. AreCounts x c.self.inside.counts.numbers)
+          (sym (c.set_to.ensures.bits ∙ stays)) c.self.invariant.exact;
+      held = λ some. rw keeps.room (c.self.invariant.held (omega (arith, some, keeps.len)));
+    }
