@@ -36,7 +36,8 @@
 //! of buffers and of children, which buffers are there, formats, and that columns are as long as
 //! their struct. What can't be tested is the caller's promise, by `unsafe`: that pointers lead to as
 //! much as the numbers say. Types without a value or a bit an item, as texts, lists and unions, may
-//! stand in a batch, and have a length and a validity here, no more. Metadata isn't kept.
+//! stand in a batch, and have a length and a validity here, no more. An [`Array`] goes out again as it
+//! came, of whatever type, by [`Export::from`](Export).
 //!
 //! [Arrow C data interface]: https://arrow.apache.org/docs/format/CDataInterface.html
 

@@ -44,11 +44,11 @@ use crate::{Bits, Validity};
 /// ```
 #[derive(Clone)]
 pub struct Array {
-    node: Arc<Node>,
+    pub(super) node: Arc<Node>,
     /// How many items are before the first row in the buffers.
-    start: usize,
+    pub(super) start: usize,
     /// The rows are items of the node.
-    len: usize,
+    pub(super) len: usize,
 }
 
 impl Array {

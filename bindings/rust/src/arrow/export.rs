@@ -14,6 +14,7 @@ use super::error::{ArrowError, Fault};
 use super::ffi::{ArrowArray, ArrowSchema, Below, Owned};
 use super::field::Field;
 use super::layout::Layout;
+use super::node::Node;
 use super::primitive::Primitive;
 use crate::Bitmap;
 
@@ -117,7 +118,7 @@ impl Export {
             _kept: (Some(kept), valid),
         };
         Export {
-            array: held.array(len, nulls, offset),
+            array: held.array(len, Some(nulls), offset),
             field,
             len,
         }
@@ -147,7 +148,7 @@ impl Export {
             _kept: (None, None),
         };
         Export {
-            array: held.array(len, 0, 0),
+            array: held.array(len, Some(0), 0),
             field: Field::batch(fields),
             len,
         }
@@ -259,6 +260,44 @@ impl Export {
     }
 }
 
+/// The rows as they are, of any type, as of a column that a query hands on or of a slice of a batch.
+/// The array is shared, and released with the last of both.
+///
+/// ```
+/// use vortex_bits::arrow::Export;
+///
+/// let a = Export::values(vec![1i64, 2, 3], None).named("a");
+/// let rows = Export::batch([a]).into_array()?;
+/// let last = Export::from(rows.slice(1..)).into_array()?;
+/// assert_eq!(last.column("a")?.values::<i64>()?, [2, 3]);
+/// # Ok::<(), vortex_bits::arrow::ArrowError>(())
+/// ```
+impl From<Array> for Export {
+    fn from(array: Array) -> Export {
+        Export {
+            array: shared(&array.node, array.start, array.len),
+            field: array.field().clone(),
+            len: array.len,
+        }
+    }
+}
+
+/// Items of a node from `start` on: its children and its dictionary are whole.
+fn shared(node: &Arc<Node>, start: usize, len: usize) -> Owned<ArrowArray> {
+    let whole = |node: &Arc<Node>| shared(node, node.offset, node.len);
+    let mut below = Below::new(node.children.iter().map(whole));
+    if let Some(dictionary) = &node.dictionary {
+        below.set_dictionary(whole(dictionary));
+    }
+    let held = Held {
+        buffers: node.buffers.clone(),
+        below,
+        _kept: (Some(Arc::clone(node) as Arc<dyn Any + Send + Sync>), None),
+    };
+    let nulls = node.nulls.filter(|_| len == node.len);
+    held.array(len, nulls, start)
+}
+
 impl fmt::Debug for Export {
     fn fmt(&self, f: &mut fmt::Formatter<'_>) -> fmt::Result {
         f.debug_struct("Export")
@@ -292,17 +331,18 @@ struct Held {
 }
 
 impl Held {
-    fn array(self, len: usize, nulls: usize, offset: usize) -> Owned<ArrowArray> {
+    /// The number of nulls is -1 where it isn't known.
+    fn array(self, len: usize, nulls: Option<usize>, offset: usize) -> Owned<ArrowArray> {
         let mut held = Box::new(self);
         let mut array = ArrowArray {
             length: number(len),
-            null_count: number(nulls),
+            null_count: nulls.map_or(-1, number),
             offset: number(offset),
             n_buffers: number(held.buffers.len()),
             n_children: number(held.below.children.len()),
             buffers: held.buffers.as_mut_ptr(),
             children: held.below.children.as_mut_ptr(),
-            dictionary: ptr::null_mut(),
+            dictionary: held.below.dictionary,
             release: Some(release),
             private_data: ptr::null_mut(),
         };

@@ -15,7 +15,7 @@ use super::layout::Layout;
 pub(super) const DEPTH: usize = 64;
 const NULLABLE: i64 = 2;
 
-/// The name and the type of a column: an `ArrowSchema` without its metadata, in memory of its own.
+/// The name and the type of a column: what an `ArrowSchema` says, in memory of its own.
 ///
 /// ```
 /// use vortex_bits::arrow::Field;
@@ -30,7 +30,9 @@ pub struct Field {
     pub(super) name: String,
     pub(super) format: String,
     pub(super) layout: Layout,
-    pub(super) is_nullable: bool,
+    pub(super) flags: i64,
+    /// As the interface lays it out; empty where there is none.
+    pub(super) metadata: Vec<u8>,
     pub(super) children: Vec<Arc<Field>>,
     pub(super) dictionary: Option<Arc<Field>>,
 }
@@ -56,7 +58,8 @@ impl Field {
             name: name.to_owned(),
             format: format.to_owned(),
             layout,
-            is_nullable: true,
+            flags: NULLABLE,
+            metadata: Vec::new(),
             children: Vec::new(),
             dictionary: None,
         }
@@ -66,7 +69,7 @@ impl Field {
     #[must_use]
     pub fn batch(columns: impl IntoIterator<Item = Field>) -> Field {
         Field {
-            is_nullable: false,
+            flags: 0,
             children: columns.into_iter().map(Arc::new).collect(),
             ..Field::of("", "+s", Layout::Struct)
         }
@@ -87,7 +90,13 @@ impl Field {
     /// Whether rows may be null.
     #[must_use]
     pub fn is_nullable(&self) -> bool {
-        self.is_nullable
+        self.flags & NULLABLE != 0
+    }
+
+    /// The keys of the metadata with their values, as of extension types.
+    pub fn metadata(&self) -> impl Iterator<Item = (&[u8], &[u8])> {
+        let (_, mut rest) = self.metadata.split_at(self.metadata.len().min(INT));
+        core::iter::from_fn(move || Some((text_of(&mut rest)?, text_of(&mut rest)?)))
     }
 
     /// Those of the children, in their order.
@@ -123,6 +132,8 @@ impl Field {
         }
         // SAFETY: they are null or texts that end with 0.
         let (format, name) = unsafe { (text(schema.format, "format")?, name(schema.name)?) };
+        // SAFETY: it is null or laid out as the interface asks for.
+        let metadata = unsafe { metadata(schema.metadata.cast())? };
         let layout = Layout::of(&format).ok_or_else(|| Fault::Format(format.clone()))?;
         // SAFETY: as of this function.
         let (children, dictionary) =
@@ -134,15 +145,11 @@ impl Field {
             name,
             format,
             layout,
-            is_nullable: schema.flags & NULLABLE != 0,
+            flags: schema.flags,
+            metadata,
             children,
             dictionary,
         })
-    }
-
-    /// The flags of its schema.
-    pub(super) fn flags(&self) -> i64 {
-        if self.is_nullable { NULLABLE } else { 0 }
     }
 }
 
@@ -223,4 +230,41 @@ unsafe fn name(pointer: *const c_char) -> Result<String, Fault> {
     }
     // SAFETY: as of this function.
     unsafe { text(pointer, "name") }
+}
+
+/// The bytes of a number in metadata.
+const INT: usize = size_of::<i32>();
+
+/// A text of metadata behind its length, which is cut off the rest; None where there is no more.
+fn text_of<'a>(rest: &mut &'a [u8]) -> Option<&'a [u8]> {
+    let (len, behind) = rest.split_first_chunk::<INT>()?;
+    let len = usize::try_from(i32::from_ne_bytes(*len)).ok()?;
+    let (text, behind) = behind.split_at_checked(len)?;
+    *rest = behind;
+    Some(text)
+}
+
+/// The bytes of metadata.
+///
+/// # Safety
+///
+/// The pointer is null, or to a number of pairs, and so many keys and values, each behind its
+/// length.
+unsafe fn metadata(pointer: *const u8) -> Result<Vec<u8>, Fault> {
+    if pointer.is_null() {
+        return Ok(Vec::new());
+    }
+    // SAFETY: as of this function.
+    let length = |at: usize| unsafe {
+        let number = pointer.add(at).cast::<i32>().read_unaligned();
+        count("a length in metadata", number.into(), None)
+    };
+    let mut size = INT;
+    for _ in 0..length(0)? {
+        for _ in 0..2 {
+            size += INT + length(size)?;
+        }
+    }
+    // SAFETY: so many bytes were gone over.
+    Ok(unsafe { core::slice::from_raw_parts(pointer, size) }.to_vec())
 }

@@ -28,6 +28,9 @@ pub enum Layout {
 }
 
 impl Layout {
+    /// That of values that have no byte.
+    pub const NOTHING: Layout = Layout::Fixed(Kind::Bytes, 0);
+
     /// That of a type; None where no type is written so.
     pub fn of(format: &str) -> Option<Layout> {
         use Kind::{Bytes, Float, Signed, Unsigned};

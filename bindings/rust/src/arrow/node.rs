@@ -2,6 +2,7 @@
 
 use alloc::sync::Arc;
 use alloc::vec::Vec;
+use core::ffi::c_void;
 use core::ptr::{self, NonNull};
 
 use super::error::{ArrowError, Fault};
@@ -22,7 +23,9 @@ pub(super) struct Node {
     pub validity: *const u8,
     /// The bits or the values; null only where these take no bytes.
     pub values: *const u8,
-    /// Those of a struct, each with as many items as the struct's window ends at.
+    /// All buffers, as they were given.
+    pub buffers: Vec<*const c_void>,
+    /// Those of a struct have as many items at least as its own end at.
     pub children: Vec<Arc<Node>>,
     pub dictionary: Option<Arc<Node>>,
     /// The outermost array, which is released with the last node of the tree.
@@ -53,7 +56,8 @@ impl Node {
         let (offset, len) = window(array, field.layout)?;
         let nulls = null_count(array)?;
         // SAFETY: as of this function.
-        let (validity, values) = unsafe { buffers(array, field.layout)? };
+        let buffers = unsafe { buffers(array, field.layout)? };
+        let (validity, values) = in_use(&buffers, field.layout, len)?;
         let has_validity = field.layout.has_validity();
         if has_validity && validity.is_null() && nulls > Some(0) {
             return Err(Fault::NoBuffer("validity").into());
@@ -70,6 +74,7 @@ impl Node {
             },
             validity: if all_valid { ptr::null() } else { validity },
             values,
+            buffers,
             // SAFETY: as of this function.
             children: unsafe { children(array, field, owner)? },
             // SAFETY: as of this function.
@@ -109,42 +114,43 @@ fn null_count(array: &ArrowArray) -> Result<Option<usize>, Fault> {
     }
 }
 
-/// The buffers of the validity and of the values: null where the layout has none.
+/// The pointers to the buffers.
 ///
 /// # Safety
 ///
 /// As of [`Node::read`].
-unsafe fn buffers(array: &ArrowArray, layout: Layout) -> Result<(*const u8, *const u8), Fault> {
+unsafe fn buffers(array: &ArrowArray, layout: Layout) -> Result<Vec<*const c_void>, Fault> {
     let number = count("n_buffers", array.n_buffers, layout.buffers())?;
     if number > 0 && array.buffers.is_null() {
         return Err(Fault::Null("buffers"));
     }
-    let buffer = |place: usize| {
-        if place >= number {
-            return ptr::null();
-        }
-        // SAFETY: there are as many pointers as it says.
-        unsafe { *array.buffers.add(place) }.cast::<u8>()
-    };
+    // SAFETY: there are as many pointers as it says.
+    let pointer = |place| unsafe { *array.buffers.add(place) };
+    Ok((0..number).map(pointer).collect())
+}
+
+/// The buffers of the validity and of the values: null where the layout has none.
+fn in_use(
+    buffers: &[*const c_void],
+    layout: Layout,
+    len: usize,
+) -> Result<(*const u8, *const u8), Fault> {
+    let buffer = |place: usize| buffers.get(place).map_or(ptr::null(), |it| it.cast());
     let validity = if layout.has_validity() {
         buffer(0)
     } else {
         ptr::null()
     };
-    let is_wanted = match layout {
-        Layout::Bits => true,
-        Layout::Fixed(_, width) => width > 0,
+    let values = match layout {
+        Layout::Bits | Layout::Fixed(..) => buffer(1),
         Layout::Struct | Layout::Other { .. } => return Ok((validity, ptr::null())),
     };
-    let values = buffer(1);
-    if values.is_null() && is_wanted && array.length > 0 {
+    if values.is_null() && layout != Layout::NOTHING && len > 0 {
         return Err(Fault::NoBuffer("values"));
     }
     Ok((validity, values))
 }
 
-/// Those of a struct; of others none are read.
-///
 /// # Safety
 ///
 /// As of [`Node::read`].
@@ -155,29 +161,27 @@ unsafe fn children(
 ) -> Result<Vec<Arc<Node>>, ArrowError> {
     let wanted = i64::try_from(field.children.len()).ok();
     count("n_children", array.n_children, wanted)?;
-    if field.layout != Layout::Struct {
-        return Ok(Vec::new());
-    }
-    let (offset, len) = window(array, field.layout)?;
-    field
-        .children
-        .iter()
-        .enumerate()
+    let items = match field.layout {
+        Layout::Struct => window(array, field.layout).map(|(offset, len)| offset + len)?,
+        _ => 0,
+    };
+    let fields = field.children.iter().enumerate();
+    fields
         .map(|(place, of)| {
             // SAFETY: as of this function.
-            unsafe { column(array, place, of, owner, offset + len) }
+            unsafe { nth_child(array, place, of, owner, items) }
                 .map(Arc::new)
                 .map_err(|error| error.under(&field.name_of(place)))
         })
         .collect()
 }
 
-/// The child of a struct, which has so many items at least.
+/// A child, which has so many items at least.
 ///
 /// # Safety
 ///
 /// As of [`Node::read`], and there are more children than `place`.
-unsafe fn column(
+unsafe fn nth_child(
     array: &ArrowArray,
     place: usize,
     field: &Arc<Field>,

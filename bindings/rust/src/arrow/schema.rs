@@ -2,6 +2,7 @@
 
 use alloc::boxed::Box;
 use alloc::ffi::CString;
+use alloc::vec::Vec;
 use core::ptr;
 
 use super::export::number;
@@ -12,6 +13,7 @@ use super::field::Field;
 struct Held {
     format: CString,
     name: CString,
+    metadata: Vec<u8>,
     below: Below<ArrowSchema>,
 }
 
@@ -20,6 +22,7 @@ impl Field {
         let mut held = Box::new(Held {
             format: c_string(&self.format),
             name: c_string(&self.name),
+            metadata: self.metadata.clone(),
             below: Below::new(self.fields().map(Field::schema)),
         });
         if let Some(dictionary) = self.dictionary() {
@@ -28,8 +31,12 @@ impl Field {
         let mut schema = ArrowSchema {
             format: held.format.as_ptr(),
             name: held.name.as_ptr(),
-            metadata: ptr::null(),
-            flags: self.flags(),
+            metadata: if held.metadata.is_empty() {
+                ptr::null()
+            } else {
+                held.metadata.as_ptr().cast()
+            },
+            flags: self.flags,
             n_children: number(held.below.children.len()),
             children: held.below.children.as_mut_ptr(),
             dictionary: held.below.dictionary,

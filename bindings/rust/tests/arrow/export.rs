@@ -1,5 +1,5 @@
 //! Arrays that are handed on, as a consumer in C reads them.
-use std::fmt::Debug;
+use std::fmt::{Debug, Write};
 use std::mem::transmute;
 use std::panic;
 use std::slice;
@@ -10,7 +10,7 @@ use vortex_bits::arrow::{Array, ArrowArray, ArrowError, ArrowSchema, Export, Pri
 use vortex_bits::{AlignedBytes, Bitmap, Bits};
 
 use crate::plain::{Random, bit};
-use crate::raw::{self, Count};
+use crate::raw::{self, Buffer, Count};
 
 /// The two structs, as C sees them.
 fn raw_of(export: Export) -> (raw::Array, raw::Schema) {
@@ -281,4 +281,127 @@ fn names_end_at_their_first_zero() {
     let out = raw_of(Export::values([1u8], None).named("a\0b"));
     assert_eq!(text(out.1.name), "a");
     release(out);
+}
+
+/// The numbers of a tree, and where its buffers are.
+fn tree(array: &raw::Array) -> String {
+    let mut text = format!("{} {} {} [", array.length, array.null_count, array.offset);
+    // SAFETY: the array is as the interface asks for.
+    unsafe {
+        for place in 0..usize::try_from(array.n_buffers).unwrap() {
+            write!(text, "{:?} ", *array.buffers.add(place)).unwrap();
+        }
+        for place in 0..usize::try_from(array.n_children).unwrap() {
+            text += &tree(&**array.children.add(place));
+        }
+        if !array.dictionary.is_null() {
+            text += &tree(&*array.dictionary);
+        }
+    }
+    text + "]"
+}
+
+/// The texts of a tree.
+fn types(schema: &raw::Schema) -> String {
+    let name = if schema.name.is_null() {
+        ""
+    } else {
+        text(schema.name)
+    };
+    let mut types = format!("{name}:{} {} [", text(schema.format), schema.flags);
+    // SAFETY: the schema is as the interface asks for.
+    unsafe {
+        for place in 0..usize::try_from(schema.n_children).unwrap() {
+            types += &self::types(&**schema.children.add(place));
+        }
+        if !schema.dictionary.is_null() {
+            types += &self::types(&*schema.dictionary);
+        }
+    }
+    types + "]"
+}
+
+/// A struct of a text with a dictionary, a list and a number, with offsets.
+fn rows(count: &Count) -> (raw::Array, raw::Schema) {
+    let bytes = || Some(Buffer::new(&[0xFF; 64], 0));
+    let texts = raw::Array::new(3, vec![None, bytes(), bytes()], count).nulls(0);
+    let indices = vec![bytes(), bytes()];
+    let word = raw::Array::of(9, indices, vec![], Some(texts), count).at(2);
+    let items = raw::Array::values(5, None, &[7; 40], count).at(1).nulls(0);
+    let list = raw::Array::of(9, vec![bytes(), bytes()], vec![items], None, count).at(4);
+    let number = raw::Array::values(9, None, &[9; 64], count).nulls(0);
+    let columns = vec![word, list, number];
+    let array = raw::Array::of(6, vec![None], columns, None, count)
+        .at(3)
+        .nulls(0);
+    let texts = raw::Schema::new("", "u", count);
+    let mut word = raw::Schema::of("word", "c", vec![], Some(texts), count);
+    word.flags = 3;
+    let items = vec![raw::Schema::new("item", "l", count)];
+    let list = raw::Schema::of("list", "+l", items, None, count);
+    let columns = vec![word, list, raw::Schema::new("number", "I", count)];
+    (array, raw::Schema::of("", "+s", columns, None, count))
+}
+
+#[test]
+fn what_came_in_goes_out_as_it_is() {
+    let count = Count::default();
+    let (array, schema) = rows(&count);
+    let (wanted, wanted_types) = (tree(&array), types(&schema));
+    let array = raw::import(array, schema).unwrap();
+    let out = raw_of(Export::from(array.clone()));
+    assert_eq!((tree(&out.0), types(&out.1)), (wanted, wanted_types));
+    release(out);
+    // Rows of a slice, of which the nulls aren't counted, and a column of it.
+    let part = Export::from(array.slice(2..5)).into_array().unwrap();
+    let list = raw_of(Export::from(part.column("list").unwrap()));
+    assert_eq!(
+        (list.0.length, list.0.offset, list.0.null_count),
+        (3, 9, -1)
+    );
+    let number = part.column("number").unwrap();
+    assert_eq!(number.values::<u32>(), Ok(&[0x0909_0909; 3][..]));
+    drop((array, part, number));
+    assert_eq!(count.get(), 6);
+    release(list);
+    assert_eq!(count.get(), 12);
+}
+
+#[test]
+fn metadata_and_flags_are_kept() {
+    let mut blob = 2i32.to_ne_bytes().to_vec();
+    let texts = ["ARROW:extension:name", "geo", "", "x"];
+    for text in texts {
+        blob.extend(i32::try_from(text.len()).unwrap().to_ne_bytes());
+        blob.extend(text.as_bytes());
+    }
+    let import = |blob: &[u8]| {
+        let mut schema = raw::Schema::new("", "C", &Count::default());
+        (schema.metadata, schema.flags) = (blob.as_ptr().cast(), 4);
+        raw::import(raw::Array::values(1, None, &[1], &Count::default()), schema)
+    };
+    let array = import(&blob).unwrap();
+    let pairs = [texts[..2].to_vec(), texts[2..].to_vec()];
+    let got = |array: &Array| {
+        let pairs = array.field().metadata();
+        let text = |it: &[u8]| String::from_utf8(it.to_vec()).unwrap();
+        pairs
+            .map(|(key, value)| vec![text(key), text(value)])
+            .collect::<Vec<_>>()
+    };
+    assert_eq!(got(&array), pairs);
+    assert!(!array.field().is_nullable());
+    let out = raw_of(Export::from(array));
+    assert_eq!(out.1.flags, 4);
+    let again = raw::import(out.0, out.1).unwrap();
+    assert_eq!(got(&again), pairs);
+    assert_eq!(import(&[0; 4]).unwrap().field().metadata().count(), 0);
+    let none = Export::values([1u8], None).into_array().unwrap();
+    assert_eq!(none.field().metadata().count(), 0);
+    for at in [0, 4, 28] {
+        let mut blob = blob.clone();
+        blob[at..at + 4].copy_from_slice(&(-1i32).to_ne_bytes());
+        let refused = import(&blob).unwrap_err().to_string();
+        assert_eq!(refused, "a length in metadata is -1");
+    }
 }
