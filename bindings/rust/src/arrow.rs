@@ -35,8 +35,8 @@
 //! The structs come from outside, so their numbers are tested: lengths, offsets, numbers of nulls,
 //! of buffers and of children, which buffers are there, formats, and that columns are as long as
 //! their struct. What can't be tested is the caller's promise, by `unsafe`: that pointers lead to as
-//! much as the numbers say. Types without a value or a bit an item, as texts, lists and unions, may
-//! stand in a batch, and have a length and a validity here, no more. An [`Array`] goes out again as it
+//! much as the numbers say. Views, lists of one length, unions and runs
+//! may stand in a batch, and have a length and a validity here, no more. An [`Array`] goes out again as it
 //! came, of whatever type, by [`Export::from`](Export).
 //!
 //! [Arrow C data interface]: https://arrow.apache.org/docs/format/CDataInterface.html
@@ -49,6 +49,7 @@ mod field;
 mod layout;
 mod node;
 mod primitive;
+mod ranges;
 mod schema;
 mod stream;
 
@@ -58,4 +59,5 @@ pub use export::Export;
 pub use ffi::{ArrowArray, ArrowArrayStream, ArrowSchema};
 pub use field::Field;
 pub use primitive::{Primitive, Unaligned};
+pub use ranges::Ranges;
 pub use stream::{ExportStream, Stream};

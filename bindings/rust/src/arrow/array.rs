@@ -6,12 +6,14 @@ use core::fmt;
 use core::ops::RangeBounds;
 use core::slice;
 
-use super::error::ArrowError;
+use super::error::{ArrowError, Fault};
+use super::export::number;
 use super::ffi::{ArrowArray, ArrowSchema, Owned};
 use super::field::Field;
-use super::layout::Layout;
+use super::layout::{Layout, Of};
 use super::node::Node;
 use super::primitive::{Primitive, Unaligned};
+use super::ranges::Ranges;
 use crate::bits::within;
 use crate::error::{OutOfBounds, expect};
 use crate::{Bits, Validity};
@@ -222,16 +224,23 @@ impl Array {
     /// Of another type.
     pub fn unaligned<T: Primitive>(&self) -> Result<Unaligned<'_, T>, ArrowError> {
         self.has_values::<T>()?;
-        let size = self.len * size_of::<T>();
-        if size == 0 {
-            return Ok(Unaligned::new(&[], self.len));
-        }
-        // SAFETY: as of `values`, of bytes.
-        let bytes = unsafe {
-            let first = self.node.values.add(self.start * size_of::<T>());
-            slice::from_raw_parts(first, size)
-        };
+        // SAFETY: there is a value for each item.
+        let bytes = unsafe { self.bytes_of(self.len, size_of::<T>()) };
         Ok(Unaligned::new(bytes, self.len))
+    }
+
+    /// So many of the values from the first row on, each of `width` bytes.
+    ///
+    /// # Safety
+    ///
+    /// The buffer of the values has as many.
+    unsafe fn bytes_of(&self, number: usize, width: usize) -> &[u8] {
+        let size = number * width;
+        if size == 0 {
+            return &[];
+        }
+        // SAFETY: these are bytes of values, at most `isize::MAX` of them.
+        unsafe { slice::from_raw_parts(self.node.values.add(self.start * width), size) }
     }
 
     #[inline]
@@ -240,6 +249,84 @@ impl Array {
             return Ok(());
         }
         Err(self.is_not(T::WANTED))
+    }
+
+    /// Where each row of texts lies among the [`bytes`](Array::bytes), or each row of lists among
+    /// the [`items`](Array::items). It looks at each once; those of null rows are any.
+    ///
+    /// ```
+    /// use vortex_bits::arrow::Export;
+    ///
+    /// let names = Export::texts(["a", "", "bc"], None).into_array()?.slice(1..);
+    /// let (ranges, bytes) = (names.ranges()?, names.bytes()?);
+    /// assert_eq!(&bytes[ranges.get(1).unwrap()], b"bc");
+    /// # Ok::<(), vortex_bits::arrow::ArrowError>(())
+    /// ```
+    ///
+    /// # Errors
+    ///
+    /// Of another type, where a row isn't behind the one before it, and where the last one ends
+    /// behind the items.
+    pub fn ranges(&self) -> Result<Ranges<'_>, ArrowError> {
+        let ranges = self.offsets()?;
+        if let Some(items) = self.node.children.first() {
+            let (wanted, got) = (ranges.end(), items.len);
+            if wanted > got {
+                return Err(self.malformed(Fault::Short { wanted, got }));
+            }
+        }
+        Ok(ranges)
+    }
+
+    fn offsets(&self) -> Result<Ranges<'_>, ArrowError> {
+        let Layout::Ranges(width, _) = self.node.field.layout else {
+            return Err(self.is_not("that of texts or lists"));
+        };
+        let number = if self.len == 0 { 0 } else { self.len + 1 };
+        // SAFETY: there is an offset for each item, and one more.
+        let offsets = unsafe { self.bytes_of(number, width) };
+        let ranges = if width == size_of::<i32>() {
+            Ranges::narrow(Unaligned::new(offsets, number))
+        } else {
+            Ranges::wide(Unaligned::new(offsets, number))
+        };
+        ranges.map_err(|fault| self.malformed(fault))
+    }
+
+    /// The bytes of texts, or of binary values, those of the rows before these too.
+    ///
+    /// # Errors
+    ///
+    /// As of [`ranges`](Array::ranges), and where there are bytes and no buffer.
+    pub fn bytes(&self) -> Result<&[u8], ArrowError> {
+        let Layout::Ranges(_, Of::Bytes) = self.node.field.layout else {
+            return Err(self.is_not("that of texts"));
+        };
+        let end = self.offsets()?.end();
+        if end == 0 {
+            return Ok(&[]);
+        }
+        let bytes = self.node.buffers[2].cast::<u8>();
+        if bytes.is_null() {
+            return Err(self.malformed(Fault::NoBuffer("bytes")));
+        }
+        if isize::try_from(end).is_err() {
+            return Err(self.malformed(Fault::OutOfRange("an offset", number(end))));
+        }
+        // SAFETY: the buffer has as many bytes as its last offset says.
+        Ok(unsafe { slice::from_raw_parts(bytes, end) })
+    }
+
+    /// The items of lists, those of other rows too.
+    ///
+    /// # Errors
+    ///
+    /// Of another type.
+    pub fn items(&self) -> Result<Array, ArrowError> {
+        match (self.node.field.layout, self.node.children.first()) {
+            (Layout::Ranges(_, Of::Items), Some(items)) => Ok(Array::whole(items)),
+            _ => Err(self.is_not("that of lists")),
+        }
     }
 
     /// The column of a name, the first one of several: its rows are those of the struct.
@@ -302,6 +389,14 @@ impl Array {
 
     fn name(&self) -> String {
         self.node.field.name.clone()
+    }
+
+    #[cold]
+    fn malformed(&self, fault: Fault) -> ArrowError {
+        ArrowError::Malformed {
+            column: self.name(),
+            fault,
+        }
     }
 
     #[cold]

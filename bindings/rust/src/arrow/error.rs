@@ -102,9 +102,18 @@ pub enum Fault {
         /// How many it has.
         got: i64,
     },
-    /// A buffer that is wanted is null: that of the values where there are items, and that of the
-    /// validity where there are nulls.
+    /// A buffer that is wanted is null: that of the values or the offsets where there are items,
+    /// that of the validity where there are nulls, and that of the bytes of texts.
     NoBuffer(&'static str),
+    /// A row of texts or lists begins before the one before it ends, or at a negative place.
+    Range {
+        /// The row.
+        row: usize,
+        /// Where it begins.
+        start: i64,
+        /// Where it ends.
+        end: i64,
+    },
     /// It ends before the parent's items do.
     Short {
         /// How many items the parent asks for, from its offset 0 on.
@@ -137,6 +146,7 @@ impl fmt::Display for Fault {
             }
             Fault::Number { of, wanted, got } => write!(f, "{of} is {got} in place of {wanted}"),
             Fault::NoBuffer(what) => write!(f, "the buffer of the {what} is null"),
+            Fault::Range { row, start, end } => write!(f, "row {row} lies from {start} to {end}"),
             Fault::Short { wanted, got } => {
                 write!(f, "it has {got} items, of which its parent wants {wanted}")
             }

@@ -13,7 +13,7 @@ use super::array::Array;
 use super::error::{ArrowError, Fault};
 use super::ffi::{ArrowArray, ArrowSchema, Below, Owned};
 use super::field::Field;
-use super::layout::Layout;
+use super::layout::{Layout, Of};
 use super::node::Node;
 use super::primitive::Primitive;
 use crate::Bitmap;
@@ -65,7 +65,7 @@ impl Export {
         let format = T::format();
         let layout = Layout::of(&format).unwrap_or(Layout::Bits);
         let field = Field::of("", &format, layout);
-        Export::column(field, len, 0, pointer, kept, valid)
+        Export::column(field, len, 0, &[pointer], kept, valid)
     }
 
     /// Truth values, and which of them are valid; all are where that is None. The bits of the
@@ -88,18 +88,42 @@ impl Export {
             Field::of("", "b", Layout::Bits),
             len,
             offset,
-            pointer,
+            &[pointer],
             kept,
             valid,
         )
     }
 
+    /// Texts, which are copied one behind the other, and which of them are valid; all are where that
+    /// is None. Their type is `U`, whose offsets have 64 bits.
+    ///
+    /// # Panics
+    ///
+    /// Where there isn't a bit for each text.
+    #[must_use]
+    #[track_caller]
+    pub fn texts(
+        texts: impl IntoIterator<Item = impl AsRef<str>>,
+        valid: Option<Bitmap>,
+    ) -> Export {
+        let (mut ends, mut bytes) = (vec![0i64], Vec::new());
+        for text in texts {
+            bytes.extend_from_slice(text.as_ref().as_bytes());
+            ends.push(number(bytes.len()));
+        }
+        let pointers = [ends.as_ptr().cast(), bytes.as_ptr().cast()];
+        let field = Field::of("", "U", Layout::Ranges(8, Of::Bytes));
+        let len = ends.len() - 1;
+        Export::column(field, len, 0, &pointers, Arc::new((ends, bytes)), valid)
+    }
+
+    /// A column whose buffers behind that of the validity are these.
     #[track_caller]
     fn column(
         field: Field,
         len: usize,
         offset: usize,
-        values: *const c_void,
+        values: &[*const c_void],
         kept: Arc<dyn Any + Send + Sync>,
         valid: Option<Bitmap>,
     ) -> Export {
@@ -113,7 +137,7 @@ impl Export {
             .as_ref()
             .map_or(ptr::null(), |valid| start_of(valid.bits()));
         let held = Held {
-            buffers: vec![validity, values],
+            buffers: [&[validity], values].concat(),
             below: Below::new([]),
             _kept: (Some(kept), valid),
         };

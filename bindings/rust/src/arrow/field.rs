@@ -9,7 +9,7 @@ use core::ptr::NonNull;
 
 use super::error::{ArrowError, Fault};
 use super::ffi::ArrowSchema;
-use super::layout::Layout;
+use super::layout::{Layout, Of};
 
 /// How many levels of children and dictionaries are read.
 pub(super) const DEPTH: usize = 64;
@@ -38,7 +38,7 @@ pub struct Field {
 }
 
 impl Field {
-    /// A column of values or of truth values, whose type is written as the interface does: `i` for
+    /// A column of values, of truth values or of texts, whose type is written as the interface does: `i` for
     /// `i32`, `tdD` for days, `d:19,2` for decimals. It may have nulls.
     ///
     /// # Errors
@@ -46,7 +46,7 @@ impl Field {
     /// Where it is no such type.
     pub fn new(name: &str, format: &str) -> Result<Field, ArrowError> {
         match Layout::of(format) {
-            Some(layout @ (Layout::Bits | Layout::Fixed(..))) => {
+            Some(layout @ (Layout::Bits | Layout::Fixed(..) | Layout::Ranges(_, Of::Bytes))) => {
                 Ok(Field::of(name, format, layout))
             }
             _ => Err(Fault::Format(format.to_owned()).into()),

@@ -10,6 +10,13 @@ pub enum Kind {
     Bytes,
 }
 
+/// What the rows of texts and lists are parts of.
+#[derive(Clone, Copy, Debug, PartialEq, Eq)]
+pub enum Of {
+    Bytes,
+    Items,
+}
+
 /// How the items of a type lie in buffers, of those types that calls read.
 #[derive(Clone, Copy, Debug, PartialEq, Eq)]
 pub enum Layout {
@@ -19,6 +26,8 @@ pub enum Layout {
     Fixed(Kind, usize),
     /// In its children.
     Struct,
+    /// From a place up to the next one, as numbers of so many bytes, of a buffer or of the child.
+    Ranges(usize, Of),
     /// In another way: the buffers, where they are always as many, and the children.
     Other {
         buffers: Option<i64>,
@@ -52,9 +61,11 @@ impl Layout {
             "+s" => Layout::Struct,
             "n" => Layout::without_validity(0, 0),
             "+r" => Layout::without_validity(0, 2),
-            "z" | "Z" | "u" | "U" => Layout::other(Some(3), 0),
+            "z" | "u" => Layout::Ranges(4, Of::Bytes),
+            "Z" | "U" => Layout::Ranges(8, Of::Bytes),
+            "+l" | "+m" => Layout::Ranges(4, Of::Items),
+            "+L" => Layout::Ranges(8, Of::Items),
             "vz" | "vu" => Layout::other(None, 0),
-            "+l" | "+L" | "+m" => Layout::other(Some(2), 1),
             "+vl" | "+vL" => Layout::other(Some(3), 1),
             _ => return Layout::of_parts(format.split_once(':')?),
         })
@@ -95,7 +106,8 @@ impl Layout {
     /// How many buffers an array has; None where arrays differ.
     pub fn buffers(self) -> Option<i64> {
         match self {
-            Layout::Bits | Layout::Fixed(..) => Some(2),
+            Layout::Bits | Layout::Fixed(..) | Layout::Ranges(_, Of::Items) => Some(2),
+            Layout::Ranges(_, Of::Bytes) => Some(3),
             Layout::Struct => Some(1),
             Layout::Other { buffers, .. } => buffers,
         }
@@ -104,7 +116,8 @@ impl Layout {
     /// How many children the type has; None where types differ.
     pub fn children(self) -> Option<i64> {
         match self {
-            Layout::Bits | Layout::Fixed(..) => Some(0),
+            Layout::Bits | Layout::Fixed(..) | Layout::Ranges(_, Of::Bytes) => Some(0),
+            Layout::Ranges(_, Of::Items) => Some(1),
             Layout::Struct => None,
             Layout::Other { children, .. } => Some(children),
         }

@@ -21,7 +21,8 @@ pub(super) struct Node {
     pub nulls: Option<usize>,
     /// A bit for each item; null where all are valid.
     pub validity: *const u8,
-    /// The bits or the values; null only where these take no bytes.
+    /// The bits, the values, or where the rows of texts and lists begin, and one place more; null
+    /// only where these take no bytes, or there are no items.
     pub values: *const u8,
     /// All buffers, as they were given.
     pub buffers: Vec<*const c_void>,
@@ -91,13 +92,13 @@ fn window(array: &ArrowArray, layout: Layout) -> Result<(usize, usize), Fault> {
         count("offset", offset, None)?,
         count("length", length, None)?,
     );
-    let width = match layout {
-        Layout::Fixed(_, width) => width.max(1),
-        _ => 1,
+    let (width, more) = match layout {
+        Layout::Fixed(_, width) => (width.max(1), 0),
+        Layout::Ranges(width, _) => (width, 1),
+        _ => (1, 0),
     };
-    let size = start
-        .checked_add(len)
-        .and_then(|end| end.checked_mul(width));
+    let items = start.checked_add(len).and_then(|end| end.checked_add(more));
+    let size = items.and_then(|items| items.checked_mul(width));
     match size.map(isize::try_from) {
         Some(Ok(_)) => Ok((start, len)),
         _ => Err(Fault::TooLong { offset, length }),
@@ -141,12 +142,14 @@ fn in_use(
     } else {
         ptr::null()
     };
-    let values = match layout {
-        Layout::Bits | Layout::Fixed(..) => buffer(1),
+    let what = match layout {
+        Layout::Bits | Layout::Fixed(..) => "values",
+        Layout::Ranges(..) => "offsets",
         Layout::Struct | Layout::Other { .. } => return Ok((validity, ptr::null())),
     };
+    let values = buffer(1);
     if values.is_null() && layout != Layout::NOTHING && len > 0 {
-        return Err(Fault::NoBuffer("values"));
+        return Err(Fault::NoBuffer(what));
     }
     Ok((validity, values))
 }

@@ -277,6 +277,22 @@ fn dictionaries_go_out_with_their_indices() {
 }
 
 #[test]
+fn texts_go_out_one_behind_the_other() {
+    let valid = Bitmap::from([false, true, true]).slice(..);
+    let names = Export::texts(["a", "", "b\u{e9}"], Some(valid)).named("n");
+    let out = raw_of(names.with_format("Z").unwrap());
+    assert_eq!((out.0.length, out.0.null_count, out.0.n_buffers), (3, 1, 3));
+    assert_eq!(text(out.1.format), "Z");
+    let names = raw::import(out.0, out.1).unwrap();
+    let (ranges, bytes) = (names.ranges().unwrap(), names.bytes().unwrap());
+    let rows: Vec<_> = ranges.iter().map(|row| &bytes[row]).collect();
+    assert_eq!(rows, [b"a", &b""[..], "b\u{e9}".as_bytes()]);
+    assert_eq!(names.validity().unwrap().get(0), Some(false));
+    let none = Export::texts([""; 0], None).into_array().unwrap();
+    assert!(none.is_empty() && none.ranges().unwrap().is_empty());
+}
+
+#[test]
 fn names_end_at_their_first_zero() {
     let out = raw_of(Export::values([1u8], None).named("a\0b"));
     assert_eq!(text(out.1.name), "a");

@@ -3,5 +3,6 @@ mod export;
 mod import;
 mod malformed;
 mod plain;
+mod ranges;
 mod raw;
 mod stream;

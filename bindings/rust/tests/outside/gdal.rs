@@ -2,9 +2,11 @@
 use std::ffi::{CString, c_char, c_int, c_uint, c_void};
 use std::fs;
 use std::mem::transmute;
+use std::ops::Range;
+use std::path::Path;
 use std::ptr;
 
-use vortex_bits::arrow::{ArrowArrayStream, Stream};
+use vortex_bits::arrow::{ArrowArrayStream, Field, Stream};
 
 use crate::{Case, Missing};
 
@@ -64,34 +66,74 @@ impl Gdal {
     }
 }
 
-/// The answer over GDAL's batches of so many rows is that over the crate's own.
-pub fn compare(case: &Case) -> Result<(), Missing> {
-    let gdal = Gdal::load()?;
-    let types = "Integer,Integer64,Real,Integer(Boolean)";
-    fs::write(case.file.with_extension("csvt"), types).unwrap();
-    for each in [1_000, 65_536] {
-        let file = CString::new(case.file.to_str().unwrap()).unwrap();
+impl Gdal {
+    /// What is made of the stream of a file, with batches of at most so many rows.
+    fn read<T>(&self, file: &Path, each: usize, read: impl FnOnce(Stream) -> T) -> T {
+        let file = CString::new(file.to_str().unwrap()).unwrap();
         let options = [
             "INCLUDE_FID=NO".to_string(),
             format!("MAX_FEATURES_IN_BATCH={each}"),
         ];
         let options = options.map(|it| CString::new(it).unwrap());
         let pointers = [options[0].as_ptr(), options[1].as_ptr(), ptr::null()];
+        let none = ptr::null();
         // SAFETY: as GDAL's headers ask for; the stream is read before its file is closed.
-        let answer = unsafe {
-            let set = (gdal.open)(file.as_ptr(), VECTOR, ptr::null(), ptr::null(), ptr::null());
+        unsafe {
+            let set = (self.open)(file.as_ptr(), VECTOR, none, none, none);
             assert!(!set.is_null());
-            let layer = (gdal.layer)(set, 0);
+            let layer = (self.layer)(set, 0);
             let mut raw = ArrowArrayStream::empty();
-            assert!((gdal.stream)(layer, &raw mut raw, pointers.as_ptr()));
-            let stream = Stream::from_raw(&raw mut raw).unwrap();
-            let names = stream.field().fields().map(|it| (it.name(), it.format()));
-            assert!(names.eq([("a", "i"), ("b", "l"), ("c", "g"), ("flag", "b")]));
-            let answer = case.asked(stream);
-            (gdal.close)(set);
+            assert!((self.stream)(layer, &raw mut raw, pointers.as_ptr()));
+            let answer = read(Stream::from_raw(&raw mut raw).unwrap());
+            (self.close)(set);
             answer
-        };
+        }
+    }
+}
+
+fn names(stream: &Stream) -> Vec<(String, String)> {
+    let fields = stream.field().fields();
+    let text = |it: &Field| (it.name().to_string(), it.format().to_string());
+    fields.map(text).collect()
+}
+
+/// The answer over GDAL's batches of so many rows is that over the crate's own; texts are those of
+/// their file.
+pub fn compare(case: &Case) -> Result<(), Missing> {
+    let gdal = Gdal::load()?;
+    let types = "Integer,Integer64,Real,Integer(Boolean)";
+    fs::write(case.file.with_extension("csvt"), types).unwrap();
+    let wanted = [("a", "i"), ("b", "l"), ("c", "g"), ("flag", "b")];
+    let wanted = wanted.map(|(name, format)| (name.to_string(), format.to_string()));
+    for each in [1_000, 65_536] {
+        let answer = gdal.read(&case.file, each, |stream| {
+            assert_eq!(names(&stream), wanted);
+            case.asked(stream)
+        });
         assert_eq!(answer, case.answer(each));
     }
+    texts(&gdal, case);
     Ok(())
+}
+
+fn texts(gdal: &Gdal, case: &Case) {
+    let file = case.file.with_file_name("texts.csv");
+    let rows: Vec<String> = (0..1_234).map(|row| "\u{e9}x".repeat(row % 9)).collect();
+    let lines = rows
+        .iter()
+        .enumerate()
+        .map(|(row, text)| format!("{row},\"{text}\"\n"));
+    fs::write(&file, format!("row,text\n{}", lines.collect::<String>())).unwrap();
+    fs::write(file.with_extension("csvt"), "Integer,String").unwrap();
+    let read = gdal.read(&file, 100, |stream| {
+        let batches = stream.map(|batch| {
+            let texts = batch.unwrap().column("text").unwrap();
+            let (ranges, bytes) = (texts.ranges().unwrap(), texts.bytes().unwrap());
+            let text = |row: Range<usize>| String::from_utf8(bytes[row].to_vec()).unwrap();
+            ranges.iter().map(text).collect::<Vec<_>>()
+        });
+        batches.collect::<Vec<_>>()
+    });
+    assert!(read.len() > 1);
+    assert_eq!(read.concat(), rows);
 }
