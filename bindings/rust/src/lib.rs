@@ -3,6 +3,21 @@
 //! by masks, which filter values too, and ranked over a table of counts. Values at indices are in
 //! [`values`].
 //!
+//! ```
+//! use vortex_bits::{Bitmap, Bits, values};
+//!
+//! // Which of five rows are valid, from bit 3 of a byte on, and the rows of them that are above 2.
+//! let (valid, column) = (Bits::new(&[0b1110_1000], 3, 5), [7, 0, 9, 2, 8]);
+//! let mask = column.iter().map(|&value| value > 2).collect::<Bitmap>() & valid;
+//! let mut kept = vec![0; mask.count_ones()];
+//! mask.bits().keep_into(&column, &mut kept);
+//! assert_eq!((kept, mask.select(1)), (vec![7, 9, 8], Some(2)));
+//!
+//! // Rows at indices.
+//! assert_eq!(values::take(&column, &[4u32, 0]), [8, 7]);
+//! assert_eq!(valid.take(&[4u32, 1]), Bitmap::from([true, false]));
+//! ```
+//!
 //! Bit `i` of some bytes is digit `i % 8` of byte `i / 8`. A window is the `len` bits from bit
 //! `offset` on: [`Bits`] reads one, [`BitsMut`] writes one, and [`Validity`] may be without one. No
 //! call reads or changes a bit outside of its windows, whatever else the bytes hold. Lengths,

@@ -3,7 +3,7 @@
 use std::fmt;
 
 use vortex_bits::arrow::{Array, ArrowError};
-use vortex_bits::{Bitmap, Value};
+use vortex_bits::{Bitmap, Value, values};
 
 /// What is asked: `select b, c where a > limit and b is not null`.
 pub struct Question {
@@ -95,22 +95,22 @@ impl Answer {
         self.sum_c = valid.map(|row| self.c[row]).sum();
         let at = question.at.iter().copied();
         let at: Vec<u32> = at.filter(|&row| (row as usize) < self.b.len()).collect();
-        self.taken = at.iter().map(|&row| self.b[row as usize]).collect();
+        self.taken = values::take(&self.b, &at);
         self.taken_nulls = self.c_valid.take(&at).count_zeros();
     }
 }
 
-fn above(values: &[i32], limit: i32) -> Bitmap {
-    Bitmap::make(values.len(), |mut out| {
-        out.fill_with(|row| values[row] > limit);
+fn above(column: &[i32], limit: i32) -> Bitmap {
+    Bitmap::make(column.len(), |mut out| {
+        out.fill_with(|row| column[row] > limit);
     })
 }
 
 /// Adds the values that the mask keeps.
-fn keep<T: Value + Default>(mask: &Bitmap, values: &[T], kept: &mut Vec<T>) {
+fn keep<T: Value + Default>(mask: &Bitmap, column: &[T], kept: &mut Vec<T>) {
     let from = kept.len();
     kept.resize(from + mask.count_ones(), T::default());
-    mask.bits().keep_into(values, &mut kept[from..]);
+    mask.bits().keep_into(column, &mut kept[from..]);
 }
 
 pub fn ask(
