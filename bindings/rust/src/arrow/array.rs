@@ -31,7 +31,7 @@ use crate::{Bits, Validity};
 /// let valid = Bitmap::from([true, true, false]);
 /// let a = Export::values(vec![7i32, 9, 0], Some(valid)).named("a");
 /// let flag = Export::bits(Bitmap::from([true, false, true]), None).named("flag");
-/// let rows = Export::batch([a, flag]).into_array()?.slice(1..);
+/// let rows = Export::batch([a, flag]).into_array().slice(1..);
 ///
 /// let (a, flag) = (rows.column("a")?, rows.column("flag")?);
 /// assert_eq!(a.values::<i32>()?, [9, 0]);
@@ -147,9 +147,9 @@ impl Array {
     ///
     /// As of [`validity`](Array::validity).
     pub fn null_count(&self) -> Result<usize, ArrowError> {
-        match self.node.nulls {
-            Some(nulls) if self.len == self.node.len => Ok(nulls),
-            _ => self.validity().map(Validity::count_zeros),
+        match self.node.nulls_of(self.len) {
+            Some(nulls) => Ok(nulls),
+            None => self.validity().map(Validity::count_zeros),
         }
     }
 
@@ -213,7 +213,7 @@ impl Array {
     /// ```
     /// use vortex_bits::arrow::Export;
     ///
-    /// let prices = Export::values(vec![1250i128, -3], None).into_array()?;
+    /// let prices = Export::values(vec![1250i128, -3], None).into_array();
     /// assert_eq!(prices.unaligned::<i128>()?.iter().sum::<i128>(), 1247);
     /// assert_eq!(prices.field().format(), "d:38,0");
     /// # Ok::<(), vortex_bits::arrow::ArrowError>(())
@@ -257,7 +257,7 @@ impl Array {
     /// ```
     /// use vortex_bits::arrow::Export;
     ///
-    /// let names = Export::texts(["a", "", "bc"], None).into_array()?.slice(1..);
+    /// let names = Export::texts(["a", "", "bc"], None).into_array().slice(1..);
     /// let (ranges, bytes) = (names.ranges()?, names.bytes()?);
     /// assert_eq!(&bytes[ranges.get(1).unwrap()], b"bc");
     /// # Ok::<(), vortex_bits::arrow::ArrowError>(())

@@ -217,7 +217,7 @@ impl Export {
     /// use vortex_bits::arrow::Export;
     ///
     /// let prices = Export::values(vec![9.5, 12.0], None);
-    /// let rows = Export::values(vec![1i8, 1, 0], None).with_dictionary(prices)?.into_array()?;
+    /// let rows = Export::values(vec![1i8, 1, 0], None).with_dictionary(prices)?.into_array();
     /// let prices = rows.dictionary().unwrap();
     /// let of = |&index: &i8| prices.values::<f64>().unwrap()[index as usize];
     /// assert_eq!(rows.values::<i8>()?.iter().map(of).sum::<f64>(), 33.5);
@@ -274,13 +274,13 @@ impl Export {
     }
 
     /// The array as this crate reads those of others.
-    ///
-    /// # Errors
-    ///
-    /// As of [`Array::from_raw`]; there is no export that it refuses.
-    pub fn into_array(self) -> Result<Array, ArrowError> {
+    #[must_use]
+    pub fn into_array(self) -> Array {
         // SAFETY: the array is as the interface asks for, and this is its only owner.
-        unsafe { Array::of(self.array, &Arc::new(self.field)) }
+        match unsafe { Array::of(self.array, &Arc::new(self.field)) } {
+            Ok(array) => array,
+            Err(wrong) => unreachable!("an export: {wrong}"),
+        }
     }
 }
 
@@ -291,8 +291,8 @@ impl Export {
 /// use vortex_bits::arrow::Export;
 ///
 /// let a = Export::values(vec![1i64, 2, 3], None).named("a");
-/// let rows = Export::batch([a]).into_array()?;
-/// let last = Export::from(rows.slice(1..)).into_array()?;
+/// let rows = Export::batch([a]).into_array();
+/// let last = Export::from(rows.slice(1..)).into_array();
 /// assert_eq!(last.column("a")?.values::<i64>()?, [2, 3]);
 /// # Ok::<(), vortex_bits::arrow::ArrowError>(())
 /// ```
@@ -318,8 +318,7 @@ fn shared(node: &Arc<Node>, start: usize, len: usize) -> Owned<ArrowArray> {
         below,
         _kept: (Some(Arc::clone(node) as Arc<dyn Any + Send + Sync>), None),
     };
-    let nulls = node.nulls.filter(|_| len == node.len);
-    held.array(len, nulls, start)
+    held.array(len, node.nulls_of(len), start)
 }
 
 impl fmt::Debug for Export {

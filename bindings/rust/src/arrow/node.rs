@@ -85,6 +85,13 @@ impl Node {
     }
 }
 
+impl Node {
+    /// How many of `len` items are null, where that is said: they are all, or none of all is.
+    pub fn nulls_of(&self, len: usize) -> Option<usize> {
+        self.nulls.filter(|&nulls| nulls == 0 || len == self.len)
+    }
+}
+
 /// The offset and the length.
 fn window(array: &ArrowArray, layout: Layout) -> Result<(usize, usize), Fault> {
     let (offset, length) = (array.offset, array.length);

@@ -107,7 +107,7 @@ fn goes_out_and_in<T: Primitive + PartialEq + Debug>(values: Vec<T>, format: &st
         assert_eq!(array.null_count(), Ok(usize::from(valid.is_some())));
     }
     // No value is copied.
-    let array = Export::values(values, None).into_array().unwrap();
+    let array = Export::values(values, None).into_array();
     assert_eq!(array.values::<T>().unwrap().as_ptr(), place);
     let other = if format == "l" { "g" } else { "l" };
     assert_eq!(
@@ -145,7 +145,7 @@ fn formats_are_those_of_values_that_lie_alike() {
     let price = Export::values(vec![5i128], None)
         .with_format("d:19,2")
         .unwrap();
-    let price = price.into_array().unwrap();
+    let price = price.into_array();
     assert_eq!((price.field().format(), price.len()), ("d:19,2", 1));
     let month = Export::values(vec![[0u8; 16]], None)
         .with_format("tin")
@@ -166,18 +166,16 @@ fn formats_are_those_of_values_that_lie_alike() {
 #[test]
 fn other_owners_keep_their_values() {
     let shared: Arc<[i64]> = Arc::from([1, 2, 3]);
-    let array = Export::values(Arc::clone(&shared), None)
-        .into_array()
-        .unwrap();
+    let array = Export::values(Arc::clone(&shared), None).into_array();
     assert_eq!(array.values::<i64>().unwrap().as_ptr(), shared.as_ptr());
     assert_eq!(Arc::strong_count(&shared), 2);
     drop(array);
     assert_eq!(Arc::strong_count(&shared), 1);
     // Values within the owner itself.
-    let array = Export::values([7u16, 8], None).into_array().unwrap();
+    let array = Export::values([7u16, 8], None).into_array();
     assert_eq!(array.values::<u16>(), Ok(&[7, 8][..]));
     let own = Bitmap::new(AlignedBytes::zeroed(4), 9, 20);
-    let array = Export::bits(own, None).into_array().unwrap();
+    let array = Export::bits(own, None).into_array();
     assert!(!array.bits().unwrap().any() && array.len() == 20);
 }
 
@@ -205,7 +203,7 @@ fn what_is_kept_is_dropped_once() {
     assert_eq!(count.get(), 2);
     release(raw_of(rows()));
     assert_eq!(count.get(), 4);
-    let a = rows().into_array().unwrap().column("a").unwrap();
+    let a = rows().into_array().column("a").unwrap();
     assert_eq!(count.get(), 4);
     thread::spawn(move || drop(a)).join().unwrap();
     assert_eq!(count.get(), 6);
@@ -262,6 +260,8 @@ fn dictionaries_go_out_with_their_indices() {
         .with_dictionary(items)
         .unwrap();
     assert!(rows.field().dictionary().is_some());
+    let indices = Export::values([0u32], None).with_dictionary(Export::values([1u8], None));
+    assert!(indices.unwrap().with_format("f").is_err());
     let out = raw_of(rows.with_format("s").unwrap());
     assert!(!out.0.dictionary.is_null() && !out.1.dictionary.is_null());
     let rows = raw::import(out.0, out.1).unwrap();
@@ -288,7 +288,7 @@ fn texts_go_out_one_behind_the_other() {
     let rows: Vec<_> = ranges.iter().map(|row| &bytes[row]).collect();
     assert_eq!(rows, [b"a", &b""[..], "b\u{e9}".as_bytes()]);
     assert_eq!(names.validity().unwrap().get(0), Some(false));
-    let none = Export::texts([""; 0], None).into_array().unwrap();
+    let none = Export::texts([""; 0], None).into_array();
     assert!(none.is_empty() && none.ranges().unwrap().is_empty());
 }
 
@@ -369,7 +369,7 @@ fn what_came_in_goes_out_as_it_is() {
     assert_eq!((tree(&out.0), types(&out.1)), (wanted, wanted_types));
     release(out);
     // Rows of a slice, of which the nulls aren't counted, and a column of it.
-    let part = Export::from(array.slice(2..5)).into_array().unwrap();
+    let part = Export::from(array.slice(2..5)).into_array();
     let list = raw_of(Export::from(part.column("list").unwrap()));
     assert_eq!(
         (list.0.length, list.0.offset, list.0.null_count),
@@ -377,10 +377,29 @@ fn what_came_in_goes_out_as_it_is() {
     );
     let number = part.column("number").unwrap();
     assert_eq!(number.values::<u32>(), Ok(&[0x0909_0909; 3][..]));
+    let slice = raw_of(Export::from(array.column("number").unwrap().slice(1..)));
+    assert_eq!((slice.0.length, slice.0.null_count), (5, 0));
+    release(slice);
     drop((array, part, number));
     assert_eq!(count.get(), 6);
     release(list);
     assert_eq!(count.get(), 12);
+}
+
+#[test]
+fn nulls_of_a_slice_are_said_where_they_are_known() {
+    let nulls = |null_count, len| {
+        let array = raw::Array::values(8, Some(&[0x0F]), &[7; 8], &Count::default());
+        let array = raw::import_as(array.nulls(null_count), "C").unwrap();
+        let out = raw_of(Export::from(array.slice(..len)));
+        let said = out.0.null_count;
+        release(out);
+        said
+    };
+    assert_eq!(
+        [nulls(4, 8), nulls(4, 7), nulls(0, 7), nulls(-1, 8)],
+        [4, -1, 0, -1]
+    );
 }
 
 #[test]
@@ -412,7 +431,7 @@ fn metadata_and_flags_are_kept() {
     let again = raw::import(out.0, out.1).unwrap();
     assert_eq!(got(&again), pairs);
     assert_eq!(import(&[0; 4]).unwrap().field().metadata().count(), 0);
-    let none = Export::values([1u8], None).into_array().unwrap();
+    let none = Export::values([1u8], None).into_array();
     assert_eq!(none.field().metadata().count(), 0);
     for at in [0, 4, 28] {
         let mut blob = blob.clone();

@@ -59,6 +59,10 @@ fn ends_of_windows_do_not_overflow() {
     refuses("l", 1, i64::MAX);
     refuses("l", i64::MAX, i64::MAX);
     refuses("b", i64::MAX, 1);
+    refuses("+s", i64::MAX, 1);
+    refuses("n", 1, i64::MAX);
+    refuses("U", 0, i64::MAX / 8);
+    refuses("u", i64::MAX / 4, 0);
     refuses("l", i64::MAX / 8, 1);
     refuses("l", 0, i64::MAX / 8 + 1);
     refuses("d:1,0,256", i64::MAX / 32, 1);
