@@ -59,10 +59,7 @@ fn values_at_indices_are_refused_by_name() {
         );
         let text = format!("index {index} at position 1 names none of 3 values");
         assert_eq!(refused.to_string(), text);
-        assert_eq!(
-            panics(|| drop(values::take(&column, &[0, 3]))).is_some(),
-            true
-        );
+        assert!(panics(|| drop(values::take(&column, &[0, 3]))).is_some());
     }
 }
 
@@ -81,12 +78,13 @@ fn values_of_any_width_and_alignment_are_taken_and_kept() {
         assert_eq!(valid.bits().keep_into(&column, &mut kept), 67);
         assert!((0..67).all(|i| kept[i] == column[3 * i]));
     }
-    each(std::array::from_fn(|i| [i as u8; 3]), [0; 3]);
-    each(std::array::from_fn(|i| [i as u8; 16]), [0; 16]);
-    each(std::array::from_fn(|i| [i as u64; 4]), [0; 4]);
-    each(std::array::from_fn(|i| [i as i64, 1]), [0; 2]);
-    each(std::array::from_fn(|i| i as u128), 0);
-    each(std::array::from_fn(|i| i as f64), 0.0);
+    let byte = |i| u8::try_from(i).unwrap();
+    each(std::array::from_fn(|i| [byte(i); 3]), [0; 3]);
+    each(std::array::from_fn(|i| [byte(i); 16]), [0; 16]);
+    each(std::array::from_fn(|i| [u64::from(byte(i)); 4]), [0; 4]);
+    each(std::array::from_fn(|i| [i64::from(byte(i)), 1]), [0; 2]);
+    each(std::array::from_fn(|i| u128::from(byte(i))), 0);
+    each(std::array::from_fn(|i| f64::from(byte(i))), 0.0);
     each(std::array::from_fn(|i| i % 2 == 1), false);
 }
 
