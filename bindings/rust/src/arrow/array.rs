@@ -7,7 +7,6 @@ use core::ops::RangeBounds;
 use core::slice;
 
 use super::error::{ArrowError, Fault};
-use super::export::number;
 use super::ffi::{ArrowArray, ArrowSchema, Owned};
 use super::field::Field;
 use super::layout::{Layout, Of};
@@ -310,10 +309,7 @@ impl Array {
         if bytes.is_null() {
             return Err(self.malformed(Fault::NoBuffer("bytes")));
         }
-        if isize::try_from(end).is_err() {
-            return Err(self.malformed(Fault::OutOfRange("an offset", number(end))));
-        }
-        // SAFETY: the buffer has as many bytes as its last offset says.
+        // SAFETY: the buffer has as many bytes as its last offset says, at most `isize::MAX`.
         Ok(unsafe { slice::from_raw_parts(bytes, end) })
     }
 

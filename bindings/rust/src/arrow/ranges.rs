@@ -88,11 +88,12 @@ impl fmt::Debug for Ranges<'_> {
     }
 }
 
-/// Whether no number is negative, none is below the one before it, and each is a `usize`.
+/// Whether no number is negative, none is below the one before it, and each is an `isize`, as the
+/// size of a slice is.
 fn ascending(offsets: impl Iterator<Item = i64>) -> Result<(), Fault> {
     let mut start = 0;
     for (place, end) in offsets.enumerate() {
-        if end < start || usize::try_from(end).is_err() {
+        if end < start || isize::try_from(end).is_err() {
             let row = place.saturating_sub(1);
             return Err(Fault::Range { row, start, end });
         }

@@ -331,6 +331,8 @@ fn other_types_have_a_length_and_a_validity() {
         assert!(array.values::<u8>().is_err() && array.bits().is_err());
         assert!(array.columns().is_err() && array.column("a").is_err());
     }
+    let nulls = raw::Array::new(5, vec![], &Count::default()).nulls(5);
+    assert_eq!(import_as(nulls, "n").unwrap().null_count(), Ok(5));
     let lists = ["+vl", "+vL", "+w:2", "+ud:5", "+us:5", "+r"];
     for (format, buffers) in lists.into_iter().zip([3, 3, 1, 2, 1, 0]) {
         let count = Count::default();
