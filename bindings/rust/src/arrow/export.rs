@@ -262,6 +262,27 @@ impl Export {
 
     /// The two structs, each of which its new owner has to release, on any thread: they are plain
     /// data here, and keep their memory where no one does.
+    ///
+    /// ```
+    /// use vortex_bits::arrow::{ArrowArray, ArrowSchema, Export};
+    ///
+    /// /// A function of a plugin, for a caller in any language.
+    /// ///
+    /// /// # Safety
+    /// ///
+    /// /// Both structs may be written.
+    /// unsafe extern "C" fn answer(array: *mut ArrowArray, schema: *mut ArrowSchema) {
+    ///     let (values, of) = Export::values(vec![1i64, 2], None).named("answer").into_raw();
+    ///     // SAFETY: as of this function.
+    ///     unsafe { (array.write(values), schema.write(of)) };
+    /// }
+    /// # let (mut array, mut schema) = (ArrowArray::empty(), ArrowSchema::empty());
+    /// # let answer = unsafe {
+    /// #     answer(&raw mut array, &raw mut schema);
+    /// #     vortex_bits::arrow::Array::from_raw(&raw mut array, &raw mut schema).unwrap()
+    /// # };
+    /// # assert_eq!(answer.values::<i64>().unwrap(), [1, 2]);
+    /// ```
     #[must_use]
     pub fn into_raw(self) -> (ArrowArray, ArrowSchema) {
         let schema = self.field.schema();
