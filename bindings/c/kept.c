@@ -1,6 +1,6 @@
 /*
- * The filters of vortex_bits.h beside a loop over single bits, over random windows, and each checked
- * form with numbers past every limit. It is C and C++ alike.
+ * The filters, deposits and combined counts of vortex_bits.h beside a loop over single bits, over
+ * random windows, and each checked form with numbers past every limit. It is C and C++ alike.
  */
 #include "vortex_bits.h"
 
@@ -52,6 +52,61 @@ static void randomize(uint8_t *bytes)
 static uint64_t number_at(size_t i)
 {
     return (i + 1) * 0x9E3779B97F4A7C15u;
+}
+
+/* How many bits an operator makes true of two windows: digit 2 * left + right of the table. */
+static const struct {
+    size_t (*plain)(const uint8_t *, size_t, size_t, const uint8_t *, size_t, size_t, size_t);
+    bool (*checked)(const uint8_t *, size_t, size_t, const uint8_t *, size_t, size_t, size_t,
+        size_t *);
+    unsigned table;
+} counts[] = {
+    {vb_and_count, vb_try_and_count, 0x8},
+    {vb_or_count, vb_try_or_count, 0xE},
+    {vb_xor_count, vb_try_xor_count, 0x6},
+    {vb_and_not_count, vb_try_and_not_count, 0x4},
+};
+enum { COUNTS = sizeof counts / sizeof counts[0] };
+
+static void combined_counts(const uint8_t *left, size_t l, const uint8_t *right, size_t r,
+    size_t len)
+{
+    for (size_t c = 0; c < COUNTS; c++) {
+        size_t ones = 0, checked = 0;
+        for (size_t i = 0; i < len; i++) {
+            const unsigned both = 2u * bit(left, l + i) + bit(right, r + i);
+            ones += counts[c].table >> both & 1;
+        }
+        check(counts[c].plain(left, BYTES, l, right, BYTES, r, len) == ones, "a combined count");
+        check(counts[c].checked(left, BYTES, l, right, BYTES, r, len, &checked) && checked == ones,
+            "a combined count, checked");
+        check(!counts[c].checked(left, BYTES, BITS + 1 - len, right, BYTES, r, len, &checked)
+                && !counts[c].checked(left, BYTES, l, right, 0, r, BITS, &checked)
+                && checked == ones, "a bad window of a combined count");
+    }
+}
+
+/* Bits that go back to the places of a mask, into a window whose other bits stay. */
+static void deposits(const uint8_t *bytes, size_t v, const uint8_t *mask, size_t m, size_t len,
+    size_t ones)
+{
+    uint8_t wanted[BYTES], got[2][BYTES];
+    const size_t o = random_below(BITS - len + 1);
+    memset(wanted, 0x3C, BYTES);
+    memset(got, 0x3C, sizeof got);
+    for (size_t i = 0, n = 0; i < len; i++) {
+        const bool here = bit(mask, m + i);
+        put(wanted, o + i, here && bit(bytes, v + n));
+        n += here;
+    }
+    vb_deposit_bits(got[0], BYTES, o, bytes, BYTES, v, mask, BYTES, m, len);
+    check(vb_try_deposit_bits(got[1], BYTES, o, bytes, BYTES, v, mask, BYTES, m, len),
+        "the checked deposit");
+    check(memcmp(got[0], wanted, BYTES) == 0 && memcmp(got[1], wanted, BYTES) == 0,
+        "bits that go back");
+    check(ones == 0 || !vb_try_deposit_bits(got[1], BYTES, o, bytes, (v + ones - 1) / 8, v, mask,
+            BYTES, m, len), "a deposit of too few bits");
+    check(memcmp(got[1], wanted, BYTES) == 0, "what stands after a refusal");
 }
 
 /* Of bits and of values the ones that a mask keeps, with what stood in memory behind them. */
@@ -108,6 +163,8 @@ static void filters(const uint8_t *bytes, size_t v, const uint8_t *mask, size_t 
         }
     }
     check(memcmp(got[0], kept, BYTES) == 0 && memcmp(got[1], kept, BYTES) == 0, "bits that are kept");
+    deposits(bytes, v, mask, m, len, ones);
+    combined_counts(bytes, v, mask, m, len);
     for (size_t k = 0; k < 2 && ones < BITS; k++) {
         check(u8[k][ones] == 0xA5 && u16[k][ones] == 0xA5A5 && u32[k][ones] == 0xA5A5A5A5u
                 && u64[k][ones] == 0xA5A5A5A5A5A5A5A5u
@@ -126,6 +183,9 @@ static void bad_filters(const uint8_t *bytes, size_t offset, size_t len)
     static vb_u128 u128[9];
     uint8_t got[1] = {0x5A};
     size_t number = 77;
+    check(!vb_try_deposit_bits(got, 1, 0, bytes, BYTES, 0, bytes, BYTES, offset, len)
+            && !vb_try_deposit_bits(got, 1, offset, bytes, BYTES, 0, bytes, BYTES, 0, len),
+        "a bad window of a deposit");
     check(!vb_try_filter_bits(got, 1, bytes, BYTES, offset, bytes, BYTES, 0, len, &number),
         "a bad window of values");
     check(!vb_try_filter_bits(got, 1, bytes, BYTES, 0, bytes, BYTES, offset, len, &number),

@@ -160,6 +160,25 @@ static void filters()
     refused([&] { (void)mask.keep_into(values, std::vector<std::uint16_t>(4)); }, "no room");
 }
 
+static void pairs()
+{
+    const buffer some = {0xB6, 0x01}, others = {0x1E, 0x00};
+    const bits left(some, 1, 8), right(others, 0, 8);
+    check(left.and_count(right) == 3 && left.or_count(right) == 7, "and, or");
+    check(left.xor_count(right) == 4 && left.and_not_count(right) == 3, "xor, and not");
+    buffer out = {0xFF, 0xFF};
+    bits_mut window(out, 3, 8);
+    window.deposit_of(bits(others, 0, left.count_ones()), left);
+    for (std::size_t i = 0, n = 0; i < 8; i++) {
+        const bool here = left[i] && right[n];
+        n += left[i];
+        check(bits(window)[i] == here, "a bit that goes back");
+    }
+    check((out[0] & 7) == 7 && out[1] >> 3 == 31, "the bits beside them");
+    refused([&] { (void)left.and_count(bits(others, 0, 7)); }, "two lengths");
+    refused([&] { window.deposit_of(right, left); }, "too many bits");
+}
+
 static void values_at_indices()
 {
     using vortex_bits::take_values;
@@ -306,6 +325,7 @@ int main()
     types(all);
     takes();
     filters();
+    pairs();
     values_at_indices();
     refusals();
     return failures == 0 ? 0 : 1;

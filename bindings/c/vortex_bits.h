@@ -80,6 +80,27 @@ VB_CHECKED bool vb_try_count_ones(const uint8_t *bytes, size_t size, size_t offs
         size_t *ones);
 
 /*
+ * How many bits of two windows are true where both are (and), where one is (or), where one alone is
+ * (xor), and of the left one alone (and_not). Each window is read once, and nothing is written.
+ */
+size_t vb_and_count(const uint8_t *left, size_t left_size, size_t left_offset,
+        const uint8_t *right, size_t right_size, size_t right_offset, size_t len);
+VB_CHECKED bool vb_try_and_count(const uint8_t *left, size_t left_size, size_t left_offset,
+        const uint8_t *right, size_t right_size, size_t right_offset, size_t len, size_t *ones);
+size_t vb_or_count(const uint8_t *left, size_t left_size, size_t left_offset,
+        const uint8_t *right, size_t right_size, size_t right_offset, size_t len);
+VB_CHECKED bool vb_try_or_count(const uint8_t *left, size_t left_size, size_t left_offset,
+        const uint8_t *right, size_t right_size, size_t right_offset, size_t len, size_t *ones);
+size_t vb_xor_count(const uint8_t *left, size_t left_size, size_t left_offset,
+        const uint8_t *right, size_t right_size, size_t right_offset, size_t len);
+VB_CHECKED bool vb_try_xor_count(const uint8_t *left, size_t left_size, size_t left_offset,
+        const uint8_t *right, size_t right_size, size_t right_offset, size_t len, size_t *ones);
+size_t vb_and_not_count(const uint8_t *left, size_t left_size, size_t left_offset,
+        const uint8_t *right, size_t right_size, size_t right_offset, size_t len);
+VB_CHECKED bool vb_try_and_not_count(const uint8_t *left, size_t left_size, size_t left_offset,
+        const uint8_t *right, size_t right_size, size_t right_offset, size_t len, size_t *ones);
+
+/*
  * The place within the window of its n-th true bit, counted from 0; none where there are at most
  * n. It counts from the front, 64 bytes at a time, up to the bytes that have it.
  */
@@ -272,6 +293,19 @@ size_t vb_filter_bits(uint8_t *out, size_t out_size, const uint8_t *values, size
 VB_CHECKED bool vb_try_filter_bits(uint8_t *out, size_t out_size, const uint8_t *values,
         size_t values_size, size_t values_offset, const uint8_t *mask, size_t mask_size,
         size_t mask_offset, size_t len, size_t *written);
+
+/*
+ * Undoes vb_filter_bits: writes `len` bits to `out` from bit `out_offset` on, which are those of
+ * `values` from bit `values_offset` on, in order, where the bit of `mask` from bit `mask_offset` on
+ * is true, and false elsewhere. `values` has a bit for each true one of the mask, which the checked
+ * form counts. Every other bit of `out` stays.
+ */
+void vb_deposit_bits(uint8_t *out, size_t out_size, size_t out_offset, const uint8_t *values,
+        size_t values_size, size_t values_offset, const uint8_t *mask, size_t mask_size,
+        size_t mask_offset, size_t len);
+VB_CHECKED bool vb_try_deposit_bits(uint8_t *out, size_t out_size, size_t out_offset,
+        const uint8_t *values, size_t values_size, size_t values_offset, const uint8_t *mask,
+        size_t mask_size, size_t mask_offset, size_t len);
 
 /*
  * Ranks over a table that the caller keeps: it has, for each block of 512 bits of the window, how

@@ -1,6 +1,6 @@
 /*
- * The windows of vortex_bits.h as C++ classes, of C++17 and later. Values at indices are in
- * vortex_bits_values.hpp, which this file includes.
+ * The windows of vortex_bits.h as C++ classes, of C++17 and later. Ranks are in
+ * vortex_bits_ranks.hpp, and values at indices in vortex_bits_values.hpp, which this file includes.
  *
  *     c++ -std=c++17 -O2 app.cpp -I DIST/include DIST/lib/libvortex_bits.a
  *
@@ -168,6 +168,12 @@ public:
     }
 
     std::size_t count_ones() const { return vb_count_ones(bytes_, size_, offset_, len_); }
+
+    /* How many bits are true where both windows are, which have one length, as in all calls here. */
+    std::size_t and_count(bits right) const { return count_by(vb_and_count, right); }
+    std::size_t or_count(bits right) const { return count_by(vb_or_count, right); }
+    std::size_t xor_count(bits right) const { return count_by(vb_xor_count, right); }
+    std::size_t and_not_count(bits right) const { return count_by(vb_and_not_count, right); }
     std::size_t count_zeros() const { return len_ - count_ones(); }
 
     /* The place of the n-th true bit, counted from 0, if there is one. */
@@ -289,6 +295,12 @@ private:
     template <class Values, class Indices, class Out>
     friend std::optional<std::size_t> take_values(const Values &, const Indices &,
         const std::optional<bits> &, Out &&);
+
+    template <class Call> std::size_t count_by(Call call, bits right) const
+    {
+        detail::expect(right.len_ == len_, "windows are of two lengths");
+        return call(bytes_, size_, offset_, right.bytes_, right.size_, right.offset_, len_);
+    }
 
     template <class Items, class Find, class End, class Each>
     void walk(Items &items, Find find, End end, Each each) const
@@ -421,6 +433,18 @@ public:
     void xor_of(bits left, bits right) { by_two(vb_xor_into, left, right); }
     void and_not_of(bits left, bits right) { by_two(vb_and_not_into, left, right); }
 
+    /*
+     * Where `mask`, which is as long, is true, the bits of `values` in order, of which there is one
+     * for each such place; false elsewhere. It undoes filter_into.
+     */
+    void deposit_of(bits values, bits mask)
+    {
+        detail::expect(mask.len_ == len_, "windows are of two lengths");
+        detail::expect(mask.count_ones() == values.len_, "not a bit for each that the mask keeps");
+        vb_deposit_bits(bytes_, size_, offset_, values.bytes_, values.size_, values.offset_,
+            mask.bytes_, mask.size_, mask.offset_, len_);
+    }
+
 private:
     template <class Call> void by_another(Call call, bits right)
     {
@@ -449,51 +473,9 @@ template <class Bytes, class Out> void pack_truthy(const Bytes &truthy, Out &&ou
     vb_pack_truthy(out.data(), out.size(), truthy.data(), truthy.size());
 }
 
-/* A window with the table of its true bits before each block of 512, which it keeps. */
-class ranks {
-public:
-    /* It counts the bits once. */
-    explicit ranks(bits window) : bits_(window), table_((window.len_ + 511) / 512)
-    {
-        vb_block_counts(bits_.bytes_, bits_.size_, bits_.offset_, bits_.len_, table_.data(),
-            table_.size());
-    }
-
-    std::size_t size() const { return bits_.len_; }
-
-    /* How many bits are true. */
-    std::size_t count() const { return rank(bits_.len_); }
-
-    /* How many of the first `place` bits are true, in constant time. */
-    std::size_t rank(std::size_t place) const
-    {
-        detail::expect(place <= bits_.len_, "a place is behind the window");
-        return vb_rank(bits_.bytes_, bits_.size_, bits_.offset_, bits_.len_, table_.data(),
-            table_.size(), place);
-    }
-
-    /* The place of the n-th true bit, counted from 0, if there is one. */
-    std::optional<std::size_t> select(std::size_t n) const { return by(vb_ranked_select, n); }
-
-    /* The place of the n-th false bit. */
-    std::optional<std::size_t> select_unset(std::size_t n) const
-    {
-        return by(vb_ranked_select_unset, n);
-    }
-
-private:
-    template <class Call> std::optional<std::size_t> by(Call call, std::size_t n) const
-    {
-        return detail::place(call(bits_.bytes_, bits_.size_, bits_.offset_, bits_.len_,
-            table_.data(), table_.size(), n));
-    }
-
-    bits bits_;
-    std::vector<std::size_t> table_;
-};
-
 } // namespace vortex_bits
 
+#include "vortex_bits_ranks.hpp"
 #include "vortex_bits_values.hpp"
 
 #endif

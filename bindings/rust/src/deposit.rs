@@ -1,7 +1,7 @@
 //! Bits that go back to the places that a mask kept.
 
 use crate::bits_mut::alike;
-use crate::{Bits, BitsMut, portable};
+use crate::{Bits, BitsMut, kernels};
 
 #[cfg(feature = "alloc")]
 use crate::Bitmap;
@@ -26,7 +26,7 @@ impl Bits<'_> {
     pub fn deposit_into(self, mask: Bits<'_>, mut out: BitsMut<'_>) {
         alike(out.len(), mask.len());
         alike(mask.count_ones(), self.len());
-        portable::deposit(&mut out, self, mask);
+        kernels::deposit(&mut out, self, mask);
     }
 
     /// The bits at the places that are true in `mask`, as

@@ -18,7 +18,7 @@ use crate::{Bits, BitsMut, blocks, portable};
 #[cfg(vortex_bits_native)]
 use crate::level::kernels;
 #[cfg(vortex_bits_native)]
-use crate::native::{Combine, CombineInto, Kernels};
+use crate::native::{Combine, CombineInto, CountCombined, Kernels};
 
 /// A run of true bits, laid out as C's: where it begins, and the place behind it.
 #[repr(C)]
@@ -45,6 +45,15 @@ impl Operator {
             Operator::Or => kernels.or_bits,
             Operator::Xor => kernels.xor_bits,
             Operator::AndNot => kernels.and_not_bits,
+        }
+    }
+
+    fn native_count(self, kernels: &Kernels) -> CountCombined {
+        match self {
+            Operator::And => kernels.and_count,
+            Operator::Or => kernels.or_count,
+            Operator::Xor => kernels.xor_count,
+            Operator::AndNot => kernels.and_not_count,
         }
     }
 
@@ -160,38 +169,27 @@ pub fn combine_into(out: &mut BitsMut<'_>, left: Bits<'_>, right: Bits<'_>, oper
     portable::combine_into(out, left, right, operator);
 }
 
-/// How many bits are combined before they are counted: few enough that the bytes of a block stay
-/// near the processor in between.
-#[cfg(vortex_bits_native)]
-const COUNTED: usize = 32_768;
-
-/// How many bits the operator makes true, of windows of one length. The C functions combine a block
-/// at a time, and count it; up to an eighth of a block they take longer than words.
+/// How many bits the operator makes true, of windows of one length.
 #[inline]
 pub fn combined_count(left: Bits<'_>, right: Bits<'_>, operator: Operator) -> usize {
     debug_assert_eq!(left.len(), right.len());
     #[cfg(vortex_bits_native)]
-    if left.len() > COUNTED / 8 && kernels().is_some() {
-        return count_by_blocks(left, right, operator);
+    if let Some(kernels) = kernels().filter(|_| !is_word(left)) {
+        let function = operator.native_count(kernels);
+        return native!(@call function, [] start left, window right);
     }
     portable::combined_count(left, right, operator)
 }
 
-#[cfg(vortex_bits_native)]
-fn count_by_blocks(left: Bits<'_>, right: Bits<'_>, operator: Operator) -> usize {
-    let mut made = [0; COUNTED / 8];
-    let block = |start: usize| {
-        let len = (left.len() - start).min(COUNTED);
-        let mut out = BitsMut::new(&mut made, 0, len);
-        combine_into(
-            &mut out,
-            left.part(start, len),
-            right.part(start, len),
-            operator,
-        );
-        count_ones(out.into_bits())
-    };
-    (0..left.len()).step_by(COUNTED).map(block).sum()
+/// Of as many bits as the mask has true ones, and an `out` as long as the mask.
+#[inline]
+pub fn deposit(out: &mut BitsMut<'_>, bits: Bits<'_>, mask: Bits<'_>) {
+    debug_assert_eq!(out.len(), mask.len());
+    debug_assert_eq!(bits.len(), portable::count_ones(mask));
+    if !is_word(mask) {
+        native!(deposit_bits: start_mut out, start bits, window mask);
+    }
+    portable::deposit(out, bits, mask);
 }
 
 /// Writes how many bits before each block are true; the table has an entry for each. It answers

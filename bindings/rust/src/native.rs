@@ -6,7 +6,8 @@
 //! null; they may be read, and written where it is `*mut`; nothing else writes them during the
 //! call. Windows end within their bytes, and at a `usize`; those of takes, packs and filters are the
 //! first bits of `out`, one for each item, or for each that is kept. There is room for a value at
-//! each index, and a bit of validity for each unless all are valid. A table has as many entries as
+//! each index, and a bit of validity for each unless all are valid; a deposit has a bit for each
+//! true one of its mask. A table has as many entries as
 //! the window has blocks of 512 bits, whatever they are. The processor has the level.
 //!
 //! A function changes only the windows and the items that it is said to write.
@@ -30,6 +31,10 @@ impl From<Place> for Option<usize> {
 
 /// An operator on one window and another of the same length.
 pub type Combine = unsafe extern "C" fn(*mut u8, usize, usize, *const u8, usize, usize, usize);
+
+/// How many bits an operator makes true of two windows of one length.
+pub type CountCombined =
+    unsafe extern "C" fn(*const u8, usize, usize, *const u8, usize, usize, usize) -> usize;
 
 /// An operator on two windows, into a third of the same length.
 pub type CombineInto = unsafe extern "C" fn(
@@ -85,6 +90,14 @@ macro_rules! kernels {
 
 kernels! {
     count_ones(bytes: *const u8, size: usize, offset: usize, len: usize) -> usize;
+    and_count(left: *const u8, left_size: usize, left_offset: usize, right: *const u8,
+        right_size: usize, right_offset: usize, len: usize) -> usize;
+    or_count(left: *const u8, left_size: usize, left_offset: usize, right: *const u8,
+        right_size: usize, right_offset: usize, len: usize) -> usize;
+    xor_count(left: *const u8, left_size: usize, left_offset: usize, right: *const u8,
+        right_size: usize, right_offset: usize, len: usize) -> usize;
+    and_not_count(left: *const u8, left_size: usize, left_offset: usize, right: *const u8,
+        right_size: usize, right_offset: usize, len: usize) -> usize;
     bit_select(bytes: *const u8, size: usize, offset: usize, len: usize, n: usize) -> Place;
     bit_select_unset(bytes: *const u8, size: usize, offset: usize, len: usize, n: usize) -> Place;
     last_set_index(bytes: *const u8, size: usize, offset: usize, len: usize) -> Place;
@@ -130,6 +143,9 @@ kernels! {
     filter_bits(out: *mut u8, out_size: usize, values: *const u8, values_size: usize,
         values_offset: usize, mask: *const u8, mask_size: usize, mask_offset: usize,
         len: usize) -> usize;
+    deposit_bits(out: *mut u8, out_size: usize, out_offset: usize, values: *const u8,
+        values_size: usize, values_offset: usize, mask: *const u8, mask_size: usize,
+        mask_offset: usize, len: usize);
     filter_u8(out: *mut u8, room: usize, values: *const u8, count: usize, mask: *const u8,
         mask_size: usize, mask_offset: usize) -> usize;
     filter_u16(out: *mut u16, room: usize, values: *const u16, count: usize, mask: *const u8,

@@ -1,4 +1,5 @@
 pub mod Combined
+pub mod Deposited
 pub mod Filled
 pub mod Filtered
 pub mod Packed
@@ -15,3 +16,4 @@ pub use Rattle.vb_pack.specs.WordBits
 pub use Rattle.vb_bits.specs.Fills
 pub use Rattle.vb_rank.specs.Tables
 pub use Rattle.vb_take.specs.Takes
+pub use Rattle.vb_filter.specs.Spread

@@ -15,6 +15,7 @@
 pub mod bit;
 pub mod combine;
 pub mod count;
+pub mod deposit;
 pub mod equal;
 pub mod filter;
 pub mod pack;

@@ -1,0 +1,60 @@
+/*
+ * Ranks over a window, for vortex_bits.hpp, which includes this file.
+ *
+ *     vortex_bits::ranks rows(vortex_bits::bits(valid, 3, 10));
+ *     rows.rank(5);                                     // true bits among the first five
+ *     rows.select(0);                                   // the first true bit's place
+ */
+#ifndef VORTEX_BITS_RANKS_HPP
+#define VORTEX_BITS_RANKS_HPP
+
+#include "vortex_bits.hpp"
+
+namespace vortex_bits {
+
+/* A window with the table of its true bits before each block of 512, which it keeps. */
+class ranks {
+public:
+    /* It counts the bits once. */
+    explicit ranks(bits window) : bits_(window), table_((window.len_ + 511) / 512)
+    {
+        vb_block_counts(bits_.bytes_, bits_.size_, bits_.offset_, bits_.len_, table_.data(),
+            table_.size());
+    }
+
+    std::size_t size() const { return bits_.len_; }
+
+    /* How many bits are true. */
+    std::size_t count() const { return rank(bits_.len_); }
+
+    /* How many of the first `place` bits are true, in constant time. */
+    std::size_t rank(std::size_t place) const
+    {
+        detail::expect(place <= bits_.len_, "a place is behind the window");
+        return vb_rank(bits_.bytes_, bits_.size_, bits_.offset_, bits_.len_, table_.data(),
+            table_.size(), place);
+    }
+
+    /* The place of the n-th true bit, counted from 0, if there is one. */
+    std::optional<std::size_t> select(std::size_t n) const { return by(vb_ranked_select, n); }
+
+    /* The place of the n-th false bit. */
+    std::optional<std::size_t> select_unset(std::size_t n) const
+    {
+        return by(vb_ranked_select_unset, n);
+    }
+
+private:
+    template <class Call> std::optional<std::size_t> by(Call call, std::size_t n) const
+    {
+        return detail::place(call(bits_.bytes_, bits_.size_, bits_.offset_, bits_.len_,
+            table_.data(), table_.size(), n));
+    }
+
+    bits bits_;
+    std::vector<std::size_t> table_;
+};
+
+} // namespace vortex_bits
+
+#endif

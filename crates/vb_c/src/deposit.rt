@@ -1,0 +1,57 @@
+//! Bits put back to the places that a mask keeps.
+ghost use Rattle.std.specs.Prelude.{◌≡◌};
+ghost use Rattle.vb_bits.specs.Bits.{bits, count};
+ghost use Rattle.vb_bits.specs.InBytes.{InBytes};
+ghost use Rattle.vb_c.specs.Deposited.{Deposits, DepositFits};
+ghost use Rattle.vb_c_core.specs.Fits.{DoneIf};
+
+use vb_bits::window_fits;
+use vb_filter::deposit_into;
+use vb_kernel::count_ones;
+use vb_view::BitBufferView;
+
+/// Writes `len` bits to `out` from bit `o` on: where that of `mask` from bit `m` on is true, the
+/// bits of `values` from bit `v` on, in order, of which there have to be as many; false elsewhere.
+/// Every other bit of `out` stays. It undoes [`vb_filter_bits`](crate::filter::vb_filter_bits).
+#[unsafe(no_mangle)]
+pub extern "C" fn vb_deposit_bits(
+    out: &mut [u8],
+    o: usize,
+    values: &[u8],
+    v: usize,
+    mask: &[u8],
+    m: usize,
+    len: usize,
+)
+    requires { DepositFits out.old o values.now v mask.now m len }
+    ensures { Deposits values.now v (bits mask.now m len) out.old out.new o }
+{
+    let mask = BitBufferView::new_with_offset(mask, len, m);
+    let values = BitBufferView::new_with_offset(values, mask.true_count(), v);
+    deposit_into(out, o, values, mask);
+}
+
+/// Whether all windows lie in their bytes, that of `values` with a bit for each true one of `mask`;
+/// [`vb_deposit_bits`] is then done, else nothing.
+#[unsafe(no_mangle)]
+pub extern "C" fn vb_try_deposit_bits(
+    out: &mut [u8],
+    o: usize,
+    values: &[u8],
+    v: usize,
+    mask: &[u8],
+    m: usize,
+    len: usize,
+) -> bool
+    ensures { DoneIf (DepositFits out.old o values.now v mask.now m len)
+        (Deposits values.now v (bits mask.now m len) out.old out.new o) (out.new ≡ out.old) result }
+{
+    if !window_fits(out, o, len)
+        || !window_fits(mask, m, len)
+        || !window_fits(values, v, count_ones(mask, m, len))
+    {
+        return false;
+    }
+    vb_deposit_bits(out, o, values, v, mask, m, len);
+    true
+}
