@@ -9,4 +9,4 @@ mod PackedOnes
 mod PackedSteps
 mod RunsLemmas
 mod SpreadDigits
-mod SpreadLemmas
+pub mod SpreadLemmas

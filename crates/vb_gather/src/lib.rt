@@ -1,12 +1,15 @@
 //! Sets and buffers in memory of their own, of what a mask keeps or indices name.
 //!
 //! [`Filter::filtered`] keeps the bits of a set, or the items of a buffer, whose bit in a mask is
-//! true. [`take_bits`] and [`Take::taken`] take bits and items at indices. The kernels under them,
-//! over slices, are those of `vb_filter` and `vb_take`.
+//! true; [`Deposit::deposited`] puts bits back to their places, and `intersect_by_rank` is the same
+//! seen from the mask. [`take_bits`] and [`Take::taken`] take bits and items at indices. The
+//! kernels under them, over slices, are those of `vb_filter` and `vb_take`.
 #![tactic(auto)]
 
+mod deposit;
 mod filter;
 mod take;
 
+pub use deposit::Deposit;
 pub use filter::Filter;
 pub use take::{Take, take_bits};

@@ -25,6 +25,8 @@ pub use Rattle.vb_core.specs.ExactCounts
 pub use Rattle.vb_core.specs.Indices
 pub use Rattle.vb_core.specs.Lengths
 pub use Rattle.vb_core.specs.LittleEndian
+pub use Rattle.vb_filter.specs.Spread
+pub use Rattle.vb_gather.specs.Deposited
 pub use Rattle.vb_gather.specs.Filtered
 pub use Rattle.vb_gather.specs.TakenItems
 pub use Rattle.vb_kernel.specs.Hits

@@ -19,8 +19,8 @@ pub use vb_core::{
     Alignment, BitIndex, BufferError, Element, ExtendError, TrustedLen, TrustedLenAdapter,
     trusted_len,
 };
-pub use vb_filter::{filter_into, filter_values_into};
-pub use vb_gather::{Filter, Take, take_bits};
+pub use vb_filter::{deposit_into, filter_into, filter_values_into};
+pub use vb_gather::{Deposit, Filter, Take, take_bits};
 pub use vb_kernel::{
     BitOp, Glance, Plain, Tally, and_count, andnot_count, bit_select, bit_select_by,
     bit_select_unset, bit_select_unset_by, copy_bits, count_ones, count_ones_by, equal_bits,

@@ -1,19 +1,13 @@
-use Rattle.std.proofs.Common.{rules, false, ◌≡◌, ◌+◌, ◌++◌, ℕ, List, length, replicate, take, sym}
+use Rattle.std.proofs.Common.{rules, false, ◌≡◌, ◌+◌, ℕ, List, length, replicate, sym}
 use Rattle.std.proofs.Common.{ap, zero, zero-add, length-append, ◌∙◌, arith}
 use Rattle.std.specs.Int.{div_ceil}
-use Rattle.std.specs.List.{refill}
-use Rattle.std.proofs.lemmas.List.{append-nil, drop_all, length-replicate, take_all}
+use Rattle.std.proofs.lemmas.List.{length-replicate}
 use Rattle.vb_bits.specs.Bits.{bits}
 use Rattle.vb_bits.specs.Kept.{kept_by}
 use Rattle.vb_bits.proofs.KeptLemmas.{length-kept_by}
 use Rattle.vb_view.specs.View.{bits_of}
+use Rattle.vb_gather.proofs.WrittenOver.{refilled}
 use Rattle.vb_gather.proofs.filter.BitBufferFilter.filtered.Goals as goal
-
--- all items are written over
-refilled : (xs ws : List ℕ) → length ws ≡ length xs → refill (length xs) xs ws ≡ ws
-refilled xs ws same =
-    ap (λ l. take (length xs) (ws ++ l)) (drop_all (length ws) xs (omega arith))
-    ∙ ap (take (length xs)) (append-nil ws) ∙ take_all (length xs) ws (omega arith)
 
 pub returns : goal.returns
 returns g c =
