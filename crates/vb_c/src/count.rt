@@ -37,8 +37,8 @@ pub extern "C" fn vb_try_count_ones(
     true
 }
 
-/// For how many places below `len` the bit of `left` from bit `l` on and that of `right` from bit `r`
-/// on are true. Both windows are read once, and nothing is written.
+/// For how many places below `len` the bit of `left` from bit `l` on and that of `right` from bit
+/// `r` on are true. Both windows are read once, and nothing is written.
 #[unsafe(no_mangle)]
 pub extern "C" fn vb_and_count(left: &[u8], l: usize, right: &[u8], r: usize, len: usize) -> usize
     requires { BothInBytes left.now l right.now r len }
@@ -68,8 +68,8 @@ pub extern "C" fn vb_try_and_count(
     true
 }
 
-/// For how many places below `len` the bit of `left` from bit `l` on or that of `right` from bit `r`
-/// on is true. Both windows are read once, and nothing is written.
+/// For how many places below `len` the bit of `left` from bit `l` on or that of `right` from bit
+/// `r` on is true. Both windows are read once, and nothing is written.
 #[unsafe(no_mangle)]
 pub extern "C" fn vb_or_count(left: &[u8], l: usize, right: &[u8], r: usize, len: usize) -> usize
     requires { BothInBytes left.now l right.now r len }
@@ -99,8 +99,8 @@ pub extern "C" fn vb_try_or_count(
     true
 }
 
-/// For how many places below `len` the bit of `left` from bit `l` on is another than that of `right`
-/// from bit `r` on. Both windows are read once, and nothing is written.
+/// For how many places below `len` the bit of `left` from bit `l` on is another than that of
+/// `right` from bit `r` on. Both windows are read once, and nothing is written.
 #[unsafe(no_mangle)]
 pub extern "C" fn vb_xor_count(left: &[u8], l: usize, right: &[u8], r: usize, len: usize) -> usize
     requires { BothInBytes left.now l right.now r len }
@@ -130,8 +130,8 @@ pub extern "C" fn vb_try_xor_count(
     true
 }
 
-/// For how many places below `len` the bit of `left` from bit `l` on is true and that of `right` from
-/// bit `r` on isn't. Both windows are read once, and nothing is written.
+/// For how many places below `len` the bit of `left` from bit `l` on is true and that of `right`
+/// from bit `r` on isn't. Both windows are read once, and nothing is written.
 #[unsafe(no_mangle)]
 pub extern "C" fn vb_and_not_count(
     left: &[u8],
@@ -146,7 +146,8 @@ pub extern "C" fn vb_and_not_count(
     vb_count::andnot_count(left, l, right, r, len)
 }
 
-/// Whether both windows lie in their bytes; `ones` is then [`vb_and_not_count`], and else as it was.
+/// Whether both windows lie in their bytes; `ones` is then [`vb_and_not_count`], and else as it
+/// was.
 #[unsafe(no_mangle)]
 pub extern "C" fn vb_try_and_not_count(
     left: &[u8],
