@@ -37,9 +37,10 @@ fn map_is_plain(rt: &impl Abort, before: &[u8; 32], offset: usize, len: usize) {
 }
 
 /// How a window of other bytes is put into one: by an operation, or copied where there is none.
-type Combined = Option<BitOp>;
+pub(crate) type Combined = Option<BitOp>;
 
-const COMBINED: [Combined; 5] = [
+/// Copied, and by each operation.
+pub(crate) const COMBINED: [Combined; 5] = [
     None,
     Some(BitOp::And),
     Some(BitOp::Or),
@@ -47,7 +48,8 @@ const COMBINED: [Combined; 5] = [
     Some(BitOp::AndNot),
 ];
 
-fn combined_bit(how: Combined, left: bool, right: bool) -> bool {
+/// One bit.
+pub(crate) fn combined_bit(how: Combined, left: bool, right: bool) -> bool {
     match how {
         None => right,
         Some(op) => plain::combined_bit(op, left, right),

@@ -12,6 +12,8 @@ mod counts;
 #[cfg(test)]
 mod edits;
 #[cfg(test)]
+mod ends;
+#[cfg(test)]
 mod plain;
 #[cfg(test)]
 mod sample;
