@@ -33,7 +33,7 @@ pub(crate) fn merge_bits<M: Merge>(dst: &mut [u8], d: usize, src: &[u8], s: usiz
 }
 
 /// [`merge_bits`] from wherever they begin: those of a partial first byte of `dst` by a mask, those
-/// behind it by words, and what is left by bytes.
+/// behind it by words, and what is left by one word more.
 fn merge_run<M: Merge>(dst: &mut [u8], d: usize, src: &[u8], s: usize, len: usize)
     requires into { InBytes dst.old d len }
     requires from { InBytes src.now s len }
