@@ -1,8 +1,6 @@
 pub mod Hits
 pub mod Lanes
 pub mod Looks
-pub mod Merged
 pub use Rattle.vb_bits.specs.Bits
 pub use Rattle.vb_bits.specs.Digits
 pub use Rattle.vb_bits.specs.InBytes
-pub use Rattle.vb_bits.specs.Operators

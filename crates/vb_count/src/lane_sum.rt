@@ -8,7 +8,7 @@ use vb_bits::word_at;
 /// A sum in four parts. They are kept apart, as the lanes of a vector are, so that the counts of a
 /// chunk's words don't wait for one another.
 #[derive(Drop)]
-pub(crate) struct LaneSum {
+pub struct LaneSum {
     a: usize,
     b: usize,
     c: usize,
@@ -25,7 +25,7 @@ impl Model for LaneSum {
 
 impl LaneSum {
     /// A sum that has come to so much.
-    pub(crate) fn of(ones: usize) -> LaneSum
+    pub fn of(ones: usize) -> LaneSum
         ensures { result ≡ ones }
     {
         LaneSum {
@@ -37,7 +37,7 @@ impl LaneSum {
     }
 
     /// A sum of four parts.
-    pub(crate) fn of_four(a: usize, b: usize, c: usize, d: usize) -> LaneSum
+    pub fn of_four(a: usize, b: usize, c: usize, d: usize) -> LaneSum
         requires { a + b + c + d < 2 ^ 64 }
         ensures { result ≡ a + b + c + d }
     {
@@ -46,7 +46,7 @@ impl LaneSum {
 
     /// Adds the true bits of a chunk: words 0 and 4 to the first part, 1 and 5 to the second, and
     /// so on, which is the order that a vector of four words has.
-    pub(crate) fn add(self, chunk: &[u8; 64]) -> LaneSum
+    pub fn add(self, chunk: &[u8; 64]) -> LaneSum
         requires { self + 512 < 2 ^ 64 }
         ensures { result ≡ self + count (bits chunk.now 0 512) }
     {
@@ -59,7 +59,7 @@ impl LaneSum {
     }
 
     /// Both sums.
-    pub(crate) fn plus(self, other: LaneSum) -> LaneSum
+    pub fn plus(self, other: LaneSum) -> LaneSum
         requires { self + other < 2 ^ 64 }
         ensures { result ≡ self + other }
     {
@@ -72,7 +72,7 @@ impl LaneSum {
     }
 
     /// The whole sum.
-    pub(crate) fn total(self) -> usize
+    pub fn total(self) -> usize
         ensures { result ≡ self }
     {
         self.a + self.b + self.c + self.d

@@ -24,7 +24,7 @@ pub fn matching_word(word: u64, value: bool) -> u64
 }
 
 /// How many digits of the word are 1.
-pub(crate) fn digit_ones(word: u64) -> usize
+pub fn digit_ones(word: u64) -> usize
     ensures value { result ≡ count (digits word 0 64) }
     ensures few { result ≤ 64 }
 {

@@ -21,12 +21,13 @@ pub use vb_bits::{
     map_words, read_bits, read_u64_le, set_bit_to, set_bit_unchecked, unset_bit_unchecked,
     window_fits, zip_words,
 };
-pub use vb_count::{
-    Glance, Plain, Tally, and_count, andnot_count, count_ones, count_ones_by, most_looks, or_count,
-    xor_count,
-};
+pub use vb_count::{Glance, Plain, Tally, count_ones, count_ones_by, most_looks};
 pub use vb_pack::{
     collect_bool_word, collect_bool_word_scalar, collect_bool_words,
     collect_bool_words_multiversioned, pack_bool_word_lanes, pack_bool_word_swar,
     pack_bools_into_words, splice_word_at_bit,
+};
+pub use vb_pair::{
+    and_count, and_count_by, andnot_count, andnot_count_by, is_disjoint, is_subset, or_count,
+    or_count_by, xor_count, xor_count_by,
 };

@@ -1,15 +1,18 @@
 //! Counts of two windows that are combined.
 use crate::compared::{equal, equal_at, holds};
-use crate::plain;
+use crate::plain::{self, Counts};
 use crate::sample::mix;
 use std::process::Abort;
-use vb_kernel::{BitOp, and_count, andnot_count, or_count, window_fits, xor_count};
+use vb_kernel::{
+    Tally, and_count, and_count_by, andnot_count, andnot_count_by, count_ones_by, get_bit,
+    is_disjoint, is_subset, or_count, or_count_by, window_fits, xor_count, xor_count_by,
+};
 
 /// Where two windows begin, and how long both are.
 type Windows = (usize, usize, usize);
 
-/// The four counts are what a loop over the bits finds.
-fn counts_are_plain(rt: &impl Abort, left: &[u8], right: &[u8], (l, r, len): Windows) {
+/// The counts, with counted sources and without, are those that are wanted.
+fn counts_are(rt: &impl Abort, left: &[u8], right: &[u8], (l, r, len): Windows, wanted: Counts) {
     holds(rt, window_fits(left, l, len));
     holds(rt, window_fits(right, r, len));
     let counted = [
@@ -18,43 +21,114 @@ fn counts_are_plain(rt: &impl Abort, left: &[u8], right: &[u8], (l, r, len): Win
         xor_count(left, l, right, r, len),
         andnot_count(left, l, right, r, len),
     ];
-    let wanted = [
-        plain::combined_count(BitOp::And, left, l, right, r, len),
-        plain::combined_count(BitOp::Or, left, l, right, r, len),
-        plain::combined_count(BitOp::Xor, left, l, right, r, len),
-        plain::combined_count(BitOp::AndNot, left, l, right, r, len),
-    ];
     equal_at(rt, counted, wanted, (l, r, len));
+    let (one, other) = (&mut Tally::new(left), &mut Tally::new(right));
+    let by_looks = [
+        and_count_by(one, l, other, r, len),
+        or_count_by(one, l, other, r, len),
+        xor_count_by(one, l, other, r, len),
+        andnot_count_by(one, l, other, r, len),
+    ];
+    equal_at(rt, by_looks, wanted, (l, r, len));
+    equal_at(
+        rt,
+        is_disjoint(left, l, right, r, len),
+        wanted[0] == 0,
+        (l, r, len),
+    );
+    equal_at(
+        rt,
+        is_subset(left, l, right, r, len),
+        wanted[3] == 0,
+        (l, r, len),
+    );
+}
+
+/// Windows from these bits on, of each length up to `most`.
+fn counts_are_plain(rt: &impl Abort, left: &[u8], l: usize, right: &[u8], r: usize, most: usize) {
+    holds(rt, window_fits(left, l, most));
+    holds(rt, window_fits(right, r, most));
+    let mut wanted = [0; 4];
+    for len in 0..most {
+        counts_are(rt, left, right, (l, r, len), wanted);
+        wanted = plain::counts_of_more(wanted, get_bit(left, l + len), get_bit(right, r + len));
+    }
 }
 
 #[test]
 fn counts_of_short_windows_are_plain(rt: HostRuntime) {
-    let left = &mut [0; 27];
+    let left = &mut [0; 28];
     mix(left);
     let right = &left.map(|byte| byte.rotate_left(3));
     for l in 0..=16 {
         for r in 0..=16 {
-            for len in 0..=200 {
-                counts_are_plain(&rt, left, right, (l, r, len));
-            }
+            counts_are_plain(&rt, left, l, right, r, 201);
         }
     }
 }
 
 /// Lengths about those at which another part counts.
-const LONG: [usize; 8] = [511, 512, 513, 519, 520, 767, 1031, 65_537];
+const LONG: [usize; 7] = [511, 512, 513, 519, 520, 767, 1031];
 
 #[test]
 fn counts_of_long_windows_are_plain(rt: HostRuntime) {
-    let left = &mut [0; 8200];
+    let left = &mut [0; 130];
     mix(left);
     let right = &left.map(|byte| byte.rotate_left(3));
-    for l in 0..=8 {
-        for r in 0..=8 {
+    for l in 0..8 {
+        for r in 0..8 {
             for len in LONG {
-                counts_are_plain(&rt, left, right, (l, r, len));
+                holds(&rt, window_fits(left, l, len));
+                holds(&rt, window_fits(right, r, len));
+                let wanted = plain::combined_counts(left, l, right, r, len);
+                counts_are(&rt, left, right, (l, r, len), wanted);
             }
         }
+    }
+}
+
+/// Windows of which all bits but the last one, or all, are true on one side alone.
+#[test]
+fn windows_are_told_by_their_last_bit(rt: HostRuntime) {
+    let (clear, full) = (&[0; 40], &[0xFF; 40]);
+    let mut last = [0; 40];
+    last[25] = 0b1000;
+    for len in [200, 203, 204, 205, 300] {
+        let seen = len > 203;
+        equal_at(&rt, is_disjoint(&last, 0, full, 7, len), !seen, len);
+        equal_at(&rt, is_subset(&last, 0, clear, 7, len), !seen, len);
+        equal_at(&rt, is_subset(&last, 0, full, 7, len), true, len);
+        equal_at(&rt, is_disjoint(&last, 0, clear, 7, len), true, len);
+    }
+}
+
+/// Where two windows begin, how long they are, and how often each is looked at.
+const LOOKS: [(usize, usize, usize, u64, u64); 6] = [
+    (0, 0, 513, 2, 2),
+    (0, 3, 513, 2, 3),
+    (3, 0, 600, 6, 10),
+    (3, 3, 600, 6, 6),
+    (5, 7, 3, 1, 2),
+    (1, 2, 0, 0, 0),
+];
+
+#[test]
+fn looks_at_two_windows_are_exact(rt: HostRuntime) {
+    let (left, right) = (&[0xFF; 76], &[0xFF; 76]);
+    for (l, r, len, at_left, at_right) in LOOKS {
+        holds(&rt, window_fits(left, l, len));
+        holds(&rt, window_fits(right, r, len));
+        let (one, other) = (&mut Tally::new(left), &mut Tally::new(right));
+        equal_at(&rt, and_count_by(one, l, other, r, len), len, (l, r, len));
+        equal_at(
+            &rt,
+            (one.looks(), other.looks()),
+            (at_left, at_right),
+            (l, r, len),
+        );
+        let alone = &mut Tally::new(left);
+        equal_at(&rt, count_ones_by(alone, l, len), len, (l, r, len));
+        equal_at(&rt, alone.looks(), at_left, (l, r, len));
     }
 }
 

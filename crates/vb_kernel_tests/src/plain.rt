@@ -15,25 +15,30 @@ pub(crate) fn combined_bit(op: BitOp, left: bool, right: bool) -> bool {
     }
 }
 
-/// How many bits of two windows an operator makes true.
-pub(crate) fn combined_count(
-    op: BitOp,
-    left: &[u8],
-    l: usize,
-    right: &[u8],
-    r: usize,
-    len: usize,
-) -> usize
+/// For how many bits of two windows each operator answers true: and, or, xor, and-not.
+pub(crate) type Counts = [usize; 4];
+
+/// The counts of windows that are longer by a bit each.
+pub(crate) fn counts_of_more(counts: Counts, left: bool, right: bool) -> Counts {
+    let [and, or, xor, andnot] = counts;
+    [
+        and.saturating_add(usize::from(combined_bit(BitOp::And, left, right))),
+        or.saturating_add(usize::from(combined_bit(BitOp::Or, left, right))),
+        xor.saturating_add(usize::from(combined_bit(BitOp::Xor, left, right))),
+        andnot.saturating_add(usize::from(combined_bit(BitOp::AndNot, left, right))),
+    ]
+}
+
+/// The counts of two windows.
+pub(crate) fn combined_counts(left: &[u8], l: usize, right: &[u8], r: usize, len: usize) -> Counts
     requires left { InBytes left.now l len }
     requires right { InBytes right.now r len }
 {
-    let mut ones = 0usize;
+    let mut counts = [0; 4];
     for i in 0..len {
-        if combined_bit(op, get_bit(left, l + i), get_bit(right, r + i)) {
-            ones = ones.saturating_add(1);
-        }
+        counts = counts_of_more(counts, get_bit(left, l + i), get_bit(right, r + i));
     }
-    ones
+    counts
 }
 
 /// How many bits of the window are true.

@@ -22,11 +22,12 @@ pub use vb_core::{
 pub use vb_filter::{deposit_into, filter_into, filter_values_into};
 pub use vb_gather::{Deposit, Filter, Take, take_bits};
 pub use vb_kernel::{
-    BitOp, Glance, Plain, Tally, and_count, andnot_count, bit_select, bit_select_by,
-    bit_select_unset, bit_select_unset_by, copy_bits, count_ones, count_ones_by, equal_bits,
-    fill_bits, get_bit, get_bit_unchecked, last_set_index, map_words, most_looks, or_count,
-    read_bits, read_u64_le, set_bit_to, set_bit_unchecked, unset_bit_unchecked, window_fits,
-    xor_count, zip_words,
+    BitOp, Glance, Plain, Tally, and_count, and_count_by, andnot_count, andnot_count_by,
+    bit_select, bit_select_by, bit_select_unset, bit_select_unset_by, copy_bits, count_ones,
+    count_ones_by, equal_bits, fill_bits, get_bit, get_bit_unchecked, is_disjoint, is_subset,
+    last_set_index, map_words, most_looks, or_count, or_count_by, read_bits, read_u64_le,
+    set_bit_to, set_bit_unchecked, unset_bit_unchecked, window_fits, xor_count, xor_count_by,
+    zip_words,
 };
 pub use vb_mem::{Buffer, BufferIterator, BufferMut, ByteBuffer, ByteBufferMut, Iter, Result};
 pub use vb_pack::{

@@ -1,0 +1,2 @@
+pub mod MergedLemmas
+pub mod BesideLemmas

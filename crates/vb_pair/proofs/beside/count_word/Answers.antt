@@ -1,0 +1,34 @@
+use Rattle.std.proofs.Common.{◌≡◌, ◌+◌, ◌*◌, ◌/◌, ◌%◌, ℕ, List, [], ◌∷◌, get_or, refl, ap}
+use Rattle.std.proofs.Common.{arith, ◌∙◌}
+use Rattle.vb_bits.specs.Bits.{bits}
+use Rattle.vb_bits.proofs.BytesLemmas.{bits_of_read}
+use Rattle.vb_pair.proofs.BesideLemmas.{merged_ones_of_units, unit_looks_one}
+use Rattle.vb_pair.proofs.beside.count_word.Goals as goal
+
+pub returns-clause-value : goal.returns-clause-value
+returns-clause-value g c =
+    let f = g.M.Merge.bit in
+    let a : List ℕ = (g.L.Glance.seen c.args.left.now).bytes in
+    let b : List ℕ = (g.R.Glance.seen c.args.right.now).bytes in
+    let xs : List ℕ = c.to_le_bytes-unit.result in let ys : List ℕ = c.to_le_bytes-other.result in
+    let l : ℕ = c.args.l in let j : ℕ = c.args.r / 8 in let s : ℕ = c.args.r % 8 in
+    let left = c.to_le_bytes-unit.ensures ∙ c.word.ensures.value in
+    let right = c.to_le_bytes-other.ensures ∙ c.word-2.ensures.value in
+    let behind = ap (λ x. get_or x (j + 8) 0) c.word-2.ensures.look.same in
+    c.unit_ones.ensures.value
+    ∙ merged_ones_of_units f a b xs ys c.byte_behind-behind.result l j 8 0 s 64 (8 * l) c.args.r
+    (omega arith) (bits_of_read a a xs l 8 (8 * l) refl left refl)
+    (bits_of_read b b ys j 8 (8 * j) refl right refl)
+    (λ h. c.byte_behind-behind.ensures.value (omega arith) ∙ behind)
+    (omega arith) (omega arith) (omega arith) (omega arith) (omega arith)
+
+pub returns-clause-beside : goal.returns-clause-beside
+returns-clause-beside g c = record {
+  same = c.byte_behind-behind.ensures.looks.same ∙ c.word-2.ensures.look.same;
+  looks = omega (
+    arith,
+    c.byte_behind-behind.ensures.looks.looks,
+    c.word-2.ensures.look.looks,
+    unit_looks_one (c.args.r % 8),
+  );
+}

@@ -1,0 +1,169 @@
+//! Counts of two windows that are combined by an operator.
+ghost use Rattle.std.specs.Prelude.{◌≡◌, ◌*◌, ◌≤◌};
+ghost use Rattle.vb_bits.specs.Bits.{bits, count};
+ghost use Rattle.vb_bits.specs.InBytes.{InBytes};
+ghost use Rattle.vb_bits.specs.Operators.{combined_by};
+ghost use Rattle.vb_count.specs.Looks.{looks, LooksExactly};
+ghost use Rattle.vb_pair.specs.Beside.{looks_beside};
+ghost use Rattle.vb_bits.specs.declared.zip.BitOp.TheVariants.{And, Or, Xor, AndNot};
+
+use crate::beside::count_beside;
+use crate::merged::count_merged;
+use vb_bits::{And as Both, AndNot as LeftAlone, Or as Either, Xor as OneAlone};
+use vb_count::Glance;
+
+/// For how many `i` below `len` bit `l + i` of `left` and bit `r + i` of `right` are true.
+///
+/// These are the bits that `BitOp::And` makes true of the two windows, which lie at any offsets.
+/// Each has to lie in its bytes, and its end has to be a `usize`; `vb_bits::window_fits` is the
+/// test. It goes by words of 64 bits, four at a time past 512 bits, takes no memory and writes
+/// nothing.
+pub fn and_count(left: &[u8], l: usize, right: &[u8], r: usize, len: usize) -> usize
+    requires left { InBytes left.now l len }
+    requires right { InBytes right.now r len }
+    ensures { result ≡ count (combined_by And (bits left.now l len) (bits right.now r len)) }
+{
+    count_merged::<Both>(left, l, right, r, len)
+}
+
+/// For how many `i` below `len` bit `l + i` of `left` or bit `r + i` of `right` is true.
+///
+/// These are the bits that `BitOp::Or` makes true of the two windows, which lie at any offsets.
+/// Each has to lie in its bytes, and its end has to be a `usize`; `vb_bits::window_fits` is the
+/// test. It goes by words of 64 bits, four at a time past 512 bits, takes no memory and writes
+/// nothing.
+pub fn or_count(left: &[u8], l: usize, right: &[u8], r: usize, len: usize) -> usize
+    requires left { InBytes left.now l len }
+    requires right { InBytes right.now r len }
+    ensures { result ≡ count (combined_by Or (bits left.now l len) (bits right.now r len)) }
+{
+    count_merged::<Either>(left, l, right, r, len)
+}
+
+/// For how many `i` below `len` bit `l + i` of `left` differs from bit `r + i` of `right`.
+///
+/// These are the bits that `BitOp::Xor` makes true of the two windows, which lie at any offsets.
+/// Each has to lie in its bytes, and its end has to be a `usize`; `vb_bits::window_fits` is the
+/// test. It goes by words of 64 bits, four at a time past 512 bits, takes no memory and writes
+/// nothing.
+pub fn xor_count(left: &[u8], l: usize, right: &[u8], r: usize, len: usize) -> usize
+    requires left { InBytes left.now l len }
+    requires right { InBytes right.now r len }
+    ensures { result ≡ count (combined_by Xor (bits left.now l len) (bits right.now r len)) }
+{
+    count_merged::<OneAlone>(left, l, right, r, len)
+}
+
+/// For how many `i` below `len` bit `l + i` of `left` is true and bit `r + i` of `right` isn't.
+///
+/// These are the bits that `BitOp::AndNot` makes true of the two windows, which lie at any offsets.
+/// Each has to lie in its bytes, and its end has to be a `usize`; `vb_bits::window_fits` is the
+/// test. It goes by words of 64 bits, four at a time past 512 bits, takes no memory and writes
+/// nothing.
+pub fn andnot_count(left: &[u8], l: usize, right: &[u8], r: usize, len: usize) -> usize
+    requires left { InBytes left.now l len }
+    requires right { InBytes right.now r len }
+    ensures { result ≡ count (combined_by AndNot (bits left.now l len) (bits right.now r len)) }
+{
+    count_merged::<LeftAlone>(left, l, right, r, len)
+}
+
+/// [`and_count`] of two counted sources: for how many `i` below `len` bit `l + i` of `left` and bit
+/// `r + i` of `right` are true.
+///
+/// It looks at `left` as often as `vb_count::count_ones_by` does over the same bits:
+/// at a partial first byte, at each 64 whole bytes, at each eight of those left, at each byte then
+/// left, and at a partial last byte. Beside each of these it looks at `right` once, and once more
+/// where the bits beside end a byte further on. So `right` has at most twice as many looks.
+pub fn and_count_by<L: Glance, R: Glance>(
+    left: &mut L,
+    l: usize,
+    right: &mut R,
+    r: usize,
+    len: usize,
+) -> usize
+    requires left { InBytes (L.seen left.old).bytes l len }
+    requires right { InBytes (R.seen right.old).bytes r len }
+    ensures value { result ≡ count (combined_by And
+        (bits (L.seen left.old).bytes l len) (bits (R.seen right.old).bytes r len)) }
+    ensures looks { LooksExactly (looks l len) (L.seen left.old) (L.seen left.new) }
+    ensures beside { LooksExactly (looks_beside l r len) (R.seen right.old) (R.seen right.new) }
+    ensures twice { looks_beside l r len ≤ 2 * looks l len }
+{
+    count_beside::<Both, L, R>(left, l, right, r, len)
+}
+
+/// [`or_count`] of two counted sources: for how many `i` below `len` bit `l + i` of `left` or bit
+/// `r + i` of `right` is true.
+///
+/// It looks at `left` as often as `vb_count::count_ones_by` does over the same bits:
+/// at a partial first byte, at each 64 whole bytes, at each eight of those left, at each byte then
+/// left, and at a partial last byte. Beside each of these it looks at `right` once, and once more
+/// where the bits beside end a byte further on. So `right` has at most twice as many looks.
+pub fn or_count_by<L: Glance, R: Glance>(
+    left: &mut L,
+    l: usize,
+    right: &mut R,
+    r: usize,
+    len: usize,
+) -> usize
+    requires left { InBytes (L.seen left.old).bytes l len }
+    requires right { InBytes (R.seen right.old).bytes r len }
+    ensures value { result ≡ count (combined_by Or
+        (bits (L.seen left.old).bytes l len) (bits (R.seen right.old).bytes r len)) }
+    ensures looks { LooksExactly (looks l len) (L.seen left.old) (L.seen left.new) }
+    ensures beside { LooksExactly (looks_beside l r len) (R.seen right.old) (R.seen right.new) }
+    ensures twice { looks_beside l r len ≤ 2 * looks l len }
+{
+    count_beside::<Either, L, R>(left, l, right, r, len)
+}
+
+/// [`xor_count`] of two counted sources: for how many `i` below `len` bit `l + i` of `left` differs
+/// from bit `r + i` of `right`.
+///
+/// It looks at `left` as often as `vb_count::count_ones_by` does over the same bits:
+/// at a partial first byte, at each 64 whole bytes, at each eight of those left, at each byte then
+/// left, and at a partial last byte. Beside each of these it looks at `right` once, and once more
+/// where the bits beside end a byte further on. So `right` has at most twice as many looks.
+pub fn xor_count_by<L: Glance, R: Glance>(
+    left: &mut L,
+    l: usize,
+    right: &mut R,
+    r: usize,
+    len: usize,
+) -> usize
+    requires left { InBytes (L.seen left.old).bytes l len }
+    requires right { InBytes (R.seen right.old).bytes r len }
+    ensures value { result ≡ count (combined_by Xor
+        (bits (L.seen left.old).bytes l len) (bits (R.seen right.old).bytes r len)) }
+    ensures looks { LooksExactly (looks l len) (L.seen left.old) (L.seen left.new) }
+    ensures beside { LooksExactly (looks_beside l r len) (R.seen right.old) (R.seen right.new) }
+    ensures twice { looks_beside l r len ≤ 2 * looks l len }
+{
+    count_beside::<OneAlone, L, R>(left, l, right, r, len)
+}
+
+/// [`andnot_count`] of two counted sources: for how many `i` below `len` bit `l + i` of `left` is
+/// true and bit `r + i` of `right` isn't.
+///
+/// It looks at `left` as often as `vb_count::count_ones_by` does over the same bits:
+/// at a partial first byte, at each 64 whole bytes, at each eight of those left, at each byte then
+/// left, and at a partial last byte. Beside each of these it looks at `right` once, and once more
+/// where the bits beside end a byte further on. So `right` has at most twice as many looks.
+pub fn andnot_count_by<L: Glance, R: Glance>(
+    left: &mut L,
+    l: usize,
+    right: &mut R,
+    r: usize,
+    len: usize,
+) -> usize
+    requires left { InBytes (L.seen left.old).bytes l len }
+    requires right { InBytes (R.seen right.old).bytes r len }
+    ensures value { result ≡ count (combined_by AndNot
+        (bits (L.seen left.old).bytes l len) (bits (R.seen right.old).bytes r len)) }
+    ensures looks { LooksExactly (looks l len) (L.seen left.old) (L.seen left.new) }
+    ensures beside { LooksExactly (looks_beside l r len) (R.seen right.old) (R.seen right.new) }
+    ensures twice { looks_beside l r len ≤ 2 * looks l len }
+{
+    count_beside::<LeftAlone, L, R>(left, l, right, r, len)
+}
