@@ -1,1 +1,2 @@
+mod ComparedLemmas
 mod WrittenOver

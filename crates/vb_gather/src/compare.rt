@@ -1,0 +1,117 @@
+//! Sets of what comparisons answer.
+ghost use Rattle.std.specs.Prelude.{◌≡◌, ◌*◌, ◌≤◌, length, map};
+ghost use Rattle.std.specs.Option.{ForSome, option_map};
+ghost use Rattle.std.specs.Simd.Lanes.{zip2};
+ghost use Rattle.vb_bit_buffer.specs.SharedSet.{IsFreshSet};
+ghost use Rattle.vb_bits.specs.Bits.{bits};
+ghost use Rattle.vb_compare.specs.Compares.{compares};
+ghost use Rattle.vb_gather.specs.Compared.{Shows, where_valid};
+ghost use Rattle.vb_mem.specs.Makes.{Makes};
+ghost use Rattle.vb_view.specs.View.{bits_of};
+
+use std::alloc::Allocator;
+use vb_bit_buffer::BitBuffer;
+use vb_bit_bytes::full;
+use vb_bits::{BitOp, zip_words};
+use vb_compare::{CompareLanes, Comparison, compare_into, compare_with_into};
+use vb_core::Result;
+use vb_view::BitBufferView;
+
+/// How each value compares with `number`, one bit for each, as a set of offset 0 whose bytes are as
+/// few as hold them.
+///
+/// A `validity`, where there is one, has to be as long as the values. At a place where it is false,
+/// as at that of a null, the bit is false.
+///
+/// Refused by `OutOfMemory` alone. Memory comes from `alloc`: for the bytes before any value is
+/// compared, and for the count of owners after the last one is.
+///
+/// The values are compared as by `compare_into`, 64 at once where they have at most 64 bits. A
+/// validity is one more pass over the words of the bits.
+#[tactic(auto, using(vb_bit_bytes::proofs::BytesLemmas::edits))]
+pub fn compared<T: CompareLanes, A: Allocator + Clone>(
+    alloc: A,
+    values: &[T],
+    op: Comparison,
+    number: T,
+    validity: Option<BitBufferView<'_>>,
+) -> Result<BitBuffer<A>>
+    requires { ForSome validity (λ v. length (bits_of v) ≡ length values.now) }
+    ensures { Makes (IsFreshSet (where_valid (option_map bits_of validity.entry)
+        (map (λ value. compares op (T.number value) (T.number number)) values.now))) result }
+{
+    let mut bytes = full(alloc, false, values.len())?;
+    write_compared(bytes.as_mut_slice(), values, op, number, validity);
+    Ok(BitBuffer::new(bytes.freeze()?, values.len()))
+}
+
+/// How each value compares with that at its place among `others`, which have to be as many: else as
+/// [`compared`].
+#[tactic(auto, using(vb_bit_bytes::proofs::BytesLemmas::edits))]
+pub fn compared_with<T: CompareLanes, A: Allocator + Clone>(
+    alloc: A,
+    values: &[T],
+    op: Comparison,
+    others: &[T],
+    validity: Option<BitBufferView<'_>>,
+) -> Result<BitBuffer<A>>
+    requires others { length others.now ≡ length values.now }
+    requires validity { ForSome validity (λ v. length (bits_of v) ≡ length values.now) }
+    ensures { Makes (IsFreshSet (where_valid (option_map bits_of validity.entry)
+        (zip2 (λ left right. compares op (T.number left) (T.number right))
+        values.now others.now))) result }
+{
+    let mut bytes = full(alloc, false, values.len())?;
+    write_compared_with(bytes.as_mut_slice(), values, op, others, validity);
+    Ok(BitBuffer::new(bytes.freeze()?, values.len()))
+}
+
+/// Writes the bits of [`compared`] to the front of `out`.
+fn write_compared<T: CompareLanes>(
+    out: &mut [u8],
+    values: &[T],
+    op: Comparison,
+    number: T,
+    validity: Option<BitBufferView<'_>>,
+)
+    requires room { length values.now ≤ 8 * length out.old }
+    requires validity { ForSome validity (λ v. length (bits_of v) ≡ length values.now) }
+    ensures { Shows (length values.now) (where_valid (option_map bits_of validity.entry)
+        (map (λ value. compares op (T.number value) (T.number number)) values.now))
+        out.old out.new }
+{
+    compare_into(out, 0, values, op, number);
+    clear_nulls(out, values.len(), validity);
+}
+
+/// Writes the bits of [`compared_with`] to the front of `out`.
+#[tactic(auto, using(vb_compare::proofs::TruthLemmas::length_paired))]
+fn write_compared_with<T: CompareLanes>(
+    out: &mut [u8],
+    values: &[T],
+    op: Comparison,
+    others: &[T],
+    validity: Option<BitBufferView<'_>>,
+)
+    requires room { length values.now ≤ 8 * length out.old }
+    requires others { length others.now ≡ length values.now }
+    requires validity { ForSome validity (λ v. length (bits_of v) ≡ length values.now) }
+    ensures { Shows (length values.now) (where_valid (option_map bits_of validity.entry)
+        (zip2 (λ left right. compares op (T.number left) (T.number right))
+        values.now others.now)) out.old out.new }
+{
+    compare_with_into(out, 0, values, op, others);
+    clear_nulls(out, values.len(), validity);
+}
+
+/// Makes those of the first `len` bits false that are false in a validity of as many.
+fn clear_nulls(out: &mut [u8], len: usize, validity: Option<BitBufferView<'_>>)
+    requires room { len ≤ 8 * length out.old }
+    requires validity { ForSome validity (λ v. length (bits_of v) ≡ len) }
+    ensures { Shows len (where_valid (option_map bits_of validity.entry) (bits out.old 0 len))
+        out.old out.new }
+{
+    if let Some(valid) = validity {
+        zip_words(out, 0, valid.inner(), valid.offset(), len, BitOp::And);
+    }
+}
