@@ -44,7 +44,7 @@ pub extern "C" fn vb_and_count(left: &[u8], l: usize, right: &[u8], r: usize, le
     requires { BothInBytes left.now l right.now r len }
     ensures { result ≡ count (combined_by And (bits left.now l len) (bits right.now r len)) }
 {
-    vb_count::and_count(left, l, right, r, len)
+    vb_pair::and_count(left, l, right, r, len)
 }
 
 /// Whether both windows lie in their bytes; `ones` is then [`vb_and_count`], and else as it was.
@@ -75,7 +75,7 @@ pub extern "C" fn vb_or_count(left: &[u8], l: usize, right: &[u8], r: usize, len
     requires { BothInBytes left.now l right.now r len }
     ensures { result ≡ count (combined_by Or (bits left.now l len) (bits right.now r len)) }
 {
-    vb_count::or_count(left, l, right, r, len)
+    vb_pair::or_count(left, l, right, r, len)
 }
 
 /// Whether both windows lie in their bytes; `ones` is then [`vb_or_count`], and else as it was.
@@ -106,7 +106,7 @@ pub extern "C" fn vb_xor_count(left: &[u8], l: usize, right: &[u8], r: usize, le
     requires { BothInBytes left.now l right.now r len }
     ensures { result ≡ count (combined_by Xor (bits left.now l len) (bits right.now r len)) }
 {
-    vb_count::xor_count(left, l, right, r, len)
+    vb_pair::xor_count(left, l, right, r, len)
 }
 
 /// Whether both windows lie in their bytes; `ones` is then [`vb_xor_count`], and else as it was.
@@ -143,7 +143,7 @@ pub extern "C" fn vb_and_not_count(
     requires { BothInBytes left.now l right.now r len }
     ensures { result ≡ count (combined_by AndNot (bits left.now l len) (bits right.now r len)) }
 {
-    vb_count::andnot_count(left, l, right, r, len)
+    vb_pair::andnot_count(left, l, right, r, len)
 }
 
 /// Whether both windows lie in their bytes; `ones` is then [`vb_and_not_count`], and else as it
