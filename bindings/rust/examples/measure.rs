@@ -72,13 +72,14 @@ fn above_by_collect(keys: &[u32]) -> Bitmap {
     keys.iter().map(|&key| key > 499).collect()
 }
 
+/// Without a branch.
 fn kept_by_loop(values: &[i64], mask: &[u8]) -> Vec<i64> {
-    let mut kept = Vec::new();
+    let (mut kept, mut len) = (vec![0; N], 0);
     for (row, &value) in values.iter().enumerate() {
-        if bit(mask, row) {
-            kept.push(value);
-        }
+        kept[len] = value;
+        len += usize::from(bit(mask, row));
     }
+    kept.truncate(len);
     kept
 }
 
@@ -89,27 +90,75 @@ fn kept_by_crate(values: &[i64], mask: &[u8]) -> Vec<i64> {
     kept
 }
 
-/// The bits that the iterator gives, at most N, packed.
-fn packed(bits: impl Iterator<Item = bool>) -> Vec<u8> {
-    let mut bytes = vec![0; N / 8];
-    let mut place = 0;
-    for bit in bits {
-        bytes[place / 8] |= u8::from(bit) << (place % 8);
-        place += 1;
+/// The bits from the third one on that the mask keeps, without a branch.
+fn filtered_by_loop(bits: &[u8], mask: &[u8]) -> Vec<u8> {
+    let (mut kept, mut len) = (vec![0; N / 8 + 1], 0);
+    for row in 0..N {
+        let keeps = bit(mask, row);
+        kept[len / 8] |= u8::from(bit(bits, row + 3) & keeps) << (len % 8);
+        len += usize::from(keeps);
     }
-    bytes.truncate(place.div_ceil(8));
-    bytes
+    kept.truncate(len.div_ceil(8));
+    kept
 }
 
-/// The place of the n-th bit that is true.
-fn nth_by_loop(bytes: &[u8], mut n: usize) -> usize {
-    for place in 0..N {
-        if bit(bytes, place) {
-            if n == 0 {
-                return place;
-            }
-            n -= 1;
+/// The bits from the third one on at the indices.
+fn taken_by_loop(bits: &[u8], indices: &[u32]) -> Vec<u8> {
+    let mut taken = vec![0; N / 8];
+    for (byte, indices) in taken.iter_mut().zip(indices.chunks_exact(8)) {
+        for (i, &index) in indices.iter().enumerate() {
+            *byte |= u8::from(bit(bits, index as usize + 3)) << i;
         }
+    }
+    taken
+}
+
+/// The sum of the places of the true bits, by words.
+fn places_by_loop(bytes: &[u8]) -> usize {
+    let mut sum = 0;
+    for start in (0..N).step_by(64) {
+        let mut word = word_at(bytes, start);
+        while word != 0 {
+            sum += start + word.trailing_zeros() as usize;
+            word &= word - 1;
+        }
+    }
+    sum
+}
+
+/// The 64 bits from this one on.
+fn word_at(bytes: &[u8], bit: usize) -> u64 {
+    let (byte, shift) = (bit / 8, bit % 8);
+    let word = bytes[byte..byte + 8]
+        .try_into()
+        .map_or(0, u64::from_le_bytes);
+    if shift == 0 {
+        return word;
+    }
+    word >> shift | u64::from(bytes[byte + 8]) << (64 - shift)
+}
+
+/// Words of the bits of both, from the third and the fifth one on.
+fn both<'a>(left: &'a [u8], right: &'a [u8]) -> impl Iterator<Item = u64> + 'a {
+    (0..N)
+        .step_by(64)
+        .map(|bit| word_at(left, bit + 3) & word_at(right, bit + 5))
+}
+
+fn both_by_loop(left: &[u8], right: &[u8]) -> Vec<u8> {
+    both(left, right).flat_map(u64::to_le_bytes).collect()
+}
+
+/// The place of the n-th bit that is true, by words.
+fn nth_by_loop(bytes: &[u8], mut n: usize) -> usize {
+    for start in (0..N).step_by(64) {
+        let mut word = word_at(bytes, start);
+        let ones = word.count_ones() as usize;
+        if n < ones {
+            (0..n).for_each(|_| word &= word - 1);
+            return start + word.trailing_zeros() as usize;
+        }
+        n -= ones;
     }
     N
 }
@@ -159,15 +208,15 @@ fn counts(data: &Data) {
         "`and_count`, offsets 3 and 5",
         || left.and_count(right),
         || {
-            (0..N)
-                .map(|i| usize::from(bit(half, i + 3) & bit(most, i + 5)))
+            both(half, most)
+                .map(|word| word.count_ones() as usize)
                 .sum()
         },
     );
     row(
         "`&` into a `Bitmap`, offsets 3 and 5",
         || sum((left & right).bits().bytes()),
-        || sum(&packed((0..N).map(|i| bit(half, i + 3) & bit(most, i + 5)))),
+        || sum(&both_by_loop(half, most)),
     );
     let last = Bits::new(half, 0, N).count_ones() - 1;
     row(
@@ -207,21 +256,18 @@ fn filters(data: &Data) {
         row(
             &format!("`filter` of bits, {name}"),
             || sum(bits.filter(kept).bits().bytes()),
-            || {
-                let kept = (0..N).filter(|&i| bit(mask, i));
-                sum(&packed(kept.map(|i| bit(most, i + 3))))
-            },
+            || sum(&filtered_by_loop(most, mask)),
         );
         row(
             &format!("`set_indices`, {name}, summed"),
             || kept.set_indices().sum(),
-            || (0..N).filter(|&i| bit(mask, i)).sum(),
+            || places_by_loop(mask),
         );
     }
     row(
         "`take` of bits at random `u32`",
         || sum(Bits::new(half, 3, N).take(indices).bits().bytes()),
-        || sum(&packed(indices.iter().map(|&i| bit(half, i as usize + 3)))),
+        || sum(&taken_by_loop(half, indices)),
     );
 }
 

@@ -3,7 +3,8 @@
 //!
 //! [`Stream`] reads the batches of another part of the program; the columns of an [`Array`] give
 //! slices of values, [`Bits`](crate::Bits) and a [`Validity`](crate::Validity). [`Export`] hands a
-//! [`Bitmap`](crate::Bitmap) and values on, to any consumer. No value is copied either way.
+//! [`Bitmap`](crate::Bitmap) and values on, to any consumer. No value is copied either way, but
+//! texts that are handed on.
 //!
 //! ```
 //! use vortex_bits::Bitmap;
