@@ -10,7 +10,7 @@ use vortex_bits::arrow::{Array, ArrowArray, ArrowError, ArrowSchema, Export, Pri
 use vortex_bits::{AlignedBytes, Bitmap, Bits};
 
 use crate::plain::{Random, bit};
-use crate::raw::{self, Buffer, Count};
+use crate::raw::{self, Count};
 
 /// The two structs, as C sees them.
 fn raw_of(export: Export) -> (raw::Array, raw::Schema) {
@@ -337,32 +337,10 @@ fn types(schema: &raw::Schema) -> String {
     types + "]"
 }
 
-/// A struct of a text with a dictionary, a list and a number, with offsets.
-fn rows(count: &Count) -> (raw::Array, raw::Schema) {
-    let bytes = || Some(Buffer::new(&[0xFF; 64], 0));
-    let texts = raw::Array::new(3, vec![None, bytes(), bytes()], count).nulls(0);
-    let indices = vec![bytes(), bytes()];
-    let word = raw::Array::of(9, indices, vec![], Some(texts), count).at(2);
-    let items = raw::Array::values(5, None, &[7; 40], count).at(1).nulls(0);
-    let list = raw::Array::of(9, vec![bytes(), bytes()], vec![items], None, count).at(4);
-    let number = raw::Array::values(9, None, &[9; 64], count).nulls(0);
-    let columns = vec![word, list, number];
-    let array = raw::Array::of(6, vec![None], columns, None, count)
-        .at(3)
-        .nulls(0);
-    let texts = raw::Schema::new("", "u", count);
-    let mut word = raw::Schema::of("word", "c", vec![], Some(texts), count);
-    word.flags = 3;
-    let items = vec![raw::Schema::new("item", "l", count)];
-    let list = raw::Schema::of("list", "+l", items, None, count);
-    let columns = vec![word, list, raw::Schema::new("number", "I", count)];
-    (array, raw::Schema::of("", "+s", columns, None, count))
-}
-
 #[test]
 fn what_came_in_goes_out_as_it_is() {
     let count = Count::default();
-    let (array, schema) = rows(&count);
+    let (array, schema) = raw::rows(&count);
     let (wanted, wanted_types) = (tree(&array), types(&schema));
     let array = raw::import(array, schema).unwrap();
     let out = raw_of(Export::from(array.clone()));

@@ -3,7 +3,7 @@ use std::ptr;
 
 use vortex_bits::arrow::{ArrowError, Fault};
 
-use crate::raw::{Array, Buffer, Count, Schema, import};
+use crate::raw::{self, Array, Buffer, Count, Schema, import};
 
 fn numbers(length: i64) -> Array {
     Array::values(length, Some(&[0xFF; 4]), &[0; 256], &Count::default())
@@ -322,4 +322,60 @@ fn children_end_at_some_level() {
         refused.ends_with("it has 64 levels of children or more"),
         "{refused}"
     );
+}
+
+/// The arrays of a tree, the outermost one first.
+fn all(array: *mut Array, found: &mut Vec<*mut Array>) {
+    found.push(array);
+    // SAFETY: the array is as the interface asks for.
+    unsafe {
+        for place in 0..usize::try_from((*array).n_children).unwrap() {
+            all(*(*array).children.add(place), found);
+        }
+        if !(*array).dictionary.is_null() {
+            all((*array).dictionary, found);
+        }
+    }
+}
+
+#[test]
+fn whatever_the_numbers_are_nothing_is_read_by_them_and_all_is_released() {
+    const EXTREMES: [i64; 12] = [
+        i64::MIN,
+        -1 << 32,
+        -2,
+        -1,
+        0,
+        1,
+        7,
+        1 << 32,
+        i64::MAX / 16,
+        i64::MAX / 8,
+        i64::MAX - 1,
+        i64::MAX,
+    ];
+    let fields: [fn(&mut Array) -> &mut i64; 5] = [
+        |it| &mut it.length,
+        |it| &mut it.null_count,
+        |it| &mut it.offset,
+        |it| &mut it.n_buffers,
+        |it| &mut it.n_children,
+    ];
+    let mut refused = 0;
+    for place in 0..6 {
+        for (field, extreme) in fields.iter().flat_map(|it| EXTREMES.map(|n| (it, n))) {
+            let count = Count::default();
+            let (mut array, schema) = raw::rows(&count);
+            let mut arrays = Vec::new();
+            all(&raw mut array, &mut arrays);
+            assert_eq!(arrays.len(), 6);
+            // SAFETY: it is one of the tree. The producer itself goes by what it keeps.
+            unsafe { *field(&mut *arrays[place]) = extreme };
+            let answer = import(array, schema);
+            refused += usize::from(answer.is_err());
+            drop(answer);
+            assert_eq!(count.get(), 12);
+        }
+    }
+    assert!(refused > 200, "{refused}");
 }

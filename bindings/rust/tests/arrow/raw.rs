@@ -239,3 +239,25 @@ pub fn import(mut array: Array, mut schema: Schema) -> Result<arrow::Array, Arro
 pub fn import_as(array: Array, format: &str) -> Result<arrow::Array, ArrowError> {
     import(array, Schema::new("", format, &Count::default()))
 }
+
+/// A struct of a text with a dictionary, a list and a number, with offsets.
+pub fn rows(count: &Count) -> (Array, Schema) {
+    let bytes = || Some(Buffer::new(&[0xFF; 64], 0));
+    let texts = Array::new(3, vec![None, bytes(), bytes()], count).nulls(0);
+    let indices = vec![bytes(), bytes()];
+    let word = Array::of(9, indices, vec![], Some(texts), count).at(2);
+    let items = Array::values(5, None, &[7; 40], count).at(1).nulls(0);
+    let list = Array::of(9, vec![bytes(), bytes()], vec![items], None, count).at(4);
+    let number = Array::values(9, None, &[9; 64], count).nulls(0);
+    let columns = vec![word, list, number];
+    let array = Array::of(6, vec![None], columns, None, count)
+        .at(3)
+        .nulls(0);
+    let texts = Schema::new("", "u", count);
+    let mut word = Schema::of("word", "c", vec![], Some(texts), count);
+    word.flags = 3;
+    let items = vec![Schema::new("item", "l", count)];
+    let list = Schema::of("list", "+l", items, None, count);
+    let columns = vec![word, list, Schema::new("number", "I", count)];
+    (array, Schema::of("", "+s", columns, None, count))
+}
