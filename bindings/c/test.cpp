@@ -179,6 +179,20 @@ static void pairs()
     refused([&] { window.deposit_of(right, left); }, "too many bits");
 }
 
+static void comparisons()
+{
+    const std::vector<std::int16_t> ages = {19, 64, -7, 30}, limits = {20, 20, -7, 40};
+    buffer out = {0xF0};
+    vortex_bits::compare(ages, VB_GREATER, 18, bits_mut(out, 0, 4));
+    check(out[0] == 0xFB, "values above a number");
+    vortex_bits::compare_with(ages, VB_LESS_OR_EQUAL, limits, bits_mut(out, 1, 4));
+    check(out[0] == 0xFB, "values up to others");
+    refused([&] { vortex_bits::compare(ages, VB_LESS, 1, bits_mut(out, 0, 5)); }, "too many bits");
+    refused([&] { vortex_bits::compare(ages, 6, 1, bits_mut(out, 0, 4)); }, "no comparison");
+    refused([&] { vortex_bits::compare_with(ages, VB_LESS, std::vector<std::int16_t>(3),
+        bits_mut(out, 0, 4)); }, "too few others");
+}
+
 static void values_at_indices()
 {
     using vortex_bits::take_values;
@@ -326,6 +340,7 @@ int main()
     takes();
     filters();
     pairs();
+    comparisons();
     values_at_indices();
     refusals();
     return failures == 0 ? 0 : 1;

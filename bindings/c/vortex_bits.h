@@ -8,8 +8,9 @@
  *     cc -O2 app.c $(pkg-config --cflags --libs vortex_bits)
  *
  * The last is the shared library. A checkout has this file in bindings/c, and the libraries in
- * bindings/out once bindings/run has made them. vortex_bits_values.h beside it, which this file
- * includes, has what is done with values; vortex_bits.hpp has the windows as C++ classes.
+ * bindings/out once bindings/run has made them. vortex_bits_values.h and vortex_bits_compare.h
+ * beside it, which this file includes, have what is done with values; vortex_bits.hpp has the
+ * windows as C++ classes.
  *
  * libvortex_bits.a and libvortex_bits.so have code for x86-64-v2 and for x86-64-v3, and take the
  * higher one that the processor has. libvortex_bits_x86-64-v2.a and libvortex_bits_x86-64-v3.a have
@@ -352,6 +353,7 @@ bool vb_has_level(void);
 }
 #endif
 
+#include "vortex_bits_compare.h"
 #include "vortex_bits_values.h"
 
 #endif

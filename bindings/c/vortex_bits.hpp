@@ -1,6 +1,6 @@
 /*
- * The windows of vortex_bits.h as C++ classes, of C++17 and later. Ranks are in
- * vortex_bits_ranks.hpp, and values at indices in vortex_bits_values.hpp, which this file includes.
+ * The windows of vortex_bits.h as C++ classes, of C++17 and later. This file includes
+ * vortex_bits_ranks.hpp, vortex_bits_values.hpp, for values at indices, and vortex_bits_compare.hpp.
  *
  *     c++ -std=c++17 -O2 app.cpp -I DIST/include DIST/lib/libvortex_bits.a
  *
@@ -446,6 +446,12 @@ public:
     }
 
 private:
+    template <class Values>
+    friend void compare(const Values &, std::uint8_t,
+        const std::remove_cv_t<detail::lent_t<const Values>> &, bits_mut);
+    template <class Values, class Others>
+    friend void compare_with(const Values &, std::uint8_t, const Others &, bits_mut);
+
     template <class Call> void by_another(Call call, bits right)
     {
         detail::expect(right.len_ == len_, "windows are of two lengths");
@@ -475,6 +481,7 @@ template <class Bytes, class Out> void pack_truthy(const Bytes &truthy, Out &&ou
 
 } // namespace vortex_bits
 
+#include "vortex_bits_compare.hpp"
 #include "vortex_bits_ranks.hpp"
 #include "vortex_bits_values.hpp"
 

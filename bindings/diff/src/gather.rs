@@ -2,7 +2,9 @@
 
 use std::fmt::Debug;
 
-use vortex_bits::{BitIndex, Bits, BitsMut, TakeError, TakeValuesError, Value, values};
+use vortex_bits::{
+    BitIndex, Bits, BitsMut, Compare, Comparison, TakeError, TakeValuesError, Value, values,
+};
 
 use crate::ask::same;
 use crate::case::{Case, bit, put};
@@ -94,19 +96,23 @@ fn values_at<T: Value + PartialEq + Debug, I: BitIndex>(
             })
             .collect()
     };
-    let given = |wanted: &Result<Vec<Option<T>>, usize>, out: Result<Vec<T>, TakeValuesError>| {
-        match (wanted, out) {
+    let given =
+        |wanted: &Result<Vec<Option<T>>, usize>, out: Result<Vec<T>, TakeValuesError>| match (
+            wanted, out,
+        ) {
             (Ok(wanted), Ok(out)) => {
                 let zero = values::take_valid(&column, &[0u8], Bits::new(&[0], 0, 1))[0];
                 wanted.iter().map(|it| it.unwrap_or(zero)).eq(out)
             }
             (Err(wanted), Err(TakeValuesError::Index { position, .. })) => *wanted == position,
             _ => false,
-        }
-    };
+        };
     let counts = |p| bit(&case.right, case.r + p);
     let all = given(&taken(&|_| true), values::try_take(&column, indices));
-    let some = given(&taken(&counts), values::try_take_valid(&column, indices, valid));
+    let some = given(
+        &taken(&counts),
+        values::try_take_valid(&column, indices, valid),
+    );
     Ok(same("values::take", all, true)? + same("values::take_valid", some, true)?)
 }
 
@@ -150,6 +156,59 @@ fn keeps<T: Value + Copy + PartialEq + Debug>(
     same("keep_into", (count, out), (kept.len(), wanted))
 }
 
+/// Which values compare so, with a number and with others, in each way there is.
+fn compares<T: Compare + Debug>(case: &Case, value: impl Fn(usize) -> T) -> Result<u64, String> {
+    let column: Vec<T> = (0..case.len)
+        .map(|i| value(3 * usize::from(bit(&case.left, case.l + i)) + i % 3))
+        .collect();
+    let others: Vec<T> = (0..case.len).map(|i| value(i % 5)).collect();
+    let number = value(3);
+    let mut calls = 0;
+    for (op, holds) in [
+        (Comparison::Equal, T::eq as fn(&T, &T) -> bool),
+        (Comparison::NotEqual, T::ne),
+        (Comparison::Less, T::lt),
+        (Comparison::LessOrEqual, T::le),
+        (Comparison::Greater, T::gt),
+        (Comparison::GreaterOrEqual, T::ge),
+    ] {
+        let (mut one, mut all) = (room(case, case.len), room(case, case.len));
+        let (mut wanted, mut pairs) = (one.clone(), all.clone());
+        for i in 0..case.len {
+            put(&mut wanted, case.r + i, holds(&column[i], &number));
+            put(&mut pairs, case.r + i, holds(&column[i], &others[i]));
+        }
+        values::compare_into(
+            &column,
+            op,
+            number,
+            BitsMut::new(&mut one, case.r, case.len),
+        );
+        let out = BitsMut::new(&mut all, case.r, case.len);
+        values::compare_with_into(&column, op, &others, out);
+        calls += same("compare_into", one, wanted)? + same("compare_with_into", all, pairs)?;
+    }
+    Ok(calls)
+}
+
+/// Of each type that is compared, near the ends of what it holds.
+fn comparisons(case: &Case) -> Result<u64, String> {
+    Ok(compares(case, |i| (i as u8).wrapping_sub(2))?
+        + compares(case, |i| i as i8 - 3)?
+        + compares(case, |i| (i as u16).wrapping_sub(3))?
+        + compares(case, |i| i16::MIN.wrapping_add(i as i16 - 2))?
+        + compares(case, |i| (i as u32).wrapping_sub(4))?
+        + compares(case, |i| i as i32 - 3)?
+        + compares(case, |i| (i as u64).wrapping_sub(3))?
+        + compares(case, |i| i64::MIN.wrapping_add(i as i64 - 2))?
+        + compares(case, |i| i.wrapping_sub(1))?
+        + compares(case, |i| i as isize - 3)?
+        + compares(case, |i| i as u128)?
+        + compares(case, |i| i as i128 - 3)?
+        + compares(case, |i| if i == 4 { f32::NAN } else { i as f32 - 3.0 })?
+        + compares(case, |i| if i == 3 { f64::NAN } else { i as f64 })?)
+}
+
 /// By types of few indices, of the bits that these can name. Half of the cases have one that is past
 /// these.
 fn narrow<I, J>(case: &Case, random: &mut Random, past: I, negative: J) -> Result<u64, String>
@@ -182,6 +241,7 @@ pub fn compare(case: &Case, random: &mut Random) -> Result<u64, String> {
     };
     let places: Vec<usize> = (0..count).map(|_| random.below(most)).collect();
     Ok(filters(case)?
+        + comparisons(case)?
         + keeps(case, |i| i as u8)?
         + keeps(case, |i| i as i16)?
         + keeps(case, |i| i as f32)?

@@ -5,7 +5,7 @@
 
 use std::ops::Range;
 
-use vortex_bits::Bitmap;
+use vortex_bits::{Bitmap, Comparison, values};
 
 /// A column of numbers; those of rows that aren't valid say nothing.
 struct Numbers {
@@ -20,7 +20,7 @@ impl Numbers {
 
     fn above(&self, limit: u32) -> Bools {
         Bools {
-            values: self.values.iter().map(|&value| value > limit).collect(),
+            values: values::compare(&self.values, Comparison::Greater, limit),
             valid: self.valid.clone(),
         }
     }
@@ -36,7 +36,7 @@ impl Numbers {
 
     fn take(&self, rows: &[u32]) -> Numbers {
         Numbers {
-            values: rows.iter().map(|&row| self.values[row as usize]).collect(),
+            values: values::take(&self.values, rows),
             valid: self.valid.take(rows),
         }
     }

@@ -7,8 +7,8 @@
 //! texts that are handed on.
 //!
 //! ```
-//! use vortex_bits::Bitmap;
 //! use vortex_bits::arrow::{Export, ExportStream, Field, Stream};
+//! use vortex_bits::{Bitmap, Comparison, values};
 //!
 //! // What another part of the program gives: here a stream of two batches.
 //! let batches = [[7i32, 0, 9], [2, 8, 4]].map(|values| {
@@ -23,7 +23,7 @@
 //! for batch in stream {
 //!     let batch = batch?;
 //!     let a = batch.column("a")?;
-//!     let mut mask: Bitmap = a.values::<i32>()?.iter().map(|&value| value > 5).collect();
+//!     let mut mask = values::compare(a.values::<i32>()?, Comparison::Greater, 5);
 //!     mask &= a.validity()?;
 //!     let from = kept.len();
 //!     kept.resize(from + mask.count_ones(), 0);

@@ -3,11 +3,13 @@
 
 #[macro_use]
 mod call;
+mod compare;
 mod filter;
 mod gather;
 mod values;
 mod walk;
 
+pub use compare::{compare, compare_with};
 pub use filter::{filter, keep};
 pub use gather::{pack_bools, pack_truthy, take};
 pub use values::take_values;

@@ -4,11 +4,11 @@
 //! [`values`].
 //!
 //! ```
-//! use vortex_bits::{Bitmap, Bits, values};
+//! use vortex_bits::{Bitmap, Bits, Comparison, values};
 //!
 //! // Which of five rows are valid, from bit 3 of a byte on, and the rows of them that are above 2.
 //! let (valid, column) = (Bits::new(&[0b1110_1000], 3, 5), [7, 0, 9, 2, 8]);
-//! let mask = column.iter().map(|&value| value > 2).collect::<Bitmap>() & valid;
+//! let mask = values::compare(&column, Comparison::Greater, 2) & valid;
 //! let mut kept = vec![0; mask.count_ones()];
 //! mask.bits().keep_into(&column, &mut kept);
 //! assert_eq!((kept, mask.select(1)), (vec![7, 9, 8], Some(2)));
@@ -77,6 +77,7 @@ mod bits;
 mod bits_mut;
 #[cfg(feature = "alloc")]
 mod bytes;
+mod compare;
 mod counts;
 mod deposit;
 mod error;
@@ -102,6 +103,7 @@ pub use bits::Bits;
 pub use bits_mut::BitsMut;
 #[cfg(feature = "alloc")]
 pub use bytes::{AlignedBytes, Grow, SharedBytes};
+pub use compare::{Compare, Comparison};
 pub use error::{BadIndex, OutOfBounds, ShortTable, TakeError, TakeValuesError};
 pub use level::Level;
 pub use mask::Mask;

@@ -7,7 +7,7 @@
 //! call. Windows end within their bytes, and at a `usize`; those of takes, packs and filters are the
 //! first bits of `out`, one for each item, or for each that is kept. There is room for a value at
 //! each index, and a bit of validity for each unless all are valid; a deposit has a bit for each
-//! true one of its mask. A table has as many entries as
+//! true one of its mask; a comparison is a number below 6, and there are as many others as values. A table has as many entries as
 //! the window has blocks of 512 bits, whatever they are. The processor has the level.
 //!
 //! A function changes only the windows and the items that it is said to write.
@@ -49,6 +49,14 @@ pub type CombineInto = unsafe extern "C" fn(
     usize,
     usize,
 );
+
+/// A comparison of values of this type with a number: `out`, the values, the comparison and the
+/// number.
+pub type CompareNumber<T> = unsafe extern "C" fn(*mut u8, usize, usize, *const T, usize, u8, T);
+
+/// The same with others, of which there are as many.
+pub type CompareOthers<T> =
+    unsafe extern "C" fn(*mut u8, usize, usize, *const T, usize, u8, *const T, usize);
 
 /// A value of 16 bytes.
 #[repr(C)]
@@ -216,6 +224,38 @@ kernels! {
     take_values_u128_u64(out: *mut Wide, room: usize, values: *const Wide, count: usize,
         indices: *const u64, index_count: usize, all_valid: bool, validity: *const u8,
         validity_size: usize, validity_offset: usize) -> Place;
+    compare_u8(out: *mut u8, out_size: usize, out_offset: usize, values: *const u8, values_size:
+        usize, op: u8, number: u8);
+    compare_u16(out: *mut u8, out_size: usize, out_offset: usize, values: *const u16,
+        values_size: usize, op: u8, number: u16);
+    compare_u32(out: *mut u8, out_size: usize, out_offset: usize, values: *const u32,
+        values_size: usize, op: u8, number: u32);
+    compare_u64(out: *mut u8, out_size: usize, out_offset: usize, values: *const u64,
+        values_size: usize, op: u8, number: u64);
+    compare_i8(out: *mut u8, out_size: usize, out_offset: usize, values: *const i8, values_size:
+        usize, op: u8, number: i8);
+    compare_i16(out: *mut u8, out_size: usize, out_offset: usize, values: *const i16,
+        values_size: usize, op: u8, number: i16);
+    compare_i32(out: *mut u8, out_size: usize, out_offset: usize, values: *const i32,
+        values_size: usize, op: u8, number: i32);
+    compare_i64(out: *mut u8, out_size: usize, out_offset: usize, values: *const i64,
+        values_size: usize, op: u8, number: i64);
+    compare_with_u8(out: *mut u8, out_size: usize, out_offset: usize, values: *const u8,
+        values_size: usize, op: u8, others: *const u8, others_size: usize);
+    compare_with_u16(out: *mut u8, out_size: usize, out_offset: usize, values: *const u16,
+        values_size: usize, op: u8, others: *const u16, others_size: usize);
+    compare_with_u32(out: *mut u8, out_size: usize, out_offset: usize, values: *const u32,
+        values_size: usize, op: u8, others: *const u32, others_size: usize);
+    compare_with_u64(out: *mut u8, out_size: usize, out_offset: usize, values: *const u64,
+        values_size: usize, op: u8, others: *const u64, others_size: usize);
+    compare_with_i8(out: *mut u8, out_size: usize, out_offset: usize, values: *const i8,
+        values_size: usize, op: u8, others: *const i8, others_size: usize);
+    compare_with_i16(out: *mut u8, out_size: usize, out_offset: usize, values: *const i16,
+        values_size: usize, op: u8, others: *const i16, others_size: usize);
+    compare_with_i32(out: *mut u8, out_size: usize, out_offset: usize, values: *const i32,
+        values_size: usize, op: u8, others: *const i32, others_size: usize);
+    compare_with_i64(out: *mut u8, out_size: usize, out_offset: usize, values: *const i64,
+        values_size: usize, op: u8, others: *const i64, others_size: usize);
     block_counts(bytes: *const u8, size: usize, offset: usize, len: usize, table: *mut usize,
         room: usize) -> usize;
     rank(bytes: *const u8, size: usize, offset: usize, len: usize, table: *const usize,

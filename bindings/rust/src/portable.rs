@@ -2,6 +2,7 @@
 //! for windows of a word. They keep what that code promises; nothing here is `unsafe`, and nothing
 //! is proved.
 
+mod compare;
 mod count;
 mod filter;
 mod rank;
@@ -10,6 +11,7 @@ mod walk;
 mod word;
 mod write;
 
+pub use compare::*;
 pub use count::*;
 pub use filter::*;
 pub use rank::*;

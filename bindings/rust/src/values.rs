@@ -1,6 +1,7 @@
-//! Values at indices: `take_into` writes them into a slice that is there, `take` into a new `Vec`.
+//! Values at indices: `take_into` writes them into a slice that is there, `take` into a new `Vec`;
+//! and values compared, into bits that are there or a new `Bitmap`.
 //!
-//! Each has a form with a validity, of which a position counts where its bit is true, and a form
+//! A take has a form with a validity, of which a position counts where its bit is true, and a form
 //! `try_` that answers an error where the other panics.
 //!
 //! ```
@@ -17,6 +18,10 @@
 use alloc::vec;
 #[cfg(feature = "alloc")]
 use alloc::vec::Vec;
+
+#[cfg(feature = "alloc")]
+pub use crate::compare::{compare, compare_with};
+pub use crate::compare::{compare_into, compare_with_into};
 
 use crate::error::{TakeValuesError, expect};
 use crate::{BitIndex, Bits, Mask, Value, kernels};

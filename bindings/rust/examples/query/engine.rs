@@ -3,7 +3,7 @@
 use std::fmt;
 
 use vortex_bits::arrow::{Array, ArrowError};
-use vortex_bits::{Bitmap, Value, values};
+use vortex_bits::{Bitmap, Comparison, Value, values};
 
 /// What is asked: `select b, c where a > limit and b is not null`.
 pub struct Question {
@@ -64,7 +64,8 @@ impl Answer {
         let (a, b, c, flag) = (a?, b?, c?, flag?);
         let (a_valid, b_valid) = (a.validity()?, b.validity()?);
 
-        let mask = above(a.values()?, question.limit) & a_valid & b_valid;
+        let mask =
+            values::compare(a.values()?, Comparison::Greater, question.limit) & a_valid & b_valid;
         self.find(&mask, question);
         keep(&mask, b.values()?, &mut self.b);
         keep(&mask, c.values()?, &mut self.c);
@@ -98,12 +99,6 @@ impl Answer {
         self.taken = values::take(&self.b, &at);
         self.taken_nulls = self.c_valid.take(&at).count_zeros();
     }
-}
-
-fn above(column: &[i32], limit: i32) -> Bitmap {
-    Bitmap::make(column.len(), |mut out| {
-        out.fill_with(|row| column[row] > limit);
-    })
 }
 
 /// Adds the values that the mask keeps.

@@ -1,0 +1,106 @@
+/*
+ * Comparisons of whole numbers, into bits. vortex_bits.h includes this file, and its head says what
+ * the caller owes of every call.
+ */
+#ifndef VORTEX_BITS_COMPARE_H
+#define VORTEX_BITS_COMPARE_H
+
+#include "vortex_bits.h"
+
+#ifdef __cplusplus
+extern "C" {
+#endif
+
+/* How a value compares with another one, as `op` below. */
+enum {
+    VB_EQUAL,
+    VB_NOT_EQUAL,
+    VB_LESS,
+    VB_LESS_OR_EQUAL,
+    VB_GREATER,
+    VB_GREATER_OR_EQUAL
+};
+
+/*
+ * Writes to bit `out_offset + k` of `out`, for each k below `values_size`, whether value k compares
+ * with `number` so. Every other bit of `out` stays. 64 values go at a time, by vectors.
+ */
+void vb_compare_u8(uint8_t *out, size_t out_size, size_t out_offset, const uint8_t *values, size_t
+        values_size, uint8_t op, uint8_t number);
+VB_CHECKED bool vb_try_compare_u8(uint8_t *out, size_t out_size, size_t out_offset, const uint8_t
+        *values, size_t values_size, uint8_t op, uint8_t number);
+void vb_compare_u16(uint8_t *out, size_t out_size, size_t out_offset, const uint16_t *values,
+        size_t values_size, uint8_t op, uint16_t number);
+VB_CHECKED bool vb_try_compare_u16(uint8_t *out, size_t out_size, size_t out_offset, const
+        uint16_t *values, size_t values_size, uint8_t op, uint16_t number);
+void vb_compare_u32(uint8_t *out, size_t out_size, size_t out_offset, const uint32_t *values,
+        size_t values_size, uint8_t op, uint32_t number);
+VB_CHECKED bool vb_try_compare_u32(uint8_t *out, size_t out_size, size_t out_offset, const
+        uint32_t *values, size_t values_size, uint8_t op, uint32_t number);
+void vb_compare_u64(uint8_t *out, size_t out_size, size_t out_offset, const uint64_t *values,
+        size_t values_size, uint8_t op, uint64_t number);
+VB_CHECKED bool vb_try_compare_u64(uint8_t *out, size_t out_size, size_t out_offset, const
+        uint64_t *values, size_t values_size, uint8_t op, uint64_t number);
+void vb_compare_i8(uint8_t *out, size_t out_size, size_t out_offset, const int8_t *values, size_t
+        values_size, uint8_t op, int8_t number);
+VB_CHECKED bool vb_try_compare_i8(uint8_t *out, size_t out_size, size_t out_offset, const int8_t
+        *values, size_t values_size, uint8_t op, int8_t number);
+void vb_compare_i16(uint8_t *out, size_t out_size, size_t out_offset, const int16_t *values,
+        size_t values_size, uint8_t op, int16_t number);
+VB_CHECKED bool vb_try_compare_i16(uint8_t *out, size_t out_size, size_t out_offset, const int16_t
+        *values, size_t values_size, uint8_t op, int16_t number);
+void vb_compare_i32(uint8_t *out, size_t out_size, size_t out_offset, const int32_t *values,
+        size_t values_size, uint8_t op, int32_t number);
+VB_CHECKED bool vb_try_compare_i32(uint8_t *out, size_t out_size, size_t out_offset, const int32_t
+        *values, size_t values_size, uint8_t op, int32_t number);
+void vb_compare_i64(uint8_t *out, size_t out_size, size_t out_offset, const int64_t *values,
+        size_t values_size, uint8_t op, int64_t number);
+VB_CHECKED bool vb_try_compare_i64(uint8_t *out, size_t out_size, size_t out_offset, const int64_t
+        *values, size_t values_size, uint8_t op, int64_t number);
+
+/* The same with other values, of which there are as many. */
+void vb_compare_with_u8(uint8_t *out, size_t out_size, size_t out_offset, const uint8_t *values,
+        size_t values_size, uint8_t op, const uint8_t *others, size_t others_size);
+VB_CHECKED bool vb_try_compare_with_u8(uint8_t *out, size_t out_size, size_t out_offset, const
+        uint8_t *values, size_t values_size, uint8_t op, const uint8_t *others, size_t
+        others_size);
+void vb_compare_with_u16(uint8_t *out, size_t out_size, size_t out_offset, const uint16_t *values,
+        size_t values_size, uint8_t op, const uint16_t *others, size_t others_size);
+VB_CHECKED bool vb_try_compare_with_u16(uint8_t *out, size_t out_size, size_t out_offset, const
+        uint16_t *values, size_t values_size, uint8_t op, const uint16_t *others, size_t
+        others_size);
+void vb_compare_with_u32(uint8_t *out, size_t out_size, size_t out_offset, const uint32_t *values,
+        size_t values_size, uint8_t op, const uint32_t *others, size_t others_size);
+VB_CHECKED bool vb_try_compare_with_u32(uint8_t *out, size_t out_size, size_t out_offset, const
+        uint32_t *values, size_t values_size, uint8_t op, const uint32_t *others, size_t
+        others_size);
+void vb_compare_with_u64(uint8_t *out, size_t out_size, size_t out_offset, const uint64_t *values,
+        size_t values_size, uint8_t op, const uint64_t *others, size_t others_size);
+VB_CHECKED bool vb_try_compare_with_u64(uint8_t *out, size_t out_size, size_t out_offset, const
+        uint64_t *values, size_t values_size, uint8_t op, const uint64_t *others, size_t
+        others_size);
+void vb_compare_with_i8(uint8_t *out, size_t out_size, size_t out_offset, const int8_t *values,
+        size_t values_size, uint8_t op, const int8_t *others, size_t others_size);
+VB_CHECKED bool vb_try_compare_with_i8(uint8_t *out, size_t out_size, size_t out_offset, const
+        int8_t *values, size_t values_size, uint8_t op, const int8_t *others, size_t others_size);
+void vb_compare_with_i16(uint8_t *out, size_t out_size, size_t out_offset, const int16_t *values,
+        size_t values_size, uint8_t op, const int16_t *others, size_t others_size);
+VB_CHECKED bool vb_try_compare_with_i16(uint8_t *out, size_t out_size, size_t out_offset, const
+        int16_t *values, size_t values_size, uint8_t op, const int16_t *others, size_t
+        others_size);
+void vb_compare_with_i32(uint8_t *out, size_t out_size, size_t out_offset, const int32_t *values,
+        size_t values_size, uint8_t op, const int32_t *others, size_t others_size);
+VB_CHECKED bool vb_try_compare_with_i32(uint8_t *out, size_t out_size, size_t out_offset, const
+        int32_t *values, size_t values_size, uint8_t op, const int32_t *others, size_t
+        others_size);
+void vb_compare_with_i64(uint8_t *out, size_t out_size, size_t out_offset, const int64_t *values,
+        size_t values_size, uint8_t op, const int64_t *others, size_t others_size);
+VB_CHECKED bool vb_try_compare_with_i64(uint8_t *out, size_t out_size, size_t out_offset, const
+        int64_t *values, size_t values_size, uint8_t op, const int64_t *others, size_t
+        others_size);
+
+#ifdef __cplusplus
+}
+#endif
+
+#endif

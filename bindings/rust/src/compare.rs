@@ -1,0 +1,189 @@
+//! Values compared with a number or with other values, into bits.
+
+use crate::bits_mut::alike;
+use crate::{BitsMut, Value, kernels};
+
+#[cfg(feature = "alloc")]
+use crate::Bitmap;
+
+/// How a value compares with another one.
+///
+/// Floats compare as Rust's operators do: what isn't a number isn't equal to anything, nor below or
+/// above it.
+#[derive(Clone, Copy, Debug, PartialEq, Eq, Hash)]
+#[repr(u8)]
+pub enum Comparison {
+    /// `==`
+    Equal,
+    /// `!=`
+    NotEqual,
+    /// `<`
+    Less,
+    /// `<=`
+    LessOrEqual,
+    /// `>`
+    Greater,
+    /// `>=`
+    GreaterOrEqual,
+}
+
+/// A type of values that are compared: whole numbers and floats. Of whole numbers of up to 64 bits
+/// the C functions compare 64 at once.
+#[diagnostic::on_unimplemented(
+    message = "values of `{Self}` aren't compared",
+    label = "values are whole numbers or floats",
+    note = "those of another type go by a closure: `BitsMut::fill_with`"
+)]
+pub trait Compare: Value + PartialOrd + sealed::Compare {}
+
+pub(crate) mod sealed {
+    #[cfg(vortex_bits_native)]
+    use crate::native::{CompareNumber, CompareOthers, Kernels};
+
+    /// What a type of values that are compared answers.
+    pub trait Compare: Sized {
+        /// The type that the C functions compare, which is laid out as this one and in the same
+        /// order.
+        #[cfg(vortex_bits_native)]
+        type Laid;
+
+        /// The C function that compares with a number, and the number as it takes it.
+        #[cfg(vortex_bits_native)]
+        fn with_number(self, kernels: &Kernels) -> Option<(CompareNumber<Self::Laid>, Self::Laid)>;
+
+        /// The C function that compares with others.
+        #[cfg(vortex_bits_native)]
+        fn with_others(kernels: &Kernels) -> Option<CompareOthers<Self::Laid>>;
+    }
+
+    macro_rules! compared {
+        ($($value:ty as $laid:ty, $number:ident, $others:ident;)*) => {$(
+            impl super::Compare for $value {}
+
+            impl Compare for $value {
+                #[cfg(vortex_bits_native)]
+                type Laid = $laid;
+
+                #[cfg(vortex_bits_native)]
+                #[inline]
+                fn with_number(self, kernels: &Kernels) -> Option<(CompareNumber<$laid>, $laid)> {
+                    Some((kernels.$number, self as $laid))
+                }
+
+                #[cfg(vortex_bits_native)]
+                #[inline]
+                fn with_others(kernels: &Kernels) -> Option<CompareOthers<$laid>> {
+                    Some(kernels.$others)
+                }
+            }
+        )*};
+    }
+
+    macro_rules! one_by_one {
+        ($($value:ty)*) => {$(
+            impl super::Compare for $value {}
+
+            impl Compare for $value {
+                #[cfg(vortex_bits_native)]
+                type Laid = $value;
+
+                #[cfg(vortex_bits_native)]
+                #[inline]
+                fn with_number(self, _: &Kernels) -> Option<(CompareNumber<$value>, $value)> {
+                    None
+                }
+
+                #[cfg(vortex_bits_native)]
+                #[inline]
+                fn with_others(_: &Kernels) -> Option<CompareOthers<$value>> {
+                    None
+                }
+            }
+        )*};
+    }
+
+    compared! {
+        u8 as u8, compare_u8, compare_with_u8;
+        u16 as u16, compare_u16, compare_with_u16;
+        u32 as u32, compare_u32, compare_with_u32;
+        u64 as u64, compare_u64, compare_with_u64;
+        usize as u64, compare_u64, compare_with_u64;
+        i8 as i8, compare_i8, compare_with_i8;
+        i16 as i16, compare_i16, compare_with_i16;
+        i32 as i32, compare_i32, compare_with_i32;
+        i64 as i64, compare_i64, compare_with_i64;
+        isize as i64, compare_i64, compare_with_i64;
+    }
+
+    one_by_one! { u128 i128 f32 f64 }
+}
+
+/// Writes to `out` which of the values compare so with `number`.
+///
+/// ```
+/// use vortex_bits::{BitsMut, Comparison, values};
+///
+/// let mut above = [0];
+/// let ages = [19u8, 64, 7, 30];
+/// values::compare_into(&ages, Comparison::Greater, 18, BitsMut::new(&mut above, 0, 4));
+/// assert_eq!(above, [0b1011]);
+/// ```
+///
+/// # Panics
+///
+/// Where `out` hasn't a bit for each value.
+#[track_caller]
+pub fn compare_into<T: Compare>(values: &[T], op: Comparison, number: T, mut out: BitsMut<'_>) {
+    alike(out.len(), values.len());
+    kernels::compare(&mut out, values, op, number);
+}
+
+/// Writes to `out` which of the values compare so with the one of `others` at the same place.
+///
+/// # Panics
+///
+/// Where there aren't as many others, or `out` hasn't a bit for each value.
+#[track_caller]
+pub fn compare_with_into<T: Compare>(
+    values: &[T],
+    op: Comparison,
+    others: &[T],
+    mut out: BitsMut<'_>,
+) {
+    alike(others.len(), values.len());
+    alike(out.len(), values.len());
+    kernels::compare_with(&mut out, values, op, others);
+}
+
+/// Which of the values compare so with `number`. With a validity, nulls are false:
+///
+/// ```
+/// use vortex_bits::{Bits, Comparison, Validity, values};
+///
+/// let (ages, valid) = ([19u8, 64, 7, 30], Validity::new(Some(Bits::new(&[0b0111], 0, 4)), 4));
+/// let mut grown = values::compare(&ages, Comparison::GreaterOrEqual, 18);
+/// grown &= valid;
+/// assert_eq!(grown.set_indices().collect::<Vec<_>>(), [0, 1]);
+/// ```
+#[cfg(feature = "alloc")]
+#[must_use]
+pub fn compare<T: Compare>(values: &[T], op: Comparison, number: T) -> Bitmap {
+    Bitmap::make(values.len(), |out| {
+        compare_into(values, op, number, out);
+    })
+}
+
+/// Which of the values compare so with the one of `others` at the same place.
+///
+/// # Panics
+///
+/// Where there aren't as many others.
+#[cfg(feature = "alloc")]
+#[must_use]
+#[track_caller]
+pub fn compare_with<T: Compare>(values: &[T], op: Comparison, others: &[T]) -> Bitmap {
+    alike(others.len(), values.len());
+    Bitmap::make(values.len(), |out| {
+        compare_with_into(values, op, others, out);
+    })
+}

@@ -1,0 +1,31 @@
+//! Values compared, into bits.
+
+use crate::compare::{Compare, Comparison};
+use crate::{BitsMut, portable};
+
+#[cfg(vortex_bits_native)]
+use crate::level::kernels;
+
+/// Of as many values as bits.
+#[inline]
+pub fn compare<T: Compare>(out: &mut BitsMut<'_>, values: &[T], op: Comparison, number: T) {
+    debug_assert_eq!(out.len(), values.len());
+    #[cfg(vortex_bits_native)]
+    if let Some((function, number)) = kernels().and_then(|kernels| number.with_number(kernels)) {
+        let op = op as u8;
+        return native!(@call function, [] start_mut out, slice values, value op, value number);
+    }
+    portable::compare(out, values, op, number);
+}
+
+/// Of as many values and others as bits.
+#[inline]
+pub fn compare_with<T: Compare>(out: &mut BitsMut<'_>, values: &[T], op: Comparison, others: &[T]) {
+    debug_assert!(out.len() == values.len() && others.len() == values.len());
+    #[cfg(vortex_bits_native)]
+    if let Some(function) = kernels().and_then(T::with_others) {
+        let op = op as u8;
+        return native!(@call function, [] start_mut out, slice values, value op, slice others);
+    }
+    portable::compare_with(out, values, op, others);
+}

@@ -1,0 +1,49 @@
+//! Comparisons as numbers that cross from C.
+ghost use Rattle.std.specs.Prelude.{◌≡◌, ◌↔◌, ◌<◌, IsTrue, length};
+ghost use Rattle.std.specs.Simd.Lanes.{zip2};
+ghost use Rattle.vb_bits.specs.Writes.{Writes};
+ghost use Rattle.vb_c_compare.specs.Codes.{comparison_of, CompareFits};
+ghost use Rattle.vb_compare.specs.Compares.{compares};
+
+use vb_bits::window_fits;
+use vb_compare::{CompareLanes, Comparison, compare_with_into};
+
+/// The comparison that a number below 6 stands for.
+pub(crate) fn comparison_of(code: u8) -> Comparison
+    requires { code < 6 }
+    ensures { result ≡ comparison_of code }
+{
+    match code {
+        0 => Comparison::Equal,
+        1 => Comparison::NotEqual,
+        2 => Comparison::Less,
+        3 => Comparison::LessOrEqual,
+        4 => Comparison::Greater,
+        _ => Comparison::GreaterOrEqual,
+    }
+}
+
+/// Whether the `n` bits from bit `o` on lie in the bytes, and a comparison has this number.
+pub(crate) fn fits(out: &[u8], o: usize, n: usize, code: u8) -> bool
+    ensures { IsTrue result ↔ CompareFits out.now o n code }
+{
+    window_fits(out, o, n) && code < 6
+}
+
+/// Writes to bit `o + k` of `out`, for each `k` below the number of values, whether `values[k]`
+/// compares with `others[k]` as `op` says.
+pub(crate) fn compare_with<T: CompareLanes>(
+    out: &mut [u8],
+    o: usize,
+    values: &[T],
+    op: u8,
+    others: &[T],
+)
+    requires others { length others.now ≡ length values.now }
+    requires window { CompareFits out.old o (length values.now) op }
+    ensures { Writes out.old out.new o
+        (zip2 (λ left right. compares (comparison_of op) (T.number left) (T.number right))
+        values.now others.now) }
+{
+    compare_with_into(out, o, values, comparison_of(op), others);
+}

@@ -1,0 +1,141 @@
+//! Unsigned values compared with a number.
+ghost use Rattle.std.specs.Prelude.{◌≡◌, length, map, pos};
+ghost use Rattle.vb_bits.specs.Writes.{Writes};
+ghost use Rattle.vb_c_compare.specs.Codes.{comparison_of, CompareFits};
+ghost use Rattle.vb_c_core.specs.Fits.{DoneIf};
+ghost use Rattle.vb_compare.specs.Compares.{compares};
+
+use crate::code::{comparison_of, fits};
+use vb_compare::compare_into;
+
+/// Writes to bit `o + k` of `out`, for each `k` below the number of values, whether `values[k]`
+/// compares with `number` as `op` says. These bits have to lie in `out`, and every other one stays.
+#[unsafe(no_mangle)]
+pub extern "C" fn vb_compare_u8(out: &mut [u8], o: usize, values: &[u8], op: u8, number: u8)
+    requires { CompareFits out.old o (length values.now) op }
+    ensures { Writes out.old out.new o
+        (map (λ value. compares (comparison_of op) (pos value) (pos number)) values.now) }
+{
+    compare_into(out, o, values, comparison_of(op), number);
+}
+
+/// Whether the window lies in the bytes, and `op` is below 6; [`vb_compare_u8`] is then done, else
+/// nothing.
+#[unsafe(no_mangle)]
+pub extern "C" fn vb_try_compare_u8(
+    out: &mut [u8],
+    o: usize,
+    values: &[u8],
+    op: u8,
+    number: u8,
+) -> bool
+    ensures { DoneIf (CompareFits out.old o (length values.now) op)
+        (Writes out.old out.new o
+        (map (λ value. compares (comparison_of op) (pos value) (pos number)) values.now))
+        (out.new ≡ out.old) result }
+{
+    if !fits(out, o, values.len(), op) {
+        return false;
+    }
+    vb_compare_u8(out, o, values, op, number);
+    true
+}
+
+/// Writes to bit `o + k` of `out`, for each `k` below the number of values, whether `values[k]`
+/// compares with `number` as `op` says. These bits have to lie in `out`, and every other one stays.
+#[unsafe(no_mangle)]
+pub extern "C" fn vb_compare_u16(out: &mut [u8], o: usize, values: &[u16], op: u8, number: u16)
+    requires { CompareFits out.old o (length values.now) op }
+    ensures { Writes out.old out.new o
+        (map (λ value. compares (comparison_of op) (pos value) (pos number)) values.now) }
+{
+    compare_into(out, o, values, comparison_of(op), number);
+}
+
+/// Whether the window lies in the bytes, and `op` is below 6; [`vb_compare_u16`] is then done, else
+/// nothing.
+#[unsafe(no_mangle)]
+pub extern "C" fn vb_try_compare_u16(
+    out: &mut [u8],
+    o: usize,
+    values: &[u16],
+    op: u8,
+    number: u16,
+) -> bool
+    ensures { DoneIf (CompareFits out.old o (length values.now) op)
+        (Writes out.old out.new o
+        (map (λ value. compares (comparison_of op) (pos value) (pos number)) values.now))
+        (out.new ≡ out.old) result }
+{
+    if !fits(out, o, values.len(), op) {
+        return false;
+    }
+    vb_compare_u16(out, o, values, op, number);
+    true
+}
+
+/// Writes to bit `o + k` of `out`, for each `k` below the number of values, whether `values[k]`
+/// compares with `number` as `op` says. These bits have to lie in `out`, and every other one stays.
+#[unsafe(no_mangle)]
+pub extern "C" fn vb_compare_u32(out: &mut [u8], o: usize, values: &[u32], op: u8, number: u32)
+    requires { CompareFits out.old o (length values.now) op }
+    ensures { Writes out.old out.new o
+        (map (λ value. compares (comparison_of op) (pos value) (pos number)) values.now) }
+{
+    compare_into(out, o, values, comparison_of(op), number);
+}
+
+/// Whether the window lies in the bytes, and `op` is below 6; [`vb_compare_u32`] is then done, else
+/// nothing.
+#[unsafe(no_mangle)]
+pub extern "C" fn vb_try_compare_u32(
+    out: &mut [u8],
+    o: usize,
+    values: &[u32],
+    op: u8,
+    number: u32,
+) -> bool
+    ensures { DoneIf (CompareFits out.old o (length values.now) op)
+        (Writes out.old out.new o
+        (map (λ value. compares (comparison_of op) (pos value) (pos number)) values.now))
+        (out.new ≡ out.old) result }
+{
+    if !fits(out, o, values.len(), op) {
+        return false;
+    }
+    vb_compare_u32(out, o, values, op, number);
+    true
+}
+
+/// Writes to bit `o + k` of `out`, for each `k` below the number of values, whether `values[k]`
+/// compares with `number` as `op` says. These bits have to lie in `out`, and every other one stays.
+#[unsafe(no_mangle)]
+pub extern "C" fn vb_compare_u64(out: &mut [u8], o: usize, values: &[u64], op: u8, number: u64)
+    requires { CompareFits out.old o (length values.now) op }
+    ensures { Writes out.old out.new o
+        (map (λ value. compares (comparison_of op) (pos value) (pos number)) values.now) }
+{
+    compare_into(out, o, values, comparison_of(op), number);
+}
+
+/// Whether the window lies in the bytes, and `op` is below 6; [`vb_compare_u64`] is then done, else
+/// nothing.
+#[unsafe(no_mangle)]
+pub extern "C" fn vb_try_compare_u64(
+    out: &mut [u8],
+    o: usize,
+    values: &[u64],
+    op: u8,
+    number: u64,
+) -> bool
+    ensures { DoneIf (CompareFits out.old o (length values.now) op)
+        (Writes out.old out.new o
+        (map (λ value. compares (comparison_of op) (pos value) (pos number)) values.now))
+        (out.new ≡ out.old) result }
+{
+    if !fits(out, o, values.len(), op) {
+        return false;
+    }
+    vb_compare_u64(out, o, values, op, number);
+    true
+}
