@@ -1,7 +1,7 @@
 -- The word that a comparison of lanes makes.
 use Rattle.std.proofs.Common.{◌≡◌, ℕ, ℤ, pos, ◌-◌, ◌%◌, ◌^◌, ◌<◌, Bool, cond, eqb, ltb, int_eq}
-use Rattle.std.proofs.Common.{int_lt, All, List, [], ◌∷◌, map, length, FitsSigned, refl, sym, ap, ◌∙◌}
-use Rattle.std.proofs.Common.{◌≤◌, false, take, replicate, get_or, subst, arith}
+use Rattle.std.proofs.Common.{int_lt, All, List, [], ◌∷◌, map, length, FitsSigned, refl, sym, ap}
+use Rattle.std.proofs.Common.{◌∙◌, ◌≤◌, false, take, replicate, get_or, subst, arith}
 use Rattle.std.proofs.lemmas.Bool.Decides.{nat_tests}
 use Rattle.std.proofs.lemmas.Int.{ints, to_z-of_z}
 use Rattle.std.proofs.lemmas.List.{length-map, length-replicate, same_lists, get_or_default}
@@ -79,7 +79,8 @@ module _ (w : Width) where
   same_signed t s same [] ys f g = refl
   same_signed t s same (a ∷ xs) [] f g = refl
   same_signed t s same (a ∷ xs) (b ∷ ys) f g =
-      ap (λ x. x ∷ zip2 t (map (of_z w) xs) (map (of_z w) ys)) (same a b (All-head (FitsSigned w) a xs f) (All-head (FitsSigned w) b ys g))
+      ap (λ x. x ∷ zip2 t (map (of_z w) xs) (map (of_z w) ys))
+      (same a b (All-head (FitsSigned w) a xs f) (All-head (FitsSigned w) b ys g))
       ∙ ap (λ l. s a b ∷ l) (same_signed t s same xs ys
       (All-tail (FitsSigned w) a xs f) (All-tail (FitsSigned w) b ys g))
 

@@ -1,7 +1,7 @@
 -- What a comparison answers of lists, and of their parts.
-use Rattle.std.proofs.Common.{◌≡◌, ℕ, ℤ, suc, zero, ◌+◌, ◌-◌, ◌*◌, ◌/◌, ◌^◌, ◌<◌, ◌≤◌, Bool, not, List}
-use Rattle.std.proofs.Common.{[], ◌∷◌, ◌++◌, length, map, take, drop, replicate, refl, sym, ap, ◌∙◌}
-use Rattle.std.proofs.Common.{arith, zero-add}
+use Rattle.std.proofs.Common.{◌≡◌, ℕ, ℤ, suc, zero, ◌+◌, ◌-◌, ◌*◌, ◌/◌, ◌^◌, ◌<◌, ◌≤◌, Bool, not}
+use Rattle.std.proofs.Common.{List, [], ◌∷◌, ◌++◌, length, map, take, drop, replicate, refl, sym}
+use Rattle.std.proofs.Common.{ap, ◌∙◌, arith, zero-add}
 use Rattle.std.proofs.lemmas.List.{take-map, take-take, take-replicate, take_all, take-append-drop}
 use Rattle.std.proofs.lemmas.List.{drop-map, drop-drop, length-map, length-drop, length-take-le}
 use Rattle.std.proofs.lemmas.Simd.{zip2_splat, length-zip2, map-map}

@@ -1,5 +1,6 @@
 //! Whole numbers that are compared 64 at a time.
-ghost use Rattle.std.specs.Prelude.{◌≡◌, ℤ, ◌<◌, ◌≤◌, List, length, map, replicate, take, All, int_lt};
+ghost use Rattle.std.specs.Prelude.{◌≡◌, ℤ, ◌<◌, ◌≤◌, List, length, map, replicate, take};
+ghost use Rattle.std.specs.Prelude.{All, int_lt};
 ghost use Rattle.std.specs.Ordering.{int_eq};
 ghost use Rattle.std.specs.Simd.Lanes.{zip2};
 ghost use Rattle.vb_compare.specs.Digits.{digits};
