@@ -70,7 +70,7 @@ class Signatures(unittest.TestCase):
         edits = [
             ("void vb_pack_truthy(uint8_t *out, size_t out_size,",
              "void vb_pack_truthy(int8_t *out, size_t out_size,",
-             "parameter 1 is `out: *mut int8_t`"),
+             "parameter 1 is `out: *mut i8`"),
             ("bool vb_get_bit(const uint8_t *bytes, size_t size, size_t place);",
              "size_t vb_get_bit(const uint8_t *bytes, size_t size, size_t place);",
              "it answers `usize` in place of `bool`"),
