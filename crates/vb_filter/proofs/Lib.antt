@@ -1,4 +1,5 @@
 mod DepositLemmas
+mod ElementsLemmas
 mod FieldsLemmas
 mod FilteredBits
 mod FourLanes

@@ -32,7 +32,7 @@ pub fn filter_values_into<T: Copy>(out: &mut [T], values: &[T], mask: BitBufferV
 /// Writes the values whose digit of `keep` is 1 behind the first `len` items of `out`, and answers
 /// how many they are.
 #[inline(always)]
-fn put_word<T: Copy>(out: &mut [T], len: usize, values: &[T], keep: u64) -> usize
+pub(crate) fn put_word<T: Copy>(out: &mut [T], len: usize, values: &[T], keep: u64) -> usize
     requires few { length values.now ≤ 64 }
     requires clear { keep < 2 ^ length values.now }
     requires room { len + count_ones keep ≤ length out.old }
@@ -51,7 +51,7 @@ fn put_word<T: Copy>(out: &mut [T], len: usize, values: &[T], keep: u64) -> usiz
 
 /// Writes the values whose digit of `keep` is 1 behind the first `len` items of `out`, one by one.
 #[inline(always)]
-fn put_places<T: Copy>(out: &mut [T], len: usize, values: &[T], keep: u64)
+pub(crate) fn put_places<T: Copy>(out: &mut [T], len: usize, values: &[T], keep: u64)
     requires few { length values.now ≤ 64 }
     requires clear { keep < 2 ^ length values.now }
     requires room { len + count_ones keep ≤ length out.old }

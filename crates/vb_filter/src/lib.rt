@@ -7,6 +7,7 @@ mod deposit;
 mod digits;
 mod fields;
 mod filter;
+mod filter_elements;
 mod filter_values;
 mod pending;
 mod spread;
@@ -14,4 +15,5 @@ mod spread_table;
 
 pub use deposit::deposit_into;
 pub use filter::filter_into;
+pub use filter_elements::filter_elements_into;
 pub use filter_values::filter_values_into;

@@ -6,7 +6,7 @@ ghost use Rattle.vb_view.specs.View.{bits_of};
 use std::alloc::Allocator;
 use vb_bit_buffer::BitBuffer;
 use vb_core::{BufferError, Element, Result};
-use vb_filter::{filter_into, filter_values_into};
+use vb_filter::{filter_elements_into, filter_into};
 use vb_mem::{Buffer, BufferMut};
 use vb_view::BitBufferView;
 
@@ -83,7 +83,7 @@ impl<T: Element, A: Allocator + Clone> Filter for Buffer<T, A> {
             return Buffer::copy_from_aligned(alloc, items, alignment);
         }
         let mut kept = BufferMut::zeroed_aligned(alloc, count, alignment)?;
-        filter_values_into(kept.as_mut_slice(), items, mask);
+        filter_elements_into(kept.as_mut_slice(), items, mask);
         kept.freeze()
     }
 }

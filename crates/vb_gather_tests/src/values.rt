@@ -5,7 +5,7 @@ use crate::masks::{ROWS, Row, mask};
 use std::alloc::Allocator;
 use vb_bit_buffer::BitBuffer;
 use vb_core::{BufferError, Result};
-use vb_filter::filter_values_into;
+use vb_filter::{filter_elements_into, filter_values_into};
 use vb_mem::Buffer;
 use vb_testing::{Handle, Refusing};
 use vb_view::BitBufferView;
@@ -56,14 +56,16 @@ fn values_and_owners_are_one_request_each(rt: HostRuntime) {
 }
 
 /// Whether the values that a row's mask keeps are written to the front of a slice, and its other
-/// items stay.
+/// items stay, as values and as elements.
 fn writes_in_front(values: &[u32], mask: BitBufferView<'_>, row: &Row) -> bool {
     let mut out = [u32::MAX; 1001];
+    let mut elements = [u32::MAX; 1001];
     if values.len() != mask.len() || mask.true_count() > out.len() {
         return false;
     }
     let len = filter_values_into(&mut out, values, mask);
-    is_plain(&out[..len], row) && out[len..].iter().all(|item| *item == u32::MAX)
+    let same = filter_elements_into(&mut elements, values, mask) == len && elements == out;
+    same && is_plain(&out[..len], row) && out[len..].iter().all(|item| *item == u32::MAX)
 }
 
 #[test]

@@ -1,0 +1,272 @@
+//! The elements of a slice that a mask keeps, written into another slice, and four of them at once.
+ghost use Rattle.std.specs.Int.{w32, to_le_bytes};
+ghost use Rattle.std.specs.Prelude.{◌≡◌, ◌+◌, ◌^◌, ◌<◌, ◌≤◌, [], ◌∷◌, ◌++◌, count_ones, length};
+ghost use Rattle.std.specs.Prelude.{take, drop};
+ghost use Rattle.vb_bits.specs.Bits.{count};
+ghost use Rattle.vb_bits.specs.Digits.{digits};
+ghost use Rattle.vb_bits.specs.Kept.{kept_by};
+ghost use Rattle.vb_filter.specs.Gathered.{PutsAt};
+ghost use Rattle.vb_view.specs.View.{bits_of};
+
+use crate::filter_values::{put_places, put_word};
+use std::simd::prelude::*;
+use vb_core::Element;
+use vb_view::{BitBufferView, view_word};
+
+/// For each mask of four elements, which of their 16 bytes it keeps; then the first one.
+static KEPT_BYTES: [[u8; 16]; 16] = [
+    [0, 0, 0, 0, 0, 0, 0, 0, 0, 0, 0, 0, 0, 0, 0, 0],
+    [0, 1, 2, 3, 0, 0, 0, 0, 0, 0, 0, 0, 0, 0, 0, 0],
+    [4, 5, 6, 7, 0, 0, 0, 0, 0, 0, 0, 0, 0, 0, 0, 0],
+    [0, 1, 2, 3, 4, 5, 6, 7, 0, 0, 0, 0, 0, 0, 0, 0],
+    [8, 9, 10, 11, 0, 0, 0, 0, 0, 0, 0, 0, 0, 0, 0, 0],
+    [0, 1, 2, 3, 8, 9, 10, 11, 0, 0, 0, 0, 0, 0, 0, 0],
+    [4, 5, 6, 7, 8, 9, 10, 11, 0, 0, 0, 0, 0, 0, 0, 0],
+    [0, 1, 2, 3, 4, 5, 6, 7, 8, 9, 10, 11, 0, 0, 0, 0],
+    [12, 13, 14, 15, 0, 0, 0, 0, 0, 0, 0, 0, 0, 0, 0, 0],
+    [0, 1, 2, 3, 12, 13, 14, 15, 0, 0, 0, 0, 0, 0, 0, 0],
+    [4, 5, 6, 7, 12, 13, 14, 15, 0, 0, 0, 0, 0, 0, 0, 0],
+    [0, 1, 2, 3, 4, 5, 6, 7, 12, 13, 14, 15, 0, 0, 0, 0],
+    [8, 9, 10, 11, 12, 13, 14, 15, 0, 0, 0, 0, 0, 0, 0, 0],
+    [0, 1, 2, 3, 8, 9, 10, 11, 12, 13, 14, 15, 0, 0, 0, 0],
+    [4, 5, 6, 7, 8, 9, 10, 11, 12, 13, 14, 15, 0, 0, 0, 0],
+    [0, 1, 2, 3, 4, 5, 6, 7, 8, 9, 10, 11, 12, 13, 14, 15],
+];
+
+/// Up to so many elements of a word take less time one by one.
+const FEW: usize = 16;
+
+/// Writes the elements whose bit in the mask is true, in order, to the front of `out`, and answers
+/// how many they are. The other items of `out` stay.
+///
+/// The mask has to be as long as the values, and `out` to have room for those that it keeps. It
+/// goes by 64 bits, as [`filter_values_into`](crate::filter_values_into) does. Elements of four
+/// bytes it moves four at once, by a shuffle of their bytes, where more than a few of 64 are kept
+/// and not all, and `out` has room for four items more: these are written over and put back.
+pub fn filter_elements_into<T: Element>(
+    out: &mut [T],
+    values: &[T],
+    mask: BitBufferView<'_>,
+) -> usize
+    requires same_len { length values.now ≡ length (bits_of mask) }
+    requires room { count (bits_of mask) ≤ length out.old }
+    ensures count { result ≡ count (bits_of mask.entry) }
+    ensures kept { out.new ≡ kept_by (bits_of mask.entry) values.now ++ drop result out.old }
+{
+    let mut len = 0;
+    for t in 0..mask.len().div_ceil(64) {
+        let n = (mask.len() - 64 * t).min(64);
+        let keep = view_word(mask, 64 * t, n);
+        len += put_elements(out, len, &values[64 * t..64 * t + n], keep);
+    }
+    len
+}
+
+/// Writes the elements whose digit of `keep` is 1 behind the first `len` items of `out`, and
+/// answers how many they are.
+#[inline(always)]
+fn put_elements<T: Element>(out: &mut [T], len: usize, values: &[T], keep: u64) -> usize
+    requires few { length values.now ≤ 64 }
+    requires clear { keep < 2 ^ length values.now }
+    requires room { len + count_ones keep ≤ length out.old }
+    ensures count { result ≡ count_ones keep }
+    ensures kept { PutsAt len (kept_by (digits keep 0 (length values.now)) values.now)
+        out.old out.new }
+{
+    if T::SIZE == 4 {
+        put_of_four_bytes(out, len, values, keep)
+    } else {
+        put_word(out, len, values, keep)
+    }
+}
+
+/// [`put_elements`] of four bytes each.
+#[inline(always)]
+fn put_of_four_bytes<T: Element>(out: &mut [T], len: usize, values: &[T], keep: u64) -> usize
+    requires size { T.SIZE ≡ 4 }
+    requires few { length values.now ≤ 64 }
+    requires clear { keep < 2 ^ length values.now }
+    requires room { len + count_ones keep ≤ length out.old }
+    ensures count { result ≡ count_ones keep }
+    ensures kept { PutsAt len (kept_by (digits keep 0 (length values.now)) values.now)
+        out.old out.new }
+{
+    let count = keep.count_ones() as usize;
+    if count <= FEW {
+        put_places(out, len, values, keep);
+        count
+    } else if count < 64 && values.len() == 64 && count + 4 <= out.len() - len {
+        put_fours(out, len, values, keep);
+        count
+    } else {
+        put_word(out, len, values, keep)
+    }
+}
+
+/// Writes the elements whose digit of `keep` is 1 behind the first `len` items of `out`, four at
+/// once.
+#[inline(always)]
+fn put_fours<T: Element>(out: &mut [T], len: usize, values: &[T], keep: u64)
+    requires size { T.SIZE ≡ 4 }
+    requires long { length values.now ≡ 64 }
+    requires room { len + count_ones keep + 4 ≤ length out.old }
+    ensures { PutsAt len (kept_by (digits keep 0 64) values.now) out.old out.new }
+{
+    let end = len + keep.count_ones() as usize;
+    let behind = (out[end], out[end + 1], out[end + 2], out[end + 3]);
+    put_over(out, len, values, keep);
+    write_four(out, end, behind);
+}
+
+/// [`put_fours`], but the four items behind them may be any.
+#[inline(always)]
+fn put_over<T: Element>(out: &mut [T], len: usize, values: &[T], keep: u64)
+    requires size { T.SIZE ≡ 4 }
+    requires long { length values.now ≡ 64 }
+    requires room { len + count_ones keep + 4 ≤ length out.old }
+    ensures len { length out.new ≡ length out.old }
+    ensures front { take (len + count_ones keep) out.new
+        ≡ take len out.old ++ kept_by (digits keep 0 64) values.now }
+    ensures behind { drop (len + count_ones keep + 4) out.new
+        ≡ drop (len + count_ones keep + 4) out.old }
+{
+    let mut end = len;
+    let mut left = keep;
+    for k in 0..4 {
+        let sixteen = left & 0xffff;
+        put_sixteen(out, end, &values[16 * k..16 * k + 16], sixteen);
+        end += sixteen.count_ones() as usize;
+        left >>= 16;
+    }
+}
+
+/// [`put_over`] of 16 elements.
+#[inline(always)]
+fn put_sixteen<T: Element>(out: &mut [T], len: usize, values: &[T], keep: u64)
+    requires size { T.SIZE ≡ 4 }
+    requires long { length values.now ≡ 16 }
+    requires clear { keep < 2 ^ 16 }
+    requires room { len + count_ones keep + 4 ≤ length out.old }
+    ensures len { length out.new ≡ length out.old }
+    ensures front { take (len + count_ones keep) out.new
+        ≡ take len out.old ++ kept_by (digits keep 0 16) values.now }
+    ensures behind { drop (len + count_ones keep + 4) out.new
+        ≡ drop (len + count_ones keep + 4) out.old }
+{
+    let low = keep & 0xff;
+    put_eight(out, len, &values[0..8], low);
+    put_eight(
+        out,
+        len + low.count_ones() as usize,
+        &values[8..16],
+        keep >> 8,
+    );
+}
+
+/// [`put_over`] of eight elements.
+#[inline(always)]
+fn put_eight<T: Element>(out: &mut [T], len: usize, values: &[T], keep: u64)
+    requires size { T.SIZE ≡ 4 }
+    requires long { length values.now ≡ 8 }
+    requires clear { keep < 2 ^ 8 }
+    requires room { len + count_ones keep + 4 ≤ length out.old }
+    ensures len { length out.new ≡ length out.old }
+    ensures front { take (len + count_ones keep) out.new
+        ≡ take len out.old ++ kept_by (digits keep 0 8) values.now }
+    ensures behind { drop (len + count_ones keep + 4) out.new
+        ≡ drop (len + count_ones keep + 4) out.old }
+{
+    let low = keep & 0xf;
+    put_four(out, len, &values[0..4], low);
+    put_four(
+        out,
+        len + low.count_ones() as usize,
+        &values[4..8],
+        keep >> 4,
+    );
+}
+
+/// [`put_over`] of four elements.
+#[inline(always)]
+fn put_four<T: Element>(out: &mut [T], len: usize, values: &[T], keep: u64)
+    requires size { T.SIZE ≡ 4 }
+    requires long { length values.now ≡ 4 }
+    requires clear { keep < 2 ^ 4 }
+    requires room { len + count_ones keep + 4 ≤ length out.old }
+    ensures len { length out.new ≡ length out.old }
+    ensures front { take (len + count_ones keep) out.new
+        ≡ take len out.old ++ kept_by (digits keep 0 4) values.now }
+    ensures behind { drop (len + count_ones keep + 4) out.new
+        ≡ drop (len + count_ones keep + 4) out.old }
+{
+    let kept = keep_four((values[0], values[1], values[2], values[3]), keep);
+    write_four(out, len, kept);
+}
+
+/// Those of four elements whose digit of `keep` is 1, and any behind them.
+#[inline(always)]
+fn keep_four<T: Element>(four: (T, T, T, T), keep: u64) -> (T, T, T, T)
+    requires size { T.SIZE ≡ 4 }
+    requires clear { keep < 2 ^ 4 }
+    ensures { take (count_ones keep) (result.0 ∷ result.1 ∷ result.2 ∷ result.3 ∷ [])
+        ≡ kept_by (digits keep 0 4) (four.0 ∷ four.1 ∷ four.2 ∷ four.3 ∷ []) }
+{
+    let row = u8x16::from_array(KEPT_BYTES[keep as usize]);
+    let kept = bytes_of_four(four).swizzle_dyn(row).to_array();
+    (
+        T::get(&kept[0..4]),
+        T::get(&kept[4..8]),
+        T::get(&kept[8..12]),
+        T::get(&kept[12..16]),
+    )
+}
+
+/// The bytes of four elements, each of which is one of its type.
+///
+/// They go through words, which the compiler loads as one vector; it doesn't where bytes are
+/// written side by side.
+#[inline(always)]
+fn bytes_of_four<T: Element>(four: (T, T, T, T)) -> u8x16
+    requires size { T.SIZE ≡ 4 }
+    ensures bytes { result
+        ≡ T.form four.0 ++ (T.form four.1 ++ (T.form four.2 ++ T.form four.3)) }
+    ensures first { T.is_in_type four.0 }
+    ensures second { T.is_in_type four.1 }
+    ensures third { T.is_in_type four.2 }
+    ensures fourth { T.is_in_type four.3 }
+{
+    let words = [
+        word_of(four.0),
+        word_of(four.1),
+        word_of(four.2),
+        word_of(four.3),
+    ];
+    u32x4::from_array(words).to_le_bytes()
+}
+
+/// The number that has the bytes of an element, which is one of its type.
+#[inline(always)]
+fn word_of<T: Element>(item: T) -> u32
+    requires size { T.SIZE ≡ 4 }
+    ensures bytes { to_le_bytes w32 result ≡ T.form item }
+    ensures fits { result < 2 ^ 32 }
+    ensures in_type { T.is_in_type item }
+{
+    let _known = item.is_value();
+    let mut form = [0; 4];
+    item.put(&mut form);
+    u32::from_le_bytes(form)
+}
+
+/// Writes four items behind the first `len` of `out`.
+#[inline(always)]
+fn write_four<T: Copy>(out: &mut [T], len: usize, four: (T, T, T, T))
+    requires { len + 4 ≤ length out.old }
+    ensures { out.new ≡ take len out.old
+        ++ (four.0 ∷ four.1 ∷ four.2 ∷ four.3 ∷ drop (len + 4) out.old) }
+{
+    out[len] = four.0;
+    out[len + 1] = four.1;
+    out[len + 2] = four.2;
+    out[len + 3] = four.3;
+}
