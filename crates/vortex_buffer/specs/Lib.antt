@@ -18,6 +18,7 @@ pub use Rattle.vb_bits.specs.Runs
 pub use Rattle.vb_bits.specs.Shown
 pub use Rattle.vb_bits.specs.Writes
 pub use Rattle.vb_bytes.specs.ByteForm
+pub use Rattle.vb_compare.specs.Compares
 pub use Rattle.vb_core.specs.Alignments
 pub use Rattle.vb_core.specs.ElementLaws
 pub use Rattle.vb_core.specs.Elements
@@ -26,6 +27,7 @@ pub use Rattle.vb_core.specs.Indices
 pub use Rattle.vb_core.specs.Lengths
 pub use Rattle.vb_core.specs.LittleEndian
 pub use Rattle.vb_filter.specs.Spread
+pub use Rattle.vb_gather.specs.Compared
 pub use Rattle.vb_gather.specs.Deposited
 pub use Rattle.vb_gather.specs.Filtered
 pub use Rattle.vb_gather.specs.TakenItems

@@ -15,12 +15,13 @@ pub use aligned_buf::{AlignedBuf, copy_to_const_aligned};
 pub use buffer_string::BufferString;
 pub use const_buffer::{ConstBuffer, ConstByteBuffer};
 pub use ghost_count::GhostCount;
+pub use vb_compare::{CompareLanes, Comparison, compare_into, compare_with_into};
 pub use vb_core::{
     Alignment, BitIndex, BufferError, Element, ExtendError, TrustedLen, TrustedLenAdapter,
     trusted_len,
 };
 pub use vb_filter::{deposit_into, filter_into, filter_values_into};
-pub use vb_gather::{Deposit, Filter, Take, take_bits};
+pub use vb_gather::{Deposit, Filter, Take, compared, compared_with, take_bits};
 pub use vb_kernel::{
     BitOp, Glance, Plain, Tally, and_count, and_count_by, andnot_count, andnot_count_by,
     bit_select, bit_select_by, bit_select_unset, bit_select_unset_by, copy_bits, count_ones,
