@@ -6,7 +6,8 @@ ghost use Rattle.vb_c_values.specs.Filtered.{Filters};
 
 use crate::wide::Wide;
 use vb_bits::window_fits;
-use vb_filter::filter_values_into;
+use vb_core::Element;
+use vb_filter::filter_elements_into;
 use vb_kernel::count_ones;
 use vb_view::BitBufferView;
 
@@ -152,17 +153,17 @@ pub extern "C" fn vb_try_filter_u128(
 
 /// Writes those of the values whose bit of `mask` from bit `m` on is true to the front of `out`,
 /// and answers how many they are.
-fn filter_values<T: Copy>(out: &mut [T], values: &[T], mask: &[u8], m: usize) -> usize
+fn filter_values<T: Element>(out: &mut [T], values: &[T], mask: &[u8], m: usize) -> usize
     requires { KeptFits mask.now m (length values.now) (length out.old) }
     ensures { Filters (bits mask.now m (length values.now)) values.now out.old out.new result }
 {
     let mask = BitBufferView::new_with_offset(mask, values.len(), m);
-    filter_values_into(out, values, mask)
+    filter_elements_into(out, values, mask)
 }
 
 /// Whether the mask has a bit for each value in its bytes, and `out` room for those that it keeps;
 /// `written` is then what [`filter_values`] answers, and else all is as it was.
-fn try_filter_values<T: Copy>(
+fn try_filter_values<T: Element>(
     out: &mut [T],
     values: &[T],
     mask: &[u8],

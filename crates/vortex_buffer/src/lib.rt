@@ -20,7 +20,7 @@ pub use vb_core::{
     Alignment, BitIndex, BufferError, Element, ExtendError, TrustedLen, TrustedLenAdapter,
     trusted_len,
 };
-pub use vb_filter::{deposit_into, filter_into, filter_values_into};
+pub use vb_filter::{deposit_into, filter_elements_into, filter_into, filter_values_into};
 pub use vb_gather::{Deposit, Filter, Take, compared, compared_with, take_bits};
 pub use vb_kernel::{
     BitOp, Glance, Plain, Tally, and_count, and_count_by, andnot_count, andnot_count_by,
