@@ -36,9 +36,9 @@
 //! The structs come from outside, so their numbers are tested: lengths, offsets, numbers of nulls,
 //! of buffers and of children, which buffers are there, formats, and that columns are as long as
 //! their struct. What can't be tested is the caller's promise, by `unsafe`: that pointers lead to as
-//! much as the numbers say. Views, lists of one length, unions and runs
-//! may stand in a batch, and have a length and a validity here, no more. An [`Array`] goes out again as it
-//! came, of whatever type, by [`Export::from`](Export).
+//! much as the numbers say. Lists of one length or of views, unions and runs
+//! may stand in a batch, and have a length and a validity here, no more. An [`Array`] goes out again
+//! as it came, of whatever type, by [`Export::from`](Export).
 //!
 //! [Arrow C data interface]: https://arrow.apache.org/docs/format/CDataInterface.html
 
@@ -53,6 +53,7 @@ mod primitive;
 mod ranges;
 mod schema;
 mod stream;
+mod texts;
 
 pub use array::Array;
 pub use error::{ArrowError, Fault, StreamError};
@@ -62,3 +63,4 @@ pub use field::Field;
 pub use primitive::{Primitive, Unaligned};
 pub use ranges::Ranges;
 pub use stream::{ExportStream, Stream};
+pub use texts::Texts;

@@ -1,18 +1,20 @@
 //! Arrays that another part of the program made.
 
+mod variable;
+
 use alloc::string::String;
 use alloc::sync::Arc;
 use core::fmt;
 use core::ops::RangeBounds;
+use core::ptr;
 use core::slice;
 
 use super::error::{ArrowError, Fault};
 use super::ffi::{ArrowArray, ArrowSchema, Owned};
 use super::field::Field;
-use super::layout::{Layout, Of};
+use super::layout::Layout;
 use super::node::Node;
 use super::primitive::{Primitive, Unaligned};
-use super::ranges::Ranges;
 use crate::bits::within;
 use crate::error::{OutOfBounds, expect};
 use crate::{Bits, Validity};
@@ -191,20 +193,15 @@ impl Array {
     #[inline]
     pub fn values<T: Primitive>(&self) -> Result<&[T], ArrowError> {
         self.has_values::<T>()?;
-        if self.len == 0 || size_of::<T>() == 0 {
-            // SAFETY: they take no bytes.
-            return Ok(unsafe { slice::from_raw_parts(core::ptr::dangling(), self.len) });
-        }
-        let values = self.node.values.cast::<T>();
-        if !values.is_aligned() {
+        if self.len > 0 && !self.node.values.cast::<T>().is_aligned() {
             return Err(ArrowError::Unaligned {
                 column: self.name(),
                 alignment: align_of::<T>(),
             });
         }
-        // SAFETY: the buffer has as many values as there are items, which take at most `isize::MAX`
-        // bytes; it is aligned, and each arrangement of bytes is a value.
-        Ok(unsafe { slice::from_raw_parts(values.add(self.start), self.len) })
+        // SAFETY: there is a value for each item; each arrangement of bytes is one, and the buffer is
+        // aligned as they are.
+        Ok(unsafe { self.items_of(self.len) })
     }
 
     /// The values, wherever the buffer begins: decimals are read as `i128` so.
@@ -228,6 +225,22 @@ impl Array {
         Ok(Unaligned::new(bytes, self.len))
     }
 
+    /// So many of the values from the first row on.
+    ///
+    /// # Safety
+    ///
+    /// The buffer of the values has as many of this type, and is aligned for it.
+    #[inline]
+    unsafe fn items_of<T>(&self, number: usize) -> &[T] {
+        if number * size_of::<T>() == 0 {
+            // SAFETY: they take no bytes.
+            return unsafe { slice::from_raw_parts(ptr::dangling(), number) };
+        }
+        let values = self.node.values.cast::<T>();
+        // SAFETY: as of this function; up to the last item they take at most `isize::MAX` bytes.
+        unsafe { slice::from_raw_parts(values.add(self.start), number) }
+    }
+
     /// So many of the values from the first row on, each of `width` bytes.
     ///
     /// # Safety
@@ -248,81 +261,6 @@ impl Array {
             return Ok(());
         }
         Err(self.is_not(T::WANTED))
-    }
-
-    /// Where each row of texts lies among the [`bytes`](Array::bytes), or each row of lists among
-    /// the [`items`](Array::items). It looks at each once; those of null rows are any.
-    ///
-    /// ```
-    /// use vortex_bits::arrow::Export;
-    ///
-    /// let names = Export::texts(["a", "", "bc"], None).into_array().slice(1..);
-    /// let (ranges, bytes) = (names.ranges()?, names.bytes()?);
-    /// assert_eq!(&bytes[ranges.get(1).unwrap()], b"bc");
-    /// # Ok::<(), vortex_bits::arrow::ArrowError>(())
-    /// ```
-    ///
-    /// # Errors
-    ///
-    /// Of another type, where a row isn't behind the one before it, and where the last one ends
-    /// behind the items.
-    pub fn ranges(&self) -> Result<Ranges<'_>, ArrowError> {
-        let ranges = self.offsets()?;
-        if let Some(items) = self.node.children.first() {
-            let (wanted, got) = (ranges.end(), items.len);
-            if wanted > got {
-                return Err(self.malformed(Fault::Short { wanted, got }));
-            }
-        }
-        Ok(ranges)
-    }
-
-    fn offsets(&self) -> Result<Ranges<'_>, ArrowError> {
-        let Layout::Ranges(width, _) = self.node.field.layout else {
-            return Err(self.is_not("that of texts or lists"));
-        };
-        let number = if self.len == 0 { 0 } else { self.len + 1 };
-        // SAFETY: there is an offset for each item, and one more.
-        let offsets = unsafe { self.bytes_of(number, width) };
-        let ranges = if width == size_of::<i32>() {
-            Ranges::narrow(Unaligned::new(offsets, number))
-        } else {
-            Ranges::wide(Unaligned::new(offsets, number))
-        };
-        ranges.map_err(|fault| self.malformed(fault))
-    }
-
-    /// The bytes of texts, or of binary values, those of the rows before these too.
-    ///
-    /// # Errors
-    ///
-    /// As of [`ranges`](Array::ranges), and where there are bytes and no buffer.
-    pub fn bytes(&self) -> Result<&[u8], ArrowError> {
-        let Layout::Ranges(_, Of::Bytes) = self.node.field.layout else {
-            return Err(self.is_not("that of texts"));
-        };
-        let end = self.offsets()?.end();
-        if end == 0 {
-            return Ok(&[]);
-        }
-        let bytes = self.node.buffers[2].cast::<u8>();
-        if bytes.is_null() {
-            return Err(self.malformed(Fault::NoBuffer("bytes")));
-        }
-        // SAFETY: the buffer has as many bytes as its last offset says, at most `isize::MAX`.
-        Ok(unsafe { slice::from_raw_parts(bytes, end) })
-    }
-
-    /// The items of lists, those of other rows too.
-    ///
-    /// # Errors
-    ///
-    /// Of another type.
-    pub fn items(&self) -> Result<Array, ArrowError> {
-        match (self.node.field.layout, self.node.children.first()) {
-            (Layout::Ranges(_, Of::Items), Some(items)) => Ok(Array::whole(items)),
-            _ => Err(self.is_not("that of lists")),
-        }
     }
 
     /// The column of a name, the first one of several: its rows are those of the struct.

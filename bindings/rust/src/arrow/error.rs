@@ -102,8 +102,8 @@ pub enum Fault {
         /// How many it has.
         got: i64,
     },
-    /// A buffer that is wanted is null: that of the values or the offsets where there are items,
-    /// that of the validity where there are nulls, and that of the bytes of texts.
+    /// A buffer that is wanted is null: that of the values, the offsets or the views where there are
+    /// items, that of the validity where there are nulls, and that of the bytes of texts.
     NoBuffer(&'static str),
     /// A row of texts or lists begins before the one before it ends, or at a negative place.
     Range {
@@ -114,6 +114,8 @@ pub enum Fault {
         /// Where it ends.
         end: i64,
     },
+    /// This row of texts, which is valid, lies in none of the buffers.
+    View(usize),
     /// It ends before the parent's items do.
     Short {
         /// How many items the parent asks for, from its offset 0 on.
@@ -147,6 +149,7 @@ impl fmt::Display for Fault {
             Fault::Number { of, wanted, got } => write!(f, "{of} is {got} in place of {wanted}"),
             Fault::NoBuffer(what) => write!(f, "the buffer of the {what} is null"),
             Fault::Range { row, start, end } => write!(f, "row {row} lies from {start} to {end}"),
+            Fault::View(row) => write!(f, "row {row} lies in none of the buffers"),
             Fault::Short { wanted, got } => {
                 write!(f, "it has {got} items, of which its parent wants {wanted}")
             }

@@ -28,9 +28,11 @@ pub enum Layout {
     Struct,
     /// From a place up to the next one, as numbers of so many bytes, of a buffer or of the child.
     Ranges(usize, Of),
-    /// In another way: the buffers, where they are always as many, and the children.
+    /// In views, and in buffers whose sizes the last one has.
+    Views,
+    /// In another way.
     Other {
-        buffers: Option<i64>,
+        buffers: i64,
         children: i64,
         has_validity: bool,
     },
@@ -65,8 +67,8 @@ impl Layout {
             "Z" | "U" => Layout::Ranges(8, Of::Bytes),
             "+l" | "+m" => Layout::Ranges(4, Of::Items),
             "+L" => Layout::Ranges(8, Of::Items),
-            "vz" | "vu" => Layout::other(None, 0),
-            "+vl" | "+vL" => Layout::other(Some(3), 1),
+            "vz" | "vu" => Layout::Views,
+            "+vl" | "+vL" => Layout::other(3, 1),
             _ => return Layout::of_parts(format.split_once(':')?),
         })
     }
@@ -77,17 +79,14 @@ impl Layout {
             "tss" | "tsm" | "tsu" | "tsn" => Some(Layout::Fixed(Kind::Signed, 8)),
             "w" => Some(Layout::Fixed(Kind::Bytes, parameters.parse().ok()?)),
             "d" => Some(Layout::Fixed(Kind::Signed, decimal(parameters)? / 8)),
-            "+w" => parameters
-                .parse()
-                .ok()
-                .map(|_: u32| Layout::other(Some(1), 1)),
+            "+w" => parameters.parse().ok().map(|_: u32| Layout::other(1, 1)),
             "+ud" => Some(Layout::without_validity(2, ids(parameters)?)),
             "+us" => Some(Layout::without_validity(1, ids(parameters)?)),
             _ => None,
         }
     }
 
-    const fn other(buffers: Option<i64>, children: i64) -> Layout {
+    const fn other(buffers: i64, children: i64) -> Layout {
         Layout::Other {
             buffers,
             children,
@@ -97,26 +96,29 @@ impl Layout {
 
     const fn without_validity(buffers: i64, children: i64) -> Layout {
         Layout::Other {
-            buffers: Some(buffers),
+            buffers,
             children,
             has_validity: false,
         }
     }
 
-    /// How many buffers an array has; None where arrays differ.
+    /// How many buffers an array has; None where arrays differ, which have three at least.
     pub fn buffers(self) -> Option<i64> {
         match self {
             Layout::Bits | Layout::Fixed(..) | Layout::Ranges(_, Of::Items) => Some(2),
             Layout::Ranges(_, Of::Bytes) => Some(3),
             Layout::Struct => Some(1),
-            Layout::Other { buffers, .. } => buffers,
+            Layout::Views => None,
+            Layout::Other { buffers, .. } => Some(buffers),
         }
     }
 
     /// How many children the type has; None where types differ.
     pub fn children(self) -> Option<i64> {
         match self {
-            Layout::Bits | Layout::Fixed(..) | Layout::Ranges(_, Of::Bytes) => Some(0),
+            Layout::Bits | Layout::Fixed(..) | Layout::Ranges(_, Of::Bytes) | Layout::Views => {
+                Some(0)
+            }
             Layout::Ranges(_, Of::Items) => Some(1),
             Layout::Struct => None,
             Layout::Other { children, .. } => Some(children),

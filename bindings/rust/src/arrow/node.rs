@@ -9,6 +9,7 @@ use super::error::{ArrowError, Fault};
 use super::ffi::{ArrowArray, Owned};
 use super::field::{Field, child, count};
 use super::layout::Layout;
+use super::texts::View;
 
 /// An array of a tree, and what keeps the tree.
 pub(super) struct Node {
@@ -21,8 +22,8 @@ pub(super) struct Node {
     pub nulls: Option<usize>,
     /// A bit for each item; null where all are valid.
     pub validity: *const u8,
-    /// The bits, the values, or where the rows of texts and lists begin, and one place more; null
-    /// only where these take no bytes, or there are no items.
+    /// The bits, the values, the views, or where the rows of texts and lists begin, and one place
+    /// more; null only where these take no bytes, or there are no items.
     pub values: *const u8,
     /// All buffers, as they were given.
     pub buffers: Vec<*const c_void>,
@@ -102,6 +103,7 @@ fn window(array: &ArrowArray, layout: Layout) -> Result<(usize, usize), Fault> {
     let (width, more) = match layout {
         Layout::Fixed(_, width) => (width.max(1), 0),
         Layout::Ranges(width, _) => (width, 1),
+        Layout::Views => (size_of::<View>(), 0),
         _ => (1, 0),
     };
     let items = start.checked_add(len).and_then(|end| end.checked_add(more));
@@ -128,7 +130,8 @@ fn null_count(array: &ArrowArray) -> Result<Option<usize>, Fault> {
 ///
 /// As of [`Node::read`].
 unsafe fn buffers(array: &ArrowArray, layout: Layout) -> Result<Vec<*const c_void>, Fault> {
-    let number = count("n_buffers", array.n_buffers, layout.buffers())?;
+    let least = layout.buffers().unwrap_or(array.n_buffers.max(3));
+    let number = count("n_buffers", array.n_buffers, Some(least))?;
     if number > 0 && array.buffers.is_null() {
         return Err(Fault::Null("buffers"));
     }
@@ -152,6 +155,7 @@ fn in_use(
     let what = match layout {
         Layout::Bits | Layout::Fixed(..) => "values",
         Layout::Ranges(..) => "offsets",
+        Layout::Views => "views",
         Layout::Struct | Layout::Other { .. } => return Ok((validity, ptr::null())),
     };
     let values = buffer(1);

@@ -63,6 +63,7 @@ fn ends_of_windows_do_not_overflow() {
     refuses("n", 1, i64::MAX);
     refuses("U", 0, i64::MAX / 8);
     refuses("u", i64::MAX / 4, 0);
+    refuses("vz", 1, i64::MAX / 16);
     refuses("l", i64::MAX / 8, 1);
     refuses("l", 0, i64::MAX / 8 + 1);
     refuses("d:1,0,256", i64::MAX / 32, 1);

@@ -36,6 +36,10 @@ fn texts_lie_between_their_offsets() {
             assert_eq!(texts.slice(..3).bytes().unwrap().len(), 9);
             assert!(rows(&texts.slice(4..)).is_empty());
             assert!(texts.items().is_err() && texts.values::<u8>().is_err());
+            let part = texts.slice(1..);
+            let rows = part.texts().unwrap();
+            assert!(rows.iter().eq([&b""[..], b"defg", b"hij"].map(Some)));
+            assert!(rows.get(3).is_none());
             assert_eq!(
                 format!("{:?}", texts.slice(2..).ranges().unwrap()),
                 "[5..9, 9..12]"
@@ -116,4 +120,105 @@ fn texts_want_their_buffers() {
     let none = raw::Array::new(1, vec![None, None, None], &Count::default());
     let refused = import_as(none, "u").map(drop).unwrap_err();
     assert_eq!(refused.to_string(), "the buffer of the offsets is null");
+}
+
+/// A view of a text, which lies in this buffer from this place on where it is long.
+fn view(text: &str, buffer: i32, start: i32) -> [u8; 16] {
+    let mut view = [0; 16];
+    view[..4].copy_from_slice(&i32::try_from(text.len()).unwrap().to_ne_bytes());
+    if text.len() <= 12 {
+        view[4..4 + text.len()].copy_from_slice(text.as_bytes());
+    } else {
+        view[4..8].copy_from_slice(&text.as_bytes()[..4]);
+        view[8..12].copy_from_slice(&buffer.to_ne_bytes());
+        view[12..].copy_from_slice(&start.to_ne_bytes());
+    }
+    view
+}
+
+const LONG: &str = "thirteen text";
+
+/// Rows of views from the second one on, over two buffers: the first one is without bytes.
+fn views(valid: Option<u8>, views: &[[u8; 16]], sizes: &[i64]) -> raw::Array {
+    let buffers = vec![
+        valid.map(|it| Buffer::new(&[it], 0)),
+        Some(Buffer::new(&views.concat(), 1)),
+        None,
+        Some(Buffer::new(format!("..{LONG}").as_bytes(), 0)),
+        Some(offsets(sizes, true, 3)),
+    ];
+    let len = i64::try_from(views.len()).unwrap() - 1;
+    raw::Array::new(len, buffers, &Count::default()).at(1)
+}
+
+#[test]
+fn views_show_short_texts_and_long_ones() {
+    let twelve = "twelve bytes";
+    let rows = [
+        view(LONG, 9, 9),
+        view("", 0, 0),
+        view(twelve, 0, 0),
+        view(LONG, 1, 2),
+    ];
+    for format in ["vu", "vz"] {
+        let array = import_as(views(None, &rows, &[0, 15]), format).unwrap();
+        let texts = array.texts().unwrap();
+        assert_eq!((texts.len(), texts.is_empty()), (3, false));
+        let want = ["", twelve, LONG].map(|it| Some(it.as_bytes()));
+        assert!(texts.iter().eq(want) && texts.get(3).is_none());
+        assert!(array.slice(2..).texts().unwrap().iter().eq([want[2]]));
+        assert!(array.ranges().is_err() && array.bytes().is_err() && array.bits().is_err());
+    }
+    // Views of null rows show anything.
+    let array = import_as(views(Some(0b1100), &rows, &[0, 15]), "vu").unwrap();
+    assert!(array.texts().unwrap().get(0).is_none());
+    assert_eq!(format!("{:?}", array.slice(..1).texts().unwrap()), "[None]");
+    // Buffers aren't needed where no text is long.
+    let buffers = vec![None, Some(Buffer::new(&rows[1..3].concat(), 0)), None];
+    let array = import_as(raw::Array::new(2, buffers, &Count::default()), "vu").unwrap();
+    assert_eq!(array.texts().unwrap().get(1), Some(twelve.as_bytes()));
+    let none = raw::Array::new(0, vec![None, None, None], &Count::default());
+    assert!(import_as(none, "vz").unwrap().texts().unwrap().is_empty());
+}
+
+#[test]
+fn views_that_lie_in_no_buffer_are_named() {
+    let said = |row: [u8; 16], sizes: &[i64]| {
+        let array = import_as(views(None, &[row, row, row], sizes), "vu").unwrap();
+        array.texts().map(drop).unwrap_err().to_string()
+    };
+    let wanted = "row 0 lies in none of the buffers";
+    let (long, fits) = (LONG, &[0, 15][..]);
+    for (buffer, start) in [(2, 0), (-1, 0), (1, 3), (1, -1), (0, 0), (1, i32::MAX)] {
+        assert_eq!(said(view(long, buffer, start), fits), wanted);
+    }
+    let mut negative = view("", 0, 0);
+    negative[..4].copy_from_slice(&(-1i32).to_ne_bytes());
+    assert_eq!(said(negative, fits), wanted);
+    let mut endless = view(long, 1, 2);
+    endless[..4].copy_from_slice(&i32::MAX.to_ne_bytes());
+    assert_eq!(said(endless, fits), wanted);
+    assert_eq!(said(view(long, 1, 2), &[0, 14]), wanted);
+    assert_eq!(said(view(long, 1, 2), &[0, -1]), "a size is -1");
+    assert_eq!(
+        said(view(long, 1, 2), &[1, 15]),
+        "the buffer of the bytes is null"
+    );
+    // Of null rows they aren't looked at.
+    let rows = [view(long, 7, 0), view(long, 1, 2), view(long, 7, 0)];
+    let array = import_as(views(Some(0b011), &rows, fits), "vu").unwrap();
+    assert_eq!(array.texts().unwrap().get(0), Some(long.as_bytes()));
+    let array = import_as(views(Some(0b110), &rows, fits), "vu").unwrap();
+    let refused = array.texts().map(drop).unwrap_err().to_string();
+    assert_eq!(refused, "row 1 lies in none of the buffers");
+    let no_sizes = vec![None, Some(Buffer::new(&[0; 16], 0)), None, None];
+    let array = import_as(raw::Array::new(1, no_sizes, &Count::default()), "vu").unwrap();
+    let refused = array.texts().map(drop).unwrap_err().to_string();
+    assert_eq!(refused, "the buffer of the sizes is null");
+    let few = raw::Array::new(1, vec![None, None], &Count::default());
+    let refused = import_as(few, "vu").map(drop).unwrap_err().to_string();
+    assert_eq!(refused, "n_buffers is 2 in place of 3");
+    let no_views = raw::Array::new(1, vec![None, None, None], &Count::default());
+    let refused = import_as(no_views, "vz").map(drop).unwrap_err().to_string();
+    assert_eq!(refused, "the buffer of the views is null");
 }

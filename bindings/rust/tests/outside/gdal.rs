@@ -2,7 +2,6 @@
 use std::ffi::{CString, c_char, c_int, c_uint, c_void};
 use std::fs;
 use std::mem::transmute;
-use std::ops::Range;
 use std::path::Path;
 use std::ptr;
 
@@ -128,9 +127,9 @@ fn texts(gdal: &Gdal, case: &Case) {
     let read = gdal.read(&file, 100, |stream| {
         let batches = stream.map(|batch| {
             let texts = batch.unwrap().column("text").unwrap();
-            let (ranges, bytes) = (texts.ranges().unwrap(), texts.bytes().unwrap());
-            let text = |row: Range<usize>| String::from_utf8(bytes[row].to_vec()).unwrap();
-            ranges.iter().map(text).collect::<Vec<_>>()
+            let text = |row: Option<&[u8]>| String::from_utf8(row.unwrap().to_vec()).unwrap();
+            let texts = texts.texts().unwrap();
+            texts.iter().map(text).collect::<Vec<_>>()
         });
         batches.collect::<Vec<_>>()
     });

@@ -1,0 +1,143 @@
+//! Rows of no one width: texts and lists.
+
+use alloc::vec::Vec;
+use core::ffi::c_void;
+use core::slice;
+
+use super::Array;
+use crate::arrow::error::{ArrowError, Fault};
+use crate::arrow::layout::{Layout, Of};
+use crate::arrow::primitive::Unaligned;
+use crate::arrow::ranges::Ranges;
+use crate::arrow::texts::{Texts, View};
+
+/// Texts and lists.
+impl Array {
+    /// Where each row of texts lies among the [`bytes`](Array::bytes), or each row of lists among
+    /// the [`items`](Array::items). It looks at each once; those of null rows are any.
+    ///
+    /// ```
+    /// use vortex_bits::arrow::Export;
+    ///
+    /// let names = Export::texts(["a", "", "bc"], None).into_array().slice(1..);
+    /// let (ranges, bytes) = (names.ranges()?, names.bytes()?);
+    /// assert_eq!(&bytes[ranges.get(1).unwrap()], b"bc");
+    /// # Ok::<(), vortex_bits::arrow::ArrowError>(())
+    /// ```
+    ///
+    /// # Errors
+    ///
+    /// Of another type, where a row isn't behind the one before it, and where the last one ends
+    /// behind the items.
+    pub fn ranges(&self) -> Result<Ranges<'_>, ArrowError> {
+        let ranges = self.offsets()?;
+        if let Some(items) = self.node.children.first() {
+            let (wanted, got) = (ranges.end(), items.len);
+            if wanted > got {
+                return Err(self.malformed(Fault::Short { wanted, got }));
+            }
+        }
+        Ok(ranges)
+    }
+
+    fn offsets(&self) -> Result<Ranges<'_>, ArrowError> {
+        let Layout::Ranges(width, _) = self.node.field.layout else {
+            return Err(self.is_not("that of texts or lists"));
+        };
+        let number = if self.len == 0 { 0 } else { self.len + 1 };
+        // SAFETY: there is an offset for each item, and one more.
+        let offsets = unsafe { self.bytes_of(number, width) };
+        let ranges = if width == size_of::<i32>() {
+            Ranges::narrow(Unaligned::new(offsets, number))
+        } else {
+            Ranges::wide(Unaligned::new(offsets, number))
+        };
+        ranges.map_err(|fault| self.malformed(fault))
+    }
+
+    /// The bytes of each row of texts, or of binary values, that is valid. It looks at each place
+    /// once.
+    ///
+    /// ```
+    /// use vortex_bits::Bitmap;
+    /// use vortex_bits::arrow::Export;
+    ///
+    /// let valid = Bitmap::from([true, false, true]);
+    /// let names = Export::texts(["a", "", "bc"], Some(valid)).into_array();
+    /// let rows = names.texts()?;
+    /// assert!(rows.iter().eq([Some(&b"a"[..]), None, Some(b"bc")]));
+    /// # Ok::<(), vortex_bits::arrow::ArrowError>(())
+    /// ```
+    ///
+    /// # Errors
+    ///
+    /// Of another type, and where a row isn't behind the one before it, or lies in no buffer.
+    pub fn texts(&self) -> Result<Texts<'_>, ArrowError> {
+        if self.node.field.layout != Layout::Views {
+            let bytes = self.bytes()?;
+            return Ok(Texts::joined(self.offsets()?, bytes, self.validity()?));
+        }
+        let valid = self.validity()?;
+        // SAFETY: there is a view for each item.
+        let views = unsafe { self.items_of::<View>(self.len) };
+        let texts = self.buffers().and_then(|it| Texts::views(views, it, valid));
+        texts.map_err(|fault| self.malformed(fault))
+    }
+
+    /// The buffers of views, whose sizes the last one has.
+    fn buffers(&self) -> Result<Vec<&[u8]>, Fault> {
+        let [_, _, buffers @ .., sizes] = &self.node.buffers[..] else {
+            return Ok(Vec::new());
+        };
+        if sizes.is_null() && !buffers.is_empty() {
+            return Err(Fault::NoBuffer("sizes"));
+        }
+        let buffer = |(place, bytes): (usize, &*const c_void)| {
+            // SAFETY: there is a size for each buffer.
+            let size = unsafe { sizes.cast::<i64>().add(place).read_unaligned() };
+            match usize::try_from(size) {
+                Ok(0) => Ok(&[][..]),
+                Ok(_) if bytes.is_null() => Err(Fault::NoBuffer("bytes")),
+                // SAFETY: it has as many bytes.
+                Ok(len) if isize::try_from(len).is_ok() => {
+                    Ok(unsafe { slice::from_raw_parts(bytes.cast(), len) })
+                }
+                _ => Err(Fault::OutOfRange("a size", size)),
+            }
+        };
+        buffers.iter().enumerate().map(buffer).collect()
+    }
+
+    /// The bytes of texts, or of binary values, those of the rows before these too.
+    ///
+    /// # Errors
+    ///
+    /// As of [`ranges`](Array::ranges), and where there are bytes and no buffer.
+    pub fn bytes(&self) -> Result<&[u8], ArrowError> {
+        let Layout::Ranges(_, Of::Bytes) = self.node.field.layout else {
+            return Err(self.is_not("that of texts"));
+        };
+        let end = self.offsets()?.end();
+        if end == 0 {
+            return Ok(&[]);
+        }
+        let bytes = self.node.buffers[2].cast::<u8>();
+        if bytes.is_null() {
+            return Err(self.malformed(Fault::NoBuffer("bytes")));
+        }
+        // SAFETY: the buffer has as many bytes as its last offset says, at most `isize::MAX`.
+        Ok(unsafe { slice::from_raw_parts(bytes, end) })
+    }
+
+    /// The items of lists, those of other rows too.
+    ///
+    /// # Errors
+    ///
+    /// Of another type.
+    pub fn items(&self) -> Result<Array, ArrowError> {
+        match (self.node.field.layout, self.node.children.first()) {
+            (Layout::Ranges(_, Of::Items), Some(items)) => Ok(Array::whole(items)),
+            _ => Err(self.is_not("that of lists")),
+        }
+    }
+}
