@@ -26,10 +26,8 @@ impl Numbers {
     }
 
     fn filter(&self, mask: &Bitmap) -> Numbers {
-        let mut values = vec![0; mask.count_ones()];
-        mask.bits().keep_into(&self.values, &mut values);
         Numbers {
-            values,
+            values: values::filter(&self.values, mask),
             valid: self.valid.filter(mask),
         }
     }

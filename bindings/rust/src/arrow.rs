@@ -25,9 +25,7 @@
 //!     let a = batch.column("a")?;
 //!     let mut mask = values::compare(a.values::<i32>()?, Comparison::Greater, 5);
 //!     mask &= a.validity()?;
-//!     let from = kept.len();
-//!     kept.resize(from + mask.count_ones(), 0);
-//!     mask.bits().keep_into(a.values()?, &mut kept[from..]);
+//!     values::filter_onto(a.values::<i32>()?, &mask, &mut kept);
 //! }
 //! assert_eq!(kept, [7, 9, 8]);
 //! # Ok::<(), vortex_bits::arrow::ArrowError>(())

@@ -1,5 +1,8 @@
 //! Bits and values that a mask keeps.
 
+#[cfg(feature = "alloc")]
+use alloc::vec::Vec;
+
 use crate::bits_mut::alike;
 use crate::mask::sealed::Mask as _;
 use crate::{Bits, BitsMut, Mask, Value, kernels};
@@ -50,4 +53,50 @@ impl Bits<'_> {
         assert!(kept <= room, "room for {room} values and {kept} to keep");
         kernels::keep(out, values, self)
     }
+}
+
+/// The values at the places that are true in `mask`, in their order: all where it is None.
+///
+/// ```
+/// use vortex_bits::{Bits, values};
+///
+/// let mask = Bits::new(&[0b1011], 0, 4);
+/// assert_eq!(values::filter(&[0.5, 1.5, 2.5, 3.5], mask), [0.5, 1.5, 3.5]);
+/// ```
+///
+/// # Panics
+///
+/// Where `mask` isn't as long as the values.
+#[cfg(feature = "alloc")]
+#[must_use]
+#[track_caller]
+pub fn filter<T: Value>(values: &[T], mask: impl Mask) -> Vec<T> {
+    let mut kept = Vec::new();
+    filter_onto(values, mask, &mut kept);
+    kept
+}
+
+/// Adds the values at the places that are true in `mask`, in their order, to the end of `kept`: all
+/// where it is None. So the rows that batches keep make one column.
+///
+/// ```
+/// use vortex_bits::{Bits, values};
+///
+/// let mut kept = vec![7];
+/// values::filter_onto(&[1, 2, 3], Bits::new(&[0b101], 0, 3), &mut kept);
+/// assert_eq!(kept, [7, 1, 3]);
+/// ```
+///
+/// # Panics
+///
+/// Where `mask` isn't as long as the values; `kept` is as it was.
+#[cfg(feature = "alloc")]
+#[track_caller]
+pub fn filter_onto<T: Value>(values: &[T], mask: impl Mask, kept: &mut Vec<T>) {
+    let Some(mask) = mask.of_len(values.len()) else {
+        return kept.extend_from_slice(values);
+    };
+    let before = kept.len();
+    kept.resize(before + mask.count_ones(), T::ZERO);
+    kernels::keep(&mut kept[before..], values, mask);
 }

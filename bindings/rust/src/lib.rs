@@ -9,9 +9,7 @@
 //! // Which of five rows are valid, from bit 3 of a byte on, and the rows of them that are above 2.
 //! let (valid, column) = (Bits::new(&[0b1110_1000], 3, 5), [7, 0, 9, 2, 8]);
 //! let mask = values::compare(&column, Comparison::Greater, 2) & valid;
-//! let mut kept = vec![0; mask.count_ones()];
-//! mask.bits().keep_into(&column, &mut kept);
-//! assert_eq!((kept, mask.select(1)), (vec![7, 9, 8], Some(2)));
+//! assert_eq!((values::filter(&column, &mask), mask.select(1)), (vec![7, 9, 8], Some(2)));
 //!
 //! // Rows at indices.
 //! assert_eq!(values::take(&column, &[4u32, 0]), [8, 7]);

@@ -1,5 +1,6 @@
 //! Values at indices: `take_into` writes them into a slice that is there, `take` into a new `Vec`;
-//! and values compared, into bits that are there or a new `Bitmap`.
+//! values that a mask keeps, in a new `Vec` or at the end of one; and values compared, into bits that
+//! are there or a new `Bitmap`.
 //!
 //! A take has a form with a validity, of which a position counts where its bit is true, and a form
 //! `try_` that answers an error where the other panics.
@@ -22,6 +23,8 @@ use alloc::vec::Vec;
 #[cfg(feature = "alloc")]
 pub use crate::compare::{compare, compare_with};
 pub use crate::compare::{compare_into, compare_with_into};
+#[cfg(feature = "alloc")]
+pub use crate::filter::{filter, filter_onto};
 
 use crate::error::{TakeValuesError, expect};
 use crate::{BitIndex, Bits, Mask, Value, kernels};

@@ -484,3 +484,19 @@ fn levels_can_be_named() {
         assert_eq!(Bits::new(&[0xF0; 100], 3, 790).count_ones(), 396);
     }
 }
+
+#[test]
+fn values_that_a_mask_keeps_are_added_behind_others() {
+    let (mask, none) = (Bits::new(&[0b1_0100], 1, 4), None::<Bits<'_>>);
+    let column = [1i16, 2, 3, 4];
+    assert_eq!(values::filter(&column, mask), [2, 4]);
+    assert_eq!(values::filter(&column, none), column);
+    let mut kept = vec![9];
+    for mask in [Some(mask), None] {
+        values::filter_onto(&column, mask, &mut kept);
+    }
+    assert_eq!(kept, [9, 2, 4, 1, 2, 3, 4]);
+    let text = panics(|| values::filter_onto(&[1], mask, &mut kept));
+    assert_eq!(text.as_deref(), Some("a mask of 4 bits for 1"));
+    assert_eq!(kept.len(), 7);
+}

@@ -3,7 +3,7 @@
 use std::fmt;
 
 use vortex_bits::arrow::{Array, ArrowError};
-use vortex_bits::{Bitmap, Comparison, Value, values};
+use vortex_bits::{Bitmap, Comparison, values};
 
 /// What is asked: `select b, c where a > limit and b is not null`.
 pub struct Question {
@@ -67,8 +67,8 @@ impl Answer {
         let mask =
             values::compare(a.values()?, Comparison::Greater, question.limit) & a_valid & b_valid;
         self.find(&mask, question);
-        keep(&mask, b.values()?, &mut self.b);
-        keep(&mask, c.values()?, &mut self.c);
+        values::filter_onto(b.values()?, &mask, &mut self.b);
+        values::filter_onto(c.values()?, &mask, &mut self.c);
         match c.validity()?.filter(&mask) {
             Some(valid) => self.c_valid.append_bits(valid.bits()),
             None => self.c_valid.append_n(mask.count_ones(), true),
@@ -99,13 +99,6 @@ impl Answer {
         self.taken = values::take(&self.b, &at);
         self.taken_nulls = self.c_valid.take(&at).count_zeros();
     }
-}
-
-/// Adds the values that the mask keeps.
-fn keep<T: Value + Default>(mask: &Bitmap, column: &[T], kept: &mut Vec<T>) {
-    let from = kept.len();
-    kept.resize(from + mask.count_ones(), T::default());
-    mask.bits().keep_into(column, &mut kept[from..]);
 }
 
 pub fn ask(
