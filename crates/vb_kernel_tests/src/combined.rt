@@ -11,47 +11,45 @@ use vb_kernel::{
 /// Where two windows begin, and how long both are.
 type Windows = (usize, usize, usize);
 
-/// The counts, with counted sources and without, are those that are wanted.
+/// The counts are those that are wanted.
 fn counts_are(rt: &impl Abort, left: &[u8], right: &[u8], (l, r, len): Windows, wanted: Counts) {
     holds(rt, window_fits(left, l, len));
     holds(rt, window_fits(right, r, len));
-    let counted = [
-        and_count(left, l, right, r, len),
-        or_count(left, l, right, r, len),
-        xor_count(left, l, right, r, len),
-        andnot_count(left, l, right, r, len),
-    ];
+    let counted = Counts {
+        and: and_count(left, l, right, r, len),
+        or: or_count(left, l, right, r, len),
+        xor: xor_count(left, l, right, r, len),
+        andnot: andnot_count(left, l, right, r, len),
+    };
     equal_at(rt, counted, wanted, (l, r, len));
+}
+
+/// So are those of counted sources, and what follows from them.
+fn looks_tell(rt: &impl Abort, left: &[u8], right: &[u8], (l, r, len): Windows, wanted: Counts) {
+    holds(rt, window_fits(left, l, len));
+    holds(rt, window_fits(right, r, len));
     let (one, other) = (&mut Tally::new(left), &mut Tally::new(right));
-    let by_looks = [
-        and_count_by(one, l, other, r, len),
-        or_count_by(one, l, other, r, len),
-        xor_count_by(one, l, other, r, len),
-        andnot_count_by(one, l, other, r, len),
-    ];
-    equal_at(rt, by_looks, wanted, (l, r, len));
-    equal_at(
-        rt,
-        is_disjoint(left, l, right, r, len),
-        wanted[0] == 0,
-        (l, r, len),
-    );
-    equal_at(
-        rt,
-        is_subset(left, l, right, r, len),
-        wanted[3] == 0,
-        (l, r, len),
-    );
+    let counted = Counts {
+        and: and_count_by(one, l, other, r, len),
+        or: or_count_by(one, l, other, r, len),
+        xor: xor_count_by(one, l, other, r, len),
+        andnot: andnot_count_by(one, l, other, r, len),
+    };
+    equal_at(rt, counted, wanted, (l, r, len));
+    let disjoint = is_disjoint(left, l, right, r, len);
+    equal_at(rt, disjoint, wanted.and == 0, (l, r, len));
+    let within = is_subset(left, l, right, r, len);
+    equal_at(rt, within, wanted.andnot == 0, (l, r, len));
 }
 
 /// Windows from these bits on, of each length up to `most`.
 fn counts_are_plain(rt: &impl Abort, left: &[u8], l: usize, right: &[u8], r: usize, most: usize) {
     holds(rt, window_fits(left, l, most));
     holds(rt, window_fits(right, r, most));
-    let mut wanted = [0; 4];
+    let mut wanted = Counts::none();
     for len in 0..most {
         counts_are(rt, left, right, (l, r, len), wanted);
-        wanted = plain::counts_of_more(wanted, get_bit(left, l + len), get_bit(right, r + len));
+        wanted = wanted.more(get_bit(left, l + len), get_bit(right, r + len));
     }
 }
 
@@ -68,7 +66,7 @@ fn counts_of_short_windows_are_plain(rt: HostRuntime) {
 }
 
 /// Lengths about those at which another part counts.
-const LONG: [usize; 7] = [511, 512, 513, 519, 520, 767, 1031];
+const LENS: [usize; 14] = [0, 1, 8, 9, 63, 64, 73, 200, 511, 512, 513, 519, 767, 1031];
 
 #[test]
 fn counts_of_long_windows_are_plain(rt: HostRuntime) {
@@ -77,11 +75,12 @@ fn counts_of_long_windows_are_plain(rt: HostRuntime) {
     let right = &left.map(|byte| byte.rotate_left(3));
     for l in 0..8 {
         for r in 0..8 {
-            for len in LONG {
+            for len in LENS {
                 holds(&rt, window_fits(left, l, len));
                 holds(&rt, window_fits(right, r, len));
                 let wanted = plain::combined_counts(left, l, right, r, len);
                 counts_are(&rt, left, right, (l, r, len), wanted);
+                looks_tell(&rt, left, right, (l, r, len), wanted);
             }
         }
     }
