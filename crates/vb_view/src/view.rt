@@ -3,14 +3,18 @@ ghost use Rattle.std.specs.Prelude.{◌≡◌, ◌+◌, ◌-◌, ◌*◌, ◌/�
 ghost use Rattle.std.specs.Prelude.{ℕ, length, drop, slice_get, slice_range, Some, All};
 ghost use Rattle.vb_bits.specs.Bits.{bits, count, complement, places, Selects, InvertsCount};
 ghost use Rattle.vb_bits.specs.InBytes.{InBytes};
+ghost use Rattle.vb_bits.specs.Operators.{combined_by};
 ghost use Rattle.vb_bits.specs.Runs.{runs, last_place};
+ghost use Rattle.vb_bits.specs.declared.zip.BitOp.TheVariants.{And, Or, Xor, AndNot};
 ghost use Rattle.vb_view.specs.Windows.{IsWindow};
 ghost use Rattle.vb_walk.specs.Cut.{IsCut};
 
 use crate::meta::BitBufferMeta;
 use std::ops::Range;
 use vb_bits::{get_bit, last_set_index};
-use vb_kernel::{bit_select, bit_select_unset, count_ones};
+use vb_kernel::{
+    and_count, andnot_count, bit_select, bit_select_unset, count_ones, or_count, xor_count,
+};
 use vb_walk::{BitChunks, BitIndexIterator, BitIterator, BitSliceIterator, UnalignedBitChunk};
 
 /// A list of bits that lies in borrowed bytes, and that may be copied freely.
@@ -201,6 +205,42 @@ impl<'a> BitBufferView<'a> {
             + count (slice_range (bits_of self.now) b end) }
     {
         count_ones(self.bytes, self.offset + start, end - start)
+    }
+
+    /// How many places are true in both views, which have to be as long. Both are read by words,
+    /// and nothing is made; it takes no memory.
+    pub fn and_count(&self, other: &BitBufferView<'_>) -> usize
+        requires { length (bits_of other.now) ≡ length (bits_of self.now) }
+        ensures { result ≡ count (combined_by And (bits_of self.now) (bits_of other.now)) }
+    {
+        and_count(self.bytes, self.offset, other.bytes, other.offset, self.len)
+    }
+
+    /// How many places are true in one of the views or in both, at the cost of
+    /// [`and_count`](Self::and_count). The views have to be as long.
+    pub fn or_count(&self, other: &BitBufferView<'_>) -> usize
+        requires { length (bits_of other.now) ≡ length (bits_of self.now) }
+        ensures { result ≡ count (combined_by Or (bits_of self.now) (bits_of other.now)) }
+    {
+        or_count(self.bytes, self.offset, other.bytes, other.offset, self.len)
+    }
+
+    /// At how many places the views differ, at the cost of [`and_count`](Self::and_count). The
+    /// views have to be as long.
+    pub fn xor_count(&self, other: &BitBufferView<'_>) -> usize
+        requires { length (bits_of other.now) ≡ length (bits_of self.now) }
+        ensures { result ≡ count (combined_by Xor (bits_of self.now) (bits_of other.now)) }
+    {
+        xor_count(self.bytes, self.offset, other.bytes, other.offset, self.len)
+    }
+
+    /// How many places are true in this view and not in the other one, at the cost of
+    /// [`and_count`](Self::and_count). The views have to be as long.
+    pub fn andnot_count(&self, other: &BitBufferView<'_>) -> usize
+        requires { length (bits_of other.now) ≡ length (bits_of self.now) }
+        ensures { result ≡ count (combined_by AndNot (bits_of self.now) (bits_of other.now)) }
+    {
+        andnot_count(self.bytes, self.offset, other.bytes, other.offset, self.len)
     }
 
     /// The place of the `n`-th true bit, counted from 0; `None` where at most `n` bits are true. It
