@@ -9,7 +9,7 @@ use vb_testing::{Handle, Refusing};
 
 /// As many bits as a row's mask has, of which every third is true, and which begin with the bit of
 /// their bytes that its mask doesn't.
-fn bits(row: &Row) -> Row {
+pub(crate) fn bits(row: &Row) -> Row {
     Row(row.0, 2, Kept::OneIn(3))
 }
 
@@ -23,7 +23,8 @@ fn are_plain<A: Allocator + Clone>(made: Result<BitBuffer<A>>, row: &Row) -> Res
     Ok(answer)
 }
 
-fn kept_bits<A: Allocator + Clone>(alloc: A, row: &Row) -> Result<BitBuffer<A>> {
+/// Those that the mask of a row keeps.
+pub(crate) fn kept_bits<A: Allocator + Clone>(alloc: A, row: &Row) -> Result<BitBuffer<A>> {
     filtered(alloc.clone()?, mask(alloc, &bits(row)), row)
 }
 

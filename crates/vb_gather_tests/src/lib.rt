@@ -1,5 +1,6 @@
-//! Tests of values and bits filtered by masks, beside a plain loop at each kind of mask and at
-//! lengths that differ, and of values taken at indices; with each request for memory refused.
+//! Tests of values and bits filtered by masks and of bits deposited by them, beside a plain loop at
+//! each kind of mask and at lengths that differ, and of values taken at indices; with each request
+//! for memory refused.
 #![tactic(auto)]
 
 #[cfg(test)]
@@ -9,6 +10,8 @@ mod blocks;
 #[cfg(test)]
 mod compared;
 #[cfg(test)]
+mod deposits;
+#[cfg(test)]
 mod filters;
 #[cfg(test)]
 mod masks;
@@ -16,3 +19,5 @@ mod masks;
 mod takes;
 #[cfg(test)]
 mod values;
+#[cfg(test)]
+mod windows;

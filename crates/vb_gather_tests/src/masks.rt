@@ -58,7 +58,7 @@ pub(crate) enum Kept {
 }
 
 impl Kept {
-    fn has(self, bit: usize) -> bool {
+    pub(crate) fn has(self, bit: usize) -> bool {
         match self {
             Kept::OneIn(n) => n > 0 && bit % n == 1 % n,
             Kept::AllButOneIn(n) => n > 0 && bit % n != 1 % n,
