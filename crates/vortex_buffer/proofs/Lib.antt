@@ -16,3 +16,6 @@ pub use Rattle.vb_core.proofs.Powers
 pub use Rattle.vb_pack.proofs.AnswersLemmas
 pub use Rattle.vb_set.proofs.IndicesLemmas
 pub use Rattle.vb_take.proofs.TakenLemmas
+pub use Rattle.vb_walk.proofs.OthersLemmas
+pub use Rattle.vb_walk.proofs.WalkLemmas
+pub use Rattle.vb_walk.proofs.WordsLemmas
