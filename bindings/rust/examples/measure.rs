@@ -6,7 +6,7 @@
 use std::hint::black_box;
 use std::time::Instant;
 
-use vortex_bits::{Bitmap, Bits, BitsMut, Level};
+use vortex_bits::{Bitmap, Bits, BitsMut, Comparison, Level, values};
 
 /// How many bits and values there are.
 const N: usize = 1_000_000;
@@ -70,6 +70,10 @@ fn above_by_fill(keys: &[u32]) -> Vec<u8> {
 
 fn above_by_collect(keys: &[u32]) -> Bitmap {
     keys.iter().map(|&key| key > 499).collect()
+}
+
+fn above_by_compare(keys: &[u32]) -> Bitmap {
+    values::compare(keys, Comparison::Greater, 499)
 }
 
 /// Without a branch.
@@ -235,6 +239,11 @@ fn filters(data: &Data) {
         few,
         indices,
     } = data;
+    row(
+        "`values::compare`",
+        || sum(above_by_compare(keys).bits().bytes()),
+        || sum(&above_by_loop(keys)),
+    );
     row(
         "`fill_with` of a comparison",
         || sum(&above_by_fill(keys)),
