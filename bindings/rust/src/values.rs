@@ -1,6 +1,6 @@
 //! Values at indices: `take_into` writes them into a slice that is there, `take` into a new `Vec`;
-//! values that a mask keeps, in a new `Vec` or at the end of one; and values compared, into bits that
-//! are there or a new `Bitmap`.
+//! values that a mask keeps, in a new `Vec` or at the end of one; and values compared, into bits
+//! that are there or a new `Bitmap`.
 //!
 //! A take has a form with a validity, of which a position counts where its bit is true, and a form
 //! `try_` that answers an error where the other panics.

@@ -4,9 +4,9 @@
 //!     cargo run --release --features arrow --example query -- [ROWS | FILE] [time | csv]
 //!
 //! It makes ROWS rows, a hundred thousand unless they are said, or reads FILE, lines of the columns
-//! a, b, c and flag with a comma between two; an empty field is null. With `time` it prints how long
-//! the query takes beside plain loops, by turns, the least of 30 times of each; with `csv` it prints
-//! the rows in place of the answers.
+//! a, b, c and flag with a comma between two; an empty field is null. With `time` it prints how
+//! long the query takes beside plain loops, by turns, the least of 30 times of each; with `csv` it
+//! prints the rows in place of the answers.
 
 mod engine;
 mod loops;
@@ -73,8 +73,8 @@ fn main() -> Result<(), Box<dyn Error>> {
     }
     let mut raw = rows.stream(BATCH).into_raw();
 
-    // SAFETY: the stream is as the interface asks for, and no one else has it. From here on it could
-    // be that of any other producer.
+    // SAFETY: the stream is as the interface asks for, and no one else has it. From here on it
+    // could be that of any other producer.
     let stream = unsafe { Stream::from_raw(&raw mut raw)? };
     let batches: Vec<Array> = stream.collect::<Result<_, _>>()?;
     let question = Question::new(700, 999);

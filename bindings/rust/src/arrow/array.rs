@@ -199,8 +199,8 @@ impl Array {
                 alignment: align_of::<T>(),
             });
         }
-        // SAFETY: there is a value for each item; each arrangement of bytes is one, and the buffer is
-        // aligned as they are.
+        // SAFETY: there is a value for each item; each arrangement of bytes is one, and the buffer
+        // is aligned as they are.
         Ok(unsafe { self.items_of(self.len) })
     }
 

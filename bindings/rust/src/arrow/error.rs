@@ -102,8 +102,8 @@ pub enum Fault {
         /// How many it has.
         got: i64,
     },
-    /// A buffer that is wanted is null: that of the values, the offsets or the views where there are
-    /// items, that of the validity where there are nulls, and that of the bytes of texts.
+    /// A buffer that is wanted is null: that of the values, the offsets or the views where there
+    /// are items, that of the validity where there are nulls, and that of the bytes of texts.
     NoBuffer(&'static str),
     /// A row of texts or lists begins before the one before it ends, or at a negative place.
     Range {

@@ -94,8 +94,8 @@ impl Export {
         )
     }
 
-    /// Texts, which are copied one behind the other, and which of them are valid; all are where that
-    /// is None. Their type is `U`, whose offsets have 64 bits.
+    /// Texts, which are copied one behind the other, and which of them are valid; all are where
+    /// that is None. Their type is `U`, whose offsets have 64 bits.
     ///
     /// # Panics
     ///
@@ -305,8 +305,8 @@ impl Export {
     }
 }
 
-/// The rows as they are, of any type, as of a column that a query hands on or of a slice of a batch.
-/// The array is shared, and released with the last of both.
+/// The rows as they are, of any type, as of a column that a query hands on or of a slice of a
+/// batch. The array is shared, and released with the last of both.
 ///
 /// ```
 /// use vortex_bits::arrow::Export;

@@ -38,8 +38,8 @@ pub struct Field {
 }
 
 impl Field {
-    /// A column of values, of truth values or of texts, whose type is written as the interface does: `i` for
-    /// `i32`, `tdD` for days, `d:19,2` for decimals. It may have nulls.
+    /// A column of values, of truth values or of texts, whose type is written as the interface
+    /// does: `i` for `i32`, `tdD` for days, `d:19,2` for decimals. It may have nulls.
     ///
     /// # Errors
     ///

@@ -6,14 +6,15 @@ use core::marker::PhantomData;
 
 /// A type of the values of a buffer, which any of its bytes make one of.
 ///
-/// | Values | Of arrays |
-/// |---|---|
-/// | `i8`, `i16`, `i32`, `i64` | signed numbers, dates, times, timestamps, durations and months of that width, and decimals of 32 and 64 bits |
-/// | `u8`, `u16`, `u32`, `u64` | unsigned numbers of that width; `u16` also floats of 16 bits, by their bits |
-/// | `f32`, `f64` | floats of that width |
-/// | `i128` | decimals of 128 bits; buffers are often not aligned as it is |
-/// | `[u8; N]` | values of N bytes, whatever these mean |
-/// | `[u64; 2]`, `[i64; 2]` | values of 16 bytes, the lower half first; of decimals the way to filter them by [`keep_into`](crate::Bits::keep_into) |
+/// - `i8`, `i16`, `i32` and `i64` are of arrays of signed numbers, dates, times, timestamps,
+///   durations and months of that width, and of decimals of 32 and 64 bits;
+/// - `u8`, `u16`, `u32` and `u64` of unsigned numbers of that width; `u16` also of floats of 16
+///   bits, by their bits;
+/// - `f32` and `f64` of floats of that width;
+/// - `i128` of decimals of 128 bits, whose buffers are often not aligned as it is;
+/// - `[u8; N]` of values of N bytes, whatever these mean;
+/// - `[u64; 2]` and `[i64; 2]` of values of 16 bytes, the lower half first: decimals are filtered as
+///   these ([`values::filter`](crate::values::filter)).
 #[diagnostic::on_unimplemented(
     message = "no array has values of `{Self}`",
     label = "whole numbers of 8 to 64 bits, `i128`, floats, `[u8; N]`, `[u64; 2]` and `[i64; 2]`"
