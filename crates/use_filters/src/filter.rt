@@ -6,7 +6,7 @@ ghost use Rattle.vortex_buffer.specs.Kept.{kept_by};
 
 use crate::condition::Condition;
 use std::alloc::Allocator;
-use vortex_buffer::{BitBuffer, Buffer, Filter, Result};
+use vortex_buffer::{BitBuffer, Buffer, Filter, Result, compared};
 
 /// The mask of the rows whose value meets the condition. Refused by `OutOfMemory` alone.
 pub fn rows_where<A: Allocator + Clone>(
@@ -16,12 +16,8 @@ pub fn rows_where<A: Allocator + Clone>(
 ) -> Result<BitBuffer<A>>
     ensures { Makes (λ rows. rows.bits ≡ map (is_met condition) values.now.list) result }
 {
-    let items = values.as_slice();
-    BitBuffer::collect_bool(
-        alloc,
-        items.len(),
-        &mut |row| condition.is_met_by(items[row]),
-    )
+    let (op, number) = condition.comparison();
+    compared(alloc, values.as_slice(), op, number, None)
 }
 
 /// The mask of the rows that are valid and whose value meets the condition. Refused by

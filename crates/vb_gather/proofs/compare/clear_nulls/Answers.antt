@@ -11,8 +11,8 @@ returns-in-Some c =
     let valid = c.in-Some.valid in let n = c.args.len in
     let src = c.inner.result.now in let o = c.offset.result in
     let long : valid.len ≡ n =
-    sym (length-bits valid.bytes.now valid.offset valid.len) ∙ c.requires.validity valid c.in-Some.is
-    in
+    sym (length-bits valid.bytes.now valid.offset valid.len)
+    ∙ c.requires.validity valid c.in-Some.is in
     let seen : bits src o n ≡ bits_of valid =
     ap (λ b. bits b o n) c.inner.ensures.bytes
     ∙ ap (λ k. bits valid.bytes.now k n) c.offset.ensures.value
