@@ -25,8 +25,8 @@ class Task:
 
 
 COMMAND = [
-    Task("Say what it does: `Order`, `order_of`, `Step`, `GivesUp`; what its line says", [
-        (r"crates/vb_command/specs/", r"\bNAME\b"),
+    Task("Say what it does: `Order` to `GivesUp`, `IsQuestion`; what its line says", [
+        (r"crates/(vb_command|vb_pool)/specs/", r"\bNAME\b"),
     ]),
     Task("The variant, with its line as docstring, and the arm that reads it", [
         (r"crates/vb_command/src/", r"\bNAME\b"),

@@ -1,6 +1,7 @@
 -- What a command's method gives.
 use Rattle.std.specs.Prelude.{◌≡◌, Option, Some, None, Result, Ok, Err}
-use Rattle.vb_command.specs.Machine.{Reply, Refused}
+use Rattle.vb_command.specs.Machine.{Order, Len, Count, Get, Countrange, Select, Selectunset}
+use Rattle.vb_command.specs.Machine.{Last, Bits, Places, Runs, Show, Eq, Reply, Refused}
 use Rattle.vb_command.specs.Views.{reply}
 use Rattle.vb_command.specs.declared.answer.Answer.{Answer}
 use Rattle.vb_command.specs.declared.refusal.Refusal.{Refusal}
@@ -13,6 +14,22 @@ use Rattle.vb_set.specs.declared.BufferError.TheVariants.{TooManyBits}
 abbrev pub reply_of : {A : Type 0} → Result (Answer A) Refusal → Reply
 reply_of (Ok answer) = reply answer
 reply_of (Err why) = Refused why
+
+-- an order that asks for something and changes no slot
+abbrev pub IsQuestion : Order → Type 0
+IsQuestion (Len k) = Unit {0}
+IsQuestion (Count k) = Unit {0}
+IsQuestion (Get k i) = Unit {0}
+IsQuestion (Countrange k a b) = Unit {0}
+IsQuestion (Select k n) = Unit {0}
+IsQuestion (Selectunset k n) = Unit {0}
+IsQuestion (Last k) = Unit {0}
+IsQuestion (Bits k) = Unit {0}
+IsQuestion (Places k) = Unit {0}
+IsQuestion (Runs k) = Unit {0}
+IsQuestion (Show k) = Unit {0}
+IsQuestion (Eq k j) = Unit {0}
+IsQuestion order = ⊥
 
 -- what a slot holds is given, seen in this way; where it holds nothing of the kind, the slot is
 -- refused

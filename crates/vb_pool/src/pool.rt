@@ -1,6 +1,6 @@
 //! The slots, and what the commands do to them.
-ghost use Rattle.std.specs.Prelude.{◌≡◌, true, false, slice_get, slice_set, MatchResult, OnOk};
-ghost use Rattle.std.specs.Prelude.{IfErr};
+ghost use Rattle.std.specs.Prelude.{◌≡◌, true, false, length, slice_get, slice_set, MatchResult};
+ghost use Rattle.std.specs.Prelude.{IfErr, OnOk};
 ghost use Rattle.std.specs.Borrow.{LendsIf, sem};
 ghost use Rattle.std.specs.Option.{option_copied, option_copied_mut};
 ghost use Rattle.vb_command.specs.Machine.{Empty as Vacant, Open as OpenList, Done, empty_slots};
@@ -49,6 +49,14 @@ impl<A: Allocator + Clone> Pool<A> {
         Pool {
             slots: Sixteen::empty(),
         }
+    }
+
+    /// How many slots there are.
+    pub(crate) fn slot_count(&self) -> usize
+        ensures number { result ≡ 16 }
+        ensures list { length self.now ≡ 16 }
+    {
+        self.slots.len()
     }
 
     /// The bits of the set in slot `k`, of either kind. Refused by `BadSlot`, where the slot isn't
@@ -154,7 +162,7 @@ impl<A: Allocator + Clone> Pool<A> {
 impl<A: Allocator + Clone> fmt::Debug for Pool<A> {
     fn fmt<W: fmt::Write>(&self, f: &mut fmt::Formatter<W>) -> fmt::Result {
         write!(f, "Pool")?;
-        for k in 0..16usize {
+        for k in 0..self.slot_count() {
             if let Ok(bits) = self.set_at(k) {
                 write!(f, " {k}: {bits:?}")?;
             }

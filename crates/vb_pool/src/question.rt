@@ -1,16 +1,38 @@
 //! What commands ask of a set. No slot changes, and the lists alone take memory.
-ghost use Rattle.vb_command.specs.Machine.{Step, Outcome};
+ghost use Rattle.vb_command.specs.Machine.{Step, Outcome, order_of};
 ghost use Rattle.vb_command.specs.Machine as machine;
-ghost use Rattle.vb_pool.specs.Answered.{reply_of};
+ghost use Rattle.vb_pool.specs.Answered.{IsQuestion, reply_of};
 
 use crate::lists::{list_bits, list_places, list_runs, text};
 use crate::pool::Pool;
 use crate::range::is_range;
 use crate::refused::refusal_of;
 use std::alloc::Allocator;
-use vb_command::{Answer, Refusal};
+use vb_command::{Answer, Command, Refusal};
 
 impl<A: Allocator + Clone> Pool<A> {
+    /// Answers a question.
+    pub(crate) fn ask(&self, alloc: &A, question: &Command<A>) -> Result<Answer<A>, Refusal>
+        requires { IsQuestion (order_of question.now) }
+        ensures { Outcome self.now (order_of question.now) (reply_of result) self.now }
+    {
+        match *question {
+            Command::Len(k) => self.len(k),
+            Command::Count(k) => self.count(k),
+            Command::Get(k, i) => self.get(k, i),
+            Command::Countrange(k, a, b) => self.count_range(k, a, b),
+            Command::Select(k, n) => self.select(k, n),
+            Command::Selectunset(k, n) => self.select_unset(k, n),
+            Command::Last(k) => self.last(k),
+            Command::Bits(k) => self.bits(alloc, k),
+            Command::Places(k) => self.places(alloc, k),
+            Command::Runs(k) => self.runs(alloc, k),
+            Command::Show(k) => self.show(alloc, k),
+            Command::Eq(k, j) => self.equal(k, j),
+            _ => unreachable!(),
+        }
+    }
+
     /// How many bits the set has.
     pub(crate) fn len(&self, k: usize) -> Result<Answer<A>, Refusal>
         ensures { Step self.now (machine.Len k) (reply_of result) self.now }

@@ -1,5 +1,5 @@
 //! Commands, one or many.
-ghost use Rattle.std.specs.Prelude.{◌≡◌, map, IfOk, OnErr, IsOkUnless};
+ghost use Rattle.std.specs.Prelude.{◌≡◌, length, map, IfOk, OnErr, IsOkUnless};
 ghost use Rattle.vb_command.specs.Machine.{Outcome, Run, order_of};
 ghost use Rattle.vb_command.specs.Views.{reply};
 ghost use Rattle.vb_pool.specs.Answered.{reply_of};
@@ -23,19 +23,25 @@ impl<A: Allocator + Clone> Pool<A> {
     /// with `own` where their left set's storage has no other owner. A frozen set that is made asks
     /// for its owner too.
     pub fn serve(&mut self, alloc: &A, command: &Command<A>) -> Answer<A>
-        ensures { Outcome self.old (order_of command.now) (reply result) self.new }
+        ensures outcome { Outcome self.old (order_of command.now) (reply result) self.new }
+        ensures slots { length self.new ≡ 16 }
     {
-        answer_of(self.carry_out(alloc, command))
+        let answer = answer_of(self.carry_out(alloc, command));
+        prove!(self.slot_count() == 16);
+        answer
     }
 
     /// Carries out one command that is given away, as [`serve`](Self::serve) does one that is lent.
     /// The bytes of an `import` become those of its set, which asks for an owner of them alone.
     pub fn serve_owned(&mut self, alloc: &A, command: Command<A>) -> Answer<A>
-        ensures { Outcome self.old (order_of command) (reply result) self.new }
+        ensures outcome { Outcome self.old (order_of command) (reply result) self.new }
+        ensures slots { length self.new ≡ 16 }
     {
         match command {
-            Command::Import(k, offset, len, bytes) => {
-                answer_of(self.import_owned(alloc, k, offset, len, bytes))
+            Command::Import(k, o, n, bytes) => {
+                let answer = answer_of(self.import_owned(alloc, k, o, n, bytes));
+                prove!(self.slot_count() == 16);
+                answer
             }
             other => {
                 let answer = self.serve(alloc, &other);
@@ -50,9 +56,7 @@ impl<A: Allocator + Clone> Pool<A> {
         ensures { Outcome self.old (order_of command.now) (reply_of result) self.new }
     {
         match *command {
-            Command::Import(k, offset, len, ref bytes) => {
-                self.import(alloc, k, offset, len, bytes)
-            }
+            Command::Import(k, o, n, ref bytes) => self.import(alloc, k, o, n, bytes),
             Command::Full(k, v, n) => self.full(alloc, k, v, n),
             Command::Indices(k, n, ref places) => self.indices(alloc, k, n, places),
             Command::Set(k, i, v) => self.set(k, i, v),
@@ -75,18 +79,7 @@ impl<A: Allocator + Clone> Pool<A> {
             Command::Andnot(mode, l, r, t) => self.combine(BitOp::AndNot, mode, l, r, t),
             Command::Not(mode, l, t) => self.not(mode, l, t),
             Command::Take(k, t, m, ref indices) => self.take(alloc, k, t, m, indices),
-            Command::Len(k) => self.len(k),
-            Command::Count(k) => self.count(k),
-            Command::Get(k, i) => self.get(k, i),
-            Command::Countrange(k, a, b) => self.count_range(k, a, b),
-            Command::Select(k, n) => self.select(k, n),
-            Command::Selectunset(k, n) => self.select_unset(k, n),
-            Command::Last(k) => self.last(k),
-            Command::Bits(k) => self.bits(alloc, k),
-            Command::Places(k) => self.places(alloc, k),
-            Command::Runs(k) => self.runs(alloc, k),
-            Command::Show(k) => self.show(alloc, k),
-            Command::Eq(k, j) => self.equal(k, j),
+            ref question => self.ask(alloc, question),
         }
     }
 }
@@ -118,10 +111,13 @@ pub fn run<A: Allocator + Clone>(
         Run pool.old (map order_of commands.now) (map reply answers.items) pool.new) }
     ensures refused { IsOkUnless result OutOfMemory }
     ensures err { OnErr result (pool.new ≡ pool.old) }
+    ensures slots { length pool.new ≡ 16 }
 {
+    prove!(pool.slot_count() == 16);
     let mut answers = Vec::with_capacity(alloc.clone()?, commands.len())?;
     for command in commands {
         answers.push(pool.serve(&alloc, command)).unwrap();
     }
+    prove!(pool.slot_count() == 16);
     Ok(answers)
 }

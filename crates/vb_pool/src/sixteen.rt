@@ -1,5 +1,5 @@
 //! Sixteen values by their numbers.
-ghost use Rattle.std.specs.Prelude.{◌≡◌, replicate, slice_get, slice_set};
+ghost use Rattle.std.specs.Prelude.{◌≡◌, length, replicate, slice_get, slice_set};
 ghost use Rattle.std.specs.Borrow.{LendsIf, sem};
 ghost use Rattle.std.specs.Option.{option_copied, option_copied_mut};
 ghost use Rattle.vb_pool.specs.contracts.sixteen.Sixteen.{the_row};
@@ -97,6 +97,16 @@ macro_rules! lend_at {
 }
 
 impl<T> Sixteen<T> {
+    /// How many values there are.
+    pub fn len(&self) -> usize
+        ensures number { result ≡ 16 }
+        ensures list { length self.now ≡ 16 }
+    {
+        // A proof sees the list of the values once one of them is named.
+        let _ = &self.s0;
+        16
+    }
+
     /// Value `k`; `None` from 16 on.
     pub fn get(&self, k: usize) -> Option<&T>
         ensures { option_copied result ≡ slice_get self.now k }

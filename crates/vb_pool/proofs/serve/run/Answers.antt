@@ -12,7 +12,7 @@ loop-command-preserved g c =
     let answers = rw c.unwrap.ensures at c.push.ensures.items in
     record {
       ran = rw (commands, map_push, answers, map_push)
-          (Run-append _ _ _ _ _ _ _ c.loop-command.invariant.ran c.serve.ensures);
+          (Run-append _ _ _ _ _ _ _ c.loop-command.invariant.ran c.serve.ensures.outcome);
       counted = search rules;
       room = search rules;
     }
