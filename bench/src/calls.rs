@@ -324,6 +324,16 @@ unsafe extern "C" {
         size: usize,
         rounds: usize,
     ) -> usize;
+    pub fn bench_deposit_into(
+        out: *mut u8,
+        room: usize,
+        values: Bytes,
+        values_size: usize,
+        many: usize,
+        mask: Bytes,
+        mask_size: usize,
+        len: usize,
+    ) -> usize;
     pub fn bench_buffer_copy_from(items: *const u32, many: usize) -> usize;
     pub fn bench_buffer_read_from(bytes: Bytes, size: usize) -> usize;
     pub fn bench_buffer_from_iter(n: u32) -> usize;

@@ -311,3 +311,18 @@ pub fn filter_bits(out: &mut [u64], bits: &Input, mask: &Input, len: usize) -> u
     });
     at
 }
+
+/// The bits written one by one to the set places of a mask, and 0 elsewhere; both begin with their
+/// words.
+#[inline(never)]
+pub fn deposit(out: &mut [u64], bits: &Input, mask: &Input, len: usize) -> usize {
+    let words = bits.words();
+    let mut at = 0;
+    out.fill(0);
+    for_each_set_bit(mask, 0, len, |place| {
+        let bit = words[at / 64] >> (at % 64) & 1;
+        out[place / 64] |= bit << (place % 64);
+        at += 1;
+    });
+    at
+}

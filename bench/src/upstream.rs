@@ -345,3 +345,15 @@ pub fn filter_bits(bits: &BitBuffer, mask: &BitBuffer) -> usize {
     }
     used(kept.freeze())
 }
+
+/// The places of a mask, and a bit set for each that gets a true one.
+#[inline(never)]
+pub fn deposit(bits: &BitBuffer, mask: &BitBuffer) -> usize {
+    let mut made = BitBufferMut::new_unset(mask.len());
+    for (at, place) in mask.set_indices().enumerate() {
+        if bits.value(at) {
+            made.set(place);
+        }
+    }
+    used(made.freeze())
+}

@@ -1,4 +1,4 @@
-//! Values and bits that a mask keeps.
+//! Values and bits that a mask keeps, and bits put back to their places.
 
 use std::cell::RefCell;
 use std::hint::black_box;
@@ -30,6 +30,14 @@ pub fn measure(bench: &mut Bench) {
     for share in [0.5, 0.1, 0.001] {
         let mask = &Input::with_set(share, MILLION / 8);
         bench.row(bits(&Input::random(MILLION / 8), mask).set(share));
+    }
+    for share in [0.5, 0.1, 0.001, 0.9] {
+        let mask = &Input::with_set(share, MILLION / 8);
+        let row = deposit(&Input::random(MILLION / 8), mask).set(share);
+        bench.row(match share {
+            0.5 | 0.9 => row.at_most(0.35, LOOP),
+            _ => row,
+        });
     }
 }
 
@@ -107,4 +115,34 @@ fn bits<'a>(values: &Input, mask: &'a Input) -> Row<'a> {
         }))
         .plain(Contender::of(plain))
         .at_most(0.25, LOOP)
+}
+
+fn deposit<'a>(values: &Input, mask: &'a Input) -> Row<'a> {
+    let (from, again, by) = (copied(values), copied(values), mask.bytes(MILLION / 8));
+    let to = RefCell::new(vec![0u64; MILLION / 64]);
+    let many = by.iter().map(|byte| byte.count_ones() as usize).sum();
+    #[cfg(feature = "upstream")]
+    let sets = [values.bits(0, many), mask.bits(0, MILLION)].map(crate::upstream::set);
+    let ours = move || {
+        let out = &mut *to.borrow_mut();
+        let (bytes, size) = (from.bytes(MILLION / 8), MILLION / 8);
+        let (out, room) = (out.as_mut_ptr().cast(), 8 * out.len());
+        unsafe {
+            let (from, mask) = (bytes.as_ptr(), by.as_ptr());
+            calls::bench_deposit_into(out, room, from, size, many, mask, by.len(), MILLION)
+        }
+    };
+    let over = RefCell::new(vec![0u64; MILLION / 64]);
+    let plain = move || loops::deposit(&mut over.borrow_mut(), &again, mask, MILLION);
+    Row::new("`deposit_into`, of bits", Contender::of(ours))
+        .bits(MILLION)
+        .upstream(upstream!({
+            let [bits, mask] = sets;
+            Contender::of(move || crate::upstream::deposit(&bits, &mask))
+        }))
+        .plain(Contender::of(plain))
+}
+
+fn copied(input: &Input) -> Input {
+    Input::copied(input.bytes(MILLION / 8))
 }
