@@ -1,7 +1,7 @@
-//! Bitmaps with their bytes, counts of two windows, walks over false bits, and validity that may be
-//! missing.
+//! Bitmaps with their bytes, counts of two windows, walks over false bits, validity that may be
+//! missing, and three-valued logic.
 
-use vortex_bits::{Bitmap, Bits, Validity};
+use vortex_bits::{Bitmap, Bits, Validity, values};
 
 use crate::ask::same;
 use crate::case::Case;
@@ -194,10 +194,53 @@ fn validity(
         )?)
 }
 
+/// Three-valued `and` and `or` of the windows, each with a validity that may be missing: the other
+/// window, and the first one negated.
+fn kleene(case: &Case, random: &mut Random, left: &[bool], right: &[bool]) -> Result<u64, String> {
+    let (len, negated) = (case.len, !case.left());
+    let (a, b) = (case.left(), case.right());
+    let a_valid = (random.below(2) == 0).then_some(b);
+    let b_valid = (random.below(2) == 0).then_some(&negated);
+    let truth = |row: usize| {
+        let (a, b) = (left[row], right[row]);
+        let a_known = a_valid.is_none() || b;
+        let b_known = b_valid.is_none() || !a;
+        (a_known.then_some(a), b_known.then_some(b))
+    };
+    let wanted = |decides: bool| -> [Vec<bool>; 2] {
+        let rows = (0..len).map(truth).map(|it| match it {
+            (Some(a), Some(b)) if a == b => Some(a),
+            (Some(_), Some(_)) => Some(decides),
+            (one, other) => one.or(other).filter(|&it| it == decides),
+        });
+        let (trues, valid) = rows.map(|it| (it == Some(true), it.is_some())).unzip();
+        [trues, valid]
+    };
+    let mut calls = 0;
+    for (name, (trues, valid), [wanted, known]) in [
+        (
+            "and_kleene",
+            values::and_kleene(a, a_valid, b, b_valid),
+            wanted(false),
+        ),
+        (
+            "or_kleene",
+            values::or_kleene(a, a_valid, b, b_valid),
+            wanted(true),
+        ),
+    ] {
+        calls += lists(name, list(&trues), wanted)?
+            + same(name, valid.is_some(), known.contains(&false))?
+            + lists(name, filled(valid, len), known)?;
+    }
+    Ok(calls)
+}
+
 pub fn compare(case: &Case, random: &mut Random) -> Result<u64, String> {
     let [left, right] = [case.left(), case.right()].map(plain::bits);
     Ok(operators(case, &left, &right)?
         + unset(case.left(), case.n, &left)?
         + grows(case, random, &left, &right)?
-        + validity(case, random, &left, &right)?)
+        + validity(case, random, &left, &right)?
+        + kleene(case, random, &left, &right)?)
 }

@@ -38,7 +38,7 @@
 //! - what puts calls together: writes of filters, takes and packs to windows that don't begin with
 //!   a byte, `fill_with`, and the blocks in which iterators are filled;
 //! - walks over false bits, `last_unset`, how bitmaps are made and grow, [`Validity`],
-//!   and `arrow`;
+//!   three-valued logic, and `arrow`;
 //! - everything on other machines, under Miri, and where the archives of those functions aren't
 //!   there when the crate is built.
 //!
@@ -82,6 +82,8 @@ mod error;
 mod filter;
 pub mod iter;
 mod kernels;
+#[cfg(feature = "alloc")]
+mod kleene;
 mod level;
 mod looks;
 mod mask;

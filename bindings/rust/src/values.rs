@@ -1,6 +1,6 @@
 //! Values at indices: `take_into` writes them into a slice that is there, `take` into a new `Vec`;
-//! values that a mask keeps, in a new `Vec` or at the end of one; and values compared, into bits
-//! that are there or a new `Bitmap`.
+//! values that a mask keeps, in a new `Vec` or at the end of one; values compared, into bits that
+//! are there or a new `Bitmap`; and truth values that may be null, by three-valued `and` and `or`.
 //!
 //! A take has a form with a validity, of which a position counts where its bit is true, and a form
 //! `try_` that answers an error where the other panics.
@@ -25,6 +25,8 @@ pub use crate::compare::{compare, compare_with};
 pub use crate::compare::{compare_into, compare_with_into};
 #[cfg(feature = "alloc")]
 pub use crate::filter::{filter, filter_onto};
+#[cfg(feature = "alloc")]
+pub use crate::kleene::{and_kleene, or_kleene};
 
 use crate::error::{TakeValuesError, expect};
 use crate::{BitIndex, Bits, Mask, Value, kernels};

@@ -1,0 +1,117 @@
+//! Three-valued logic, beside a loop over the nine cases.
+use vortex_bits::{Bitmap, Bits, Validity, values};
+
+/// A truth value; None is null.
+type Truth = Option<bool>;
+
+const ALL: [Truth; 3] = [Some(true), Some(false), None];
+
+fn and(a: Truth, b: Truth) -> Truth {
+    match (a, b) {
+        (Some(false), _) | (_, Some(false)) => Some(false),
+        (Some(true), Some(true)) => Some(true),
+        _ => None,
+    }
+}
+
+fn or(a: Truth, b: Truth) -> Truth {
+    match (a, b) {
+        (Some(true), _) | (_, Some(true)) => Some(true),
+        (Some(false), Some(false)) => Some(false),
+        _ => None,
+    }
+}
+
+/// Bits from `offset` on of bytes that are true before and behind them, as they are at nulls where
+/// `at_null` says so; and which are valid.
+fn column(truths: &[Truth], offset: usize, at_null: bool) -> [Bitmap; 2] {
+    let ends = || (0..offset).map(|_| true);
+    let bits = truths.iter().map(|it| it.unwrap_or(at_null));
+    let valid = truths.iter().map(Option::is_some);
+    let bits: Bitmap = ends().chain(bits).chain(ends()).collect();
+    let valid: Bitmap = ends().chain(valid).chain(ends()).collect();
+    [bits, valid].map(|it| it.slice(offset..offset + truths.len()))
+}
+
+/// The answer as a list, of which the bits at nulls are false, and a validity isn't there where all
+/// are valid.
+#[track_caller]
+fn truths((trues, valid): (Bitmap, Option<Bitmap>)) -> Vec<Truth> {
+    assert!(valid.as_ref().is_none_or(|valid| !valid.all()));
+    let valid = Validity::new(valid.as_ref().map(Bitmap::bits), trues.len());
+    let row = |(row, is_true): (usize, bool)| {
+        let is_valid = valid.get(row) == Some(true);
+        assert!(is_valid || !is_true);
+        is_valid.then_some(is_true)
+    };
+    trues.iter().enumerate().map(row).collect()
+}
+
+#[track_caller]
+fn compare(a: &[Truth], b: &[Truth], offsets: [usize; 2]) {
+    let by = |of: fn(Truth, Truth) -> Truth| {
+        let rows = a.iter().zip(b);
+        rows.map(|(&a, &b)| of(a, b)).collect::<Vec<_>>()
+    };
+    for at_null in [false, true] {
+        let [x, x_valid] = column(a, offsets[0], at_null);
+        let [y, y_valid] = column(b, offsets[1], !at_null);
+        let x_valid = a.contains(&None).then_some(x_valid);
+        let y_valid = b.contains(&None).then_some(y_valid);
+        let (x, y) = (x.bits(), y.bits());
+        assert_eq!(
+            truths(values::and_kleene(x, &x_valid, y, &y_valid)),
+            by(and)
+        );
+        assert_eq!(truths(values::or_kleene(x, &x_valid, y, &y_valid)), by(or));
+    }
+}
+
+/// Rows in which each of `a` stands beside each of `b`, again and again.
+fn pairs(a: &[Truth], b: &[Truth], len: usize) -> [Vec<Truth>; 2] {
+    let row = |row: usize| (a[row % a.len()], b[row / a.len() % b.len()]);
+    let (a, b) = (0..len).map(row).unzip();
+    [a, b]
+}
+
+#[test]
+fn nulls_count_where_the_other_side_does_not_decide() {
+    let sides = [&ALL[..], &ALL[..2], &ALL[..1], &ALL[1..2], &ALL[2..]];
+    for len in [0, 1, 9, 63, 64, 65, 130, 1000] {
+        for offsets in [[0, 0], [3, 5], [8, 1], [7, 70]] {
+            for (a, b) in sides.iter().flat_map(|a| sides.map(|b| (a, b))) {
+                let [a, b] = pairs(a, b, len);
+                compare(&a, &b, offsets);
+            }
+        }
+    }
+}
+
+#[test]
+fn an_answer_without_nulls_has_no_validity() {
+    let (trues, valid) = (
+        Bits::new(&[0xFF; 20], 1, 150),
+        Bits::new(&[0x5A; 20], 3, 150),
+    );
+    assert_eq!(values::or_kleene(trues, valid, trues, None::<Bits>).1, None);
+    assert_eq!(
+        values::and_kleene(trues, None::<Bits>, trues, Some(trues)).1,
+        None
+    );
+    let nulls = values::and_kleene(trues, valid, trues, Validity::new(None, 150));
+    assert_eq!(nulls, (valid.into(), Some(valid.into())));
+}
+
+#[test]
+#[should_panic(expected = "a mask of 7 bits for 8")]
+fn a_validity_of_another_length_is_refused() {
+    let eight = Bits::new(&[0], 0, 8);
+    let _ = values::and_kleene(eight, None::<Bits>, eight, eight.slice(1..));
+}
+
+#[test]
+#[should_panic(expected = "a mask of 7 bits for 8")]
+fn two_lengths_are_refused() {
+    let eight = Bits::new(&[0], 0, 8);
+    let _ = values::or_kleene(eight, None::<Bits>, eight.slice(1..), None::<Bits>);
+}
