@@ -5,6 +5,8 @@
 //! taken for the count of owners alone; else they are copied, which takes memory for these too. All
 //! of it is asked of the left value's allocator. Lengths are compared before memory is asked for.
 ghost use Rattle.std.specs.Prelude.{◌≡◌, ◌≢◌, ◌≤◌, [], length, IsOk, IsErrOf};
+ghost use Rattle.vb_bits.specs.Bits.{count};
+ghost use Rattle.vb_bits.specs.Operators.{combined_by};
 ghost use Rattle.vb_mem.specs.Makes.{Makes};
 ghost use Rattle.vb_mem.specs.OpenBuffer.{HoldsMade};
 ghost use Rattle.vb_bit_buffer.specs.Gives.{GivesCombined, GivesNegated};
@@ -36,6 +38,42 @@ impl<A: Allocator + Clone> BitBuffer<A> {
         ensures { GivesCombined BitOp.AndNot self right.now result }
     {
         self.into_combined(right, BitOp::AndNot)
+    }
+
+    /// How many places are true here and in `right`, which has to be as long. Both are read by
+    /// words, and no set is made; it takes no memory.
+    pub fn and_count(&self, right: &Self) -> usize
+        requires { length right.now.bits ≡ length self.now.bits }
+        ensures { result ≡ count (combined_by BitOp.And self.now.bits right.now.bits) }
+    {
+        self.as_view().and_count(&right.as_view())
+    }
+
+    /// How many places are true here or in `right` or in both, at the cost of
+    /// [`and_count`](Self::and_count). The sets have to be as long.
+    pub fn or_count(&self, right: &Self) -> usize
+        requires { length right.now.bits ≡ length self.now.bits }
+        ensures { result ≡ count (combined_by BitOp.Or self.now.bits right.now.bits) }
+    {
+        self.as_view().or_count(&right.as_view())
+    }
+
+    /// At how many places the sets differ, at the cost of [`and_count`](Self::and_count). They have
+    /// to be as long.
+    pub fn xor_count(&self, right: &Self) -> usize
+        requires { length right.now.bits ≡ length self.now.bits }
+        ensures { result ≡ count (combined_by BitOp.Xor self.now.bits right.now.bits) }
+    {
+        self.as_view().xor_count(&right.as_view())
+    }
+
+    /// How many places are true here and not in `right`, at the cost of
+    /// [`and_count`](Self::and_count). The sets have to be as long.
+    pub fn andnot_count(&self, right: &Self) -> usize
+        requires { length right.now.bits ≡ length self.now.bits }
+        ensures { result ≡ count (combined_by BitOp.AndNot self.now.bits right.now.bits) }
+    {
+        self.as_view().andnot_count(&right.as_view())
     }
 
     /// The bits combined with those of another set, in bytes of their own.
