@@ -1,8 +1,11 @@
 -- Masks of conditions, and what they keep.
 use Rattle.std.proofs.Common.{◌≡◌, ℕ, Bool, true, false, ◌&&◌, cond, List, [], ◌∷◌, length, map}
-use Rattle.std.proofs.Common.{filter, refl, ap, ◌∙◌, arith, pos, int_eq, nat_eq}
+use Rattle.std.proofs.Common.{filter, slice_index, refl, sym, ap, ◌∙◌, arith, pos, int_eq, nat_eq}
 use Rattle.std.proofs.lemmas.Bool.Decides.{nat_tests}
 use Rattle.std.proofs.lemmas.Int.{ints}
+use Rattle.std.proofs.lemmas.List.{length-map, get_or-map}
+use Rattle.vortex_buffer.proofs.AnswersLemmas.{map-span}
+use Rattle.vortex_buffer.specs.Asked.{span}
 use Rattle.vortex_buffer.specs.Kept.{kept_by}
 use Rattle.vortex_buffer.specs.Operators.{merged_by}
 use Rattle.use_filters.specs.Filters.{matches_of}
@@ -44,6 +47,14 @@ kept_by_matches_of test (false ∷ bits) (value ∷ values) =
       | true ↦ kept_by_matches_of test bits values
       | false ↦ kept_by_matches_of test bits values
     ]
+
+-- a test of the value at each place
+pub map_of_span : (test : ℕ → Bool) (values : List ℕ)
+    → map (λ k. test (slice_index values k)) (span 0 (length values)) ≡ map test values
+map_of_span test values =
+    map-span (λ k. test (slice_index values k)) (map test values)
+    (length values) (sym (length-map values test))
+    (λ k h. sym (get_or-map test values k 0 false h))
 
 -- a comparison that says what the test says
 pub tested : (answer test : ℕ → Bool) (values : List ℕ)

@@ -16,8 +16,30 @@ pub fn rows_where<A: Allocator + Clone>(
 ) -> Result<BitBuffer<A>>
     ensures { Makes (λ rows. rows.bits ≡ map (is_met condition) values.now.list) result }
 {
+    if values.len() < FEW {
+        return few_rows_where(alloc, values, condition);
+    }
     let (op, number) = condition.comparison();
     compared(alloc, values.as_slice(), op, number, None)
+}
+
+/// Fewer rows than that are tested sooner one by one than by vectors.
+const FEW: usize = 512;
+
+/// [`rows_where`], row by row.
+fn few_rows_where<A: Allocator + Clone>(
+    alloc: A,
+    values: &Buffer<u32, A>,
+    condition: Condition,
+) -> Result<BitBuffer<A>>
+    ensures { Makes (λ rows. rows.bits ≡ map (is_met condition) values.now.list) result }
+{
+    let items = values.as_slice();
+    BitBuffer::collect_bool(
+        alloc,
+        items.len(),
+        &mut |row| condition.is_met_by(items[row]),
+    )
 }
 
 /// The mask of the rows that are valid and whose value meets the condition. Refused by
