@@ -10,6 +10,8 @@ mod blocks;
 #[cfg(test)]
 mod compared;
 #[cfg(test)]
+mod comparisons;
+#[cfg(test)]
 mod deposits;
 #[cfg(test)]
 mod filters;
