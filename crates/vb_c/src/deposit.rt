@@ -12,7 +12,7 @@ use vb_view::BitBufferView;
 
 /// Writes `len` bits to `out` from bit `o` on: where that of `mask` from bit `m` on is true, the
 /// bits of `values` from bit `v` on, in order, of which there have to be as many; false elsewhere.
-/// Every other bit of `out` stays. It undoes [`vb_filter_bits`](crate::filter::vb_filter_bits).
+/// Every other bit of `out` stays. It undoes `vb_filter_bits`.
 #[unsafe(no_mangle)]
 pub extern "C" fn vb_deposit_bits(
     out: &mut [u8],

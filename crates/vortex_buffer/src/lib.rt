@@ -11,37 +11,112 @@ mod buffer_string;
 mod compare;
 mod const_buffer;
 
-pub use aligned_buf::{AlignedBuf, copy_to_const_aligned};
+pub use aligned_buf::AlignedBuf;
+pub use aligned_buf::copy_to_const_aligned;
 pub use buffer_string::BufferString;
-pub use const_buffer::{ConstBuffer, ConstByteBuffer};
+pub use const_buffer::ConstBuffer;
+pub use const_buffer::ConstByteBuffer;
 pub use ghost_count::GhostCount;
-pub use vb_compare::{CompareLanes, Comparison, compare_into, compare_with_into};
-pub use vb_core::{
-    Alignment, BitIndex, BufferError, Element, ExtendError, TrustedLen, TrustedLenAdapter,
-    trusted_len,
-};
-pub use vb_filter::{deposit_into, filter_elements_into, filter_into, filter_values_into};
-pub use vb_gather::{Deposit, Filter, Take, compared, compared_with, take_bits};
-pub use vb_kernel::{
-    BitOp, Glance, Plain, Tally, and_count, and_count_by, andnot_count, andnot_count_by,
-    bit_select, bit_select_by, bit_select_unset, bit_select_unset_by, copy_bits, count_ones,
-    count_ones_by, equal_bits, fill_bits, get_bit, get_bit_unchecked, is_disjoint, is_subset,
-    last_set_index, map_words, most_looks, or_count, or_count_by, read_bits, read_u64_le,
-    set_bit_to, set_bit_unchecked, unset_bit_unchecked, window_fits, xor_count, xor_count_by,
-    zip_words,
-};
-pub use vb_mem::{Buffer, BufferIterator, BufferMut, ByteBuffer, ByteBufferMut, Iter, Result};
-pub use vb_pack::{
-    collect_bool_bytes, collect_bool_word, collect_bool_word_scalar, collect_bool_words,
-    collect_bool_words_multiversioned, map_bool_bytes, pack_bool_word_lanes, pack_bool_word_swar,
-    pack_bools, pack_bools_into_words, pack_truthy, splice_word_at_bit,
-};
-pub use vb_rank::{PlainTable, Probe, TallyTable, rank_by, select_by, select_unset_by, table_of};
+pub use vb_compare::CompareLanes;
+pub use vb_compare::Comparison;
+pub use vb_compare::compare_into;
+pub use vb_compare::compare_with_into;
+pub use vb_core::Alignment;
+pub use vb_core::BitIndex;
+pub use vb_core::BufferError;
+pub use vb_core::Element;
+pub use vb_core::ExtendError;
+pub use vb_core::TrustedLen;
+pub use vb_core::TrustedLenAdapter;
+pub use vb_core::trusted_len;
+pub use vb_filter::deposit_into;
+pub use vb_filter::filter_elements_into;
+pub use vb_filter::filter_into;
+pub use vb_filter::filter_values_into;
+pub use vb_gather::Deposit;
+pub use vb_gather::Filter;
+pub use vb_gather::Take;
+pub use vb_gather::compared;
+pub use vb_gather::compared_with;
+pub use vb_gather::take_bits;
+pub use vb_kernel::BitOp;
+pub use vb_kernel::Glance;
+pub use vb_kernel::Plain;
+pub use vb_kernel::Tally;
+pub use vb_kernel::and_count;
+pub use vb_kernel::and_count_by;
+pub use vb_kernel::andnot_count;
+pub use vb_kernel::andnot_count_by;
+pub use vb_kernel::bit_select;
+pub use vb_kernel::bit_select_by;
+pub use vb_kernel::bit_select_unset;
+pub use vb_kernel::bit_select_unset_by;
+pub use vb_kernel::copy_bits;
+pub use vb_kernel::count_ones;
+pub use vb_kernel::count_ones_by;
+pub use vb_kernel::equal_bits;
+pub use vb_kernel::fill_bits;
+pub use vb_kernel::get_bit;
+pub use vb_kernel::get_bit_unchecked;
+pub use vb_kernel::is_disjoint;
+pub use vb_kernel::is_subset;
+pub use vb_kernel::last_set_index;
+pub use vb_kernel::map_words;
+pub use vb_kernel::most_looks;
+pub use vb_kernel::or_count;
+pub use vb_kernel::or_count_by;
+pub use vb_kernel::read_bits;
+pub use vb_kernel::read_u64_le;
+pub use vb_kernel::set_bit_to;
+pub use vb_kernel::set_bit_unchecked;
+pub use vb_kernel::unset_bit_unchecked;
+pub use vb_kernel::window_fits;
+pub use vb_kernel::xor_count;
+pub use vb_kernel::xor_count_by;
+pub use vb_kernel::zip_words;
+pub use vb_mem::Buffer;
+pub use vb_mem::BufferIterator;
+pub use vb_mem::BufferMut;
+pub use vb_mem::ByteBuffer;
+pub use vb_mem::ByteBufferMut;
+pub use vb_mem::Iter;
+pub use vb_mem::Result;
+pub use vb_pack::collect_bool_bytes;
+pub use vb_pack::collect_bool_word;
+pub use vb_pack::collect_bool_word_scalar;
+pub use vb_pack::collect_bool_words;
+pub use vb_pack::collect_bool_words_multiversioned;
+pub use vb_pack::map_bool_bytes;
+pub use vb_pack::pack_bool_word_lanes;
+pub use vb_pack::pack_bool_word_swar;
+pub use vb_pack::pack_bools;
+pub use vb_pack::pack_bools_into_words;
+pub use vb_pack::pack_truthy;
+pub use vb_pack::splice_word_at_bit;
+pub use vb_rank::PlainTable;
+pub use vb_rank::Probe;
+pub use vb_rank::TallyTable;
+pub use vb_rank::rank_by;
+pub use vb_rank::select_by;
+pub use vb_rank::select_unset_by;
+pub use vb_rank::table_of;
 pub use vb_ranked::Ranked;
-pub use vb_set::{BitBuffer, BitBufferMut, ToBitBuffer, TryIntoMut};
-pub use vb_take::{set_bits_at, take_into, take_values_into};
-pub use vb_view::{BitBufferMeta, BitBufferMutView, BitBufferView, BitStore};
-pub use vb_walk::{
-    BitChunkIterator, BitChunks, BitIndexIterator, BitIterator, BitSliceIterator,
-    PaddedChunkIterator, UnalignedBitChunk, UnalignedBitChunkIterator,
-};
+pub use vb_set::BitBuffer;
+pub use vb_set::BitBufferMut;
+pub use vb_set::ToBitBuffer;
+pub use vb_set::TryIntoMut;
+pub use vb_take::set_bits_at;
+pub use vb_take::take_into;
+pub use vb_take::take_values_into;
+pub use vb_view::BitBufferMeta;
+pub use vb_view::BitBufferMutView;
+pub use vb_view::BitBufferView;
+pub use vb_view::BitStore;
+pub use vb_walk::BitChunkIterator;
+pub use vb_walk::BitChunks;
+pub use vb_walk::BitIndexIterator;
+pub use vb_walk::BitIterator;
+pub use vb_walk::BitSliceIterator;
+pub use vb_walk::PaddedChunkIterator;
+pub use vb_walk::UnalignedBitChunk;
+pub use vb_walk::UnalignedBitChunkIterator;

@@ -1,22 +1,111 @@
 //! Every public item is reached under the name of one crate: this file isn't checked where one is
 //! missing.
-pub use vortex_buffer::{
-    AlignedBuf, Alignment, BitBuffer, BitBufferMeta, BitBufferMut, BitBufferMutView,
-    BitBufferView, BitChunkIterator, BitChunks, BitIndex, BitIndexIterator, BitIterator, BitOp,
-    BitSliceIterator, BitStore, Buffer, BufferError, BufferIterator, BufferMut, BufferString,
-    ByteBuffer, ByteBufferMut, CompareLanes, Comparison, ConstBuffer, ConstByteBuffer, Deposit,
-    Element, ExtendError, Filter, GhostCount, Glance, Iter, PaddedChunkIterator, Plain,
-    PlainTable, Probe, Ranked, Result, Take, Tally, TallyTable, ToBitBuffer, TrustedLen,
-    TrustedLenAdapter, TryIntoMut, UnalignedBitChunk, UnalignedBitChunkIterator, and_count,
-    and_count_by, andnot_count, andnot_count_by, bit_select, bit_select_by, bit_select_unset,
-    bit_select_unset_by, collect_bool_bytes, collect_bool_word, collect_bool_word_scalar,
-    collect_bool_words, collect_bool_words_multiversioned, compare_into, compare_with_into,
-    compared, compared_with, copy_bits, copy_to_const_aligned, count_ones, count_ones_by,
-    deposit_into, equal_bits, fill_bits, filter_elements_into, filter_into, filter_values_into,
-    get_bit, get_bit_unchecked, is_disjoint, is_subset, last_set_index, map_bool_bytes,
-    map_words, most_looks, or_count, or_count_by, pack_bool_word_lanes, pack_bool_word_swar,
-    pack_bools, pack_bools_into_words, pack_truthy, rank_by, read_bits, read_u64_le, select_by,
-    select_unset_by, set_bit_to, set_bit_unchecked, set_bits_at, splice_word_at_bit, table_of,
-    take_bits, take_into, take_values_into, trusted_len, unset_bit_unchecked, window_fits,
-    xor_count, xor_count_by, zip_words,
-};
+pub use vortex_buffer::AlignedBuf;
+pub use vortex_buffer::Alignment;
+pub use vortex_buffer::BitBuffer;
+pub use vortex_buffer::BitBufferMeta;
+pub use vortex_buffer::BitBufferMut;
+pub use vortex_buffer::BitBufferMutView;
+pub use vortex_buffer::BitBufferView;
+pub use vortex_buffer::BitChunkIterator;
+pub use vortex_buffer::BitChunks;
+pub use vortex_buffer::BitIndex;
+pub use vortex_buffer::BitIndexIterator;
+pub use vortex_buffer::BitIterator;
+pub use vortex_buffer::BitOp;
+pub use vortex_buffer::BitSliceIterator;
+pub use vortex_buffer::BitStore;
+pub use vortex_buffer::Buffer;
+pub use vortex_buffer::BufferError;
+pub use vortex_buffer::BufferIterator;
+pub use vortex_buffer::BufferMut;
+pub use vortex_buffer::BufferString;
+pub use vortex_buffer::ByteBuffer;
+pub use vortex_buffer::ByteBufferMut;
+pub use vortex_buffer::CompareLanes;
+pub use vortex_buffer::Comparison;
+pub use vortex_buffer::ConstBuffer;
+pub use vortex_buffer::ConstByteBuffer;
+pub use vortex_buffer::Deposit;
+pub use vortex_buffer::Element;
+pub use vortex_buffer::ExtendError;
+pub use vortex_buffer::Filter;
+pub use vortex_buffer::GhostCount;
+pub use vortex_buffer::Glance;
+pub use vortex_buffer::Iter;
+pub use vortex_buffer::PaddedChunkIterator;
+pub use vortex_buffer::Plain;
+pub use vortex_buffer::PlainTable;
+pub use vortex_buffer::Probe;
+pub use vortex_buffer::Ranked;
+pub use vortex_buffer::Result;
+pub use vortex_buffer::Take;
+pub use vortex_buffer::Tally;
+pub use vortex_buffer::TallyTable;
+pub use vortex_buffer::ToBitBuffer;
+pub use vortex_buffer::TrustedLen;
+pub use vortex_buffer::TrustedLenAdapter;
+pub use vortex_buffer::TryIntoMut;
+pub use vortex_buffer::UnalignedBitChunk;
+pub use vortex_buffer::UnalignedBitChunkIterator;
+pub use vortex_buffer::and_count;
+pub use vortex_buffer::and_count_by;
+pub use vortex_buffer::andnot_count;
+pub use vortex_buffer::andnot_count_by;
+pub use vortex_buffer::bit_select;
+pub use vortex_buffer::bit_select_by;
+pub use vortex_buffer::bit_select_unset;
+pub use vortex_buffer::bit_select_unset_by;
+pub use vortex_buffer::collect_bool_bytes;
+pub use vortex_buffer::collect_bool_word;
+pub use vortex_buffer::collect_bool_word_scalar;
+pub use vortex_buffer::collect_bool_words;
+pub use vortex_buffer::collect_bool_words_multiversioned;
+pub use vortex_buffer::compare_into;
+pub use vortex_buffer::compare_with_into;
+pub use vortex_buffer::compared;
+pub use vortex_buffer::compared_with;
+pub use vortex_buffer::copy_bits;
+pub use vortex_buffer::copy_to_const_aligned;
+pub use vortex_buffer::count_ones;
+pub use vortex_buffer::count_ones_by;
+pub use vortex_buffer::deposit_into;
+pub use vortex_buffer::equal_bits;
+pub use vortex_buffer::fill_bits;
+pub use vortex_buffer::filter_elements_into;
+pub use vortex_buffer::filter_into;
+pub use vortex_buffer::filter_values_into;
+pub use vortex_buffer::get_bit;
+pub use vortex_buffer::get_bit_unchecked;
+pub use vortex_buffer::is_disjoint;
+pub use vortex_buffer::is_subset;
+pub use vortex_buffer::last_set_index;
+pub use vortex_buffer::map_bool_bytes;
+pub use vortex_buffer::map_words;
+pub use vortex_buffer::most_looks;
+pub use vortex_buffer::or_count;
+pub use vortex_buffer::or_count_by;
+pub use vortex_buffer::pack_bool_word_lanes;
+pub use vortex_buffer::pack_bool_word_swar;
+pub use vortex_buffer::pack_bools;
+pub use vortex_buffer::pack_bools_into_words;
+pub use vortex_buffer::pack_truthy;
+pub use vortex_buffer::rank_by;
+pub use vortex_buffer::read_bits;
+pub use vortex_buffer::read_u64_le;
+pub use vortex_buffer::select_by;
+pub use vortex_buffer::select_unset_by;
+pub use vortex_buffer::set_bit_to;
+pub use vortex_buffer::set_bit_unchecked;
+pub use vortex_buffer::set_bits_at;
+pub use vortex_buffer::splice_word_at_bit;
+pub use vortex_buffer::table_of;
+pub use vortex_buffer::take_bits;
+pub use vortex_buffer::take_into;
+pub use vortex_buffer::take_values_into;
+pub use vortex_buffer::trusted_len;
+pub use vortex_buffer::unset_bit_unchecked;
+pub use vortex_buffer::window_fits;
+pub use vortex_buffer::xor_count;
+pub use vortex_buffer::xor_count_by;
+pub use vortex_buffer::zip_words;
