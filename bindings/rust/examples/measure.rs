@@ -3,6 +3,7 @@
 //!
 //!     cargo run --release --features levels --example measure
 
+use std::cell::RefCell;
 use std::hint::black_box;
 use std::time::Instant;
 
@@ -76,22 +77,14 @@ fn above_by_compare(keys: &[u32]) -> Bitmap {
     values::compare(keys, Comparison::Greater, 499)
 }
 
-/// Without a branch.
-fn kept_by_loop(values: &[i64], mask: &[u8]) -> Vec<i64> {
-    let (mut kept, mut len) = (vec![0; N], 0);
+/// To the front of `kept`, without a branch.
+fn kept_by_loop(values: &[i64], mask: &[u8], kept: &mut [i64]) -> usize {
+    let mut len = 0;
     for (row, &value) in values.iter().enumerate() {
         kept[len] = value;
         len += usize::from(bit(mask, row));
     }
-    kept.truncate(len);
-    kept
-}
-
-fn kept_by_crate(values: &[i64], mask: &[u8]) -> Vec<i64> {
-    let mask = Bits::new(mask, 0, N);
-    let mut kept = vec![0; mask.count_ones()];
-    mask.keep_into(values, &mut kept);
-    kept
+    len
 }
 
 /// The bits from the third one on that the mask keeps, without a branch.
@@ -254,11 +247,12 @@ fn filters(data: &Data) {
         || sum(above_by_collect(keys).bits().bytes()),
         || sum(&above_by_loop(keys)),
     );
+    let room = RefCell::new(vec![0; N + 1]);
     for (name, mask) in [("half", half), ("one in ten", few)] {
         row(
             &format!("`keep_into` of `i64`, {name}"),
-            || kept_by_crate(values, mask).len(),
-            || kept_by_loop(values, mask).len(),
+            || Bits::new(mask, 0, N).keep_into(values, &mut room.borrow_mut()),
+            || kept_by_loop(values, mask, &mut room.borrow_mut()),
         );
         let kept = Bits::new(mask, 0, N);
         let bits = Bits::new(most, 3, N);

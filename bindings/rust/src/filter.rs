@@ -51,7 +51,7 @@ impl Bits<'_> {
         self.of_len(values.len());
         let (kept, room) = (self.count_ones(), out.len());
         assert!(kept <= room, "room for {room} values and {kept} to keep");
-        kernels::keep(out, values, self)
+        kernels::keep(&mut out[..kept], values, self)
     }
 }
 

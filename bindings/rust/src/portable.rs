@@ -17,5 +17,5 @@ pub use filter::*;
 pub use rank::*;
 pub use take::*;
 pub use walk::*;
-pub use word::{only_word, write};
+pub use word::{low, only_word, quick_words, write};
 pub use write::*;

@@ -65,11 +65,11 @@ fn filter_first(kernels: &Kernels, out: &mut [u8], bits: Bits<'_>, mask: Bits<'_
     }
 }
 
-/// Of as many values as bits of the mask, and room for those whose bit is true.
+/// Of as many values as bits of the mask, and an item of `out` for each whose bit is true.
 #[inline]
 pub fn keep<T: Value>(out: &mut [T], values: &[T], mask: Bits<'_>) -> usize {
     debug_assert_eq!(values.len(), mask.len());
-    debug_assert!(portable::count_ones(mask) <= out.len());
+    debug_assert_eq!(out.len(), portable::count_ones(mask));
     #[cfg(vortex_bits_native)]
     if let (Some(kernels), Some(laid)) = (kernels().filter(|_| !is_word(mask)), Laid::of::<T>()) {
         return match laid {

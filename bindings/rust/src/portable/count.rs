@@ -23,24 +23,60 @@ pub fn count_ones(bits: Bits<'_>) -> usize {
 }
 
 pub fn select(bits: Bits<'_>, n: usize) -> Option<usize> {
-    nth(bits, n, |word| word)
+    nth(bits, n, count_ones, |word| word)
 }
 
 pub fn select_unset(bits: Bits<'_>, n: usize) -> Option<usize> {
-    nth(bits, n, |word| !word)
+    nth(
+        bits,
+        n,
+        |block| block.len() - count_ones(block),
+        |word| !word,
+    )
 }
 
-/// The place of the `n`-th bit that is true in the words that `seen` makes of those of the window.
-fn nth(bits: Bits<'_>, n: usize, seen: impl Fn(u64) -> u64) -> Option<usize> {
-    let mut before = 0;
-    for i in 0..bits.len().div_ceil(64) {
-        let word = seen(word_at(bits, i)) & low(bits.len() - 64 * i);
-        if n - before < ones(word) {
-            return Some(64 * i + nth_one(word, n - before));
+/// The place of the `n`-th bit that is true in the words that `seen` makes of those of the window,
+/// where `count` says how many a part of it has. What is behind the first words goes by blocks, of
+/// which the one that has it is looked through.
+#[inline]
+fn nth(
+    bits: Bits<'_>,
+    n: usize,
+    count: impl Fn(Bits<'_>) -> usize,
+    seen: impl Fn(u64) -> u64 + Copy,
+) -> Option<usize> {
+    const FIRST: usize = 1024;
+    const BLOCK: usize = 4096;
+    let first = bits.part(0, bits.len().min(FIRST));
+    let mut left = match nth_by_words(first, n, seen) {
+        Ok(place) => return Some(place),
+        Err(left) => left,
+    };
+    for start in (FIRST..bits.len()).step_by(BLOCK) {
+        let block = bits.part(start, (bits.len() - start).min(BLOCK));
+        let ones = count(block);
+        if left < ones {
+            return nth_by_words(block, left, seen)
+                .ok()
+                .map(|place| start + place);
         }
-        before += ones(word);
+        left -= ones;
     }
     None
+}
+
+/// The same word by word; or how many of `n` are left behind the window.
+#[inline]
+fn nth_by_words(bits: Bits<'_>, n: usize, seen: impl Fn(u64) -> u64) -> Result<usize, usize> {
+    let mut left = n;
+    for i in 0..bits.len().div_ceil(64) {
+        let word = seen(word_at(bits, i)) & low(bits.len() - 64 * i);
+        if left < ones(word) {
+            return Ok(64 * i + nth_one(word, left));
+        }
+        left -= ones(word);
+    }
+    Err(left)
 }
 
 /// The place of the `n`-th digit 1, of which there are more.

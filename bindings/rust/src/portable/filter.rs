@@ -14,18 +14,61 @@ pub fn filter(out: &mut BitsMut<'_>, source: Bits<'_>, mask: Bits<'_>) {
     }
 }
 
-/// Writes the values at the true places of `mask`, which is as long, to the front of `out`, which has
-/// room for them, and answers how many they are.
+/// Writes the values at the true places of `mask`, which is as long, to `out`, which has an item for
+/// each of them, and answers how many they are.
 #[inline]
 pub fn keep<T: Copy>(out: &mut [T], values: &[T], mask: Bits<'_>) -> usize {
-    let mut at = 0;
+    /// From so many kept values of 64 on it is sooner to write each value. That the next word keeps
+    /// as many as the last one is taken on trust.
+    const MANY: usize = 28;
+    let (mut at, mut last) = (0, 0);
     for (mask, values) in words(mask).zip(values.chunks(64)) {
-        let mut left = mask;
-        while left != 0 {
-            out[at] = values[left.trailing_zeros() as usize];
-            at += 1;
-            left &= left - 1;
+        if mask == 0 {
+            last = 0;
+            continue;
         }
+        let out = &mut out[at..];
+        last = match (out.first_chunk_mut(), values.first_chunk()) {
+            (Some(out), Some(values)) if mask == u64::MAX => {
+                *out = *values;
+                64
+            }
+            (Some(out), Some(values)) if last >= MANY => write_each(out, values, mask),
+            _ => write_kept(out, values, mask),
+        };
+        at += last;
+    }
+    at
+}
+
+/// Each value over the last one where that isn't kept, without a branch; items behind those that are
+/// kept hold anything. It answers how many these are.
+#[inline]
+fn write_each<T: Copy>(out: &mut [T; 64], values: &[T; 64], mask: u64) -> usize {
+    let mut at = 0;
+    for (values, mask) in values.chunks_exact(8).zip(mask.to_le_bytes()) {
+        // There is room, since no more values are kept than have been looked at.
+        let Some(out) = out[at..].first_chunk_mut::<8>() else {
+            return at;
+        };
+        let mut kept = 0;
+        for (row, &value) in values.iter().enumerate() {
+            out[kept % 8] = value;
+            kept += usize::from(mask >> row & 1);
+        }
+        at += kept;
+    }
+    at
+}
+
+/// One after the other; it answers how many.
+#[inline]
+fn write_kept<T: Copy>(out: &mut [T], values: &[T], mask: u64) -> usize {
+    let (mut at, mut left) = (0, mask);
+    while left != 0 {
+        out[at] = values[left.trailing_zeros() as usize];
+        at += 1;
+        left &= left - 1;
     }
     at
 }

@@ -14,19 +14,44 @@ pub fn take<I: BitIndex>(
 ) -> Option<usize> {
     for (i, indices) in indices.chunks(64).enumerate() {
         let counts = validity.map_or(u64::MAX, |validity| word_at(validity, i));
-        let mut word = 0;
-        for (at, index) in indices.iter().enumerate() {
-            word >>= 1;
-            if counts >> at & 1 == 1 {
-                let Some(bit) = index.place().and_then(|place| bits.get(place)) else {
-                    return Some(64 * i + at);
-                };
-                word |= u64::from(bit) << 63;
-            }
+        let is_past = |index: &I| index.place().is_none_or(|place| place >= bits.len());
+        let (word, past) = if indices.iter().fold(false, |any, it| any | is_past(it)) {
+            some_past(bits, indices)
+        } else {
+            (none_past(bits, indices), 0)
+        };
+        if past & counts != 0 {
+            return Some(64 * i + (past & counts).trailing_zeros() as usize);
         }
-        out.write(64 * i, indices.len(), word >> (64 - indices.len()));
+        out.write(64 * i, indices.len(), word & counts);
     }
     None
+}
+
+/// The bits at up to 64 indices, all of them places, as the lowest digits of a word.
+#[inline]
+fn none_past<I: BitIndex>(bits: Bits<'_>, indices: &[I]) -> u64 {
+    let (bytes, offset) = (bits.bytes(), bits.offset());
+    let word = indices.iter().fold(0, |word, index| {
+        let bit = offset + index.place().unwrap_or(0);
+        word >> 1 | u64::from(bytes[bit / 8] >> (bit % 8)) << 63
+    });
+    word >> (64 - indices.len())
+}
+
+/// The same, and which of the indices are no places, whose digits hold anything; without a branch.
+fn some_past<I: BitIndex>(bits: Bits<'_>, indices: &[I]) -> (u64, u64) {
+    let (mut word, mut past) = (0, 0);
+    for index in indices {
+        let place = index.place().unwrap_or(usize::MAX);
+        let is_past = place >= bits.len();
+        let bit = bits.offset() + if is_past { 0 } else { place };
+        let byte = bits.bytes().get(bit / 8).copied().unwrap_or(0);
+        word = word >> 1 | u64::from(byte >> (bit % 8)) << 63;
+        past = past >> 1 | u64::from(is_past) << 63;
+    }
+    let behind = 64 - indices.len();
+    (word >> behind, past >> behind)
 }
 
 /// Writes the values at the indices, of which there are as many as items of `out` and bits of

@@ -1,17 +1,9 @@
-//! Places and runs of true bits and of false ones, written into a slice. Nothing is read once the
+//! Places of true bits, and runs of these and of false ones, written into a slice. Nothing is read once the
 //! room is full.
 
 use super::word::{low, word_at};
 use crate::Bits;
 use crate::kernels::Run;
-
-pub fn set_indices(bits: Bits<'_>, out: &mut [usize]) -> usize {
-    indices(bits, out, |word| word)
-}
-
-pub fn unset_indices(bits: Bits<'_>, out: &mut [usize]) -> usize {
-    indices(bits, out, |word| !word)
-}
 
 pub fn set_slices(bits: Bits<'_>, out: &mut [Run]) -> usize {
     slices(bits, out, |word| word)
@@ -27,12 +19,10 @@ fn seen_at(bits: Bits<'_>, i: usize, seen: impl Fn(u64) -> u64) -> u64 {
     seen(word_at(bits, i)) & low(bits.len() - 64 * i)
 }
 
-/// The places of the bits that are true in what `seen` makes of the words.
-#[inline]
-fn indices(bits: Bits<'_>, out: &mut [usize], seen: impl Fn(u64) -> u64 + Copy) -> usize {
+pub fn set_indices(bits: Bits<'_>, out: &mut [usize]) -> usize {
     let (mut written, mut i) = (0, 0);
     while written < out.len() && 64 * i < bits.len() {
-        let mut word = seen_at(bits, i, seen);
+        let mut word = word_at(bits, i);
         while word != 0 {
             let Some(place) = out.get_mut(written) else {
                 return written;
