@@ -46,6 +46,28 @@ static std::vector<bool> list(const buffer &all, std::size_t offset, std::size_t
     return found;
 }
 
+/* Places and runs in vectors, and in room for some of them. */
+static void walks_into(bits window, const std::vector<std::size_t> &trues)
+{
+    const std::vector<vb_run> runs = window.set_slices();
+    std::vector<std::size_t> joined, places(trues.size() / 2 + 2, SIZE_MAX);
+    for (const vb_run &run : runs) {
+        for (std::size_t i = run.start; i < run.end; i++) {
+            joined.push_back(i);
+        }
+    }
+    check(joined == trues, "set_slices");
+    const std::size_t found = std::min(places.size(), trues.size());
+    check(window.set_indices_into(places) == found, "set_indices_into");
+    check(std::equal(trues.begin(), trues.begin() + static_cast<std::ptrdiff_t>(found),
+        places.begin()) && (found == places.size() || places[found] == SIZE_MAX), "places in room");
+    std::array<vb_run, 2> two;
+    const std::size_t some = window.set_slices_into(two);
+    check(some == std::min<std::size_t>(2, runs.size()), "set_slices_into");
+    check(some == 0 || (two[some - 1].start == runs[some - 1].start
+        && two[some - 1].end == runs[some - 1].end), "runs in room");
+}
+
 static void questions(const buffer &all, std::size_t offset, std::size_t len, std::size_t n)
 {
     const bits window(all, offset, len);
@@ -77,7 +99,8 @@ static void questions(const buffer &all, std::size_t offset, std::size_t len, st
         behind = end;
     });
     check(walked == trues, "for_each_run");
-    const vortex_bits::ranks ranks(window);
+    walks_into(window, trues);
+    const vortex_bits::ranks counted(window), ranks(window, counted.table());
     check(ranks.count() == trues.size() && ranks.size() == len, "count by ranks");
     check(ranks.select(n) == nth(trues) && ranks.select_unset(n) == nth(falses), "by ranks");
     check(ranks.rank(len / 2) == window.slice(0, len / 2).count_ones(), "rank");
@@ -137,9 +160,12 @@ static void takes()
     check((out[0] & 7) == 3, "the bits that are valid and taken");
     vortex_bits::pack_truthy(std::array<std::uint8_t, 3>{9, 0, 1}, out);
     check(out[0] == 5, "pack_truthy");
+    vortex_bits::pack_bools(std::array<bool, 4>{false, true, true, false}, out);
+    check(out[0] == 6, "pack_bools");
     refused([&] { window.take_into(std::vector<std::uint32_t>(9), out); }, "no room");
     refused([&] { window.take_into(some, window, out); }, "a long validity");
     refused([&] { vortex_bits::pack_truthy(buffer(9), out); }, "no room");
+    refused([&] { vortex_bits::pack_bools(std::array<bool, 9>{}, out); }, "no room");
 }
 
 static void filters()
@@ -314,6 +340,7 @@ static void refusals()
     refused([&] { bits_mut(two, 8, 8).copy_from(bits(two, 0, 7)); }, "two lengths");
     refused([&] { bits_mut(two, 8, 8).or_of(bits(two, 0, 8), bits(two, 0, 7)); }, "two lengths");
     refused([&] { (void)vortex_bits::ranks(bits(two, 8, 8)).rank(9); }, "a place past the window");
+    refused([&] { vortex_bits::ranks(bits(two, 0, 9), {}); }, "a table of another size");
     check(two == buffer(2), "a refused call left all as it was");
 #ifdef __cpp_lib_span
     check(bits(std::span<const std::uint8_t>(two), 3, 9).bytes().size() == 2, "a span");

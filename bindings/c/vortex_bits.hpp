@@ -1,6 +1,6 @@
 /*
  * The windows of vortex_bits.h as C++ classes, of C++17 and later. This file includes
- * vortex_bits_ranks.hpp, vortex_bits_values.hpp, for values at indices, and vortex_bits_compare.hpp.
+ * its parts: vortex_bits_compare.hpp, _pack.hpp, _ranks.hpp, and _values.hpp for values at indices.
  *
  *     c++ -std=c++17 -O2 app.cpp -I DIST/include DIST/lib/libvortex_bits.a
  *
@@ -229,6 +229,24 @@ public:
         std::vector<std::size_t> places(count_ones());
         vb_set_indices(bytes_, size_, offset_, len_, places.data(), places.size());
         return places;
+    }
+
+    /* The runs of true bits. */
+    std::vector<vb_run> set_slices() const
+    {
+        std::vector<vb_run> runs;
+        for_each_run([&](std::size_t start, std::size_t end) { runs.push_back({start, end}); });
+        return runs;
+    }
+
+    /* Writes them to the front of `out`, as many as have room, and answers how many these are. */
+    template <class Out> std::size_t set_indices_into(Out &&out) const
+    {
+        return vb_set_indices(bytes_, size_, offset_, len_, out.data(), out.size());
+    }
+    template <class Out> std::size_t set_slices_into(Out &&out) const
+    {
+        return vb_set_slices(bytes_, size_, offset_, len_, out.data(), out.size());
     }
 
     /*
@@ -471,17 +489,10 @@ private:
     std::size_t len_;
 };
 
-/* Packs bytes, each of which is true where it is not 0, into the first bytes of `out`. */
-template <class Bytes, class Out> void pack_truthy(const Bytes &truthy, Out &&out)
-{
-    static_assert(detail::is_bytes<Out>(), "pack_truthy writes bytes of std::uint8_t");
-    detail::expect(fits(out.size(), 0, truthy.size()), "no room for a bit a byte");
-    vb_pack_truthy(out.data(), out.size(), truthy.data(), truthy.size());
-}
-
 } // namespace vortex_bits
 
 #include "vortex_bits_compare.hpp"
+#include "vortex_bits_pack.hpp"
 #include "vortex_bits_ranks.hpp"
 #include "vortex_bits_values.hpp"
 

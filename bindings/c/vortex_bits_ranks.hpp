@@ -12,15 +12,26 @@
 
 namespace vortex_bits {
 
-/* A window with the table of its true bits before each block of 512, which it keeps. */
+/* A window with the table of its true bits before each block of 512, which it has of its own. */
 class ranks {
 public:
     /* It counts the bits once. */
-    explicit ranks(bits window) : bits_(window), table_((window.len_ + 511) / 512)
+    explicit ranks(bits window) : bits_(window), table_(blocks(window))
     {
         vb_block_counts(bits_.bytes_, bits_.size_, bits_.offset_, bits_.len_, table_.data(),
             table_.size());
     }
+
+    /*
+     * Over a table that table() answered for the same bits, and that was kept: nothing is counted.
+     * Of another table of that size the answers say nothing, and do no harm.
+     */
+    ranks(bits window, std::vector<std::size_t> table) : bits_(window), table_(std::move(table))
+    {
+        detail::expect(table_.size() == blocks(window), "not an entry for each block");
+    }
+
+    const std::vector<std::size_t> &table() const { return table_; }
 
     std::size_t size() const { return bits_.len_; }
 
@@ -45,6 +56,8 @@ public:
     }
 
 private:
+    static std::size_t blocks(bits window) { return window.len_ / 512 + (window.len_ % 512 != 0); }
+
     template <class Call> std::optional<std::size_t> by(Call call, std::size_t n) const
     {
         return detail::place(call(bits_.bytes_, bits_.size_, bits_.offset_, bits_.len_,
