@@ -172,7 +172,9 @@ impl<'a> From<Bits<'a>> for Validity<'a> {
 /// Calls into new memory, which answer None where all rows are valid without a look at bits.
 #[cfg(feature = "alloc")]
 impl Validity<'_> {
-    /// Which rows are valid here and in `right`.
+    /// Which rows are valid here and in `right`. Truth values that may be null are combined by
+    /// [`values::and_kleene`](crate::values::and_kleene) and
+    /// [`or_kleene`](crate::values::or_kleene).
     ///
     /// # Panics
     ///
