@@ -1,7 +1,7 @@
 /*
- * Rows for query.c, and the stream of their batches by Arrow's C stream interface: this part of the
- * program could be another's. A batch is a slice of the columns, by an offset into each. Of the flag
- * no row is null, so it has no validity.
+ * Rows for query.c and query.cpp, and the stream of their batches by Arrow's C stream interface:
+ * this part of the program could be another's. A batch is a slice of the columns, by an offset into
+ * each. Of the flag no row is null, so it has no validity. It is C and C++ alike.
  */
 #ifndef VORTEX_BITS_QUERY_ROWS_H
 #define VORTEX_BITS_QUERY_ROWS_H
@@ -64,7 +64,7 @@ static uint64_t below(uint64_t n)
 /* Bits of which one in `n` is false. */
 static uint8_t *mostly_true(size_t count, uint64_t n)
 {
-    uint8_t *bits = room(bytes_for(count), 1);
+    uint8_t *bits = (uint8_t *)room(bytes_for(count), 1);
     for (size_t i = 0; i < count; i++) {
         bits[i / 8] |= (uint8_t)((below(n) != 0) << (i % 8));
     }
@@ -74,9 +74,9 @@ static uint8_t *mostly_true(size_t count, uint64_t n)
 /* The sums of c are exact in any order. What stands at nulls is a value like others. */
 static struct rows make_rows(size_t count)
 {
-    int32_t *a = room(count, sizeof *a);
-    int64_t *b = room(count, sizeof *b);
-    double *c = room(count, sizeof *c);
+    int32_t *a = (int32_t *)room(count, sizeof *a);
+    int64_t *b = (int64_t *)room(count, sizeof *b);
+    double *c = (double *)room(count, sizeof *c);
     for (size_t i = 0; i < count; i++) {
         a[i] = (int32_t)below(1000);
         b[i] = (int64_t)below(200000) - 100000;
@@ -119,46 +119,63 @@ static void release_schema(struct ArrowSchema *schema)
     schema->release = NULL;
 }
 
+struct schema_block {
+    struct ArrowSchema columns[COLUMNS], *children[COLUMNS];
+};
+
 static int get_schema(struct ArrowArrayStream *stream, struct ArrowSchema *out)
 {
     (void)stream;
-    struct block {
-        struct ArrowSchema columns[COLUMNS], *children[COLUMNS];
-    } *block = room(1, sizeof *block);
+    struct schema_block *block = (struct schema_block *)room(1, sizeof *block);
     for (size_t i = 0; i < COLUMNS; i++) {
-        block->columns[i] = (struct ArrowSchema){.format = formats[i], .name = names[i],
-            .flags = ARROW_FLAG_NULLABLE, .release = release_schema};
-        block->children[i] = &block->columns[i];
+        struct ArrowSchema *column = block->children[i] = &block->columns[i];
+        column->format = formats[i];
+        column->name = names[i];
+        column->flags = ARROW_FLAG_NULLABLE;
+        column->release = release_schema;
     }
-    *out = (struct ArrowSchema){.format = "+s", .name = "", .n_children = COLUMNS,
-        .children = block->children, .release = release_schema, .private_data = block};
+    memset(out, 0, sizeof *out);
+    out->format = "+s";
+    out->name = "";
+    out->n_children = COLUMNS;
+    out->children = block->children;
+    out->release = release_schema;
+    out->private_data = block;
     return 0;
 }
 
+struct array_block {
+    const void *buffers[COLUMNS][2], *none[1];
+    struct ArrowArray columns[COLUMNS], *children[COLUMNS];
+};
+
 static int get_next(struct ArrowArrayStream *stream, struct ArrowArray *out)
 {
-    struct given *given = stream->private_data;
+    struct given *given = (struct given *)stream->private_data;
     const struct rows *rows = given->rows;
-    const size_t start = given->next, left = rows->count - start;
-    const size_t len = left < BATCH ? left : BATCH;
-    *out = (struct ArrowArray){.release = NULL};
+    const size_t left = rows->count - given->next, most = BATCH, len = left < most ? left : most;
+    memset(out, 0, sizeof *out);
     if (len == 0) {
         return 0;
     }
-    struct block {
-        const void *buffers[COLUMNS][2], *none[1];
-        struct ArrowArray columns[COLUMNS], *children[COLUMNS];
-    } *block = room(1, sizeof *block);
+    struct array_block *block = (struct array_block *)room(1, sizeof *block);
     for (size_t i = 0; i < COLUMNS; i++) {
+        struct ArrowArray *column = block->children[i] = &block->columns[i];
         memcpy(block->buffers[i], rows->buffers[i], sizeof rows->buffers[i]);
-        block->columns[i] = (struct ArrowArray){.length = (int64_t)len, .offset = (int64_t)start,
-            .null_count = rows->buffers[i][0] == NULL ? 0 : -1, .n_buffers = 2,
-            .buffers = block->buffers[i], .release = release_array};
-        block->children[i] = &block->columns[i];
+        column->length = (int64_t)len;
+        column->offset = (int64_t)given->next;
+        column->null_count = rows->buffers[i][0] == NULL ? 0 : -1;
+        column->n_buffers = 2;
+        column->buffers = block->buffers[i];
+        column->release = release_array;
     }
-    *out = (struct ArrowArray){.length = (int64_t)len, .n_buffers = 1, .buffers = block->none,
-        .n_children = COLUMNS, .children = block->children, .release = release_array,
-        .private_data = block};
+    out->length = (int64_t)len;
+    out->n_buffers = 1;
+    out->buffers = block->none;
+    out->n_children = COLUMNS;
+    out->children = block->children;
+    out->release = release_array;
+    out->private_data = block;
     given->next += len;
     return 0;
 }
@@ -177,7 +194,7 @@ static void release_stream(struct ArrowArrayStream *stream)
 
 static struct ArrowArrayStream stream_of(const struct rows *rows)
 {
-    struct given *given = room(1, sizeof *given);
+    struct given *given = (struct given *)room(1, sizeof *given);
     given->rows = rows;
     const struct ArrowArrayStream stream = {get_schema, get_next, get_last_error, release_stream,
         given};

@@ -1,0 +1,310 @@
+/*
+ * The engine of query.c by the classes of vortex_bits.hpp: `where a > x and b is not null` over a
+ * stream of batches by Arrow's C stream interface, and the same by plain loops over rows.
+ *
+ *     query [ROWS [time]]
+ */
+#include "arrow.h"
+#include "query_rows.h"
+#include "vortex_bits.hpp"
+
+#include <chrono>
+#include <cstdio>
+#include <cstring>
+#include <memory>
+#include <string>
+
+using vortex_bits::bits;
+using vortex_bits::bits_mut;
+
+constexpr std::int32_t limit = 700;
+constexpr std::size_t nth = 999, places = 1000;
+
+/* Items that are another's, as a std::span of C++20. */
+template <class T> struct view {
+    T *first;
+    std::size_t count;
+    T *data() const { return first; }
+    std::size_t size() const { return count; }
+};
+
+struct release {
+    void operator()(ArrowArray *array) const
+    {
+        array->release(array);
+        delete array;
+    }
+};
+using batch = std::unique_ptr<ArrowArray, release>;
+
+/* A column of a batch: which rows are valid, none where all are, and its values. */
+class column {
+public:
+    column(const batch &all, std::size_t i)
+        : child_(*all->children[i]), len_(static_cast<std::size_t>(all->length)),
+          offset_(static_cast<std::size_t>(all->offset + child_.offset))
+    {
+    }
+
+    std::size_t size() const { return len_; }
+
+    std::optional<bits> valid() const
+    {
+        return has_nulls() ? std::optional<bits>(bits_of(0)) : std::nullopt;
+    }
+
+    bits flags() const { return bits_of(1); }
+
+    /* A row by itself. */
+    bool is_valid(std::size_t row) const { return !has_nulls() || bit(0, row); }
+    bool flag(std::size_t row) const { return bit(1, row); }
+
+    template <class T> view<const T> values() const
+    {
+        return {static_cast<const T *>(child_.buffers[1]) + offset_, len_};
+    }
+
+private:
+    bool has_nulls() const { return child_.null_count != 0 && child_.buffers[0] != nullptr; }
+
+    const std::uint8_t *bytes(std::size_t buffer) const
+    {
+        return static_cast<const std::uint8_t *>(child_.buffers[buffer]);
+    }
+
+    bits bits_of(std::size_t buffer) const
+    {
+        return bits(bytes(buffer), bytes_for(offset_ + len_), offset_, len_);
+    }
+
+    bool bit(std::size_t buffer, std::size_t row) const
+    {
+        const std::size_t i = offset_ + row;
+        return (bytes(buffer)[i / 8] >> (i % 8) & 1) != 0;
+    }
+
+    const ArrowArray &child_;
+    std::size_t len_;
+    std::size_t offset_;
+};
+
+/* In how many of `len` rows both are true; one that is missing is all true. */
+static std::size_t count_both(std::optional<bits> left, std::optional<bits> right, std::size_t len)
+{
+    if (left && right) {
+        return left->and_count(*right);
+    }
+    const std::optional<bits> one = left ? left : right;
+    return one ? one->count_ones() : len;
+}
+
+struct answer {
+    std::size_t rows = 0;
+    /* The columns of the rows that are kept, and which values of c are valid. */
+    std::vector<std::int64_t> b;
+    std::vector<double> c;
+    std::vector<std::uint8_t> c_valid;
+    std::int64_t sum_b = 0;
+    double sum_c = 0;
+    /* The rows of the first one that is kept, and of the nth from 0 on. */
+    std::optional<std::size_t> first, found;
+    std::size_t nulls = 0, flags = 0;
+    /* The values of b at places of those that are kept, and how many of c are null there. */
+    std::vector<std::int64_t> taken;
+    std::size_t taken_nulls = 0;
+
+    bool operator==(const answer &other) const
+    {
+        return rows == other.rows && b == other.b && c == other.c && c_valid == other.c_valid
+            && sum_b == other.sum_b && sum_c == other.sum_c && first == other.first
+            && found == other.found && nulls == other.nulls && flags == other.flags
+            && taken == other.taken && taken_nulls == other.taken_nulls;
+    }
+};
+
+static std::uint32_t place_at(std::uint32_t i)
+{
+    return static_cast<std::uint32_t>(i * 2654435761u) >> 16;
+}
+
+/* The values that the mask keeps, `kept` of them, behind those that are there. */
+template <class T>
+static void append(std::vector<T> &all, view<const T> values, bits mask, std::size_t kept)
+{
+    const std::size_t at = all.size();
+    all.resize(at + kept);
+    mask.keep_into(values, view<T>{all.data() + at, kept});
+}
+
+struct by_calls {
+    static void find(answer &to, bits mask, std::size_t n, std::optional<std::size_t> &row)
+    {
+        if (const auto place = mask.select(n); place && !row) {
+            row = to.rows + *place;
+        }
+    }
+
+    /* The validity of the values of c that the mask keeps, behind `at` others. */
+    static void append_valid(answer &to, std::size_t at, std::optional<bits> valid, bits mask,
+        std::size_t kept)
+    {
+        to.c_valid.resize(bytes_for(at + kept));
+        bits_mut out(to.c_valid, at, kept);
+        if (!valid) {
+            return out.fill(true);
+        }
+        std::vector<std::uint8_t> some(bytes_for(kept));
+        valid->filter_into(mask, some);
+        out.copy_from(bits(some, 0, kept));
+    }
+
+    static void add(answer &to, const batch &all)
+    {
+        const column a(all, 0), b(all, 1), c(all, 2), flag(all, 3);
+        const std::size_t len = a.size(), at = to.b.size();
+        std::vector<std::uint8_t> bytes(bytes_for(len));
+        bits_mut mask(bytes, 0, len);
+        vortex_bits::compare(a.values<std::int32_t>(), VB_GREATER, limit, mask);
+        for (const auto &valid : {a.valid(), b.valid()}) {
+            if (valid) {
+                mask &= *valid;
+            }
+        }
+        const std::size_t kept = bits(mask).count_ones();
+        find(to, mask, 0, to.first);
+        if (at <= nth) {
+            find(to, mask, nth - at, to.found);
+        }
+        append(to.b, b.values<std::int64_t>(), mask, kept);
+        append(to.c, c.values<double>(), mask, kept);
+        append_valid(to, at, c.valid(), mask, kept);
+        to.nulls += len - count_both(a.valid(), b.valid(), len);
+        to.flags += count_both(flag.flags(), flag.valid(), len);
+        to.rows += len;
+    }
+
+    static void finish(answer &to)
+    {
+        for (const std::int64_t value : to.b) {
+            to.sum_b += value;
+        }
+        const bits valid(to.c_valid, 0, to.c.size());
+        valid.for_each_set([&](std::size_t row) { to.sum_c += to.c[row]; });
+        std::vector<std::uint32_t> at;
+        for (std::uint32_t i = 0; i < places; i++) {
+            if (place_at(i) < to.b.size()) {
+                at.push_back(place_at(i));
+            }
+        }
+        to.taken.resize(at.size());
+        vortex_bits::take_values(to.b, at, to.taken);
+        std::vector<std::uint8_t> taken(bytes_for(at.size()));
+        valid.take_into(at, taken);
+        to.taken_nulls = bits(taken, 0, at.size()).count_zeros();
+    }
+};
+
+struct by_loops {
+    static void add(answer &to, const batch &all)
+    {
+        const column a(all, 0), b(all, 1), c(all, 2), flag(all, 3);
+        const std::int32_t *a_values = a.values<std::int32_t>().data();
+        const std::int64_t *b_values = b.values<std::int64_t>().data();
+        const double *c_values = c.values<double>().data();
+        for (std::size_t row = 0; row < a.size(); row++) {
+            const bool has_both = a.is_valid(row) && b.is_valid(row);
+            to.nulls += !has_both;
+            to.flags += flag.flag(row) && flag.is_valid(row);
+            if (has_both && a_values[row] > limit) {
+                keep(to, to.rows + row, b_values[row], c_values[row], c.is_valid(row));
+            }
+        }
+        to.rows += a.size();
+    }
+
+    static void keep(answer &to, std::size_t row, std::int64_t b, double c, bool has_c)
+    {
+        const std::size_t at = to.b.size();
+        to.first = to.first ? to.first : row;
+        to.found = at == nth ? row : to.found;
+        to.b.push_back(b);
+        to.c.push_back(c);
+        to.sum_b += b;
+        to.sum_c += has_c ? c : 0;
+        to.c_valid.resize(bytes_for(at + 1));
+        to.c_valid[at / 8] |= static_cast<std::uint8_t>(has_c << (at % 8));
+    }
+
+    static void finish(answer &to)
+    {
+        const bits valid(to.c_valid, 0, to.c.size());
+        for (std::uint32_t i = 0; i < places; i++) {
+            const std::size_t row = place_at(i);
+            if (row < to.b.size()) {
+                to.taken.push_back(to.b[row]);
+                to.taken_nulls += !valid[row];
+            }
+        }
+    }
+};
+
+template <class Way> static answer ask(const std::vector<batch> &batches)
+{
+    answer made;
+    for (const batch &one : batches) {
+        Way::add(made, one);
+    }
+    Way::finish(made);
+    return made;
+}
+
+/* All batches of a stream, which is released. Their columns are those of query_rows.h. */
+static std::vector<batch> read_all(ArrowArrayStream stream)
+{
+    std::vector<batch> batches;
+    ArrowArray next;
+    while (stream.get_next(&stream, &next) == 0 && next.release != nullptr) {
+        batches.emplace_back(new ArrowArray(next));
+    }
+    stream.release(&stream);
+    return batches;
+}
+
+template <class Way> static double time_of(const std::vector<batch> &batches)
+{
+    const auto start = std::chrono::steady_clock::now();
+    const answer made = ask<Way>(batches);
+    const std::chrono::duration<double, std::milli> took = std::chrono::steady_clock::now() - start;
+    return made.rows > 0 ? took.count() : 0;
+}
+
+static void print_times(const std::vector<batch> &batches)
+{
+    double ours = 1e9, plain = 1e9;
+    for (int round = 0; round < 30; round++) {
+        ours = std::min(ours, time_of<by_calls>(batches));
+        plain = std::min(plain, time_of<by_loops>(batches));
+    }
+    std::printf("%s: %.3f ms, by plain loops %.3f ms: %.2f of it\n", vb_level(), ours, plain,
+        ours / plain);
+}
+
+int main(int count, char **words)
+{
+    rows all = make_rows(count > 1 ? std::stoul(words[1]) : 100000);
+    {
+        const std::vector<batch> batches = read_all(stream_of(&all));
+        const answer made = ask<by_calls>(batches);
+        if (!(made == ask<by_loops>(batches))) {
+            std::fputs("the two ways differ\n", stderr);
+            return 1;
+        }
+        std::printf("%zu of %zu rows are kept, sums %lld and %.2f\n", made.b.size(), made.rows,
+            static_cast<long long>(made.sum_b), made.sum_c);
+        if (count > 2 && std::string(words[2]) == "time") {
+            print_times(batches);
+        }
+    }
+    free_rows(&all);
+    return 0;
+}
