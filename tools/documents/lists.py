@@ -1,6 +1,6 @@
 """Whether what is said in several places agrees: the C functions in header, Rust table and crate,
-with their parameters and types; what the crate to depend on gives, and what its tests reach; the commands, their table and their
-tests; the version; the picture of the crates.
+with their parameters and types; the commands, their table and their tests; the version; the picture
+of the crates.
 """
 import re
 
@@ -52,14 +52,6 @@ def c_functions(repository: Repository) -> list[str]:
     return found + signatures.differences(table, declared, native)
 
 
-def facade(repository: Repository) -> list[str]:
-    """What users can name, and what the tests of the crate name."""
-    crate = "crates/vortex_buffer/src/lib.rt"
-    tests = "crates/vortex_buffer_tests/src/reached.rt"
-    given, reached = exported(repository.read(crate)), exported(repository.read(tests))
-    return differ(crate, given, tests, reached)
-
-
 def commands(repository: Repository) -> list[str]:
     """The commands, those that users read of, and those that tests run."""
     crate, table = "crates/vb_command/src/command.rt", "docs/COMMANDS.md"
@@ -100,7 +92,6 @@ def drawn(repository: Repository) -> list[str]:
 def lists(repository: Repository) -> list[str]:
     return [
         *c_functions(repository),
-        *facade(repository),
         *commands(repository),
         *versions(repository),
         *drawn(repository),

@@ -65,13 +65,13 @@ KERNEL = [
     Task("Tests, and the plain loop", [(r"crates/\w+_tests/src/(?!reached)", r"\bNAME\b")]),
     Task("C: the call and its form `vb_try_`; the header, in C++ too, and its tests", [
         (r"crates/vb_c(_\w+)?/src/", r"\bvb_NAME\(|::NAME\("),
-        (r"bindings/c/\w+\.hp?p?$", r"\bvb_NAME\("),
-        (r"bindings/c/test\.c(pp)?$", r"\b(?:vb_NAME|NAME)\("),
+        (r"bindings/c/\w+\.hp?p?$", r"\bvb_NAME\b"),
+        (r"bindings/c/\w+\.c(pp)?$", r"\bvb_NAME\b|\bNAME\("),
     ]),
     Task("Rust: the table, the calls, plain Rust, the methods, and the limits", [
         (rf"{RUST}native\.rs$", r"^    NAME\("),
         (RUST, r"\bfn NAME\b|!\(NAME:"),
-        (rf"{RUST}\w+\.rs$", r"::NAME\("),
+        (rf"{RUST}\w+\.rs$", r"::NAME\(|\bkernels\.NAME\b"),
         (r"bindings/rust/tests/", r"\bNAME\("),
     ]),
     Task("The comparison with a loop over bits, and with upstream's call", [

@@ -30,7 +30,8 @@ pub struct Run {
     pub end: usize,
 }
 
-/// How two bits are combined.
+/// How two bits are combined. Each makes false of two false bits, since the padding of the last
+/// word is counted too.
 #[derive(Clone, Copy)]
 pub enum Operator {
     And,

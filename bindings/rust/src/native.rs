@@ -125,8 +125,8 @@ kernels! {
         src_offset: usize, len: usize);
     xor_bits(dst: *mut u8, dst_size: usize, dst_offset: usize, src: *const u8, src_size: usize,
         src_offset: usize, len: usize);
-    and_not_bits(dst: *mut u8, dst_size: usize, dst_offset: usize, src: *const u8,
-        src_size: usize, src_offset: usize, len: usize);
+    and_not_bits(dst: *mut u8, dst_size: usize, dst_offset: usize, src: *const u8, src_size: usize,
+        src_offset: usize, len: usize);
     and_into(out: *mut u8, out_size: usize, out_offset: usize, left: *const u8, left_size: usize,
         left_offset: usize, right: *const u8, right_size: usize, right_offset: usize, len: usize);
     or_into(out: *mut u8, out_size: usize, out_offset: usize, left: *const u8, left_size: usize,
@@ -154,86 +154,24 @@ kernels! {
     deposit_bits(out: *mut u8, out_size: usize, out_offset: usize, values: *const u8,
         values_size: usize, values_offset: usize, mask: *const u8, mask_size: usize,
         mask_offset: usize, len: usize);
-    filter_u8(out: *mut u8, room: usize, values: *const u8, count: usize, mask: *const u8,
-        mask_size: usize, mask_offset: usize) -> usize;
-    filter_u16(out: *mut u16, room: usize, values: *const u16, count: usize, mask: *const u8,
-        mask_size: usize, mask_offset: usize) -> usize;
-    filter_u32(out: *mut u32, room: usize, values: *const u32, count: usize, mask: *const u8,
-        mask_size: usize, mask_offset: usize) -> usize;
-    filter_u64(out: *mut u64, room: usize, values: *const u64, count: usize, mask: *const u8,
-        mask_size: usize, mask_offset: usize) -> usize;
-    filter_u128(out: *mut Wide, room: usize, values: *const Wide, count: usize, mask: *const u8,
-        mask_size: usize, mask_offset: usize) -> usize;
-    take_values_u8_u8(out: *mut u8, room: usize, values: *const u8, count: usize, indices:
-        *const u8, index_count: usize, all_valid: bool, validity: *const u8, validity_size:
-        usize, validity_offset: usize) -> Place;
-    take_values_u16_u8(out: *mut u16, room: usize, values: *const u16, count: usize, indices:
-        *const u8, index_count: usize, all_valid: bool, validity: *const u8, validity_size:
-        usize, validity_offset: usize) -> Place;
-    take_values_u32_u8(out: *mut u32, room: usize, values: *const u32, count: usize, indices:
-        *const u8, index_count: usize, all_valid: bool, validity: *const u8, validity_size:
-        usize, validity_offset: usize) -> Place;
-    take_values_u64_u8(out: *mut u64, room: usize, values: *const u64, count: usize, indices:
-        *const u8, index_count: usize, all_valid: bool, validity: *const u8, validity_size:
-        usize, validity_offset: usize) -> Place;
-    take_values_u128_u8(out: *mut Wide, room: usize, values: *const Wide, count: usize, indices:
-        *const u8, index_count: usize, all_valid: bool, validity: *const u8, validity_size:
-        usize, validity_offset: usize) -> Place;
-    take_values_u8_u16(out: *mut u8, room: usize, values: *const u8, count: usize, indices:
-        *const u16, index_count: usize, all_valid: bool, validity: *const u8, validity_size:
-        usize, validity_offset: usize) -> Place;
-    take_values_u16_u16(out: *mut u16, room: usize, values: *const u16, count: usize, indices:
-        *const u16, index_count: usize, all_valid: bool, validity: *const u8, validity_size:
-        usize, validity_offset: usize) -> Place;
-    take_values_u32_u16(out: *mut u32, room: usize, values: *const u32, count: usize, indices:
-        *const u16, index_count: usize, all_valid: bool, validity: *const u8, validity_size:
-        usize, validity_offset: usize) -> Place;
-    take_values_u64_u16(out: *mut u64, room: usize, values: *const u64, count: usize, indices:
-        *const u16, index_count: usize, all_valid: bool, validity: *const u8, validity_size:
-        usize, validity_offset: usize) -> Place;
-    take_values_u128_u16(out: *mut Wide, room: usize, values: *const Wide, count: usize,
-        indices: *const u16, index_count: usize, all_valid: bool, validity: *const u8,
-        validity_size: usize, validity_offset: usize) -> Place;
-    take_values_u8_u32(out: *mut u8, room: usize, values: *const u8, count: usize, indices:
-        *const u32, index_count: usize, all_valid: bool, validity: *const u8, validity_size:
-        usize, validity_offset: usize) -> Place;
-    take_values_u16_u32(out: *mut u16, room: usize, values: *const u16, count: usize, indices:
-        *const u32, index_count: usize, all_valid: bool, validity: *const u8, validity_size:
-        usize, validity_offset: usize) -> Place;
-    take_values_u32_u32(out: *mut u32, room: usize, values: *const u32, count: usize, indices:
-        *const u32, index_count: usize, all_valid: bool, validity: *const u8, validity_size:
-        usize, validity_offset: usize) -> Place;
-    take_values_u64_u32(out: *mut u64, room: usize, values: *const u64, count: usize, indices:
-        *const u32, index_count: usize, all_valid: bool, validity: *const u8, validity_size:
-        usize, validity_offset: usize) -> Place;
-    take_values_u128_u32(out: *mut Wide, room: usize, values: *const Wide, count: usize,
-        indices: *const u32, index_count: usize, all_valid: bool, validity: *const u8,
-        validity_size: usize, validity_offset: usize) -> Place;
-    take_values_u8_u64(out: *mut u8, room: usize, values: *const u8, count: usize, indices:
-        *const u64, index_count: usize, all_valid: bool, validity: *const u8, validity_size:
-        usize, validity_offset: usize) -> Place;
-    take_values_u16_u64(out: *mut u16, room: usize, values: *const u16, count: usize, indices:
-        *const u64, index_count: usize, all_valid: bool, validity: *const u8, validity_size:
-        usize, validity_offset: usize) -> Place;
-    take_values_u32_u64(out: *mut u32, room: usize, values: *const u32, count: usize, indices:
-        *const u64, index_count: usize, all_valid: bool, validity: *const u8, validity_size:
-        usize, validity_offset: usize) -> Place;
-    take_values_u64_u64(out: *mut u64, room: usize, values: *const u64, count: usize, indices:
-        *const u64, index_count: usize, all_valid: bool, validity: *const u8, validity_size:
-        usize, validity_offset: usize) -> Place;
-    take_values_u128_u64(out: *mut Wide, room: usize, values: *const Wide, count: usize,
-        indices: *const u64, index_count: usize, all_valid: bool, validity: *const u8,
-        validity_size: usize, validity_offset: usize) -> Place;
-    compare_u8(out: *mut u8, out_size: usize, out_offset: usize, values: *const u8, values_size:
-        usize, op: u8, number: u8);
+    block_counts(bytes: *const u8, size: usize, offset: usize, len: usize, table: *mut usize,
+        room: usize) -> usize;
+    rank(bytes: *const u8, size: usize, offset: usize, len: usize, table: *const usize,
+        entries: usize, place: usize) -> usize;
+    ranked_select(bytes: *const u8, size: usize, offset: usize, len: usize, table: *const usize,
+        entries: usize, n: usize) -> Place;
+    ranked_select_unset(bytes: *const u8, size: usize, offset: usize, len: usize,
+        table: *const usize, entries: usize, n: usize) -> Place;
+    compare_u8(out: *mut u8, out_size: usize, out_offset: usize, values: *const u8,
+        values_size: usize, op: u8, number: u8);
     compare_u16(out: *mut u8, out_size: usize, out_offset: usize, values: *const u16,
         values_size: usize, op: u8, number: u16);
     compare_u32(out: *mut u8, out_size: usize, out_offset: usize, values: *const u32,
         values_size: usize, op: u8, number: u32);
     compare_u64(out: *mut u8, out_size: usize, out_offset: usize, values: *const u64,
         values_size: usize, op: u8, number: u64);
-    compare_i8(out: *mut u8, out_size: usize, out_offset: usize, values: *const i8, values_size:
-        usize, op: u8, number: i8);
+    compare_i8(out: *mut u8, out_size: usize, out_offset: usize, values: *const i8,
+        values_size: usize, op: u8, number: i8);
     compare_i16(out: *mut u8, out_size: usize, out_offset: usize, values: *const i16,
         values_size: usize, op: u8, number: i16);
     compare_i32(out: *mut u8, out_size: usize, out_offset: usize, values: *const i32,
@@ -256,12 +194,74 @@ kernels! {
         values_size: usize, op: u8, others: *const i32, others_size: usize);
     compare_with_i64(out: *mut u8, out_size: usize, out_offset: usize, values: *const i64,
         values_size: usize, op: u8, others: *const i64, others_size: usize);
-    block_counts(bytes: *const u8, size: usize, offset: usize, len: usize, table: *mut usize,
-        room: usize) -> usize;
-    rank(bytes: *const u8, size: usize, offset: usize, len: usize, table: *const usize,
-        entries: usize, place: usize) -> usize;
-    ranked_select(bytes: *const u8, size: usize, offset: usize, len: usize, table: *const usize,
-        entries: usize, n: usize) -> Place;
-    ranked_select_unset(bytes: *const u8, size: usize, offset: usize, len: usize,
-        table: *const usize, entries: usize, n: usize) -> Place;
+    filter_u8(out: *mut u8, room: usize, values: *const u8, count: usize, mask: *const u8,
+        mask_size: usize, mask_offset: usize) -> usize;
+    filter_u16(out: *mut u16, room: usize, values: *const u16, count: usize, mask: *const u8,
+        mask_size: usize, mask_offset: usize) -> usize;
+    filter_u32(out: *mut u32, room: usize, values: *const u32, count: usize, mask: *const u8,
+        mask_size: usize, mask_offset: usize) -> usize;
+    filter_u64(out: *mut u64, room: usize, values: *const u64, count: usize, mask: *const u8,
+        mask_size: usize, mask_offset: usize) -> usize;
+    filter_u128(out: *mut Wide, room: usize, values: *const Wide, count: usize, mask: *const u8,
+        mask_size: usize, mask_offset: usize) -> usize;
+    take_values_u8_u8(out: *mut u8, room: usize, values: *const u8, count: usize,
+        indices: *const u8, index_count: usize, all_valid: bool, validity: *const u8,
+        validity_size: usize, validity_offset: usize) -> Place;
+    take_values_u16_u8(out: *mut u16, room: usize, values: *const u16, count: usize,
+        indices: *const u8, index_count: usize, all_valid: bool, validity: *const u8,
+        validity_size: usize, validity_offset: usize) -> Place;
+    take_values_u32_u8(out: *mut u32, room: usize, values: *const u32, count: usize,
+        indices: *const u8, index_count: usize, all_valid: bool, validity: *const u8,
+        validity_size: usize, validity_offset: usize) -> Place;
+    take_values_u64_u8(out: *mut u64, room: usize, values: *const u64, count: usize,
+        indices: *const u8, index_count: usize, all_valid: bool, validity: *const u8,
+        validity_size: usize, validity_offset: usize) -> Place;
+    take_values_u128_u8(out: *mut Wide, room: usize, values: *const Wide, count: usize,
+        indices: *const u8, index_count: usize, all_valid: bool, validity: *const u8,
+        validity_size: usize, validity_offset: usize) -> Place;
+    take_values_u8_u16(out: *mut u8, room: usize, values: *const u8, count: usize,
+        indices: *const u16, index_count: usize, all_valid: bool, validity: *const u8,
+        validity_size: usize, validity_offset: usize) -> Place;
+    take_values_u16_u16(out: *mut u16, room: usize, values: *const u16, count: usize,
+        indices: *const u16, index_count: usize, all_valid: bool, validity: *const u8,
+        validity_size: usize, validity_offset: usize) -> Place;
+    take_values_u32_u16(out: *mut u32, room: usize, values: *const u32, count: usize,
+        indices: *const u16, index_count: usize, all_valid: bool, validity: *const u8,
+        validity_size: usize, validity_offset: usize) -> Place;
+    take_values_u64_u16(out: *mut u64, room: usize, values: *const u64, count: usize,
+        indices: *const u16, index_count: usize, all_valid: bool, validity: *const u8,
+        validity_size: usize, validity_offset: usize) -> Place;
+    take_values_u128_u16(out: *mut Wide, room: usize, values: *const Wide, count: usize,
+        indices: *const u16, index_count: usize, all_valid: bool, validity: *const u8,
+        validity_size: usize, validity_offset: usize) -> Place;
+    take_values_u8_u32(out: *mut u8, room: usize, values: *const u8, count: usize,
+        indices: *const u32, index_count: usize, all_valid: bool, validity: *const u8,
+        validity_size: usize, validity_offset: usize) -> Place;
+    take_values_u16_u32(out: *mut u16, room: usize, values: *const u16, count: usize,
+        indices: *const u32, index_count: usize, all_valid: bool, validity: *const u8,
+        validity_size: usize, validity_offset: usize) -> Place;
+    take_values_u32_u32(out: *mut u32, room: usize, values: *const u32, count: usize,
+        indices: *const u32, index_count: usize, all_valid: bool, validity: *const u8,
+        validity_size: usize, validity_offset: usize) -> Place;
+    take_values_u64_u32(out: *mut u64, room: usize, values: *const u64, count: usize,
+        indices: *const u32, index_count: usize, all_valid: bool, validity: *const u8,
+        validity_size: usize, validity_offset: usize) -> Place;
+    take_values_u128_u32(out: *mut Wide, room: usize, values: *const Wide, count: usize,
+        indices: *const u32, index_count: usize, all_valid: bool, validity: *const u8,
+        validity_size: usize, validity_offset: usize) -> Place;
+    take_values_u8_u64(out: *mut u8, room: usize, values: *const u8, count: usize,
+        indices: *const u64, index_count: usize, all_valid: bool, validity: *const u8,
+        validity_size: usize, validity_offset: usize) -> Place;
+    take_values_u16_u64(out: *mut u16, room: usize, values: *const u16, count: usize,
+        indices: *const u64, index_count: usize, all_valid: bool, validity: *const u8,
+        validity_size: usize, validity_offset: usize) -> Place;
+    take_values_u32_u64(out: *mut u32, room: usize, values: *const u32, count: usize,
+        indices: *const u64, index_count: usize, all_valid: bool, validity: *const u8,
+        validity_size: usize, validity_offset: usize) -> Place;
+    take_values_u64_u64(out: *mut u64, room: usize, values: *const u64, count: usize,
+        indices: *const u64, index_count: usize, all_valid: bool, validity: *const u8,
+        validity_size: usize, validity_offset: usize) -> Place;
+    take_values_u128_u64(out: *mut Wide, room: usize, values: *const Wide, count: usize,
+        indices: *const u64, index_count: usize, all_valid: bool, validity: *const u8,
+        validity_size: usize, validity_offset: usize) -> Place;
 }

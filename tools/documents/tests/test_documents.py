@@ -7,8 +7,10 @@ from documents.blocks import Blocks
 from documents.files import Repository
 from documents.lists import lists
 from documents.picture import dependencies, levels, picture, reduced
+from documents.signatures import of_header
 from documents.texts import links, names, stale
 from documents.widths import widths
+from documents.written import REACHED, TABLE, declared, not_written, reached, table
 
 CRATES = "# NAME:\nlow:\nmiddle: low thiserror\nvortex_buffer: low middle\nlow_tests: low\n"
 FILES = {
@@ -53,7 +55,8 @@ pub fn two(n: u8) -> u8
     "bindings/c/any.h": "bool vb_get(size_t n);\nbool vb_try_get(size_t n);\n",
     "bindings/rust/src/native.rs": "\nkernels! {\n    get(n: usize) -> bool;\n}\n",
     "crates/vortex_buffer/src/lib.rt": "pub use low::{one,\n    two};\npub use low::Type;\n",
-    "crates/vortex_buffer_tests/src/reached.rt": "pub use vortex_buffer::{Type, one, two};\n",
+    "crates/vortex_buffer_tests/src/reached.rt": "//! All.\npub use vortex_buffer::Type;\n"
+    "pub use vortex_buffer::one;\npub use vortex_buffer::two;\n",
     "crates/vb_command/src/command.rt": "pub enum Mode {\n    Ref(u8),\n}\n\n"
     "pub enum Command<A> {\n    /// `len k`: the length.\n    Len(usize),\n}\n",
     "docs/COMMANDS.md": "| Line | Answers |\n|---|---|\n| `len k` | how many |\n",
@@ -78,7 +81,7 @@ class Checked(unittest.TestCase):
 
     def test_nothing_is_wrong(self):
         repository = self.repository()
-        for check in (lists, names, links, stale):
+        for check in (lists, names, links, stale, not_written):
             self.assertEqual(check(repository), [])
         self.assertEqual(Blocks(repository).found, [])
 
@@ -102,9 +105,24 @@ class Checked(unittest.TestCase):
         ])
 
     def test_a_name_that_the_tests_do_not_reach(self):
-        found = lists(self.repository(reached_dot_rt=(", two", "")))
-        self.assertEqual(found, ["crates/vortex_buffer/src/lib.rt: has `two`, which "
-                                 "crates/vortex_buffer_tests/src/reached.rt hasn't"])
+        repository = self.repository(reached_dot_rt=("pub use vortex_buffer::two;\n", ""))
+        wanted = f"{REACHED}: isn't what tools/write-lists makes of its list: run it"
+        self.assertEqual(not_written(repository), [wanted])
+        self.assertEqual(reached(repository), FILES[REACHED])
+
+    def test_a_function_that_the_rust_table_lacks(self):
+        repository = self.repository(native_dot_rs=("    get(n: usize) -> bool;\n", ""))
+        wanted = f"{TABLE}: isn't what tools/write-lists makes of its list: run it"
+        self.assertEqual(not_written(repository), [wanted])
+        self.assertEqual(table(repository), FILES[TABLE])
+
+    def test_a_long_line_of_the_table_is_wrapped_between_parameters(self):
+        of = of_header("void vb_move(const uint8_t *first_window, size_t first_offset, uint8_t "
+                       "*second_window, size_t second_offset);")
+        self.assertEqual(declared("vb_move", of["vb_move"]), (
+            "    move(first_window: *const u8, first_offset: usize, second_window: *mut u8,\n"
+            "        second_offset: usize);"
+        ))
 
     def test_a_command_that_is_missing_somewhere(self):
         crate = "crates/vb_command/src/command.rt"

@@ -1,0 +1,58 @@
+"""Lists that a tool writes from where their names stand first: the table by which the Rust crate
+calls the C functions, of the C headers, and what is reached by the tests of the crate to depend on.
+"""
+import textwrap
+
+from documents import signatures
+from documents.files import Repository
+from documents.lists import INLINE, OF_THE_LIBRARY, exported, headers
+from documents.signatures import Signature
+
+TABLE = "bindings/rust/src/native.rs"
+CRATE = "crates/vortex_buffer/src/lib.rt"
+REACHED = "crates/vortex_buffer_tests/src/reached.rt"
+
+
+def declared(name: str, signature: Signature) -> str:
+    """A line of the table, which is wrapped between parameters."""
+    listed = [f"{min(it.names)}: {it.kind}".replace(" ", "\0") for it in signature.parameters]
+    answer = "" if signature.answer == "()" else f"\0->\0{signature.answer}"
+    text = f"{name.removeprefix('vb_')}({', '.join(listed)}){answer};"
+    wrapped = textwrap.wrap(
+        text, 100, initial_indent=" " * 4, subsequent_indent=" " * 8,
+        break_long_words=False, break_on_hyphens=False,
+    )
+    return "\n".join(wrapped).replace("\0", " ")
+
+
+def table(repository: Repository) -> str:
+    """The Rust crate's file of C functions, with each function that it calls."""
+    given: dict[str, Signature] = {}
+    for header in headers(repository):
+        given |= signatures.of_header(repository.read(header))
+    left_out = OF_THE_LIBRARY | INLINE
+    lines = [
+        declared(name, signature) for name, signature in given.items()
+        if not name.startswith("vb_try_") and name not in left_out
+    ]
+    head, _, rest = repository.read(TABLE).partition("\nkernels! {\n")
+    _, _, behind = rest.partition("\n}\n")
+    return "\n".join([head, "kernels! {", *lines, "}", behind])
+
+
+def reached(repository: Repository) -> str:
+    """The file that reaches each name that the crate to depend on gives."""
+    names = sorted(exported(repository.read(CRATE)))
+    head, _, _ = repository.read(REACHED).partition("pub use ")
+    return head + "".join(f"pub use vortex_buffer::{it};\n" for it in names)
+
+
+WRITTEN = {TABLE: table, REACHED: reached}
+
+
+def not_written(repository: Repository) -> list[str]:
+    """The files that the tool would write anew."""
+    return [
+        f"{path}: isn't what tools/write-lists makes of its list: run it"
+        for path, written in WRITTEN.items() if written(repository) != repository.read(path)
+    ]
