@@ -42,12 +42,12 @@ fn windows_fit_where_they_end_in_the_bytes(rt: HostRuntime) {
 
 /// Bytes that are not there are 0.
 #[test]
-fn a_word_of_two_bytes(rt: HostRuntime) {
+fn bytes_that_are_missing_are_read_as_zeros(rt: HostRuntime) {
     equal(&rt, read_u64_le(&[0x34, 0x12]), 4660);
 }
 
 #[test]
-fn the_last_true_bit(rt: HostRuntime) {
+fn the_last_true_bit_is_sought_in_the_window(rt: HostRuntime) {
     let bytes = &[0x76];
     equal(&rt, last_set_index(bytes, 0, 7), Some(6));
     equal(&rt, last_set_index(bytes, 0, 4), Some(2));

@@ -133,7 +133,7 @@ fn looks_at_two_windows_are_exact(rt: HostRuntime) {
 
 /// Bits outside of the windows count in none.
 #[test]
-fn worked_combined_counts(rt: HostRuntime) {
+fn bits_beside_two_windows_count_in_none(rt: HostRuntime) {
     let (left, right) = (&[0xFF, 0xF0], &[0x00, 0xFF]);
     equal(&rt, and_count(left, 4, right, 6, 8), 2);
     equal(&rt, or_count(left, 4, right, 6, 8), 8);

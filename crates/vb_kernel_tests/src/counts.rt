@@ -86,7 +86,7 @@ fn looks_of_counts_are_exact(rt: HostRuntime) {
 
 /// A chunk and a byte of which one bit counts, and a byte with false bits.
 #[test]
-fn worked_counts(rt: HostRuntime) {
+fn bits_behind_the_window_count_in_none(rt: HostRuntime) {
     let src = &mut Tally::new(&[0xFF; 65]);
     equal(&rt, count_ones_by(src, 0, 513), 513);
     equal(&rt, src.looks(), 2);

@@ -120,14 +120,14 @@ fn combined_windows_are_plain(rt: HostRuntime) {
 }
 
 #[test]
-fn copy_within_two_bytes(rt: HostRuntime) {
+fn a_copy_leaves_the_bits_beside_it(rt: HostRuntime) {
     let mut bytes = [0xFF; 2];
     copy_bits(&mut bytes, 3, &[0; 2], 5, 7);
     equal(&rt, bytes, [0x07, 0xFC]);
 }
 
 #[test]
-fn fill_past_a_word(rt: HostRuntime) {
+fn a_fill_leaves_the_bits_beside_it(rt: HostRuntime) {
     let mut bytes = [0u8; 9];
     let filled = [0xF8, 0xFF, 0xFF, 0xFF, 0xFF, 0xFF, 0xFF, 0xFF, 0x3F];
     fill_bits(&mut bytes, 3, 70, true);

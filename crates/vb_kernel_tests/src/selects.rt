@@ -40,7 +40,7 @@ const WINDOWS: [(usize, usize); 15] = [
 ];
 
 #[test]
-fn selects_of_mixed_bytes(rt: HostRuntime) {
+fn selects_are_those_of_a_loop(rt: HostRuntime) {
     let mut bytes = [0; 700];
     mix(&mut bytes);
     for (offset, len) in WINDOWS {
@@ -49,7 +49,7 @@ fn selects_of_mixed_bytes(rt: HostRuntime) {
 }
 
 #[test]
-fn selects_in_one_byte(rt: HostRuntime) {
+fn selects_of_one_byte_end_behind_its_last_true_bit(rt: HostRuntime) {
     let bytes = &[0b0001_0100];
     equal(&rt, bit_select(bytes, 0, 8, 0), Some(2));
     equal(&rt, bit_select(bytes, 0, 8, 1), Some(4));
@@ -66,7 +66,7 @@ fn false_bits_end_with_the_window(rt: HostRuntime) {
 }
 
 #[test]
-fn true_bits_past_a_chunk(rt: HostRuntime) {
+fn a_true_bit_behind_a_chunk_is_found(rt: HostRuntime) {
     let bytes = &[0xFF; 65];
     equal(&rt, bit_select(bytes, 0, 513, 512), Some(512));
     equal(&rt, bit_select(bytes, 0, 513, 513), None);
@@ -77,7 +77,7 @@ fn true_bits_past_a_chunk(rt: HostRuntime) {
 const LOOKS: [(usize, u64); 6] = [(0, 1), (255, 1), (256, 2), (259, 2), (260, 2), (1000, 2)];
 
 #[test]
-fn looks_of_selects(rt: HostRuntime) {
+fn selects_look_no_further_than_the_bit(rt: HostRuntime) {
     let rt = &rt;
     let bytes = &[0xF0; 65];
     for (n, looks) in LOOKS {
