@@ -8,6 +8,7 @@ pub use Rattle.vb_bit_bytes.specs.FromIndices
 pub use Rattle.vb_bits.specs.Bits
 pub use Rattle.vb_bits.specs.InBytes
 pub use Rattle.vb_bits.specs.Marks
+pub use Rattle.vb_bits.specs.Nearest
 pub use Rattle.vb_bits.specs.Operators
 pub use Rattle.vb_bits.specs.Runs
 pub use Rattle.vb_bits.specs.Shown

@@ -1,11 +1,13 @@
 //! A set of bits whose storage several owners may share.
 ghost use Rattle.std.specs.Prelude.{◌≡◌, ◌+◌, ◌-◌, ◌*◌, ◌/◌, ◌%◌, ◌^◌, ◌<◌, ◌≤◌, ◌==◌, ◌↔◌};
 ghost use Rattle.std.specs.Prelude.{ℕ, [], true, false, length, take, drop, replicate, All};
-ghost use Rattle.std.specs.Prelude.{slice_get, slice_range, IsSome, IfSome, IfOk, IsOkUnless};
+ghost use Rattle.std.specs.Prelude.{slice_get, slice_range, IsTrue, IsSome, IfSome, IfOk};
+ghost use Rattle.std.specs.Prelude.{IsOkUnless};
 ghost use Rattle.std.specs.Int.{div_ceil};
 ghost use Rattle.vb_bit_buffer.specs.SharedSet.{IsFreshSet, SharesFrom};
 ghost use Rattle.vb_bits.specs.Bits.{bits, count, complement, places, Selects, InvertsCount};
 ghost use Rattle.vb_bits.specs.InBytes.{InBytes};
+ghost use Rattle.vb_bits.specs.Nearest.{IsNext, IsPrevious};
 ghost use Rattle.vb_bits.specs.Runs.{last_place, runs};
 ghost use Rattle.vb_mem.specs.Makes.{Makes};
 ghost use Rattle.vb_view.specs.View.{bits_of, offset_of, bytes_of};
@@ -348,6 +350,57 @@ impl<A: Allocator + Clone> BitBuffer<A> {
         ensures { result ≡ last_place self.now.bits }
     {
         self.as_view().last_set_index()
+    }
+
+    /// The place of the first true bit from place `from` on; `None` where there is none, as there
+    /// is none from the end on. It reads the word in which place `from` is, then words to the one
+    /// that has the bit, four at once, and nothing behind it. For all true bits, one after the
+    /// other, [`set_indices`](Self::set_indices) takes less.
+    pub fn next_set(&self, from: usize) -> Option<usize>
+        ensures { IsNext self.now.bits from result }
+    {
+        self.as_view().next_set(from)
+    }
+
+    /// The place of the first false bit from place `from` on; `None` where there is none, as there
+    /// is none from the end on. It reads as [`next_set`](Self::next_set) does.
+    pub fn next_unset(&self, from: usize) -> Option<usize>
+        ensures { IsNext (complement self.now.bits) from result }
+    {
+        self.as_view().next_unset(from)
+    }
+
+    /// The place of the last true bit before place `before`; `None` where there is none. All bits
+    /// are before the length, and before each number above it. It reads as
+    /// [`last_set_index`](Self::last_set_index) does, from place `before` to the front.
+    pub fn previous_set(&self, before: usize) -> Option<usize>
+        ensures { IsPrevious self.now.bits before result }
+    {
+        self.as_view().previous_set(before)
+    }
+
+    /// The place of the last false bit before place `before`; `None` where there is none. It reads
+    /// as [`previous_set`](Self::previous_set) does.
+    pub fn previous_unset(&self, before: usize) -> Option<usize>
+        ensures { IsPrevious (complement self.now.bits) before result }
+    {
+        self.as_view().previous_unset(before)
+    }
+
+    /// Whether a bit is true, as none is of no bits. It reads up to the first true bit, four words
+    /// at once.
+    pub fn any_set(&self) -> bool
+        ensures { IsTrue result ↔ (0 < count self.now.bits) }
+    {
+        self.as_view().any_set()
+    }
+
+    /// Whether each bit is true, as of no bits. It reads up to the first false bit, four words at
+    /// once.
+    pub fn all_set(&self) -> bool
+        ensures { IsTrue result ↔ (count self.now.bits ≡ length self.now.bits) }
+    {
+        self.as_view().all_set()
     }
 
     /// The bits as truth values, from either end.

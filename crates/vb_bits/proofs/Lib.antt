@@ -14,7 +14,6 @@ pub mod WritesLemmas
 pub mod MasksLemmas
 pub mod OperatorsLemmas
 pub mod RunsLemmas
-pub mod LastLemmas
 pub mod LanesLemmas
 pub mod EqualLemmas
 pub mod KeepsLemmas

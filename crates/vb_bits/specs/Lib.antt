@@ -5,6 +5,7 @@ pub mod Fills
 pub mod InBytes
 pub mod Kept
 pub mod Marks
+pub mod Nearest
 pub mod Operators
 pub mod Runs
 pub mod Shown

@@ -38,7 +38,7 @@ pub extern "C" fn vb_last_set_index(bytes: &[u8], offset: usize, len: usize) -> 
     requires window { InBytes bytes.now offset len }
     ensures { answered_place result ≡ last_place (bits bytes.now offset len) }
 {
-    vb_bits::last_set_index(bytes, offset, len).into()
+    vb_kernel::last_set_index(bytes, offset, len).into()
 }
 
 /// Whether the window lies in the bytes; `place` is then [`vb_bit_select`], and else as it was.

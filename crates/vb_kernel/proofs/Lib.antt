@@ -1,5 +1,7 @@
 pub mod SearchesLemmas
 pub mod UnitsLemmas
+pub mod NearestLemmas
+pub mod LastLemmas
 pub use Rattle.vb_bits.proofs.BitsLemmas
 pub use Rattle.vb_bits.proofs.BytesLemmas
 pub use Rattle.vb_bits.proofs.DigitsLemmas

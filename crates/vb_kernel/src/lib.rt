@@ -10,16 +10,20 @@
 #![tactic(auto)]
 
 mod chunk;
+mod last;
+mod next;
 mod parts;
 mod search;
 mod select;
 mod unit;
 
+pub use last::{last_set_index, previous_set, previous_unset};
+pub use next::{all_set, any_set, next_set, next_unset};
 pub use select::{bit_select, bit_select_by, bit_select_unset, bit_select_unset_by};
 pub use vb_bits::{
-    BitOp, copy_bits, equal_bits, fill_bits, full_word, get_bit, get_bit_unchecked, last_set_index,
-    map_words, read_bits, read_u64_le, set_bit_to, set_bit_unchecked, unset_bit_unchecked,
-    window_fits, zip_words,
+    BitOp, copy_bits, equal_bits, fill_bits, full_word, get_bit, get_bit_unchecked, map_words,
+    read_bits, read_u64_le, set_bit_to, set_bit_unchecked, unset_bit_unchecked, window_fits,
+    zip_words,
 };
 pub use vb_count::{Glance, Plain, Tally, count_ones, count_ones_by, most_looks};
 pub use vb_pack::{

@@ -14,14 +14,14 @@ use vb_count::{Glance, Plain, add_chunks};
 
 /// Fewer chunks than these are searched by their words at once, which takes no longer than to count
 /// them first.
-const MANY: usize = 4;
+const MIN_COUNTED_CHUNKS: usize = 4;
 
 /// So many chunks are searched before any is counted where the rank is low: they have the bit, but
 /// where few bits are set.
-const FEW: usize = 16;
+const FIRST_CHUNKS: usize = 16;
 
 /// Among so many chunks none is counted that may hold the bit: they are too few to gain by it.
-const SHORT: usize = 64;
+const SHORT_RUN_CHUNKS: usize = 64;
 
 /// Some of the chunks of a window, in which a bit is sought.
 #[derive(Clone, Copy)]
@@ -50,7 +50,7 @@ impl Stretch {
         let seen = self.passed.max(searched_first(n));
         let mut unsure = seen.min(self.chunks / 2);
         // No product is so large in truth that it would saturate.
-        while sure.max(FEW) <= unsure {
+        while sure.max(FIRST_CHUNKS) <= unsure {
             if (n - self.left).saturating_mul(unsure) <= self.left.saturating_mul(seen) {
                 return unsure;
             }
@@ -62,7 +62,11 @@ impl Stretch {
 
 /// How many chunks are searched before any is counted, where the `n`-th bit is sought.
 fn searched_first(n: usize) -> usize {
-    if n < 512 * MANY { FEW } else { 0 }
+    if n < 512 * MIN_COUNTED_CHUNKS {
+        FIRST_CHUNKS
+    } else {
+        0
+    }
 }
 
 /// The place, relative to the window, of its `n`-th true bit, counted from 0; `None` where the
@@ -161,10 +165,10 @@ fn find_in_chunks<G: Glance>(
     ensures found { SearchAnswers (G.seen src.old).bytes search (512 * chunks) result }
     ensures looks { LooksAtMost chunks (G.seen src.old) (G.seen src.new) }
 {
-    if SHORT < chunks {
+    if SHORT_RUN_CHUNKS < chunks {
         return find_in_long_run(src, search, chunks);
     }
-    if MANY <= chunks {
+    if MIN_COUNTED_CHUNKS <= chunks {
         return find_in_many_chunks(src, search, chunks);
     }
     let mut left = search.n;
@@ -223,7 +227,7 @@ fn pass_chunks<G: Glance>(
     let mut left = n;
     loop {
         let sure = (left / 512).min(chunks - passed);
-        if sure < MANY {
+        if sure < MIN_COUNTED_CHUNKS {
             return (passed, left);
         }
         left -= count_matching(src, at / 8 + 64 * passed, sure, value);
@@ -231,7 +235,7 @@ fn pass_chunks<G: Glance>(
     }
 }
 
-/// Searches more chunks than [`SHORT`] by counting also such as may hold the bit.
+/// Searches more chunks than [`SHORT_RUN_CHUNKS`] by counting also such as may hold the bit.
 #[inline(never)]
 fn find_in_long_run<G: Glance>(
     src: &mut G,
@@ -275,7 +279,7 @@ fn narrow<G: Glance>(src: &mut G, at: usize, chunks: usize, n: usize, value: boo
     };
     loop {
         let block = stretch.block(n);
-        if block < MANY {
+        if block < MIN_COUNTED_CHUNKS {
             return stretch;
         }
         let here = count_matching(src, at / 8 + 64 * stretch.passed, block, value);

@@ -116,3 +116,40 @@ pub(crate) fn bit_select_unset(bytes: &[u8], offset: usize, len: usize, n: usize
     }
     None
 }
+
+/// The place of the first bit from place `from` on that is `value`.
+pub(crate) fn next_match(
+    bytes: &[u8],
+    offset: usize,
+    len: usize,
+    from: usize,
+    value: bool,
+) -> Option<usize>
+    requires window { InBytes bytes.now offset len }
+{
+    for i in from..len {
+        if get_bit(bytes, offset + i) == value {
+            return Some(i);
+        }
+    }
+    None
+}
+
+/// The place of the last bit before place `before` that is `value`.
+pub(crate) fn previous_match(
+    bytes: &[u8],
+    offset: usize,
+    len: usize,
+    before: usize,
+    value: bool,
+) -> Option<usize>
+    requires window { InBytes bytes.now offset len }
+{
+    let mut place = None;
+    for i in 0..before.min(len) {
+        if get_bit(bytes, offset + i) == value {
+            place = Some(i);
+        }
+    }
+    place
+}

@@ -10,6 +10,7 @@ pub use Rattle.vb_bits.specs.Digits
 pub use Rattle.vb_bits.specs.Edits
 pub use Rattle.vb_bits.specs.InBytes
 pub use Rattle.vb_bits.specs.Marks
+pub use Rattle.vb_bits.specs.Nearest
 pub use Rattle.vb_bits.specs.Operators
 pub use Rattle.vb_bits.specs.Runs
 pub use Rattle.vb_bits.specs.Shown

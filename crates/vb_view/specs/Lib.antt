@@ -4,6 +4,7 @@ pub mod Windows
 pub use Rattle.vb_bits.specs.Bits
 pub use Rattle.vb_bits.specs.Edits
 pub use Rattle.vb_bits.specs.InBytes
+pub use Rattle.vb_bits.specs.Nearest
 pub use Rattle.vb_bits.specs.Operators
 pub use Rattle.vb_bits.specs.Runs
 pub use Rattle.vb_bits.specs.Writes

@@ -1,8 +1,9 @@
 //! Bits over borrowed bytes.
-ghost use Rattle.std.specs.Prelude.{◌≡◌, ◌+◌, ◌-◌, ◌*◌, ◌/◌, ◌%◌, ◌^◌, ◌<◌, ◌≤◌, ◌==◌};
-ghost use Rattle.std.specs.Prelude.{ℕ, length, drop, slice_get, slice_range, Some, All};
+ghost use Rattle.std.specs.Prelude.{◌≡◌, ◌+◌, ◌-◌, ◌*◌, ◌/◌, ◌%◌, ◌^◌, ◌<◌, ◌≤◌, ◌==◌, ◌↔◌};
+ghost use Rattle.std.specs.Prelude.{ℕ, length, drop, slice_get, slice_range, Some, All, IsTrue};
 ghost use Rattle.vb_bits.specs.Bits.{bits, count, complement, places, Selects, InvertsCount};
 ghost use Rattle.vb_bits.specs.InBytes.{InBytes};
+ghost use Rattle.vb_bits.specs.Nearest.{IsNext, IsPrevious};
 ghost use Rattle.vb_bits.specs.Operators.{combined_by};
 ghost use Rattle.vb_bits.specs.Runs.{runs, last_place};
 ghost use Rattle.vb_bits.specs.declared.zip.BitOp.TheVariants.{And, Or, Xor, AndNot};
@@ -11,9 +12,10 @@ ghost use Rattle.vb_walk.specs.Cut.{IsCut};
 
 use crate::meta::BitBufferMeta;
 use std::ops::Range;
-use vb_bits::{get_bit, last_set_index};
+use vb_bits::get_bit;
 use vb_kernel::{
-    and_count, andnot_count, bit_select, bit_select_unset, count_ones, or_count, xor_count,
+    all_set, and_count, andnot_count, any_set, bit_select, bit_select_unset, count_ones,
+    last_set_index, next_set, next_unset, or_count, previous_set, previous_unset, xor_count,
 };
 use vb_walk::{BitChunks, BitIndexIterator, BitIterator, BitSliceIterator, UnalignedBitChunk};
 
@@ -267,6 +269,57 @@ impl<'a> BitBufferView<'a> {
         ensures { result ≡ last_place (bits_of self.now) }
     {
         last_set_index(self.bytes, self.offset, self.len)
+    }
+
+    /// The place of the first true bit from place `from` on; `None` where there is none, as there
+    /// is none from the end on. It reads the word in which place `from` is, then words to the one
+    /// that has the bit, four at once, and nothing behind it. For all true bits, one after the
+    /// other, [`set_indices`](Self::set_indices) takes less.
+    pub fn next_set(&self, from: usize) -> Option<usize>
+        ensures { IsNext (bits_of self.now) from result }
+    {
+        next_set(self.bytes, self.offset, self.len, from)
+    }
+
+    /// The place of the first false bit from place `from` on; `None` where there is none, as there
+    /// is none from the end on. It reads as [`next_set`](Self::next_set) does.
+    pub fn next_unset(&self, from: usize) -> Option<usize>
+        ensures { IsNext (complement (bits_of self.now)) from result }
+    {
+        next_unset(self.bytes, self.offset, self.len, from)
+    }
+
+    /// The place of the last true bit before place `before`; `None` where there is none. All bits
+    /// are before the length, and before each number above it. It reads as
+    /// [`last_set_index`](Self::last_set_index) does, from place `before` to the front.
+    pub fn previous_set(&self, before: usize) -> Option<usize>
+        ensures { IsPrevious (bits_of self.now) before result }
+    {
+        previous_set(self.bytes, self.offset, self.len, before)
+    }
+
+    /// The place of the last false bit before place `before`; `None` where there is none. It reads
+    /// as [`previous_set`](Self::previous_set) does.
+    pub fn previous_unset(&self, before: usize) -> Option<usize>
+        ensures { IsPrevious (complement (bits_of self.now)) before result }
+    {
+        previous_unset(self.bytes, self.offset, self.len, before)
+    }
+
+    /// Whether a bit is true, as none is of no bits. It reads up to the first true bit, four words
+    /// at once.
+    pub fn any_set(&self) -> bool
+        ensures { IsTrue result ↔ (0 < count (bits_of self.now)) }
+    {
+        any_set(self.bytes, self.offset, self.len)
+    }
+
+    /// Whether each bit is true, as of no bits. It reads up to the first false bit, four words at
+    /// once.
+    pub fn all_set(&self) -> bool
+        ensures { IsTrue result ↔ (count (bits_of self.now) ≡ length (bits_of self.now)) }
+    {
+        all_set(self.bytes, self.offset, self.len)
     }
 }
 

@@ -13,6 +13,7 @@ pub use Rattle.vb_bits.specs.Edits
 pub use Rattle.vb_bits.specs.InBytes
 pub use Rattle.vb_bits.specs.Kept
 pub use Rattle.vb_bits.specs.Marks
+pub use Rattle.vb_bits.specs.Nearest
 pub use Rattle.vb_bits.specs.Operators
 pub use Rattle.vb_bits.specs.Runs
 pub use Rattle.vb_bits.specs.Shown

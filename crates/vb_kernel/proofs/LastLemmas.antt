@@ -1,7 +1,7 @@
--- The last true place.
+-- The last true place, and the last bit that is v before a place.
 use Rattle.std.proofs.Common.{◌≡◌, inl, inr, ℕ, zero, suc, ◌+◌, ◌-◌, ◌*◌, ◌^◌, ◌<◌, ◌≤◌, Bool, true}
-use Rattle.std.proofs.Common.{false, cond, eqb, List, [], ◌∷◌, ◌++◌, length, filter, Option, Some}
-use Rattle.std.proofs.Common.{None, refl, sym, ap, ◌∙◌, arith}
+use Rattle.std.proofs.Common.{false, cond, eqb, List, [], ◌∷◌, ◌++◌, length, min, filter, Option}
+use Rattle.std.proofs.Common.{Some, None, refl, sym, ap, ◌∙◌, arith, subst}
 use Rattle.std.specs.List.{range_with_len, last_or}
 use Rattle.std.specs.Int.{bit_at}
 use Rattle.std.specs.Int.Count.{count_leading_zeros}
@@ -12,11 +12,14 @@ use Rattle.std.proofs.lemmas.List.Elements.{filter-append}
 use Rattle.std.proofs.lemmas.Nat.{leading_top}
 use Rattle.std.proofs.lemmas.Nat.Bits.{bit_at_cat_high, bit_at_above}
 use Rattle.vb_bits.specs.Bits.{bit_of, bits, at, places}
-use Rattle.vb_bits.specs.Digits.{has_bit, digits}
+use Rattle.vb_bits.specs.Digits.{has_bit}
+use Rattle.vb_bits.specs.Nearest.{IsPrevious}
 use Rattle.vb_bits.specs.Runs.{last_place}
-use Rattle.vb_bits.proofs.BitsLemmas.{length-bits, at-bits}
+use Rattle.vb_count.specs.Hits.{hits}
+use Rattle.vb_bits.proofs.BitsLemmas.{length-bits}
 use Rattle.vb_bits.proofs.RangeLemmas.{range_with_len-add}
-use Rattle.vb_bits.proofs.ReadLemmas.{has_bit-bits}
+use Rattle.vb_count.proofs.HitsLemmas.{length-hits}
+use Rattle.vb_kernel.proofs.NearestLemmas.{hit, at-hits, at-hits_past, Shows}
 
 -- the last item is the one at the end
 last_or_push : (o : Option ℕ) (xs : List ℕ) (x : ℕ) → last_or o (xs ++ x ∷ []) ≡ Some x
@@ -58,13 +61,12 @@ unfolding places
 last_place_none l off =
     ap (last_or None) (filter_none (at l) 0 (length l) (λ i lo hi. off i (omega arith)))
 
--- ---- windows
--- a window without a true bit
-pub last_place-bits_none : (b : List ℕ) (o n : ℕ)
-    → ((i : ℕ) → i < n → bit_of b (o + i) ≡ false) → None ≡ last_place (bits b o n)
-last_place-bits_none b o n off =
-    sym (last_place_none (bits b o n) (λ i l. let within : i < n =
-    omega (arith, length-bits b o n) in at-bits b o n i false within ∙ off i within))
+-- the last true place
+pub IsPrevious-last : (l : List Bool) (n : ℕ) (r : Option ℕ)
+    → length l ≡ n → IsPrevious l n r → r ≡ last_place l
+IsPrevious-last l n None e p = sym (last_place_none l (λ i h. p i (omega arith)))
+IsPrevious-last l n (Some j) e p =
+    sym (last_place_some l j p.1 p.2 (λ i lo hi. p.3 i lo (omega arith)))
 
 -- the highest 1 of a number
 highest_one : (w k : ℕ) → 0 < w → w < 2 ^ k → (j : ℕ) × (count_leading_zeros k w + suc j ≡ k)
@@ -83,29 +85,59 @@ highest_one w k some small =
       λ i l. ap (λ x. eqb x 1) (bit_at_above w (suc j) i top.3 (omega arith)),
     )
 
--- the last true bit is in the word of n bits at place a, and behind it none is
-pub last_place-bits : (b : List ℕ) (o n a k w : ℕ) → 0 < w → w < 2 ^ k → k ≤ 64 → a + k ≤ n
-    → digits w 0 k ≡ bits b (o + a) k → ((i : ℕ) → a + k ≤ i → i < n → bit_of b (o + i) ≡ false)
-    → Some (a + (63 - count_leading_zeros 64 w)) ≡ last_place (bits b o n)
-last_place-bits b o n a k w some small narrow within read off =
-    let most : 2 ^ k ≤ 2 ^ 64 = pow_mono narrow in
+-- ---- windows
+-- behind the word that shows the k bits from place a on, no bit is v
+pub IsPrevious-word : (v : Bool) (b : List ℕ) (o n a k w : ℕ) → Shows v b o a k w
+    → 0 < w → w < 2 ^ k → k ≤ 64 → a + k ≤ n
+    → ((i : ℕ) → a + k ≤ i → i < n → at (hits v (bits b o n)) i ≡ false)
+    → IsPrevious (hits v (bits b o n)) n (Some (a + (63 - count_leading_zeros 64 w)))
+IsPrevious-word v b o n a k w shows some small few within off =
+    let most : 2 ^ k ≤ 2 ^ 64 = pow_mono few in
     let top = highest_one w 64 some (omega arith) in
     let j : ℕ = top.0 in
-    let size : length (bits b o n) ≡ n = length-bits b o n in
     let inside : j < k = elim (cases_lt j k) [
       | inl l ↦ l
       | inr past ↦ let none : bit_at w j ≡ 0 = bit_at_above w k j small past in
           absurd (omega (arith, eqb-true (bit_at w j) 1 top.2))
     ] in
-    let digit : (i : ℕ) → i < k → bit_of b (o + (a + i)) ≡ has_bit w i = λ i l.
-    let e : o + (a + i) ≡ o + a + i = omega arith in
-    ap (bit_of b) e ∙ sym (has_bit-bits b w (o + a) k i read l) in
     let place : a + (63 - count_leading_zeros 64 w) ≡ a + j = omega (arith, top.1) in
-    ap Some place ∙ sym (last_place_some (bits b o n) (a + j) (omega arith)
-    (at-bits b o n (a + j) false (omega arith) ∙ digit j inside ∙ top.2)
-    (λ i lo hi. at-bits b o n i false (omega arith) ∙ elim (cases_lt i (a + k)) [
-      | inl here ↦
-          let e : o + i ≡ o + (a + (i - a)) = omega arith in
-          ap (bit_of b) e ∙ digit (i - a) (omega arith) ∙ top.3 (i - a) (omega arith)
-      | inr past ↦ off i past (omega arith)
-    ]))
+    subst (λ p. IsPrevious (hits v (bits b o n)) n (Some p)) (sym place) (
+      omega arith,
+      omega (arith, length-hits v (bits b o n), length-bits b o n),
+      at-hits v b o n (a + j) (omega arith) ∙ sym (shows j inside) ∙ top.2,
+      λ i lo hi. elim (cases_lt i (a + k)) [
+        | inl here ↦
+            let e : o + (a + (i - a)) ≡ o + i = omega arith in
+            at-hits v b o n i hi ∙ ap (λ x. hit v (bit_of b x)) (sym e)
+            ∙ sym (shows (i - a) (omega arith)) ∙ top.3 (i - a) (omega arith)
+        | inr past ↦ off i past hi
+      ],
+    )
+
+-- the last one of a window's front is the previous one in the window
+pub IsPrevious_longer : (v : Bool) (b : List ℕ) (o n m before : ℕ) (r : Option ℕ)
+    → m ≡ min n before → IsPrevious (hits v (bits b o m)) m r
+    → IsPrevious (hits v (bits b o n)) before r
+IsPrevious_longer v b o n m before r e p = go r p
+  where
+    same : (i : ℕ) → i < m → at (hits v (bits b o n)) i ≡ at (hits v (bits b o m)) i
+    same i l = at-hits v b o n i (omega arith) ∙ sym (at-hits v b o m i l)
+
+    past : (i : ℕ) → m ≤ i → i < before → at (hits v (bits b o n)) i ≡ false
+    past i lo hi = at-hits_past v b o n i (omega arith)
+
+    go : (r : Option ℕ) → IsPrevious (hits v (bits b o m)) m r
+        → IsPrevious (hits v (bits b o n)) before r
+    go None p = λ i h. elim (cases_lt i m) [
+      | inl here ↦ same i here ∙ p i here
+      | inr behind ↦ past i behind h
+    ]
+    go (Some j) p = (
+      omega (arith, p.0),
+      omega (arith, p.0, length-hits v (bits b o n), length-bits b o n),
+      same j p.0 ∙ p.2,
+      λ i lo hi. elim (cases_lt i m) [
+        | inl here ↦ same i here ∙ p.3 i lo here
+        | inr behind ↦ past i behind hi
+      ],
+    )

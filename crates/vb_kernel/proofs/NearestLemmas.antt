@@ -1,0 +1,208 @@
+-- The nearest bit that is v, from a place on and before one.
+use Rattle.std.proofs.Common.{◌≡◌, inl, inr, ℕ, suc, ◌+◌, ◌-◌, ◌*◌, ◌^◌, ◌<◌, ◌≤◌, Bool}
+use Rattle.std.proofs.Common.{true, false, not, eqb, List, [], ◌∷◌, length, Option, Some, None}
+use Rattle.std.proofs.Common.{◌/◌, refl, sym, ap, ◌∙◌, arith, zero-add, pow_mono}
+use Rattle.std.proofs.lemmas.Bool.{cases_lt}
+use Rattle.std.proofs.lemmas.List.{get_or_past}
+use Rattle.std.proofs.lemmas.Nat.Bits.{bit_at_above, bit_at-trailing_zeros}
+use Rattle.std.specs.Int.{trailing_zeros, w64}
+use Rattle.std.specs.Prelude.{is_some, IsTrue, ◌↔◌}
+use Rattle.vb_bits.specs.Bits.{bit_of, bits, at, count, complement}
+use Rattle.vb_bits.specs.Digits.{has_bit, digits}
+use Rattle.vb_bits.specs.Nearest.{IsNext}
+use Rattle.vb_count.specs.Hits.{hits}
+use Rattle.vb_walk.specs.Walks.{others, AreAll, IsOther}
+use Rattle.vb_walk.specs.declared.other.OtherWord.{OtherWord}
+use Rattle.vb_bits.proofs.BitsLemmas.{length-bits, at-bits, at-complement, count-cons}
+use Rattle.vb_bits.proofs.BitsLemmas.{count-complement, count-take-lt}
+use Rattle.vb_bits.proofs.DigitsLemmas.{at-digits, has_bit-bit_not}
+use Rattle.vb_bits.proofs.ReadLemmas.{has_bit-bits}
+use Rattle.vb_bits.proofs.ShiftLemmas.{has_bit_shr}
+use Rattle.vb_bits.proofs.WindowLemmas.{digits-clear}
+use Rattle.vb_count.proofs.HitsLemmas.{length-hits}
+
+-- ---- whether a bit is v
+-- whether x is v
+abbrev pub hit : Bool → Bool → Bool
+hit true x = x
+hit false x = not x
+
+-- a value that isn't v
+pub hit_other : (v x : Bool) → x ≡ not v → hit v x ≡ false
+hit_other true x e = e
+hit_other false x e = ap not e
+
+-- what isn't v is the other value
+pub hit_none : (v x : Bool) → hit v x ≡ false → x ≡ not v
+hit_none true x e = e
+hit_none false true e = refl
+hit_none false false e = absurd cc
+
+-- a value of a window
+pub at-hits : (v : Bool) (b : List ℕ) (o n i : ℕ)
+    → i < n → at (hits v (bits b o n)) i ≡ hit v (bit_of b (o + i))
+at-hits true b o n i l = at-bits b o n i false l
+at-hits false b o n i l = at-complement (bits b o n) i (omega (arith, length-bits b o n))
+    ∙ ap not (at-bits b o n i false l)
+
+-- there is none behind the window
+pub at-hits_past : (v : Bool) (b : List ℕ) (o n i : ℕ)
+    → n ≤ i → at (hits v (bits b o n)) i ≡ false
+at-hits_past v b o n i h = get_or_past (hits v (bits b o n)) i false
+    (omega (arith, length-hits v (bits b o n), length-bits b o n))
+
+-- a digit of a word in which v is 1
+pub has_bit-others : (v : Bool) (w i : ℕ)
+    → w < 2 ^ 64 → i < 64 → has_bit (others (not v) w) i ≡ hit v (has_bit w i)
+has_bit-others true w i fits l = refl
+has_bit-others false w i fits l = has_bit-bit_not w64 w i fits l
+
+-- digit i of the word says whether bit a + i of a window is v, for i below k
+abbrev pub Shows : Bool → List ℕ → ℕ → ℕ → ℕ → ℕ → Type 0
+Shows v b o a k w = (i : ℕ) → i < k → has_bit w i ≡ hit v (bit_of b (o + (a + i)))
+
+-- a word that was read with a 1 for each v
+pub Shows-matches : (v : Bool) (b : List ℕ) (o a k w : ℕ)
+    → digits w 0 k ≡ hits v (bits b (o + a) k) → Shows v b o a k w
+Shows-matches v b o a k w read i l =
+    let e : o + a + i ≡ o + (a + i) = omega arith in
+    ap (has_bit w) (sym (zero-add i)) ∙ sym (at-digits w 0 k i false l)
+    ∙ ap (λ l. at l i) read ∙ at-hits v b (o + a) k i l ∙ ap (λ x. hit v (bit_of b x)) e
+
+-- a word of eight bytes without its digits below s
+pub Shows-shifted : (v : Bool) (b : List ℕ) (o a f s w : ℕ)
+    → digits w 0 64 ≡ bits b (8 * f) 64 → w < 2 ^ 64 → o + a ≡ 8 * f + s
+    → Shows v b o a (64 - s) (others (not v) w / 2 ^ s)
+Shows-shifted v b o a f s w read fits place i l =
+    let e : 8 * f + (s + i) ≡ o + (a + i) = omega arith in
+    has_bit_shr (others (not v) w) s i ∙ has_bit-others v w (s + i) fits (omega arith)
+    ∙ ap (hit v) (has_bit-bits b w (8 * f) 64 (s + i) read (omega arith) ∙ ap (bit_of b) e)
+
+-- a word with a bit that isn't the other value
+pub Shows-other : (v : Bool) (b : List ℕ) (o a at end : ℕ) (w : OtherWord)
+    → IsOther b at end (not v) w → o + a ≡ 8 * (w.behind - 8)
+    → Shows v b o a 64 (others (not v) w.word)
+Shows-other v b o a at end w other place i l =
+    let e : 8 * (w.behind - 8) + i ≡ o + (a + i) = omega arith in
+    has_bit-others v w.word i other.fits l
+    ∙ ap (hit v) (other.read i l ∙ ap (bit_of b) e)
+
+-- ---- bits none of which is v
+-- bits that are all the other value
+pub off-passed : (v : Bool) (b : List ℕ) (o n x y : ℕ) → AreAll b (not v) x y
+    → (i : ℕ) → x ≤ o + i → o + i < y → at (hits v (bits b o n)) i ≡ false
+off-passed v b o n x y all i lo hi = elim (cases_lt i n) [
+  | inl within ↦ at-hits v b o n i within ∙ hit_other v _ (all (o + i) lo hi)
+  | inr past ↦ at-hits_past v b o n i past
+]
+
+-- bits whose digits are 0
+pub off-digits : (v : Bool) (b : List ℕ) (o n a k w : ℕ) → Shows v b o a k w
+    → ((i : ℕ) → i < k → has_bit w i ≡ false)
+    → (i : ℕ) → a ≤ i → i < a + k → at (hits v (bits b o n)) i ≡ false
+off-digits v b o n a k w shows none i lo hi = elim (cases_lt i n) [
+  | inl within ↦
+      let e : o + (a + (i - a)) ≡ o + i = omega arith in
+      at-hits v b o n i within ∙ ap (λ x. hit v (bit_of b x)) (sym e)
+      ∙ sym (shows (i - a) (omega arith)) ∙ none (i - a) (omega arith)
+  | inr past ↦ at-hits_past v b o n i past
+]
+
+-- ---- the next one
+-- from a place on behind which none is v
+pub IsNext_later : (l : List Bool) (a m : ℕ) (r : Option ℕ) → a ≤ m
+    → ((i : ℕ) → a ≤ i → i < m → at l i ≡ false) → IsNext l m r → IsNext l a r
+IsNext_later l a m None le off n = λ i h. elim (cases_lt i m) [
+  | inl before ↦ off i h before
+  | inr here ↦ n i here
+]
+IsNext_later l a m (Some p) le off n = (
+  omega (arith, n.0),
+  n.1,
+  n.2,
+  λ i lo hi. elim (cases_lt i m) [
+    | inl before ↦ off i lo before
+    | inr here ↦ n.3 i here hi
+  ],
+)
+
+-- none in a window that ends
+pub IsNext_none : (v : Bool) (b : List ℕ) (o n a m : ℕ) → n ≤ m
+    → ((i : ℕ) → a ≤ i → i < m → at (hits v (bits b o n)) i ≡ false)
+    → IsNext (hits v (bits b o n)) a None
+IsNext_none v b o n a m end off = λ i h. elim (cases_lt i m) [
+  | inl before ↦ off i h before
+  | inr past ↦ at-hits_past v b o n i (omega arith)
+]
+
+-- the lowest 1 of a number of k digits, which is none of them below it
+pub lowest_one : (w k : ℕ) → 0 < w → w < 2 ^ k → k ≤ 64 → (trailing_zeros w64 w < k)
+    × (has_bit w (trailing_zeros w64 w) ≡ true)
+    × ((i : ℕ) → i < trailing_zeros w64 w → has_bit w i ≡ false)
+lowest_one w k some small few =
+    let most : 2 ^ k ≤ 2 ^ 64 = pow_mono few in
+    let t = bit_at-trailing_zeros w64 w some (omega arith) in (
+      elim (cases_lt (trailing_zeros w64 w) k) [
+        | inl l ↦ l
+        | inr past ↦ absurd (omega (arith, t.1, bit_at_above w k (trailing_zeros w64 w) small past))
+      ],
+      ap (λ x. eqb x 1) t.1,
+      λ i l. ap (λ x. eqb x 1) (t.2 i l),
+    )
+
+-- the lowest 1 of a word that shows bits from place a on, where it is in the window
+pub IsNext-word : (v : Bool) (b : List ℕ) (o n a k w : ℕ) → Shows v b o a k w
+    → 0 < w → w < 2 ^ k → k ≤ 64 → a + trailing_zeros w64 w < n
+    → IsNext (hits v (bits b o n)) a (Some (a + trailing_zeros w64 w))
+IsNext-word v b o n a k w shows some small few within =
+    let low = lowest_one w k some small few in (
+      omega arith,
+      omega (arith, length-hits v (bits b o n), length-bits b o n),
+      at-hits v b o n (a + trailing_zeros w64 w) within
+          ∙ sym (shows (trailing_zeros w64 w) low.0) ∙ low.1,
+      off-digits v b o n a (trailing_zeros w64 w) w (λ j l. shows j (omega (arith, low.0))) low.2,
+    )
+
+-- where it is behind the window
+pub IsNext-word_past : (v : Bool) (b : List ℕ) (o n a k w : ℕ) → Shows v b o a k w
+    → 0 < w → w < 2 ^ k → k ≤ 64 → n ≤ a + trailing_zeros w64 w
+    → IsNext (hits v (bits b o n)) a None
+IsNext-word_past v b o n a k w shows some small few past =
+    let low = lowest_one w k some small few in
+    IsNext_none v b o n a (a + trailing_zeros w64 w) past (off-digits v b o n a
+    (trailing_zeros w64 w) w (λ j l. shows j (omega (arith, low.0))) low.2)
+
+-- bits that a word shows which is 0
+pub off-zero : (v : Bool) (b : List ℕ) (o n a k w : ℕ) → Shows v b o a k w → w ≡ 0
+    → (i : ℕ) → a ≤ i → i < a + k → at (hits v (bits b o n)) i ≡ false
+off-zero v b o n a k w shows e =
+    off-digits v b o n a k w shows (λ i l. ap (λ x. has_bit x i) e ∙ digits-clear i)
+
+-- ---- whether there is one
+-- none is true
+count_none : (l : List Bool) → ((i : ℕ) → at l i ≡ false) → count l ≡ 0
+count_none [] off = refl
+count_none (true ∷ l) off = absurd (let e = off 0 in cc)
+count_none (false ∷ l) off = omega (arith, count-cons false l, count_none l (λ i. off (suc i)))
+
+-- a next one from the front on is there where one is true
+pub next_some : (l : List Bool) (r : Option ℕ) → IsNext l 0 r → IsTrue (is_some r) ↔ (0 < count l)
+next_some l None n = (
+  λ t. absurd cc,
+  λ h. absurd (omega (arith, count_none l (λ i. n i (omega arith)))),
+)
+next_some l (Some p) n = (λ t. omega (arith, count-take-lt l p n.1 n.2), λ h. refl)
+
+-- no next false one from the front on is there where all are true
+pub next_none : (l : List Bool) (n : ℕ) (r : Option ℕ) (t : Bool) → length l ≡ n
+    → IsNext (complement l) 0 r → is_some r ≡ not t → IsTrue t ↔ (count l ≡ n)
+next_none l n None true e m is = (
+  λ _. omega (arith, count-complement l, count_none (complement l) (λ i. m i (omega arith))),
+  λ _. refl,
+)
+next_none l n None false e m is = absurd cc
+next_none l n (Some p) true e m is = absurd cc
+next_none l n (Some p) false e m is = (
+  λ t. absurd cc,
+  λ h. absurd (omega (arith, count-complement l, count-take-lt (complement l) p m.1 m.2)),
+)

@@ -1,0 +1,102 @@
+//! The last bit that is sought, and the last one before a place.
+ghost use Rattle.std.specs.Prelude.{ℕ, ◌≡◌, ◌+◌, ◌*◌, ◌%◌, ◌^◌, ◌<◌, ◌≤◌, not, length};
+ghost use Rattle.vb_bits.specs.Bits.{bit_of, bits, complement};
+ghost use Rattle.vb_bits.specs.InBytes.{InBytes};
+ghost use Rattle.vb_bits.specs.Nearest.{IsPrevious};
+ghost use Rattle.vb_bits.specs.Runs.{last_place};
+ghost use Rattle.vb_count.specs.Hits.{hits};
+
+use crate::next::read_matches;
+use vb_bits::word_at;
+use vb_walk::others;
+
+/// How many words are looked at together, so that one test serves all of them.
+const PASSED_WORDS: usize = 8;
+
+/// The place, relative to the window, of its last true bit; `None` where it has none.
+///
+/// Words are read from the end to the front. Those that have no true bit are passed by blocks of
+/// eight, and then one by one.
+pub fn last_set_index(bytes: &[u8], offset: usize, len: usize) -> Option<usize>
+    requires window { InBytes bytes.now offset len }
+    ensures { result ≡ last_place (bits bytes.now offset len) }
+{
+    last_match(bytes, offset, len, true)
+}
+
+/// The last true bit before place `before`, as its place in the window; `None` where there is none.
+/// From the end on each place has the bits of the window before it.
+///
+/// It reads as [`last_set_index`] does, from place `before` to the front.
+pub fn previous_set(bytes: &[u8], offset: usize, len: usize, before: usize) -> Option<usize>
+    requires window { InBytes bytes.now offset len }
+    ensures { IsPrevious (bits bytes.now offset len) before result }
+{
+    last_match(bytes, offset, len.min(before), true)
+}
+
+/// The last false bit before place `before`, as its place in the window; `None` where there is
+/// none. It reads as [`previous_set`] does.
+pub fn previous_unset(bytes: &[u8], offset: usize, len: usize, before: usize) -> Option<usize>
+    requires window { InBytes bytes.now offset len }
+    ensures { IsPrevious (complement (bits bytes.now offset len)) before result }
+{
+    last_match(bytes, offset, len.min(before), false)
+}
+
+/// The place of the last bit that is `value`.
+///
+/// Inlined, so that the search for true bits and that for false bits have loops of their own.
+#[inline(always)]
+fn last_match(bytes: &[u8], offset: usize, len: usize, value: bool) -> Option<usize>
+    requires window { InBytes bytes.now offset len }
+    ensures { IsPrevious (hits value (bits bytes.now offset len)) len result }
+{
+    let mut left = len;
+    while left > 0 {
+        let count = left.min(64 - (8 - (offset + left) % 8) % 8);
+        left -= count;
+        let word = read_matches(bytes, offset + left, count, value);
+        if word != 0 {
+            return Some(left + (63 - word.leading_zeros() as usize));
+        }
+        left = pass_words(bytes, offset, left, PASSED_WORDS, value);
+        left = pass_words(bytes, offset, left, 1, value);
+    }
+    None
+}
+
+/// How many bits are left of `len`, which end with a byte, once those of the whole words at the end
+/// are passed, `n` words at a time, as long as none of these bits is `value`.
+#[inline(always)]
+fn pass_words(bytes: &[u8], offset: usize, len: usize, n: usize, value: bool) -> usize
+    requires some { 0 < n }
+    requires few { n ≤ PASSED_WORDS }
+    requires whole { 0 < len → (offset + len) % 8 ≡ 0 }
+    requires window { InBytes bytes.now offset len }
+    ensures within { result ≤ len }
+    ensures whole { 0 < result → (offset + result) % 8 ≡ 0 }
+    ensures passed { (i : ℕ) → result ≤ i → i < len → bit_of bytes.now (offset + i) ≡ not value }
+{
+    let mut left = len;
+    while left >= 64 * n {
+        if digits_of_any(bytes, (offset + left) / 8 - 8 * n, n, value) != 0 {
+            return left;
+        }
+        left -= 64 * n;
+    }
+    left
+}
+
+/// The digits that are `value` in one of the `n` words from byte `at` on.
+#[inline(always)]
+fn digits_of_any(bytes: &[u8], at: usize, n: usize, value: bool) -> u64
+    requires { at + 8 * n ≤ length bytes.now }
+    ensures { result ≡ 0 → (i : ℕ) → i < 64 * n → bit_of bytes.now (8 * at + i) ≡ not value }
+{
+    let mut digits = 0;
+    for k in 0..n {
+        digits |= others(word_at(bytes, at + 8 * k), !value);
+    }
+    digits
+}

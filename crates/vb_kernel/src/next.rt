@@ -1,0 +1,131 @@
+//! The next bit that is sought, from a place on.
+ghost use Rattle.std.specs.Prelude.{◌≡◌, ◌+◌, ◌-◌, ◌*◌, ◌%◌, ◌^◌, ◌<◌, ◌≤◌, ◌↔◌, length, IsTrue};
+ghost use Rattle.vb_bits.specs.Bits.{bits, count, complement};
+ghost use Rattle.vb_bits.specs.Digits.{digits};
+ghost use Rattle.vb_bits.specs.InBytes.{InBytes};
+ghost use Rattle.vb_bits.specs.Nearest.{IsNext};
+ghost use Rattle.vb_count.specs.Hits.{hits};
+
+use vb_bits::{low_digits, read_bits, word_at};
+use vb_walk::{first_other, others};
+
+/// The first true bit from place `from` on, as its place in the window; `None` where there is
+/// none, as there is none from the end on.
+///
+/// It reads the word in which place `from` is, then words to the one that has the bit, four at
+/// once, and nothing behind it.
+pub fn next_set(bytes: &[u8], offset: usize, len: usize, from: usize) -> Option<usize>
+    requires window { InBytes bytes.now offset len }
+    ensures { IsNext (bits bytes.now offset len) from result }
+{
+    next_match(bytes, offset, len, from, true)
+}
+
+/// The first false bit from place `from` on, as its place in the window; `None` where there is
+/// none, as there is none from the end on. It reads as [`next_set`] does.
+pub fn next_unset(bytes: &[u8], offset: usize, len: usize, from: usize) -> Option<usize>
+    requires window { InBytes bytes.now offset len }
+    ensures { IsNext (complement (bits bytes.now offset len)) from result }
+{
+    next_match(bytes, offset, len, from, false)
+}
+
+/// Whether a bit of the window is true, as none is of a window of no bits. It reads as [`next_set`]
+/// does, up to the first true bit.
+pub fn any_set(bytes: &[u8], offset: usize, len: usize) -> bool
+    requires window { InBytes bytes.now offset len }
+    ensures { IsTrue result ↔ (0 < count (bits bytes.now offset len)) }
+{
+    next_set(bytes, offset, len, 0).is_some()
+}
+
+/// Whether each bit of the window is true, as of a window of no bits. It reads as [`next_set`]
+/// does, up to the first false bit.
+pub fn all_set(bytes: &[u8], offset: usize, len: usize) -> bool
+    requires window { InBytes bytes.now offset len }
+    ensures { IsTrue result ↔ (count (bits bytes.now offset len) ≡ len) }
+{
+    next_unset(bytes, offset, len, 0).is_none()
+}
+
+/// The first bit from place `from` on that is `value`.
+///
+/// Inlined, so that the search for true bits and that for false bits have code of their own.
+#[inline(always)]
+fn next_match(bytes: &[u8], offset: usize, len: usize, from: usize, value: bool) -> Option<usize>
+    requires window { InBytes bytes.now offset len }
+    ensures { IsNext (hits value (bits bytes.now offset len)) from result }
+{
+    if len <= from {
+        return None;
+    }
+    let at = offset + from;
+    if bytes.len() - at / 8 < 8 {
+        return next_in_rest(bytes, offset, len, from, value);
+    }
+    let word = others(word_at(bytes, at / 8), !value) >> (at % 8);
+    if word == 0 {
+        let read = 64 - at % 8;
+        if len - from <= read {
+            return None;
+        }
+        return next_in_words(bytes, offset, len, from + read, value);
+    }
+    let digit = word.trailing_zeros() as usize;
+    if digit < len - from {
+        Some(from + digit)
+    } else {
+        None
+    }
+}
+
+/// [`next_match`] from a place on that begins a byte: by whole words, and then in what is left.
+#[inline(always)]
+fn next_in_words(bytes: &[u8], offset: usize, len: usize, from: usize, value: bool) -> Option<usize>
+    requires window { InBytes bytes.now offset len }
+    requires within { from ≤ len }
+    requires aligned { (offset + from) % 8 ≡ 0 }
+    ensures { IsNext (hits value (bits bytes.now offset len)) from result }
+{
+    let left = (len - from) % 64;
+    let byte = (offset + from) / 8;
+    match first_other(bytes, byte, byte + (len - from) / 64 * 8, !value) {
+        Some(other) => {
+            let digit = others(other.word, !value).trailing_zeros() as usize;
+            Some(8 * (other.behind - 8) - offset + digit)
+        },
+        None => next_in_rest(bytes, offset, len, len - left, value),
+    }
+}
+
+/// [`next_match`] where at most 64 bits are left.
+#[inline(always)]
+fn next_in_rest(bytes: &[u8], offset: usize, len: usize, from: usize, value: bool) -> Option<usize>
+    requires window { InBytes bytes.now offset len }
+    requires within { from ≤ len }
+    requires few { len - from ≤ 64 }
+    ensures { IsNext (hits value (bits bytes.now offset len)) from result }
+{
+    let word = read_matches(bytes, offset + from, len - from, value);
+    if word == 0 {
+        return None;
+    }
+    Some(from + word.trailing_zeros() as usize)
+}
+
+/// The window of `count` bits from bit `at` on, at most 64, as one number, with a 1 for each bit
+/// that is `value`; its digits from `count` on are 0.
+#[inline(always)]
+pub(crate) fn read_matches(bytes: &[u8], at: usize, count: usize, value: bool) -> u64
+    requires in_word { count ≤ 64 }
+    requires inside { at + count ≤ 8 * length bytes.now }
+    ensures digits { digits result 0 count ≡ hits value (bits bytes.now at count) }
+    ensures clear { result < 2 ^ count }
+{
+    let word = read_bits(bytes, at, count);
+    if value {
+        word
+    } else {
+        low_digits(!word, count)
+    }
+}
