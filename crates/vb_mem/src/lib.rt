@@ -7,9 +7,9 @@
 
 mod buffer;
 mod buffer_mut;
-mod compare;
 mod content;
 mod iter;
+mod traits;
 mod window;
 
 pub use buffer::Buffer;

@@ -5,10 +5,10 @@
 //! and places are counted in bits. No call takes memory.
 #![tactic(auto)]
 
-mod compare;
 mod meta;
 mod mut_view;
 mod shown;
+mod traits;
 mod view;
 mod word;
 

@@ -8,8 +8,8 @@
 
 mod aligned_buf;
 mod buffer_string;
-mod compare;
 mod const_buffer;
+mod traits;
 
 pub use aligned_buf::AlignedBuf;
 pub use aligned_buf::copy_to_const_aligned;

@@ -1,6 +1,6 @@
 use Rattle.vb_view.specs.View.{bits_of}
 use Rattle.vb_view.proofs.CompareLemmas.{is_pointwise}
-use Rattle.vb_view.proofs.compare.BitBufferViewPartialEq.eq.Goals as goal
+use Rattle.vb_view.proofs.traits.BitBufferViewPartialEq.eq.Goals as goal
 
 pub returns-clause-value : goal.returns-clause-value
 returns-clause-value c =
