@@ -45,7 +45,7 @@ fn count_of_many(bytes: &[u8], offset: usize, len: usize) -> usize
     count_long(&mut Plain::new(bytes), offset, len)
 }
 
-/// How many bits of the window of `src` are true.
+/// How many bits of the window of `src`, which has to lie in its bytes, are true.
 ///
 /// It looks once at a partial first byte, once at each 64 whole bytes, once at each eight of those
 /// left, once at each byte then left, and once at a partial last byte.

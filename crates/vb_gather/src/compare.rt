@@ -45,8 +45,8 @@ pub fn compared<T: CompareLanes, A: Allocator + Clone>(
     Ok(BitBuffer::new(bytes.freeze()?, values.len()))
 }
 
-/// How each value compares with that at its place among `others`, which have to be as many: else as
-/// [`compared`].
+/// How each value compares with that at its place among `others`. There have to be as many `others`
+/// as values. Of the set, the validity, memory and refusals [`compared`] says all.
 #[tactic(auto, using(vb_bit_bytes::proofs::BytesLemmas::edits))]
 pub fn compared_with<T: CompareLanes, A: Allocator + Clone>(
     alloc: A,

@@ -15,7 +15,7 @@ pub trait Filter: Sized {
     // how many there are
     ghost len: { Self → ℕ };
 
-    // the last are those of the first whose bit in the mask is true
+    // the third has those of the first that the second, the mask, keeps
     ghost keeps: { Self → List Bool → Self → Type 0 };
 
     /// The values whose bit in the mask is true, in order, as a copy: a buffer of the alignment

@@ -223,7 +223,8 @@ impl<A: Allocator + Clone> BitBufferMut<A> {
         self.buffer.as_slice()
     }
 
-    /// The bytes for writing. What is written is what the set then holds; offset and length stay.
+    /// All bytes for writing, those outside of the bits too. What is written is what the set then
+    /// holds; offset, length and room stay.
     pub fn as_mut_slice(&mut self) -> &mut [u8]
         ensures* writes_back { sem 𝓛 (LendsBytes A.row A.Allocator A.Clone self.entry result) }
         ensures bytes { result.now ≡ self.old.bytes }

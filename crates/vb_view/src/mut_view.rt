@@ -14,7 +14,8 @@ use crate::view::BitBufferView;
 use vb_bits::{fill_bits, set_bit_to};
 use vb_walk::BitIterator;
 
-/// What a [`BitBufferMutView`] writes to: a `&mut` to bytes, or to a set of bits over bytes.
+/// What a [`BitBufferMutView`] writes to: a `&mut` to bytes, or to a set of bits over bytes. Who
+/// writes by views calls none of this.
 pub trait BitStore {
     // its bytes
     ghost bytes: { Self → List ℕ };
@@ -25,6 +26,7 @@ pub trait BitStore {
     // it allows views of this window
     ghost fits: { Self → ℕ → ℕ → Type 0 };
 
+    // of which there is one proof at most
     ghost fits_prop: { (s : Self) (o n : ℕ) (a b : fits s o n) → a ≡ b };
 
     // the loan that it is
