@@ -1,17 +1,24 @@
 -- Words of lists of truth values, and of windows.
 use Rattle.std.proofs.Common.{◌≡◌, ◌≢◌, ℕ, zero, suc, ◌+◌, ◌-◌, ◌*◌, ◌/◌, ◌%◌, ◌^◌, ◌<◌, ◌≤◌, Bool}
-use Rattle.std.proofs.Common.{min, List, [], ◌∷◌, ◌++◌, length, take, drop, refl, sym, ap, ◌∙◌}
+use Rattle.std.proofs.Common.{true, false, min, List, [], ◌∷◌, ◌++◌, length, take, drop, refl, sym, ap, ◌∙◌}
 use Rattle.std.proofs.Common.{arith, zero-add, inl, inr}
 use Rattle.std.proofs.lemmas.List.{take_all}
 use Rattle.std.proofs.lemmas.List.FromFn.{length-map-range_with_len, map-range_with_len_more}
+use Rattle.std.proofs.lemmas.List.Sums.{sum_by_push}
 use Rattle.std.proofs.lemmas.Bool.{cases_lt}
+use Rattle.std.proofs.lemmas.Nat.{ones_le_self}
+use Rattle.std.specs.Int.Count.{ones_step}
 use Rattle.std.proofs.Math.Nat.{pow-suc}
-use Rattle.vb_bits.specs.Bits.{bits}
+use Rattle.std.proofs.Math.Seq.{take-add}
+use Rattle.std.specs.List.{sum_by}
+use Rattle.std.specs.Prelude.{count_ones}
+use Rattle.vb_bits.specs.Bits.{bits, count}
 use Rattle.vb_bits.specs.Digits.{digits}
-use Rattle.vb_bits.proofs.BitsLemmas.{length-bits, take-bits, drop-bits}
+use Rattle.vb_bits.proofs.BitsLemmas.{length-bits, take-bits, drop-bits, count-cons}
+use Rattle.vb_bits.proofs.BitsLemmas.{count-append}
 use Rattle.vb_bits.proofs.DigitsLemmas.{digits_none, digits-suc, lowest}
 use Rattle.vb_bits.proofs.RangeLemmas.{same_map-range_with_len}
-use Rattle.vb_walk.specs.Words.{bits_number, word, words, full_words}
+use Rattle.vb_walk.specs.Words.{bits_number, word, words, full_words, padded_words}
 
 -- ---- numbers
 -- a number is that of its digits
@@ -146,6 +153,52 @@ remainder_of b o n w l e read clear =
     sym (word_read b o n (n / 64) w (o + n / 64 * 64) (n - n / 64 * 64) read clear (omega arith)
     (omega arith) (omega arith))
     ∙ ap (λ m. word m (n / 64)) e ∙ ap (λ m. word l (m / 64)) len
+
+-- ---- ones
+-- those of a number are the values that are true
+pub count_ones-bits_number : (l : List Bool) → count_ones (bits_number l) ≡ count l
+count_ones-bits_number [] = omega (arith, ones_le_self 0)
+count_ones-bits_number (true ∷ l) =
+    let w : ℕ = 1 + 2 * bits_number l in
+    let half : w / 2 ≡ bits_number l = omega arith in
+    ones_step w ∙ omega (
+      arith,
+      ap count_ones half,
+      count_ones-bits_number l,
+      count-cons true l,
+    )
+count_ones-bits_number (false ∷ l) =
+    let w : ℕ = 0 + 2 * bits_number l in
+    let half : w / 2 ≡ bits_number l = omega arith in
+    ones_step w ∙ omega (
+      arith,
+      ap count_ones half,
+      count_ones-bits_number l,
+      count-cons false l,
+    )
+
+-- those of words are the values that are true in them
+pub sum_by-words : (l : List Bool) (n : ℕ)
+    → sum_by count_ones (words l n) ≡ count (take (64 * n) l)
+sum_by-words l zero = ap (sum_by count_ones) (words_none l)
+sum_by-words l (suc n) =
+    let more : suc n ≡ n + 1 = omega arith in
+    let size : 64 * suc n ≡ 64 * n + 64 = omega arith in
+    ap (λ k. sum_by count_ones (words l k)) more ∙ ap (sum_by count_ones) (words_push l n)
+    ∙ sum_by_push count_ones (words l n) (word l n)
+    ∙ omega (
+      arith,
+      sum_by-words l n,
+      count_ones-bits_number (take 64 (drop (64 * n) l)),
+      ap (λ k. count (take k l)) size,
+      ap count (take-add (64 * n) 64 l),
+      count-append (take (64 * n) l) (take 64 (drop (64 * n) l)),
+    )
+
+-- the words of `iter_padded` have all true values
+pub sum_by-padded_words : (l : List Bool) → sum_by count_ones (padded_words l) ≡ count l
+sum_by-padded_words l = sum_by-words l (length l / 64 + 1)
+    ∙ ap count (take_all (64 * (length l / 64 + 1)) l (omega arith))
 
 -- ---- for `#[tactic(auto, using(..))]`
 -- chunks of windows

@@ -14,7 +14,7 @@ use vb_core::TrustedLen;
 /// The bits of a window as words of 64 bits: word `k` has bit `64 * k` as its lowest digit.
 ///
 /// Contracts see the list of the bits.
-#[derive(Drop)]
+#[derive(Clone, Debug, Drop)]
 pub struct BitChunks<'a> {
     bytes: &'a [u8],
     offset: usize,
@@ -88,7 +88,7 @@ impl<'a> BitChunks<'a> {
 }
 
 /// The full words of a window. Contracts see the list of those that are still to come.
-#[derive(Drop)]
+#[derive(Clone, Debug, Drop)]
 pub struct BitChunkIterator<'a> {
     bytes: &'a [u8],
     byte: usize,
@@ -179,7 +179,7 @@ impl TrustedLen for BitChunkIterator<'_> {
 
 /// The full words of a window, and then one word more, of the bits behind them. Contracts see the
 /// list of those that are still to come.
-#[derive(Drop)]
+#[derive(Clone, Debug, Drop)]
 pub struct PaddedChunkIterator<'a> {
     chunks: BitChunkIterator<'a>,
     remainder: Option<u64>,

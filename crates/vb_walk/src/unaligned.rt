@@ -22,7 +22,7 @@ use vb_core::TrustedLen;
 /// The words between the first and the last one are borrowed from the bytes, not copied.
 ///
 /// Contracts see the words and the paddings.
-#[derive(Drop)]
+#[derive(Clone, Debug, Drop)]
 pub struct UnalignedBitChunk<'a> {
     lead_padding: usize,
     trailing_padding: usize,
@@ -149,7 +149,7 @@ impl<'a> UnalignedBitChunk<'a> {
 }
 
 /// The words of an [`UnalignedBitChunk`]. Contracts see the list of those that are still to come.
-#[derive(Drop)]
+#[derive(Clone, Debug, Drop)]
 pub struct UnalignedBitChunkIterator<'a> {
     prefix: Option<u64>,
     chunks: Iter<'a, [u8; 8]>,

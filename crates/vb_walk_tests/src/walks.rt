@@ -91,12 +91,3 @@ fn worked_rows(rt: HostRuntime) {
     gives(rt, BitSliceIterator::new(&[0xFF; 17], 0, 130), &[(0, 130)]);
     gives(rt, BitSliceIterator::new(&[], 0, 0), &[]);
 }
-
-#[test]
-fn a_walk_is_cloned_on_its_way(rt: HostRuntime) {
-    let rt = &rt;
-    let mut runs = BitSliceIterator::new(&[0x76], 0, 7);
-    equal(rt, runs.next(), Some((1, 3)));
-    gives(rt, runs.clone().expect(rt, "a clone"), &[(4, 7)]);
-    gives(rt, runs, &[(4, 7)]);
-}
