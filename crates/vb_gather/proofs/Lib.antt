@@ -1,2 +1,3 @@
 mod ComparedLemmas
+mod KleeneLemmas
 mod WrittenOver

@@ -1,6 +1,6 @@
 //! Tests of values and bits filtered by masks and of bits deposited by them, beside a plain loop at
-//! each kind of mask and at lengths that differ; of values taken at indices, and of comparisons;
-//! with each request for memory refused.
+//! each kind of mask and at lengths that differ; of values taken at indices, of comparisons, and of
+//! three-valued logic; with each request for memory refused.
 #![tactic(auto)]
 
 #[cfg(test)]
@@ -15,6 +15,8 @@ mod comparisons;
 mod deposits;
 #[cfg(test)]
 mod filters;
+#[cfg(test)]
+mod kleene;
 #[cfg(test)]
 mod masks;
 #[cfg(test)]
