@@ -4,6 +4,7 @@ use crate::compared::{equal, shows};
 use std::alloc::Allocator;
 use vb_bit_buffer::BitBuffer;
 use vb_core::{BufferError, Result};
+use vb_mem::ByteBuffer;
 use vb_testing::{Handle, Refusing};
 
 /// A call that makes a set, of nine true bits where it is made of another one.
@@ -14,6 +15,7 @@ enum Call {
     Clone,
     Slice,
     SliceOfClone,
+    Derived,
 }
 
 impl Call {
@@ -25,6 +27,7 @@ impl Call {
             Call::Clone => twin(BitBuffer::new_set(alloc, 9)),
             Call::Slice => sliced(BitBuffer::new_set(alloc, 9), 0, 5),
             Call::SliceOfClone => sliced(twin(BitBuffer::new_set(alloc, 9)), 0, 5),
+            Call::Derived => derived(BitBuffer::new_set(alloc, 9)),
         }
     }
 }
@@ -35,6 +38,31 @@ pub(crate) fn twin<A: Allocator + Clone>(made: Result<BitBuffer<A>>) -> Result<B
     let twin = set.clone();
     drop(set);
     twin
+}
+
+/// A column as engines have it, whose copy std derives of those of the buffer and the set.
+#[derive(Clone, Drop)]
+struct Column<A: Allocator + Clone> {
+    values: ByteBuffer<A>,
+    valid: BitBuffer<A>,
+}
+
+/// The set of a copy of a column that has the set, and its bytes as values.
+fn derived<A: Allocator + Clone>(made: Result<BitBuffer<A>>) -> Result<BitBuffer<A>> {
+    let valid = made?;
+    let values = match valid.inner().clone() {
+        Ok(values) => values,
+        Err(error) => {
+            drop(valid);
+            return Err(error);
+        }
+    };
+    let column = Column { values, valid };
+    let copy: Result<_, _> = column.clone();
+    drop(column);
+    let Column { values, valid } = copy?;
+    drop(values);
+    Ok(valid)
 }
 
 /// The bits from `start` up to `end` of a set that was made, or to its end.
@@ -58,6 +86,7 @@ const ROWS: &[(Call, &str, u64)] = &[
     (Call::Clone, "111111111", 5),
     (Call::Slice, "11111", 5),
     (Call::SliceOfClone, "11111", 6),
+    (Call::Derived, "111111111", 7),
 ];
 
 #[test]

@@ -1,17 +1,26 @@
-//! What sets are by std's traits: equal, printed, gone through.
+//! What sets are by std's traits: cloned, equal, printed, gone through.
 ghost use Rattle.std.specs.Prelude.{◌≡◌, ◌↔◌, ◌<◌, [], codes, IsTrue};
 ghost use Rattle.std.specs.Bool.{beq};
 ghost use Rattle.std.specs.Cmp.{bool_eq_equiv, on_per, on_equiv, partial_equiv_from_equiv};
 ghost use Rattle.std.specs.Cmp.Lexicographic.{pointwise, lists_per, lists_equiv};
 
 use super::BitBuffer;
-use std::alloc::Allocator;
+use std::alloc::{AllocError, Allocator};
 use std::fmt;
 use vb_bit_bytes::write_bits;
 use vb_walk::BitIterator;
 
 /// How many bits are printed.
 const SHOWN: usize = 16;
+
+/// One more owner, as [`BitBuffer::clone`] makes it, for code over std's trait.
+impl<A: Allocator + Clone> Clone for BitBuffer<A> {
+    ghost is_clone = { λ s copy. copy ≡ s };
+
+    fn clone(&self) -> Result<Self, AllocError> {
+        BitBuffer::clone(self).or(Err(AllocError))
+    }
+}
 
 /// Equality is that of the lists of bits.
 impl<A: Allocator + Clone> PartialEq for BitBuffer<A> {
