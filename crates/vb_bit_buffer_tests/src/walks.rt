@@ -58,11 +58,11 @@ fn ones_are_walked<A: Allocator + Clone>(rt: &impl Abort, made: Result<BitBuffer
 }
 
 #[test]
-fn two_runs_of_a_byte(rt: HostRuntime) {
+fn walks_and_words_end_with_the_bits_of_a_byte(rt: HostRuntime) {
     byte_is_walked(&rt, window(ByteBuffer::full(rt.alloc(), 0x76, 1), 0, 7));
 }
 
 #[test]
-fn one_run_past_words(rt: HostRuntime) {
+fn a_run_goes_on_past_words(rt: HostRuntime) {
     ones_are_walked(&rt, BitBuffer::new_set(rt.alloc(), 130));
 }

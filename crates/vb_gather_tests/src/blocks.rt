@@ -159,7 +159,7 @@ fn beside_a_loop<T: Element + PartialEq + Debug, I: BitIndex>(
 }
 
 #[test]
-fn bytes_by_bytes(rt: HostRuntime) {
+fn bytes_at_indices_of_a_byte_are_those_of_a_loop(rt: HostRuntime) {
     beside_a_loop(
         &rt,
         rt.alloc(),
@@ -190,7 +190,7 @@ fn an_index_past_all_places_is_refused(rt: HostRuntime) {
 }
 
 #[test]
-fn values_of_sixteen_bytes(rt: HostRuntime) {
+fn values_of_sixteen_bytes_are_those_of_a_loop(rt: HostRuntime) {
     let values = &[3u128, u128::MAX, 4, 1, 5];
     beside_a_loop(&rt, rt.alloc(), values, &[4u32, 0, 3, 1, 2], 5, 7);
     beside_a_loop(&rt, rt.alloc(), values, &[4u64, 0, 3, 1, 2], u64::MAX, 7);
