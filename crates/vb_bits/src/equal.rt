@@ -7,7 +7,7 @@ use crate::bytes::word_at;
 use crate::read::{read_bits, shifted_word};
 
 /// How many words are compared before it is seen whether they differ: a vector loop has no way out.
-const BLOCK: usize = 64;
+const BLOCK_WORDS: usize = 64;
 
 /// Whether the `len` bits of `left` from bit `l` on are those of `right` from bit `r` on.
 ///
@@ -47,8 +47,8 @@ fn equal_words(left: &[u8], a: usize, right: &[u8], r: usize, n: usize) -> bool
     ensures { IsTrue result ↔ (bits left.now (8 * a) (64 * n) ≡ bits right.now r (64 * n)) }
 {
     let lead = n.min((8 - a / 8 % 8) % 8);
-    let blocks = (n - lead) / BLOCK;
-    let done = lead + BLOCK * blocks;
+    let blocks = (n - lead) / BLOCK_WORDS;
+    let done = lead + BLOCK_WORDS * blocks;
     differing_digits(left, a, right, r, lead) == 0
         && equal_blocks(left, a + 8 * lead, right, r + 64 * lead, blocks)
         && differing_digits(left, a + 8 * done, right, r + 64 * done, n - done) == 0
@@ -56,14 +56,14 @@ fn equal_words(left: &[u8], a: usize, right: &[u8], r: usize, n: usize) -> bool
 
 /// [`equal_bits`] of `n` blocks of `left` from byte `a` on.
 fn equal_blocks(left: &[u8], a: usize, right: &[u8], r: usize, n: usize) -> bool
-    requires left_inside { a + 8 * (BLOCK * n) ≤ length left.now }
-    requires right { InBytes right.now r (64 * (BLOCK * n)) }
-    ensures { IsTrue result
-        ↔ (bits left.now (8 * a) (64 * (BLOCK * n)) ≡ bits right.now r (64 * (BLOCK * n))) }
+    requires left_inside { a + 8 * (BLOCK_WORDS * n) ≤ length left.now }
+    requires right { InBytes right.now r (64 * (BLOCK_WORDS * n)) }
+    ensures { IsTrue result ↔ (bits left.now (8 * a) (64 * (BLOCK_WORDS * n))
+        ≡ bits right.now r (64 * (BLOCK_WORDS * n))) }
 {
     for k in 0..n {
-        let done = BLOCK * k;
-        if differing_digits(left, a + 8 * done, right, r + 64 * done, BLOCK) != 0 {
+        let done = BLOCK_WORDS * k;
+        if differing_digits(left, a + 8 * done, right, r + 64 * done, BLOCK_WORDS) != 0 {
             return false;
         }
     }

@@ -13,7 +13,7 @@ use crate::write::{write_few, write_in_byte};
 
 /// From so many bits on, those up to a multiple of four words of `dst` are combined first: then no
 /// vector that is written reaches over a cache line where `dst` begins with one.
-const LONG: usize = 65_536;
+const MIN_ALIGNED_BITS: usize = 65_536;
 
 /// Combines each of the `len` bits of `dst` from bit `d` on with that of `src` from bit `s` on, and
 /// leaves every other bit of `dst`.
@@ -23,7 +23,7 @@ pub(crate) fn merge_bits<M: Merge>(dst: &mut [u8], d: usize, src: &[u8], s: usiz
     ensures { Writes dst.old dst.new d
         (merged_by (M.bit) (bits dst.old d len) (bits src.now s len)) }
 {
-    if len < LONG || d % 256 == 0 {
+    if len < MIN_ALIGNED_BITS || d % 256 == 0 {
         merge_run::<M>(dst, d, src, s, len);
         return;
     }

@@ -18,7 +18,7 @@ use crate::word::byte_part;
 
 /// From so many chunks on, adders count. Where a vector has 32 bytes they are faster than the
 /// counts of words, and already from 32 on; where it has 16, that depends on the processor.
-const MANY: usize = 64;
+const MIN_ADDER_CHUNKS: usize = 64;
 
 /// So many chunks, which are 8 MiB, lie past the caches of most machines.
 const PAST_CACHES: usize = 131_072;
@@ -137,8 +137,8 @@ fn count_part<G: Glance>(src: &mut G, at: usize, len: usize) -> usize
 
 /// Adds to `ones` the true bits of `n` chunks from byte `at` on.
 ///
-/// Fewer than [`MANY`] are counted by their words, more by sixteen, and what is left by words. It
-/// isn't inlined: callers with few chunks then keep nothing over it.
+/// Fewer than [`MIN_ADDER_CHUNKS`] are counted by their words, more by sixteen, and what is left by
+/// words. It isn't inlined: callers with few chunks then keep nothing over it.
 #[tactic(auto, using(vb_bits::proofs::BitsLemmas::windows))]
 #[inline(never)]
 pub fn add_chunks<G: Glance>(src: &mut G, at: usize, n: usize, ones: usize) -> usize
@@ -148,7 +148,7 @@ pub fn add_chunks<G: Glance>(src: &mut G, at: usize, n: usize, ones: usize) -> u
     ensures value { result ≡ ones + count (bits (G.seen src.old).bytes (8 * at) (512 * n)) }
     ensures looks { LooksExactly n (G.seen src.old) (G.seen src.new) }
 {
-    if n < MANY {
+    if n < MIN_ADDER_CHUNKS {
         return add_few(src, at, n, ones);
     }
     // Of memory, quarters that are a power of two apart are read an eighth slower.

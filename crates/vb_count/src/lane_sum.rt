@@ -51,10 +51,10 @@ impl LaneSum {
         ensures { result ≡ self + count (bits chunk.now 0 512) }
     {
         LaneSum {
-            a: self.a + word_ones(chunk, 0) + word_ones(chunk, 32),
-            b: self.b + word_ones(chunk, 8) + word_ones(chunk, 40),
-            c: self.c + word_ones(chunk, 16) + word_ones(chunk, 48),
-            d: self.d + word_ones(chunk, 24) + word_ones(chunk, 56),
+            a: self.a + word_ones_at(chunk, 0) + word_ones_at(chunk, 32),
+            b: self.b + word_ones_at(chunk, 8) + word_ones_at(chunk, 40),
+            c: self.c + word_ones_at(chunk, 16) + word_ones_at(chunk, 48),
+            d: self.d + word_ones_at(chunk, 24) + word_ones_at(chunk, 56),
         }
     }
 
@@ -80,7 +80,7 @@ impl LaneSum {
 }
 
 /// How many bits of the eight bytes from `at` on are true.
-fn word_ones(bytes: &[u8], at: usize) -> usize
+fn word_ones_at(bytes: &[u8], at: usize) -> usize
     requires { at + 8 ≤ length bytes.now }
     ensures value { result ≡ count (bits bytes.now (8 * at) 64) }
     ensures few { result ≤ 64 }

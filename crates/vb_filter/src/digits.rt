@@ -22,11 +22,11 @@ pub(crate) fn pack_digits(word: u64, mask: u64) -> u64
     ensures clear { result < 2 ^ count (digits mask 0 64) }
 {
     let ones = mask.count_ones();
-    if ones <= FEWEST {
+    if ones <= LOOP_ONES {
         pack_ones(word, mask)
-    } else if ones <= FEW {
-        pack_steps(word, mask, FEW)
-    } else if LONG * (mask & !(mask << 1)).count_ones() < ones {
+    } else if ones <= STEP_ONES {
+        pack_steps(word, mask, STEP_ONES)
+    } else if LONG_RUN * (mask & !(mask << 1)).count_ones() < ones {
         pack_runs(word, mask)
     } else {
         pack_fields(word, mask)
@@ -34,13 +34,13 @@ pub(crate) fn pack_digits(word: u64, mask: u64) -> u64
 }
 
 /// Up to so many ones take no longer in a loop, which ends with them, than in eight steps.
-const FEWEST: u32 = 4;
+const LOOP_ONES: u32 = 4;
 
 /// Up to so many ones take less time in as many steps than by fields.
-const FEW: u32 = 8;
+const STEP_ONES: u32 = 8;
 
 /// Runs that are longer than this take less time than fields.
-const LONG: u32 = 12;
+const LONG_RUN: u32 = 12;
 
 /// [`pack_digits`] by the runs of ones of the mask.
 #[inline(always)]

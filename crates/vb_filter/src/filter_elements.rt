@@ -34,7 +34,7 @@ static KEPT_BYTES: [[u8; 16]; 16] = [
 ];
 
 /// Up to so many elements of a word take less time one by one.
-const FEW: usize = 16;
+const SINGLE_ELEMENTS: usize = 16;
 
 /// Writes the elements whose bit in the mask is true, in order, to the front of `out`, and answers
 /// how many they are. The other items of `out` stay.
@@ -92,7 +92,7 @@ fn put_of_four_bytes<T: Element>(out: &mut [T], len: usize, values: &[T], keep: 
         out.old out.new }
 {
     let count = keep.count_ones() as usize;
-    if count <= FEW {
+    if count <= SINGLE_ELEMENTS {
         put_places(out, len, values, keep);
         count
     } else if count < 64 && values.len() == 64 && count + 4 <= out.len() - len {

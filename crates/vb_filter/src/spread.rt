@@ -18,9 +18,9 @@ pub(crate) fn spread_digits(word: u64, mask: u64) -> u64
     ensures { digits result 0 64 ≡ spread_by (digits mask 0 64) (digits word 0 64) }
 {
     let ones = mask.count_ones();
-    if ones <= FEW {
+    if ones <= SPREAD_ONES {
         spread_ones(word, mask)
-    } else if LONG * (mask & !(mask << 1)).count_ones() < ones {
+    } else if LONG_RUN * (mask & !(mask << 1)).count_ones() < ones {
         spread_runs(word, mask)
     } else {
         spread_sixes(word, mask)
@@ -28,10 +28,10 @@ pub(crate) fn spread_digits(word: u64, mask: u64) -> u64
 }
 
 /// Up to so many ones take less time one by one than eleven looks at a table.
-const FEW: u32 = 8;
+const SPREAD_ONES: u32 = 8;
 
 /// Runs that are longer than this take less time than eleven looks at a table.
-const LONG: u32 = 12;
+const LONG_RUN: u32 = 12;
 
 /// [`spread_digits`] by the ones of the mask.
 #[inline(always)]

@@ -44,7 +44,7 @@ pub(crate) fn count_short<M: Merge>(
 {
     let mut ones = 0;
     for k in 0..len / 64 {
-        ones += word_ones::<M>(left, l + 64 * k, right, r + 64 * k);
+        ones += merged_word_ones::<M>(left, l + 64 * k, right, r + 64 * k);
     }
     let done = len / 64 * 64;
     ones + few_ones::<M>(left, l + done, right, r + done, len % 64)
@@ -162,7 +162,7 @@ fn whole_word_ones<M: Merge>(left: &[u8], l: usize, right: &[u8], r: usize) -> u
 
 /// Counts the words from bit `l` and bit `r` on.
 #[inline(always)]
-pub(crate) fn word_ones<M: Merge>(left: &[u8], l: usize, right: &[u8], r: usize) -> usize
+pub(crate) fn merged_word_ones<M: Merge>(left: &[u8], l: usize, right: &[u8], r: usize) -> usize
     requires left { l + 64 ≤ 8 * length left.now }
     requires right { r + 64 ≤ 8 * length right.now }
     ensures value { result ≡ merged_ones (M.bit) left.now l right.now r 64 }

@@ -6,7 +6,7 @@ ghost use Rattle.vb_bits.specs.Operators.{combined_by};
 ghost use Rattle.vb_bits.specs.declared.zip.BitOp.TheVariants.{And, AndNot};
 ghost use Rattle.vb_pair.specs.Merged.{merged_ones};
 
-use crate::merged::{few_ones, word_ones};
+use crate::merged::{few_ones, merged_word_ones};
 use vb_bits::{And as Both, AndNot as LeftAlone, Merge};
 
 /// Whether no bit is true in both windows, as it is of windows of no bits: bit `i` of the window is
@@ -46,7 +46,7 @@ fn is_none_merged<M: Merge>(left: &[u8], l: usize, right: &[u8], r: usize, len: 
     ensures { IsTrue result ↔ (merged_ones (M.bit) left.now l right.now r len ≡ 0) }
 {
     for k in 0..len / 64 {
-        if word_ones::<M>(left, l + 64 * k, right, r + 64 * k) > 0 {
+        if merged_word_ones::<M>(left, l + 64 * k, right, r + 64 * k) > 0 {
             return false;
         }
     }

@@ -1,6 +1,6 @@
 //! Blocks of 64 indices: their places as 32 bits, and the bits there as a word.
-ghost use Rattle.std.specs.Prelude.{◌≡◌, ◌==◌, ℕ, negsuc, ◌+◌, ◌*◌, ◌^◌, ◌<◌, ◌≤◌, not, min};
-ghost use Rattle.std.specs.Prelude.{bit_and, nat_lt, length, map, slice_index, slice_index_or};
+ghost use Rattle.std.specs.Prelude.{◌≡◌, ◌==◌, ℕ, negsuc, ◌+◌, ◌*◌, ◌/◌, ◌%◌, ◌^◌, ◌<◌, ◌≤◌, not};
+ghost use Rattle.std.specs.Prelude.{bit_and, min, nat_lt, length, map, slice_index, slice_index_or};
 ghost use Rattle.vb_bits.specs.Bits.{bit_of};
 ghost use Rattle.vb_bits.specs.Digits.{has_bit};
 ghost use Rattle.vb_take.specs.Blocks.{narrow_place, TakesBlock};
@@ -116,15 +116,33 @@ fn take_word(bytes: &[u8], places: &[u32; 64]) -> u64
     requires { (k : ℕ) → k < 64 → slice_index places.now k < 8 * length bytes.now }
     ensures { (k : ℕ) → k < 64 → has_bit result k ≡ bit_of bytes.now (slice_index places.now k) }
 {
+    common_bits(bytes_at(bytes, places), masks_at(places))
+}
+
+/// The bytes that have the bits at 64 places.
+#[inline(always)]
+fn bytes_at(bytes: &[u8], places: &[u32; 64]) -> [u32; 64]
+    requires { (k : ℕ) → k < 64 → slice_index places.now k < 8 * length bytes.now }
+    ensures { (k : ℕ) → k < 64 → slice_index result k
+        ≡ slice_index bytes.now (slice_index places.now k / 8) }
+{
     let mut taken = [0; 64];
-    'bytes: for k in 0..64 {
+    for k in 0..64 {
         taken[k] = u32::from(bytes[(places[k] / 8) as usize]);
     }
+    taken
+}
+
+/// A 1 for each of 64 places, where its bit is in its byte.
+#[inline(always)]
+fn masks_at(places: &[u32; 64]) -> [u32; 64]
+    ensures { (k : ℕ) → k < 64 → slice_index result k ≡ 2 ^ (slice_index places.now k % 8) }
+{
     let mut masks = [0; 64];
-    'masks: for k in 0..64 {
+    for k in 0..64 {
         masks[k] = 1 << (places[k] % 8);
     }
-    common_bits(taken, masks)
+    masks
 }
 
 /// A digit for each lane: whether the two numbers have a digit in common.

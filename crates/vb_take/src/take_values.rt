@@ -103,7 +103,7 @@ fn take_block<T: Element, I: BitIndex>(
     let word = valid_word(Some(valid), at);
     if word == u64::MAX {
         put_full(out, values, indices, at)
-    } else if word.count_ones() <= FEW && all_named(values, indices, at, word) {
+    } else if word.count_ones() <= MAX_ONES_READ_TWICE && all_named(values, indices, at, word) {
         clear_block(out, at);
         put_ones(out, values, indices, at, word)
     } else {
@@ -118,7 +118,7 @@ fn take_block<T: Element, I: BitIndex>(
 
 /// Up to so many of 64 positions are few: to look at their indices twice costs no more than to
 /// write 0 to the others one by one.
-const FEW: u32 = 20;
+const MAX_ONES_READ_TWICE: u32 = 20;
 
 /// Whether all of the 64 positions from `at` on whose digit is 1 have an index that names a value.
 #[inline(always)]

@@ -12,13 +12,15 @@ mod cursor;
 mod index;
 mod ones;
 mod other;
+mod run;
 mod slices;
 mod unaligned;
 
 pub use bit::BitIterator;
 pub use chunks::{BitChunkIterator, BitChunks, PaddedChunkIterator};
 pub use index::BitIndexIterator;
-pub use ones::{LowestRun, lowest_run};
+pub use ones::lowest_run;
 pub use other::{OtherWord, first_other, others};
+pub use run::LowestRun;
 pub use slices::BitSliceIterator;
 pub use unaligned::{UnalignedBitChunk, UnalignedBitChunkIterator};

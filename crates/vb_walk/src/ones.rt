@@ -3,16 +3,7 @@ ghost use Rattle.std.specs.Prelude.{◌≡◌, ℕ, ◌+◌, ◌^◌, ◌<◌, f
 ghost use Rattle.vb_bits.specs.Digits.{has_bit};
 ghost use Rattle.vb_walk.specs.Ones.{CutsOnes};
 
-/// The lowest run of ones of a word.
-#[derive(Clone, Copy)]
-pub struct LowestRun {
-    /// Its first digit.
-    pub start: usize,
-    /// The digit behind it.
-    pub end: usize,
-    /// The word without it.
-    pub rest: u64,
-}
+use crate::run::LowestRun;
 
 /// The lowest run of ones of a word that isn't 0.
 #[inline(always)]

@@ -1,6 +1,6 @@
 use Rattle.std.proofs.Common.{◌+◌, ◌-◌, ◌*◌, ◌/◌, ◌∙◌, sym, arith}
 use Rattle.std.proofs.lemmas.Bool.{eqb-true, eq-eqb}
-use Rattle.vb_bits.specs.declared.equal.TheConstants.{BLOCK}
+use Rattle.vb_bits.specs.declared.equal.TheConstants.{BLOCK_WORDS}
 use Rattle.vb_bits.proofs.EqualLemmas.{same-three}
 use Rattle.vb_bits.proofs.equal.equal_words.Goals as goal
 use Rattle.vb_bits.proofs.equal.equal_words.Goals.{then-differing_digits-eq0}
@@ -9,7 +9,7 @@ use Rattle.vb_bits.proofs.equal.equal_words.Goals.{else-differing_digits-eq0}
 pub returns-then-equal_blocks : goal.returns-then-equal_blocks
 returns-then-equal_blocks c =
     let h = c.min-lead.result in
-    let m = BLOCK * ((c.args.n - h) / BLOCK) in
+    let m = BLOCK_WORDS * ((c.args.n - h) / BLOCK_WORDS) in
     let n = c.args.n - (h + m) in
     let parts = same-three c.args.left.now c.args.right.now
     (8 * c.args.a) c.args.r (64 * h) (64 * m) (64 * n) (64 * c.args.n)
@@ -33,7 +33,7 @@ returns-then-equal_blocks c =
 pub returns-else-equal_blocks : goal.returns-else-equal_blocks
 returns-else-equal_blocks c =
     let h = c.min-lead.result in
-    let m = BLOCK * ((c.args.n - h) / BLOCK) in
+    let m = BLOCK_WORDS * ((c.args.n - h) / BLOCK_WORDS) in
     let n = c.args.n - (h + m) in
     let parts = same-three c.args.left.now c.args.right.now
     (8 * c.args.a) c.args.r (64 * h) (64 * m) (64 * n) (64 * c.args.n)

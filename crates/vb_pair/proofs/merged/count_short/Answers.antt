@@ -13,7 +13,7 @@ overflow_add-ones g c = record {
   fits = omega (
     arith,
     c.loop-k.invariant,
-    c.word_ones-ones.ensures.few,
+    c.merged_word_ones-ones.ensures.few,
     merged_ones-le g.M.Merge.bit c.args.left.now c.args.right.now c.args.l c.args.r
         (64 * c.loop-k.k),
   );
@@ -25,7 +25,7 @@ loop-k-preserved g c =
     omega (
       arith,
       c.loop-k.invariant,
-      c.word_ones-ones.ensures.value,
+      c.merged_word_ones-ones.ensures.value,
       merged_ones_split g.M.Merge.bit c.args.left.now c.args.right.now c.args.l c.args.r (64 * k)
           (64 * (k + 1)) (c.args.l + 64 * k) (c.args.r + 64 * k) 64
           (omega arith) (omega arith) (omega arith),

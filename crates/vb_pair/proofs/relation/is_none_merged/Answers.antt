@@ -14,14 +14,14 @@ loop-k-preserved g c =
     omega (
       arith,
       c.loop-k.invariant,
-      c.word_ones.ensures.value,
+      c.merged_word_ones.ensures.value,
       merged_ones_split g.M.Merge.bit c.args.left.now c.args.right.now c.args.l c.args.r (64 * k)
           (64 * (k + 1)) (c.args.l + 64 * k) (c.args.r + 64 * k) 64
           (omega arith) (omega arith) (omega arith),
     )
 
-pub returns-then-word_ones-gt0 : goal.returns-then-word_ones-gt0
-returns-then-word_ones-gt0 g c =
+pub returns-then-merged_word_ones-gt0 : goal.returns-then-merged_word_ones-gt0
+returns-then-merged_word_ones-gt0 g c =
     let f = g.M.Merge.bit in
     let o : ℕ = c.args.l in let p : ℕ = c.args.r in let len : ℕ = c.args.len in
     let k : ℕ = c.loop-k.k in
@@ -36,8 +36,8 @@ returns-then-word_ones-gt0 g c =
         e,
         here,
         after,
-        c.word_ones.ensures.value,
-        c.if-word_ones-gt0.true,
+        c.merged_word_ones.ensures.value,
+        c.if-merged_word_ones-gt0.true,
       )),
     )
 

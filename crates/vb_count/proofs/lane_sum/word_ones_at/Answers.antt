@@ -3,7 +3,7 @@ use Rattle.std.specs.Int.{to_le_bytes, w64}
 use Rattle.vb_bits.specs.Bits.{count}
 use Rattle.vb_bits.proofs.BytesLemmas.{bits-to_le_bytes, bits_of_read}
 use Rattle.vb_bits.proofs.DigitsLemmas.{count-digits_below}
-use Rattle.vb_count.proofs.lane_sum.word_ones.Goals as goal
+use Rattle.vb_count.proofs.lane_sum.word_ones_at.Goals as goal
 
 pub returns-clause-value : goal.returns-clause-value
 returns-clause-value c =

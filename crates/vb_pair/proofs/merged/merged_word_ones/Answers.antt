@@ -1,7 +1,7 @@
 use Rattle.std.proofs.Common.{◌≡◌, ◌+◌, ◌*◌, ◌/◌, ◌%◌, ap, arith, ◌∙◌}
 use Rattle.vb_bits.specs.Bits.{bits}
 use Rattle.vb_pair.proofs.MergedLemmas.{ones_of_merged}
-use Rattle.vb_pair.proofs.merged.word_ones.Goals as goal
+use Rattle.vb_pair.proofs.merged.merged_word_ones.Goals as goal
 
 pub returns-clause-value : goal.returns-clause-value
 returns-clause-value g c =

@@ -1,0 +1,8 @@
+use Rattle.std.proofs.Common.{◌≡◌, ℕ, ◌%◌, ◌^◌, ◌<◌, length, slice_index}
+use Rattle.vb_take.proofs.block.masks_at.Given as goal
+
+abbrev pub invariant-loop-k : goal.invariant-loop-k
+invariant-loop-k l = record {
+  long : length l.masks ≡ 64;
+  each : (i : ℕ) → i < l.k → slice_index l.masks i ≡ 2 ^ (slice_index l.places i % 8);
+}
