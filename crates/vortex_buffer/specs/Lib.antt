@@ -31,6 +31,7 @@ pub use Rattle.vb_filter.specs.Spread
 pub use Rattle.vb_gather.specs.Compared
 pub use Rattle.vb_gather.specs.Deposited
 pub use Rattle.vb_gather.specs.Filtered
+pub use Rattle.vb_gather.specs.Kleene
 pub use Rattle.vb_gather.specs.TakenItems
 pub use Rattle.vb_kernel.specs.Beside
 pub use Rattle.vb_kernel.specs.Hits
