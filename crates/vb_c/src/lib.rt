@@ -15,12 +15,10 @@
 pub mod bit;
 pub mod combine;
 pub mod count;
-pub mod deposit;
 pub mod equal;
-pub mod filter;
-pub mod pack;
+pub mod nearest;
 pub mod rank;
+pub mod relation;
 pub mod select;
-pub mod take;
 pub mod walk;
 pub mod write;

@@ -1,4 +1,5 @@
 pub mod Fits
 pub mod Place
+pub mod Validity
 pub use Rattle.vb_bits.specs.Bits
 pub use Rattle.vb_bits.specs.InBytes

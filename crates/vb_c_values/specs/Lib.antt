@@ -5,5 +5,6 @@ pub use Rattle.vb_bits.specs.Bits
 pub use Rattle.vb_bits.specs.InBytes
 pub use Rattle.vb_bits.specs.Kept
 pub use Rattle.vb_c_core.specs.Fits
+pub use Rattle.vb_c_core.specs.Validity
 pub use Rattle.vb_core.specs.Elements
 pub use Rattle.vb_take.specs.ItemsTaken

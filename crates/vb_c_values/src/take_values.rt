@@ -1,7 +1,8 @@
 //! Values at indices. A file has those of one width of indices.
 ghost use Rattle.std.specs.Prelude.{◌≡◌, ◌≤◌, length, map};
 ghost use Rattle.vb_c_core.specs.Fits.{DoneIf};
-ghost use Rattle.vb_c_values.specs.Taken.{HasValidity, TakesValues, validity_of};
+ghost use Rattle.vb_c_core.specs.Validity.{HasValidity, validity_of};
+ghost use Rattle.vb_c_values.specs.Taken.{TakesValues};
 
 pub mod by_u16;
 pub mod by_u32;

@@ -1,7 +1,8 @@
 //! Values at indices of 8 bits.
 ghost use Rattle.std.specs.Prelude.{◌≡◌, ◌≤◌, length, map, pos};
 ghost use Rattle.vb_c_core.specs.Fits.{DoneIf};
-ghost use Rattle.vb_c_values.specs.Taken.{HasValidity, TakesValues, validity_of};
+ghost use Rattle.vb_c_core.specs.Validity.{HasValidity, validity_of};
+ghost use Rattle.vb_c_values.specs.Taken.{TakesValues};
 ghost use Rattle.vb_c_values.specs.WideLaws.{wide_zero};
 
 use crate::take_values::{take_values, try_take_values};

@@ -4,7 +4,7 @@ ghost use Rattle.std.specs.Option.{ForSome, option_map};
 ghost use Rattle.vb_bits.specs.Bits.{bits};
 ghost use Rattle.vb_bits.specs.InBytes.{InBytes};
 ghost use Rattle.vb_c_core.specs.Fits.{DoneIf};
-ghost use Rattle.vb_c.specs.Taken.{Takes};
+ghost use Rattle.vb_c_gather.specs.Taken.{Takes};
 ghost use Rattle.vb_view.specs.View.{bits_of};
 
 use vb_bits::window_fits;
@@ -208,7 +208,7 @@ pub extern "C" fn vb_try_take_valid_u64(
 }
 
 /// The bits at the indices, as [`vb_take_u32`] and [`vb_take_valid_u32`] write them.
-fn take<I: BitIndex>(
+pub(crate) fn take<I: BitIndex>(
     out: &mut [u8],
     window: BitBufferView<'_>,
     indices: &[I],

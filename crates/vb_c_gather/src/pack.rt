@@ -1,7 +1,7 @@
 //! Truth values packed into bits.
 ghost use Rattle.std.specs.Prelude.{◌≡◌, ◌*◌, ◌≤◌, ◌==◌, not, length, map};
 ghost use Rattle.vb_c_core.specs.Fits.{DoneIf};
-ghost use Rattle.vb_c.specs.Packed.{Packs};
+ghost use Rattle.vb_c_gather.specs.Packed.{Packs};
 
 /// Packs truth values into the first bytes of `out`, eight into each; the bits of the last one
 /// behind them are false, and later bytes stay.

@@ -2,7 +2,7 @@
 ghost use Rattle.std.specs.Prelude.{◌≡◌, ◌*◌, length};
 ghost use Rattle.vb_bits.specs.Bits.{bits};
 ghost use Rattle.vb_bits.specs.InBytes.{InBytes};
-ghost use Rattle.vb_c.specs.Filtered.{FiltersBits};
+ghost use Rattle.vb_c_gather.specs.Filtered.{FiltersBits};
 ghost use Rattle.vb_c_core.specs.Fits.{DoneIf, KeptFits};
 
 use vb_bits::window_fits;

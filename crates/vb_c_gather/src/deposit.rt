@@ -2,7 +2,7 @@
 ghost use Rattle.std.specs.Prelude.{◌≡◌};
 ghost use Rattle.vb_bits.specs.Bits.{bits, count};
 ghost use Rattle.vb_bits.specs.InBytes.{InBytes};
-ghost use Rattle.vb_c.specs.Deposited.{Deposits, DepositFits};
+ghost use Rattle.vb_c_gather.specs.Deposited.{Deposits, DepositFits};
 ghost use Rattle.vb_c_core.specs.Fits.{DoneIf};
 
 use vb_bits::window_fits;

@@ -1,0 +1,164 @@
+//! Floats compared with a number, and with others.
+ghost use Rattle.std.specs.Prelude.{◌≡◌, length, map};
+ghost use Rattle.std.specs.Simd.Lanes.{zip2};
+ghost use Rattle.vb_bits.specs.Writes.{Writes};
+ghost use Rattle.vb_c_compare.specs.Codes.{comparison_of, CompareFits};
+ghost use Rattle.vb_c_core.specs.Fits.{DoneIf};
+ghost use Rattle.vb_float.specs.Floats.{compares_floats};
+
+use crate::code::{comparison_of, fits};
+use vb_float::{compare_floats_into, compare_floats_with_into};
+
+/// Writes to bit `o + k` of `out`, for each `k` below the number of values, whether `values[k]`
+/// compares with `number` as `op` says, in the order of IEEE 754: what isn't a number is equal to
+/// nothing, and neither below nor above anything. These bits have to lie in `out`, and every other
+/// one stays.
+#[unsafe(no_mangle)]
+pub extern "C" fn vb_compare_f32(out: &mut [u8], o: usize, values: &[f32], op: u8, number: f32)
+    requires { CompareFits out.old o (length values.now) op }
+    ensures { Writes out.old out.new o
+        (map (λ value. compares_floats (comparison_of op) value number) values.now) }
+{
+    compare_floats_into(out, o, values, comparison_of(op), number);
+}
+
+/// Whether the window lies in the bytes, and `op` is below 6; [`vb_compare_f32`] is then done, else
+/// nothing.
+#[unsafe(no_mangle)]
+pub extern "C" fn vb_try_compare_f32(
+    out: &mut [u8],
+    o: usize,
+    values: &[f32],
+    op: u8,
+    number: f32,
+) -> bool
+    ensures { DoneIf (CompareFits out.old o (length values.now) op)
+        (Writes out.old out.new o
+        (map (λ value. compares_floats (comparison_of op) value number) values.now))
+        (out.new ≡ out.old) result }
+{
+    if !fits(out, o, values.len(), op) {
+        return false;
+    }
+    vb_compare_f32(out, o, values, op, number);
+    true
+}
+
+/// Writes to bit `o + k` of `out`, for each `k` below the number of values, whether `values[k]`
+/// compares with `others[k]` as `op` says, as [`vb_compare_f32`] does. There have to be as many
+/// others, these bits have to lie in `out`, and every other one stays.
+#[unsafe(no_mangle)]
+pub extern "C" fn vb_compare_with_f32(
+    out: &mut [u8],
+    o: usize,
+    values: &[f32],
+    op: u8,
+    others: &[f32],
+)
+    requires others { length others.now ≡ length values.now }
+    requires window { CompareFits out.old o (length values.now) op }
+    ensures { Writes out.old out.new o
+        (zip2 (compares_floats (comparison_of op)) values.now others.now) }
+{
+    compare_floats_with_into(out, o, values, comparison_of(op), others);
+}
+
+/// Whether there are as many others, the window lies in the bytes, and `op` is below 6;
+/// [`vb_compare_with_f32`] is then done, else nothing.
+#[unsafe(no_mangle)]
+pub extern "C" fn vb_try_compare_with_f32(
+    out: &mut [u8],
+    o: usize,
+    values: &[f32],
+    op: u8,
+    others: &[f32],
+) -> bool
+    ensures { DoneIf ((length others.now ≡ length values.now)
+        × CompareFits out.old o (length values.now) op)
+        (Writes out.old out.new o
+        (zip2 (compares_floats (comparison_of op)) values.now others.now))
+        (out.new ≡ out.old) result }
+{
+    if others.len() != values.len() || !fits(out, o, values.len(), op) {
+        return false;
+    }
+    vb_compare_with_f32(out, o, values, op, others);
+    true
+}
+
+/// Writes to bit `o + k` of `out`, for each `k` below the number of values, whether `values[k]`
+/// compares with `number` as `op` says, in the order of IEEE 754: what isn't a number is equal to
+/// nothing, and neither below nor above anything. These bits have to lie in `out`, and every other
+/// one stays.
+#[unsafe(no_mangle)]
+pub extern "C" fn vb_compare_f64(out: &mut [u8], o: usize, values: &[f64], op: u8, number: f64)
+    requires { CompareFits out.old o (length values.now) op }
+    ensures { Writes out.old out.new o
+        (map (λ value. compares_floats (comparison_of op) value number) values.now) }
+{
+    compare_floats_into(out, o, values, comparison_of(op), number);
+}
+
+/// Whether the window lies in the bytes, and `op` is below 6; [`vb_compare_f64`] is then done, else
+/// nothing.
+#[unsafe(no_mangle)]
+pub extern "C" fn vb_try_compare_f64(
+    out: &mut [u8],
+    o: usize,
+    values: &[f64],
+    op: u8,
+    number: f64,
+) -> bool
+    ensures { DoneIf (CompareFits out.old o (length values.now) op)
+        (Writes out.old out.new o
+        (map (λ value. compares_floats (comparison_of op) value number) values.now))
+        (out.new ≡ out.old) result }
+{
+    if !fits(out, o, values.len(), op) {
+        return false;
+    }
+    vb_compare_f64(out, o, values, op, number);
+    true
+}
+
+/// Writes to bit `o + k` of `out`, for each `k` below the number of values, whether `values[k]`
+/// compares with `others[k]` as `op` says, as [`vb_compare_f64`] does. There have to be as many
+/// others, these bits have to lie in `out`, and every other one stays.
+#[unsafe(no_mangle)]
+pub extern "C" fn vb_compare_with_f64(
+    out: &mut [u8],
+    o: usize,
+    values: &[f64],
+    op: u8,
+    others: &[f64],
+)
+    requires others { length others.now ≡ length values.now }
+    requires window { CompareFits out.old o (length values.now) op }
+    ensures { Writes out.old out.new o
+        (zip2 (compares_floats (comparison_of op)) values.now others.now) }
+{
+    compare_floats_with_into(out, o, values, comparison_of(op), others);
+}
+
+/// Whether there are as many others, the window lies in the bytes, and `op` is below 6;
+/// [`vb_compare_with_f64`] is then done, else nothing.
+#[unsafe(no_mangle)]
+pub extern "C" fn vb_try_compare_with_f64(
+    out: &mut [u8],
+    o: usize,
+    values: &[f64],
+    op: u8,
+    others: &[f64],
+) -> bool
+    ensures { DoneIf ((length others.now ≡ length values.now)
+        × CompareFits out.old o (length values.now) op)
+        (Writes out.old out.new o
+        (zip2 (compares_floats (comparison_of op)) values.now others.now))
+        (out.new ≡ out.old) result }
+{
+    if others.len() != values.len() || !fits(out, o, values.len(), op) {
+        return false;
+    }
+    vb_compare_with_f64(out, o, values, op, others);
+    true
+}

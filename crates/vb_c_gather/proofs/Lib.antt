@@ -1,0 +1,2 @@
+mod KeptBlocks
+mod TakenBlocks

@@ -1,0 +1,110 @@
+use Rattle.std.proofs.Common.{◌+◌, ◌∙◌, refl, sym, ap, subst, length, arith}
+use Rattle.vb_bits.specs.Bits.{bits, count}
+use Rattle.vb_bits.specs.Kept.{kept_by}
+use Rattle.vb_bits.specs.Writes.{Writes}
+use Rattle.vb_bits.proofs.BitsLemmas.{bits_none, count-bits_none, count-bits-le, count-bits-add}
+use Rattle.vb_bits.proofs.WritesLemmas.{Writes_none}
+use Rattle.vb_c_gather.proofs.KeptBlocks.{kept-block, count-begun}
+use Rattle.vb_c_gather.proofs.filter_at.filter_by_blocks.Goals as goal
+
+pub loop-done-init : goal.loop-done-init
+loop-done-init c =
+    let a = c.args in
+    record {
+      inside = omega arith;
+      room = refl;
+      number = sym (count-bits_none a.mask.now a.m);
+      written = Writes_none a.out.now a.o
+          (kept_by (bits a.mask.now a.m 0) (bits a.values.now a.v 0))
+          (ap (λ k. length (kept_by k (bits a.values.now a.v 0))) (bits_none a.mask.now a.m));
+    }
+
+pub vb_filter_bits-more-requires-clause-mask : goal.vb_filter_bits-more-requires-clause-mask
+vb_filter_bits-more-requires-clause-mask c =
+    let n = c.min-n.result in let inv = c.loop-done.invariant in
+    record {
+      window = record {
+        inside = omega (arith, c.requires.mask.by.inside, c.min-n.ensures, c.loop-done-test.true);
+        fits = omega (arith, c.requires.mask.by.fits, c.min-n.ensures, c.loop-done-test.true);
+      };
+      few = omega (
+        arith,
+        inv.room,
+        c.min-n.ensures,
+        count-bits-le c.args.mask.now (c.args.m + c.loop-done.done) n,
+      );
+    }
+
+pub overflow_add-o : goal.overflow_add-o
+overflow_add-o c =
+    let n = c.min-n.result in let done = c.loop-done.done in
+    omega (
+      arith,
+      c.loop-done.invariant.number,
+      c.requires.mask.into.fits,
+      count-begun c.args.mask.now c.args.m done n c.args.len
+          (omega (arith, c.min-n.ensures, c.loop-done-test.true)),
+    )
+
+pub copy_bits-requires-clause-into : goal.copy_bits-requires-clause-into
+copy_bits-requires-clause-into c =
+    let n = c.min-n.result in let done = c.loop-done.done in let inv = c.loop-done.invariant in
+    let few = count-begun c.args.mask.now c.args.m done n c.args.len
+    (omega (arith, c.min-n.ensures, c.loop-done-test.true)) in
+    record {
+      inside = omega (
+        arith,
+        inv.number,
+        inv.written.same_len,
+        c.vb_filter_bits-more.ensures.number,
+        c.requires.mask.into.inside,
+        few,
+      );
+      fits = omega (
+        arith,
+        inv.number,
+        c.vb_filter_bits-more.ensures.number,
+        c.requires.mask.into.fits,
+        few,
+      );
+    }
+
+pub copy_bits-requires-clause-from : goal.copy_bits-requires-clause-from
+copy_bits-requires-clause-from c =
+    let n = c.min-n.result in let inv = c.loop-done.invariant in
+    let made = c.vb_filter_bits-more.ensures in
+    let few = count-bits-le c.args.mask.now (c.args.m + c.loop-done.done) n in
+    record {
+      inside = omega (arith, inv.room, made.window.same_len, made.number, c.min-n.ensures, few);
+      fits = omega (arith, made.number, c.min-n.ensures, few);
+    }
+
+pub overflow_add-kept : goal.overflow_add-kept
+overflow_add-kept c =
+    let n = c.min-n.result in let done = c.loop-done.done in
+    omega (
+      arith,
+      c.loop-done.invariant.number,
+      c.vb_filter_bits-more.ensures.number,
+      c.requires.mask.into.fits,
+      count-begun c.args.mask.now c.args.m done n c.args.len
+          (omega (arith, c.min-n.ensures, c.loop-done-test.true)),
+    )
+
+pub loop-done-preserved : goal.loop-done-preserved
+loop-done-preserved c =
+    let a = c.args in let n = c.min-n.result in let done = c.loop-done.done in
+    let inv = c.loop-done.invariant in let made = c.vb_filter_bits-more.ensures in
+    record {
+      inside = omega (arith, c.min-n.ensures, c.loop-done-test.true);
+      room = made.window.same_len ∙ inv.room;
+      number = omega (arith, inv.number, made.number, count-bits-add a.mask.now a.m done n);
+      written = kept-block a.mask.now a.values.now a.m a.v a.out.now c.loop-done.out
+          c.copy_bits.new.dst c.loop-done.made c.vb_filter_bits-more.new.out a.o done n inv.written
+          made.window
+          (subst (λ k. Writes c.loop-done.out c.copy_bits.new.dst (a.o + k)
+          (bits c.vb_filter_bits-more.new.out 0 (count (bits a.mask.now (a.m + done) n))))
+          inv.number
+          (subst (λ k. Writes c.loop-done.out c.copy_bits.new.dst (a.o + c.loop-done.kept)
+          (bits c.vb_filter_bits-more.new.out 0 k)) made.number c.copy_bits.ensures));
+    }

@@ -1,0 +1,12 @@
+pub mod Deposited
+pub mod Filtered
+pub mod Packed
+pub mod Taken
+pub use Rattle.vb_bits.specs.Bits
+pub use Rattle.vb_bits.specs.InBytes
+pub use Rattle.vb_bits.specs.Kept
+pub use Rattle.vb_bits.specs.Writes
+pub use Rattle.vb_c_core.specs.Fits
+pub use Rattle.vb_filter.specs.Spread
+pub use Rattle.vb_pack.specs.WordBits
+pub use Rattle.vb_take.specs.Takes

@@ -1,0 +1,89 @@
+//! The comparisons as types.
+ghost use Rattle.std.specs.Prelude.{◌≡◌, Bool};
+ghost use Rattle.std.specs.Simd.Lanes.{zip2};
+ghost use Rattle.vb_bits.specs.Digits.{digits};
+ghost use lib.Ieee.{Float, eq, ne, lt, le};
+
+use crate::lanes::FloatLanes;
+
+/// A comparison of two floats. It is a type, so that each has loops of its own.
+pub(crate) trait Test {
+    // What it answers of two floats.
+    ghost holds: { Float → Float → Bool };
+
+    /// The word whose digit `k` is what it answers of value `k` of each block.
+    fn word<T: FloatLanes>(left: T::Block, right: T::Block) -> u64
+        ensures { digits result 0 64 ≡ zip2 holds (T.floats left) (T.floats right) };
+}
+
+/// The left value is equal to the right one.
+pub(crate) struct IsEqual;
+
+impl Test for IsEqual {
+    ghost holds = { eq };
+
+    #[inline(always)]
+    fn word<T: FloatLanes>(left: T::Block, right: T::Block) -> u64 {
+        T::equal(left, right)
+    }
+}
+
+/// The left value isn't equal to the right one.
+pub(crate) struct IsNotEqual;
+
+impl Test for IsNotEqual {
+    ghost holds = { ne };
+
+    #[inline(always)]
+    fn word<T: FloatLanes>(left: T::Block, right: T::Block) -> u64 {
+        T::not_equal(left, right)
+    }
+}
+
+/// The left value is below the right one.
+pub(crate) struct IsLess;
+
+impl Test for IsLess {
+    ghost holds = { lt };
+
+    #[inline(always)]
+    fn word<T: FloatLanes>(left: T::Block, right: T::Block) -> u64 {
+        T::less(left, right)
+    }
+}
+
+/// The left value is below the right one or equal to it.
+pub(crate) struct IsLessOrEqual;
+
+impl Test for IsLessOrEqual {
+    ghost holds = { le };
+
+    #[inline(always)]
+    fn word<T: FloatLanes>(left: T::Block, right: T::Block) -> u64 {
+        T::less_or_equal(left, right)
+    }
+}
+
+/// The left value is above the right one.
+pub(crate) struct IsGreater;
+
+impl Test for IsGreater {
+    ghost holds = { λ a b. lt b a };
+
+    #[inline(always)]
+    fn word<T: FloatLanes>(left: T::Block, right: T::Block) -> u64 {
+        T::less(right, left)
+    }
+}
+
+/// The left value is above the right one or equal to it.
+pub(crate) struct IsGreaterOrEqual;
+
+impl Test for IsGreaterOrEqual {
+    ghost holds = { λ a b. le b a };
+
+    #[inline(always)]
+    fn word<T: FloatLanes>(left: T::Block, right: T::Block) -> u64 {
+        T::less_or_equal(right, left)
+    }
+}
