@@ -1,5 +1,5 @@
-//! The calls that are measured, as C functions: the kernels' of crates/vb_c, and those of the
-//! benchmarks' own library, `library/`, which says what each does.
+//! The calls that are measured, as C functions: the kernels' of crates/vb_c and its like, and those
+//! of the benchmarks' own library, `library/`, which says what each does.
 
 use crate::input::Window;
 
@@ -98,9 +98,33 @@ unsafe extern "C" {
     );
     pub fn vb_fill_bits(bytes: *mut u8, size: usize, start: usize, end: usize, value: bool);
     pub fn vb_negate_bits(bytes: *mut u8, size: usize, offset: usize, len: usize);
-    pub fn vb_filter_bits(
+    pub fn vb_and_count(
+        left: Bytes,
+        left_size: usize,
+        l: usize,
+        right: Bytes,
+        right_size: usize,
+        r: usize,
+        len: usize,
+    ) -> usize;
+    pub fn vb_is_subset(
+        left: Bytes,
+        left_size: usize,
+        l: usize,
+        right: Bytes,
+        right_size: usize,
+        r: usize,
+        len: usize,
+    ) -> bool;
+    pub fn vb_next_set(bytes: Bytes, size: usize, offset: usize, len: usize, from: usize) -> Place;
+}
+
+#[link(name = "vb_c_gather", kind = "static")]
+unsafe extern "C" {
+    pub fn vb_filter_bits_at(
         out: *mut u8,
         out_size: usize,
+        o: usize,
         values: Bytes,
         values_size: usize,
         v: usize,
@@ -109,6 +133,10 @@ unsafe extern "C" {
         m: usize,
         len: usize,
     ) -> usize;
+}
+
+#[link(name = "vb_c_values", kind = "static")]
+unsafe extern "C" {
     pub fn vb_filter_u32(
         out: *mut u32,
         room: usize,
@@ -118,6 +146,33 @@ unsafe extern "C" {
         mask_size: usize,
         m: usize,
     ) -> usize;
+}
+
+/// A comparison of values with a number.
+pub type Compare<T> = unsafe extern "C" fn(*mut u8, usize, usize, *const T, usize, u8, T);
+
+macro_rules! compares {
+    ($($name:ident: $value:ty;)*) => {
+        #[link(name = "vb_c_compare", kind = "static")]
+        unsafe extern "C" {
+            $(pub fn $name(
+                out: *mut u8,
+                out_size: usize,
+                o: usize,
+                values: *const $value,
+                many: usize,
+                op: u8,
+                number: $value,
+            );)*
+        }
+    };
+}
+
+compares! {
+    vb_compare_u32: u32;
+    vb_compare_i64: i64;
+    vb_compare_f32: f32;
+    vb_compare_f64: f64;
 }
 
 // The kit's functions for memory stand behind the library that calls them.

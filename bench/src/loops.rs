@@ -147,6 +147,33 @@ pub fn combine(left: (&Input, usize), right: (&Input, usize), len: usize) -> usi
     64 * std::hint::black_box(&made).len()
 }
 
+/// How many bits two windows of whole words have in common.
+#[inline(never)]
+pub fn and_count(left: (&Input, usize), right: (&Input, usize), len: usize) -> usize {
+    let left = realigned(left.0, left.1, len);
+    let right = realigned(right.0, right.1, len);
+    left.zip(right)
+        .map(|(l, r)| (l & r).count_ones() as usize)
+        .sum()
+}
+
+/// Whether the right one of two windows of whole words has all bits of the left one.
+#[inline(never)]
+pub fn is_subset(left: (&Input, usize), right: (&Input, usize), len: usize) -> bool {
+    let left = realigned(left.0, left.1, len);
+    let right = realigned(right.0, right.1, len);
+    left.zip(right).all(|(l, r)| l & !r == 0)
+}
+
+/// Which values are above a limit, eight to a byte.
+#[inline(never)]
+pub fn above<T: PartialOrd + Copy>(out: &mut [u8], values: &[T], limit: T) {
+    for (byte, eight) in out.iter_mut().zip(values.chunks_exact(8)) {
+        let digits = eight.iter().enumerate();
+        *byte = digits.fold(0, |byte, (at, &value)| byte | u8::from(value > limit) << at);
+    }
+}
+
 /// A window of whole words combined into words that begin with it.
 #[inline(never)]
 pub fn combine_in_place(left: &mut [u64], right: (&Input, usize), len: usize) {

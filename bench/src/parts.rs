@@ -2,6 +2,7 @@
 
 mod buffers;
 mod closures;
+mod compared;
 mod copies;
 mod count;
 mod directory;
@@ -9,6 +10,7 @@ mod filters;
 mod growth;
 mod made;
 mod operators;
+mod pairs;
 mod select;
 mod small;
 mod taking;
@@ -43,7 +45,9 @@ pub fn measure(bench: &mut Bench) {
     select::measure(bench);
     walks::measure(bench);
     closures::measure(bench);
+    compared::measure(bench);
     operators::measure(bench);
+    pairs::measure(bench);
     copies::measure(bench);
     made::measure(bench);
     taking::measure(bench);

@@ -29,7 +29,10 @@ pub fn measure(bench: &mut Bench) {
     }
     for share in [0.5, 0.1, 0.001] {
         let mask = &Input::with_set(share, MILLION / 8);
-        bench.row(bits(&Input::random(MILLION / 8), mask).set(share));
+        for offset in [0, 3] {
+            let row = bits(&Input::random(MILLION / 8), mask, offset);
+            bench.row(row.set(share).offsets(&[offset]));
+        }
     }
     for share in [0.5, 0.1, 0.001, 0.9] {
         let mask = &Input::with_set(share, MILLION / 8);
@@ -87,12 +90,13 @@ fn into<'a>(values: &'a [u32], mask: &'a Input) -> Row<'a> {
         .beside(MEMCPY, memcpy(values))
 }
 
-fn bits<'a>(values: &Input, mask: &'a Input) -> Row<'a> {
+/// To the bits from bit `offset` on of memory that is there.
+fn bits<'a>(values: &Input, mask: &'a Input, offset: usize) -> Row<'a> {
     let (values, by) = (
         Input::copied(values.bytes(MILLION / 8)),
         mask.bytes(MILLION / 8),
     );
-    let (from, to) = (values, RefCell::new(vec![0u64; MILLION / 64]));
+    let (from, to) = (values, RefCell::new(vec![0u64; MILLION / 64 + 1]));
     let again = Input::copied(from.bytes(MILLION / 8));
     #[cfg(feature = "upstream")]
     let sets = [&from, mask].map(|it| crate::upstream::set(it.bits(0, MILLION)));
@@ -102,7 +106,7 @@ fn bits<'a>(values: &Input, mask: &'a Input) -> Row<'a> {
         let (out, room) = (out.as_mut_ptr().cast(), 8 * out.len());
         unsafe {
             let (from, mask) = (bytes.as_ptr(), by.as_ptr());
-            calls::vb_filter_bits(out, room, from, size, 0, mask, by.len(), 0, MILLION)
+            calls::vb_filter_bits_at(out, room, offset, from, size, 0, mask, by.len(), 0, MILLION)
         }
     };
     let over = RefCell::new(vec![0u64; MILLION / 64]);

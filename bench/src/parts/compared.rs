@@ -1,0 +1,83 @@
+//! Values compared with a number, into bits.
+
+use std::cell::RefCell;
+
+use super::MILLION;
+use crate::bench::Bench;
+use crate::calls::{self, Compare};
+use crate::input::Random;
+use crate::loops;
+use crate::measure::Contender;
+use crate::row::{LOOP, Row};
+
+/// Above, as the C functions number comparisons.
+const GREATER: u8 = 4;
+
+pub fn measure(bench: &mut Bench) {
+    bench.begin("Comparisons");
+    let mut random = Random(5);
+    let numbers: Vec<u32> = (0..MILLION).map(|_| random.number() as u32).collect();
+    let wide: Vec<i64> = numbers.iter().map(|&it| i64::from(it)).collect();
+    let halves: Vec<f32> = numbers.iter().map(|&it| it as f32).collect();
+    let floats: Vec<f64> = numbers.iter().map(|&it| f64::from(it)).collect();
+    for offset in [0, 3] {
+        for row in [
+            row(
+                "`compare_u32`",
+                &numbers,
+                1 << 31,
+                calls::vb_compare_u32,
+                offset,
+            ),
+            row(
+                "`compare_i64`",
+                &wide,
+                1 << 31,
+                calls::vb_compare_i64,
+                offset,
+            ),
+            row("`compare_f32`", &halves, 2e9, calls::vb_compare_f32, offset),
+            row("`compare_f64`", &floats, 2e9, calls::vb_compare_f64, offset),
+        ] {
+            bench.row(row.at_most(1.2, LOOP));
+        }
+    }
+}
+
+fn row<'a, T: PartialOrd + Copy>(
+    call: &str,
+    values: &'a [T],
+    limit: T,
+    compare: Compare<T>,
+    offset: usize,
+) -> Row<'a>
+where
+    T: 'a,
+{
+    let (to, over) = (vec![0u8; values.len() / 8 + 1], vec![0u8; values.len() / 8]);
+    let (to, over) = (RefCell::new(to), RefCell::new(over));
+    let ours = move || {
+        let out = &mut *to.borrow_mut();
+        let (from, many) = (values.as_ptr(), values.len());
+        unsafe {
+            compare(
+                out.as_mut_ptr(),
+                out.len(),
+                offset,
+                from,
+                many,
+                GREATER,
+                limit,
+            )
+        };
+        0
+    };
+    let plain = move || {
+        loops::above(&mut over.borrow_mut(), values, limit);
+        0
+    };
+    Row::new(call, Contender::of(ours))
+        .items(values.len())
+        .offsets(&[offset])
+        .plain(Contender::of(plain))
+}
