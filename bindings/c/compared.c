@@ -1,10 +1,12 @@
 /*
  * Comparisons of vortex_bits.h beside a loop over values: each function and each comparison over
- * random values near the ends of their type, into random windows, and each checked form with numbers
- * past every limit. It is C and C++ alike.
+ * random values near the ends of their type, of floats with what isn't a number, both infinities
+ * and both zeros, into random windows, and each checked form with numbers past every limit. It is C
+ * and C++ alike.
  */
 #include "vortex_bits.h"
 
+#include <math.h>
 #include <stdio.h>
 #include <string.h>
 
@@ -35,16 +37,33 @@ static void put(uint8_t *bytes, size_t i, bool v)
     bytes[i / 8] = (uint8_t)(v ? bytes[i / 8] | mask : bytes[i / 8] & ~mask);
 }
 
-/* What vb_compare_T and vb_compare_with_T write, and their checked forms, beside a loop. */
-#define COMPARES(T, value)                                                                        \
+/* Some value of a whole number's type. */
+#define WHOLE(T, value)                                                                           \
     static value value_##T(void)                                                                  \
     {                                                                                             \
         const size_t kind = random_below(4);                                                      \
         const uint64_t middle = (uint64_t)1 << (8 * sizeof(value) - 1);                           \
         const uint64_t near = kind == 0 ? 0 : kind == 1 ? middle : random_below(4);               \
         return (value)(near - random_below(3));                                                   \
-    }                                                                                             \
-                                                                                                  \
+    }
+
+/* And of a float's, of which any bits are one. */
+#define FLOAT(T, value)                                                                           \
+    static value value_##T(void)                                                                  \
+    {                                                                                             \
+        static const value some[] = {(value)NAN, -(value)NAN, (value)INFINITY, -(value)INFINITY,  \
+            0, -(value)0.0, 1, -1, (value)1.5};                                                   \
+        const size_t kind = random_below(16);                                                     \
+        value any = kind < sizeof some / sizeof *some ? some[kind] : (value)random_below(3);      \
+        if (kind == 15) {                                                                         \
+            const uint64_t bits = (uint64_t)random_below(SIZE_MAX);                               \
+            memcpy(&any, &bits, sizeof any);                                                      \
+        }                                                                                         \
+        return any;                                                                               \
+    }
+
+/* What vb_compare_T and vb_compare_with_T write, and their checked forms, beside a loop. */
+#define COMPARES(T, value)                                                                        \
     static bool holds_##T(uint8_t op, value a, value b)                                           \
     {                                                                                             \
         return op == VB_EQUAL ? a == b : op == VB_NOT_EQUAL ? a != b : op == VB_LESS ? a < b      \
@@ -84,10 +103,14 @@ static void put(uint8_t *bytes, size_t i, bool v)
             "what stands after a refusal");                                                       \
     }
 
-#define ALL(X)                                                                                    \
+#define NUMBERS(X)                                                                                \
     X(u8, uint8_t) X(u16, uint16_t) X(u32, uint32_t) X(u64, uint64_t) X(i8, int8_t)               \
     X(i16, int16_t) X(i32, int32_t) X(i64, int64_t)
+#define FLOATS(X) X(f32, float) X(f64, double)
+#define ALL(X) NUMBERS(X) FLOATS(X)
 
+NUMBERS(WHOLE)
+FLOATS(FLOAT)
 ALL(COMPARES)
 
 #define RUN(T, value) compares_##T();

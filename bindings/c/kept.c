@@ -86,6 +86,24 @@ static void combined_counts(const uint8_t *left, size_t l, const uint8_t *right,
     }
 }
 
+/* Whether none is true in both, and all of the left ones are true on the right. */
+static void relations(const uint8_t *left, size_t l, const uint8_t *right, size_t r, size_t len)
+{
+    const bool disjoint = vb_and_count(left, BYTES, l, right, BYTES, r, len) == 0;
+    const bool subset = vb_and_not_count(left, BYTES, l, right, BYTES, r, len) == 0;
+    bool checked[2] = {!disjoint, !subset};
+    check(vb_is_disjoint(left, BYTES, l, right, BYTES, r, len) == disjoint, "vb_is_disjoint");
+    check(vb_is_subset(left, BYTES, l, right, BYTES, r, len) == subset, "vb_is_subset");
+    check(vb_try_is_disjoint(left, BYTES, l, right, BYTES, r, len, &checked[0])
+            && vb_try_is_subset(left, BYTES, l, right, BYTES, r, len, &checked[1])
+            && checked[0] == disjoint && checked[1] == subset, "the checked relations");
+    check(!vb_try_is_disjoint(left, BYTES, BITS + 1 - len, right, BYTES, r, len, &checked[0])
+            && !vb_try_is_subset(left, BYTES, l, right, BYTES, SIZE_MAX, len + 1, &checked[1])
+            && checked[0] == disjoint && checked[1] == subset, "a bad window of a relation");
+    check(vb_is_subset(left, BYTES, l, left, BYTES, l, len)
+            && vb_is_disjoint(left, BYTES, l, right, BYTES, r, 0), "relations that always hold");
+}
+
 /* Bits that go back to the places of a mask, into a window whose other bits stay. */
 static void deposits(const uint8_t *bytes, size_t v, const uint8_t *mask, size_t m, size_t len,
     size_t ones)
@@ -165,6 +183,7 @@ static void filters(const uint8_t *bytes, size_t v, const uint8_t *mask, size_t 
     check(memcmp(got[0], kept, BYTES) == 0 && memcmp(got[1], kept, BYTES) == 0, "bits that are kept");
     deposits(bytes, v, mask, m, len, ones);
     combined_counts(bytes, v, mask, m, len);
+    relations(bytes, v, mask, m, len);
     for (size_t k = 0; k < 2 && ones < BITS; k++) {
         check(u8[k][ones] == 0xA5 && u16[k][ones] == 0xA5A5 && u32[k][ones] == 0xA5A5A5A5u
                 && u64[k][ones] == 0xA5A5A5A5A5A5A5A5u

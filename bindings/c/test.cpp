@@ -205,6 +205,47 @@ static void pairs()
     refused([&] { window.deposit_of(right, left); }, "too many bits");
 }
 
+static void joins()
+{
+    const buffer some = {0xB6, 0x01}, others = {0x1E, 0x00};
+    const bits values(some, 1, 8), mask(others, 0, 8);
+    buffer out = {0x00, 0xFF, 0xFF};
+    bits_mut window(out, 5, 14);
+    std::size_t rows = window.filter_of(values, mask);
+    rows += window.slice(rows, 14 - rows).filter_of(mask, values);
+    check(rows == 10 && out[0] == 0xA0 && out[1] == 0x9D, "batches that are joined");
+    check(!window.slice(10, 3).take_of(values, std::array<std::int8_t, 3>{0, 2, 7}), "a take");
+    check(out[1] == 0x9D && out[2] == 0xFE, "what it wrote, and the bits beside it");
+    check(window.take_of(values, std::array<std::int8_t, 2>{0, -1}, bits(others, 1, 2))
+            == std::optional<std::size_t>(1), "a negative index");
+    check(!window.take_of(values, std::array<std::int8_t, 2>{0, -1}, bits(others, 4, 2)),
+        "a negative index of no use");
+    check(out[0] == 0xA0, "what the last take wrote");
+    window.slice(0, 3).copy_from_bools(std::array<bool, 3>{true, false, true});
+    check(out[0] == 0xA0, "bools at an offset");
+    window.slice(0, 3).copy_from_truthy(buffer{0, 7, 255});
+    check(out[0] == 0xC0, "bytes at an offset");
+    refused([&] { (void)window.slice(0, 3).filter_of(values, mask); }, "no room");
+    refused([&] { (void)window.filter_of(values, bits(others, 0, 7)); }, "two lengths");
+    refused([&] { (void)window.take_of(values, std::vector<std::uint16_t>(15)); }, "no room");
+    refused([&] { (void)window.take_of(values, std::vector<std::uint16_t>(2), mask); },
+        "a long validity");
+    refused([&] { window.copy_from_truthy(buffer(13)); }, "too few bytes");
+}
+
+static void nearest()
+{
+    const buffer some = {0xB6, 0x01};
+    const bits window(some, 1, 8);
+    check(window.next_set(2) == std::optional<std::size_t>(3), "the next true bit");
+    check(window.next_unset(3) == std::optional<std::size_t>(5), "the next false bit");
+    check(window.previous_set(3) == std::optional<std::size_t>(1), "the true bit before");
+    check(window.previous_unset(99) == std::optional<std::size_t>(5), "the last false bit");
+    check(!window.next_set(8) && !window.previous_set(0), "no bit");
+    check(window.any() && !window.all() && bits(some, 1, 2).all() && !bits(some, 3, 1).any(),
+        "any and all");
+}
+
 static void comparisons()
 {
     const std::vector<std::int16_t> ages = {19, 64, -7, 30}, limits = {20, 20, -7, 40};
@@ -213,6 +254,14 @@ static void comparisons()
     check(out[0] == 0xFB, "values above a number");
     vortex_bits::compare_with(ages, VB_LESS_OR_EQUAL, limits, bits_mut(out, 1, 4));
     check(out[0] == 0xFB, "values up to others");
+    const std::vector<double> prices = {1.5, std::numeric_limits<double>::quiet_NaN(), -0.0, 9.0};
+    vortex_bits::compare(prices, VB_GREATER_OR_EQUAL, 0.0, bits_mut(out, 0, 4));
+    check(out[0] == 0xFD, "doubles from zero on");
+    vortex_bits::compare_with(prices, VB_NOT_EQUAL, prices, bits_mut(out, 0, 4));
+    check(out[0] == 0xF2, "doubles that are no number");
+    const std::array<float, 2> halves = {0.5f, 0.25f};
+    vortex_bits::compare(halves, VB_LESS, 0.5f, bits_mut(out, 6, 2));
+    check(out[0] == 0xB2, "a float below a number");
     refused([&] { vortex_bits::compare(ages, VB_LESS, 1, bits_mut(out, 0, 5)); }, "too many bits");
     refused([&] { vortex_bits::compare(ages, 6, 1, bits_mut(out, 0, 4)); }, "no comparison");
     refused([&] { vortex_bits::compare_with(ages, VB_LESS, std::vector<std::int16_t>(3),
@@ -367,6 +416,8 @@ int main()
     takes();
     filters();
     pairs();
+    joins();
+    nearest();
     comparisons();
     values_at_indices();
     refusals();

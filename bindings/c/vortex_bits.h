@@ -8,9 +8,9 @@
  *     cc -O2 app.c $(pkg-config --cflags --libs vortex_bits)
  *
  * The last is the shared library. A checkout has this file in bindings/c, and the libraries in
- * bindings/out once bindings/run has made them. vortex_bits_values.h and vortex_bits_compare.h
- * beside it, which this file includes, have what is done with values; vortex_bits.hpp has the
- * windows as C++ classes.
+ * bindings/out once bindings/run has made them. Beside it, and included by it, vortex_bits_gather.h
+ * has bits put together of others, vortex_bits_values.h and vortex_bits_compare.h what is done with
+ * values; vortex_bits.hpp has the windows as C++ classes.
  *
  * libvortex_bits.a and libvortex_bits.so have code for x86-64-v2 and for x86-64-v3, and take the
  * higher one that the processor has. libvortex_bits_x86-64-v2.a and libvortex_bits_x86-64-v3.a have
@@ -36,8 +36,8 @@
  *
  * Proved are the functions of each level. Written by hand, and tested, is what stands before them:
  * a null pointer is made one that they accept; the level is chosen; vb_set_indices, vb_set_slices
- * and their checked forms go by pages of memory, and join runs that reach over their ends;
- * vb_pack_bools is vb_pack_truthy of the same bytes. So are the classes of vortex_bits.hpp.
+ * and their checked forms go by pages of memory, and join runs that reach over their ends; bools
+ * are packed as bytes; vb_filter_values and vb_take_values choose by sizes. So are C++'s classes.
  */
 #ifndef VORTEX_BITS_H
 #define VORTEX_BITS_H
@@ -71,11 +71,25 @@ typedef struct {
     size_t end;
 } vb_run;
 
-/* Bit `place`, which lies in the bytes. */
+/*
+ * Bit `place`, which lies in the bytes.
+ *
+ *     const uint8_t rows[] = {0xE8, 0x06};
+ *     bool bit;
+ *     assert(vb_get_bit(rows, 2, 3) && vb_try_get_bit(rows, 2, 4, &bit) && !bit);
+ *     assert(!vb_try_get_bit(rows, 2, 16, &bit));
+ */
 bool vb_get_bit(const uint8_t *bytes, size_t size, size_t place);
 VB_CHECKED bool vb_try_get_bit(const uint8_t *bytes, size_t size, size_t place, bool *bit);
 
-/* How many bits of the window are true. It reads the bytes once, 64 at a time. */
+/*
+ * How many bits of the window are true. It reads the bytes once, 64 at a time.
+ *
+ *     const uint8_t rows[] = {0xE8, 0x06};
+ *     size_t ones;
+ *     assert(vb_count_ones(rows, 2, 3, 10) == 6);
+ *     assert(!vb_try_count_ones(rows, 2, 3, 14, &ones));    // they end behind the bytes
+ */
 size_t vb_count_ones(const uint8_t *bytes, size_t size, size_t offset, size_t len);
 VB_CHECKED bool vb_try_count_ones(const uint8_t *bytes, size_t size, size_t offset, size_t len,
         size_t *ones);
@@ -83,6 +97,12 @@ VB_CHECKED bool vb_try_count_ones(const uint8_t *bytes, size_t size, size_t offs
 /*
  * How many bits of two windows are true where both are (and), where one is (or), where one alone is
  * (xor), and of the left one alone (and_not). Each window is read once, and nothing is written.
+ *
+ *     const uint8_t left[] = {0x0C}, right[] = {0x0A};
+ *     assert(vb_and_count(left, 1, 0, right, 1, 0, 4) == 1);
+ *     assert(vb_or_count(left, 1, 0, right, 1, 0, 4) == 3);
+ *     assert(vb_xor_count(left, 1, 0, right, 1, 0, 4) == 2);
+ *     assert(vb_and_not_count(left, 1, 0, right, 1, 0, 4) == 1);
  */
 size_t vb_and_count(const uint8_t *left, size_t left_size, size_t left_offset,
         const uint8_t *right, size_t right_size, size_t right_offset, size_t len);
@@ -104,12 +124,21 @@ VB_CHECKED bool vb_try_and_not_count(const uint8_t *left, size_t left_size, size
 /*
  * The place within the window of its n-th true bit, counted from 0; none where there are at most
  * n. It counts from the front, 64 bytes at a time, up to the bytes that have it.
+ *
+ *     const uint8_t rows[] = {0xE8, 0x06};
+ *     const vb_place third = vb_bit_select(rows, 2, 3, 10, 2);
+ *     assert(third.found && third.index == 3);
  */
 vb_place vb_bit_select(const uint8_t *bytes, size_t size, size_t offset, size_t len, size_t n);
 VB_CHECKED bool vb_try_bit_select(const uint8_t *bytes, size_t size, size_t offset, size_t len,
         size_t n, vb_place *place);
 
-/* The same of the n-th false bit. */
+/*
+ * The same of the n-th false bit.
+ *
+ *     const uint8_t rows[] = {0xE8, 0x06};
+ *     assert(vb_bit_select_unset(rows, 2, 3, 10, 0).index == 1);
+ */
 vb_place vb_bit_select_unset(const uint8_t *bytes, size_t size, size_t offset, size_t len,
         size_t n);
 VB_CHECKED bool vb_try_bit_select_unset(const uint8_t *bytes, size_t size, size_t offset,
@@ -118,14 +147,68 @@ VB_CHECKED bool vb_try_bit_select_unset(const uint8_t *bytes, size_t size, size_
 /*
  * The place within the window of its last true bit; none where all are false. It reads from the
  * end, eight bytes at a time.
+ *
+ *     const uint8_t rows[] = {0xE8, 0x06};
+ *     assert(vb_last_set_index(rows, 2, 3, 10).index == 7);
  */
 vb_place vb_last_set_index(const uint8_t *bytes, size_t size, size_t offset, size_t len);
 VB_CHECKED bool vb_try_last_set_index(const uint8_t *bytes, size_t size, size_t offset, size_t len,
         vb_place *place);
 
 /*
+ * The place within the window of its first true bit from place `from` on, and of its first false
+ * one; none where there is none, as there is none from the end on. It reads up to the word that has
+ * it, four words at once.
+ *
+ *     const uint8_t rows[] = {0xE8, 0x06};
+ *     assert(vb_next_set(rows, 2, 3, 10, 5).index == 6);
+ *     assert(vb_next_unset(rows, 2, 3, 10, 2).index == 5);
+ */
+vb_place vb_next_set(const uint8_t *bytes, size_t size, size_t offset, size_t len, size_t from);
+VB_CHECKED bool vb_try_next_set(const uint8_t *bytes, size_t size, size_t offset, size_t len,
+        size_t from, vb_place *place);
+vb_place vb_next_unset(const uint8_t *bytes, size_t size, size_t offset, size_t len, size_t from);
+VB_CHECKED bool vb_try_next_unset(const uint8_t *bytes, size_t size, size_t offset, size_t len,
+        size_t from, vb_place *place);
+
+/*
+ * The place within the window of its last true bit before place `before`, and of its last false
+ * one; none where there is none. From the end on each place has all bits before it. It reads to the
+ * front, eight words at once.
+ *
+ *     const uint8_t rows[] = {0xE8, 0x06};
+ *     assert(vb_previous_set(rows, 2, 3, 10, 6).index == 4);
+ *     assert(vb_previous_unset(rows, 2, 3, 10, 5).index == 1);
+ */
+vb_place vb_previous_set(const uint8_t *bytes, size_t size, size_t offset, size_t len,
+        size_t before);
+VB_CHECKED bool vb_try_previous_set(const uint8_t *bytes, size_t size, size_t offset, size_t len,
+        size_t before, vb_place *place);
+vb_place vb_previous_unset(const uint8_t *bytes, size_t size, size_t offset, size_t len,
+        size_t before);
+VB_CHECKED bool vb_try_previous_unset(const uint8_t *bytes, size_t size, size_t offset, size_t len,
+        size_t before, vb_place *place);
+
+/*
+ * Whether one of the bits is true, as none is of no bits, and whether all are, as all are of no
+ * bits. It reads up to the first one that tells, four words at once.
+ *
+ *     const uint8_t rows[] = {0xE8, 0x06};
+ *     assert(vb_any_set(rows, 2, 3, 10) && vb_all_set(rows, 2, 5, 3));
+ */
+bool vb_any_set(const uint8_t *bytes, size_t size, size_t offset, size_t len);
+VB_CHECKED bool vb_try_any_set(const uint8_t *bytes, size_t size, size_t offset, size_t len,
+        bool *any);
+bool vb_all_set(const uint8_t *bytes, size_t size, size_t offset, size_t len);
+VB_CHECKED bool vb_try_all_set(const uint8_t *bytes, size_t size, size_t offset, size_t len,
+        bool *all);
+
+/*
  * Whether the `len` bits of `left` from bit `left_offset` on are those of `right` from bit
  * `right_offset` on. No block of 512 bytes behind the one with the first difference is read.
+ *
+ *     const uint8_t rows[] = {0xE8, 0x06};
+ *     assert(vb_equal_bits(rows, 2, 5, rows, 2, 9, 2));
  */
 bool vb_equal_bits(const uint8_t *left, size_t left_size, size_t left_offset, const uint8_t *right,
         size_t right_size, size_t right_offset, size_t len);
@@ -133,9 +216,30 @@ VB_CHECKED bool vb_try_equal_bits(const uint8_t *left, size_t left_size, size_t 
         const uint8_t *right, size_t right_size, size_t right_offset, size_t len, bool *equal);
 
 /*
+ * Whether no bit is true in both windows, and whether each that is true in the left one is true in
+ * the right one; of no bits both hold. It reads up to the first word that tells.
+ *
+ *     const uint8_t left[] = {0x0C}, right[] = {0x0E};
+ *     assert(vb_is_subset(left, 1, 0, right, 1, 0, 4));
+ *     assert(vb_is_disjoint(left, 1, 0, right, 1, 4, 4));
+ */
+bool vb_is_disjoint(const uint8_t *left, size_t left_size, size_t left_offset, const uint8_t *right,
+        size_t right_size, size_t right_offset, size_t len);
+VB_CHECKED bool vb_try_is_disjoint(const uint8_t *left, size_t left_size, size_t left_offset,
+        const uint8_t *right, size_t right_size, size_t right_offset, size_t len, bool *disjoint);
+bool vb_is_subset(const uint8_t *left, size_t left_size, size_t left_offset, const uint8_t *right,
+        size_t right_size, size_t right_offset, size_t len);
+VB_CHECKED bool vb_try_is_subset(const uint8_t *left, size_t left_size, size_t left_offset,
+        const uint8_t *right, size_t right_size, size_t right_offset, size_t len, bool *subset);
+
+/*
  * Writes the places of the true bits, in ascending order, to the front of `out`, as many as have
  * room, and answers (`count`) how many these are. No page of memory is read behind that of the last
  * one that has room.
+ *
+ *     const uint8_t rows[] = {0xE8, 0x06};
+ *     size_t places[4];
+ *     assert(vb_set_indices(rows, 2, 3, 10, places, 4) == 4 && places[3] == 4);
  */
 size_t vb_set_indices(const uint8_t *bytes, size_t size, size_t offset, size_t len, size_t *out,
         size_t room);
@@ -146,6 +250,11 @@ VB_CHECKED bool vb_try_set_indices(const uint8_t *bytes, size_t size, size_t off
  * Writes the runs of true bits, from front to end, each as long as can be, to the front of `out`,
  * as many as have room, and answers (`count`) how many these are. No page of memory is read behind
  * that of the end of the last one that has room.
+ *
+ *     const uint8_t rows[] = {0xE8, 0x06};
+ *     vb_run runs[4];
+ *     assert(vb_set_slices(rows, 2, 3, 10, runs, 4) == 3);
+ *     assert(runs[1].start == 2 && runs[1].end == 5);
  */
 size_t vb_set_slices(const uint8_t *bytes, size_t size, size_t offset, size_t len, vb_run *out,
         size_t room);
@@ -156,11 +265,21 @@ VB_CHECKED bool vb_try_set_slices(const uint8_t *bytes, size_t size, size_t offs
  * Makes the bits from `start` up to `end`, end excluded, `value`; nothing where start >= end. `end`
  * is at most 8 * size. Whole bytes go by a block fill. One bit is made `value` by its place and
  * that behind it.
+ *
+ *     uint8_t rows[] = {0x00, 0xFF};
+ *     vb_fill_bits(rows, 2, 3, 5, true);
+ *     assert(rows[0] == 0x18 && rows[1] == 0xFF);
  */
 void vb_fill_bits(uint8_t *bytes, size_t size, size_t start, size_t end, bool value);
 VB_CHECKED bool vb_try_fill_bits(uint8_t *bytes, size_t size, size_t start, size_t end, bool value);
 
-/* Negates each bit of the window, 32 bytes at a time. */
+/*
+ * Negates each bit of the window, 32 bytes at a time.
+ *
+ *     uint8_t rows[] = {0x0F};
+ *     vb_negate_bits(rows, 1, 2, 4);
+ *     assert(rows[0] == 0x33);
+ */
 void vb_negate_bits(uint8_t *bytes, size_t size, size_t offset, size_t len);
 VB_CHECKED bool vb_try_negate_bits(uint8_t *bytes, size_t size, size_t offset, size_t len);
 
@@ -168,6 +287,11 @@ VB_CHECKED bool vb_try_negate_bits(uint8_t *bytes, size_t size, size_t offset, s
  * Copies the `len` bits of `src` from bit `src_offset` on to the bits of `dst` from bit
  * `dst_offset` on, by words at any two offsets. The bytes of the two do not overlap, also where
  * their windows don't.
+ *
+ *     uint8_t rows[] = {0x00};
+ *     const uint8_t more[] = {0x1B};
+ *     vb_copy_bits(rows, 1, 3, more, 1, 1, 4);
+ *     assert(rows[0] == 0x68);
  */
 void vb_copy_bits(uint8_t *dst, size_t dst_size, size_t dst_offset, const uint8_t *src,
         size_t src_size, size_t src_offset, size_t len);
@@ -177,25 +301,51 @@ VB_CHECKED bool vb_try_copy_bits(uint8_t *dst, size_t dst_size, size_t dst_offse
 /*
  * Makes each of the `len` bits of `dst` from bit `dst_offset` on true where it is true and that of
  * `src` from bit `src_offset` on is, by words at any two offsets.
+ *
+ *     uint8_t dst[] = {0xFC};
+ *     const uint8_t src[] = {0x0A};
+ *     vb_and_bits(dst, 1, 0, src, 1, 0, 4);
+ *     assert(dst[0] == 0xF8);
  */
 void vb_and_bits(uint8_t *dst, size_t dst_size, size_t dst_offset, const uint8_t *src,
         size_t src_size, size_t src_offset, size_t len);
 VB_CHECKED bool vb_try_and_bits(uint8_t *dst, size_t dst_size, size_t dst_offset,
         const uint8_t *src, size_t src_size, size_t src_offset, size_t len);
 
-/* The same: true where one of them is true, or both are. */
+/*
+ * The same: true where one of them is true, or both are.
+ *
+ *     uint8_t dst[] = {0x0C};
+ *     const uint8_t src[] = {0x0A};
+ *     vb_or_bits(dst, 1, 0, src, 1, 0, 4);
+ *     assert(dst[0] == 0x0E);
+ */
 void vb_or_bits(uint8_t *dst, size_t dst_size, size_t dst_offset, const uint8_t *src,
         size_t src_size, size_t src_offset, size_t len);
 VB_CHECKED bool vb_try_or_bits(uint8_t *dst, size_t dst_size, size_t dst_offset, const uint8_t *src,
         size_t src_size, size_t src_offset, size_t len);
 
-/* The same: true where one of them is true, and not both. */
+/*
+ * The same: true where one of them is true, and not both.
+ *
+ *     uint8_t dst[] = {0x0C};
+ *     const uint8_t src[] = {0x0A};
+ *     vb_xor_bits(dst, 1, 0, src, 1, 0, 4);
+ *     assert(dst[0] == 0x06);
+ */
 void vb_xor_bits(uint8_t *dst, size_t dst_size, size_t dst_offset, const uint8_t *src,
         size_t src_size, size_t src_offset, size_t len);
 VB_CHECKED bool vb_try_xor_bits(uint8_t *dst, size_t dst_size, size_t dst_offset,
         const uint8_t *src, size_t src_size, size_t src_offset, size_t len);
 
-/* The same: true where that of `dst` is true and that of `src` is not. */
+/*
+ * The same: true where that of `dst` is true and that of `src` is not.
+ *
+ *     uint8_t dst[] = {0xFC};
+ *     const uint8_t src[] = {0x0A};
+ *     vb_and_not_bits(dst, 1, 0, src, 1, 0, 4);
+ *     assert(dst[0] == 0xF4);
+ */
 void vb_and_not_bits(uint8_t *dst, size_t dst_size, size_t dst_offset, const uint8_t *src,
         size_t src_size, size_t src_offset, size_t len);
 VB_CHECKED bool vb_try_and_not_bits(uint8_t *dst, size_t dst_size, size_t dst_offset,
@@ -205,6 +355,11 @@ VB_CHECKED bool vb_try_and_not_bits(uint8_t *dst, size_t dst_size, size_t dst_of
  * Makes each of the `len` bits of `out` from bit `out_offset` on true where that of `left` from bit
  * `left_offset` on is true and that of `right` from bit `right_offset` on is. `left` and `right`
  * may overlap.
+ *
+ *     uint8_t out[] = {0xFF};
+ *     const uint8_t left[] = {0x0C}, right[] = {0x0A};
+ *     vb_and_into(out, 1, 2, left, 1, 0, right, 1, 0, 4);
+ *     assert(out[0] == 0xE3);
  */
 void vb_and_into(uint8_t *out, size_t out_size, size_t out_offset, const uint8_t *left,
         size_t left_size, size_t left_offset, const uint8_t *right, size_t right_size,
@@ -213,7 +368,14 @@ VB_CHECKED bool vb_try_and_into(uint8_t *out, size_t out_size, size_t out_offset
         const uint8_t *left, size_t left_size, size_t left_offset, const uint8_t *right,
         size_t right_size, size_t right_offset, size_t len);
 
-/* The same: true where one of the two is true, or both are. */
+/*
+ * The same: true where one of the two is true, or both are.
+ *
+ *     uint8_t out[] = {0};
+ *     const uint8_t left[] = {0x0C}, right[] = {0x0A};
+ *     vb_or_into(out, 1, 0, left, 1, 0, right, 1, 0, 4);
+ *     assert(out[0] == 0x0E);
+ */
 void vb_or_into(uint8_t *out, size_t out_size, size_t out_offset, const uint8_t *left,
         size_t left_size, size_t left_offset, const uint8_t *right, size_t right_size,
         size_t right_offset, size_t len);
@@ -221,7 +383,14 @@ VB_CHECKED bool vb_try_or_into(uint8_t *out, size_t out_size, size_t out_offset,
         const uint8_t *left, size_t left_size, size_t left_offset, const uint8_t *right,
         size_t right_size, size_t right_offset, size_t len);
 
-/* The same: true where one of the two is true, and not both. */
+/*
+ * The same: true where one of the two is true, and not both.
+ *
+ *     uint8_t out[] = {0};
+ *     const uint8_t left[] = {0x0C}, right[] = {0x0A};
+ *     vb_xor_into(out, 1, 0, left, 1, 0, right, 1, 0, 4);
+ *     assert(out[0] == 0x06);
+ */
 void vb_xor_into(uint8_t *out, size_t out_size, size_t out_offset, const uint8_t *left,
         size_t left_size, size_t left_offset, const uint8_t *right, size_t right_size,
         size_t right_offset, size_t len);
@@ -229,7 +398,28 @@ VB_CHECKED bool vb_try_xor_into(uint8_t *out, size_t out_size, size_t out_offset
         const uint8_t *left, size_t left_size, size_t left_offset, const uint8_t *right,
         size_t right_size, size_t right_offset, size_t len);
 
-/* The same: true where that of `left` is true and that of `right` is not. */
+/*
+ * The same: true where that of `left` is true and that of `right` is not.
+ *
+ *     uint8_t out[] = {0};
+ *     const uint8_t left[] = {0x0C}, right[] = {0x0A};
+ *     vb_and_not_into(out, 1, 0, left, 1, 0, right, 1, 0, 4);
+ *     assert(out[0] == 0x04);
+ *
+ * With it goes three-valued `and` of a and b, of which some are null: true where both are, false
+ * where one of them is, and null elsewhere.
+ *
+ *     const uint8_t a[] = {0x03}, a_valid[] = {0x07}, b[] = {0x05}, b_valid[] = {0x0D};
+ *     uint8_t trues[1] = {0}, falses[1] = {0}, valid[1] = {0};
+ *     vb_and_into(trues, 1, 0, a, 1, 0, a_valid, 1, 0, 4);
+ *     vb_and_bits(trues, 1, 0, b, 1, 0, 4);
+ *     vb_and_bits(trues, 1, 0, b_valid, 1, 0, 4);
+ *     vb_and_not_into(valid, 1, 0, a_valid, 1, 0, a, 1, 0, 4);
+ *     vb_and_not_into(falses, 1, 0, b_valid, 1, 0, b, 1, 0, 4);
+ *     vb_or_bits(valid, 1, 0, falses, 1, 0, 4);
+ *     vb_or_bits(valid, 1, 0, trues, 1, 0, 4);
+ *     assert(trues[0] == 0x01 && valid[0] == 0x0D);
+ */
 void vb_and_not_into(uint8_t *out, size_t out_size, size_t out_offset, const uint8_t *left,
         size_t left_size, size_t left_offset, const uint8_t *right, size_t right_size,
         size_t right_offset, size_t len);
@@ -238,81 +428,15 @@ VB_CHECKED bool vb_try_and_not_into(uint8_t *out, size_t out_size, size_t out_of
         size_t right_size, size_t right_offset, size_t len);
 
 /*
- * Packs `count` truth values into the first bytes of `out`, eight into each; the bits of the last
- * one behind them are false, and later bytes stay. `out` has room for as many bits. A `bool` is a
- * byte 0 or 1, as the compiler makes it: another one, written through a pointer, counts as true.
- */
-void vb_pack_bools(uint8_t *out, size_t out_size, const bool *bools, size_t count);
-VB_CHECKED bool vb_try_pack_bools(uint8_t *out, size_t out_size, const bool *bools, size_t count);
-
-/* The same of bytes, each of which is true where it is not 0. */
-void vb_pack_truthy(uint8_t *out, size_t out_size, const uint8_t *truthy, size_t count);
-VB_CHECKED bool vb_try_pack_truthy(uint8_t *out, size_t out_size, const uint8_t *truthy,
-        size_t count);
-
-/*
- * Writes the bits that the indices name among those of the window to the first bits of `out`, which
- * has room for one each, and answers no place; or answers the first position whose index is not
- * below `len`. The bits of `out` behind these stay; where a position is answered, these hold
- * anything. The checked forms answer that in `past`. 64 indices go at a time.
- */
-vb_place vb_take_u32(uint8_t *out, size_t out_size, const uint8_t *bytes, size_t size,
-        size_t offset, size_t len, const uint32_t *indices, size_t index_count);
-VB_CHECKED bool vb_try_take_u32(uint8_t *out, size_t out_size, const uint8_t *bytes, size_t size,
-        size_t offset, size_t len, const uint32_t *indices, size_t index_count, vb_place *past);
-vb_place vb_take_u64(uint8_t *out, size_t out_size, const uint8_t *bytes, size_t size,
-        size_t offset, size_t len, const uint64_t *indices, size_t index_count);
-VB_CHECKED bool vb_try_take_u64(uint8_t *out, size_t out_size, const uint8_t *bytes, size_t size,
-        size_t offset, size_t len, const uint64_t *indices, size_t index_count, vb_place *past);
-
-/*
- * The same where a position counts only if the bit of `validity` from bit `validity_offset` on is
- * true there: at the others false is written, and their indices are not looked at.
- */
-vb_place vb_take_valid_u32(uint8_t *out, size_t out_size, const uint8_t *bytes, size_t size,
-        size_t offset, size_t len, const uint32_t *indices, size_t index_count,
-        const uint8_t *validity, size_t validity_size, size_t validity_offset);
-VB_CHECKED bool vb_try_take_valid_u32(uint8_t *out, size_t out_size, const uint8_t *bytes,
-        size_t size, size_t offset, size_t len, const uint32_t *indices, size_t index_count,
-        const uint8_t *validity, size_t validity_size, size_t validity_offset, vb_place *past);
-vb_place vb_take_valid_u64(uint8_t *out, size_t out_size, const uint8_t *bytes, size_t size,
-        size_t offset, size_t len, const uint64_t *indices, size_t index_count,
-        const uint8_t *validity, size_t validity_size, size_t validity_offset);
-VB_CHECKED bool vb_try_take_valid_u64(uint8_t *out, size_t out_size, const uint8_t *bytes,
-        size_t size, size_t offset, size_t len, const uint64_t *indices, size_t index_count,
-        const uint8_t *validity, size_t validity_size, size_t validity_offset, vb_place *past);
-
-/*
- * Writes those of the `len` bits of `values` from bit `values_offset` on whose bit of `mask` from
- * bit `mask_offset` on is true, in order, to the first bits of `out`, which has room for them, and
- * answers (`written`) how many these are. The bits of `out` behind them stay. The checked form
- * tests the room too. 64 bits go at a time.
- */
-size_t vb_filter_bits(uint8_t *out, size_t out_size, const uint8_t *values, size_t values_size,
-        size_t values_offset, const uint8_t *mask, size_t mask_size, size_t mask_offset,
-        size_t len);
-VB_CHECKED bool vb_try_filter_bits(uint8_t *out, size_t out_size, const uint8_t *values,
-        size_t values_size, size_t values_offset, const uint8_t *mask, size_t mask_size,
-        size_t mask_offset, size_t len, size_t *written);
-
-/*
- * Undoes vb_filter_bits: writes `len` bits to `out` from bit `out_offset` on, which are those of
- * `values` from bit `values_offset` on, in order, where the bit of `mask` from bit `mask_offset` on
- * is true, and false elsewhere. `values` has a bit for each true one of the mask, which the checked
- * form counts. Every other bit of `out` stays.
- */
-void vb_deposit_bits(uint8_t *out, size_t out_size, size_t out_offset, const uint8_t *values,
-        size_t values_size, size_t values_offset, const uint8_t *mask, size_t mask_size,
-        size_t mask_offset, size_t len);
-VB_CHECKED bool vb_try_deposit_bits(uint8_t *out, size_t out_size, size_t out_offset,
-        const uint8_t *values, size_t values_size, size_t values_offset, const uint8_t *mask,
-        size_t mask_size, size_t mask_offset, size_t len);
-
-/*
  * Ranks over a table that the caller keeps: it has, for each block of 512 bits of the window, how
  * many true bits are before it, which is ceil(len / 512) numbers. Writes these to the front of
  * `table`, as many as have room, and answers (`written`) how many these are. It counts the bits
  * once.
+ *
+ *     uint8_t rows[128];
+ *     memset(rows, 0x11, sizeof rows);
+ *     size_t table[2];
+ *     assert(vb_block_counts(rows, 128, 0, 1024, table, 2) == 2 && table[1] == 128);
  */
 size_t vb_block_counts(const uint8_t *bytes, size_t size, size_t offset, size_t len, size_t *table,
         size_t room);
@@ -324,6 +448,11 @@ VB_CHECKED bool vb_try_block_counts(const uint8_t *bytes, size_t size, size_t of
  * `len`. Here and below the table has exactly ceil(len / 512) entries, which the checked forms
  * test; that they are those of vb_block_counts they cannot test: of other ones the answer says
  * nothing, and does no harm.
+ *
+ *     uint8_t rows[128];
+ *     memset(rows, 0x11, sizeof rows);
+ *     const size_t table[2] = {0, 128};    // of vb_block_counts
+ *     assert(vb_rank(rows, 128, 0, 1024, table, 2, 601) == 151);
  */
 size_t vb_rank(const uint8_t *bytes, size_t size, size_t offset, size_t len, const size_t *table,
         size_t entries, size_t place);
@@ -333,6 +462,12 @@ VB_CHECKED bool vb_try_rank(const uint8_t *bytes, size_t size, size_t offset, si
 /*
  * The place of the n-th true bit of the window, and of its n-th false bit, by halves of the table
  * and within one block.
+ *
+ *     uint8_t rows[128];
+ *     memset(rows, 0x11, sizeof rows);
+ *     const size_t table[2] = {0, 128};
+ *     assert(vb_ranked_select(rows, 128, 0, 1024, table, 2, 151).index == 604);
+ *     assert(vb_ranked_select_unset(rows, 128, 0, 1024, table, 2, 3).index == 5);
  */
 vb_place vb_ranked_select(const uint8_t *bytes, size_t size, size_t offset, size_t len,
         const size_t *table, size_t entries, size_t n);
@@ -343,7 +478,11 @@ vb_place vb_ranked_select_unset(const uint8_t *bytes, size_t size, size_t offset
 VB_CHECKED bool vb_try_ranked_select_unset(const uint8_t *bytes, size_t size, size_t offset,
         size_t len, const size_t *table, size_t entries, size_t n, vb_place *place);
 
-/* The processor level of the code that calls run: "x86-64-v2", say. */
+/*
+ * The processor level of the code that calls run: "x86-64-v2", say.
+ *
+ *     assert(vb_has_level() && strncmp(vb_level(), "x86-64-v", 8) == 0);
+ */
 const char *vb_level(void);
 
 /* Whether the processor has that level. */
@@ -354,6 +493,7 @@ bool vb_has_level(void);
 #endif
 
 #include "vortex_bits_compare.h"
+#include "vortex_bits_gather.h"
 #include "vortex_bits_values.h"
 
 #endif

@@ -1,6 +1,6 @@
 /*
- * The windows of vortex_bits.h as C++ classes, of C++17 and later. This file includes
- * its parts: vortex_bits_compare.hpp, _pack.hpp, _ranks.hpp, and _values.hpp for values at indices.
+ * The windows of vortex_bits.h as C++ classes, of C++17 and later. This file includes its parts:
+ * vortex_bits_compare.hpp, _gather.hpp, _ranks.hpp, and _values.hpp for values at indices.
  *
  *     c++ -std=c++17 -O2 app.cpp -I DIST/include DIST/lib/libvortex_bits.a
  *
@@ -170,11 +170,15 @@ public:
     std::size_t count_ones() const { return vb_count_ones(bytes_, size_, offset_, len_); }
 
     /* How many bits are true where both windows are, which have one length, as in all calls here. */
-    std::size_t and_count(bits right) const { return count_by(vb_and_count, right); }
-    std::size_t or_count(bits right) const { return count_by(vb_or_count, right); }
-    std::size_t xor_count(bits right) const { return count_by(vb_xor_count, right); }
-    std::size_t and_not_count(bits right) const { return count_by(vb_and_not_count, right); }
+    std::size_t and_count(bits right) const { return by_another(vb_and_count, right); }
+    std::size_t or_count(bits right) const { return by_another(vb_or_count, right); }
+    std::size_t xor_count(bits right) const { return by_another(vb_xor_count, right); }
+    std::size_t and_not_count(bits right) const { return by_another(vb_and_not_count, right); }
     std::size_t count_zeros() const { return len_ - count_ones(); }
+
+    /* Whether no bit is true in both, and whether each that is true here is true there. */
+    bool is_disjoint(bits right) const { return by_another(vb_is_disjoint, right); }
+    bool is_subset(bits right) const { return by_another(vb_is_subset, right); }
 
     /* The place of the n-th true bit, counted from 0, if there is one. */
     std::optional<std::size_t> select(std::size_t n) const
@@ -194,8 +198,28 @@ public:
         return detail::place(vb_last_set_index(bytes_, size_, offset_, len_));
     }
 
-    bool any() const { return select(0).has_value(); }
-    bool all() const { return !select_unset(0).has_value(); }
+    /* The place of the first bit from place `from` on that is true, or false, if there is one. */
+    std::optional<std::size_t> next_set(std::size_t from) const
+    {
+        return detail::place(vb_next_set(bytes_, size_, offset_, len_, from));
+    }
+    std::optional<std::size_t> next_unset(std::size_t from) const
+    {
+        return detail::place(vb_next_unset(bytes_, size_, offset_, len_, from));
+    }
+
+    /* And of the last one before place `before`. */
+    std::optional<std::size_t> previous_set(std::size_t before) const
+    {
+        return detail::place(vb_previous_set(bytes_, size_, offset_, len_, before));
+    }
+    std::optional<std::size_t> previous_unset(std::size_t before) const
+    {
+        return detail::place(vb_previous_unset(bytes_, size_, offset_, len_, before));
+    }
+
+    bool any() const { return vb_any_set(bytes_, size_, offset_, len_); }
+    bool all() const { return vb_all_set(bytes_, size_, offset_, len_); }
 
     /* The same bits, wherever these lie. */
     friend bool operator==(const bits &left, const bits &right)
@@ -255,31 +279,17 @@ public:
      * these bits then hold anything.
      */
     template <class Indices, class Out>
-    std::optional<std::size_t> take_into(const Indices &indices, Out &&out) const
-    {
-        return take(indices, nullptr, out);
-    }
+    std::optional<std::size_t> take_into(const Indices &indices, Out &&out) const;
 
     /* The same where `valid` is true; at the other positions false is written. */
     template <class Indices, class Out>
-    std::optional<std::size_t> take_into(const Indices &indices, bits valid, Out &&out) const
-    {
-        detail::expect(valid.len_ == indices.size(), "not a bit of validity for each index");
-        return take(indices, &valid, out);
-    }
+    std::optional<std::size_t> take_into(const Indices &indices, bits valid, Out &&out) const;
 
     /*
      * Writes the bits that are true in `mask`, which is as long, in order, to the first bits of
      * `out`, and answers how many these are.
      */
-    template <class Out> std::size_t filter_into(bits mask, Out &&out) const
-    {
-        static_assert(detail::is_bytes<Out>(), "filter_into writes bytes of std::uint8_t");
-        detail::expect(mask.len_ == len_, "windows are of two lengths");
-        detail::expect(fits(out.size(), 0, mask.count_ones()), "no room for the bits to keep");
-        return vb_filter_bits(out.data(), out.size(), bytes_, size_, offset_, mask.bytes_,
-            mask.size_, mask.offset_, len_);
-    }
+    template <class Out> std::size_t filter_into(bits mask, Out &&out) const;
 
     /*
      * Writes those of as many values as there are bits whose bit is true, in order, to the front of
@@ -314,7 +324,10 @@ private:
     friend std::optional<std::size_t> take_values(const Values &, const Indices &,
         const std::optional<bits> &, Out &&);
 
-    template <class Call> std::size_t count_by(Call call, bits right) const
+    template <class Answer>
+    Answer by_another(Answer (*call)(const std::uint8_t *, std::size_t, std::size_t,
+                          const std::uint8_t *, std::size_t, std::size_t, std::size_t),
+        bits right) const
     {
         detail::expect(right.len_ == len_, "windows are of two lengths");
         return call(bytes_, size_, offset_, right.bytes_, right.size_, right.offset_, len_);
@@ -331,75 +344,9 @@ private:
         }
     }
 
-    template <class Indices, class Out>
-    std::optional<std::size_t> take(const Indices &indices, const bits *valid, Out &out) const
-    {
-        using index = std::remove_cv_t<detail::lent_t<const Indices>>;
-        static_assert(detail::is_index<index>(),
-            "take_into takes indices of a whole number of 8, 16, 32 or 64 bits");
-        static_assert(detail::is_bytes<Out>(), "take_into writes bytes of std::uint8_t");
-        detail::expect(fits(out.size(), 0, indices.size()), "no room for a bit an index");
-        if constexpr (detail::is_index<index>()) {
-            const bits named = reach<index>();
-            if constexpr (sizeof(index) < 4) {
-                return named.take_narrow(indices.data(), indices.size(), valid, out);
-            } else {
-                using as = typename detail::laid<sizeof(index)>::type;
-                const as *from = reinterpret_cast<const as *>(indices.data());
-                return detail::place(
-                    named.take_laid(from, indices.size(), valid, out.data(), out.size()));
-            }
-        }
-        return std::nullopt;
-    }
-
-    /* The bits that indices of the type can name: negative ones are read as places behind them. */
-    template <class Index> bits reach() const
-    {
-        if constexpr (std::is_signed_v<Index>) {
-            const auto most = static_cast<std::size_t>(std::numeric_limits<Index>::max()) + 1;
-            return slice(0, std::min(len_, most));
-        }
-        return *this;
-    }
-
-    /* By indices that are made wider, a block at a time. */
-    template <class Index, class Out>
-    std::optional<std::size_t> take_narrow(const Index *indices, std::size_t n, const bits *valid,
-        Out &out) const
-    {
-        std::array<std::uint32_t, 512> wide;
-        for (std::size_t at = 0; at < n; at += wide.size()) {
-            const std::size_t some = std::min(wide.size(), n - at);
-            const bits part = valid != nullptr ? valid->slice(at, some) : bits();
-            std::transform(indices + at, indices + at + some, wide.begin(),
-                [](Index index) { return static_cast<std::uint32_t>(index); });
-            const vb_place past = take_laid(wide.data(), some, valid != nullptr ? &part : nullptr,
-                out.data() + at / 8, out.size() - at / 8);
-            if (past.found) {
-                return at + past.index;
-            }
-        }
-        return std::nullopt;
-    }
-
-    vb_place take_laid(const std::uint32_t *indices, std::size_t n, const bits *valid,
-        std::uint8_t *out, std::size_t size) const
-    {
-        return valid == nullptr
-            ? vb_take_u32(out, size, bytes_, size_, offset_, len_, indices, n)
-            : vb_take_valid_u32(out, size, bytes_, size_, offset_, len_, indices, n, valid->bytes_,
-                  valid->size_, valid->offset_);
-    }
-
-    vb_place take_laid(const std::uint64_t *indices, std::size_t n, const bits *valid,
-        std::uint8_t *out, std::size_t size) const
-    {
-        return valid == nullptr
-            ? vb_take_u64(out, size, bytes_, size_, offset_, len_, indices, n)
-            : vb_take_valid_u64(out, size, bytes_, size_, offset_, len_, indices, n, valid->bytes_,
-                  valid->size_, valid->offset_);
-    }
+    template <class Indices>
+    std::optional<std::size_t> take(const Indices &indices, const bits *valid, std::uint8_t *out,
+        std::size_t size, std::size_t at) const;
 
     const std::uint8_t *bytes_ = nullptr;
     std::size_t size_ = 0;
@@ -455,13 +402,27 @@ public:
      * Where `mask`, which is as long, is true, the bits of `values` in order, of which there is one
      * for each such place; false elsewhere. It undoes filter_into.
      */
-    void deposit_of(bits values, bits mask)
-    {
-        detail::expect(mask.len_ == len_, "windows are of two lengths");
-        detail::expect(mask.count_ones() == values.len_, "not a bit for each that the mask keeps");
-        vb_deposit_bits(bytes_, size_, offset_, values.bytes_, values.size_, values.offset_,
-            mask.bytes_, mask.size_, mask.offset_, len_);
-    }
+    void deposit_of(bits values, bits mask);
+
+    /*
+     * Writes the bits of `values` that are true in `mask`, which is as long, in order, to the first
+     * bits of the window, and answers how many these are. So batches are joined:
+     *
+     *     rows += out.slice(rows, left).filter_of(batch, mask);
+     */
+    std::size_t filter_of(bits values, bits mask);
+
+    /* The bits of `values` at the indices, as bits::take_into writes them, of which all count. */
+    template <class Indices>
+    std::optional<std::size_t> take_of(bits values, const Indices &indices);
+
+    /* The same where `valid` is true; at the other positions false is written. */
+    template <class Indices>
+    std::optional<std::size_t> take_of(bits values, const Indices &indices, bits valid);
+
+    /* As many bools, of which std::vector<bool> has none; and bytes, true where they are not 0. */
+    template <class Bools> void copy_from_bools(const Bools &bools);
+    template <class Bytes> void copy_from_truthy(const Bytes &truthy);
 
 private:
     template <class Values>
@@ -492,7 +453,7 @@ private:
 } // namespace vortex_bits
 
 #include "vortex_bits_compare.hpp"
-#include "vortex_bits_pack.hpp"
+#include "vortex_bits_gather.hpp"
 #include "vortex_bits_ranks.hpp"
 #include "vortex_bits_values.hpp"
 

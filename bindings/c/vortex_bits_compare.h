@@ -1,6 +1,6 @@
 /*
- * Comparisons of whole numbers, into bits. vortex_bits.h includes this file, and its head says what
- * the caller owes of every call.
+ * Comparisons of whole numbers and of floats, into bits. vortex_bits.h includes this file, and its
+ * head says what the caller owes of every call.
  */
 #ifndef VORTEX_BITS_COMPARE_H
 #define VORTEX_BITS_COMPARE_H
@@ -23,7 +23,14 @@ enum {
 
 /*
  * Writes to bit `out_offset + k` of `out`, for each k below `values_size`, whether value k compares
- * with `number` so. Every other bit of `out` stays. 64 values go at a time, by vectors.
+ * with `number` so. Every other bit of `out` stays. 64 values go at a time, by vectors. Floats
+ * compare as C's operators do, and IEEE 754: of what isn't a number VB_NOT_EQUAL alone holds, also
+ * where both sides are it, and 0.0 equals -0.0.
+ *
+ *     const double prices[] = {1.5, NAN, 0.25};
+ *     uint8_t cheap[] = {0};
+ *     vb_compare_f64(cheap, 1, 0, prices, 3, VB_LESS, 2.0);
+ *     assert(cheap[0] == 0x05);
  */
 void vb_compare_u8(uint8_t *out, size_t out_size, size_t out_offset, const uint8_t *values, size_t
         values_size, uint8_t op, uint8_t number);
@@ -57,8 +64,23 @@ void vb_compare_i64(uint8_t *out, size_t out_size, size_t out_offset, const int6
         size_t values_size, uint8_t op, int64_t number);
 VB_CHECKED bool vb_try_compare_i64(uint8_t *out, size_t out_size, size_t out_offset, const int64_t
         *values, size_t values_size, uint8_t op, int64_t number);
+void vb_compare_f32(uint8_t *out, size_t out_size, size_t out_offset, const float *values,
+        size_t values_size, uint8_t op, float number);
+VB_CHECKED bool vb_try_compare_f32(uint8_t *out, size_t out_size, size_t out_offset,
+        const float *values, size_t values_size, uint8_t op, float number);
+void vb_compare_f64(uint8_t *out, size_t out_size, size_t out_offset, const double *values,
+        size_t values_size, uint8_t op, double number);
+VB_CHECKED bool vb_try_compare_f64(uint8_t *out, size_t out_size, size_t out_offset,
+        const double *values, size_t values_size, uint8_t op, double number);
 
-/* The same with other values, of which there are as many. */
+/*
+ * The same with other values, of which there are as many.
+ *
+ *     const int32_t ages[] = {19, 64, 7}, limits[] = {20, 64, 7};
+ *     uint8_t below[] = {0};
+ *     vb_compare_with_i32(below, 1, 0, ages, 3, VB_LESS, limits, 3);
+ *     assert(below[0] == 0x01);
+ */
 void vb_compare_with_u8(uint8_t *out, size_t out_size, size_t out_offset, const uint8_t *values,
         size_t values_size, uint8_t op, const uint8_t *others, size_t others_size);
 VB_CHECKED bool vb_try_compare_with_u8(uint8_t *out, size_t out_size, size_t out_offset, const
@@ -98,6 +120,16 @@ void vb_compare_with_i64(uint8_t *out, size_t out_size, size_t out_offset, const
 VB_CHECKED bool vb_try_compare_with_i64(uint8_t *out, size_t out_size, size_t out_offset, const
         int64_t *values, size_t values_size, uint8_t op, const int64_t *others, size_t
         others_size);
+void vb_compare_with_f32(uint8_t *out, size_t out_size, size_t out_offset, const float *values,
+        size_t values_size, uint8_t op, const float *others, size_t others_size);
+VB_CHECKED bool vb_try_compare_with_f32(uint8_t *out, size_t out_size, size_t out_offset,
+        const float *values, size_t values_size, uint8_t op, const float *others,
+        size_t others_size);
+void vb_compare_with_f64(uint8_t *out, size_t out_size, size_t out_offset, const double *values,
+        size_t values_size, uint8_t op, const double *others, size_t others_size);
+VB_CHECKED bool vb_try_compare_with_f64(uint8_t *out, size_t out_size, size_t out_offset,
+        const double *values, size_t values_size, uint8_t op, const double *others,
+        size_t others_size);
 
 #ifdef __cplusplus
 }

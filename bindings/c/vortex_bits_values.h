@@ -22,9 +22,12 @@ typedef struct {
  * to the front of `out`, and answers (`written`) how many these are; `room` is how many `out` has
  * room for, at least as many. The items behind them stay. The checked form tests the room too. 64
  * values go at a time. Values are copied as they are, so those of another type of the size, aligned
- * as that one is, go by casts of both pointers:
+ * as that one is, go by casts of both pointers, or by vb_filter_values.
  *
- *     vb_filter_u64((uint64_t *)kept, room, (const uint64_t *)doubles, count, mask, size, 0);
+ *     uint32_t kept[2];
+ *     const uint32_t values[] = {5, 6, 7};
+ *     const uint8_t mask[] = {0x05};
+ *     assert(vb_filter_u32(kept, 2, values, 3, mask, 1, 0) == 2 && kept[1] == 7);
  */
 size_t vb_filter_u8(uint8_t *out, size_t room, const uint8_t *values, size_t count,
         const uint8_t *mask, size_t mask_size, size_t mask_offset);
@@ -48,6 +51,23 @@ VB_CHECKED bool vb_try_filter_u128(vb_u128 *out, size_t room, const vb_u128 *val
         size_t count, const uint8_t *mask, size_t mask_size, size_t mask_offset, size_t *written);
 
 /*
+ * The same of values of whatever type, signed ones, floats and structs too, by their size: 1, 2, 4,
+ * 8 or 16 bytes, aligned as a whole number of so many bytes is, those of 16 as one of 8. The
+ * checked form tests size and alignment too.
+ *
+ *     const double prices[] = {0.5, 1.5, 2.5, 3.5};
+ *     const uint8_t mask[] = {0x0B};
+ *     double kept[3];
+ *     assert(vb_filter_values(kept, 3, prices, 4, sizeof *prices, mask, 1, 0) == 3);
+ *     assert(kept[2] == 3.5);
+ */
+size_t vb_filter_values(void *out, size_t room, const void *values, size_t count,
+        size_t value_size, const uint8_t *mask, size_t mask_size, size_t mask_offset);
+VB_CHECKED bool vb_try_filter_values(void *out, size_t room, const void *values, size_t count,
+        size_t value_size, const uint8_t *mask, size_t mask_size, size_t mask_offset,
+        size_t *written);
+
+/*
  * Writes the values at `index_count` indices to the front of `out`, one each, and answers no place;
  * or answers the first position that counts and whose index is not below `count`. `room` is how
  * many values `out` has room for, at least as many as indices. Where `all_valid` is true, each
@@ -57,9 +77,15 @@ VB_CHECKED bool vb_try_filter_u128(vb_u128 *out, size_t room, const vb_u128 *val
  * is answered, the ones in front hold anything. The checked forms answer that in `past`.
  *
  * vb_take_values_u64_u32 takes values of 64 bits at indices of 32. Values of another type of the
- * size go by casts, as above. So do signed indices, where `count` is at most what they can name: a
- * negative one is then read as one that names nothing. Pass a smaller `count` where there are more
- * values, as of 2^31 for int32_t.
+ * size go by casts, or by vb_take_values. So do signed indices, where `count` is at most what they
+ * can name: a negative one is then read as one that names nothing. Pass a smaller `count` where
+ * there are more values, as of 2^31 for int32_t.
+ *
+ *     uint64_t taken[2];
+ *     const uint64_t values[] = {5, 6, 7};
+ *     const uint32_t indices[] = {2, 0};
+ *     vb_take_values_u64_u32(taken, 2, values, 3, indices, 2, true, NULL, 0, 0);
+ *     assert(taken[0] == 7 && taken[1] == 5);
  */
 vb_place vb_take_values_u8_u8(uint8_t *out, size_t room, const uint8_t *values, size_t count,
         const uint8_t *indices, size_t index_count, bool all_valid, const uint8_t *validity,
@@ -181,6 +207,24 @@ vb_place vb_take_values_u128_u64(vb_u128 *out, size_t room, const vb_u128 *value
 VB_CHECKED bool vb_try_take_values_u128_u64(vb_u128 *out, size_t room, const vb_u128 *values,
         size_t count, const uint64_t *indices, size_t index_count, bool all_valid, const uint8_t
         *validity, size_t validity_size, size_t validity_offset, vb_place *past);
+
+/*
+ * The same of values of whatever type, by their size, as of vb_filter_values, and that of an index:
+ * 1, 2, 4 or 8 bytes. The checked form tests both sizes and the alignments too.
+ *
+ *     const float prices[] = {0.5f, 1.5f, 2.5f};
+ *     const int32_t rows[] = {2, 0};
+ *     float taken[2];
+ *     vb_take_values(taken, 2, prices, 3, sizeof *prices, rows, 2, sizeof *rows, true, NULL, 0, 0);
+ *     assert(taken[0] == 2.5f);
+ */
+vb_place vb_take_values(void *out, size_t room, const void *values, size_t count,
+        size_t value_size, const void *indices, size_t index_count, size_t index_size,
+        bool all_valid, const uint8_t *validity, size_t validity_size, size_t validity_offset);
+VB_CHECKED bool vb_try_take_values(void *out, size_t room, const void *values, size_t count,
+        size_t value_size, const void *indices, size_t index_count, size_t index_size,
+        bool all_valid, const uint8_t *validity, size_t validity_size, size_t validity_offset,
+        vb_place *past);
 
 #ifdef __cplusplus
 }

@@ -8,6 +8,7 @@
 #define VORTEX_BITS_VALUES_HPP
 
 #include "vortex_bits.hpp"
+#include "vortex_bits_gather.hpp"
 
 namespace vortex_bits {
 
@@ -40,15 +41,6 @@ VB_TAKEN_BY(4, 8, u32_u64)
 VB_TAKEN_BY(8, 8, u64_u64)
 VB_TAKEN_BY(16, 8, u128_u64)
 #undef VB_TAKEN_BY
-
-/* How many of so many values indices of the type can name: negative ones are read as behind them. */
-template <class Index> std::size_t reached(std::size_t count)
-{
-    if constexpr (std::is_signed_v<Index>) {
-        return std::min(count, static_cast<std::size_t>(std::numeric_limits<Index>::max()) + 1);
-    }
-    return count;
-}
 
 } // namespace detail
 

@@ -13,8 +13,13 @@ EXPORT = re.compile(r"^pub use [\w:]+?::(?:\{([^}]*)\}|(\w+));", re.MULTILINE)
 OF_C = re.compile(r"crates/vb_c(_\w+)?/src/")
 # What the C library says of itself, which no function of the crate does.
 OF_THE_LIBRARY = {"vb_level", "vb_has_level"}
-# What the Rust crate does without a call.
-INLINE = {"vb_get_bit"}
+# What the Rust crate does without a call, and where it has one that writes at an offset too.
+NOT_CALLED = {
+    "vb_get_bit", "vb_pack_bools", "vb_pack_truthy", "vb_take_u32", "vb_take_u64",
+    "vb_take_valid_u32", "vb_take_valid_u64", "vb_filter_bits",
+}
+# The C functions that the library makes of several of a crate.
+MADE = re.compile(r"^\w+ (vb_\w+)\(", re.MULTILINE)
 
 
 def exported(text: str) -> set[str]:
@@ -35,6 +40,10 @@ def headers(repository: Repository) -> list[str]:
     return [it.relative_to(repository.root).as_posix() for it in found]
 
 
+def made(repository: Repository) -> set[str]:
+    return set(MADE.findall(repository.read("bindings/c/library/made.h")))
+
+
 def c_functions(repository: Repository) -> list[str]:
     """The functions of the headers, of the Rust table, and of the crates, and how these are called."""
     crates, table = "crates/vb_c*", "bindings/rust/src/native.rs"
@@ -46,8 +55,9 @@ def c_functions(repository: Repository) -> list[str]:
         own = signatures.of_header(repository.read(header))
         found += signatures.differences(header, given, own)
         declared |= own
-    found += differ(crates, set(given), "bindings/c/*.h", set(declared) - OF_THE_LIBRARY)
-    plain = {it for it in given if not it.startswith("vb_try_")} - INLINE
+    of_levels = set(declared) - OF_THE_LIBRARY - made(repository)
+    found += differ(crates, set(given), "bindings/c/*.h", of_levels)
+    plain = {it for it in given if not it.startswith("vb_try_")} - NOT_CALLED
     found += differ(crates, plain, table, set(native))
     return found + signatures.differences(table, declared, native)
 

@@ -5,7 +5,7 @@ import textwrap
 
 from documents import signatures
 from documents.files import Repository
-from documents.lists import INLINE, OF_THE_LIBRARY, exported, headers
+from documents.lists import NOT_CALLED, OF_THE_LIBRARY, exported, headers, made
 from documents.signatures import Signature
 
 TABLE = "bindings/rust/src/native.rs"
@@ -30,7 +30,7 @@ def table(repository: Repository) -> str:
     given: dict[str, Signature] = {}
     for header in headers(repository):
         given |= signatures.of_header(repository.read(header))
-    left_out = OF_THE_LIBRARY | INLINE
+    left_out = OF_THE_LIBRARY | NOT_CALLED | made(repository)
     lines = [
         declared(name, signature) for name, signature in given.items()
         if not name.startswith("vb_try_") and name not in left_out

@@ -68,9 +68,9 @@ class Signatures(unittest.TestCase):
 
     def test_another_type_or_answer_or_number_is_found(self):
         edits = [
-            ("void vb_pack_truthy(uint8_t *out, size_t out_size,",
-             "void vb_pack_truthy(int8_t *out, size_t out_size,",
-             "parameter 1 is `out: *mut i8`"),
+            ("void vb_negate_bits(uint8_t *bytes, size_t size,",
+             "void vb_negate_bits(int8_t *bytes, size_t size,",
+             "parameter 1 is `bytes: *mut i8`"),
             ("bool vb_get_bit(const uint8_t *bytes, size_t size, size_t place);",
              "size_t vb_get_bit(const uint8_t *bytes, size_t size, size_t place);",
              "it answers `usize` in place of `bool`"),

@@ -116,3 +116,4 @@ bool vb_has_level(void)
 PASSED_ON
 
 #include "by_hand.h"
+#include "made.h"

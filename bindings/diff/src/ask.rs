@@ -38,8 +38,25 @@ pub fn compare(case: &Case) -> Result<u64, String> {
             bits == case.right(),
             list == plain::bits(case.right()),
         )?
+        + nearest(case, &list)?
         + walks(case, &list, &trues)?
         + ranks(case, &list, &trues, &falses)?)
+}
+
+/// The nearest bits from the `n`-th place on and before it, and from the end on.
+fn nearest(case: &Case, list: &[bool]) -> Result<u64, String> {
+    let bits = case.left();
+    let mut calls = 0;
+    for n in [case.n, case.len, usize::MAX] {
+        let cut = n.min(list.len());
+        let after = |value| (cut..list.len()).find(|&i| list[i] == value);
+        let before = |value| (0..cut).rev().find(|&i| list[i] == value);
+        calls += same("next_set", bits.next_set(n), after(true))?
+            + same("next_unset", bits.next_unset(n), after(false))?
+            + same("previous_set", bits.previous_set(n), before(true))?
+            + same("previous_unset", bits.previous_unset(n), before(false))?;
+    }
+    Ok(calls)
 }
 
 /// What a walk with room for `room` items writes before the items that stay as they were.

@@ -47,6 +47,9 @@ fn operators(case: &Case, left: &[bool], right: &[bool]) -> Result<u64, String> 
         + same("or_count", l.or_count(r), ones(&or))?
         + same("xor_count", l.xor_count(r), ones(&xor))?
         + same("and_not_count", l.and_not_count(r), ones(&not))?
+        + same("is_disjoint", l.is_disjoint(r), ones(&and) == 0)?
+        + same("is_subset", l.is_subset(r), ones(&not) == 0)?
+        + same("is_subset of more", l.is_subset(&(l | r)), true)?
         + lists("&", list(&(&kept & r)), &and)?
         + lists("|", list(&(l | Bitmap::from(r))), &or)?
         + lists("^", list(&(kept.clone() ^ &r)), &xor)?

@@ -63,6 +63,12 @@ impl<B: AsRef<[u8]>> Bitmap<B> {
     /// # Errors
     ///
     /// Where it doesn't lie in the bytes, or its end is no `usize`; the bytes are dropped then.
+    ///
+    /// ```
+    /// use vortex_bits::Bitmap;
+    ///
+    /// assert!(Bitmap::try_new(vec![0xFFu8], 3, 6).is_err());
+    /// ```
     #[inline]
     pub fn try_new(bytes: B, offset: usize, len: usize) -> Result<Bitmap<B>, OutOfBounds> {
         Bits::try_new(bytes.as_ref(), offset, len)?;
@@ -140,6 +146,12 @@ impl<B: AsRef<[u8]>> Bitmap<B> {
     }
 
     /// What has the bytes: [`into_parts`](Bitmap::into_parts) says too where the bits lie in them.
+    ///
+    /// ```
+    /// use vortex_bits::Bitmap;
+    ///
+    /// assert_eq!(Bitmap::new(vec![0b101u8], 0, 3).into_inner(), [0b101]);
+    /// ```
     #[inline]
     pub fn into_inner(self) -> B {
         self.bytes

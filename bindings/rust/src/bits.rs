@@ -4,7 +4,7 @@ use core::ops::{Bound, RangeBounds};
 
 use crate::error::{OutOfBounds, expect};
 use crate::iter::{Iter, SetIndices, SetSlices, UnsetIndices, UnsetSlices, Words};
-use crate::{kernels, portable};
+use crate::kernels;
 
 /// The `len` bits from bit `offset` on of some bytes, least significant bit first: bit `i` of the
 /// bytes is digit `i % 8` of byte `i / 8`, and place `i` of the window is bit `offset + i`.
@@ -78,6 +78,14 @@ impl<'a> Bits<'a> {
     /// # Errors
     ///
     /// Where it doesn't lie in the bytes, or its end is no `usize`.
+    ///
+    /// ```
+    /// use vortex_bits::Bits;
+    ///
+    /// let refused = Bits::try_new(&[0xFF], 3, 6).unwrap_err();
+    /// assert_eq!(Bits::try_new(&[0xFF], 3, 5).map(Bits::count_ones), Ok(5));
+    /// assert!(refused.to_string().contains("6 bits"));
+    /// ```
     #[inline]
     pub const fn try_new(
         bytes: &'a [u8],
@@ -226,14 +234,14 @@ impl<'a> Bits<'a> {
     #[inline]
     #[must_use]
     pub fn first_set(self) -> Option<usize> {
-        self.select(0)
+        self.next_set(0)
     }
 
     /// The place of the first false bit; None where all are true.
     #[inline]
     #[must_use]
     pub fn first_unset(self) -> Option<usize> {
-        self.select_unset(0)
+        self.next_unset(0)
     }
 
     /// The place of the last true bit; None where all are false. It reads from the end.
@@ -247,21 +255,60 @@ impl<'a> Bits<'a> {
     #[inline]
     #[must_use]
     pub fn last_unset(self) -> Option<usize> {
-        portable::last_unset(self)
+        self.previous_unset(self.len)
+    }
+
+    /// The place of the first true bit from place `from` on; None where there is none, as there is
+    /// none from the end on. It reads up to the one that it finds; for all of them, one after the
+    /// other, [`set_indices`](Bits::set_indices) takes less.
+    ///
+    /// ```
+    /// use vortex_bits::Bits;
+    ///
+    /// let bits = Bits::new(&[0b0111_0110], 0, 7);
+    /// assert_eq!((bits.next_set(3), bits.next_unset(4)), (Some(4), None));
+    /// assert_eq!((bits.previous_set(4), bits.previous_unset(3)), (Some(2), Some(0)));
+    /// ```
+    #[inline]
+    #[must_use]
+    pub fn next_set(self, from: usize) -> Option<usize> {
+        kernels::next_set(self, from)
+    }
+
+    /// The place of the first false bit from place `from` on; None where there is none.
+    #[inline]
+    #[must_use]
+    pub fn next_unset(self, from: usize) -> Option<usize> {
+        kernels::next_unset(self, from)
+    }
+
+    /// The place of the last true bit before place `before`; None where there is none. From the end
+    /// on each place has all bits before it.
+    #[inline]
+    #[must_use]
+    pub fn previous_set(self, before: usize) -> Option<usize> {
+        kernels::previous_set(self, before)
+    }
+
+    /// The place of the last false bit before place `before`; None where there is none.
+    #[inline]
+    #[must_use]
+    pub fn previous_unset(self, before: usize) -> Option<usize> {
+        kernels::previous_unset(self, before)
     }
 
     /// Whether a bit is true: false of no bits. It reads up to the first one.
     #[inline]
     #[must_use]
     pub fn any(self) -> bool {
-        self.select(0).is_some()
+        kernels::any_set(self)
     }
 
     /// Whether all bits are true: true of no bits. It reads up to the first one that isn't.
     #[inline]
     #[must_use]
     pub fn all(self) -> bool {
-        self.select_unset(0).is_none()
+        kernels::all_set(self)
     }
 
     /// The bits, from front to end.

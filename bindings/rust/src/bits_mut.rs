@@ -46,6 +46,12 @@ impl<'a> BitsMut<'a> {
     /// # Errors
     ///
     /// Where it doesn't lie in the bytes, or its end is no `usize`.
+    ///
+    /// ```
+    /// use vortex_bits::BitsMut;
+    ///
+    /// assert!(BitsMut::try_new(&mut [0xFF], 3, 6).is_err());
+    /// ```
     #[inline]
     pub const fn try_new(
         bytes: &'a mut [u8],
@@ -72,6 +78,12 @@ impl<'a> BitsMut<'a> {
     }
 
     /// The window to be read.
+    ///
+    /// ```
+    /// use vortex_bits::BitsMut;
+    ///
+    /// assert_eq!(BitsMut::new(&mut [0b110], 0, 3).as_bits().count_ones(), 2);
+    /// ```
     #[inline]
     #[must_use]
     pub const fn as_bits(&self) -> Bits<'_> {
@@ -82,6 +94,17 @@ impl<'a> BitsMut<'a> {
     }
 
     /// The window to be read, for as long as its bytes are lent.
+    ///
+    /// ```
+    /// use vortex_bits::{Bits, BitsMut};
+    ///
+    /// fn negated(bytes: &mut [u8]) -> Bits<'_> {
+    ///     let mut bits = BitsMut::from_bytes(bytes);
+    ///     bits.negate();
+    ///     bits.into_bits()
+    /// }
+    /// assert_eq!(negated(&mut [0xF0]).first_set(), Some(0));
+    /// ```
     #[inline]
     #[must_use]
     pub fn into_bits(self) -> Bits<'a> {
@@ -89,6 +112,14 @@ impl<'a> BitsMut<'a> {
     }
 
     /// The bytes in which the window lies, those outside of it too.
+    ///
+    /// ```
+    /// use vortex_bits::BitsMut;
+    ///
+    /// let mut bytes = [0, 0];
+    /// BitsMut::new(&mut bytes, 3, 5).bytes_mut()[1] = 7;
+    /// assert_eq!(bytes, [0, 7]);
+    /// ```
     #[inline]
     pub const fn bytes_mut(&mut self) -> &mut [u8] {
         self.bytes
@@ -207,6 +238,14 @@ impl<'a> BitsMut<'a> {
     }
 
     /// Negates each bit.
+    ///
+    /// ```
+    /// use vortex_bits::BitsMut;
+    ///
+    /// let mut bytes = [0b0000_1111];
+    /// BitsMut::new(&mut bytes, 2, 4).negate();
+    /// assert_eq!(bytes, [0b0011_0011]);
+    /// ```
     #[inline]
     pub fn negate(&mut self) {
         kernels::negate(self);
@@ -234,6 +273,15 @@ impl<'a> BitsMut<'a> {
     }
 
     /// Copies the truth values.
+    ///
+    /// ```
+    /// use vortex_bits::BitsMut;
+    ///
+    /// let mut bytes = [0xFF];
+    /// BitsMut::new(&mut bytes, 3, 3).copy_from_bools(&[true, false, true]);
+    /// BitsMut::new(&mut bytes, 0, 3).copy_from_truthy(&[0, 7, 255]);
+    /// assert_eq!(bytes, [0b1110_1110]);
+    /// ```
     ///
     /// # Panics
     ///

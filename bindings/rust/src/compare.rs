@@ -27,8 +27,8 @@ pub enum Comparison {
     GreaterOrEqual,
 }
 
-/// A type of values that are compared: whole numbers and floats. Of whole numbers of up to 64 bits
-/// the C functions compare 64 at once.
+/// A type of values that are compared: whole numbers and floats. Of all but whole numbers of 128
+/// bits the C functions compare 64 at once.
 #[diagnostic::on_unimplemented(
     message = "values of `{Self}` aren't compared",
     label = "values are whole numbers or floats",
@@ -113,9 +113,11 @@ pub(crate) mod sealed {
         i32 as i32, compare_i32, compare_with_i32;
         i64 as i64, compare_i64, compare_with_i64;
         isize as i64, compare_i64, compare_with_i64;
+        f32 as f32, compare_f32, compare_with_f32;
+        f64 as f64, compare_f64, compare_with_f64;
     }
 
-    one_by_one! { u128 i128 f32 f64 }
+    one_by_one! { u128 i128 }
 }
 
 /// Writes to `out` which of the values compare so with `number`.
@@ -139,6 +141,16 @@ pub fn compare_into<T: Compare>(values: &[T], op: Comparison, number: T, mut out
 }
 
 /// Writes to `out` which of the values compare so with the one of `others` at the same place.
+///
+/// ```
+/// use vortex_bits::{BitsMut, Comparison, values};
+///
+/// let mut below = [0xFF];
+/// let (ages, limits) = ([19, 64, 7], [20, 64, 7]);
+/// let out = BitsMut::new(&mut below, 5, 3);
+/// values::compare_with_into(&ages, Comparison::Less, &limits, out);
+/// assert_eq!(below, [0b0011_1111]);
+/// ```
 ///
 /// # Panics
 ///
@@ -174,6 +186,14 @@ pub fn compare<T: Compare>(values: &[T], op: Comparison, number: T) -> Bitmap {
 }
 
 /// Which of the values compare so with the one of `others` at the same place.
+///
+/// ```
+/// use vortex_bits::{Bitmap, Comparison, values};
+///
+/// let prices = [0.5, f64::NAN, -0.0];
+/// let same = values::compare_with(&prices, Comparison::Equal, &[0.5, f64::NAN, 0.0]);
+/// assert_eq!(same, Bitmap::from([true, false, true]));
+/// ```
 ///
 /// # Panics
 ///

@@ -1,4 +1,4 @@
-//! How many bits two windows have in common, with no third one made.
+//! How many bits two windows have in common, and whether any, with no third one made.
 
 use crate::kernels::{self, Operator};
 use crate::{Bits, Mask};
@@ -46,6 +46,37 @@ impl Bits<'_> {
     #[track_caller]
     pub fn and_not_count(self, right: impl Mask) -> usize {
         self.count(right.of_len(self.len()), Operator::AndNot)
+    }
+
+    /// Whether no bit is true both here and in `right`. It reads up to the first one that is.
+    ///
+    /// ```
+    /// use vortex_bits::Bits;
+    ///
+    /// let (left, right) = (Bits::new(&[0b1100], 0, 4), Bits::new(&[0b1110], 0, 4));
+    /// assert!(left.is_subset(right) && !right.is_subset(left));
+    /// assert!(left.is_disjoint(!right) && !left.is_disjoint(right));
+    /// ```
+    #[inline]
+    #[must_use]
+    #[track_caller]
+    pub fn is_disjoint(self, right: impl Mask) -> bool {
+        match right.of_len(self.len()) {
+            Some(right) => kernels::is_disjoint(self, right),
+            None => !self.any(),
+        }
+    }
+
+    /// Whether each bit that is true here is true in `right`. It reads up to the first one that
+    /// isn't.
+    #[inline]
+    #[must_use]
+    #[track_caller]
+    pub fn is_subset(self, right: impl Mask) -> bool {
+        match right.of_len(self.len()) {
+            Some(right) => kernels::is_subset(self, right),
+            None => true,
+        }
     }
 
     fn count(self, right: Option<Bits<'_>>, operator: Operator) -> usize {

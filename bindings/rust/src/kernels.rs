@@ -108,6 +108,54 @@ pub fn last_set(bits: Bits<'_>) -> Option<usize> {
     portable::last_set(bits)
 }
 
+#[inline]
+pub fn next_set(bits: Bits<'_>, from: usize) -> Option<usize> {
+    if !is_word(bits) {
+        native!(next_set: window bits, value from);
+    }
+    portable::next_set(bits, from)
+}
+
+#[inline]
+pub fn next_unset(bits: Bits<'_>, from: usize) -> Option<usize> {
+    if !is_word(bits) {
+        native!(next_unset: window bits, value from);
+    }
+    portable::next_unset(bits, from)
+}
+
+#[inline]
+pub fn previous_set(bits: Bits<'_>, before: usize) -> Option<usize> {
+    if !is_word(bits) {
+        native!(previous_set: window bits, value before);
+    }
+    portable::previous_set(bits, before)
+}
+
+#[inline]
+pub fn previous_unset(bits: Bits<'_>, before: usize) -> Option<usize> {
+    if !is_word(bits) {
+        native!(previous_unset: window bits, value before);
+    }
+    portable::previous_unset(bits, before)
+}
+
+#[inline]
+pub fn any_set(bits: Bits<'_>) -> bool {
+    if !is_word(bits) {
+        native!(any_set: window bits);
+    }
+    portable::next_set(bits, 0).is_some()
+}
+
+#[inline]
+pub fn all_set(bits: Bits<'_>) -> bool {
+    if !is_word(bits) {
+        native!(all_set: window bits);
+    }
+    portable::next_unset(bits, 0).is_none()
+}
+
 /// Of windows of one length.
 #[inline]
 pub fn equal(left: Bits<'_>, right: Bits<'_>) -> bool {
@@ -182,6 +230,26 @@ pub fn combined_count(left: Bits<'_>, right: Bits<'_>, operator: Operator) -> us
         return native!(@call function, [] start left, window right);
     }
     portable::combined_count(left, right, operator)
+}
+
+/// Whether no bit is true in both, of windows of one length.
+#[inline]
+pub fn is_disjoint(left: Bits<'_>, right: Bits<'_>) -> bool {
+    debug_assert_eq!(left.len(), right.len());
+    if !is_word(left) {
+        native!(is_disjoint: start left, window right);
+    }
+    portable::is_disjoint(left, right)
+}
+
+/// Whether each bit that is true on the left is true on the right, of windows of one length.
+#[inline]
+pub fn is_subset(left: Bits<'_>, right: Bits<'_>) -> bool {
+    debug_assert_eq!(left.len(), right.len());
+    if !is_word(left) {
+        native!(is_subset: start left, window right);
+    }
+    portable::is_subset(left, right)
 }
 
 /// Of as many bits as the mask has true ones, and an `out` as long as the mask.

@@ -35,10 +35,9 @@
 //!
 //! - single bits, windows of at most 64, and values at up to 16 indices, or such as
 //!   [`Value`] and [`BitIndex`] say;
-//! - what puts calls together: writes of filters, takes and packs to windows that don't begin with
-//!   a byte, `fill_with`, and the blocks in which iterators are filled;
-//! - walks over false bits, `last_unset`, how bitmaps are made and grow, [`Validity`],
-//!   three-valued logic, and `arrow`;
+//! - what puts calls together: `fill_with`, and the blocks in which iterators are filled;
+//! - walks over false bits, how bitmaps are made and grow, [`Validity`], three-valued logic, and
+//!   `arrow`;
 //! - everything on other machines, under Miri, and where the archives of those functions aren't
 //!   there when the crate is built.
 //!

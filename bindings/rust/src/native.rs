@@ -4,11 +4,11 @@
 //!
 //! Of each function: a pointer is followed by the number of items that it points to, and isn't
 //! null; they may be read, and written where it is `*mut`; nothing else writes them during the
-//! call. Windows end within their bytes, and at a `usize`; those of takes, packs and filters are the
-//! first bits of `out`, one for each item, or for each that is kept. There is room for a value at
-//! each index, and a bit of validity for each unless all are valid; a deposit has a bit for each
-//! true one of its mask; a comparison is a number below 6, and there are as many others as values. A table has as many entries as
-//! the window has blocks of 512 bits, whatever they are. The processor has the level.
+//! call. Windows end within their bytes, and at a `usize`; those of takes, packs and filters have a
+//! bit for each item, or for each that is kept. There is room for a value at each index, and a bit
+//! of validity for each unless all are valid; a deposit has a bit for each true one of its mask; a
+//! comparison is a number below 6, and there are as many others as values. A table has as many
+//! entries as the window has blocks of 512 bits, whatever they are. The processor has the level.
 //!
 //! A function changes only the windows and the items that it is said to write.
 
@@ -109,7 +109,18 @@ kernels! {
     bit_select(bytes: *const u8, size: usize, offset: usize, len: usize, n: usize) -> Place;
     bit_select_unset(bytes: *const u8, size: usize, offset: usize, len: usize, n: usize) -> Place;
     last_set_index(bytes: *const u8, size: usize, offset: usize, len: usize) -> Place;
+    next_set(bytes: *const u8, size: usize, offset: usize, len: usize, from: usize) -> Place;
+    next_unset(bytes: *const u8, size: usize, offset: usize, len: usize, from: usize) -> Place;
+    previous_set(bytes: *const u8, size: usize, offset: usize, len: usize, before: usize) -> Place;
+    previous_unset(bytes: *const u8, size: usize, offset: usize, len: usize,
+        before: usize) -> Place;
+    any_set(bytes: *const u8, size: usize, offset: usize, len: usize) -> bool;
+    all_set(bytes: *const u8, size: usize, offset: usize, len: usize) -> bool;
     equal_bits(left: *const u8, left_size: usize, left_offset: usize, right: *const u8,
+        right_size: usize, right_offset: usize, len: usize) -> bool;
+    is_disjoint(left: *const u8, left_size: usize, left_offset: usize, right: *const u8,
+        right_size: usize, right_offset: usize, len: usize) -> bool;
+    is_subset(left: *const u8, left_size: usize, left_offset: usize, right: *const u8,
         right_size: usize, right_offset: usize, len: usize) -> bool;
     set_indices(bytes: *const u8, size: usize, offset: usize, len: usize, out: *mut usize,
         room: usize) -> usize;
@@ -136,24 +147,6 @@ kernels! {
     and_not_into(out: *mut u8, out_size: usize, out_offset: usize, left: *const u8,
         left_size: usize, left_offset: usize, right: *const u8, right_size: usize,
         right_offset: usize, len: usize);
-    pack_bools(out: *mut u8, out_size: usize, bools: *const bool, count: usize);
-    pack_truthy(out: *mut u8, out_size: usize, truthy: *const u8, count: usize);
-    take_u32(out: *mut u8, out_size: usize, bytes: *const u8, size: usize, offset: usize,
-        len: usize, indices: *const u32, index_count: usize) -> Place;
-    take_u64(out: *mut u8, out_size: usize, bytes: *const u8, size: usize, offset: usize,
-        len: usize, indices: *const u64, index_count: usize) -> Place;
-    take_valid_u32(out: *mut u8, out_size: usize, bytes: *const u8, size: usize, offset: usize,
-        len: usize, indices: *const u32, index_count: usize, validity: *const u8,
-        validity_size: usize, validity_offset: usize) -> Place;
-    take_valid_u64(out: *mut u8, out_size: usize, bytes: *const u8, size: usize, offset: usize,
-        len: usize, indices: *const u64, index_count: usize, validity: *const u8,
-        validity_size: usize, validity_offset: usize) -> Place;
-    filter_bits(out: *mut u8, out_size: usize, values: *const u8, values_size: usize,
-        values_offset: usize, mask: *const u8, mask_size: usize, mask_offset: usize,
-        len: usize) -> usize;
-    deposit_bits(out: *mut u8, out_size: usize, out_offset: usize, values: *const u8,
-        values_size: usize, values_offset: usize, mask: *const u8, mask_size: usize,
-        mask_offset: usize, len: usize);
     block_counts(bytes: *const u8, size: usize, offset: usize, len: usize, table: *mut usize,
         room: usize) -> usize;
     rank(bytes: *const u8, size: usize, offset: usize, len: usize, table: *const usize,
@@ -178,6 +171,10 @@ kernels! {
         values_size: usize, op: u8, number: i32);
     compare_i64(out: *mut u8, out_size: usize, out_offset: usize, values: *const i64,
         values_size: usize, op: u8, number: i64);
+    compare_f32(out: *mut u8, out_size: usize, out_offset: usize, values: *const f32,
+        values_size: usize, op: u8, number: f32);
+    compare_f64(out: *mut u8, out_size: usize, out_offset: usize, values: *const f64,
+        values_size: usize, op: u8, number: f64);
     compare_with_u8(out: *mut u8, out_size: usize, out_offset: usize, values: *const u8,
         values_size: usize, op: u8, others: *const u8, others_size: usize);
     compare_with_u16(out: *mut u8, out_size: usize, out_offset: usize, values: *const u16,
@@ -194,6 +191,33 @@ kernels! {
         values_size: usize, op: u8, others: *const i32, others_size: usize);
     compare_with_i64(out: *mut u8, out_size: usize, out_offset: usize, values: *const i64,
         values_size: usize, op: u8, others: *const i64, others_size: usize);
+    compare_with_f32(out: *mut u8, out_size: usize, out_offset: usize, values: *const f32,
+        values_size: usize, op: u8, others: *const f32, others_size: usize);
+    compare_with_f64(out: *mut u8, out_size: usize, out_offset: usize, values: *const f64,
+        values_size: usize, op: u8, others: *const f64, others_size: usize);
+    pack_truthy_at(out: *mut u8, out_size: usize, out_offset: usize, truthy: *const u8,
+        count: usize);
+    take_bits_at_u8(out: *mut u8, out_size: usize, out_offset: usize, bytes: *const u8, size: usize,
+        offset: usize, len: usize, indices: *const u8, index_count: usize, all_valid: bool,
+        validity: *const u8, validity_size: usize, validity_offset: usize) -> Place;
+    take_bits_at_u16(out: *mut u8, out_size: usize, out_offset: usize, bytes: *const u8,
+        size: usize, offset: usize, len: usize, indices: *const u16, index_count: usize,
+        all_valid: bool, validity: *const u8, validity_size: usize,
+        validity_offset: usize) -> Place;
+    take_bits_at_u32(out: *mut u8, out_size: usize, out_offset: usize, bytes: *const u8,
+        size: usize, offset: usize, len: usize, indices: *const u32, index_count: usize,
+        all_valid: bool, validity: *const u8, validity_size: usize,
+        validity_offset: usize) -> Place;
+    take_bits_at_u64(out: *mut u8, out_size: usize, out_offset: usize, bytes: *const u8,
+        size: usize, offset: usize, len: usize, indices: *const u64, index_count: usize,
+        all_valid: bool, validity: *const u8, validity_size: usize,
+        validity_offset: usize) -> Place;
+    filter_bits_at(out: *mut u8, out_size: usize, out_offset: usize, values: *const u8,
+        values_size: usize, values_offset: usize, mask: *const u8, mask_size: usize,
+        mask_offset: usize, len: usize) -> usize;
+    deposit_bits(out: *mut u8, out_size: usize, out_offset: usize, values: *const u8,
+        values_size: usize, values_offset: usize, mask: *const u8, mask_size: usize,
+        mask_offset: usize, len: usize);
     filter_u8(out: *mut u8, room: usize, values: *const u8, count: usize, mask: *const u8,
         mask_size: usize, mask_offset: usize) -> usize;
     filter_u16(out: *mut u16, room: usize, values: *const u16, count: usize, mask: *const u8,

@@ -70,6 +70,13 @@ impl<'a> Ranks<'a> {
     /// # Errors
     ///
     /// Where the table has no room; it is as it was.
+    ///
+    /// ```
+    /// use vortex_bits::{Bits, Ranks};
+    ///
+    /// let (bits, mut table) = (Bits::new(&[0xFF; 100], 0, 800), [0; 1]);
+    /// assert!(Ranks::try_new(bits, &mut table).is_err());
+    /// ```
     pub fn try_new(bits: Bits<'a>, table: &'a mut [usize]) -> Result<Ranks<'a>, ShortTable> {
         let entries = table.len();
         let table = table.get_mut(..blocks(bits.len()));
@@ -99,6 +106,14 @@ impl<'a> Ranks<'a> {
     /// # Errors
     ///
     /// Where the table has fewer entries than the window has blocks.
+    ///
+    /// ```
+    /// use vortex_bits::{Bits, Ranks};
+    ///
+    /// let bits = Bits::new(&[0xFF; 100], 0, 800);
+    /// assert!(Ranks::try_with_table(bits, &[0]).is_err());
+    /// assert_eq!(Ranks::try_with_table(bits, &[0, 512]).map(|it| it.rank(600)), Ok(600));
+    /// ```
     #[inline]
     pub fn try_with_table(bits: Bits<'a>, table: &'a [usize]) -> Result<Ranks<'a>, ShortTable> {
         let (blocks, entries) = (blocks(bits.len()), table.len());

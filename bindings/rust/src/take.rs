@@ -4,8 +4,7 @@ use crate::error::{TakeError, expect};
 use crate::{Bits, BitsMut, Mask, kernels};
 
 /// A type of indices: the twelve whole-number types. A negative one names no place, nor does one
-/// past `usize::MAX`. To take bits, those of 8 and 16 bits, as of dictionaries, are made wider by
-/// blocks; those of 128 go by plain Rust.
+/// past `usize::MAX`. Those of 128 bits go by plain Rust.
 #[diagnostic::on_unimplemented(
     message = "nothing is taken at indices of `{Self}`",
     label = "indices are whole numbers, in a slice of their own"
@@ -91,6 +90,15 @@ impl Bits<'_> {
     ///
     /// Where `out` hasn't a bit for each index, and at the first index that isn't a place of the
     /// window.
+    ///
+    /// ```
+    /// use vortex_bits::{Bits, BitsMut};
+    ///
+    /// let (bits, mut taken) = (Bits::new(&[0b10], 0, 2), [0]);
+    /// assert!(bits.try_take_into(&[1, 0, 1], BitsMut::new(&mut taken, 0, 3)).is_ok());
+    /// assert_eq!(taken, [0b101]);
+    /// assert!(bits.try_take_into(&[1, 2], BitsMut::new(&mut taken, 0, 2)).is_err());
+    /// ```
     #[inline]
     pub fn try_take_into<I: BitIndex>(
         self,
@@ -134,6 +142,15 @@ impl Bits<'_> {
     ///
     /// Where `out` or `validity` hasn't a bit for each index, and at the first index that is valid
     /// and isn't a place of the window.
+    ///
+    /// ```
+    /// use vortex_bits::{Bits, BitsMut};
+    ///
+    /// let (bits, valid, mut taken) = (Bits::new(&[0b10], 0, 2), Bits::new(&[0b01], 0, 2), [0]);
+    /// let out = BitsMut::new(&mut taken, 3, 2);
+    /// assert!(bits.try_take_valid_into(&[1, -1], valid, out).is_ok());
+    /// assert_eq!(taken, [0b1000]);
+    /// ```
     #[inline]
     pub fn try_take_valid_into<I: BitIndex>(
         self,

@@ -4,6 +4,7 @@ import unittest
 from pathlib import Path
 
 from documents.blocks import Blocks
+from documents.examples import examples
 from documents.files import Repository
 from documents.lists import lists
 from documents.picture import dependencies, levels, picture, reduced
@@ -52,7 +53,10 @@ pub fn two(n: u8) -> u8
     "crates/use_low/specs/F.antt": "-- f\nabbrev pub f : A\nf = b\n",
     "crates/vb_c/src/bit.rt": 'pub extern "C" fn vb_get(n: usize) -> bool\n'
     'pub extern "C" fn vb_try_get(n: usize) -> bool\n',
-    "bindings/c/any.h": "bool vb_get(size_t n);\nbool vb_try_get(size_t n);\n",
+    "bindings/c/any.h": "bool vb_get(size_t n);\nbool vb_try_get(size_t n);\n"
+    "bool vb_all(size_t n);\n",
+    "bindings/c/library/made.h": "bool vb_all(size_t n)\n{\n    return CALL(get)(n);\n}\n",
+    "bindings/rust/src/bits.rs": "/// ```\n/// bits.count(1);\n/// ```\npub fn count(n: u8) {}\n",
     "bindings/rust/src/native.rs": "\nkernels! {\n    get(n: usize) -> bool;\n}\n",
     "crates/vortex_buffer/src/lib.rt": "pub use low::{one,\n    two};\npub use low::Type;\n",
     "crates/vortex_buffer_tests/src/reached.rt": "//! All.\npub use vortex_buffer::Type;\n"
@@ -81,7 +85,7 @@ class Checked(unittest.TestCase):
 
     def test_nothing_is_wrong(self):
         repository = self.repository()
-        for check in (lists, names, links, stale, not_written):
+        for check in (lists, names, links, stale, not_written, examples):
             self.assertEqual(check(repository), [])
         self.assertEqual(Blocks(repository).found, [])
 
@@ -115,6 +119,10 @@ class Checked(unittest.TestCase):
         wanted = f"{TABLE}: isn't what tools/write-lists makes of its list: run it"
         self.assertEqual(not_written(repository), [wanted])
         self.assertEqual(table(repository), FILES[TABLE])
+
+    def test_a_call_that_no_example_has(self):
+        found = examples(self.repository(bits_dot_rs=("bits.count(1)", "bits.sum(1)")))
+        self.assertEqual(found, ["bindings/rust/src/bits.rs: no example has `count`"])
 
     def test_a_long_line_of_the_table_is_wrapped_between_parameters(self):
         of = of_header("void vb_move(const uint8_t *first_window, size_t first_offset, uint8_t "

@@ -112,6 +112,46 @@ asks! {
     /// ```
     last_unset() -> Option<usize>;
 
+    /// The place of the first true bit from place `from` on; None where there is none.
+    ///
+    /// ```
+    /// use vortex_bits::Bitmap;
+    ///
+    /// let rows = Bitmap::from([true, false, true, false, true]);
+    /// assert_eq!(rows.next_set(3), Some(4));
+    /// ```
+    next_set(from: usize) -> Option<usize>;
+
+    /// The place of the first false bit from place `from` on; None where there is none.
+    ///
+    /// ```
+    /// use vortex_bits::Bitmap;
+    ///
+    /// let rows = Bitmap::from([true, false, true, false, true]);
+    /// assert_eq!(rows.next_unset(2), Some(3));
+    /// ```
+    next_unset(from: usize) -> Option<usize>;
+
+    /// The place of the last true bit before place `before`; None where there is none.
+    ///
+    /// ```
+    /// use vortex_bits::Bitmap;
+    ///
+    /// let rows = Bitmap::from([true, false, true, false, true]);
+    /// assert_eq!(rows.previous_set(4), Some(2));
+    /// ```
+    previous_set(before: usize) -> Option<usize>;
+
+    /// The place of the last false bit before place `before`; None where there is none.
+    ///
+    /// ```
+    /// use vortex_bits::Bitmap;
+    ///
+    /// let rows = Bitmap::from([true, false, true, false, true]);
+    /// assert_eq!(rows.previous_unset(3), Some(1));
+    /// ```
+    previous_unset(before: usize) -> Option<usize>;
+
     /// Whether a bit is true: false of no bits.
     ///
     /// ```

@@ -1,16 +1,11 @@
-//! Bits and values that a mask keeps. The C function writes the first bits of some bytes: to a window
-//! that doesn't begin with a byte it goes by blocks, which are copied.
+//! Bits and values that a mask keeps.
 
 use crate::{Bits, BitsMut, Value, portable};
 
 #[cfg(vortex_bits_native)]
-use super::gather::BLOCK;
-#[cfg(vortex_bits_native)]
-use super::{copy, is_word};
+use super::is_word;
 #[cfg(vortex_bits_native)]
 use crate::level::kernels;
-#[cfg(vortex_bits_native)]
-use crate::native::Kernels;
 #[cfg(vortex_bits_native)]
 use crate::value::Laid;
 
@@ -21,48 +16,12 @@ pub fn filter(out: &mut BitsMut<'_>, bits: Bits<'_>, mask: Bits<'_>) {
     debug_assert_eq!(out.len(), portable::count_ones(mask));
     #[cfg(vortex_bits_native)]
     if let Some(kernels) = kernels().filter(|_| !is_word(mask)) {
-        return filter_by_blocks(kernels, out, bits, mask);
-    }
-    portable::filter(out, bits, mask);
-}
-
-#[cfg(vortex_bits_native)]
-fn filter_by_blocks(kernels: &Kernels, out: &mut BitsMut<'_>, bits: Bits<'_>, mask: Bits<'_>) {
-    if out.offset() % 8 == 0 {
-        let first = out.offset() / 8;
-        filter_first(kernels, &mut out.bytes_mut()[first..], bits, mask);
+        let function = kernels.filter_bits_at;
+        let kept: usize = native!(@call function, [] start_mut out, start bits, window mask);
+        debug_assert_eq!(kept, out.len());
         return;
     }
-    let (mut start, mut at) = (0, 0);
-    while start < mask.len() {
-        let n = (mask.len() - start).min(BLOCK);
-        let mut made = [0; BLOCK / 8];
-        let kept = filter_first(kernels, &mut made, bits.part(start, n), mask.part(start, n));
-        copy(&mut out.part(at, kept), Bits::new(&made, 0, kept));
-        start += n;
-        at += kept;
-    }
-}
-
-/// To the first bits of `out`, which has one for each that is kept; answers how many these are.
-#[cfg(vortex_bits_native)]
-fn filter_first(kernels: &Kernels, out: &mut [u8], bits: Bits<'_>, mask: Bits<'_>) -> usize {
-    let (bytes, by) = (bits.bytes(), mask.bytes());
-    // SAFETY: slices are what they say, the windows lie in their bytes and are of one length, and
-    // `out` has a bit for each true one of the mask.
-    unsafe {
-        (kernels.filter_bits)(
-            out.as_mut_ptr(),
-            out.len(),
-            bytes.as_ptr(),
-            bytes.len(),
-            bits.offset(),
-            by.as_ptr(),
-            by.len(),
-            mask.offset(),
-            mask.len(),
-        )
-    }
+    portable::filter(out, bits, mask);
 }
 
 /// Of as many values as bits of the mask, and an item of `out` for each whose bit is true.

@@ -90,8 +90,33 @@ pub fn last_set(bits: Bits<'_>) -> Option<usize> {
     last(bits, |word| word)
 }
 
-pub fn last_unset(bits: Bits<'_>) -> Option<usize> {
-    last(bits, |word| !word)
+pub fn previous_set(bits: Bits<'_>, before: usize) -> Option<usize> {
+    last(bits.part(0, before.min(bits.len())), |word| word)
+}
+
+pub fn previous_unset(bits: Bits<'_>, before: usize) -> Option<usize> {
+    last(bits.part(0, before.min(bits.len())), |word| !word)
+}
+
+pub fn next_set(bits: Bits<'_>, from: usize) -> Option<usize> {
+    next(bits, from, |word| word)
+}
+
+pub fn next_unset(bits: Bits<'_>, from: usize) -> Option<usize> {
+    next(bits, from, |word| !word)
+}
+
+/// The place of the first bit from place `from` on that is true in the words that `seen` makes of
+/// those of the window.
+#[inline]
+fn next(bits: Bits<'_>, from: usize, seen: impl Fn(u64) -> u64) -> Option<usize> {
+    let from = from.min(bits.len());
+    let rest = bits.part(from, bits.len() - from);
+    words(rest)
+        .enumerate()
+        .map(|(i, word)| (i, seen(word) & low(rest.len() - 64 * i)))
+        .find(|&(_, word)| word != 0)
+        .map(|(i, word)| from + 64 * i + word.trailing_zeros() as usize)
 }
 
 /// The place of the last bit that is true in the words that `seen` makes of those of the window.
@@ -114,6 +139,16 @@ pub fn equal(left: Bits<'_>, right: Bits<'_>) -> bool {
     };
     let mut blocks = (0..left.len()).step_by(BLOCK);
     blocks.all(|start| differences(start) == 0)
+}
+
+/// Of windows of one length. No word behind the first one with such a bit is read.
+pub fn is_disjoint(left: Bits<'_>, right: Bits<'_>) -> bool {
+    words(left).zip(words(right)).all(|(left, right)| left & right == 0)
+}
+
+/// Of windows of one length. No word behind the first one with another bit is read.
+pub fn is_subset(left: Bits<'_>, right: Bits<'_>) -> bool {
+    words(left).zip(words(right)).all(|(left, right)| left & !right == 0)
 }
 
 /// How many bits the operator makes true, of windows of one length.

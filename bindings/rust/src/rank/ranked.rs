@@ -107,6 +107,13 @@ impl<B: AsRef<[u8]>> Ranked<B> {
     }
 
     /// The bitmap without its table.
+    ///
+    /// ```
+    /// use vortex_bits::Bitmap;
+    ///
+    /// let rows = Bitmap::from([true, false, true]);
+    /// assert_eq!(rows.clone().ranked().into_bitmap(), rows);
+    /// ```
     #[inline]
     pub fn into_bitmap(self) -> Bitmap<B> {
         self.bitmap

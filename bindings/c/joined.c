@@ -1,0 +1,244 @@
+/*
+ * Writes at a bit offset of vortex_bits_gather.h beside a loop over single bits: over random
+ * windows of some blocks of 4,096 bits, and each checked form with numbers at and past every limit.
+ * Batches that are joined are those that a loop joins. It is C and C++ alike.
+ */
+#include "vortex_bits.h"
+
+#include <stdio.h>
+#include <string.h>
+
+enum { BYTES = 3000, BITS = 8 * BYTES, ROUNDS = 300, SOME = 12000 };
+
+static uint64_t state = 88172645463325252u;
+static int failures = 0;
+static unsigned long long calls = 0;
+static uint8_t left[BYTES], right[BYTES], before[BYTES], wanted[BYTES], got[BYTES];
+
+static size_t random_below(size_t n)
+{
+    state ^= state << 13;
+    state ^= state >> 7;
+    state ^= state << 17;
+    return (size_t)(state % n);
+}
+
+static void check(bool holds, const char *what)
+{
+    if (!holds) {
+        failures++;
+        fprintf(stderr, "failed: %s\n", what);
+    }
+}
+
+static bool bit(const uint8_t *bytes, size_t i)
+{
+    return (bytes[i / 8] >> (i % 8) & 1) != 0;
+}
+
+static void put(uint8_t *bytes, size_t i, bool v)
+{
+    const uint8_t mask = (uint8_t)(1u << (i % 8));
+    bytes[i / 8] = (uint8_t)(v ? bytes[i / 8] | mask : bytes[i / 8] & ~mask);
+}
+
+static void randomize(uint8_t *bytes)
+{
+    const size_t kind = random_below(4);
+    for (size_t i = 0; i < BYTES; i++) {
+        const uint8_t some = (uint8_t)random_below(256);
+        bytes[i] = kind == 0 ? 0 : kind == 1 ? 255 : kind == 2 ? some
+            : (uint8_t)(some & random_below(256));
+    }
+}
+
+/* Few bits in most rounds, and in some several blocks. */
+static size_t length_up_to(size_t most)
+{
+    return random_below(random_below(3) == 0 ? most + 1 : most / 60 + 1);
+}
+
+/* An offset that begins a byte in half of the rounds. */
+static size_t offset_for(size_t len)
+{
+    const size_t o = random_below(BITS - len + 1);
+    return random_below(2) == 0 ? o : o - o % 8;
+}
+
+static void begin(void)
+{
+    memcpy(got, before, BYTES);
+    calls++;
+}
+
+static void wrote(const char *what)
+{
+    check(memcmp(got, wanted, BYTES) == 0, what);
+}
+
+static void filters(void)
+{
+    const size_t len = length_up_to(BITS / 2);
+    const size_t v = random_below(BITS - len + 1), m = random_below(BITS - len + 1);
+    size_t kept = 0, written = 77;
+    for (size_t i = 0; i < len; i++) {
+        kept += bit(right, m + i);
+    }
+    const size_t o = offset_for(kept);
+    memcpy(wanted, before, BYTES);
+    for (size_t i = 0, at = o; i < len; i++) {
+        if (bit(right, m + i)) {
+            put(wanted, at++, bit(left, v + i));
+        }
+    }
+    begin();
+    check(vb_filter_bits_at(got, BYTES, o, left, BYTES, v, right, BYTES, m, len) == kept,
+        "vb_filter_bits_at");
+    wrote("what vb_filter_bits_at writes");
+    begin();
+    check(vb_try_filter_bits_at(got, BYTES, o, left, BYTES, v, right, BYTES, m, len, &written)
+            && written == kept, "vb_try_filter_bits_at");
+    wrote("what vb_try_filter_bits_at writes");
+    /* The last bit that is kept has no room, and no window of bits that don't exist fits. */
+    written = 77;
+    memcpy(wanted, before, BYTES);
+    begin();
+    check(!vb_try_filter_bits_at(got, BYTES, BITS + 1 - kept, left, BYTES, v, right, BYTES, m, len,
+        &written), "a filter without room");
+    check(!vb_try_filter_bits_at(got, BYTES, 0, left, BYTES, BITS + 1 - len, right, BYTES, m, len,
+        &written), "a filter of bits that don't exist");
+    check(!vb_try_filter_bits_at(got, BYTES, 0, left, BYTES, v, right, BYTES, SIZE_MAX, len + 1,
+        &written), "a filter by a mask past every place");
+    check(!vb_try_filter_bits_at(got, BYTES, SIZE_MAX, left, BYTES, v, right, BYTES, m, len,
+        &written) || kept == 0, "a filter to a place past every one");
+    check(written == 77, "what a refused filter answers");
+    wrote("what stands after a refused filter");
+}
+
+static void packs(void)
+{
+    static bool bools[BYTES];
+    const size_t n = length_up_to(BYTES), o = offset_for(n);
+    memcpy(wanted, before, BYTES);
+    for (size_t i = 0; i < n; i++) {
+        bools[i] = left[i] != 0;
+        put(wanted, o + i, bools[i]);
+    }
+    begin();
+    vb_pack_bools_at(got, BYTES, o, bools, n);
+    wrote("what vb_pack_bools_at writes");
+    begin();
+    check(vb_try_pack_bools_at(got, BYTES, o, bools, n), "vb_try_pack_bools_at");
+    wrote("what vb_try_pack_bools_at writes");
+    begin();
+    vb_pack_truthy_at(got, BYTES, o, left, n);
+    wrote("what vb_pack_truthy_at writes");
+    begin();
+    check(vb_try_pack_truthy_at(got, BYTES, o, left, n), "vb_try_pack_truthy_at");
+    wrote("what vb_try_pack_truthy_at writes");
+    memcpy(wanted, before, BYTES);
+    begin();
+    check(!vb_try_pack_bools_at(got, BYTES, BITS + 1 - n, bools, n)
+            && !vb_try_pack_truthy_at(got, BYTES, BITS + 1 - n, left, n)
+            && !vb_try_pack_bools_at(got, BYTES, SIZE_MAX, bools, n + 1)
+            && !vb_try_pack_truthy_at(got, BYTES, SIZE_MAX, left, n + 1), "a pack without room");
+    wrote("what stands after a refused pack");
+}
+
+/* What vb_take_bits_at_I and its checked form write, beside a loop. */
+#define TAKES(I, index_t)                                                                         \
+    static void takes_##I(void)                                                                   \
+    {                                                                                             \
+        static index_t indices[SOME];                                                             \
+        const size_t n = length_up_to(SOME), o = offset_for(n);                                   \
+        const size_t most = sizeof(index_t) == 1 ? 255 : BITS - 9;                                \
+        const size_t len = 1 + random_below(most), offset = random_below(BITS - len + 1);         \
+        const size_t v = random_below(BITS - n + 1), bad = random_below(4 * (n + 1));             \
+        const bool all = random_below(2) == 0;                                                    \
+        size_t past = n;                                                                          \
+        memcpy(wanted, before, BYTES);                                                            \
+        for (size_t i = 0; i < n; i++) {                                                          \
+            const bool counts = all || bit(right, v + i);                                         \
+            indices[i] = (index_t)(i == bad ? len : random_below(len));                           \
+            if (counts && i == bad) {                                                             \
+                past = i;                                                                         \
+            }                                                                                     \
+            put(wanted, o + i, counts && i != bad && bit(left, offset + (size_t)indices[i]));     \
+        }                                                                                         \
+        for (int checked = 0; checked < 2; checked++) {                                           \
+            vb_place place = {true, 77};                                                          \
+            begin();                                                                              \
+            if (checked != 0) {                                                                   \
+                check(vb_try_take_bits_at_##I(got, BYTES, o, left, BYTES, offset, len, indices,   \
+                    n, all, all ? NULL : right, all ? 0 : BYTES, v, &place),                      \
+                    "vb_try_take_bits_at_" #I);                                                   \
+            } else {                                                                              \
+                place = vb_take_bits_at_##I(got, BYTES, o, left, BYTES, offset, len, indices, n,  \
+                    all, all ? NULL : right, all ? 0 : BYTES, v);                                 \
+            }                                                                                     \
+            check(place.found == (past < n) && (past == n || place.index == past),                \
+                "the position that vb_take_bits_at_" #I " answers");                              \
+            for (size_t i = 0; past < n && i < n; i++) {                                          \
+                put(got, o + i, bit(wanted, o + i));                                              \
+            }                                                                                     \
+            wrote("what vb_take_bits_at_" #I " writes");                                          \
+        }                                                                                         \
+        vb_place kept = {true, 77};                                                               \
+        memcpy(wanted, before, BYTES);                                                            \
+        begin();                                                                                  \
+        check(!vb_try_take_bits_at_##I(got, BYTES, BITS + 1 - n, left, BYTES, offset, len,        \
+                indices, n, true, NULL, 0, 0, &kept)                                              \
+            && !vb_try_take_bits_at_##I(got, BYTES, SIZE_MAX, left, BYTES, offset, len, indices,  \
+                n + (n == 0), true, NULL, 0, 0, &kept)                                            \
+            && !vb_try_take_bits_at_##I(got, BYTES, 0, left, BYTES, BITS + 1 - len, len, indices, \
+                n, true, NULL, 0, 0, &kept)                                                       \
+            && !vb_try_take_bits_at_##I(got, BYTES, 0, left, BYTES, offset, len, indices, n,      \
+                false, right, BYTES, BITS + 1 - n, &kept), "bad numbers of a take");              \
+        check(kept.found && kept.index == 77, "what a refused take answers");                     \
+        wrote("what stands after a refused take");                                                \
+    }
+
+TAKES(u8, uint8_t)
+TAKES(u16, uint16_t)
+TAKES(u32, uint32_t)
+TAKES(u64, uint64_t)
+
+/* Batches one behind the other, as a column is made of them. */
+static void joins(void)
+{
+    size_t at = 0, rows = 0;
+    memcpy(wanted, before, BYTES);
+    begin();
+    for (size_t from = 0; from < BITS / 2;) {
+        const size_t len = random_below(BITS / 2 - from + 1) % 5000 + 1;
+        const size_t n = len < BITS / 2 - from ? len : BITS / 2 - from;
+        at += vb_filter_bits_at(got, BYTES, at, left, BYTES, from, right, BYTES, from, n);
+        calls++;
+        from += n;
+    }
+    for (size_t i = 0; i < BITS / 2; i++) {
+        if (bit(right, i)) {
+            put(wanted, rows++, bit(left, i));
+        }
+    }
+    check(at == rows, "how many rows the batches have");
+    wrote("batches that are joined");
+}
+
+int main(void)
+{
+    for (int round = 0; round < ROUNDS; round++) {
+        randomize(left);
+        randomize(right);
+        randomize(before);
+        filters();
+        packs();
+        takes_u8();
+        takes_u16();
+        takes_u32();
+        takes_u64();
+        joins();
+    }
+    printf("%llu calls that write at an offset\n", calls);
+    return failures == 0 ? 0 : 1;
+}

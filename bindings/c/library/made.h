@@ -1,0 +1,123 @@
+/*
+ * The functions of vortex_bits.h that no level has: each takes one of several by the size of a value
+ * or of an index, or bools as bytes.
+ */
+#ifndef VORTEX_BITS_MADE_H
+#define VORTEX_BITS_MADE_H
+
+/* Bools are packed as bytes, so that one that no compiler makes changes no bit beside its own. */
+void vb_pack_bools_at(uint8_t *out, size_t out_size, size_t out_offset, const bool *bools,
+    size_t count)
+{
+    CALL(pack_truthy_at)(ANY(out), out_size, out_offset, ANY((const uint8_t *)bools), count);
+}
+
+bool vb_try_pack_bools_at(uint8_t *out, size_t out_size, size_t out_offset, const bool *bools,
+    size_t count)
+{
+    return CALL(try_pack_truthy_at)(ANY(out), out_size, out_offset, ANY((const uint8_t *)bools),
+        count);
+}
+
+/* Whether there are functions for items of so many bytes, and these are aligned as theirs. */
+static bool is_laid(const void *items, size_t size, size_t most)
+{
+    const bool known = size == 1 || size == 2 || size == 4 || size == 8 || size == 16;
+    return known && size <= most && (uintptr_t)items % (size < 8 ? size : 8) == 0;
+}
+
+/* What one of the functions for values of so many bytes answers. */
+#define OF_VALUES(name, V, ...)                                                                   \
+    CALL(name)(ANY((V *)out), room, ANY((const V *)values), count, __VA_ARGS__)
+
+size_t vb_filter_values(void *out, size_t room, const void *values, size_t count,
+    size_t value_size, const uint8_t *mask, size_t mask_size, size_t mask_offset)
+{
+    switch (value_size) {
+#define WIDTH(size, name, V)                                                                      \
+    case size:                                                                                    \
+        return OF_VALUES(filter_##name, V, ANY(mask), mask_size, mask_offset);
+        WIDTH(1, u8, uint8_t)
+        WIDTH(2, u16, uint16_t)
+        WIDTH(4, u32, uint32_t)
+        WIDTH(8, u64, uint64_t)
+        WIDTH(16, u128, vb_u128)
+#undef WIDTH
+    default:
+        return 0;
+    }
+}
+
+bool vb_try_filter_values(void *out, size_t room, const void *values, size_t count,
+    size_t value_size, const uint8_t *mask, size_t mask_size, size_t mask_offset, size_t *written)
+{
+    if (!is_laid(out, value_size, 16) || !is_laid(values, value_size, 16)) {
+        return false;
+    }
+    switch (value_size) {
+#define WIDTH(size, name, V)                                                                      \
+    case size:                                                                                    \
+        return OF_VALUES(try_filter_##name, V, ANY(mask), mask_size, mask_offset, written);
+        WIDTH(1, u8, uint8_t)
+        WIDTH(2, u16, uint16_t)
+        WIDTH(4, u32, uint32_t)
+        WIDTH(8, u64, uint64_t)
+        WIDTH(16, u128, vb_u128)
+#undef WIDTH
+    default:
+        return false;
+    }
+}
+
+/* A value of so many bytes at an index of so many. */
+#define PAIR(value_size, index_size) (16 * (value_size) + (index_size))
+#define PAIRS(WIDTH, size, index, I)                                                              \
+    WIDTH(1, u8, uint8_t, size, index, I)                                                         \
+    WIDTH(2, u16, uint16_t, size, index, I)                                                       \
+    WIDTH(4, u32, uint32_t, size, index, I)                                                       \
+    WIDTH(8, u64, uint64_t, size, index, I)                                                       \
+    WIDTH(16, u128, vb_u128, size, index, I)
+
+vb_place vb_take_values(void *out, size_t room, const void *values, size_t count,
+    size_t value_size, const void *indices, size_t index_count, size_t index_size, bool all_valid,
+    const uint8_t *validity, size_t validity_size, size_t validity_offset)
+{
+    switch (PAIR(value_size, index_size)) {
+#define WIDTH(size, name, V, wide, index, I)                                                      \
+    case PAIR(size, wide):                                                                        \
+        return OF_VALUES(take_values_##name##_##index, V, ANY((const I *)indices), index_count,   \
+            all_valid, ANY(validity), validity_size, validity_offset);
+        PAIRS(WIDTH, 1, u8, uint8_t)
+        PAIRS(WIDTH, 2, u16, uint16_t)
+        PAIRS(WIDTH, 4, u32, uint32_t)
+        PAIRS(WIDTH, 8, u64, uint64_t)
+#undef WIDTH
+    default:
+        return (vb_place){false, 0};
+    }
+}
+
+bool vb_try_take_values(void *out, size_t room, const void *values, size_t count,
+    size_t value_size, const void *indices, size_t index_count, size_t index_size, bool all_valid,
+    const uint8_t *validity, size_t validity_size, size_t validity_offset, vb_place *past)
+{
+    if (!is_laid(out, value_size, 16) || !is_laid(values, value_size, 16)
+            || !is_laid(indices, index_size, 8)) {
+        return false;
+    }
+    switch (PAIR(value_size, index_size)) {
+#define WIDTH(size, name, V, wide, index, I)                                                      \
+    case PAIR(size, wide):                                                                        \
+        return OF_VALUES(try_take_values_##name##_##index, V, ANY((const I *)indices),            \
+            index_count, all_valid, ANY(validity), validity_size, validity_offset, past);
+        PAIRS(WIDTH, 1, u8, uint8_t)
+        PAIRS(WIDTH, 2, u16, uint16_t)
+        PAIRS(WIDTH, 4, u32, uint32_t)
+        PAIRS(WIDTH, 8, u64, uint64_t)
+#undef WIDTH
+    default:
+        return false;
+    }
+}
+
+#endif

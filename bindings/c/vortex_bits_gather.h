@@ -1,0 +1,202 @@
+/*
+ * Bits that are put together of others: truth values packed, bits at indices, those that a mask
+ * keeps and those that go back to where it kept them. vortex_bits.h includes this file, and its
+ * head says what the caller owes of every call.
+ *
+ * Calls that end in _at write to any window of `out`, and leave every other bit of it: so what
+ * batches give is joined as it is made. The others write the first bits.
+ */
+#ifndef VORTEX_BITS_GATHER_H
+#define VORTEX_BITS_GATHER_H
+
+#include "vortex_bits.h"
+
+#ifdef __cplusplus
+extern "C" {
+#endif
+
+/*
+ * Packs `count` truth values into the first bytes of `out`, eight into each; the bits of the last
+ * one behind them are false, and later bytes stay. `out` has room for as many bits. A `bool` is a
+ * byte 0 or 1, as the compiler makes it: another one, written through a pointer, counts as true.
+ *
+ *     uint8_t out[] = {0xFF};
+ *     vb_pack_bools(out, 1, (const bool[]){true, false, true}, 3);
+ *     assert(out[0] == 0x05);
+ */
+void vb_pack_bools(uint8_t *out, size_t out_size, const bool *bools, size_t count);
+VB_CHECKED bool vb_try_pack_bools(uint8_t *out, size_t out_size, const bool *bools, size_t count);
+
+/*
+ * The same of bytes, each of which is true where it is not 0.
+ *
+ *     uint8_t out[] = {0xFF};
+ *     const uint8_t truthy[] = {7, 0, 255};
+ *     vb_pack_truthy(out, 1, truthy, 3);
+ *     assert(out[0] == 0x05);
+ */
+void vb_pack_truthy(uint8_t *out, size_t out_size, const uint8_t *truthy, size_t count);
+VB_CHECKED bool vb_try_pack_truthy(uint8_t *out, size_t out_size, const uint8_t *truthy,
+        size_t count);
+
+/*
+ * The same to the `count` bits of `out` from bit `out_offset` on. 64 values go at a time, by
+ * vectors.
+ *
+ *     uint8_t out[] = {0xFF};
+ *     const uint8_t truthy[] = {7, 0, 255};
+ *     vb_pack_truthy_at(out, 1, 3, truthy, 3);
+ *     vb_pack_bools_at(out, 1, 0, (const bool *)truthy + 1, 1);
+ *     assert(out[0] == 0xEE);
+ */
+void vb_pack_bools_at(uint8_t *out, size_t out_size, size_t out_offset, const bool *bools,
+        size_t count);
+VB_CHECKED bool vb_try_pack_bools_at(uint8_t *out, size_t out_size, size_t out_offset,
+        const bool *bools, size_t count);
+void vb_pack_truthy_at(uint8_t *out, size_t out_size, size_t out_offset, const uint8_t *truthy,
+        size_t count);
+VB_CHECKED bool vb_try_pack_truthy_at(uint8_t *out, size_t out_size, size_t out_offset,
+        const uint8_t *truthy, size_t count);
+
+/*
+ * Writes the bits that the indices name among those of the window to the first bits of `out`, which
+ * has room for one each, and answers no place; or answers the first position whose index is not
+ * below `len`. The bits of `out` behind these stay; where a position is answered, these hold
+ * anything. The checked forms answer that in `past`. 64 indices go at a time.
+ *
+ *     uint8_t out[] = {0};
+ *     const uint8_t bits[] = {0x12};
+ *     const uint32_t indices[] = {4, 0, 1};
+ *     assert(!vb_take_u32(out, 1, bits, 1, 0, 5, indices, 3).found && out[0] == 0x05);
+ *     assert(vb_take_u32(out, 1, bits, 1, 0, 4, indices, 3).found);    // index 4 at position 0
+ */
+vb_place vb_take_u32(uint8_t *out, size_t out_size, const uint8_t *bytes, size_t size,
+        size_t offset, size_t len, const uint32_t *indices, size_t index_count);
+VB_CHECKED bool vb_try_take_u32(uint8_t *out, size_t out_size, const uint8_t *bytes, size_t size,
+        size_t offset, size_t len, const uint32_t *indices, size_t index_count, vb_place *past);
+vb_place vb_take_u64(uint8_t *out, size_t out_size, const uint8_t *bytes, size_t size,
+        size_t offset, size_t len, const uint64_t *indices, size_t index_count);
+VB_CHECKED bool vb_try_take_u64(uint8_t *out, size_t out_size, const uint8_t *bytes, size_t size,
+        size_t offset, size_t len, const uint64_t *indices, size_t index_count, vb_place *past);
+
+/*
+ * The same where a position counts only if the bit of `validity` from bit `validity_offset` on is
+ * true there: at the others false is written, and their indices are not looked at.
+ *
+ *     uint8_t out[] = {0};
+ *     const uint8_t bits[] = {0x12}, valid[] = {0x06};
+ *     const uint64_t indices[] = {99, 0, 1};
+ *     assert(!vb_take_valid_u64(out, 1, bits, 1, 0, 5, indices, 3, valid, 1, 0).found);
+ *     assert(out[0] == 0x04);
+ */
+vb_place vb_take_valid_u32(uint8_t *out, size_t out_size, const uint8_t *bytes, size_t size,
+        size_t offset, size_t len, const uint32_t *indices, size_t index_count,
+        const uint8_t *validity, size_t validity_size, size_t validity_offset);
+VB_CHECKED bool vb_try_take_valid_u32(uint8_t *out, size_t out_size, const uint8_t *bytes,
+        size_t size, size_t offset, size_t len, const uint32_t *indices, size_t index_count,
+        const uint8_t *validity, size_t validity_size, size_t validity_offset, vb_place *past);
+vb_place vb_take_valid_u64(uint8_t *out, size_t out_size, const uint8_t *bytes, size_t size,
+        size_t offset, size_t len, const uint64_t *indices, size_t index_count,
+        const uint8_t *validity, size_t validity_size, size_t validity_offset);
+VB_CHECKED bool vb_try_take_valid_u64(uint8_t *out, size_t out_size, const uint8_t *bytes,
+        size_t size, size_t offset, size_t len, const uint64_t *indices, size_t index_count,
+        const uint8_t *validity, size_t validity_size, size_t validity_offset, vb_place *past);
+
+/*
+ * The same by indices of 8 to 64 bits, to the bits of `out` from bit `out_offset` on, one for each
+ * index. Where `all_valid` is true, each position counts, and the validity may be null, of no
+ * bytes; else as above. Where a position is answered, these bits of `out` hold anything. Signed
+ * indices go by casts, where `len` is at most what they can name, as in vortex_bits_values.h.
+ *
+ *     uint8_t out[] = {0xFF};
+ *     const uint8_t bits[] = {0x12}, indices[] = {4, 0, 1};
+ *     vb_place past = vb_take_bits_at_u8(out, 1, 4, bits, 1, 0, 5, indices, 3, true, NULL, 0, 0);
+ *     assert(!past.found && out[0] == 0xDF);
+ */
+vb_place vb_take_bits_at_u8(uint8_t *out, size_t out_size, size_t out_offset,
+        const uint8_t *bytes, size_t size, size_t offset, size_t len, const uint8_t *indices,
+        size_t index_count, bool all_valid, const uint8_t *validity, size_t validity_size,
+        size_t validity_offset);
+VB_CHECKED bool vb_try_take_bits_at_u8(uint8_t *out, size_t out_size, size_t out_offset,
+        const uint8_t *bytes, size_t size, size_t offset, size_t len, const uint8_t *indices,
+        size_t index_count, bool all_valid, const uint8_t *validity, size_t validity_size,
+        size_t validity_offset, vb_place *past);
+vb_place vb_take_bits_at_u16(uint8_t *out, size_t out_size, size_t out_offset,
+        const uint8_t *bytes, size_t size, size_t offset, size_t len, const uint16_t *indices,
+        size_t index_count, bool all_valid, const uint8_t *validity, size_t validity_size,
+        size_t validity_offset);
+VB_CHECKED bool vb_try_take_bits_at_u16(uint8_t *out, size_t out_size, size_t out_offset,
+        const uint8_t *bytes, size_t size, size_t offset, size_t len, const uint16_t *indices,
+        size_t index_count, bool all_valid, const uint8_t *validity, size_t validity_size,
+        size_t validity_offset, vb_place *past);
+vb_place vb_take_bits_at_u32(uint8_t *out, size_t out_size, size_t out_offset,
+        const uint8_t *bytes, size_t size, size_t offset, size_t len, const uint32_t *indices,
+        size_t index_count, bool all_valid, const uint8_t *validity, size_t validity_size,
+        size_t validity_offset);
+VB_CHECKED bool vb_try_take_bits_at_u32(uint8_t *out, size_t out_size, size_t out_offset,
+        const uint8_t *bytes, size_t size, size_t offset, size_t len, const uint32_t *indices,
+        size_t index_count, bool all_valid, const uint8_t *validity, size_t validity_size,
+        size_t validity_offset, vb_place *past);
+vb_place vb_take_bits_at_u64(uint8_t *out, size_t out_size, size_t out_offset,
+        const uint8_t *bytes, size_t size, size_t offset, size_t len, const uint64_t *indices,
+        size_t index_count, bool all_valid, const uint8_t *validity, size_t validity_size,
+        size_t validity_offset);
+VB_CHECKED bool vb_try_take_bits_at_u64(uint8_t *out, size_t out_size, size_t out_offset,
+        const uint8_t *bytes, size_t size, size_t offset, size_t len, const uint64_t *indices,
+        size_t index_count, bool all_valid, const uint8_t *validity, size_t validity_size,
+        size_t validity_offset, vb_place *past);
+
+/*
+ * Writes those of the `len` bits of `values` from bit `values_offset` on whose bit of `mask` from
+ * bit `mask_offset` on is true, in order, to the first bits of `out`, which has room for them, and
+ * answers (`written`) how many these are. The bits of `out` behind them stay. The checked form
+ * tests the room too. 64 bits go at a time.
+ *
+ *     uint8_t out[] = {0};
+ *     const uint8_t bits[] = {0x76}, mask[] = {0x4B};
+ *     assert(vb_filter_bits(out, 1, bits, 1, 0, mask, 1, 0, 7) == 4 && out[0] == 0x0A);
+ */
+size_t vb_filter_bits(uint8_t *out, size_t out_size, const uint8_t *values, size_t values_size,
+        size_t values_offset, const uint8_t *mask, size_t mask_size, size_t mask_offset,
+        size_t len);
+VB_CHECKED bool vb_try_filter_bits(uint8_t *out, size_t out_size, const uint8_t *values,
+        size_t values_size, size_t values_offset, const uint8_t *mask, size_t mask_size,
+        size_t mask_offset, size_t len, size_t *written);
+
+/*
+ * The same to the bits of `out` from bit `out_offset` on, which lie in it.
+ *
+ *     uint8_t out[] = {0xFF};
+ *     const uint8_t bits[] = {0x76}, mask[] = {0x4B};
+ *     assert(vb_filter_bits_at(out, 1, 3, bits, 1, 0, mask, 1, 0, 7) == 4 && out[0] == 0xD7);
+ */
+size_t vb_filter_bits_at(uint8_t *out, size_t out_size, size_t out_offset, const uint8_t *values,
+        size_t values_size, size_t values_offset, const uint8_t *mask, size_t mask_size,
+        size_t mask_offset, size_t len);
+VB_CHECKED bool vb_try_filter_bits_at(uint8_t *out, size_t out_size, size_t out_offset,
+        const uint8_t *values, size_t values_size, size_t values_offset, const uint8_t *mask,
+        size_t mask_size, size_t mask_offset, size_t len, size_t *written);
+
+/*
+ * Undoes vb_filter_bits: writes `len` bits to `out` from bit `out_offset` on, which are those of
+ * `values` from bit `values_offset` on, in order, where the bit of `mask` from bit `mask_offset` on
+ * is true, and false elsewhere. `values` has a bit for each true one of the mask, which the checked
+ * form counts. Every other bit of `out` stays.
+ *
+ *     uint8_t out[] = {0};
+ *     const uint8_t bits[] = {0x0A}, mask[] = {0x4B};
+ *     vb_deposit_bits(out, 1, 0, bits, 1, 0, mask, 1, 0, 7);
+ *     assert(out[0] == 0x42);
+ */
+void vb_deposit_bits(uint8_t *out, size_t out_size, size_t out_offset, const uint8_t *values,
+        size_t values_size, size_t values_offset, const uint8_t *mask, size_t mask_size,
+        size_t mask_offset, size_t len);
+VB_CHECKED bool vb_try_deposit_bits(uint8_t *out, size_t out_size, size_t out_offset,
+        const uint8_t *values, size_t values_size, size_t values_offset, const uint8_t *mask,
+        size_t mask_size, size_t mask_offset, size_t len);
+
+#ifdef __cplusplus
+}
+#endif
+
+#endif

@@ -1,0 +1,157 @@
+/*
+ * Bits that are put together of others, for vortex_bits.hpp, which includes this file: truth values
+ * packed, bits at indices, those that a mask keeps, and those that go back to where it kept them.
+ *
+ *     std::array<bool, 3> flags = {true, false, true};
+ *     std::vector<std::uint8_t> packed(1);
+ *     vortex_bits::pack_bools(flags, packed);           // 0x05
+ */
+#ifndef VORTEX_BITS_GATHER_HPP
+#define VORTEX_BITS_GATHER_HPP
+
+#include "vortex_bits.hpp"
+
+namespace vortex_bits {
+
+namespace detail {
+
+/* The C function that takes bits at indices of so many bytes. */
+template <std::size_t Index> struct bits_taken_by;
+#define VB_TAKEN_BY(size, name, integer)                                                          \
+    template <> struct bits_taken_by<size> {                                                      \
+        using type = integer;                                                                     \
+        static constexpr auto take = vb_take_bits_at_##name;                                      \
+    };
+VB_TAKEN_BY(1, u8, std::uint8_t)
+VB_TAKEN_BY(2, u16, std::uint16_t)
+VB_TAKEN_BY(4, u32, std::uint32_t)
+VB_TAKEN_BY(8, u64, std::uint64_t)
+#undef VB_TAKEN_BY
+
+/* How many of so many items indices of the type can name: negative ones are read as behind them. */
+template <class Index> std::size_t reached(std::size_t count)
+{
+    if constexpr (std::is_signed_v<Index>) {
+        return std::min(count, static_cast<std::size_t>(std::numeric_limits<Index>::max()) + 1);
+    }
+    return count;
+}
+
+} // namespace detail
+
+template <class Indices>
+std::optional<std::size_t> bits::take(const Indices &indices, const bits *valid, std::uint8_t *out,
+    std::size_t size, std::size_t at) const
+{
+    using index = std::remove_cv_t<detail::lent_t<const Indices>>;
+    static_assert(detail::is_index<index>(),
+        "take_into takes indices of a whole number of 8, 16, 32 or 64 bits");
+    detail::expect(fits(size, at, indices.size()), "no room for a bit an index");
+    detail::expect(valid == nullptr || valid->len_ == indices.size(),
+        "not a bit of validity for each index");
+    if constexpr (detail::is_index<index>()) {
+        using by = detail::bits_taken_by<sizeof(index)>;
+        const bits counts = valid != nullptr ? *valid : bits();
+        return detail::place(by::take(out, size, at, bytes_, size_, offset_,
+            detail::reached<index>(len_),
+            reinterpret_cast<const typename by::type *>(indices.data()), indices.size(),
+            valid == nullptr, counts.bytes_, counts.size_, counts.offset_));
+    }
+    return std::nullopt;
+}
+
+template <class Indices, class Out>
+std::optional<std::size_t> bits::take_into(const Indices &indices, Out &&out) const
+{
+    static_assert(detail::is_bytes<Out>(), "take_into writes bytes of std::uint8_t");
+    return take(indices, nullptr, out.data(), out.size(), 0);
+}
+
+template <class Indices, class Out>
+std::optional<std::size_t> bits::take_into(const Indices &indices, bits valid, Out &&out) const
+{
+    static_assert(detail::is_bytes<Out>(), "take_into writes bytes of std::uint8_t");
+    return take(indices, &valid, out.data(), out.size(), 0);
+}
+
+template <class Out> std::size_t bits::filter_into(bits mask, Out &&out) const
+{
+    static_assert(detail::is_bytes<Out>(), "filter_into writes bytes of std::uint8_t");
+    detail::expect(mask.len_ == len_, "windows are of two lengths");
+    detail::expect(fits(out.size(), 0, mask.count_ones()), "no room for the bits to keep");
+    return vb_filter_bits(out.data(), out.size(), bytes_, size_, offset_, mask.bytes_, mask.size_,
+        mask.offset_, len_);
+}
+
+inline std::size_t bits_mut::filter_of(bits values, bits mask)
+{
+    detail::expect(mask.len_ == values.len_, "windows are of two lengths");
+    detail::expect(mask.count_ones() <= len_, "no room for the bits to keep");
+    return vb_filter_bits_at(bytes_, size_, offset_, values.bytes_, values.size_, values.offset_,
+        mask.bytes_, mask.size_, mask.offset_, mask.len_);
+}
+
+template <class Indices>
+std::optional<std::size_t> bits_mut::take_of(bits values, const Indices &indices)
+{
+    detail::expect(indices.size() <= len_, "no room for a bit an index");
+    return values.take(indices, nullptr, bytes_, size_, offset_);
+}
+
+template <class Indices>
+std::optional<std::size_t> bits_mut::take_of(bits values, const Indices &indices, bits valid)
+{
+    detail::expect(indices.size() <= len_, "no room for a bit an index");
+    return values.take(indices, &valid, bytes_, size_, offset_);
+}
+
+inline void bits_mut::deposit_of(bits values, bits mask)
+{
+    detail::expect(mask.len_ == len_, "windows are of two lengths");
+    detail::expect(mask.count_ones() == values.len_, "not a bit for each that the mask keeps");
+    vb_deposit_bits(bytes_, size_, offset_, values.bytes_, values.size_, values.offset_,
+        mask.bytes_, mask.size_, mask.offset_, len_);
+}
+
+template <class Bools> void bits_mut::copy_from_bools(const Bools &bools)
+{
+    static_assert(std::is_same_v<std::remove_cv_t<detail::lent_t<const Bools>>, bool>,
+        "copy_from_bools packs values of bool, of which std::vector<bool> lends none");
+    detail::expect(bools.size() == len_, "not a bit for each bool");
+    if constexpr (!std::is_void_v<detail::lent_t<const Bools>>) {
+        vb_pack_bools_at(bytes_, size_, offset_, bools.data(), len_);
+    }
+}
+
+template <class Bytes> void bits_mut::copy_from_truthy(const Bytes &truthy)
+{
+    detail::expect(truthy.size() == len_, "not a bit for each byte");
+    vb_pack_truthy_at(bytes_, size_, offset_, truthy.data(), len_);
+}
+
+/*
+ * Packs bools into the first bytes of `out`, eight into each; the bits of the last one behind them
+ * are false. std::vector<bool> has none: it lends no bools.
+ */
+template <class Bools, class Out> void pack_bools(const Bools &bools, Out &&out)
+{
+    static_assert(std::is_same_v<std::remove_cv_t<detail::lent_t<const Bools>>, bool>,
+        "pack_bools packs values of bool, of which std::vector<bool> lends none");
+    static_assert(detail::is_bytes<Out>(), "pack_bools writes bytes of std::uint8_t");
+    detail::expect(fits(out.size(), 0, bools.size()), "no room for a bit a bool");
+    if constexpr (!std::is_void_v<detail::lent_t<const Bools>>) {
+        vb_pack_bools(out.data(), out.size(), bools.data(), bools.size());
+    }
+}
+
+/* The same of bytes, each of which is true where it is not 0. */
+template <class Bytes, class Out> void pack_truthy(const Bytes &truthy, Out &&out)
+{
+    static_assert(detail::is_bytes<Out>(), "pack_truthy writes bytes of std::uint8_t");
+    detail::expect(fits(out.size(), 0, truthy.size()), "no room for a bit a byte");
+    vb_pack_truthy(out.data(), out.size(), truthy.data(), truthy.size());
+}
+
+} // namespace vortex_bits
+
+#endif

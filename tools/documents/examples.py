@@ -1,0 +1,52 @@
+"""Whether each public call of the Rust crate stands in an example of its documents: those of C's
+headers bindings/c/functions looks through, where it makes a program of them.
+"""
+import re
+from pathlib import Path
+
+from documents.files import Repository
+
+SOURCES, README = "bindings/rust/src", "bindings/rust/README.md"
+# What users don't see: the calls beneath theirs, and the parts of iterators and of Arrow's structs,
+# whose tests stand in tests/arrow.
+WITHIN = re.compile(r"(kernels|portable|iter|arrow|level|native)(/|\.rs$)")
+COMMENT = re.compile(r"^\s*//[/!] ?(.*)$")
+PUBLIC = re.compile(r"^\s*pub (?:const |unsafe )*fn (\w+)", re.MULTILINE)
+# A call of a bitmap that its window answers, in bitmap/ask.rs.
+ASKED = re.compile(r"^    (\w+)\([^)]*\) -> .*;$", re.MULTILINE)
+
+
+def code(lines: list[str]) -> str:
+    """The lines between fences."""
+    kept, within = [], False
+    for line in lines:
+        if line.strip().startswith("```"):
+            within = not within
+        elif within:
+            kept.append(line)
+    return "\n".join(kept)
+
+
+def of_source(text: str) -> str:
+    matches = (COMMENT.match(line) for line in text.split("\n"))
+    return code([it.group(1) for it in matches if it])
+
+
+def examples(repository: Repository) -> list[str]:
+    """The public calls that no example has."""
+    folder = repository.root / SOURCES
+    paths = sorted(folder.rglob("*.rs"))
+    texts = {it.relative_to(folder).as_posix(): it.read_text(encoding="utf-8") for it in paths}
+    readme = repository.root / README
+    shown = code(readme.read_text(encoding="utf-8").split("\n")) if readme.exists() else ""
+    shown += "\n".join(map(of_source, texts.values()))
+    words = set(re.findall(r"\w+", shown))
+    found = []
+    for path, text in texts.items():
+        if WITHIN.match(path):
+            continue
+        names = PUBLIC.findall(text) + (ASKED.findall(text) if Path(path).name == "ask.rs" else [])
+        found += [
+            f"{SOURCES}/{path}: no example has `{it}`" for it in names if it not in words
+        ]
+    return found
