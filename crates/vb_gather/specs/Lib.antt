@@ -2,6 +2,7 @@ pub mod Compared
 pub mod Deposited
 pub mod Filtered
 pub mod Kleene
+pub mod TakenBits
 pub mod TakenItems
 pub use Rattle.vb_bit_buffer.specs.SharedSet
 pub use Rattle.vb_bits.specs.Kept

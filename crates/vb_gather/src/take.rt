@@ -51,18 +51,35 @@ pub trait Take: Sized {
     ghost takes: { Self → List ℤ → Option (List Bool) → Result Self BufferError → Type 0 };
 
     /// The values that the indices name, one for each index, in memory of their own: a buffer of
-    /// the alignment that this one reports.
+    /// the alignment that this one reports, or a set of offset 0 whose bytes are as few as hold its
+    /// bits.
     ///
     /// Where there is a `validity`, which has to be as long as the indices, a position counts only
-    /// where it is true: the others give 0, and their indices aren't looked at.
+    /// where it is true: the others give 0, or a false bit, and their indices aren't looked at.
     ///
     /// Refused by `TakeOutOfRange` with the first position that counts and whose index names no
-    /// value, or by `OutOfMemory`. It asks for the memory of the new values by one request before
-    /// it looks at an index, and then by another for the count of their owners.
+    /// value, or by `OutOfMemory`. Memory comes from the allocator of this buffer or set: it asks
+    /// for that of the new values by one request before it looks at an index, and then by another
+    /// for the count of their owners.
     fn taken<I: BitIndex>(&self, indices: &[I], validity: Option<BitBufferView<'_>>) -> Result<Self>
         requires { ForSome validity (λ v. length (bits_of v) ≡ length indices.now) }
         ensures { takes self.now (map I.number indices.now) (option_map bits_of validity.entry)
             result };
+}
+
+impl<A: Allocator + Clone> Take for BitBuffer<A> {
+    ghost use Rattle.vb_gather.specs.TakenBits.{GivesBitsTaken};
+
+    ghost takes = { λ s indices validity result. GivesBitsTaken s.bits indices validity result };
+
+    fn taken<I: BitIndex>(
+        &self,
+        indices: &[I],
+        validity: Option<BitBufferView<'_>>,
+    ) -> Result<Self> {
+        let alloc = self.inner().allocator().clone()?;
+        take_bits(alloc, self.as_view(), indices, validity)
+    }
 }
 
 impl<T: Element, A: Allocator + Clone> Take for Buffer<T, A> {

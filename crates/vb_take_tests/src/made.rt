@@ -3,7 +3,7 @@
 use crate::compared::holds;
 use std::alloc::Allocator;
 use std::process::Abort;
-use vb_gather::take_bits;
+use vb_gather::{Take, take_bits};
 use vb_set::{BitBuffer, BitBufferMut, BitBufferView, BitIndex, BufferError, Result};
 
 /// A set of these bits, `1` for a true one, behind three bits that are left out.
@@ -36,5 +36,18 @@ pub(crate) fn taken<A: Allocator + Clone, I: BitIndex>(
         }
         Some(_) => Err(BufferError::NotAligned),
         None => take_bits(alloc, bits, indices, None),
+    }
+}
+
+/// [`Take::taken`] of a set, where the validity is as long as the indices.
+pub(crate) fn own_taken<A: Allocator + Clone, I: BitIndex>(
+    set: &BitBuffer<A>,
+    indices: &[I],
+    validity: Option<BitBufferView<'_>>,
+) -> Result<BitBuffer<A>> {
+    match validity {
+        Some(validity) if validity.len() == indices.len() => set.taken(indices, Some(validity)),
+        Some(_) => Err(BufferError::NotAligned),
+        None => set.taken(indices, None),
     }
 }

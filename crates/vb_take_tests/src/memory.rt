@@ -1,6 +1,6 @@
 //! Calls that make a set: each of their requests for memory refused in turn.
 use crate::compared::{REFUSED, equal, shows};
-use crate::made::taken;
+use crate::made::{own_taken, taken};
 use std::alloc::Allocator;
 use std::process::Abort;
 use vb_set::{BitBuffer, BitBufferMut, Result};
@@ -10,6 +10,8 @@ use vb_testing::{Handle, Refusing};
 enum Call {
     Take,
     TakeValid,
+    Taken,
+    TakenValid,
     Open,
     Shared,
 }
@@ -19,6 +21,8 @@ impl Call {
         match self {
             Call::Take => take(alloc, &[3, 2, 1, 0], false),
             Call::TakeValid => take(alloc, &[9, 1, 9, 3], true),
+            Call::Taken => taken_of(BitBuffer::from_indices(alloc, 4, [1, 3]), false),
+            Call::TakenValid => taken_of(BitBuffer::from_indices(alloc, 4, [1, 3]), true),
             Call::Open => open(alloc),
             Call::Shared => BitBuffer::from_indices(alloc, 4, [1, 3]),
         }
@@ -39,6 +43,22 @@ fn take<A: Allocator + Clone>(alloc: A, indices: &[u8], is_valid: bool) -> Resul
     made
 }
 
+/// The same by the set's own call.
+fn taken_of<A: Allocator + Clone>(
+    made: Result<BitBuffer<A>>,
+    is_valid: bool,
+) -> Result<BitBuffer<A>> {
+    let set = made?;
+    let bits = set.as_view();
+    let taken = if is_valid {
+        own_taken(&set, &[9, 1, 9, 3], Some(bits))
+    } else {
+        own_taken(&set, &[3, 2, 1, 0], None)
+    };
+    drop(set);
+    taken
+}
+
 fn open<A: Allocator + Clone>(alloc: A) -> Result<BitBuffer<A>> {
     BitBufferMut::from_indices(alloc, 4, [1, 3])?.freeze()
 }
@@ -47,6 +67,8 @@ fn open<A: Allocator + Clone>(alloc: A) -> Result<BitBuffer<A>> {
 const ROWS: &[(Call, &str, u64)] = &[
     (Call::Take, "1010", 4),
     (Call::TakeValid, "0101", 4),
+    (Call::Taken, "1010", 4),
+    (Call::TakenValid, "0101", 4),
     (Call::Open, "0101", 2),
     (Call::Shared, "0101", 2),
 ];
@@ -64,7 +86,7 @@ fn makes<A: Allocator + Clone>(
 }
 
 #[test]
-fn sets_at_indices_are_made_or_refused(rt: HostRuntime) {
+fn sets_at_indices_show_their_bits_or_each_request_is_refused(rt: HostRuntime) {
     let heap = &Refusing::new(rt.alloc(), 0);
     for (call, bits, least) in ROWS {
         for _ in heap.in_turn() {
