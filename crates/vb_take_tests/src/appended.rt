@@ -18,7 +18,7 @@ fn joined<A: Allocator + Clone>(
 }
 
 #[test]
-fn false_bits_behind_true_ones(rt: HostRuntime) {
+fn appended_false_bits_stay_false(rt: HostRuntime) {
     let set = !BitBufferMut::new_unset(rt.alloc(), 4).expect(&rt, "a set");
     let added = BitBuffer::new_unset(rt.alloc(), 3).expect(&rt, "a set");
     answers(&rt, joined(&rt, set, added), Ok("1111000"));

@@ -68,7 +68,7 @@ fn in_blocks<I: BitIndex>(rt: &impl Abort, alloc: Global, indices: &[I]) {
 const COUNTS: [usize; 7] = [0, 1, 63, 64, 65, 130, 200];
 
 #[test]
-fn blocks_beside_a_loop(rt: HostRuntime) {
+fn blocks_take_what_a_loop_takes(rt: HostRuntime) {
     let (mut narrow, mut signed) = ([0u32; 200], [0i64; 200]);
     for k in 0..200u32 {
         narrow[k as usize] = k * 997 % 5000;
