@@ -5,6 +5,7 @@ ghost use Rattle.std.specs.Int.{div_ceil};
 ghost use Rattle.vb_bits.specs.Writes.{Writes, extension};
 
 use crate::edit::{fill, write_bit};
+use crate::lengthen::push_n;
 use crate::make::byte_of;
 use std::alloc::Allocator;
 use vb_core::{BufferError, Result};
@@ -46,7 +47,7 @@ pub fn push_bit<A: Allocator + Clone>(
 /// bytes at once. `start + n` has to be a `usize`.
 ///
 /// Refused by `OutOfMemory` alone; then the bytes and their room are unchanged. Within the room it
-/// takes no memory and succeeds.
+/// takes no memory, succeeds, and the room stays.
 #[tactic(auto, using(crate::proofs::BytesLemmas::edits))]
 pub fn push_bits<A: Allocator + Clone>(
     bytes: &mut ByteBufferMut<A>,
@@ -63,6 +64,8 @@ pub fn push_bits<A: Allocator + Clone>(
     ensures alignment { bytes.new.alignment ≡ bytes.old.alignment }
     ensures room { bytes.old.room ≤ bytes.new.room }
     ensures in_room { start + n ≤ 8 * max (length bytes.old.list) bytes.old.room → IsOk result }
+    ensures stays { start + n ≤ 8 * max (length bytes.old.list) bytes.old.room
+        → bytes.new.room ≡ bytes.old.room }
     ensures err { OnErr result (bytes.new ≡ bytes.old) }
     ensures refused { IsOkUnless result BufferError.OutOfMemory }
 {
@@ -73,20 +76,21 @@ pub fn push_bits<A: Allocator + Clone>(
         fill(bytes, start, end, v);
         return Ok(());
     }
-    bytes.push_n(byte_of(v), count - len)?;
+    push_n(bytes, byte_of(v), count - len)?;
     fill(bytes, start, len * 8, v);
     Ok(())
 }
 
 /// Makes room for `end` bits in all.
 ///
-/// Refused by `OutOfMemory` alone; then the room is unchanged. Within it it takes no memory and
-/// succeeds.
+/// Refused by `OutOfMemory` alone; then the room is unchanged. Within it it takes no memory,
+/// succeeds, and the room stays.
 pub fn reserve_to<A: Allocator + Clone>(bytes: &mut ByteBufferMut<A>, end: usize) -> Result<()>
     ensures keeps { bytes.new ≡ record bytes.old { room = bytes.new.room } }
     ensures grows { bytes.old.room ≤ bytes.new.room }
     ensures room { OnOk result (end ≤ 8 * bytes.new.room) }
     ensures in_room { end ≤ 8 * max (length bytes.old.list) bytes.old.room → IsOk result }
+    ensures stays { end ≤ 8 * max (length bytes.old.list) bytes.old.room → bytes.new ≡ bytes.old }
     ensures err { OnErr result (bytes.new ≡ bytes.old) }
     ensures refused { IsOkUnless result BufferError.OutOfMemory }
 {
@@ -108,6 +112,7 @@ pub fn reserve_exactly_to<A: Allocator + Clone>(
     ensures room { OnOk result (end ≤ 8 * bytes.new.room) }
     ensures exact { OnOk result (bytes.new.room ≤ max bytes.old.room (div_ceil end 8)) }
     ensures in_room { end ≤ 8 * max (length bytes.old.list) bytes.old.room → IsOk result }
+    ensures stays { end ≤ 8 * max (length bytes.old.list) bytes.old.room → bytes.new ≡ bytes.old }
     ensures err { OnErr result (bytes.new ≡ bytes.old) }
     ensures refused { IsOkUnless result BufferError.OutOfMemory }
 {

@@ -51,7 +51,7 @@ pub fn from_iter<A: Allocator + Clone, I: IntoIterator<Item = bool>>(
 /// The next 64 items of an iterator, or those up to its end, as digits of a word, how many they
 /// are, and the iterator behind them.
 #[inline(always)]
-fn next_word<I: Iterator<Item = bool>>(mut iter: I) -> (u64, usize, I)
+pub fn next_word<I: Iterator<Item = bool>>(mut iter: I) -> (u64, usize, I)
     requires can { I.can_next iter }
     requires finite { IsFinite (I.remaining iter) }
     ensures in_word { result.1 ≤ 64 }

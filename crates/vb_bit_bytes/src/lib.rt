@@ -11,6 +11,7 @@ mod edit;
 mod grow;
 mod indices;
 mod iter;
+mod lengthen;
 mod make;
 mod shown;
 mod window;
@@ -20,7 +21,7 @@ pub use collect::{collect_bool, collect_bool_shared, from_bools, from_truthy, ma
 pub use edit::{combine, copy, fill, negate, write_bit};
 pub use grow::{push_bit, push_bits, reserve_exactly_to, reserve_to};
 pub use indices::{from_indices, from_indices_shared};
-pub use iter::from_iter;
+pub use iter::{from_iter, next_word};
 pub use make::{full, unaligned};
 pub use shown::write_bits;
 pub use window::push_window;

@@ -7,6 +7,7 @@ ghost use Rattle.vb_bits.specs.InBytes.{InBytes};
 ghost use Rattle.vb_bits.specs.Writes.{Writes, extension};
 
 use crate::edit::copy;
+use crate::lengthen::{push_n, push_slice};
 use std::alloc::Allocator;
 use vb_core::{BufferError, Result};
 use vb_mem::ByteBufferMut;
@@ -16,7 +17,7 @@ use vb_mem::ByteBufferMut;
 /// `start + n` and `offset + n` have to be `usize`.
 ///
 /// Refused by `OutOfMemory` alone; then the bytes and their room are unchanged. Within the room it
-/// takes no memory and succeeds.
+/// takes no memory and succeeds; of up to 512 bits the room stays.
 #[tactic(auto, using(crate::proofs::BytesLemmas::edits))]
 pub fn push_window<A: Allocator + Clone>(
     bytes: &mut ByteBufferMut<A>,
@@ -35,6 +36,8 @@ pub fn push_window<A: Allocator + Clone>(
     ensures alignment { bytes.new.alignment ≡ bytes.old.alignment }
     ensures room { bytes.old.room ≤ bytes.new.room }
     ensures in_room { start + n ≤ 8 * max (length bytes.old.list) bytes.old.room → IsOk result }
+    ensures stays { n ≤ 512 → start + n ≤ 8 * max (length bytes.old.list) bytes.old.room
+        → bytes.new.room ≡ bytes.old.room }
     ensures err { OnErr result (bytes.new ≡ bytes.old) }
     ensures refused { IsOkUnless result BufferError.OutOfMemory }
 {
@@ -46,13 +49,13 @@ pub fn push_window<A: Allocator + Clone>(
     }
     let added = count - len;
     if start % 8 != offset % 8 {
-        bytes.push_n(0, added)?;
+        push_n(bytes, 0, added)?;
         copy(bytes, start, source, offset, n);
         return Ok(());
     }
     let there = 8 * len - start;
     let from = (offset + there) / 8;
-    bytes.extend_from_slice(&source[from..from + added])?;
+    push_slice(bytes, &source[from..from + added])?;
     copy(bytes, start, source, offset, there);
     Ok(())
 }

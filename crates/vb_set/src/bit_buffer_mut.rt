@@ -28,6 +28,7 @@ use vb_view::{BitBufferMutView, BitBufferView};
 
 mod append;
 mod collect;
+mod extend;
 mod traits;
 
 /// A set of bits that one owner edits, over a byte buffer that grows.

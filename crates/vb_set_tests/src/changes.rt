@@ -4,7 +4,8 @@ use crate::compared::equal;
 use crate::made::window;
 use std::alloc::{Allocator, Global};
 use std::process::Abort;
-use vb_set::{BitBufferMut, BufferError, Result};
+use vb_core::trusted_len;
+use vb_set::{BitBufferMut, BitBufferView, BufferError, Result};
 use vb_testing::{Handle, Refusing};
 
 /// An edit that takes memory where there is no room left.
@@ -13,6 +14,11 @@ enum Edit {
     AppendTrue,
     AppendFalse,
     AppendN,
+    AppendView,
+    AppendBits,
+    AppendBools,
+    Extend,
+    ExtendTrusted,
     Reserve,
     ReserveExact,
 }
@@ -24,6 +30,11 @@ impl Edit {
             Edit::AppendTrue => set.append_true(),
             Edit::AppendFalse => set.append_false(),
             Edit::AppendN => set.append_n(false, 100),
+            Edit::AppendView => set.append_view(BitBufferView::new(&[0; 13], 100)),
+            Edit::AppendBits => set.append_bits(&[0xFF; 13], 3, 100),
+            Edit::AppendBools => set.append_bools(&[true; 100]),
+            Edit::Extend => set.extend([false; 50].into_iter()),
+            Edit::ExtendTrusted => set.extend_trusted(trusted_len([true; 100].into_iter(), 100)),
             Edit::Reserve => {
                 set.reserve(100)?;
                 set.append_n(true, 100)
@@ -42,6 +53,11 @@ const EDITS: &[(Edit, (usize, usize))] = &[
     (Edit::AppendTrue, (1, 0)),
     (Edit::AppendFalse, (0, 1)),
     (Edit::AppendN, (0, 100)),
+    (Edit::AppendView, (0, 100)),
+    (Edit::AppendBits, (100, 0)),
+    (Edit::AppendBools, (100, 0)),
+    (Edit::Extend, (0, 50)),
+    (Edit::ExtendTrusted, (100, 0)),
     (Edit::Reserve, (100, 0)),
 ];
 

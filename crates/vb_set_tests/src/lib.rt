@@ -4,6 +4,8 @@
 #![tactic(auto)]
 
 #[cfg(test)]
+mod appended;
+#[cfg(test)]
 mod callers;
 #[cfg(test)]
 mod changes;

@@ -1,13 +1,17 @@
 //! Room, and bits added at the end.
-ghost use Rattle.std.specs.Prelude.{◌≡◌, ◌+◌, ◌≤◌, ◌∷◌, [], length, max, replicate, true, false};
-ghost use Rattle.std.specs.Prelude.{OnOk};
+ghost use Rattle.std.specs.Prelude.{◌≡◌, ◌+◌, ◌*◌, ◌^◌, ◌<◌, ◌≤◌, ◌∷◌, [], length, max};
+ghost use Rattle.std.specs.Prelude.{replicate, true, false, OnOk};
+ghost use Rattle.vb_bits.specs.Bits.{bits};
+ghost use Rattle.vb_bits.specs.InBytes.{InBytes};
 ghost use Rattle.vb_set.specs.OpenSet.{AddsBits, KeepsStart, NeedsBits};
+ghost use Rattle.vb_view.specs.View.{bits_of};
 
 use super::BitBufferMut;
 use std::alloc::Allocator;
 use vb_bit_buffer::BitBuffer;
 use vb_bit_bytes::{push_bit, push_bits, push_window, reserve_exactly_to, reserve_to};
 use vb_core::{BufferError, Result};
+use vb_view::BitBufferView;
 
 #[tactic(auto, using(vb_bit_bytes::proofs::BytesLemmas::edits))]
 impl<A: Allocator + Clone> BitBufferMut<A> {
@@ -15,11 +19,12 @@ impl<A: Allocator + Clone> BitBufferMut<A> {
     ///
     /// Refused by `TooManyBits` where offset, length and `n` together pass `usize::MAX`, else by
     /// `OutOfMemory` where memory is. Then the set and its room are unchanged. Within
-    /// [`capacity`](Self::capacity) it takes no memory and succeeds.
+    /// [`capacity`](Self::capacity) it takes no memory, succeeds, and the capacity stays.
     pub fn reserve(&mut self, n: usize) -> Result<()>
         ensures keeps { self.new ≡ record self.old { room = self.new.room } }
         ensures room { OnOk result (length self.old.bits + n ≤ self.new.room) }
         ensures grows { self.old.room ≤ self.new.room }
+        ensures stays { length self.old.bits + n ≤ self.old.room → self.new ≡ self.old }
         ensures needs { NeedsBits n result self.old self.new }
     {
         let Some(end) = (self.offset + self.len).checked_add(n) else {
@@ -36,6 +41,7 @@ impl<A: Allocator + Clone> BitBufferMut<A> {
         ensures exact { OnOk result (self.new.room
             ≤ max self.old.room (length self.old.bits + n + 7)) }
         ensures grows { self.old.room ≤ self.new.room }
+        ensures stays { length self.old.bits + n ≤ self.old.room → self.new ≡ self.old }
         ensures needs { NeedsBits n result self.old self.new }
     {
         let Some(end) = (self.offset + self.len).checked_add(n) else {
@@ -91,10 +97,13 @@ impl<A: Allocator + Clone> BitBufferMut<A> {
     ///
     /// Refused by `TooManyBits` where offset, length and `n` together pass `usize::MAX`, else by
     /// `OutOfMemory` alone. In both cases the set and its room are unchanged. Where the length and
-    /// `n` together are at most [`capacity`](Self::capacity), it takes no memory and succeeds.
+    /// `n` together are at most [`capacity`](Self::capacity), it takes no memory, succeeds, and the
+    /// capacity stays.
     pub fn append_n(&mut self, v: bool, n: usize) -> Result<()>
         ensures ok { OnOk result (AddsBits (replicate n v) self.old self.new) }
         ensures grows { KeepsStart self.old self.new }
+        ensures stays { length self.old.bits + n ≤ self.old.room
+            → self.new.room ≡ self.old.room }
         ensures needs { NeedsBits n result self.old self.new }
     {
         let end = self.offset + self.len;
@@ -106,24 +115,51 @@ impl<A: Allocator + Clone> BitBufferMut<A> {
         Ok(())
     }
 
-    /// Adds the bits of a shared set behind the last bit, whatever stood in the bytes there. It
-    /// goes by words. The offset and the alignment stay, and the room doesn't shrink.
-    ///
-    /// Refused by `TooManyBits` where the offset and both lengths together pass `usize::MAX`, else
-    /// by `OutOfMemory` where memory is. Then the set and its room are unchanged. Where both
-    /// lengths together are at most `capacity()`, it takes no memory and succeeds.
+    /// Adds the bits of a shared set behind the last bit: [`append_view`](Self::append_view) of its
+    /// view.
     pub fn append_buffer(&mut self, set: &BitBuffer<A>) -> Result<()>
         ensures ok { OnOk result (AddsBits set.now.bits self.old self.new) }
         ensures grows { KeepsStart self.old self.new }
         ensures needs { NeedsBits (length set.now.bits) result self.old self.new }
     {
+        self.append_view(set.as_view())
+    }
+
+    /// Adds the bits of a view behind the last bit, whatever stood in the bytes there. It goes by
+    /// words. The offset and the alignment stay, and the room doesn't shrink.
+    ///
+    /// Refused by `TooManyBits` where the offset and both lengths together pass `usize::MAX`, else
+    /// by `OutOfMemory` where memory is. Then the set and its room are unchanged. Where both
+    /// lengths together are at most [`capacity`](Self::capacity), it takes no memory and
+    /// succeeds; of up to 512 bits the capacity stays.
+    pub fn append_view(&mut self, bits: BitBufferView<'_>) -> Result<()>
+        ensures ok { OnOk result (AddsBits (bits_of bits.entry) self.old self.new) }
+        ensures grows { KeepsStart self.old self.new }
+        ensures stays { length (bits_of bits.entry) ≤ 512
+            → length self.old.bits + length (bits_of bits.entry) ≤ self.old.room
+            → self.new.room ≡ self.old.room }
+        ensures needs { NeedsBits (length (bits_of bits.entry)) result self.old self.new }
+    {
+        self.append_bits(bits.inner(), bits.offset(), bits.len())
+    }
+
+    /// Adds the `len` bits of `bytes` from bit `offset` on, which have to lie in the bytes;
+    /// `offset + len` has to be a `usize`: `window_fits` is the test. Else as
+    /// [`append_view`](Self::append_view).
+    pub fn append_bits(&mut self, bytes: &[u8], offset: usize, len: usize) -> Result<()>
+        requires window { InBytes bytes.now offset len }
+        ensures ok { OnOk result (AddsBits (bits bytes.now offset len) self.old self.new) }
+        ensures grows { KeepsStart self.old self.new }
+        ensures stays { len ≤ 512 → length self.old.bits + len ≤ self.old.room
+            → self.new.room ≡ self.old.room }
+        ensures needs { NeedsBits len result self.old self.new }
+    {
         let end = self.offset + self.len;
-        if usize::MAX - end < set.len() {
+        if usize::MAX - end < len {
             return Err(BufferError::TooManyBits);
         }
-        let bytes = set.inner().as_slice();
-        push_window(&mut self.buffer, end, bytes, set.offset(), set.len())?;
-        self.len += set.len();
+        push_window(&mut self.buffer, end, bytes, offset, len)?;
+        self.len += len;
         Ok(())
     }
 }

@@ -13,6 +13,6 @@ returns-then-start-offset-clause-bits g c =
 pub returns-clause-bits : goal.returns-clause-bits
 returns-clause-bits g c =
     Writes-pushed_bytes _ c.args.source.now
-    _ _ c.args.start c.args.offset c.args.n _ _ _ c.in_ok-extend_from_slice.ensures.ok.list
+    _ _ c.args.start c.args.offset c.args.n _ _ _ c.in_ok-push_slice.ensures.ok.list
     (omega arith) (omega arith) (omega arith) (omega arith) (omega arith)
     (omega arith) c.copy-2.ensures.bits

@@ -1,0 +1,133 @@
+//! Truth values added at the end: those of a slice, and those that an iterator gives.
+ghost use Rattle.std.specs.Prelude.{◌≡◌, ◌⊎◌, ⊤, ℕ, ◌+◌, ◌*◌, ◌^◌, ◌<◌, ◌≤◌, Bool, List};
+ghost use Rattle.std.specs.Prelude.{length, take, IsOk, OnOk, OnErr, MatchResult};
+ghost use Rattle.std.specs.Iterator.{Drains, ExtendsWithItems, HoldsAlong, IsFiniteIterable};
+ghost use Rattle.vb_bit_bytes.specs.Given.{GivesPastBehind};
+ghost use Rattle.vb_bits.specs.Digits.{digits};
+ghost use Rattle.vb_set.specs.OpenSet.{AddsBits, KeepsStart, NeedsBits};
+
+use super::BitBufferMut;
+use std::alloc::Allocator;
+use vb_bit_bytes::next_word;
+use vb_core::{BufferError, Result, TrustedLen};
+use vb_pack::pack_bools;
+
+/// How many truth values of a slice are packed at once.
+const BLOCK: usize = 512;
+
+#[tactic(auto, using(vb_bit_bytes::proofs::BytesLemmas::edits))]
+impl<A: Allocator + Clone> BitBufferMut<A> {
+    /// Adds the truth values of a slice, by blocks that are packed as
+    /// [`from_bools`](Self::from_bools) packs them.
+    ///
+    /// Refused by `TooManyBits` where the offset and both lengths together pass `usize::MAX`, else
+    /// by `OutOfMemory` alone. In both cases the set and its room are unchanged. Where both lengths
+    /// together are at most [`capacity`](Self::capacity), it takes no memory, succeeds, and the
+    /// capacity stays.
+    pub fn append_bools(&mut self, bools: &[bool]) -> Result<()>
+        ensures ok { OnOk result (AddsBits bools.now self.old self.new) }
+        ensures grows { KeepsStart self.old self.new }
+        ensures stays { length self.old.bits + length bools.now ≤ self.old.room
+            → self.new.room ≡ self.old.room }
+        ensures needs { NeedsBits (length bools.now) result self.old self.new }
+    {
+        self.reserve(bools.len())?;
+        // The bits lie in the bytes.
+        let _bytes = self.as_slice();
+        for block in 0..bools.len().div_ceil(BLOCK) {
+            let start = BLOCK * block;
+            let end = (start + BLOCK).min(bools.len());
+            self.append_block(&bools[start..end])?;
+        }
+        Ok(())
+    }
+
+    /// Adds the items of an iterator, which has to end, as bits. They are packed by 64, and each 64
+    /// of them are added at once. Its size hint isn't asked for: memory is taken as the items come,
+    /// and none while they are within [`capacity`](Self::capacity), which stays then.
+    ///
+    /// Refused by `TooManyBits` where items came whose bits, behind the offset and the bits before
+    /// them, pass `usize::MAX`, else by `OutOfMemory` alone. Then the items that came until the
+    /// capacity was full stand, and those behind them, at most 64, are lost.
+    pub fn extend<I: IntoIterator<Item = bool>>(&mut self, iter: I) -> Result<()>
+        requires { IsFiniteIterable I.into_iter_gives I.IntoIter.can_next
+            I.IntoIter.remaining iter }
+        ensures adds { ExtendsWithItems I.into_iter_gives I.IntoIter.next_gives
+            (λ old items new. AddsBits items old new) iter self.old self.new result }
+        ensures grows { KeepsStart self.old self.new }
+        ensures in_room { ((it : I.IntoIter) → I.into_iter_gives iter it
+            → HoldsAlong I.IntoIter.next_gives it
+            (λ items. length self.old.bits + length items ≤ self.old.room))
+            → IsOk result × (self.new.room ≡ self.old.room) }
+        ensures full { OnErr result (length self.new.bits ≡ self.new.room) }
+        ensures err { MatchResult result (λ _. ⊤) (λ e. (e ≡ BufferError.OutOfMemory)
+            ⊎ ((e ≡ BufferError.TooManyBits)
+            × GivesPastBehind I.into_iter_gives I.IntoIter.next_gives
+            (self.old.offset + length self.old.bits) iter)) }
+    {
+        // The bits lie in the bytes.
+        let _bytes = self.as_slice();
+        let mut rest = iter.into_iter();
+        loop {
+            let (word, count, left) = next_word(rest);
+            rest = left;
+            self.append_word(word, count)?;
+            if count < 64 {
+                return Ok(());
+            }
+        }
+    }
+
+    /// Adds the items that an iterator of known length gives as bits, all of them or none. It is
+    /// refused, before the first item, as [`append_bools`](Self::append_bools) is.
+    pub fn extend_trusted<I: TrustedLen<Item = bool>>(&mut self, iter: I) -> Result<()>
+        requires { I.can_next iter }
+        ensures ok { OnOk result ((items : List Bool) × Drains I.next_gives iter items
+            × AddsBits items self.old self.new) }
+        ensures len { OnOk result (length self.new.bits
+            ≡ length self.old.bits + I.left iter) }
+        ensures grows { KeepsStart self.old self.new }
+        ensures stays { length self.old.bits + I.left iter ≤ self.old.room
+            → self.new.room ≡ self.old.room }
+        ensures needs { NeedsBits (I.left iter) result self.old self.new }
+    {
+        self.reserve(iter.exact_len())?;
+        self.extend(iter)
+    }
+
+    /// [`append_bools`](Self::append_bools) of no more than a block.
+    fn append_block(&mut self, bools: &[bool]) -> Result<()>
+        requires { length bools.now ≤ BLOCK }
+        ensures ok { OnOk result (AddsBits bools.now self.old self.new) }
+        ensures grows { KeepsStart self.old self.new }
+        ensures stays { length self.old.bits + length bools.now ≤ self.old.room
+            → self.new.room ≡ self.old.room }
+        ensures needs { NeedsBits (length bools.now) result self.old self.new }
+    {
+        let mut bytes = [0; BLOCK / 8];
+        pack_bools(&mut bytes, bools);
+        self.append_bits(&bytes, 0, bools.len())
+    }
+
+    /// Adds the `count` lowest digits of a word; where they are refused, as many as the room takes.
+    fn append_word(&mut self, word: u64, count: usize) -> Result<()>
+        requires in_word { count ≤ 64 }
+        ensures ok { OnOk result (AddsBits (digits word 0 count) self.old self.new) }
+        ensures err { OnErr result ((n : ℕ)
+            × AddsBits (take n (digits word 0 count)) self.old self.new) }
+        ensures full { OnErr result (length self.new.bits ≡ self.new.room) }
+        ensures grows { KeepsStart self.old self.new }
+        ensures in_room { length self.old.bits + count ≤ self.old.room
+            → IsOk result × (self.new.room ≡ self.old.room) }
+        ensures refused { MatchResult result (λ _. ⊤) (λ e. (e ≡ BufferError.OutOfMemory)
+            ⊎ ((e ≡ BufferError.TooManyBits)
+            × (2 ^ 64 ≤ self.old.offset + length self.old.bits + count))) }
+    {
+        let bytes = word.to_le_bytes();
+        let answer = self.append_bits(&bytes, 0, count);
+        if answer.is_err() {
+            self.append_bits(&bytes, 0, self.capacity() - self.len())?;
+        }
+        answer
+    }
+}
