@@ -11,9 +11,9 @@ pub returns-then-differing_digits-ne0 : goal.returns-then-differing_digits-ne0
 returns-then-differing_digits-ne0 c =
     let d = BLOCK_WORDS * c.loop-k.k in let n = c.args.n in
     let parts = same-three c.args.left.now c.args.right.now (8 * c.args.a) c.args.r
-    (64 * d) (64 * BLOCK_WORDS) (64 * (BLOCK_WORDS * (n - (c.loop-k.k + 1)))) (64 * (BLOCK_WORDS * n))
-    (8 * (c.args.a + 8 * d))
-    (c.args.r + 64 * d) (8 * (c.args.a + 8 * (d + BLOCK_WORDS))) (c.args.r + 64 * (d + BLOCK_WORDS))
+    (64 * d) (64 * BLOCK_WORDS) (64 * (BLOCK_WORDS * (n - (c.loop-k.k + 1))))
+    (64 * (BLOCK_WORDS * n)) (8 * (c.args.a + 8 * d)) (c.args.r + 64 * d)
+    (8 * (c.args.a + 8 * (d + BLOCK_WORDS))) (c.args.r + 64 * (d + BLOCK_WORDS))
     (omega arith) (omega arith) (omega arith) (omega arith) (omega arith)
     (omega arith) (omega arith) in (
       λ t. absurd cc,
@@ -27,8 +27,9 @@ loop-k-preserved c =
     let o = 8 * c.args.a in
     let p = c.args.r in
     let d = BLOCK_WORDS * c.loop-k.k in
-    let here = same-at b t (8 * (c.args.a + 8 * d))
-    (p + 64 * d) (64 * BLOCK_WORDS) (o + 64 * d) (p + 64 * d) (64 * BLOCK_WORDS) (omega arith) refl refl
+    let here = same-at b t (8 * (c.args.a + 8 * d)) (p + 64 * d) (64 * BLOCK_WORDS)
+    (o + 64 * d) (p + 64 * d) (64 * BLOCK_WORDS) (omega arith) refl refl
     (c.differing_digits.ensures.0 c.if-differing_digits-ne0.false) in
-    same-at b t o p (64 * d + 64 * BLOCK_WORDS) o p (64 * (BLOCK_WORDS * (c.loop-k.k + 1))) refl refl
-    (omega arith) ((same-bits-add b t o p (64 * d) (64 * BLOCK_WORDS)).1 (c.loop-k.invariant, here))
+    same-at b t o p (64 * d + 64 * BLOCK_WORDS) o p (64 * (BLOCK_WORDS * (c.loop-k.k + 1)))
+    refl refl (omega arith)
+    ((same-bits-add b t o p (64 * d) (64 * BLOCK_WORDS)).1 (c.loop-k.invariant, here))
