@@ -44,8 +44,20 @@ fn write_words<S: Truths>(out: &mut [u8], offset: usize, source: &S, from: usize
 {
     let first = (offset + from) / 8;
     for k in 0..words {
-        write_word(out, first + 8 * k, source.word(from + 64 * k));
+        store_word(out, first + 8 * k, source.word(from + 64 * k));
     }
+}
+
+/// Writes the bytes of `word` from byte `at` on.
+///
+/// It isn't inlined: where the answers of a comparison are stored right away, the compiler stores
+/// each lane of its vector apart, which takes up to nine times as long at x86-64-v3.
+#[inline(never)]
+fn store_word(out: &mut [u8], at: usize, word: u64)
+    requires { at + 8 ≤ length out.old }
+    ensures { Writes out.old out.new (8 * at) (digits word 0 64) }
+{
+    write_word(out, at, word);
 }
 
 /// Writes the `n` lowest digits of `word` to the bits from bit `at` on.

@@ -17,10 +17,10 @@ loop-k-preserved g c =
     let long : length part ≡ 64 * k =
     length-take-le (64 * k) (drop from l) (omega (arith, length-drop from l)) in
     let place : 8 * ((o + from) / 8 + 8 * k) ≡ o + from + length part = omega arith in
-    let wrote = subst (Writes c.loop-k.out c.write_word.new.bytes
-    (8 * ((o + from) / 8 + 8 * k))) c.word.ensures c.write_word.ensures in
-    subst (Writes c.args.out.now c.write_word.new.bytes (o + from)) (next_word l from k)
-    (Writes-add c.args.out.now c.loop-k.out c.write_word.new.bytes (o + from)
+    let wrote = subst (Writes c.loop-k.out c.store_word.new.out
+    (8 * ((o + from) / 8 + 8 * k))) c.word.ensures c.store_word.ensures in
+    subst (Writes c.args.out.now c.store_word.new.out (o + from)) (next_word l from k)
+    (Writes-add c.args.out.now c.loop-k.out c.store_word.new.out (o + from)
     (8 * ((o + from) / 8 + 8 * k)) part (take 64 (drop (from + 64 * k) l)) place
     c.loop-k.invariant wrote)
 
