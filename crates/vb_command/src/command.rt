@@ -8,7 +8,7 @@ use std::alloc::{Allocator, Global};
 ///
 /// Slots, places and lengths in bits are numbers of 64 bits, whatever they are: a slot above 15 is
 /// part of a command too, which is then refused.
-#[derive(Drop)]
+#[derive(Debug, Drop)]
 pub enum Command<A: Allocator = Global> {
     /// `import t o n HEX`: fills slot `t`, which has to be empty, with an open set of `n` bits,
     /// read from the bytes, beginning at bit `o` of the first one, the least significant bit of

@@ -1,4 +1,5 @@
-//! Answers and refusals as text, and the parts that it is made of.
+//! Answers and refusals as text, and the parts that it is made of. The outbox of `vb_script` prints
+//! these parts too, since it has to count the writes that fail.
 ghost use Rattle.std.specs.Prelude.{◌≡◌, Some};
 ghost use Rattle.std.specs.Fmt.{WritesOnOk};
 ghost use Rattle.vb_command.specs.Parts.{part_text, parts_text};

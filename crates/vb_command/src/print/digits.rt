@@ -13,7 +13,7 @@ pub fn digit(bit: bool) -> &'static str
 
 /// Truth values that are shown as binary digits, or as `-` where there are none.
 #[derive(Clone, Copy)]
-pub struct Digits<'a>(pub &'a [bool]);
+pub(crate) struct Digits<'a>(pub(crate) &'a [bool]);
 
 impl fmt::Display for Digits<'_> {
     ghost use Rattle.std.specs.Prelude.{Some};

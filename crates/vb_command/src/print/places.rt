@@ -3,7 +3,7 @@ use std::fmt;
 
 /// Places that are shown in decimal, or as `-` where there are none.
 #[derive(Clone, Copy)]
-pub struct Places<'a>(pub &'a [usize]);
+pub(crate) struct Places<'a>(pub(crate) &'a [usize]);
 
 impl fmt::Display for Places<'_> {
     ghost use Rattle.std.specs.Prelude.{Some};

@@ -4,7 +4,7 @@ use std::fmt;
 /// Runs that are shown as where each begins and the place behind it, or as `-` where there are
 /// none.
 #[derive(Clone, Copy)]
-pub struct Runs<'a>(pub &'a [(usize, usize)]);
+pub(crate) struct Runs<'a>(pub(crate) &'a [(usize, usize)]);
 
 impl fmt::Display for Runs<'_> {
     ghost use Rattle.std.specs.Prelude.{Some};

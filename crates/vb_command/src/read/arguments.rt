@@ -22,7 +22,7 @@ use std::alloc::Allocator;
 /// The command of this name with these words after it. Memory is taken only for a command that can
 /// be read.
 #[tactic(auto, unfolding(crate::specs::Arguments::arguments_of))]
-pub fn arguments<A: Allocator + Clone>(
+pub(crate) fn arguments<A: Allocator + Clone>(
     alloc: &A,
     name: &str,
     words: &mut Words<'_>,

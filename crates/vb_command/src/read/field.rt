@@ -4,7 +4,7 @@ ghost use Rattle.vb_command.specs.Reading.{Tells};
 use crate::unread::Unread;
 
 /// What one word of a line writes.
-pub trait Field: Copy {
+pub(crate) trait Field: Copy {
     ghost use Rattle.std.specs.Prelude.{ℕ, List, Option};
 
     /// What a word writes, if it is such a field.

@@ -44,7 +44,7 @@ fn are_pairs(bytes: &[u8]) -> bool
 }
 
 /// The pairs of digits that write the bytes of a word. This takes no memory.
-pub fn hex_pairs(word: &str) -> Result<&[u8], Unread>
+pub(crate) fn hex_pairs(word: &str) -> Result<&[u8], Unread>
     ensures { MatchResult result
         (λ digits. (hex word.now ≡ hex_pairs digits.now) × IsTrue (is_some (hex word.now)))
         (λ unread. (unread ≡ Unread.Unreadable) × (hex word.now ≡ None)) }
@@ -59,7 +59,10 @@ pub fn hex_pairs(word: &str) -> Result<&[u8], Unread>
 
 /// The bytes of pairs of digits, in memory by one request.
 #[tactic(auto, using(crate::proofs::HexLists::pairs))]
-pub fn bytes_of_pairs<A: Allocator>(alloc: A, digits: &[u8]) -> Result<Vec<u8, A>, AllocError>
+pub(crate) fn bytes_of_pairs<A: Allocator>(
+    alloc: A,
+    digits: &[u8],
+) -> Result<Vec<u8, A>, AllocError>
     requires { IsTrue (is_some (hex_pairs digits.now)) }
     ensures { IfOk result (λ bytes. hex_pairs digits.now ≡ Some bytes.items) }
 {

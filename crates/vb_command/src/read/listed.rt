@@ -9,13 +9,13 @@ use crate::unread::Unread;
 use std::alloc::Allocator;
 use std::marker::Model;
 
-/// The parts of a word that are still to come. Contracts see the list of them.
+/// The texts of a list's items that are still to come. Contracts see the list of them.
 #[derive(Drop)]
-struct Parts<'a> {
+struct ItemTexts<'a> {
     rest: Option<&'a str>,
 }
 
-impl<'a> Model for Parts<'a> {
+impl<'a> Model for ItemTexts<'a> {
     ghost use Rattle.std.specs.Prelude.{ℕ, List, []};
     ghost use Rattle.std.specs.List.{slice_split};
     ghost use Rattle.std.specs.Option.{option_map_or};
@@ -23,30 +23,30 @@ impl<'a> Model for Parts<'a> {
 
     ghost Value = { List (List ℕ) };
 
-    ghost view = { λ p. option_map_or (λ rest. slice_split is_comma rest.now) p.rest [] };
+    ghost view = { λ t. option_map_or (λ rest. slice_split is_comma rest.now) t.rest [] };
 }
 
-impl<'a> Parts<'a> {
-    /// The parts of a word between commas; of `-` none.
+impl<'a> ItemTexts<'a> {
+    /// What stands between the commas of a word; of `-` nothing.
     fn new(word: &'a str) -> Self
         ensures { result ≡ parts word.now }
     {
-        Parts {
+        ItemTexts {
             rest: if word == "-" { None } else { Some(word) },
         }
     }
 
-    /// The next part, if there is one.
+    /// The next text, if there is one.
     #[tactic(auto, using(crate::proofs::ListedLemmas::splits))]
     fn next(&mut self) -> Option<&'a str>
         ensures { MatchOption result
             (self.old ≡ [])
-            (λ part. self.old ≡ part.now ∷ self.new) }
+            (λ text. self.old ≡ text.now ∷ self.new) }
     {
         let rest = self.rest?;
-        if let Some((part, after)) = split_short(rest, ',') {
+        if let Some((text, after)) = split_short(rest, ',') {
             self.rest = Some(after);
-            return Some(part);
+            return Some(text);
         }
         self.rest = None;
         Some(rest)
@@ -59,23 +59,26 @@ fn count<T: Field>(word: &str) -> Result<usize, Unread>
     ensures { Tells (λ n. n) result (option_map length (items_of (T.written) word.now)) }
 {
     let mut count = 0;
-    let mut parts = Parts::new(word);
-    while let Some(part) = parts.next() {
-        T::read(part)?;
+    let mut texts = ItemTexts::new(word);
+    while let Some(text) = texts.next() {
+        T::read(text)?;
         count += 1;
     }
     Ok(count)
 }
 
 /// The items that a word writes, in memory by one request.
-pub fn list<T: Field, A: Allocator + Clone>(alloc: &A, word: &str) -> Result<Vec<T, A>, Unread>
+pub(crate) fn list<T: Field, A: Allocator + Clone>(
+    alloc: &A,
+    word: &str,
+) -> Result<Vec<T, A>, Unread>
     ensures { Gives (λ items. items.items) result (items_of (T.written) word.now) }
 {
     let count = count::<T>(word)?;
     let mut items = Vec::with_capacity(alloc.clone()?, count)?;
-    let mut parts = Parts::new(word);
-    while let Some(part) = parts.next() {
-        items.push(T::read(part)?)?;
+    let mut texts = ItemTexts::new(word);
+    while let Some(text) = texts.next() {
+        items.push(T::read(text)?)?;
     }
     Ok(items)
 }

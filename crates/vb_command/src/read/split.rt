@@ -11,7 +11,7 @@ const NEAR: usize = 16;
 /// What stands before the first separator of a text, and what follows it, if there is one: what
 /// `split_once` gives, found sooner where the part is short.
 #[inline]
-pub fn split_short(text: &str, separator: char) -> Option<(&str, &str)>
+pub(crate) fn split_short(text: &str, separator: char) -> Option<(&str, &str)>
     requires { separator < 128 }
     ensures { MatchOption result
         (position_or_len (λ b. b == separator) text.now ≡ length text.now)
@@ -43,9 +43,10 @@ fn split_far(text: &str, separator: char) -> Option<(&str, &str)>
     text.split_once(separator)
 }
 
-/// The place of the first separator, or where the bytes end, where that is before byte 16; else 16.
+/// The place of the first separator, or where the bytes end, where that is before byte `NEAR`; else
+/// `NEAR`.
 fn near(bytes: &[u8], separator: u8) -> usize
-    ensures place { result < 16 → result ≡ position_or_len (λ b. b == separator) bytes.now }
+    ensures place { result < NEAR → result ≡ position_or_len (λ b. b == separator) bytes.now }
     ensures within { result ≤ length bytes.now }
 {
     if bytes.len() < NEAR {
@@ -68,12 +69,13 @@ fn near_end(bytes: &[u8], separator: u8) -> usize
     at
 }
 
-/// The place of the first separator among the 16 bytes at the front, or 16. They are compared at
-/// once: a loop would end at a part's length, which no branch predictor foresees in a list.
+/// The place of the first separator among the `NEAR` bytes at the front, or `NEAR`. They are
+/// compared at once: a loop would end at a part's length, which no branch predictor foresees in a
+/// list.
 #[inline(always)]
 fn near_front(bytes: &[u8], separator: u8) -> usize
-    requires { 16 ≤ length bytes.now }
-    ensures { result ≡ position_or_len (λ b. b == separator) (take 16 bytes.now) }
+    requires { NEAR ≤ length bytes.now }
+    ensures { result ≡ position_or_len (λ b. b == separator) (take NEAR bytes.now) }
 {
     let found = u8x16::from_slice(bytes)
         .simd_eq(u8x16::splat(separator))

@@ -7,7 +7,7 @@ use std::marker::Model;
 
 /// The words of a text that are still to come. Contracts see the list of them.
 #[derive(Drop)]
-pub struct Words<'a> {
+pub(crate) struct Words<'a> {
     rest: &'a str,
 }
 
@@ -22,14 +22,14 @@ impl<'a> Model for Words<'a> {
 
 impl<'a> Words<'a> {
     /// The words of a text.
-    pub fn new(text: &'a str) -> Self
+    pub(crate) fn new(text: &'a str) -> Self
         ensures { result ≡ line_words text.now }
     {
         Words { rest: text }
     }
 
     /// The next word, if there is one.
-    pub fn next(&mut self) -> Option<&'a str>
+    pub(crate) fn next(&mut self) -> Option<&'a str>
         ensures { MatchOption result
             (self.old ≡ [])
             (λ word. self.old ≡ word.now ∷ self.new) }

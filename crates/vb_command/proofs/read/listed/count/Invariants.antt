@@ -5,12 +5,12 @@ use Rattle.vb_command.proofs.ListedLemmas.{counted}
 use Rattle.vb_command.proofs.read.listed.count.Given as goal
 
 -- the items are those that are counted and those of the parts that are left
-abbrev pub invariant-loop-part : goal.invariant-loop-part
-invariant-loop-part g l = record {
+abbrev pub invariant-loop-text : goal.invariant-loop-text
+invariant-loop-text g l = record {
   same : option_map length (items_of g.T.Field.written l.word)
-      ≡ counted g.T.Field.written l.count l.parts;
-  small : l.count + length l.parts ≤ length l.word + 1;
+      ≡ counted g.T.Field.written l.count l.texts;
+  small : l.count + length l.texts ≤ length l.word + 1;
 }
 
-abbrev pub decreases-loop-part : goal.decreases-loop-part
-decreases-loop-part g l = length l.parts
+abbrev pub decreases-loop-text : goal.decreases-loop-text
+decreases-loop-text g l = length l.texts
