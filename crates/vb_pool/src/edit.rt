@@ -94,11 +94,11 @@ impl<A: Allocator + Clone> Pool<A> {
         Ok(Answer::Done)
     }
 
-    /// Negates every bit.
-    pub(crate) fn flip(&mut self, k: usize) -> Result<Answer<A>, Refusal>
+    /// Negates every bit, in place.
+    pub(crate) fn negate(&mut self, k: usize) -> Result<Answer<A>, Refusal>
         ensures { Step self.old (machine.Flip k) (reply_of result) self.new }
     {
         let set = self.take_open(k)?;
-        Ok(self.put(k, Slot::Open(set.flip())))
+        Ok(self.put(k, Slot::Open(set.negated())))
     }
 }

@@ -195,7 +195,7 @@ impl<A: Allocator + Clone> OpenBits<A> {
     }
 
     /// Each bit negated, in place.
-    pub fn flip(self) -> Self
+    pub fn negated(self) -> Self
         ensures { result ≡ complement self }
     {
         OpenBits::new(!self.set)

@@ -66,7 +66,7 @@ impl<A: Allocator + Clone> Pool<A> {
             Command::Fill(k, a, b, v) => self.fill(k, a, b, v),
             Command::Truncate(k, n) => self.truncate(k, n),
             Command::Clear(k) => self.clear(k),
-            Command::Flip(k) => self.flip(k),
+            Command::Flip(k) => self.negate(k),
             Command::Freeze(k) => self.freeze(k),
             Command::Thaw(k) => self.thaw(alloc, k),
             Command::Clone(k, t) => self.clone(k, t),
