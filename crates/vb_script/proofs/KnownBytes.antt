@@ -35,13 +35,11 @@ Appends-Keeps (Some x) (Some y) None xs h k = absurd k
 Appends-Keeps (Some x) (Some y) (Some z) xs h k = k ∙ h
 
 -- the bytes that waited are written
-pub Appends-written : (first written written' : Option (List ℕ)) (out text : List ℕ)
-    → Appends first (append_known written out) text → Appends written written' out
-    → Appends first written' text
-Appends-written None written written' out text h k = tt
-Appends-written (Some f) None written' out text h k = absurd h
-Appends-written (Some f) (Some w) None out text h k = absurd k
-Appends-written (Some f) (Some w) (Some z) out text h k = k ∙ h
+pub Keeps-written : (written written' : Option (List ℕ)) (out : List ℕ)
+    → Appends written written' out → Keeps (append_known written out) written'
+Keeps-written None written' out h = tt
+Keeps-written (Some w) None out h = absurd h
+Keeps-written (Some w) (Some z) out h = h
 
 -- no bytes wait
 pub Appends-wait-nil : (first : Option (List ℕ)) → Appends first (append_known first []) []

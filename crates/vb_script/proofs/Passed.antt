@@ -7,7 +7,6 @@ use Rattle.std.proofs.Math.Seq.{take-append_seam}
 use Rattle.std.specs.Str.Lines.{lines, strip_carriage_return}
 use Rattle.std.specs.Io.KnownBytes.{prepend_known, Keeps, IsAtEnd}
 use mathlib.Core.List.{append-nil}
-use Rattle.vb_script.specs.Feed.{next_line}
 use Rattle.vb_script.specs.Session.{count_ended, ended_lines}
 use Rattle.vb_script.proofs.InputLines.{line_feeds, line_feeds-append, line_feeds-within}
 use Rattle.vb_script.proofs.InputLines.{lines-line_feed, lines-last, within_first, within_all}
@@ -175,29 +174,22 @@ Passed-last input done fed remaining p none some end =
     ∙ (ap (λ xs. done ++ lines xs) (append-nil fed)
     ∙ ap (λ ls. done ++ ls) (lines-last fed (within_all fed none) some)))
 
--- the next line stands behind those that were passed
-pub Passed-next_line : (input : List ℕ) (done : List (List ℕ)) (fed : List ℕ)
-    (remaining : Option (List ℕ)) (at : Option ℕ) (P : List ℕ → Type 0)
-    → Passed input done fed remaining → at ≡ position (λ b. eqb b 10) fed
-    → (at ≡ None → IsAtEnd remaining) → IsSomeAnd (next_line at fed) P
-    → (line : List ℕ) × (later : List (List ℕ)) × (lines input ≡ done ++ line ∷ later) × P line
-Passed-next_line input done fed remaining (Some k) P p here end some =
+-- the line stands next, behind those that are done
+abbrev pub IsNext : List ℕ → List (List ℕ) → List ℕ → Type 0
+IsNext input done line = (later : List (List ℕ)) × (lines input ≡ done ++ line ∷ later)
+
+-- the next line, which a line feed ends
+pub Passed-line : (input : List ℕ) (done : List (List ℕ)) (fed : List ℕ)
+    (remaining : Option (List ℕ)) (k : ℕ) → Passed input done fed remaining
+    → Some k ≡ position (λ b. eqb b 10) fed
+    → IsNext input done (strip_carriage_return (take k fed))
+Passed-line input done fed remaining k p here =
     let line = take k fed in
     let more = drop (k + 1) fed ++ p.rest in
     let cut : fed ++ p.rest ≡ line ++ 10 ∷ more = ap (λ xs. xs ++ p.rest)
     (cut_at_line_feed fed k (sym here)) ∙ append_assoc line (10 ∷ drop (k + 1) fed) p.rest in (
-      strip_carriage_return line,
       lines more,
       Passed-lines input done fed remaining p
           ∙ ap (λ ls. done ++ ls) (ap lines cut ∙ lines-line_feed line more
           (within_first fed k (sym here))),
-      some,
     )
-Passed-next_line input done [] remaining None P p here end some = absurd some
-Passed-next_line input done (b ∷ bytes) remaining None P p here end some = (
-  b ∷ bytes,
-  [],
-  Passed-last input done (b ∷ bytes) remaining p (sym here) (omega arith)
-      (end refl),
-  some,
-)

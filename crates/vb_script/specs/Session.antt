@@ -4,17 +4,12 @@ use Rattle.std.specs.Prelude.{length, take, slice_get, count_by, Option, Some, N
 use Rattle.std.specs.Prelude.{Err, IsTrue, IfSome, IsSomeAnd}
 use Rattle.std.specs.List.{flat_map}
 use Rattle.std.specs.Str.Lines.{lines}
-use Rattle.std.specs.Io.KnownBytes.{Appends}
+use Rattle.std.specs.Io.KnownBytes.{Appends, Keeps}
 use Rattle.vb_command.specs.Machine.{Slot, empty_slots, Order, Reply, Outcome, Run}
 use Rattle.vb_command.specs.Printed.{line_of}
 use Rattle.vb_command.specs.Reading.{asks_memory, reading, script}
 use Rattle.vb_script.specs.declared.error.DriveError.{DriveError}
 use Rattle.vb_script.specs.declared.error.DriveError.TheVariants.{Unreadable, Read, Write, Memory}
-
--- what a line asks for, if there is one: nothing, where there is none
-abbrev pub reading_any : Option (List ℕ) → Option (Option Order)
-reading_any None = Some None
-reading_any (Some line) = reading line
 
 -- what a line that asks for this does to the slots, and what it is answered: nothing, or what its
 -- command does
@@ -27,6 +22,29 @@ RepliesTo (Some (Some c)) s r t = IsSomeAnd r (λ answer. Outcome s c answer t)
 abbrev pub line_of_any : Option Reply → List ℕ
 line_of_any None = []
 line_of_any (Some r) = line_of r
+
+-- the error where the line of this number gives no command
+abbrev pub IsUnread : List ℕ → ℕ → DriveError → Type 0
+IsUnread line number (Unreadable n) =
+    (n ≡ number) × ((number ≡ 2 ^ 64 - 1) ⊎ (reading line ≡ None))
+IsUnread line number Read = ⊥
+IsUnread line number Write = ⊥
+IsUnread line number Memory = IsTrue (asks_memory (reading line))
+
+-- the line of this number was carried out, and its answer, if it has one, added to the bytes
+pub record AnswersLine (line : List ℕ) (number : ℕ) (slots slots' : List Slot)
+    (old new : Option (List ℕ)) : Type 0 where
+  pub numbered : number < 2 ^ 64 - 1
+  pub answer : Option Reply
+  pub ran : RepliesTo (reading line) slots answer slots'
+  pub added : Appends old new (line_of_any answer)
+
+-- the same of a last line, which no line feed ends: without bytes it is none
+abbrev pub AnswersLast : List ℕ → ℕ → List Slot → List Slot → Option (List ℕ) → Option (List ℕ)
+    → Type 0
+AnswersLast [] number slots slots' old new = (slots' ≡ slots) × Keeps old new
+AnswersLast (b ∷ bytes) number slots slots' old new =
+    AnswersLine (b ∷ bytes) number slots slots' old new
 
 -- the answers, one a line
 abbrev pub lines_of : List Reply → List ℕ

@@ -1,18 +1,19 @@
 //! The whole of an input, line by line.
-ghost use Rattle.std.specs.Prelude.{◌≡◌, [], IfOk};
+ghost use Rattle.std.specs.Prelude.{◌≡◌, ◌<◌, [], length, IfErr, IfOk, OnOk};
+ghost use Rattle.std.specs.Io.KnownBytes.{append_known, Appends};
 ghost use Rattle.vb_command.specs.Machine.{empty_slots};
-ghost use Rattle.vb_script.specs.DriveError.{FailsReads, FailsWrites, UnlessWrite, line_error};
-ghost use Rattle.vb_script.specs.Session.{AnswersRun, EndsIfKnown};
+ghost use Rattle.vb_script.specs.DriveError.{FailsReads, FailsWrites, UnlessWrite};
+ghost use Rattle.vb_script.specs.Session.{AnswersLast, AnswersLine, AnswersRun, EndsIfKnown};
+ghost use Rattle.vb_script.specs.Session.{IsUnread};
 
 use crate::error::DriveError;
 use crate::feed::Feed;
-use crate::lines::{line_ready, next_line};
+use crate::lines::{line_ready, without_carriage_return};
 use crate::outbox::Outbox;
 use crate::session::Session;
 use crate::sink::Sink;
 use crate::source::Source;
 use std::alloc::{AllocError, Allocator};
-use vb_command::Unread;
 
 /// Reads lines to the end of the input, carries out the command of each and writes the answers,
 /// one a line. The slots are empty at first and gone at the end.
@@ -86,33 +87,62 @@ fn answer_all<A: Allocator + Clone, R: Source, W: Sink>(
     ensures writes { FailsWrites result (W.faults output.old) (W.faults output.new) }
 {
     let mut number = 1;
-    loop {
-        let at = line_ready(feed, out, input, output)?;
-        let answer = match session.answer(next_line(feed.as_slice(), at), number) {
-            Ok(answer) => answer,
-            Err(unread) => {
-                out.flush(output).map_err(|_| DriveError::Write)?;
-                return Err(line_error(number, unread));
-            }
-        };
-        let pushed = out.push_any(answer.as_ref(), output);
-        drop(answer);
-        pushed.map_err(|_| DriveError::Write)?;
-        let Some(at) = at else {
-            out.flush(output).map_err(|_| DriveError::Write)?;
-            return Ok(());
-        };
+    while let Some(at) = line_ready(feed, out, input, output)? {
+        let line = without_carriage_return(&feed.as_slice()[..at]);
+        answer_line(session, line, number, out, output)?;
         feed.consume(at + 1);
         number += 1;
     }
+    answer_last(session, feed.as_slice(), number, out, output)
 }
 
-/// The error where the line of this number gives no command.
-fn line_error(line: u64, unread: Unread) -> DriveError
-    ensures { result ≡ line_error line unread }
+/// Answers a last line, which no line feed ends, if it has any bytes. Then what waits is written.
+fn answer_last<A: Allocator + Clone, W: Sink>(
+    session: &mut Session<A>,
+    line: &[u8],
+    number: u64,
+    out: &mut Outbox<A>,
+    output: &mut W,
+) -> Result<(), DriveError>
+    ensures ok { OnOk result (AnswersLast line.now number session.old.pool session.new.pool
+        (append_known (W.contents output.old) out.old) (W.contents output.new)) }
+    ensures err { UnlessWrite result (IfErr result (λ why. IsUnread line.now number why
+        × (0 < length line.now)
+        × Appends (W.contents output.old) (W.contents output.new) out.old)) }
+    ensures writes { FailsWrites result (W.faults output.old) (W.faults output.new) }
 {
-    match unread {
-        Unread::Unreadable => DriveError::Unreadable { line },
-        Unread::Memory => DriveError::Memory,
+    if !line.is_empty() {
+        answer_line(session, line, number, out, output)?;
+    }
+    out.flush(output).map_err(|_| DriveError::Write)
+}
+
+/// Answers the line of this number, which comes without its line feed. Where it gives no command,
+/// what waits is written.
+fn answer_line<A: Allocator + Clone, W: Sink>(
+    session: &mut Session<A>,
+    line: &[u8],
+    number: u64,
+    out: &mut Outbox<A>,
+    output: &mut W,
+) -> Result<(), DriveError>
+    ensures ok { OnOk result (AnswersLine line.now number session.old.pool session.new.pool
+        (append_known (W.contents output.old) out.old)
+        (append_known (W.contents output.new) out.new)) }
+    ensures err { UnlessWrite result (IfErr result (λ why. IsUnread line.now number why
+        × Appends (W.contents output.old) (W.contents output.new) out.old)) }
+    ensures writes { FailsWrites result (W.faults output.old) (W.faults output.new) }
+{
+    match session.answer(line, number) {
+        Ok(Some(answer)) => {
+            let pushed = out.push(&answer, output);
+            drop(answer);
+            pushed.map_err(|_| DriveError::Write)
+        }
+        Ok(None) => Ok(()),
+        Err(why) => {
+            out.flush(output).map_err(|_| DriveError::Write)?;
+            Err(why)
+        }
     }
 }

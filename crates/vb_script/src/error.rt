@@ -1,8 +1,5 @@
 //! Why a session ends before its input does.
-ghost use Rattle.std.specs.Prelude.{◌≡◌};
-ghost use Rattle.vb_script.specs.DriveError.{stream_error};
 
-use crate::lines::Unready;
 use thiserror::Error;
 
 /// Why [`drive`](crate::drive) ended before the end of its input was answered.
@@ -23,16 +20,4 @@ pub enum DriveError {
     /// A request for memory was refused outside of a command.
     #[error("out of memory")]
     Memory,
-}
-
-impl From<Unready> for DriveError {
-    ghost from_gives = { λ unready error. error ≡ stream_error unready };
-
-    fn from(unready: Unready) -> DriveError {
-        match unready {
-            Unready::Read => DriveError::Read,
-            Unready::Write => DriveError::Write,
-            Unready::Memory => DriveError::Memory,
-        }
-    }
 }

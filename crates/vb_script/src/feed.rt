@@ -1,12 +1,13 @@
 //! Bytes that were read and aren't used yet.
 ghost use Rattle.std.specs.Prelude.{◌≡◌, ℕ, ◌+◌, ◌-◌, ◌^◌, ◌<◌, ◌≤◌, ◌==◌, List, [], length, take};
-ghost use Rattle.std.specs.Prelude.{drop, position, slice_range, OnErr, OnOk, IfOk};
+ghost use Rattle.std.specs.Prelude.{drop, position, slice_range, IfErr, IfOk, OnErr, OnOk};
 ghost use Rattle.std.specs.Io.KnownBytes.{prepend_known, IsAtEnd, Keeps};
 ghost use Rattle.std.specs.List.{position_or_len};
-ghost use Rattle.vb_script.specs.DriveError.{FailsReads, fill_error, told_as};
+ghost use Rattle.vb_script.specs.DriveError.{FailsReads, FailsReading};
 ghost use Rattle.vb_script.specs.Fault.{CountsFault};
 ghost use Rattle.vb_script.specs.Feed.{FeedsMore};
 
+use crate::error::DriveError;
 use crate::fault::Fault;
 use crate::source::Source;
 use memchr::memchr;
@@ -16,38 +17,9 @@ use std::marker::Model;
 /// How many bytes there is room for at first.
 const CHUNK: usize = 65536;
 
-/// Why no bytes were read.
-#[derive(Clone, Copy)]
-pub enum FillError {
-    /// The source failed.
-    Read,
-    /// A request for memory was refused.
-    Memory,
-}
-
-impl From<Fault> for FillError {
-    ghost use Rattle.vb_script.specs.declared.feed.FillError.TheVariants.{Read};
-
-    ghost from_gives = { λ _ error. error ≡ Read };
-
-    fn from(_: Fault) -> FillError {
-        FillError::Read
-    }
-}
-
-impl From<AllocError> for FillError {
-    ghost use Rattle.vb_script.specs.declared.feed.FillError.TheVariants.{Memory};
-
-    ghost from_gives = { λ _ error. error ≡ Memory };
-
-    fn from(_: AllocError) -> FillError {
-        FillError::Memory
-    }
-}
-
 /// The bytes that were read and aren't used yet. Contracts see the list of them.
 #[derive(Drop)]
-pub struct Feed<A: Allocator> {
+pub(crate) struct Feed<A: Allocator> {
     /// The room for bytes, each of which has been written, so that reads go there.
     room: Vec<u8, A>,
     /// How many bytes at its front were let go.
@@ -73,7 +45,7 @@ impl<A: Allocator> Model for Feed<A> {
 
 impl<A: Allocator> Feed<A> {
     /// No bytes. This takes no memory.
-    pub fn new(alloc: A) -> Self
+    pub(crate) fn new(alloc: A) -> Self
         ensures { result ≡ [] }
     {
         Feed {
@@ -86,7 +58,7 @@ impl<A: Allocator> Feed<A> {
 
     /// All the bytes.
     #[tactic(auto, using(crate::proofs::Parts::parts))]
-    pub fn as_slice(&self) -> &[u8]
+    pub(crate) fn as_slice(&self) -> &[u8]
         ensures { result.now ≡ self.now }
     {
         &self.room[self.start..self.end]
@@ -94,7 +66,7 @@ impl<A: Allocator> Feed<A> {
 
     /// The place of the first line feed.
     #[tactic(auto, using(crate::proofs::Parts::parts))]
-    pub fn line_feed(&mut self) -> Option<usize>
+    pub(crate) fn line_feed(&mut self) -> Option<usize>
         ensures place { result ≡ position (λ b. b == 10) self.old }
         ensures same { self.new ≡ self.old }
     {
@@ -110,7 +82,7 @@ impl<A: Allocator> Feed<A> {
 
     /// Lets the first `n` bytes go.
     #[tactic(auto, using(crate::proofs::Parts::parts))]
-    pub fn consume(&mut self, n: usize)
+    pub(crate) fn consume(&mut self, n: usize)
         requires { n ≤ length self.old }
         ensures { self.new ≡ drop n self.old }
     {
@@ -121,23 +93,24 @@ impl<A: Allocator> Feed<A> {
     /// Reads once and answers whether more bytes came; none come at the end of the input.
     ///
     /// Bytes that were let go give up their room first. Where none is left it is doubled before the
-    /// read, so that no byte is lost where memory is refused.
+    /// read, so that no byte is lost where memory is refused. It fails by `Read` or by `Memory`.
     #[tactic(auto, using(crate::proofs::Parts::filled))]
-    pub fn fill<R: Source>(&mut self, input: &mut R) -> Result<bool, FillError>
+    pub(crate) fn fill<R: Source>(&mut self, input: &mut R) -> Result<bool, DriveError>
         ensures kept { Keeps
             (prepend_known self.old (R.remaining input.old))
             (prepend_known self.new (R.remaining input.new)) }
         ensures fills { IfOk result (λ more. FeedsMore self.old self.new
             (R.remaining input.new) more) }
-        ensures err { OnErr result (self.new ≡ self.old) }
-        ensures reads { FailsReads (told_as fill_error result)
-            (R.faults input.old) (R.faults input.new) }
+        ensures err { IfErr result (λ why. FailsReading why (self.new ≡ self.old)) }
+        ensures reads { FailsReads result (R.faults input.old) (R.faults input.new) }
     {
         move_to_front(&mut self.room, self.start, self.end);
         self.end -= self.start;
         self.start = 0;
-        leave_room(&mut self.room, self.end)?;
-        let count = read_behind(&mut self.room, self.end, input)?;
+        leave_room(&mut self.room, self.end).map_err(|_| DriveError::Memory)?;
+        let Ok(count) = read_behind(&mut self.room, self.end, input) else {
+            return Err(DriveError::Read);
+        };
         self.end += count;
         Ok(count > 0)
     }

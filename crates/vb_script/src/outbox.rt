@@ -1,16 +1,18 @@
 //! Answers that wait to be written.
+//!
+//! They aren't printed by `Display`: `fmt::Write` says nothing of its writer after an error, so it
+//! couldn't be shown how many writes of the sink have failed. Both ways print the same parts of an
+//! answer, by `Answer::parts`.
 ghost use Rattle.std.specs.Prelude.{◌≡◌, ◌+◌, ◌≤◌, [], ◌∷◌, ◌++◌, length, take, vec_capacity};
-ghost use Rattle.std.specs.Prelude.{codes, decimal, option_map, IfOk, OnOk};
+ghost use Rattle.std.specs.Prelude.{codes, decimal, IfOk, OnOk};
 ghost use Rattle.std.specs.Io.KnownBytes.{Appends};
 ghost use Rattle.std.specs.List.{flat_map};
-ghost use Rattle.std.specs.Option.{option_copied};
 ghost use Rattle.vb_command.specs.Printed.{digit_of, digits_of, line_of, places_text, run_text};
 ghost use Rattle.vb_command.specs.Printed.{runs_text};
 ghost use Rattle.vb_command.specs.Parts.{part_text};
 ghost use Rattle.vb_command.specs.Views.{reply};
 ghost use Rattle.vb_script.specs.Fault.{CountsFault};
 ghost use Rattle.vb_script.specs.Outbox.{Adds};
-ghost use Rattle.vb_script.specs.Session.{line_of_any};
 
 use crate::fault::Fault;
 use crate::sink::Sink;
@@ -35,7 +37,7 @@ const TEXT: usize = DIGITS + PIECE;
 ///
 /// Its room is there from the start, so that no answer takes memory: what goes beyond is written.
 #[derive(Drop)]
-pub struct Outbox<A: Allocator> {
+pub(crate) struct Outbox<A: Allocator> {
     bytes: Vec<u8, A>,
 }
 
@@ -52,7 +54,7 @@ impl<A: Allocator> Model for Outbox<A> {
 
 impl<A: Allocator> Outbox<A> {
     /// No answers, and room for them.
-    pub fn new(alloc: A) -> Result<Self, AllocError>
+    pub(crate) fn new(alloc: A) -> Result<Self, AllocError>
         ensures { IfOk result (λ out. out ≡ []) }
     {
         Ok(Outbox {
@@ -60,24 +62,8 @@ impl<A: Allocator> Outbox<A> {
         })
     }
 
-    /// Adds the line of an answer, if there is one.
-    pub fn push_any<W: Sink>(
-        &mut self,
-        answer: Option<&Answer<A>>,
-        output: &mut W,
-    ) -> Result<(), Fault>
-        ensures { Adds (line_of_any (option_map reply (option_copied answer.entry))) result
-            (W.contents output.old) self.old (W.contents output.new) self.new
-            (W.faults output.old) (W.faults output.new) }
-    {
-        match answer {
-            Some(answer) => self.push(answer, output),
-            None => Ok(()),
-        }
-    }
-
     /// Adds the line of an answer.
-    fn push<W: Sink>(&mut self, answer: &Answer<A>, output: &mut W) -> Result<(), Fault>
+    pub(crate) fn push<W: Sink>(&mut self, answer: &Answer<A>, output: &mut W) -> Result<(), Fault>
         ensures { Adds (line_of (reply answer.now)) result
             (W.contents output.old) self.old (W.contents output.new) self.new
             (W.faults output.old) (W.faults output.new) }
@@ -263,7 +249,7 @@ impl<A: Allocator> Outbox<A> {
         if bits.len() > ROOM - self.bytes.len() {
             self.flush(output)?;
         }
-        push_digits(&mut self.bytes, bits);
+        push_bit_codes(&mut self.bytes, bits);
         Ok(())
     }
 
@@ -285,7 +271,7 @@ impl<A: Allocator> Outbox<A> {
     }
 
     /// Writes all that waits.
-    pub fn flush<W: Sink>(&mut self, output: &mut W) -> Result<(), Fault>
+    pub(crate) fn flush<W: Sink>(&mut self, output: &mut W) -> Result<(), Fault>
         ensures written { OnOk result
             (Appends (W.contents output.old) (W.contents output.new) self.old) }
         ensures empty { OnOk result (self.new ≡ []) }
@@ -346,7 +332,7 @@ fn push_part<A: Allocator>(bytes: &mut Vec<u8, A>, piece: &[u8], count: usize)
 }
 
 /// Adds truth values as binary digits to bytes that have room for them.
-fn push_digits<A: Allocator>(bytes: &mut Vec<u8, A>, bits: &[bool])
+fn push_bit_codes<A: Allocator>(bytes: &mut Vec<u8, A>, bits: &[bool])
     requires { length bytes.old.items + length bits.now ≤ vec_capacity bytes.old }
     ensures added { bytes.new.items ≡ bytes.old.items ++ flat_map digit_of bits.now }
     ensures len { length bytes.new.items ≡ length bytes.old.items + length bits.now }
@@ -354,13 +340,13 @@ fn push_digits<A: Allocator>(bytes: &mut Vec<u8, A>, bits: &[bool])
 {
     let len = bytes.len();
     bytes.resize(len + bits.len(), 0).unwrap();
-    write_digits(&mut bytes[len..], bits);
+    write_bit_codes(&mut bytes[len..], bits);
 }
 
 /// Makes as many bytes as there are truth values the codes of their binary digits.
 ///
 /// The bytes are there before they are written, so the loop has no way out and goes by vectors.
-fn write_digits(bytes: &mut [u8], bits: &[bool])
+fn write_bit_codes(bytes: &mut [u8], bits: &[bool])
     requires { length bytes.old ≡ length bits.now }
     ensures { bytes.new ≡ flat_map digit_of bits.now }
 {

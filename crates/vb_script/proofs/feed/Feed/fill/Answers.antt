@@ -12,13 +12,13 @@ invariant_of-self-2 g c =
     let whole : take c.leave_room.new.room.len (new ++ drop
     (length new) c.leave_room.new.room.items) ≡ new = grind (arith, common_steps) in
     let front : take kept new ≡ c.args.self.now =
-    c.in_ok-count.ensures.front ∙ (ap (take kept) c.deref_mut.ensures.value
+    c.in-Ok.ensures.front ∙ (ap (take kept) c.deref_mut.ensures.value
     ∙ (c.leave_room.ensures.kept ∙ (c.move_to_front.ensures.moved ∙ c.self.view_is))) in
     rw whole (
       omega arith,
-      c.in_ok-count.ensures.within,
+      c.in-Ok.ensures.within,
       searched_longer
-          (λ b. b == 10) c.args.self.now new kept c.in_ok-count.count c.self.inside.searched front
+          (λ b. b == 10) c.args.self.now new kept c.in-Ok.count c.self.inside.searched front
           (rw c.self.view_is at c.self.invariant.2),
     )
 
@@ -31,7 +31,7 @@ returns-clause-kept g c =
     let same : take kept c.deref_mut.result.now ≡ c.args.self.now =
     ap (take kept) c.deref_mut.ensures.value ∙ (c.leave_room.ensures.kept
     ∙ (c.move_to_front.ensures.moved ∙ c.self.view_is)) in
-    let after = prepend_known (take (kept + c.in_ok-count.count) new)
+    let after = prepend_known (take (kept + c.in-Ok.count) new)
     (g.R.Source.remaining c.read_behind.new.input) in
     rw whole (subst (λ (bs : List ℕ). Keeps (prepend_known bs
-    (g.R.Source.remaining c.args.input.now)) after) same c.in_ok-count.ensures.kept)
+    (g.R.Source.remaining c.args.input.now)) after) same c.in-Ok.ensures.kept)
