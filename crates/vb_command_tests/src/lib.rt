@@ -1,4 +1,4 @@
-//! Tests of commands: what answers look like, and which lines can be read.
+//! Tests of commands: what answers and commands look like, and which lines can be read.
 #![tactic(auto)]
 
 #[cfg(test)]
@@ -7,3 +7,5 @@ mod answers;
 mod compared;
 #[cfg(test)]
 mod lines;
+#[cfg(test)]
+mod shown;
