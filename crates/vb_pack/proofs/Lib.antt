@@ -3,4 +3,5 @@ pub mod BytesLemmas
 pub mod MaskLemmas
 pub mod PackedLemmas
 pub mod SpliceLemmas
+pub mod TruthLemmas
 pub mod WordsLemmas

@@ -8,6 +8,7 @@ ghost use Rattle.vb_pack.specs.Writes.{Writes};
 
 use crate::collect::{collect_full, collect_part};
 use crate::pack::Lanes;
+use crate::truths::pack_values;
 
 /// Calls `f` with each number below `len`, in ascending order, and packs the answers into the first
 /// bytes of `bytes`, eight to a byte, least significant bit first. `bytes` has to have room for
@@ -34,25 +35,29 @@ pub fn collect_bool_bytes<F: FnMut(usize) -> bool>(bytes: &mut [u8], len: usize,
 /// Packs truth values into the first bytes of `bytes`, eight to a byte, least significant bit
 /// first. `bytes` has to have room for `bools.len()` bits. The bits of the last written byte behind
 /// them are false; later bytes keep their values.
+///
+/// From 64 values on each is packed by a word, fewer go bit by bit.
 pub fn pack_bools(bytes: &mut [u8], bools: &[bool])
     requires { length bools.now ≤ 8 * length bytes.old }
     ensures packed { bits bytes.new 0 (length bools.now) ≡ bools.now }
     ensures written { Writes bytes.old bytes.new 0 (filled_to 8 (bools.now)) }
 {
-    collect_bool_bytes(bytes, bools.len(), &mut |i| bools[i]);
+    pack_values(bytes, bools);
 }
 
 /// Packs one bit for each byte of `truthy`, true where the byte isn't 0, into the first bytes of
 /// `bytes`, eight bits to a byte, least significant first. `bytes` has to have room for
 /// `truthy.len()` bits. The bits of the last written byte behind them are false; later bytes keep
 /// their values.
+///
+/// From 64 values on each is packed by a word, fewer go bit by bit.
 pub fn pack_truthy(bytes: &mut [u8], truthy: &[u8])
     requires { length truthy.now ≤ 8 * length bytes.old }
     ensures packed { bits bytes.new 0 (length truthy.now) ≡ map (λ x. not (x == 0)) truthy.now }
     ensures written { Writes bytes.old bytes.new 0
         (filled_to 8 (map (λ x. not (x == 0)) truthy.now)) }
 {
-    collect_bool_bytes(bytes, truthy.len(), &mut |i| truthy[i] != 0);
+    pack_values(bytes, truthy);
 }
 
 /// Writes the first `n` bytes of `word`, least significant first, to the bytes from `at` on.

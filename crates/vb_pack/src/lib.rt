@@ -9,6 +9,7 @@ mod bytes;
 mod collect;
 mod map;
 mod pack;
+mod truths;
 mod words;
 
 pub use bytes::{collect_bool_bytes, pack_bools, pack_truthy};

@@ -50,6 +50,15 @@ pub fn pack_bool_word_swar(bools: &[bool; 64]) -> u64
 pub fn pack_bool_word_lanes(bools: &[bool; 64]) -> u64
     ensures { digits result 0 64 ≡ bools.now }
 {
+    pack_lanes(bools)
+}
+
+/// [`pack_bool_word_lanes`] of a slice of 64.
+#[inline(always)]
+pub(crate) fn pack_lanes(bools: &[bool]) -> u64
+    requires { length bools.now ≡ 64 }
+    ensures { digits result 0 64 ≡ bools.now }
+{
     let mut bytes = [0u8; 64];
     for i in 0..64 {
         bytes[i] = u8::from(bools[i]);

@@ -2,10 +2,11 @@
 ghost use Rattle.std.specs.Prelude.{◌≤◌};
 
 use crate::compared::equal;
+use std::process::Abort;
 use vb_pack::{
     collect_bool_bytes, collect_bool_word, collect_bool_word_scalar, collect_bool_words,
-    collect_bool_words_multiversioned, pack_bool_word_lanes, pack_bool_word_swar,
-    pack_bools_into_words,
+    collect_bool_words_multiversioned, pack_bool_word_lanes, pack_bool_word_swar, pack_bools,
+    pack_bools_into_words, pack_truthy,
 };
 
 #[test]
@@ -72,4 +73,55 @@ fn words_from_a_digit_on(rt: HostRuntime) {
     let mut words = [0b11111u64, 0];
     pack_bools_into_words(&mut words, 5, 70, &mut |_| true);
     equal(&rt, words, [u64::MAX, 2047]);
+}
+
+/// Values of which those that aren't 0 stand at no regular distance.
+fn values() -> [u8; 200] {
+    let mut values = [0u8; 200];
+    for i in 0..200 {
+        values[i] = (i * i % 11 % 4 * 85) as u8;
+    }
+    values
+}
+
+/// Which of the values aren't 0.
+fn truths(values: &[u8; 200]) -> [bool; 200] {
+    let mut truths = [false; 200];
+    for i in 0..200 {
+        truths[i] = values[i] != 0;
+    }
+    truths
+}
+
+/// The bytes into which the first `len` are packed bit by bit, and those behind them.
+fn looped(truths: &[bool; 200], len: usize) -> [u8; 26]
+    requires { len ≤ 200 }
+{
+    let mut bytes = [0xA5u8; 26];
+    for i in 0..len {
+        let before = if i % 8 == 0 { 0 } else { bytes[i / 8] };
+        bytes[i / 8] = before | u8::from(truths[i]) << (i % 8);
+    }
+    bytes
+}
+
+fn packs_as_the_loop(rt: &impl Abort, len: usize)
+    requires { len ≤ 200 }
+{
+    let values = values();
+    let truths = truths(&values);
+    let wanted = looped(&truths, len);
+    let mut bytes = [0xA5u8; 26];
+    pack_bools(&mut bytes, &truths[..len]);
+    equal(rt, bytes, wanted);
+    let mut bytes = [0xA5u8; 26];
+    pack_truthy(&mut bytes, &values[..len]);
+    equal(rt, bytes, wanted);
+}
+
+#[test]
+fn slices_on_both_sides_of_a_word(rt: HostRuntime) {
+    for len in 0..200 {
+        packs_as_the_loop(&rt, len);
+    }
 }

@@ -5,7 +5,7 @@ use lib.Lanes.{mask_l}
 use mir.Syntax.{w8}
 use Rattle.vb_pack.specs.Digits.{digits}
 use Rattle.vb_pack.proofs.MaskLemmas.{digits-mask_l, compared_back}
-use Rattle.vb_pack.proofs.pack.pack_bool_word_lanes.Goals as goal
+use Rattle.vb_pack.proofs.pack.pack_lanes.Goals as goal
 
 pub loop-i-preserved : goal.loop-i-preserved
 loop-i-preserved c = record {
@@ -17,6 +17,6 @@ pub returns : goal.returns
 returns c =
     let long = c.loop-i.invariant.long in
     let back : map (λ x. eqb x 1) c.loop-i.bytes ≡ c.args.bools.now = compared_back c.loop-i.bytes
-    c.args.bools.now long c.told-bools (λ i h. c.loop-i.invariant.written i (omega arith)) in
+    c.args.bools.now long c.requires (λ i h. c.loop-i.invariant.written i (omega arith)) in
     ap (λ w. digits w 0 64) (bitmask_splat w8 eqb c.loop-i.bytes 64 1 long (omega arith)
-    ∙ ap mask_l back) ∙ digits-mask_l c.args.bools.now 64 c.told-bools
+    ∙ ap mask_l back) ∙ digits-mask_l c.args.bools.now 64 c.requires

@@ -1,6 +1,6 @@
 use Rattle.std.proofs.Common.{◌≡◌, ℕ, ◌<◌, length, get_or, false}
 use mir.Val.{bool_byte}
-use Rattle.vb_pack.proofs.pack.pack_bool_word_lanes.Given as goal
+use Rattle.vb_pack.proofs.pack.pack_lanes.Given as goal
 
 abbrev pub invariant-loop-i : goal.invariant-loop-i
 invariant-loop-i l = record {
