@@ -207,8 +207,12 @@ fn comparisons(case: &Case) -> Result<u64, String> {
         + compares(case, |i| i as i128 - 3)?
         + compares(case, |i| if i == 4 { f32::NAN } else { i as f32 - 3.0 })?
         + compares(case, |i| if i == 3 { f64::NAN } else { i as f64 })?
-        + compares(case, |i| [f32::INFINITY, -0.0, 0.0, f32::NAN, f32::MIN][i % 5])?
-        + compares(case, |i| [0.0, f64::NAN, f64::NEG_INFINITY, -0.0, 1.0][i % 5])?)
+        + compares(case, |i| {
+            [f32::INFINITY, -0.0, 0.0, f32::NAN, f32::MIN][i % 5]
+        })?
+        + compares(case, |i| {
+            [0.0, f64::NAN, f64::NEG_INFINITY, -0.0, 1.0][i % 5]
+        })?)
 }
 
 /// By types of few indices, of the bits that these can name. Half of the cases have one that is past

@@ -143,12 +143,16 @@ pub fn equal(left: Bits<'_>, right: Bits<'_>) -> bool {
 
 /// Of windows of one length. No word behind the first one with such a bit is read.
 pub fn is_disjoint(left: Bits<'_>, right: Bits<'_>) -> bool {
-    words(left).zip(words(right)).all(|(left, right)| left & right == 0)
+    words(left)
+        .zip(words(right))
+        .all(|(left, right)| left & right == 0)
 }
 
 /// Of windows of one length. No word behind the first one with another bit is read.
 pub fn is_subset(left: Bits<'_>, right: Bits<'_>) -> bool {
-    words(left).zip(words(right)).all(|(left, right)| left & !right == 0)
+    words(left)
+        .zip(words(right))
+        .all(|(left, right)| left & !right == 0)
 }
 
 /// How many bits the operator makes true, of windows of one length.
