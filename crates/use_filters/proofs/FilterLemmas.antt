@@ -1,12 +1,15 @@
 -- Masks of conditions, and what they keep.
 use Rattle.std.proofs.Common.{◌≡◌, ℕ, Bool, true, false, ◌&&◌, cond, List, [], ◌∷◌, length, map}
-use Rattle.std.proofs.Common.{filter, slice_index, refl, sym, ap, ◌∙◌, arith, pos, int_eq, nat_eq}
+use Rattle.std.proofs.Common.{Option, Some, None, is_some, not, filter, slice_index}
+use Rattle.std.proofs.Common.{refl, sym, ap, ◌∙◌, arith, pos, int_eq, nat_eq}
+use Rattle.std.specs.Simd.Lanes.{zip2}
 use Rattle.std.proofs.lemmas.Bool.Decides.{nat_tests}
 use Rattle.std.proofs.lemmas.Int.{ints}
 use Rattle.std.proofs.lemmas.List.{length-map, get_or-map}
 use Rattle.vortex_buffer.proofs.AnswersLemmas.{map-span}
 use Rattle.vortex_buffer.specs.Asked.{span}
 use Rattle.vortex_buffer.specs.Kept.{kept_by}
+use Rattle.vortex_buffer.specs.Kleene.{and_truths, truths, is_truth}
 use Rattle.vortex_buffer.specs.Operators.{merged_by}
 use Rattle.use_filters.specs.Filters.{matches_of}
 
@@ -67,3 +70,22 @@ tested answer test (value ∷ values) same =
 -- as natural numbers
 pub nat_equal : (x y : ℕ) → int_eq (pos x) (pos y) ≡ nat_eq x y
 nat_equal x y = grind (arith, ints, nat_tests)
+
+-- what is valid and isn't true
+pub known_false : (t : List (Option Bool))
+    → merged_by (λ a b. a && not b) (map is_some t) (map (is_truth true) t) ≡ map (is_truth false) t
+unfolding merged_by
+known_false [] = refl
+known_false (None ∷ t) = ap (λ l. false ∷ l) (known_false t)
+known_false (Some true ∷ t) = ap (λ l. false ∷ l) (known_false t)
+known_false (Some false ∷ t) = ap (λ l. true ∷ l) (known_false t)
+
+-- the same columns combined
+pub same_columns : (a b c d x y z w : List Bool) → a ≡ x → b ≡ y → c ≡ z → d ≡ w
+    → zip2 and_truths (truths a (Some b)) (truths c (Some d))
+    ≡ zip2 and_truths (truths x (Some y)) (truths z (Some w))
+same_columns a b c d x y z w e f g h =
+    ap (λ l. zip2 and_truths (truths l (Some b)) (truths c (Some d))) e
+    ∙ ap (λ l. zip2 and_truths (truths x (Some l)) (truths c (Some d))) f
+    ∙ ap (λ l. zip2 and_truths (truths x (Some y)) (truths l (Some d))) g
+    ∙ ap (λ l. zip2 and_truths (truths x (Some y)) (truths z (Some l))) h

@@ -1,12 +1,14 @@
 //! A filter over a column of numbers, some of which may be null.
-ghost use Rattle.std.specs.Prelude.{◌≡◌, length, map, filter};
+ghost use Rattle.std.specs.Prelude.{◌≡◌, false, Some, length, map, filter};
+ghost use Rattle.std.specs.Simd.Lanes.{zip2};
 ghost use Rattle.use_filters.specs.Filters.{is_met, matches_of};
-ghost use Rattle.vortex_buffer.specs.Makes.{Makes};
 ghost use Rattle.vortex_buffer.specs.Kept.{kept_by};
+ghost use Rattle.vortex_buffer.specs.Kleene.{and_truths, truths, is_truth};
+ghost use Rattle.vortex_buffer.specs.Makes.{Makes};
 
 use crate::condition::Condition;
 use std::alloc::Allocator;
-use vortex_buffer::{BitBuffer, Buffer, Filter, Result, compared};
+use vortex_buffer::{BitBuffer, Buffer, Filter, Result, and_kleene, compared};
 
 /// The mask of the rows whose value meets the condition. Refused by `OutOfMemory` alone.
 pub fn rows_where<A: Allocator + Clone>(
@@ -55,6 +57,31 @@ pub fn matching_rows<A: Allocator + Clone>(
         ≡ matches_of (is_met condition) valid.now.bits values.now.list) result }
 {
     rows_where(alloc, values, condition)? & valid
+}
+
+/// The rows that `where not (a and b)` of SQL keeps, of two masks of conditions and which rows of
+/// each are valid: those of which one mask is valid and false, whatever the other one is. All four
+/// are as long. Refused by `OutOfMemory` alone.
+pub fn rows_failing<A: Allocator + Clone>(
+    alloc: A,
+    left: &BitBuffer<A>,
+    left_valid: &BitBuffer<A>,
+    right: &BitBuffer<A>,
+    right_valid: &BitBuffer<A>,
+) -> Result<BitBuffer<A>>
+    requires right { length right.now.bits ≡ length left.now.bits }
+    requires left_valid { length left_valid.now.bits ≡ length left.now.bits }
+    requires right_valid { length right_valid.now.bits ≡ length left.now.bits }
+    ensures { Makes (λ rows. rows.bits ≡ map (is_truth false) (zip2 and_truths
+        (truths left.now.bits (Some left_valid.now.bits))
+        (truths right.now.bits (Some right_valid.now.bits)))) result }
+{
+    let (a, a_valid) = (left.as_view(), Some(left_valid.as_view()));
+    let (b, b_valid) = (right.as_view(), Some(right_valid.as_view()));
+    let (both, valid) = and_kleene(alloc, a, a_valid, b, b_valid)?;
+    let rows = valid.into_bitand_not(&both);
+    drop(both);
+    rows
 }
 
 /// The values that are valid and meet the condition, in order. Refused by `OutOfMemory` alone.

@@ -8,4 +8,4 @@ mod filter;
 mod tests;
 
 pub use condition::Condition;
-pub use filter::{filtered, matching_rows, rows_where};
+pub use filter::{filtered, matching_rows, rows_failing, rows_where};

@@ -1,5 +1,5 @@
 //! Answers known from outside, with ample memory and with each request refused in turn.
-use crate::{Condition, filtered, rows_where};
+use crate::{Condition, filtered, rows_failing, rows_where};
 use std::alloc::Global;
 use std::fmt::Debug;
 use std::process::Abort;
@@ -64,4 +64,52 @@ fn filters_are_answered_or_refused(rt: HostRuntime) {
         }
         equal(&rt, heap.has_ended(6), true);
     }
+}
+
+/// The masks of two conditions and which rows of each are valid, for each of the nine pairs of
+/// true, false and null: what stands at a null is true on the left and false on the right.
+const MASKS: [&[bool]; 4] = [
+    &[true, true, true, false, false, false, true, true, true],
+    &[true, true, true, true, true, true, false, false, false],
+    &[true, false, false, true, false, false, true, false, false],
+    &[true, true, false, true, true, false, true, true, false],
+];
+
+/// The rows of which one side is known to be false.
+const FAILING: &[bool] = &[false, true, false, true, true, true, false, true, false];
+
+fn failing<'a>(heap: Heap<'a>) -> Result<BitBuffer<Heap<'a>>> {
+    let left = BitBuffer::from_bools(heap, MASKS[0])?;
+    let left_valid = BitBuffer::from_bools(heap, MASKS[1])?;
+    let right = BitBuffer::from_bools(heap, MASKS[2])?;
+    let right_valid = BitBuffer::from_bools(heap, MASKS[3])?;
+    let len = left.len();
+    let made = if right.len() == len && left_valid.len() == len && right_valid.len() == len {
+        rows_failing(heap, &left, &left_valid, &right, &right_valid)
+    } else {
+        Err(BufferError::NotAligned)
+    };
+    drop((left, left_valid, right, right_valid));
+    made
+}
+
+fn fails(rt: &impl Abort, made: Result<BitBuffer<Heap<'_>>>) -> Result<()> {
+    let rows = made?;
+    equal(rt, rows.iter().eq(FAILING.iter().copied()), true);
+    drop(rows);
+    Ok(())
+}
+
+#[test]
+fn a_null_fails_where_the_other_side_does_or_memory_is_refused(rt: HostRuntime) {
+    let heap = Refusing::new(rt.alloc(), 0);
+    for _ in heap.in_turn() {
+        let refused = Err(BufferError::OutOfMemory);
+        equal(
+            &rt,
+            fails(&rt, failing(&heap)),
+            heap.wanted(Ok(()), refused),
+        );
+    }
+    equal(&rt, heap.has_ended(12), true);
 }
