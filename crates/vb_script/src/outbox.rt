@@ -3,7 +3,7 @@
 //! They aren't printed by `Display`: `fmt::Write` says nothing of its writer after an error, so it
 //! couldn't be shown how many writes of the sink have failed. Both ways print the same parts of an
 //! answer, by `Answer::parts`.
-ghost use Rattle.std.specs.Prelude.{◌≡◌, ◌+◌, ◌≤◌, [], ◌∷◌, ◌++◌, length, take, vec_capacity};
+ghost use Rattle.std.specs.Prelude.{◌≡◌, ◌+◌, ◌<◌, ◌≤◌, [], ◌∷◌, ◌++◌, length, take, vec_capacity};
 ghost use Rattle.std.specs.Prelude.{codes, decimal, IfOk, OnOk};
 ghost use Rattle.std.specs.Io.KnownBytes.{Appends};
 ghost use Rattle.std.specs.List.{flat_map};
@@ -301,8 +301,72 @@ fn push_number_line<A: Allocator>(bytes: &mut Vec<u8, A>, n: usize)
 }
 
 /// Adds a byte, and a number in decimal behind it, to bytes that have room for a piece.
-#[tactic(auto, using(crate::proofs::Pieces::pieces))]
 fn push_behind<A: Allocator>(bytes: &mut Vec<u8, A>, byte: u8, n: usize)
+    requires { length bytes.old.items + PIECE ≤ vec_capacity bytes.old }
+    ensures added { bytes.new.items ≡ bytes.old.items ++ byte ∷ decimal n }
+    ensures len { length bytes.new.items ≤ length bytes.old.items + PIECE }
+    ensures room { vec_capacity bytes.old ≤ vec_capacity bytes.new }
+{
+    if n < 100_000_000 {
+        push_short_behind(bytes, byte, n);
+    } else {
+        push_long_behind(bytes, byte, n);
+    }
+}
+
+/// The same of a number of at most eight digits. They are counted first, and so written where they
+/// stay: a copy of them would wait until they are stored. The numbers of a list rise, so most have
+/// as many digits as the one before, and the branches of the count are foreseen.
+#[tactic(auto, using(crate::proofs::Pieces::pieces))]
+fn push_short_behind<A: Allocator>(bytes: &mut Vec<u8, A>, byte: u8, n: usize)
+    requires small { n < 100000000 }
+    requires room { length bytes.old.items + PIECE ≤ vec_capacity bytes.old }
+    ensures added { bytes.new.items ≡ bytes.old.items ++ byte ∷ decimal n }
+    ensures len { length bytes.new.items ≤ length bytes.old.items + PIECE }
+    ensures room { vec_capacity bytes.old ≤ vec_capacity bytes.new }
+{
+    let len = bytes.len();
+    let count = short_count(n as u64);
+    let mut piece = [0; 16];
+    piece[0] = byte;
+    bytes.extend_from_slice(&piece).unwrap();
+    itoa::write_digits(n as u64, &mut bytes[len + 1..], count);
+    bytes.truncate(len + 1 + count);
+}
+
+/// How many digits a number of at most eight has.
+#[inline(always)]
+fn short_count(n: u64) -> usize
+    requires { n < 100000000 }
+    ensures count { result ≡ length (decimal n) }
+    ensures small { result ≤ 8 }
+{
+    if n < 10_000 {
+        few_count(n)
+    } else {
+        4 + few_count(n / 10_000)
+    }
+}
+
+/// How many digits a number of at most four has.
+#[inline(always)]
+#[tactic(auto, using(crate::proofs::Pieces::counts))]
+fn few_count(n: u64) -> usize
+    requires { n < 10000 }
+    ensures count { result ≡ length (decimal n) }
+    ensures small { result ≤ 4 }
+{
+    match n {
+        0..10 => 1,
+        10..100 => 2,
+        100..1000 => 3,
+        _ => 4,
+    }
+}
+
+/// The same of a number of any length.
+#[tactic(auto, using(crate::proofs::Pieces::pieces))]
+fn push_long_behind<A: Allocator>(bytes: &mut Vec<u8, A>, byte: u8, n: usize)
     requires { length bytes.old.items + PIECE ≤ vec_capacity bytes.old }
     ensures added { bytes.new.items ≡ bytes.old.items ++ byte ∷ decimal n }
     ensures len { length bytes.new.items ≤ length bytes.old.items + PIECE }

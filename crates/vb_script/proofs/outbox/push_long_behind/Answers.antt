@@ -1,6 +1,6 @@
 use Rattle.std.proofs.Common.{◌≡◌, ◌^◌, ◌<◌, ◌++◌, length, ap, ◌∙◌, rules}
 use Rattle.vb_script.proofs.Pieces.{behind}
-use Rattle.vb_script.proofs.outbox.push_behind.Goals as goal
+use Rattle.vb_script.proofs.outbox.push_long_behind.Goals as goal
 
 pub returns-clause-added : goal.returns-clause-added
 returns-clause-added g c =
