@@ -23,7 +23,7 @@ pub(crate) fn count_in_block<G: Glance>(src: &mut G, at: usize, len: usize) -> u
         return count_ones_by(src, at, len);
     }
     let chunk = src.chunk(first);
-    front_ones(&chunk, skip + len) - word_ones(&chunk, 0, skip)
+    front_ones(&chunk, skip + len) - front_ones_of_word(&chunk, 0, skip)
 }
 
 /// How many of the first `n` bits of the chunk are true: of each word, those that are among them.
@@ -33,13 +33,13 @@ fn front_ones(chunk: &[u8; 64], n: usize) -> usize
 {
     let mut ones = 0;
     for word in 0..8 {
-        ones += word_ones(chunk, word, n.saturating_sub(64 * word).min(64));
+        ones += front_ones_of_word(chunk, word, n.saturating_sub(64 * word).min(64));
     }
     ones
 }
 
 /// How many of the first `n` bits of a word of the chunk are true.
-fn word_ones(chunk: &[u8; 64], word: usize, n: usize) -> usize
+fn front_ones_of_word(chunk: &[u8; 64], word: usize, n: usize) -> usize
     requires inside { word < 8 }
     requires in_word { n ≤ 64 }
     ensures { result ≡ count (bits chunk.now (64 * word) n) }

@@ -30,10 +30,10 @@ pub overflow_sub-result : goal.overflow_sub-result
 overflow_sub-result g c =
     let parts = window (g.G.Glance.seen c.args.src.now).bytes c.chunk-chunk.result c.args.at
     c.args.len c.chunk-chunk.ensures.value (omega (arith, c.if-skip-len-gt512.false)) in
-    omega (arith, parts, c.front_ones.ensures, c.word_ones.ensures)
+    omega (arith, parts, c.front_ones.ensures, c.front_ones_of_word.ensures)
 
 pub returns-clause-value : goal.returns-clause-value
 returns-clause-value g c =
     let parts = window (g.G.Glance.seen c.args.src.now).bytes c.chunk-chunk.result c.args.at
     c.args.len c.chunk-chunk.ensures.value (omega (arith, c.if-skip-len-gt512.false)) in
-    omega (arith, parts, c.front_ones.ensures, c.word_ones.ensures)
+    omega (arith, parts, c.front_ones.ensures, c.front_ones_of_word.ensures)

@@ -28,7 +28,7 @@ overflow_add-ones c =
         arith,
         c.loop-word.invariant,
         count-bits-le b 0 (min c.args.n (64 * c.loop-word.word)),
-        c.word_ones-ones.ensures,
+        c.front_ones_of_word-ones.ensures,
         count-bits-le b (64 * c.loop-word.word) c.min.result,
         c.min.ensures,
       );
@@ -40,4 +40,4 @@ loop-word-preserved c =
     let more = front-more b (min n (64 * k)) c.min.result
     (min n (64 * (k + 1))) (64 * k) (omega (arith, c.min.ensures, c.saturating_sub.ensures))
     (λ some. omega (arith, some, c.min.ensures, c.saturating_sub.ensures)) in
-    omega (arith, more, c.loop-word.invariant, c.word_ones-ones.ensures)
+    omega (arith, more, c.loop-word.invariant, c.front_ones_of_word-ones.ensures)

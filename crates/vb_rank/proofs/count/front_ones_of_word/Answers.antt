@@ -3,7 +3,7 @@ use Rattle.vb_bits.specs.Bits.{bits, count}
 use Rattle.vb_bits.specs.Digits.{digits}
 use Rattle.vb_kernel.proofs.DigitsLemmas.{count-digits_below}
 use Rattle.vb_kernel.proofs.ReadLemmas.{digits-bits, has_bit-bits}
-use Rattle.vb_rank.proofs.count.word_ones.Goals as goal
+use Rattle.vb_rank.proofs.count.front_ones_of_word.Goals as goal
 
 -- the first digits of a word are the first bits of its bytes
 front_digits : (b : List ℕ) (w o n : ℕ) → digits w 0 64 ≡ bits b o 64 → n ≤ 64
