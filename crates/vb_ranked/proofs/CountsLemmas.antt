@@ -1,7 +1,7 @@
 -- Counts of blocks by their groups: read and searched.
 use Rattle.std.proofs.Common.{◌≡◌, ◌≢◌, ℕ, zero, suc, ◌+◌, ◌-◌, ◌*◌, ◌/◌, ◌%◌, ◌<◌, ◌≤◌, Bool, true}
 use Rattle.std.proofs.Common.{false, List, length, get_or, take, min, refl, sym, ap, ◌∙◌, arith}
-use Rattle.std.proofs.Common.{⊎_elim}
+use Rattle.std.proofs.Common.{subst, ⊎_elim}
 use Rattle.std.specs.Int.{div_ceil}
 use Rattle.std.proofs.lemmas.Bool.{cases_lt}
 use Rattle.std.proofs.lemmas.List.FromFn.{length-map-range_with_len, get_or-map-range_with_len}
@@ -342,3 +342,43 @@ BeginsBefore-single v l n some small =
         → 0 ≡ count_before 512 v (block_counts l) 0
     single true e = sym e
     single false e = omega (arith, e)
+
+-- in the first group the number before a block is the count, also before the first block
+pub number-of_first : (l : List Bool) (c : List ℕ) (j : ℕ) → AreCounts l c
+    → 512 * j < length l → j < 128 → get_or c (3 + j) 0 ≡ count (take (512 * j) l)
+number-of_first l c j p begins small =
+    let none : count_before_group c 0 ≡ 0 =
+    omega (arith, p.each 0 0 (omega arith) (omega (arith, begins))) in
+    ⊎_elim
+    (λ (some : 0 < j).
+    let number : 131 * 0 + 3 + j ≡ 3 + j = omega arith in
+    let front : 65536 * 0 + 512 * j ≡ 512 * j = omega arith in
+    omega (
+      arith,
+      p.each 0 j small (omega (arith, begins)),
+      none,
+      at-count_in_group c 0 j some,
+      ap (λ n. get_or c n 0) number,
+      ap (λ n. count (take n l)) front,
+    ))
+    (λ (first : j ≤ 0).
+    let e : j ≡ 0 = omega (arith, first) in
+    let digit : get_or c 3 0 ≡ 0 = omega (arith, none) in
+    subst (λ x. get_or c (3 + x) 0 ≡ count (take (512 * x) l)) (sym e) digit)
+    (cases_lt 0 j)
+
+-- so does the first group, where there is no other
+pub BeginsBefore-one_group : (v : Bool) (t : List ℕ) (n : ℕ)
+    → length t ≡ 1 → Rises 65536 v t → BeginsBefore 65536 v t n 0 0
+BeginsBefore-one_group v t n one rises =
+    let some : 0 < length t = omega (arith, one) in
+    record {
+      within = some;
+      before = none v (omega (arith, rises.small 0 some));
+      low = omega arith;
+      high = λ more. absurd (omega (arith, more, one));
+    }
+  where
+    none : (v : Bool) → get_or t 0 0 ≡ 0 → 0 ≡ count_before 65536 v t 0
+    none true e = sym e
+    none false e = omega (arith, e)

@@ -200,6 +200,32 @@ fn move_counts(numbers: &mut [u16], i: usize, up: bool)
     ensures moved { (l : List Bool) → AreCounts l numbers.old → length l < 2 ^ 64
         → i < length l → at l i ≡ not up → AreCounts (slice_set l i up) numbers.new }
 {
+    if numbers.len() <= GROUP_NUMBERS {
+        move_single(numbers, i, up);
+    } else {
+        move_groups(numbers, i, up);
+    }
+}
+
+/// [`move_counts`] of a single group, as most sets have.
+fn move_single(numbers: &mut [u16], i: usize, up: bool)
+    requires { length numbers.old ≤ GROUP_NUMBERS }
+    ensures len { length numbers.new ≡ length numbers.old }
+    ensures moved { (l : List Bool) → AreCounts l numbers.old → length l < 2 ^ 64
+        → i < length l → at l i ≡ not up → AreCounts (slice_set l i up) numbers.new }
+{
+    let narrow = if up { 1 } else { u16::MAX };
+    let end = numbers.len();
+    add_within(numbers, BEFORE_DIGITS + i / BLOCK_BITS, end, narrow);
+}
+
+/// [`move_counts`] of several groups.
+fn move_groups(numbers: &mut [u16], i: usize, up: bool)
+    requires { GROUP_NUMBERS * (i / GROUP_BITS) + BEFORE_DIGITS ≤ length numbers.old }
+    ensures len { length numbers.new ≡ length numbers.old }
+    ensures moved { (l : List Bool) → AreCounts l numbers.old → length l < 2 ^ 64
+        → i < length l → at l i ≡ not up → AreCounts (slice_set l i up) numbers.new }
+{
     let (group, block) = (i / GROUP_BITS, i / BLOCK_BITS % GROUP_BLOCKS);
     let start = GROUP_NUMBERS * group;
     let end = (start + GROUP_NUMBERS).min(numbers.len());

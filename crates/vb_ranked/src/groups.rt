@@ -8,7 +8,7 @@ ghost use Rattle.vb_kernel.specs.Looks.{LooksAtMost};
 ghost use Rattle.vb_kernel.specs.Hits.{hits};
 ghost use Rattle.vb_rank.specs.Tables.{blocks, block_counts, binary_digits, BeginsBefore, Rises};
 ghost use Rattle.vb_rank.specs.Tables.{ProbesExactly, ProbesAtMost};
-ghost use Rattle.vb_ranked.specs.Counts.{AreCounts, numbers_for};
+ghost use Rattle.vb_ranked.specs.Counts.{AreCounts, numbers_for, counts_before};
 
 use crate::probe_groups::{Befores, ProbeGroups, Withins};
 use crate::size::{GROUP_BITS, GROUP_BLOCKS};
@@ -39,9 +39,9 @@ pub(crate) fn rank_in_groups<G: Glance, S: ProbeGroups>(
     rank_from(src, offset, block, before, i)
 }
 
-/// How many of the `len` bits are true before a block: by no probe for the first one, by one in the
-/// first group, before which there are none, and else by at most two. The first block of a group
-/// has no count of its own.
+/// How many of the `len` bits are true before a block: by one probe in the first group, before
+/// which there are none, and else by at most two. The first block of a later group has no count of
+/// its own.
 fn ones_before<S: ProbeGroups>(groups: &mut S, len: usize, block: usize) -> usize
     requires block { BLOCK_BITS * block < len }
     requires size { length (S.seen groups.old).entries ≡ numbers_for len }
@@ -49,11 +49,8 @@ fn ones_before<S: ProbeGroups>(groups: &mut S, len: usize, block: usize) -> usiz
         → result ≡ count (take (BLOCK_BITS * block) l) }
     ensures probes { ProbesAtMost 2 (S.seen groups.old) (S.seen groups.new) }
 {
-    if block == 0 {
-        return 0;
-    }
     if block < GROUP_BLOCKS {
-        return groups.within(0, block);
+        return groups.within_first(block);
     }
     let (group, place) = (block / GROUP_BLOCKS, block % GROUP_BLOCKS);
     let before = groups.before(group);
@@ -113,12 +110,30 @@ fn find_in_groups<S: ProbeGroups>(
     if len <= BLOCK_BITS {
         return (0, 0);
     }
-    let size = len.div_ceil(GROUP_BITS);
-    let (group, before) = find_block(groups, &Befores, size, GROUP_BITS, n, value);
+    let (group, before) = find_group(groups, len, n, value);
     let blocks = (len - GROUP_BITS * group)
         .div_ceil(BLOCK_BITS)
         .min(GROUP_BLOCKS);
     let level = Withins { group, blocks };
     let (block, more) = find_block(groups, &level, blocks, BLOCK_BITS, n - before, value);
     (GROUP_BLOCKS * group + block, before + more)
+}
+
+/// What [`find_block`] answers of the counts before the groups. A single group is not sought.
+fn find_group<S: ProbeGroups>(groups: &mut S, len: usize, n: usize, value: bool) -> (usize, usize)
+    requires some { 0 < len }
+    requires size { length (S.seen groups.old).entries ≡ numbers_for len }
+    ensures within { GROUP_BITS * result.0 < len }
+    ensures low { result.1 ≤ n }
+    ensures block { Rises GROUP_BITS value (counts_before (S.seen groups.old).entries)
+        → BeginsBefore GROUP_BITS value (counts_before (S.seen groups.old).entries) n
+        result.0 result.1 }
+    ensures probes { ProbesExactly (binary_digits (div_ceil len GROUP_BITS - 1))
+        (S.seen groups.old) (S.seen groups.new) }
+{
+    if len <= GROUP_BITS {
+        return (0, 0);
+    }
+    let size = len.div_ceil(GROUP_BITS);
+    find_block(groups, &Befores, size, GROUP_BITS, n, value)
 }

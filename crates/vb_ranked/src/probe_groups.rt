@@ -1,5 +1,5 @@
 //! Counts of two levels whose reads are counted, and what a search of one of them reads.
-ghost use Rattle.std.specs.Prelude.{◌≡◌, ℕ, List, ◌+◌, ◌*◌, ◌<◌, ◌≤◌, length};
+ghost use Rattle.std.specs.Prelude.{◌≡◌, ℕ, List, ◌+◌, ◌-◌, ◌*◌, ◌<◌, ◌≤◌, length, slice_index};
 ghost use Rattle.vb_rank.specs.Tables.{CountedEntries, ProbesExactly};
 ghost use Rattle.vb_ranked.specs.Counts.{count_before_group, count_in_group};
 ghost use Rattle.vb_ranked.specs.Counts.{counts_before, counts_within};
@@ -29,6 +29,14 @@ pub(crate) trait ProbeGroups {
         requires number { GROUP_NUMBERS * k + BEFORE_DIGITS + place
             ≤ length (seen self.old).entries }
         ensures value { result ≡ count_in_group (seen self.old).entries k place }
+        ensures probe { ProbesExactly 1 (seen self.old) (seen self.new) };
+
+    /// How many true bits are before block `place` of the first group, by one probe. For its first
+    /// block too, with no branch: that is the highest digit of the count before the group, which
+    /// is 0.
+    fn within_first(&mut self, place: usize) -> usize
+        requires { BEFORE_DIGITS + place ≤ length (seen self.old).entries }
+        ensures value { result ≡ slice_index (seen self.old).entries (BEFORE_DIGITS - 1 + place) }
         ensures probe { ProbesExactly 1 (seen self.old) (seen self.new) };
 }
 

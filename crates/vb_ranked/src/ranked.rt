@@ -9,7 +9,7 @@ ghost use Rattle.vb_set.specs.View.{bits_of, offset_of, bytes_of};
 
 use crate::counts::Counts;
 use crate::groups::{rank_in_groups, select_in_groups};
-use crate::room::make_room;
+use crate::room::{has_byte, make_room};
 use std::alloc::{Allocator, Global};
 use std::marker::Model;
 use vb_kernel::Plain;
@@ -158,6 +158,10 @@ impl<A: Allocator + Clone> Ranked<A> {
         ensures err { OnErr result (self.new ≡ self.old) }
     {
         let len = self.set.len();
+        if len % BLOCK_BITS != 0 && has_byte(&self.set) {
+            self.set.append(v)?;
+            return Ok(());
+        }
         if len % BLOCK_BITS != 0 {
             make_room(&mut self.set, &mut self.counts)?;
             self.set.append(v)?;

@@ -30,12 +30,10 @@ fn by_fives(rt: &impl Abort, alloc: Global, len: usize) -> BitBufferMut<Global> 
     set
 }
 
-/// How many probes a rank takes in a block: none in the first one, one in the first group and in
-/// the first block of another one, and else two.
+/// How many probes a rank takes in a block: one in the first group and in the first block of
+/// another one, and else two.
 fn probes_in(block: usize) -> u64 {
-    if block == 0 {
-        0
-    } else if block < 128 || block % 128 == 0 {
+    if block < 128 || block % 128 == 0 {
         1
     } else {
         2

@@ -47,4 +47,9 @@ impl ProbeGroups for PlainGroups<'_> {
         self.count.add_one();
         usize::from(self.data[GROUP_NUMBERS * k + (BEFORE_DIGITS - 1) + place])
     }
+
+    fn within_first(&mut self, place: usize) -> usize {
+        self.count.add_one();
+        usize::from(self.data[BEFORE_DIGITS - 1 + place])
+    }
 }

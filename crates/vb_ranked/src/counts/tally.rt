@@ -62,4 +62,10 @@ impl ProbeGroups for TallyGroups<'_> {
         self.seen = self.seen.saturating_add(1);
         usize::from(self.data[GROUP_NUMBERS * k + (BEFORE_DIGITS - 1) + place])
     }
+
+    fn within_first(&mut self, place: usize) -> usize {
+        self.count.add_one();
+        self.seen = self.seen.saturating_add(1);
+        usize::from(self.data[BEFORE_DIGITS - 1 + place])
+    }
 }

@@ -4,8 +4,8 @@ use Rattle.std.proofs.lemmas.Bool.{cases_lt}
 use Rattle.vb_ranked.specs.Counts.{count_before_group, count_in_group}
 use Rattle.vb_ranked.proofs.CountsLemmas.{at-count_in_group, before-same, within-same}
 use Rattle.vb_ranked.proofs.CountEditsLemmas.{AreCounts-set}
-use Rattle.vb_ranked.proofs.counts.move_counts.Goals as goal
-use Rattle.vb_ranked.proofs.counts.move_counts.Goals.{then-up, else-up, then-up-2, else-up-2}
+use Rattle.vb_ranked.proofs.counts.move_groups.Goals as goal
+use Rattle.vb_ranked.proofs.counts.move_groups.Goals.{then-up, else-up, then-up-2, else-up-2}
 
 pub returns-clause-moved : goal.returns-clause-moved
 returns-clause-moved c = λ l p fits bit was.

@@ -2,7 +2,7 @@ use Rattle.std.proofs.Common.{◌≡◌, ℕ, List, ◌+◌, ◌-◌, ◌*◌, �
 use Rattle.std.proofs.Common.{◌∙◌, arith}
 use Rattle.std.specs.Int.{div_ceil}
 use Rattle.vb_ranked.proofs.CountsLemmas.{BeginsBefore-group, BeginsBefore-single}
-use Rattle.vb_ranked.proofs.CountsLemmas.{length_counts_before, length_counts_within}
+use Rattle.vb_ranked.proofs.CountsLemmas.{length_counts_within}
 use Rattle.vb_rank.proofs.TablesLemmas.{digits-of_group-le}
 use Rattle.vb_ranked.specs.Counts.{counts_within}
 use Rattle.vb_rank.specs.Tables.{blocks, binary_digits}
@@ -13,42 +13,38 @@ returns-then-len-le-BLOCK_BITS-clause-block g c = λ l size p up down.
     BeginsBefore-single c.args.value l c.args.n (omega (arith, size, c.requires.some))
     (omega (arith, size, c.if-len-le-BLOCK_BITS.true))
 
-pub find_block-group-requires-clause-size : goal.find_block-group-requires-clause-size
-find_block-group-requires-clause-size g c = c.div_ceil-size.ensures ∙ sym (length_counts_before
-    (g.S.ProbeGroups.seen c.args.groups.now).entries c.args.len c.requires.size)
-
 pub find_block-block-requires-clause-size : goal.find_block-block-requires-clause-size
 find_block-block-requires-clause-size g c =
     let e : List ℕ = (g.S.ProbeGroups.seen c.args.groups.now).entries in
-    let k : ℕ = c.find_block-group.result.0 in
+    let k : ℕ = c.find_group-group.result.0 in
     let b : ℕ = c.min-blocks.result in
     let long : length (counts_within e k b) ≡ b =
     length_counts_within e c.args.len k b c.requires.size
-    (omega (arith, c.find_block-group.ensures.within, c.div_ceil-size.ensures))
+    c.find_group-group.ensures.within
     (omega (arith, c.min-blocks.ensures, c.div_ceil.ensures)) in
-    sym (ap (λ x. length (counts_within x k b)) c.find_block-group.ensures.same ∙ long)
+    sym (ap (λ x. length (counts_within x k b)) c.find_group-group.ensures.probes.same ∙ long)
 
 pub returns-clause-block : goal.returns-clause-block
 returns-clause-block g c = λ l size p up down.
     let e : List ℕ = (g.S.ProbeGroups.seen c.args.groups.now).entries in
-    let k : ℕ = c.find_block-group.result.0 in
+    let k : ℕ = c.find_group-group.result.0 in
     let b : ℕ = c.min-blocks.result in
     BeginsBefore-group c.args.value l e (counts_within e k b) c.args.n k
-    c.find_block-group.result.1 b
+    c.find_group-group.result.1 b
     c.find_block-block.result.0 c.find_block-block.result.1 p up down
-    c.find_block-group.ensures.block refl
+    c.find_group-group.ensures.block refl
     (omega (arith, c.min-blocks.ensures, c.div_ceil.ensures, size))
-    (rw c.find_block-group.ensures.same at c.find_block-block.ensures.block)
+    (rw c.find_group-group.ensures.probes.same at c.find_block-block.ensures.block)
 
 -- how many the two searches take
 sum : goal.returns-clause-probes
 sum g c =
     let e : List ℕ = (g.S.ProbeGroups.seen c.args.groups.now).entries in
     let digits : ℕ → ℕ = λ n. binary_digits (n - 1) in
-    let k : ℕ = c.find_block-group.result.0 in
+    let k : ℕ = c.find_group-group.result.0 in
     let b : ℕ = c.min-blocks.result in
     let inside : 65536 * k < c.args.len =
-    omega (arith, c.find_block-group.ensures.within, c.div_ceil-size.ensures) in
+    c.find_group-group.ensures.within in
     let long : length (counts_within e k b) ≡ b =
     length_counts_within e c.args.len k b c.requires.size inside
     (omega (arith, c.min-blocks.ensures, c.div_ceil.ensures)) in
@@ -60,13 +56,12 @@ sum g c =
       c.find_block-block.ensures.within,
     ) in
     record {
-      same = c.find_block-block.ensures.same ∙ c.find_block-group.ensures.same;
+      same = c.find_block-block.ensures.same ∙ c.find_group-group.ensures.probes.same;
       probes = omega (
         arith,
-        c.find_block-group.ensures.probes.probes,
-        ap digits (length_counts_before e c.args.len c.requires.size),
+        c.find_group-group.ensures.probes.probes,
         c.find_block-block.ensures.probes.probes,
-        ap (λ x. digits (length (counts_within x k b))) c.find_block-group.ensures.same,
+        ap (λ x. digits (length (counts_within x k b))) c.find_group-group.ensures.probes.same,
         ap digits long,
         ap digits part,
       );
@@ -77,7 +72,7 @@ returns-clause-probes g c = sum g c
 
 pub returns-clause-most : goal.returns-clause-most
 returns-clause-most g c =
-    let j : ℕ = 128 * c.find_block-group.result.0 + c.find_block-block.result.0 in
+    let j : ℕ = 128 * c.find_group-group.result.0 + c.find_block-block.result.0 in
     let b : ℕ = min (blocks c.args.len - 128 * (j / 128)) 128 in
     record {
       same = (sum g c).same;

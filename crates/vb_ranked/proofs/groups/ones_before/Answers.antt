@@ -1,13 +1,13 @@
-use Rattle.std.proofs.Common.{◌≡◌, ℕ, List, ◌*◌, ◌/◌, ◌%◌, take, sym, ap, arith}
-use Rattle.vb_bits.specs.Bits.{count}
+use Rattle.std.proofs.Common.{◌≡◌, ℕ, List, ◌/◌, ◌%◌, ◌∙◌, ap, arith}
 use Rattle.vb_ranked.specs.Counts.{count_in_group}
-use Rattle.vb_ranked.proofs.CountsLemmas.{ones-of_group}
+use Rattle.vb_ranked.proofs.CountsLemmas.{ones-of_group, number-of_first}
 use Rattle.vb_ranked.proofs.groups.ones_before.Goals as goal
 
-pub returns-then-block-eq0-clause-value : goal.returns-then-block-eq0-clause-value
-returns-then-block-eq0-clause-value g c = λ l p size.
-    let first : c.args.block ≡ 0 = omega (arith, c.if-block-eq0.true) in
-    sym (ap (λ x. count (take (512 * x) l)) first)
+pub returns-then-block-lt-GROUP_BLOCKS-clause-value : goal.returns-then-block-lt-GROUP_BLOCKS-clause-value
+returns-then-block-lt-GROUP_BLOCKS-clause-value g c = λ l p size.
+    let e : List ℕ = (g.S.ProbeGroups.seen c.args.groups.now).entries in
+    c.within_first.ensures.value ∙ number-of_first l e c.args.block p
+    (omega (arith, c.requires.block, size)) (omega (arith, c.if-block-lt-GROUP_BLOCKS.true))
 
 pub returns-then-place-eq0-clause-value : goal.returns-then-place-eq0-clause-value
 returns-then-place-eq0-clause-value g c = λ l p size.
