@@ -47,7 +47,9 @@ high_on : (v : Bool) (b : List ℕ) (k w w' n : ℕ) → w' ≡ w → w ≤ k
     → n < count (hits v (bits b 0 (64 * (k + 1))))
     → n < count (hits v (bits b 0 (64 * (w' + 1))))
 high_on v b k w w' n same within before here =
-    ⊎_elim (λ less. omega (arith, before less, ap (λ x. count (hits v (bits b 0 (64 * (x + 1))))) same))
+    ⊎_elim
+    (λ less. omega
+    (arith, before less, ap (λ x. count (hits v (bits b 0 (64 * (x + 1))))) same))
     (λ (past : k ≤ w).
     let e : w' ≡ k = omega (arith, same, within, past) in
     omega (arith, here, ap (λ x. count (hits v (bits b 0 (64 * (x + 1))))) e))

@@ -3,7 +3,8 @@ use Rattle.vb_ranked.specs.Counts.{count_in_group}
 use Rattle.vb_ranked.proofs.CountsLemmas.{ones-of_group, number-of_first}
 use Rattle.vb_ranked.proofs.groups.ones_before.Goals as goal
 
-pub returns-then-block-lt-GROUP_BLOCKS-clause-value : goal.returns-then-block-lt-GROUP_BLOCKS-clause-value
+pub returns-then-block-lt-GROUP_BLOCKS-clause-value
+    : goal.returns-then-block-lt-GROUP_BLOCKS-clause-value
 returns-then-block-lt-GROUP_BLOCKS-clause-value g c = λ l p size.
     let e : List ℕ = (g.S.ProbeGroups.seen c.args.groups.now).entries in
     c.within_first.ensures.value ∙ number-of_first l e c.args.block p

@@ -1,4 +1,5 @@
-use Rattle.std.proofs.Common.{◌≡◌, ℕ, Bool, List, ◌+◌, ◌*◌, ◌/◌, ◌^◌, ◌<◌, ◌≤◌, ◌++◌, ◌∷◌, [], length, take}
+use Rattle.std.proofs.Common.{◌≡◌, ℕ, Bool, List, ◌+◌, ◌*◌, ◌/◌, ◌^◌, ◌<◌, ◌≤◌, ◌++◌, ◌∷◌, []}
+use Rattle.std.proofs.Common.{length, take}
 use Rattle.std.proofs.Common.{Ok, Err, sym, ap, ◌∙◌, arith, subst, ⊎_elim}
 use Rattle.std.proofs.lemmas.Bool.{cases_lt}
 use Rattle.std.proofs.Math.Seq.{take-length}
@@ -37,7 +38,8 @@ invariant_of-self-then-has_byte g c =
 pub invariant_of-self-then-len-ne0-2 : goal.invariant_of-self-then-len-ne0-2
 invariant_of-self-then-len-ne0-2 g c =
     let l : List Bool = c.self.inside.set.bits in let v : Bool = c.args.v in
-    let bits : c.append-then-len-ne0-2.new.self.bits ≡ l ++ v ∷ [] = c.in_ok-append-2.ensures.ok.bits
+    let bits : c.append-then-len-ne0-2.new.self.bits ≡ l ++ v ∷ [] =
+    c.in_ok-append-2.ensures.ok.bits
     ∙ ap (λ s. s.bits ++ v ∷ []) c.make_room.ensures.set in
     let counts : AreCounts (l ++ v ∷ []) c.self.inside.counts.numbers =
     AreCounts-push l c.self.inside.counts.numbers v c.self.invariant.exact
@@ -46,7 +48,8 @@ invariant_of-self-then-len-ne0-2 g c =
       exact = subst (λ x. AreCounts x c.make_room.new.counts.numbers) (sym bits)
           (subst (AreCounts (l ++ v ∷ [])) (sym c.make_room.ensures.numbers) counts);
       held = λ some. held_on c.make_room.new.counts.room
-          (c.append-then-len-ne0-2.ensures.stays (rw c.make_room.ensures.set c.in_ok-make_room.ensures.room))
+          (c.append-then-len-ne0-2.ensures.stays
+          (rw c.make_room.ensures.set c.in_ok-make_room.ensures.room))
           c.in_ok-make_room.ensures.counts_room;
     }
 
