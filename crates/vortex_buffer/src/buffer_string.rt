@@ -1,5 +1,5 @@
 //! A buffer of text.
-ghost use Rattle.std.specs.Prelude.{◌≡◌, [], IsUtf8, IfOk, IfErr, string_bytes, ◌⊎◌};
+ghost use Rattle.std.specs.Prelude.{◌≡◌, ◌==◌, [], length, IsUtf8, IfOk, IfErr, string_bytes, ◌⊎◌};
 ghost use Rattle.vb_mem.specs.Makes.{Makes};
 ghost use Rattle.vb_mem.specs.SharedBuffer.{Shows, ShowsMade};
 ghost use Rattle.vortex_buffer.specs.Text.{IsNoText};
@@ -65,6 +65,20 @@ impl<A: Allocator> BufferString<A> {
         ensures utf8 { IsUtf8 result.now }
     {
         unsafe { std::str::from_utf8_unchecked(self.bytes.as_slice()) }
+    }
+
+    /// The number of bytes, as that of a `str`.
+    pub fn len(&self) -> usize
+        ensures { result ≡ length self.now.list }
+    {
+        self.bytes.len()
+    }
+
+    /// Whether there is no text.
+    pub fn is_empty(&self) -> bool
+        ensures { result ≡ (length self.now.list == 0) }
+    {
+        self.bytes.is_empty()
     }
 
     /// The bytes.

@@ -1,5 +1,7 @@
 //! A buffer whose alignment is part of its type.
-ghost use Rattle.std.specs.Prelude.{◌≡◌, ◌≢◌, ◌%◌, ◌^◌, ◌≤◌, IfOk, IsOkAnd, IsErrOf, IsOkUnless};
+ghost use Rattle.std.specs.Prelude.{◌≡◌, ◌≢◌, ◌%◌, ◌^◌, ◌≤◌, ◌==◌, length};
+ghost use Rattle.std.specs.Prelude.{IfOk, IsOkAnd, IsErrOf, IsOkUnless};
+ghost use Rattle.std.specs.Slice.Iter.{iter_rest};
 ghost use Rattle.vb_core.specs.Alignments.{IsPower};
 ghost use Rattle.vb_mem.specs.Makes.{Makes};
 ghost use Rattle.vb_mem.specs.SharedBuffer.{IsAlignedTo, Shows, ShowsMade};
@@ -8,7 +10,7 @@ ghost use Rattle.vortex_buffer.specs.Fixed.{HasAlignment, OfBytes, ShowsFixed};
 use std::alloc::{AllocError, Allocator, Global};
 use std::marker::Model;
 use vb_core::{Alignment, BufferError, Element};
-use vb_mem::{Buffer, Result};
+use vb_mem::{Buffer, Iter, Result};
 
 /// A buffer that is aligned to `N` bytes, and reports `N` or a multiple of it.
 ///
@@ -80,6 +82,27 @@ impl<T: Element, const N: usize, A: Allocator> ConstBuffer<T, N, A> {
         self.buffer.as_slice()
     }
 
+    /// The number of items.
+    pub fn len(&self) -> usize
+        ensures { result ≡ length self.now.list }
+    {
+        self.buffer.len()
+    }
+
+    /// Whether there are no items.
+    pub fn is_empty(&self) -> bool
+        ensures { result ≡ (length self.now.list == 0) }
+    {
+        self.buffer.is_empty()
+    }
+
+    /// The items, by reference.
+    pub fn iter(&self) -> Iter<'_, T>
+        ensures { iter_rest result ≡ self.now.list }
+    {
+        self.buffer.iter()
+    }
+
     /// The buffer.
     pub fn inner(&self) -> &Buffer<T, A>
         ensures value { result.now ≡ self.now }
@@ -137,6 +160,18 @@ impl<T: Element, const N: usize, A: Allocator + Clone> ConstBuffer<T, N, A> {
         Ok(ConstBuffer {
             buffer: self.buffer.clone()?,
         })
+    }
+}
+
+impl<'a, T: Element, const N: usize, A: Allocator> IntoIterator for &'a ConstBuffer<T, N, A> {
+    type Item = &'a T;
+
+    type IntoIter = Iter<'a, T>;
+
+    ghost into_iter_gives = { λ fixed it. iter_rest it ≡ fixed.now.list };
+
+    fn into_iter(self) -> Iter<'a, T> {
+        self.buffer.iter()
     }
 }
 

@@ -29,6 +29,30 @@ fn an_alignment_of_a_type_is_tested(rt: HostRuntime) {
     equal(&rt, none, Some(BufferError::NotPowerOfTwo { value: 0 }));
 }
 
+/// A fixed buffer of these items has as many, and gives them in turn.
+fn gives_items<const N: usize>(rt: &impl Abort, alloc: Global, items: &[u32]) {
+    let buffer = Buffer::copy_from(alloc, items).expect(rt, "memory");
+    let fixed = ConstBuffer::<u32, N, _>::try_from_buffer(buffer).expect(rt, "its alignment");
+    equal(
+        rt,
+        (fixed.len(), fixed.is_empty()),
+        (items.len(), items.is_empty()),
+    );
+    equal(rt, fixed.iter().eq(items.iter()), true);
+    let mut wanted = items.iter();
+    for item in &fixed {
+        equal(rt, Some(*item), wanted.next().copied());
+    }
+    equal(rt, wanted.next(), None);
+    drop(fixed);
+}
+
+#[test]
+fn a_fixed_buffer_gives_its_items(rt: HostRuntime) {
+    gives_items::<4>(&rt, rt.alloc(), &[3, 1, 4]);
+    gives_items::<2>(&rt, rt.alloc(), &[]);
+}
+
 /// The first text is "hello", the bytes are "world", and the last text is empty.
 fn are_texts<A: Allocator>(
     rt: &impl Abort,
@@ -38,6 +62,8 @@ fn are_texts<A: Allocator>(
 ) {
     has(rt, hello.inner(), b"hello", (1, 256));
     equal(rt, hello.as_str(), "hello");
+    let sizes = (hello.len(), hello.is_empty(), empty.is_empty());
+    equal(rt, sizes, (5, false, true));
     let world = BufferString::try_from_buffer(bytes).expect(rt, "a text");
     let answers = (*hello == world, *hello < world, *empty < *hello);
     equal(rt, answers, (false, true, true));
