@@ -1,7 +1,6 @@
 use Rattle.std.proofs.Common.{◌≡◌, ◌+◌, ◌-◌, length, ◌∙◌, arith, rules}
 use Rattle.std.proofs.Common.{is_ok, true}
 use Rattle.std.proofs.lemmas.Grind.{common_steps}
-use borrow.Rule.Slice.PartMut.{put_mid}
 use Rattle.vb_script.proofs.Pieces.{in_place}
 use Rattle.vb_script.proofs.outbox.push_short_behind.Goals as goal
 
@@ -12,9 +11,9 @@ returns-clause-added g c =
     let part = c.write_digits.new.buf in
     let count = c.short_count-count.result in
     let ok : is_ok c.extend_from_slice.result ≡ true = search rules in
-    let text = put_mid (length items + 1) (length room - (length items + 1)) room part in
+    let whole = c.deref_mut.ensures.value ∙ rw ok at c.extend_from_slice.ensures.items in
     let made = in_place items _ room part _ c.args.byte c.args.n count c.write_digits.result
-    (length room - (length items + 1)) (c.deref_mut.ensures.value ∙ rw ok at c.extend_from_slice.ensures.items) c.short_count-count.ensures.count
+    (length room - (length items + 1)) whole c.short_count-count.ensures.count
     c.write_digits.ensures.start c.write_digits.ensures.written in
-    let x : c.len-len.result ≡ length items = search rules in
+    let len : c.len-len.result ≡ length items = search rules in
     c.truncate.ensures.items ∙ (grind (arith, common_steps) ∙ made)

@@ -4,4 +4,8 @@ use Rattle.vb_script.proofs.outbox.short_count.Goals as goal
 
 pub returns-else-n-lt10000-clause-count : goal.returns-else-n-lt10000-clause-count
 returns-else-n-lt10000-clause-count c =
-    omega (arith, c.few_count-else-n-lt10000.ensures.count, length_four c.args.n (omega (arith, c.if-n-lt10000.false)) (omega (arith, c.requires)))
+    omega (
+      arith,
+      c.few_count-else-n-lt10000.ensures.count,
+      length_four c.args.n (omega (arith, c.if-n-lt10000.false)) (omega (arith, c.requires)),
+    )
