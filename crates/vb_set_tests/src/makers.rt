@@ -14,6 +14,7 @@ enum Open {
     Full,
     WithCapacity,
     Clone,
+    Derived,
     CopyFrom,
     Take,
 }
@@ -26,6 +27,7 @@ impl Open {
             Open::Full => BitBufferMut::full(alloc, true, 3),
             Open::WithCapacity => BitBufferMut::with_capacity(alloc, 100),
             Open::Clone => cloned(ones(alloc, 9)),
+            Open::Derived => derived(ones(alloc, 9)),
             Open::CopyFrom => copied_ones(alloc),
             Open::Take => taken(ones(alloc, 9)),
         }
@@ -40,6 +42,20 @@ pub(crate) fn cloned<A: Allocator + Clone>(
     let clone = set.clone();
     drop(set);
     clone
+}
+
+/// A value with a set, whose copy std derives of that of the set.
+#[derive(Clone, Drop)]
+struct Editing<A: Allocator + Clone> {
+    set: BitBufferMut<A>,
+}
+
+/// The set of a copy of a value that has the set.
+fn derived<A: Allocator + Clone>(made: Result<BitBufferMut<A>>) -> Result<BitBufferMut<A>> {
+    let editing = Editing { set: made? };
+    let copy: Result<_, _> = editing.clone();
+    drop(editing);
+    Ok(copy?.set)
 }
 
 /// A copy of a shared set that was made.
@@ -115,6 +131,7 @@ const ROWS: &[(Open, &str, u64)] = &[
     (Open::Full, "111", 4),
     (Open::WithCapacity, "", 1),
     (Open::Clone, "111111111", 3),
+    (Open::Derived, "111111111", 3),
     (Open::CopyFrom, "111111111", 3),
     (Open::Take, "111111111", 2),
 ];

@@ -1,10 +1,21 @@
-//! What sets are by traits: printed, negated, and stores of views.
+//! What sets are by traits: cloned, printed, negated, and stores of views.
 use super::BitBufferMut;
-use std::alloc::Allocator;
+use std::alloc::{AllocError, Allocator};
 use std::fmt;
 use std::ops::Not;
 use vb_bit_bytes::{negate, write_bits};
 use vb_view::BitStore;
+
+/// A copy, as [`BitBufferMut::clone`] makes it, for code over std's trait.
+impl<A: Allocator + Clone> Clone for BitBufferMut<A> {
+    ghost use Rattle.std.specs.Prelude.{◌≡◌};
+
+    ghost is_clone = { λ s copy. copy ≡ record s { room = copy.room } };
+
+    fn clone(&self) -> Result<Self, AllocError> {
+        BitBufferMut::clone(self).or(Err(AllocError))
+    }
+}
 
 /// The first 64 bits, as `BitBufferMut(01101..)`.
 impl<A: Allocator + Clone> fmt::Debug for BitBufferMut<A> {
