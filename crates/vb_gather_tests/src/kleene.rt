@@ -17,13 +17,16 @@ use vb_view::BitBufferView;
 type Truth = Option<bool>;
 
 const T: Truth = Some(true);
+
 const F: Truth = Some(false);
+
 const N: Truth = None;
 
 /// A connective, by the values on the left and on the right, which stand in the order of T, F, N.
 type Table = [[Truth; 3]; 3];
 
 const AND: &Table = &[[T, F, N], [F, F, F], [N, F, N]];
+
 const OR: &Table = &[[T, T, T], [T, F, N], [T, N, N]];
 
 fn combined(table: &Table, left: Truth, right: Truth) -> Truth {
@@ -76,7 +79,10 @@ struct Sets {
 
 impl Sets {
     fn views(&self) -> (BitBufferView<'_>, Option<BitBufferView<'_>>) {
-        (self.values.as_view(), self.validity.as_ref().map(BitBuffer::as_view))
+        (
+            self.values.as_view(),
+            self.validity.as_ref().map(BitBuffer::as_view),
+        )
     }
 }
 
@@ -117,7 +123,11 @@ fn shows<A: Allocator + Clone>(
     right: &Column,
 ) -> Result<()> {
     let (trues, valid) = made?;
-    equal(rt, (trues.len(), valid.len()), (left.values.0, left.values.0));
+    equal(
+        rt,
+        (trues.len(), valid.len()),
+        (left.values.0, left.values.0),
+    );
     equal(rt, (trues.offset(), valid.offset()), (0, 0));
     for place in 0..trues.len().min(valid.len()) {
         let wanted = combined(table, left.truth(place), right.truth(place));
@@ -139,7 +149,11 @@ fn beside_the_tables(rt: &impl Abort, alloc: Global, left: &Column, right: &Colu
             let answer = shows(rt, made(&heap, and, &a, &b), table, left, right);
             equal(rt, answer, heap.wanted(Ok(()), refused));
         }
-        equal(rt, heap.has_ended(if left.values.0 > 0 { 4 } else { 0 }), true);
+        equal(
+            rt,
+            heap.has_ended(if left.values.0 > 0 { 4 } else { 0 }),
+            true,
+        );
     }
     drop((a, b));
 }
