@@ -119,7 +119,7 @@ fn beside_a_loop<T: CompareLanes + Ord>(rt: &impl Abort, alloc: Global) {
 }
 
 #[test]
-fn unsigned_values(rt: HostRuntime) {
+fn unsigned_values_compare_as_in_a_loop(rt: HostRuntime) {
     beside_a_loop::<u8>(&rt, rt.alloc());
     beside_a_loop::<u16>(&rt, rt.alloc());
     beside_a_loop::<u32>(&rt, rt.alloc());
@@ -129,7 +129,7 @@ fn unsigned_values(rt: HostRuntime) {
 }
 
 #[test]
-fn signed_values(rt: HostRuntime) {
+fn signed_values_compare_as_in_a_loop(rt: HostRuntime) {
     beside_a_loop::<i8>(&rt, rt.alloc());
     beside_a_loop::<i16>(&rt, rt.alloc());
     beside_a_loop::<i32>(&rt, rt.alloc());

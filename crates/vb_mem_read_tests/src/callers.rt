@@ -55,7 +55,7 @@ fn prints<A: Allocator>(rt: &impl Abort, alloc: A, value: &impl Debug, wanted: &
 }
 
 #[test]
-fn buffers_are_printed(rt: HostRuntime) {
+fn a_buffer_is_printed_as_its_items(rt: HostRuntime) {
     let bytes: ByteBuffer<_> = Buffer::copy_from(rt.alloc(), &[1u8, 2, 3]).expect(&rt, "bytes");
     prints(&rt, rt.alloc(), &bytes, "[1, 2, 3]");
     let items = bytes.into_iter();
@@ -65,7 +65,7 @@ fn buffers_are_printed(rt: HostRuntime) {
 }
 
 #[test]
-fn buffers_are_compared(rt: HostRuntime) {
+fn a_copy_is_equal_in_other_storage(rt: HostRuntime) {
     let bytes: ByteBuffer<_> = Buffer::copy_from(rt.alloc(), &[1u8, 2, 3]).expect(&rt, "bytes");
     let twin = bytes.clone().expect(&rt, "bytes");
     equal(&rt, bytes == twin, true);

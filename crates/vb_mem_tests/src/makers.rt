@@ -233,7 +233,7 @@ const ROWS: &[(Shared, &[u32], (usize, usize))] = &[
 ];
 
 #[test]
-fn buffers_are_made_or_refused(rt: HostRuntime) {
+fn made_buffers_show_their_items_or_each_request_is_refused(rt: HostRuntime) {
     let heap = Refusing::new(rt.alloc(), 0);
     for (call, items, alignments) in ROWS {
         for _ in heap.in_turn() {

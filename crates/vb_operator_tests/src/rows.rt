@@ -22,7 +22,7 @@ fn both_are_ones<A: Allocator + Clone>(
 }
 
 #[test]
-fn offsets_differ(rt: HostRuntime) {
+fn bits_at_unequal_offsets_are_combined(rt: HostRuntime) {
     let left = window(ByteBuffer::full(rt.alloc(), 0xF8, 1), 3, 5);
     let right = window(ByteBuffer::full(rt.alloc(), 0x1F, 1), 0, 5);
     both_are_ones(&rt, left, right);

@@ -70,7 +70,7 @@ fn mapped_is_plain<A: Allocator + Clone>(rt: &impl Abort, set: &BitBuffer<A>) {
 const PARTS: [(usize, usize); 6] = [(0, 200), (0, 0), (0, 64), (3, 64), (5, 69), (7, 137)];
 
 #[test]
-fn places_and_bits_in_order(rt: HostRuntime) {
+fn closures_get_places_and_bits_in_order(rt: HostRuntime) {
     let set = scattered(rt.alloc()).expect(&rt, "memory");
     for (start, end) in PARTS {
         let part = part(&rt, &set, start, end);
@@ -91,7 +91,7 @@ fn mapped_part<A: Allocator + Clone>(rt: &impl Abort, made: Result<BitBuffer<A>>
 }
 
 #[test]
-fn mapped_with_places(rt: HostRuntime) {
+fn a_mapped_part_counts_its_places_from_0(rt: HostRuntime) {
     mapped_part(&rt, thirds(rt.alloc(), 20));
 }
 

@@ -10,7 +10,7 @@ use vb_pack::{
 };
 
 #[test]
-fn packs_of_thirds(rt: HostRuntime) {
+fn each_kernel_packs_the_same_word(rt: HostRuntime) {
     let mut bools = [false; 64];
     for i in 0..64 {
         bools[i] = i % 3 == 0;
@@ -30,7 +30,7 @@ fn words(len: usize, mask: usize) -> (u64, u64)
 }
 
 #[test]
-fn words_of_even_places(rt: HostRuntime) {
+fn digits_past_the_last_place_are_0(rt: HostRuntime) {
     equal(&rt, words(5, 1), (21, 21));
     equal(&rt, words(0, 0), (0, 0));
     equal(&rt, words(64, 0), (u64::MAX, u64::MAX));

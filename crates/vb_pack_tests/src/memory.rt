@@ -134,7 +134,7 @@ fn makes<A: Allocator + Clone>(
 const REFUSED: Result<()> = Err(BufferError::OutOfMemory);
 
 #[test]
-fn packed_sets_are_made_or_refused(rt: HostRuntime) {
+fn packed_sets_show_their_bits_or_each_request_is_refused(rt: HostRuntime) {
     let heap = &Refusing::new(rt.alloc(), 0);
     for (call, bits, least) in ROWS {
         for _ in heap.in_turn() {

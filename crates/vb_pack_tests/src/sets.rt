@@ -45,7 +45,7 @@ fn shows_thirds<A: Allocator + Clone>(rt: &impl Abort, made: Result<BitBuffer<A>
 }
 
 #[test]
-fn thirds_sliced(rt: HostRuntime) {
+fn a_slice_of_a_packed_set_keeps_its_bits(rt: HostRuntime) {
     shows_thirds(&rt, thirds(rt.alloc(), 20));
 }
 
@@ -66,7 +66,7 @@ fn alternating<A: Allocator + Clone>(rt: &impl Abort, alloc: A) -> BitBufferMut<
 }
 
 #[test]
-fn a_closure_that_changes(rt: HostRuntime) {
+fn a_closure_is_asked_once_for_each_place(rt: HostRuntime) {
     let set = alternating(&rt, rt.alloc());
     equal(&rt, set.len(), 130);
     for i in 0..set.len() {
@@ -109,7 +109,7 @@ fn thirds_are_true<A: Allocator + Clone>(rt: &impl Abort, made: Result<BitBuffer
 }
 
 #[test]
-fn items_are_packed_by_64(rt: HostRuntime) {
+fn items_past_64_are_packed(rt: HostRuntime) {
     for len in LENS {
         let items = (0..len).map(|i| i % 3 == 0);
         thirds_are_true(&rt, BitBuffer::from_iter(rt.alloc(), items), len);

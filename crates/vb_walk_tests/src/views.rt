@@ -36,7 +36,7 @@ fn shows(rt: &impl Abort, view: &BitBufferView<'_>, bits: &str) {
 const BYTES: &[u8] = &[0x49, 0x92, 0x04];
 
 #[test]
-fn a_slice_of_a_view(rt: HostRuntime) {
+fn a_slice_of_a_view_counts_from_its_own_start(rt: HostRuntime) {
     let rt = &rt;
     let part = &view(rt, BYTES, 0, 20).slice(5..17);
     equal(rt, part.offset(), 5);
@@ -50,7 +50,7 @@ fn a_slice_of_a_view(rt: HostRuntime) {
 }
 
 #[test]
-fn counts_of_ranges(rt: HostRuntime) {
+fn a_range_of_a_view_counts_from_its_own_start(rt: HostRuntime) {
     let rt = &rt;
     let part = &view(rt, BYTES, 5, 12);
     equal(rt, part.count_range(1, 5), 2);
@@ -59,7 +59,7 @@ fn counts_of_ranges(rt: HostRuntime) {
 }
 
 #[test]
-fn equal_views(rt: HostRuntime) {
+fn bits_beside_views_are_not_compared(rt: HostRuntime) {
     let rt = &rt;
     let part = &view(rt, BYTES, 5, 12);
     equal(rt, *part == view(rt, &[0xAA, 0xA4, 0xA4], 8, 0), false);
@@ -69,7 +69,7 @@ fn equal_views(rt: HostRuntime) {
 
 /// A window that begins behind the first byte, and the same of its bytes and metadata.
 #[test]
-fn a_view_behind_a_byte(rt: HostRuntime) {
+fn a_view_begins_with_the_byte_of_its_first_bit(rt: HostRuntime) {
     let rt = &rt;
     let far = &view(rt, BYTES, 13, 10);
     equal(rt, far.offset(), 5);
@@ -80,7 +80,7 @@ fn a_view_behind_a_byte(rt: HostRuntime) {
 }
 
 #[test]
-fn a_view_of_nothing(rt: HostRuntime) {
+fn a_view_of_no_bytes_has_no_bits(rt: HostRuntime) {
     let rt = &rt;
     let none = &BitBufferView::new(&[], 0);
     equal(rt, none.is_empty(), true);
@@ -90,7 +90,7 @@ fn a_view_of_nothing(rt: HostRuntime) {
 }
 
 #[test]
-fn the_last_true_bit(rt: HostRuntime) {
+fn the_last_true_bit_of_a_view_is_found(rt: HostRuntime) {
     let rt = &rt;
     let few = &BitBufferView::new(&[0x76], 8);
     equal(rt, few.last_set_index(), Some(6));

@@ -84,7 +84,7 @@ pub(crate) fn runs_are_plain(
 
 /// A byte whose runs are known.
 #[test]
-fn worked_rows(rt: HostRuntime) {
+fn walks_end_with_the_window(rt: HostRuntime) {
     let rt = &rt;
     gives(rt, BitIndexIterator::new(&[0x76], 0, 7), &[1, 2, 4, 5, 6]);
     gives(rt, BitSliceIterator::new(&[0x76], 0, 7), &[(1, 3), (4, 7)]);

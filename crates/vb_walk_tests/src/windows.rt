@@ -51,7 +51,7 @@ fn windows_are_plain(rt: &impl Abort, bytes: &[u8]) {
 
 /// Bytes without a pattern, and the same with stretches.
 #[test]
-fn windows_of_mixed_bytes(rt: HostRuntime) {
+fn walks_of_mixed_bytes_are_those_of_a_loop(rt: HostRuntime) {
     for len in [0, 1, 3, 20, 90] {
         let mut bytes = [0; 8200];
         mix(&mut bytes);
@@ -63,7 +63,7 @@ fn windows_of_mixed_bytes(rt: HostRuntime) {
 /// One byte that differs, behind so many bytes that are all 0, or all ones: in each of the words
 /// that are passed over by four, and in those that are left over.
 #[test]
-fn windows_of_equal_words(rt: HostRuntime) {
+fn a_byte_that_differs_is_found_in_each_word(rt: HostRuntime) {
     for equal in [0, u8::MAX] {
         for place in 0..120 {
             let mut bytes = [equal; 120];

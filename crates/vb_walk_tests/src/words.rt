@@ -65,7 +65,7 @@ pub(crate) fn unaligned_is_plain(rt: &impl Abort, view: &BitBufferView<'_>) {
 
 /// Words of a window, asked for with no chunks in hand.
 #[test]
-fn words_of_a_window(rt: HostRuntime) {
+fn words_end_with_the_window(rt: HostRuntime) {
     let rt = &rt;
     let ones = [0xFF; 9];
     gives(rt, BitChunkIterator::new(&ones, 3, 66), &[u64::MAX]);
@@ -78,7 +78,7 @@ fn words_of_a_window(rt: HostRuntime) {
 
 /// Nine bytes of true bits, from bit 3 on.
 #[test]
-fn words_of_true_bits(rt: HostRuntime) {
+fn bits_beside_a_window_are_0_in_its_words(rt: HostRuntime) {
     let rt = &rt;
     let ones = &view(rt, &[0xFF; 9], 3, 66);
     gives(rt, ones.chunks().iter_padded(), &[u64::MAX, 3]);
@@ -91,7 +91,7 @@ fn words_of_true_bits(rt: HostRuntime) {
 }
 
 #[test]
-fn words_of_nothing(rt: HostRuntime) {
+fn words_of_no_bits_are_padding(rt: HostRuntime) {
     let rt = &rt;
     let none = &BitBufferView::new(&[], 0);
     gives(rt, none.chunks().iter_padded(), &[0]);

@@ -153,7 +153,7 @@ const ROWS: &[(Call, (usize, usize))] = &[
 ];
 
 #[test]
-fn buffers_are_made_or_refused(rt: HostRuntime) {
+fn made_buffers_show_their_items_or_each_request_is_refused(rt: HostRuntime) {
     let heap = Refusing::new(rt.alloc(), 0);
     let refused = Err(BufferError::OutOfMemory);
     for (call, alignments) in ROWS {
