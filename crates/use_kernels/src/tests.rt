@@ -1,5 +1,8 @@
 //! Answers known from outside, with ample memory and with each request refused in turn.
-use crate::{count_metered, greater, halved, rest_halved, select_narrow, through_bytes, values_of};
+use crate::{
+    count_metered, count_words, greater, halved, rest_halved, select_narrow, through_bytes,
+    values_of,
+};
 use std::alloc::{Allocator, Global};
 use std::fmt::Debug;
 use std::process::Abort;
@@ -22,6 +25,17 @@ fn what_is_read_is_metered(rt: HostRuntime) {
     equal(&rt, count_metered(&ones, 7, 1), (1, 1));
     equal(&rt, count_metered(&[0b0111_0110], 0, 7), (5, 1));
     equal(&rt, count_metered(&[], 0, 0), (0, 0));
+}
+
+/// A window that ends within a byte behind a word, one of a whole word, one within a byte, and one
+/// of no bits.
+#[test]
+fn words_are_counted_to_the_end_of_their_window(rt: HostRuntime) {
+    let bytes = [0b0011_0101u8; 9];
+    equal(&rt, count_words(&bytes, 3, 66), 33);
+    equal(&rt, count_words(&bytes, 8, 64), 32);
+    equal(&rt, count_words(&bytes, 1, 6), 3);
+    equal(&rt, count_words(&[], 0, 0), 0);
 }
 
 #[test]
