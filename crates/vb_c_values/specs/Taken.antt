@@ -1,5 +1,5 @@
 -- How a call that takes values answers.
-use Rattle.std.specs.Prelude.{◌≡◌, ℕ, ℤ, true, false, Bool, List, Option, length, take, drop}
+use Rattle.std.specs.Prelude.{◌≡◌, ℤ, true, false, Bool, List, Option, length, take, drop}
 use Rattle.vb_c_core.specs.declared.place.Place.{Place}
 use Rattle.vb_take.specs.ItemsTaken.{AreTaken, IsFirstUntaken}
 
