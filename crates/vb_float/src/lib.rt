@@ -8,8 +8,6 @@
 mod compare;
 mod lanes;
 mod test;
-#[cfg(test)]
-mod tests;
 mod write;
 
 pub use compare::{compare_floats_into, compare_floats_with_into};
