@@ -1,3 +1,4 @@
+pub mod Counted
 pub mod Counts
 pub use Rattle.vb_bits.specs.InBytes
 pub use Rattle.vb_bits.specs.Bits
@@ -5,5 +6,7 @@ pub use Rattle.vb_bits.specs.Writes
 pub use Rattle.vb_kernel.specs.Hits
 pub use Rattle.vb_kernel.specs.Looks
 pub use Rattle.vb_rank.specs.Tables
+pub use Rattle.vb_set.specs.Makes
 pub use Rattle.vb_set.specs.OpenSet
+pub use Rattle.vb_set.specs.SharedSet
 pub use Rattle.vb_set.specs.View

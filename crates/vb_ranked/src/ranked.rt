@@ -1,20 +1,21 @@
 //! A set of bits with its counts.
 ghost use Rattle.std.specs.Prelude.{◌≡◌, ◌+◌, ◌/◌, ◌%◌, ◌^◌, ◌<◌, ◌≤◌, ◌∷◌, [], length, take, drop};
-ghost use Rattle.std.specs.Prelude.{slice_set, IfOk, IsOk, IsOkUnless, IsErrOf, OnOk, OnErr};
+ghost use Rattle.std.specs.Prelude.{◌==◌, slice_get, slice_set, Some, IfOk, IsOkUnless};
 ghost use Rattle.vb_bits.specs.Bits.{count, complement, Selects, InvertsCount};
 ghost use Rattle.vb_bits.specs.Writes.{Writes};
 ghost use Rattle.vb_kernel.specs.Hits.{hits};
-ghost use Rattle.vb_set.specs.OpenSet.{AddsBits, KeepsStart, KeepsLayout};
+ghost use Rattle.vb_set.specs.Makes.{Makes};
+ghost use Rattle.vb_set.specs.OpenSet.{KeepsLayout};
+ghost use Rattle.vb_set.specs.SharedSet.{SharesFrom};
 ghost use Rattle.vb_set.specs.View.{bits_of, offset_of, bytes_of};
 
+use crate::ask::{rank_of, select_of};
 use crate::counts::Counts;
-use crate::groups::{rank_in_groups, select_in_groups};
-use crate::room::{has_byte, make_room};
 use std::alloc::{Allocator, Global};
 use std::marker::Model;
-use vb_kernel::Plain;
-use vb_rank::BLOCK_BITS;
-use vb_set::{BitBufferMut, BitBufferView, BufferError, Result};
+use vb_set::{BitBuffer, BitBufferMut, BitBufferView, BufferError, Result};
+
+mod append;
 
 /// A set of bits that one owner edits, with the counts of true bits before each block of 512. Every
 /// edit keeps the counts exact, so each question is answered as by a table made anew.
@@ -67,6 +68,30 @@ impl<A: Allocator + Clone> Ranked<A> {
         self.set.len()
     }
 
+    /// Whether there are no bits.
+    pub fn is_empty(&self) -> bool
+        ensures { result ≡ (length self.now.bits == 0) }
+    {
+        self.set.is_empty()
+    }
+
+    /// For how many bits there is room: up to that length an append to one bit or more takes no
+    /// memory.
+    pub fn capacity(&self) -> usize
+        ensures room { result ≡ self.now.room }
+        ensures holds_bits { length self.now.bits ≤ result }
+    {
+        self.set.capacity()
+    }
+
+    /// The bit at place `i`, which has to be below the length.
+    pub fn value(&self, i: usize) -> bool
+        requires { i < length self.now.bits }
+        ensures { slice_get self.now.bits i ≡ Some result }
+    {
+        self.set.value(i)
+    }
+
     /// A view of the bits, for other questions, in constant time. Its bytes begin with the byte of
     /// the first bit.
     pub fn as_view(&self) -> BitBufferView<'_>
@@ -84,19 +109,22 @@ impl<A: Allocator + Clone> Ranked<A> {
         self.set
     }
 
+    /// The set to be shared, without its counts, in the same storage: [`BitBufferMut::freeze`] of
+    /// it. It takes memory for the count of owners, in constant time. Refused by `OutOfMemory`
+    /// alone; then the set is gone.
+    pub fn freeze(self) -> Result<BitBuffer<A>>
+        ensures { Makes (SharesFrom self.offset self.bytes self.bits) result }
+    {
+        self.into_inner().freeze()
+    }
+
     /// How many of the first `i` bits are true, in constant time, as `rank_by`
     /// answers of the set and a table of it. `i` has to be at most the length.
     pub fn rank(&self, i: usize) -> usize
         requires { i ≤ length self.now.bits }
         ensures { result ≡ count (take i self.now.bits) }
     {
-        if i == 0 {
-            return 0;
-        }
-        let bits = self.as_view();
-        let src = &mut Plain::new(bits.inner());
-        let groups = &mut self.counts.groups();
-        rank_in_groups(src, bits.offset(), bits.len(), groups, i)
+        rank_of(self.as_view(), &self.counts, i)
     }
 
     /// The place of the `n`-th true bit, counted from 0; `None` where at most `n` bits are true. It
@@ -136,55 +164,11 @@ impl<A: Allocator + Clone> Ranked<A> {
         }
     }
 
-    /// Adds one bit, in amortized constant time.
-    ///
-    /// Refused by `TooManyBits` where offset and length together are `usize::MAX`, else by
-    /// `OutOfMemory` alone. Then the set and its room are unchanged. Where there are bits, and
-    /// fewer than the set's [`capacity`](BitBufferMut::capacity), it takes no memory, succeeds, and
-    /// the capacity stays. The first bit may ask for the counts of as many bits as there is room
-    /// for. Where the set is full, it asks for the counts of the room that it gets, and for twice
-    /// the bytes.
-    pub fn append(&mut self, v: bool) -> Result<()>
-        ensures ok { OnOk result (AddsBits (v ∷ []) self.old self.new) }
-        ensures grows { KeepsStart self.old self.new }
-        ensures in_room { 0 < length self.old.bits → length self.old.bits + 1 ≤ self.old.room
-            → IsOk result }
-        ensures stays { length self.old.bits + 1 ≤ self.old.room
-            → self.new.room ≡ self.old.room }
-        ensures fits { self.old.offset + length self.old.bits + 1 < 2 ^ 64
-            → IsOkUnless result BufferError.OutOfMemory }
-        ensures too_many { 2 ^ 64 ≤ self.old.offset + length self.old.bits + 1
-            → IsErrOf result BufferError.TooManyBits }
-        ensures err { OnErr result (self.new ≡ self.old) }
-    {
-        let len = self.set.len();
-        if len % BLOCK_BITS != 0 && has_byte(&self.set) {
-            self.set.append(v)?;
-            return Ok(());
-        }
-        if len % BLOCK_BITS != 0 {
-            make_room(&mut self.set, &mut self.counts)?;
-            self.set.append(v)?;
-            return Ok(());
-        }
-        let ones = self.rank(len);
-        make_room(&mut self.set, &mut self.counts)?;
-        self.set.append(v)?;
-        self.counts.push(len / BLOCK_BITS, ones);
-        Ok(())
-    }
-
     /// The place of the `n`-th bit that is `value`: its block is sought by the groups, and then the
     /// block is searched.
     fn select_value(&self, n: usize, value: bool) -> Option<usize>
         ensures { Selects (hits value self.now.bits) n result }
     {
-        let bits = self.as_view();
-        if bits.len() == 0 {
-            return None;
-        }
-        let src = &mut Plain::new(bits.inner());
-        let groups = &mut self.counts.groups();
-        select_in_groups(src, bits.offset(), bits.len(), groups, n, value)
+        select_of(self.as_view(), &self.counts, n, value)
     }
 }

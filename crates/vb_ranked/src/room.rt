@@ -49,42 +49,74 @@ pub(crate) fn make_room<A: Allocator + Clone>(
     if !set.is_empty() && set.len() < set.capacity() {
         return Ok(());
     }
-    ask_for_room(set, counts)
+    ask_for_room(set, counts, 1)
 }
 
-/// [`make_room`] of a set that is full or has no bits: where the counts have room already, as after
-/// each growth, it asks for none.
-///
-/// A full set gets twice the bytes, and so a bit takes amortized constant time. The counts are
-/// asked for first, so that the room of the set stays where they are refused.
-#[cold]
-fn ask_for_room<A: Allocator + Clone>(
+/// [`make_room`] for `n` bits more. None need none.
+pub(crate) fn make_room_for<A: Allocator + Clone>(
     set: &mut BitBufferMut<A>,
     counts: &mut Counts<A>,
+    n: usize,
 ) -> Result<()>
+    requires held { 0 < length set.old.bits → numbers_for set.old.room ≤ counts.old.room }
     ensures set { set.new ≡ record set.old { room = set.new.room } }
     ensures set_grows { set.old.room ≤ set.new.room }
     ensures numbers { counts.new.numbers ≡ counts.old.numbers }
     ensures counts_grow { counts.old.room ≤ counts.new.room }
-    ensures room { OnOk result (length set.old.bits + 1 ≤ set.new.room) }
-    ensures counts_room { OnOk result (numbers_for set.new.room ≤ counts.new.room) }
-    ensures stays { length set.old.bits + 1 ≤ set.old.room → set.new ≡ set.old }
-    ensures fits { set.old.offset + length set.old.bits + 1 < 2 ^ 64
+    ensures room { OnOk result (length set.old.bits + n ≤ set.new.room) }
+    ensures counts_room { OnOk result (0 < length set.old.bits + n
+        → numbers_for set.new.room ≤ counts.new.room) }
+    ensures in_room { 0 < length set.old.bits → length set.old.bits + n ≤ set.old.room
+        → IsOk result }
+    ensures stays { length set.old.bits + n ≤ set.old.room → set.new ≡ set.old }
+    ensures fits { set.old.offset + length set.old.bits + n < 2 ^ 64
         → IsOkUnless result BufferError.OutOfMemory }
-    ensures too_many { 2 ^ 64 ≤ set.old.offset + length set.old.bits + 1
+    ensures too_many { 2 ^ 64 ≤ set.old.offset + length set.old.bits + n
+        → IsOkUnless result BufferError.TooManyBits }
+    ensures err { OnErr result (set.new ≡ set.old) }
+{
+    let left = set.capacity() - set.len();
+    if n == 0 || (!set.is_empty() && n <= left) {
+        return Ok(());
+    }
+    ask_for_room(set, counts, n)
+}
+
+/// [`make_room_for`] a bit or more of a set that is too full or has no bits: where the counts have
+/// room already, as after each growth, it asks for none.
+///
+/// A set that is too full gets twice the bytes at least, and so a bit takes amortized constant
+/// time. The counts are asked for first, so that the room of the set stays where they are refused.
+#[cold]
+fn ask_for_room<A: Allocator + Clone>(
+    set: &mut BitBufferMut<A>,
+    counts: &mut Counts<A>,
+    n: usize,
+) -> Result<()>
+    requires some { 0 < n }
+    ensures set { set.new ≡ record set.old { room = set.new.room } }
+    ensures set_grows { set.old.room ≤ set.new.room }
+    ensures numbers { counts.new.numbers ≡ counts.old.numbers }
+    ensures counts_grow { counts.old.room ≤ counts.new.room }
+    ensures room { OnOk result (length set.old.bits + n ≤ set.new.room) }
+    ensures counts_room { OnOk result (numbers_for set.new.room ≤ counts.new.room) }
+    ensures stays { length set.old.bits + n ≤ set.old.room → set.new ≡ set.old }
+    ensures fits { set.old.offset + length set.old.bits + n < 2 ^ 64
+        → IsOkUnless result BufferError.OutOfMemory }
+    ensures too_many { 2 ^ 64 ≤ set.old.offset + length set.old.bits + n
         → IsOkUnless result BufferError.TooManyBits }
     ensures err { OnErr result (set.new ≡ set.old) }
 {
     let (len, room) = (set.len(), set.capacity());
     let end = len.saturating_add(set.offset());
     let left = usize::MAX - end;
-    if left == 0 {
+    if left < n {
         return Err(BufferError::TooManyBits);
     }
-    if len < room {
+    if n <= room - len {
         return counts.reserve(room);
     }
-    let more = end.max(LEAST_ROOM.saturating_sub(end)).min(left);
+    let more = end.max(LEAST_ROOM.saturating_sub(end)).max(n).min(left);
     // The room may become larger than what is asked for, by less than a byte.
     counts.reserve((len + more).saturating_add(7))?;
     set.reserve_exact(more)?;

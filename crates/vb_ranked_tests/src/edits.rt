@@ -7,7 +7,7 @@ use vb_ranked::Ranked;
 use vb_set::{BitBufferMut, BitBufferView};
 
 /// A number without a pattern, by a linear congruence.
-fn next(state: &mut u64) -> usize {
+pub(crate) fn next(state: &mut u64) -> usize {
     *state = state
         .wrapping_mul(6_364_136_223_846_793_005)
         .wrapping_add(1_442_695_040_888_963_407);
@@ -55,7 +55,7 @@ const BORDERS: [usize; 9] = [
 ];
 
 /// The directory answers as one of the same bits that is made anew, and as the bits do.
-fn is_as_new<A: Allocator + Clone>(
+pub(crate) fn is_as_new<A: Allocator + Clone>(
     rt: &impl Abort,
     alloc: A,
     ranked: &Ranked<A>,

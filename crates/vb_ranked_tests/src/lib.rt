@@ -1,7 +1,10 @@
-//! Tests of the directory of counts: worked rows, the probes and looks of questions, edits beside a
-//! directory made anew, and calls whose requests for memory are refused.
+//! Tests of directories of counts: worked rows, the probes and looks of questions, edits and bits
+//! that are added beside a directory made anew, shared sets beside their views, and calls whose
+//! requests for memory are refused.
 #![tactic(auto)]
 
+#[cfg(test)]
+mod appended;
 #[cfg(test)]
 mod compared;
 #[cfg(test)]
@@ -14,3 +17,5 @@ mod made;
 mod refused;
 #[cfg(test)]
 mod rows;
+#[cfg(test)]
+mod shared;

@@ -38,6 +38,7 @@ pub use vortex_buffer::Plain;
 pub use vortex_buffer::PlainTable;
 pub use vortex_buffer::Probe;
 pub use vortex_buffer::Ranked;
+pub use vortex_buffer::RankedBuffer;
 pub use vortex_buffer::Result;
 pub use vortex_buffer::Take;
 pub use vortex_buffer::Tally;

@@ -1,0 +1,6 @@
+use Rattle.vb_kernel.proofs.BitsLemmas.{Selects-InvertsCount}
+use Rattle.vb_ranked.proofs.ranked_buffer.RankedBuffer.select.Goals as goal
+
+pub returns-clause-each : goal.returns-clause-each
+returns-clause-each g c = Selects-InvertsCount c.args.self.now.bits c.args.n
+    c.select_value.result c.select_value.ensures

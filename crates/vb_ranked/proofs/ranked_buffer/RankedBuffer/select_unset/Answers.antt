@@ -1,0 +1,7 @@
+use Rattle.vb_bits.specs.Bits.{complement}
+use Rattle.vb_kernel.proofs.BitsLemmas.{Selects-InvertsCount}
+use Rattle.vb_ranked.proofs.ranked_buffer.RankedBuffer.select_unset.Goals as goal
+
+pub returns-clause-each : goal.returns-clause-each
+returns-clause-each g c = Selects-InvertsCount (complement c.args.self.now.bits) c.args.n
+    c.select_value.result c.select_value.ensures

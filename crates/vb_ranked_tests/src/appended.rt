@@ -1,0 +1,170 @@
+//! Many bits added at once, beside a plain set and a directory made anew; room, and what a refusal
+//! leaves.
+use crate::compared::{answers_at, equal, holds};
+use crate::edits::{is_as_new, next};
+use crate::made::{mixed, ones};
+use std::alloc::{Allocator, Global};
+use std::process::Abort;
+use vb_ranked::Ranked;
+use vb_set::{BitBufferMut, BufferError, Result};
+use vb_testing::Refusing;
+
+/// Adds a run to a directory and to a plain set.
+fn lengthen<A: Allocator + Clone>(
+    rt: &impl Abort,
+    ranked: &mut Ranked<A>,
+    plain: &mut BitBufferMut<A>,
+    most: usize,
+    state: &mut u64,
+) {
+    let v = next(state) % 2 == 1;
+    let n = if most > 0 { next(state) % most } else { 0 };
+    ranked.append_n(v, n).expect(rt, "room");
+    plain.append_n(v, n).expect(rt, "room");
+    equal(rt, ranked.len(), plain.len());
+}
+
+/// A few bits at once, some blocks, and more than a group of blocks.
+const MOST: [(usize, usize); 4] = [(9, 20), (600, 20), (3_000, 20), (70_000, 3)];
+
+#[test]
+fn lengthened_directories_are_as_new(rt: HostRuntime) {
+    let mut state = 0x2545_F491_4F6C_DD1D;
+    for (most, times) in MOST {
+        for (offset, len) in [(0, 0), (3, 500), (13, 65_500)] {
+            let mut plain = mixed(&rt, rt.alloc(), offset, len);
+            let copy = plain.clone().expect(&rt, "a set");
+            let mut ranked = Ranked::new(rt.alloc(), copy).expect(&rt, "a directory");
+            for _ in 0..times {
+                lengthen(&rt, &mut ranked, &mut plain, most, &mut state);
+                is_as_new(&rt, rt.alloc(), &ranked, &plain);
+            }
+            drop((plain, ranked));
+        }
+    }
+}
+
+/// A call that needs room for bits.
+#[derive(Clone, Copy)]
+enum Call {
+    Reserve,
+    AppendN,
+}
+
+const CALLS: [Call; 2] = [Call::Reserve, Call::AppendN];
+
+impl Call {
+    /// Adds 1,000 true bits, or makes room for them.
+    fn make<A: Allocator + Clone>(&self, ranked: &mut Ranked<A>) -> Result<()> {
+        match self {
+            Call::Reserve => ranked.reserve(1000),
+            Call::AppendN => ranked.append_n(true, 1000),
+        }
+    }
+
+    /// How many bits it adds.
+    fn added(&self) -> usize {
+        match self {
+            Call::Reserve => 0,
+            Call::AppendN => 1000,
+        }
+    }
+}
+
+/// Makes a call on a directory of so many true bits. Where it is refused, the directory is as it
+/// was, and the call is made again.
+fn is_made_or_left<A: Allocator + Clone + Copy>(
+    rt: &impl Abort,
+    alloc: A,
+    len: usize,
+    call: Call,
+) -> Result<()> {
+    let mut ranked = Ranked::new(alloc, ones(alloc, len)?)?;
+    let room = ranked.capacity();
+    let answer = call.make(&mut ranked);
+    if answer.is_err() {
+        equal(rt, (ranked.len(), ranked.capacity()), (len, room));
+        equal(rt, answers_at(rt, &ranked, len), (len, None, None));
+        call.make(&mut ranked).expect(rt, "room");
+    }
+    equal(rt, ranked.capacity() >= len.saturating_add(1000), true);
+    equal(rt, ranked.len(), len.saturating_add(call.added()));
+    let end = ranked.len();
+    equal(rt, answers_at(rt, &ranked, end), (end, None, None));
+    drop(ranked);
+    answer
+}
+
+#[test]
+fn a_refused_call_leaves_the_directory(rt: HostRuntime) {
+    let heap = Refusing::new(rt.alloc(), 0);
+    for each in CALLS {
+        for len in [0, 9, 512, 65_000] {
+            for _ in heap.in_turn() {
+                let answer = is_made_or_left(&rt, &heap, len, each);
+                let wanted = heap.wanted(Ok(()), Err(BufferError::OutOfMemory));
+                equal(&rt, answer, wanted);
+            }
+            equal(&rt, heap.has_ended(2), true);
+        }
+    }
+}
+
+/// Adds bits to none, so many each time.
+fn append<A: Allocator + Clone>(
+    rt: &impl Abort,
+    (bits, counts): (A, A),
+    n: usize,
+    times: usize,
+) -> usize {
+    let mut ranked = Ranked::new(counts, BitBufferMut::empty(bits)).expect(rt, "no counts");
+    for _ in 0..times {
+        ranked.append_n(true, n).expect(rt, "room");
+    }
+    let len = ranked.len();
+    equal(rt, answers_at(rt, &ranked, len), (len, None, None));
+    drop(ranked);
+    len
+}
+
+/// What many bits take is asked for at once, and by few bits at once seldom. No bits take nothing.
+#[test]
+fn added_bits_ask_seldom(rt: HostRuntime) {
+    let bits = Refusing::new(rt.alloc(), 0);
+    let counts = Refusing::new(rt.alloc(), 0);
+    equal(&rt, append(&rt, (&bits, &counts), 0, 3), 0);
+    equal(&rt, (bits.asked(), counts.asked()), (0, 0));
+    equal(&rt, append(&rt, (&bits, &counts), 200_000, 1), 200_000);
+    equal(&rt, (bits.asked(), bits.asked_bytes()), (1, 25_000));
+    equal(&rt, (counts.asked(), counts.asked_bytes()), (1, 806));
+    bits.refuse(0);
+    counts.refuse(0);
+    equal(&rt, append(&rt, (&bits, &counts), 100, 2000), 200_000);
+    equal(&rt, (bits.asked() <= 13, counts.asked() <= 8), (true, true));
+    equal(&rt, bits.asked_bytes() <= 100_000, true);
+}
+
+/// Room for bits that was made asks for nothing more.
+fn fill<A: Allocator + Clone>(rt: &impl Abort, heap: &Refusing<Global>, ranked: &mut Ranked<A>) {
+    let room = ranked.capacity();
+    heap.refuse(1);
+    for _ in 0..3 {
+        ranked.append_n(false, 700).expect(rt, "room");
+        ranked.append_n(true, 700).expect(rt, "room");
+    }
+    equal(rt, (ranked.len(), ranked.capacity()), (5_200, room));
+    holds(rt, 5_200 <= ranked.len());
+    equal(rt, ranked.rank(5_200), 3_100);
+    equal(rt, heap.asked(), 0);
+    heap.refuse(0);
+}
+
+#[test]
+fn appends_within_the_room_ask_for_nothing(rt: HostRuntime) {
+    let heap = Refusing::new(rt.alloc(), 0);
+    let set = ones(&heap, 1000).expect(&rt, "a set");
+    let mut ranked = Ranked::new(&heap, set).expect(&rt, "a directory");
+    ranked.reserve(4_200).expect(&rt, "room");
+    fill(&rt, &heap, &mut ranked);
+    drop(ranked);
+}
