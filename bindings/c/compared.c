@@ -4,38 +4,13 @@
  * and both zeros, into random windows, and each checked form with numbers past every limit. It is C
  * and C++ alike.
  */
+#include "tests.h"
 #include "vortex_bits.h"
 
 #include <math.h>
-#include <stdio.h>
 #include <string.h>
 
 enum { VALUES = 300, BYTES = VALUES / 8 + 3, ROUNDS = 200, COMPARISONS = 6 };
-
-static uint64_t state = 88172645463325252u;
-static int failures = 0;
-
-static size_t random_below(size_t n)
-{
-    state ^= state << 13;
-    state ^= state >> 7;
-    state ^= state << 17;
-    return (size_t)(state % n);
-}
-
-static void check(bool holds, const char *what)
-{
-    if (!holds) {
-        failures++;
-        fprintf(stderr, "failed: %s\n", what);
-    }
-}
-
-static void put(uint8_t *bytes, size_t i, bool v)
-{
-    const uint8_t mask = (uint8_t)(1u << (i % 8));
-    bytes[i / 8] = (uint8_t)(v ? bytes[i / 8] | mask : bytes[i / 8] & ~mask);
-}
 
 /* Some value of a whole number's type. */
 #define WHOLE(T, value)                                                                           \

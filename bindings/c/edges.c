@@ -5,6 +5,7 @@
 #ifndef _DEFAULT_SOURCE
 #define _DEFAULT_SOURCE
 #endif
+#include "tests.h"
 #include "vortex_bits.h"
 
 #include <stdio.h>
@@ -13,31 +14,8 @@
 
 enum { PAGE = 4096, PAGES = 4, BYTES = PAGE * PAGES, BITS = 8 * BYTES, ROUNDS = 300 };
 
-static uint64_t state = 88172645463325252u;
-static int failures = 0;
 static size_t places[BITS];
 static vb_run runs[BITS / 2 + 1];
-
-static size_t random_below(size_t n)
-{
-    state ^= state << 13;
-    state ^= state >> 7;
-    state ^= state << 17;
-    return (size_t)(state % n);
-}
-
-static void check(bool holds, const char *what)
-{
-    if (!holds) {
-        failures++;
-        fprintf(stderr, "failed: %s\n", what);
-    }
-}
-
-static bool bit(const uint8_t *bytes, size_t i)
-{
-    return (bytes[i / 8] >> (i % 8) & 1) != 0;
-}
 
 /* Bytes of one kind after the other: all false, all true, and any. */
 static void randomize(uint8_t *bytes)

@@ -3,6 +3,7 @@
  * windows of some blocks of 4,096 bits, and each checked form with numbers at and past every limit.
  * Batches that are joined are those that a loop joins. It is C and C++ alike.
  */
+#include "tests.h"
 #include "vortex_bits.h"
 
 #include <stdio.h>
@@ -10,47 +11,8 @@
 
 enum { BYTES = 3000, BITS = 8 * BYTES, ROUNDS = 300, SOME = 12000 };
 
-static uint64_t state = 88172645463325252u;
-static int failures = 0;
 static unsigned long long calls = 0;
 static uint8_t left[BYTES], right[BYTES], before[BYTES], wanted[BYTES], got[BYTES];
-
-static size_t random_below(size_t n)
-{
-    state ^= state << 13;
-    state ^= state >> 7;
-    state ^= state << 17;
-    return (size_t)(state % n);
-}
-
-static void check(bool holds, const char *what)
-{
-    if (!holds) {
-        failures++;
-        fprintf(stderr, "failed: %s\n", what);
-    }
-}
-
-static bool bit(const uint8_t *bytes, size_t i)
-{
-    return (bytes[i / 8] >> (i % 8) & 1) != 0;
-}
-
-static void put(uint8_t *bytes, size_t i, bool v)
-{
-    const uint8_t mask = (uint8_t)(1u << (i % 8));
-    bytes[i / 8] = (uint8_t)(v ? bytes[i / 8] | mask : bytes[i / 8] & ~mask);
-}
-
-static void randomize(uint8_t *bytes)
-{
-    const size_t kind = random_below(4);
-    for (size_t i = 0; i < BYTES; i++) {
-        const uint8_t some = (uint8_t)random_below(256);
-        bytes[i] = kind == 0 ? 0 : kind == 1 ? 255 : kind == 2 ? some
-            : (uint8_t)(some & random_below(256));
-    }
-}
 
 /* Few bits in most rounds, and in some several blocks. */
 static size_t length_up_to(size_t most)
@@ -228,9 +190,9 @@ static void joins(void)
 int main(void)
 {
     for (int round = 0; round < ROUNDS; round++) {
-        randomize(left);
-        randomize(right);
-        randomize(before);
+        randomize_bytes(left, BYTES);
+        randomize_bytes(right, BYTES);
+        randomize_bytes(before, BYTES);
         filters();
         packs();
         takes_u8();

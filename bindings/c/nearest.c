@@ -2,36 +2,12 @@
  * The nearest bits and the tests of all bits of vortex_bits.h beside a loop over single bits, over
  * random windows, and each checked form with numbers past every limit. It is C and C++ alike.
  */
+#include "tests.h"
 #include "vortex_bits.h"
 
-#include <stdio.h>
 #include <string.h>
 
 enum { BYTES = 96, BITS = 8 * BYTES, ROUNDS = 20000 };
-
-static uint64_t state = 88172645463325252u;
-static int failures = 0;
-
-static size_t random_below(size_t n)
-{
-    state ^= state << 13;
-    state ^= state >> 7;
-    state ^= state << 17;
-    return (size_t)(state % n);
-}
-
-static void check(bool holds, const char *what)
-{
-    if (!holds) {
-        failures++;
-        fprintf(stderr, "failed: %s\n", what);
-    }
-}
-
-static bool bit(const uint8_t *bytes, size_t i)
-{
-    return (bytes[i / 8] >> (i % 8) & 1) != 0;
-}
 
 /* Any bytes, or all but few of one kind. */
 static void randomize(uint8_t *bytes)

@@ -3,32 +3,14 @@
  * random masks and indices, and the checked forms with sizes and alignments that there are none
  * for. It is C and C++ alike.
  */
+#include "tests.h"
 #include "vortex_bits.h"
 
-#include <stdio.h>
 #include <string.h>
 
 enum { VALUES = 200, BYTES = VALUES / 8 + 2, ROUNDS = 200 };
 
-static uint64_t state = 88172645463325252u;
-static int failures = 0;
 static uint8_t mask[BYTES];
-
-static size_t random_below(size_t n)
-{
-    state ^= state << 13;
-    state ^= state >> 7;
-    state ^= state << 17;
-    return (size_t)(state % n);
-}
-
-static void check(bool holds, const char *what)
-{
-    if (!holds) {
-        failures++;
-        fprintf(stderr, "failed: %s\n", what);
-    }
-}
 
 static void randomize(void *items, size_t size)
 {

@@ -3,48 +3,14 @@
  * values, indices and validities, with an index that names nothing at a random position, and each
  * checked form with numbers past every limit. It is C and C++ alike.
  */
+#include "tests.h"
 #include "vortex_bits.h"
 
-#include <stdio.h>
 #include <string.h>
 
 enum { VALUES = 100, POSITIONS = 200, BYTES = POSITIONS / 8 + 2, ROUNDS = 300 };
 
-static uint64_t state = 88172645463325252u;
-static int failures = 0;
-
-static size_t random_below(size_t n)
-{
-    state ^= state << 13;
-    state ^= state >> 7;
-    state ^= state << 17;
-    return (size_t)(state % n);
-}
-
-static void check(bool holds, const char *what)
-{
-    if (!holds) {
-        failures++;
-        fprintf(stderr, "failed: %s\n", what);
-    }
-}
-
-static bool bit(const uint8_t *bytes, size_t i)
-{
-    return (bytes[i / 8] >> (i % 8) & 1) != 0;
-}
-
 static uint8_t validity[BYTES];
-
-static void randomize_validity(void)
-{
-    const size_t kind = random_below(4);
-    for (size_t i = 0; i < BYTES; i++) {
-        const uint8_t some = (uint8_t)random_below(256);
-        validity[i] = (uint8_t)(kind == 0 ? 0 : kind == 1 ? 255 : kind == 2 ? some
-            : some & random_below(256));
-    }
-}
 
 /* A value of a whole number of bytes, each of which is its own. */
 static void make(void *value, size_t size, size_t i)
@@ -128,7 +94,7 @@ ALL(TAKES)
 int main(void)
 {
     for (int round = 0; round < ROUNDS; round++) {
-        randomize_validity();
+        randomize_bytes(validity, BYTES);
         ALL(RUN)
     }
     return failures == 0 ? 0 : 1;

@@ -2,52 +2,13 @@
  * Each function of vortex_bits.h beside a loop over single bits, over random windows, and each
  * checked form with numbers at and past every limit. It is C and C++ alike.
  */
+#include "tests.h"
 #include "vortex_bits.h"
 
-#include <stdio.h>
 #include <stdlib.h>
 #include <string.h>
 
 enum { BYTES = 96, BITS = 8 * BYTES, ROUNDS = 20000 };
-
-static uint64_t state = 88172645463325252u;
-static int failures = 0;
-
-static size_t random_below(size_t n)
-{
-    state ^= state << 13;
-    state ^= state >> 7;
-    state ^= state << 17;
-    return (size_t)(state % n);
-}
-
-static void check(bool holds, const char *what)
-{
-    if (!holds) {
-        failures++;
-        fprintf(stderr, "failed: %s\n", what);
-    }
-}
-
-static bool bit(const uint8_t *bytes, size_t i)
-{
-    return (bytes[i / 8] >> (i % 8) & 1) != 0;
-}
-
-static void put(uint8_t *bytes, size_t i, bool v)
-{
-    const uint8_t mask = (uint8_t)(1u << (i % 8));
-    bytes[i / 8] = (uint8_t)(v ? bytes[i / 8] | mask : bytes[i / 8] & ~mask);
-}
-
-static void randomize(uint8_t *bytes)
-{
-    const size_t kind = random_below(4);
-    for (size_t i = 0; i < BYTES; i++) {
-        const uint8_t some = (uint8_t)random_below(256);
-        bytes[i] = kind == 0 ? 0 : kind == 1 ? 255 : kind == 2 ? some : (uint8_t)(some & random_below(256));
-    }
-}
 
 /* The place of the n-th bit that is v, or len. */
 static size_t nth(const uint8_t *bytes, size_t offset, size_t len, size_t n, bool v)
@@ -477,8 +438,8 @@ int main(void)
 {
     uint8_t bytes[BYTES], other[BYTES];
     for (int round = 0; round < ROUNDS; round++) {
-        randomize(bytes);
-        randomize(other);
+        randomize_bytes(bytes, BYTES);
+        randomize_bytes(other, BYTES);
         const size_t offset = random_below(BITS + 1);
         const size_t len = random_below(BITS - offset + 1);
         questions(bytes, offset, len);
