@@ -9,6 +9,7 @@ mod added;
 mod ask;
 mod counts;
 mod groups;
+mod parts;
 mod probe_groups;
 mod ranked;
 mod ranked_buffer;

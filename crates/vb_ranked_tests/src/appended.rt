@@ -6,7 +6,7 @@ use crate::made::{mixed, ones};
 use std::alloc::{Allocator, Global};
 use std::process::Abort;
 use vb_ranked::Ranked;
-use vb_set::{BitBufferMut, BufferError, Result};
+use vb_set::{BitBufferMut, BitBufferView, BufferError, Result};
 use vb_testing::Refusing;
 
 /// Adds a run to a directory and to a plain set.
@@ -44,14 +44,60 @@ fn lengthened_directories_are_as_new(rt: HostRuntime) {
     }
 }
 
+/// Adds the bits of a view to a directory, and to a plain set one by one.
+fn lengthen_by<A: Allocator + Clone>(
+    rt: &impl Abort,
+    ranked: &mut Ranked<A>,
+    plain: &mut BitBufferMut<A>,
+    bits: BitBufferView<'_>,
+) {
+    ranked.append_view(bits).expect(rt, "room");
+    for bit in bits.iter() {
+        plain.append(bit).expect(rt, "room");
+    }
+    equal(rt, ranked.as_view() == plain.as_view(), true);
+}
+
+/// Offsets and lengths of views: of no bits, of some beside a block, of blocks, and of more than a
+/// group of blocks.
+const VIEWS: [(usize, usize); 7] = [
+    (0, 0),
+    (7, 1),
+    (5, 511),
+    (13, 512),
+    (0, 513),
+    (3, 5_000),
+    (11, 66_000),
+];
+
+#[test]
+fn directories_with_views_added_are_as_new(rt: HostRuntime) {
+    for (offset, len) in [(0, 0), (3, 500), (13, 65_500)] {
+        let mut plain = mixed(&rt, rt.alloc(), offset, len);
+        let copy = plain.clone().expect(&rt, "a set");
+        let mut ranked = Ranked::new(rt.alloc(), copy).expect(&rt, "a directory");
+        for (at, n) in VIEWS {
+            let added = mixed(&rt, rt.alloc(), at, n);
+            lengthen_by(&rt, &mut ranked, &mut plain, added.as_view());
+            is_as_new(&rt, rt.alloc(), &ranked, &plain);
+            drop(added);
+        }
+        drop((plain, ranked));
+    }
+}
+
+/// True bits behind an offset.
+const TRUE: [u8; 126] = [0xFF; 126];
+
 /// A call that needs room for bits.
 #[derive(Clone, Copy)]
 enum Call {
     Reserve,
     AppendN,
+    AppendView,
 }
 
-const CALLS: [Call; 2] = [Call::Reserve, Call::AppendN];
+const CALLS: [Call; 3] = [Call::Reserve, Call::AppendN, Call::AppendView];
 
 impl Call {
     /// Adds 1,000 true bits, or makes room for them.
@@ -59,6 +105,9 @@ impl Call {
         match self {
             Call::Reserve => ranked.reserve(1000),
             Call::AppendN => ranked.append_n(true, 1000),
+            Call::AppendView => {
+                ranked.append_view(BitBufferView::new_with_offset(&TRUE, 1000, 5))
+            }
         }
     }
 
@@ -66,7 +115,7 @@ impl Call {
     fn added(&self) -> usize {
         match self {
             Call::Reserve => 0,
-            Call::AppendN => 1000,
+            Call::AppendN | Call::AppendView => 1000,
         }
     }
 }
@@ -150,7 +199,8 @@ fn fill<A: Allocator + Clone>(rt: &impl Abort, heap: &Refusing<Global>, ranked: 
     heap.refuse(1);
     for _ in 0..3 {
         ranked.append_n(false, 700).expect(rt, "room");
-        ranked.append_n(true, 700).expect(rt, "room");
+        let bits = BitBufferView::new_with_offset(&TRUE, 700, 5);
+        ranked.append_view(bits).expect(rt, "room");
     }
     equal(rt, (ranked.len(), ranked.capacity()), (5_200, room));
     holds(rt, 5_200 <= ranked.len());

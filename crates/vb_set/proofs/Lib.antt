@@ -1,4 +1,4 @@
-mod AddsLemmas
+pub mod AddsLemmas
 pub mod IndicesLemmas
 pub use Rattle.vb_bits.proofs.DigitsLemmas
 pub use Rattle.vb_walk.proofs.WordsLemmas

@@ -3,13 +3,15 @@ ghost use Rattle.std.specs.Prelude.{◌≡◌, ◌+◌, ◌^◌, ◌<◌, ◌≤
 ghost use Rattle.std.specs.Prelude.{IsOk, IsOkUnless, IsErrOf, OnOk, OnErr};
 ghost use Rattle.vb_ranked.specs.Counted.{NeedsCountedBits};
 ghost use Rattle.vb_set.specs.OpenSet.{AddsBits, KeepsStart};
+ghost use Rattle.vb_set.specs.View.{bits_of};
 
 use super::Ranked;
 use crate::added::count_added;
+use crate::parts::append_parts;
 use crate::room::{has_byte, make_room, make_room_for};
 use std::alloc::Allocator;
 use vb_rank::BLOCK_BITS;
-use vb_set::{BufferError, Result};
+use vb_set::{BitBufferView, BufferError, Result};
 
 impl<A: Allocator + Clone> Ranked<A> {
     /// Makes room for `n` bits more, and for the counts of as many bits as there is then room for.
@@ -84,6 +86,25 @@ impl<A: Allocator + Clone> Ranked<A> {
         make_room_for(&mut self.set, &mut self.counts, n)?;
         let len = self.set.len();
         self.set.append_n(v, n)?;
+        count_added(&mut self.counts, self.set.as_view(), len);
+        Ok(())
+    }
+
+    /// Adds the bits of a view behind the last bit, by words, and counts them once.
+    ///
+    /// Refused as [`reserve`](Self::reserve) of so many bits is; then the set and its room are
+    /// unchanged. Where there are bits, and both lengths together are at most
+    /// [`capacity`](Self::capacity), it takes no memory, succeeds, and the capacity stays.
+    pub fn append_view(&mut self, bits: BitBufferView<'_>) -> Result<()>
+        ensures ok { OnOk result (AddsBits (bits_of bits.entry) self.old self.new) }
+        ensures grows { KeepsStart self.old self.new }
+        ensures stays { length self.old.bits + length (bits_of bits.entry) ≤ self.old.room
+            → self.new.room ≡ self.old.room }
+        ensures needs { NeedsCountedBits (length (bits_of bits.entry)) result self.old self.new }
+    {
+        make_room_for(&mut self.set, &mut self.counts, bits.len())?;
+        let len = self.set.len();
+        append_parts(&mut self.set, bits)?;
         count_added(&mut self.counts, self.set.as_view(), len);
         Ok(())
     }

@@ -1,0 +1,34 @@
+//! The bits of a view, added by parts.
+ghost use Rattle.std.specs.Prelude.{◌≡◌, ◌+◌, ◌≤◌, length, OnOk};
+ghost use Rattle.vb_set.specs.OpenSet.{AddsBits, KeepsStart, NeedsBits};
+ghost use Rattle.vb_set.specs.View.{bits_of};
+
+use std::alloc::Allocator;
+use vb_set::{BitBufferMut, BitBufferView, Result};
+
+/// How many bits are added at once: [`append_view`](BitBufferMut::append_view) of at most so many
+/// keeps the capacity.
+const PART_BITS: usize = 512;
+
+/// [`append_view`](BitBufferMut::append_view), for which the room is made first; within the
+/// capacity it stays, however many bits there are.
+pub(crate) fn append_parts<A: Allocator + Clone>(
+    set: &mut BitBufferMut<A>,
+    bits: BitBufferView<'_>,
+) -> Result<()>
+    ensures ok { OnOk result (AddsBits (bits_of bits.entry) set.old set.new) }
+    ensures grows { KeepsStart set.old set.new }
+    ensures stays { length set.old.bits + length (bits_of bits.entry) ≤ set.old.room
+        → set.new.room ≡ set.old.room }
+    ensures needs { NeedsBits (length (bits_of bits.entry)) result set.old set.new }
+{
+    set.reserve(bits.len())?;
+    // The bits lie in the bytes.
+    let _bytes = set.as_slice();
+    for part in 0..bits.len().div_ceil(PART_BITS) {
+        let start = PART_BITS * part;
+        let end = start.saturating_add(PART_BITS).min(bits.len());
+        set.append_view(bits.slice(start..end))?;
+    }
+    Ok(())
+}
