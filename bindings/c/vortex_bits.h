@@ -19,14 +19,15 @@
  * gives none of these names on.
  *
  * Bit i of some bytes is digit i % 8 of byte i / 8, least significant first. A window is the `len`
- * bits from bit `offset` on; no function reads or changes a bit outside of the windows that it
- * names, whatever else the bytes hold. Lengths, offsets and places are counted in bits, `size` in
- * bytes.
+ * bits from bit `offset` on; no answer depends on a bit outside of the windows that a call names,
+ * and none is changed, whatever the bytes hold there. A call may load any of the `size` bytes.
+ * Lengths, offsets and places are counted in bits, `size` in bytes.
  *
  * What the caller owes of every call: each pointer points to as many items as the number behind it
  * says, and may be null where that is 0; the last pointer of a vb_try_ function, to the answer, is
  * not null; what a function writes overlaps nothing else that is passed, which no function can
- * test, and nothing else touches it during the call; what it reads isn't written during the call.
+ * test, and nothing else touches it during the call; of the `size` bytes that it is given to read
+ * none is written during the call.
  * Of a call without `try` also: each window ends within its bytes, and its end, offset + len, is at
  * most SIZE_MAX.
  *
@@ -157,8 +158,8 @@ VB_CHECKED bool vb_try_last_set_index(const uint8_t *bytes, size_t size, size_t 
 
 /*
  * The place within the window of its first true bit from place `from` on, and of its first false
- * one; none where there is none, as there is none from the end on. It reads up to the word that has
- * it, four words at once.
+ * one; none where there is none, as there is none from the end on. It goes by words, from the third
+ * on four at once, to that which has it.
  *
  *     const uint8_t rows[] = {0xE8, 0x06};
  *     assert(vb_next_set(rows, 2, 3, 10, 5).index == 6);

@@ -38,8 +38,8 @@ impl<I> Model for TrustedLenAdapter<I> {
     ghost view = { λ adapter. record { iter = adapter.iter; left = adapter.left } };
 }
 
-/// The iterator `iter` with the number of its items. The caller has to prove that exactly `n` items
-/// come from it.
+/// The iterator `iter` with the number of its items. The caller has to prove that `iter`, if it
+/// ends, has given exactly `n` items by then; one that doesn't end is asked for no more than these.
 pub fn trusted_len<I: Iterator>(iter: I, n: usize) -> TrustedLenAdapter<I>
     requires { IsLength I.next_gives iter n }
     ensures iter { result.iter ≡ iter }

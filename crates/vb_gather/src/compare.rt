@@ -17,8 +17,8 @@ use vb_compare::{CompareLanes, Comparison, compare_into, compare_with_into};
 use vb_core::Result;
 use vb_view::BitBufferView;
 
-/// How each value compares with `number`, one bit for each, as a set of offset 0 whose bytes are as
-/// few as hold them.
+/// Whether `value op number` holds: a bit for each value, true where it does, as a set of offset 0
+/// whose bytes are as few as hold them.
 ///
 /// A `validity`, where there is one, has to be as long as the values. At a place where it is false,
 /// as at that of a null, the bit is false.
@@ -45,8 +45,8 @@ pub fn compared<T: CompareLanes, A: Allocator + Clone>(
     Ok(BitBuffer::new(bytes.freeze()?, values.len()))
 }
 
-/// How each value compares with that at its place among `others`. There have to be as many `others`
-/// as values. Of the set, the validity, memory and refusals [`compared`] says all.
+/// Whether `value op other` holds, for each value and the one at its place among `others`, of which
+/// there have to be as many. Of the set, the validity, memory and refusals [`compared`] says all.
 #[tactic(auto, using(vb_bit_bytes::proofs::BytesLemmas::edits))]
 pub fn compared_with<T: CompareLanes, A: Allocator + Clone>(
     alloc: A,

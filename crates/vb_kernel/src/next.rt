@@ -12,8 +12,8 @@ use vb_walk::{first_other, others};
 /// The first true bit from place `from` on, as its place in the window; `None` where there is
 /// none, as there is none from the end on.
 ///
-/// It reads the word in which place `from` is, then words to the one that has the bit, four at
-/// once, and nothing behind it.
+/// It reads the eight bytes from that of place `from` on, then the next eight, and then words four
+/// at once, to those of which one has the bit.
 pub fn next_set(bytes: &[u8], offset: usize, len: usize, from: usize) -> Option<usize>
     requires window { InBytes bytes.now offset len }
     ensures { IsNext (bits bytes.now offset len) from result }

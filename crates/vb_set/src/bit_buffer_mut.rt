@@ -225,7 +225,7 @@ impl<A: Allocator + Clone> BitBufferMut<A> {
     }
 
     /// All bytes for writing, those outside of the bits too. What is written is what the set then
-    /// holds; offset, length and room stay.
+    /// holds; offset, length, number of bytes, alignment and room stay.
     pub fn as_mut_slice(&mut self) -> &mut [u8]
         ensures* writes_back { sem 𝓛 (LendsBytes A.row A.Allocator A.Clone self.entry result) }
         ensures bytes { result.now ≡ self.old.bytes }
@@ -245,8 +245,10 @@ impl<A: Allocator + Clone> BitBufferMut<A> {
     }
 
     /// A view that writes the bits, in constant time. It borrows the set: when it ends, the set has
-    /// the bits that the view has then, as clause `lends` says. In contracts the view's bytes are
-    /// those of the set, and its place is the set's offset, which may be 8 or more.
+    /// the bits and bytes that the view has then; offset, number of bytes, alignment and room stay,
+    /// and so do the bytes outside of the bits. Clause `lends` says that the view writes to this
+    /// very `&mut`. In contracts the view's bytes are those of the set, and its place is the set's
+    /// offset, which may be 8 or more.
     pub fn as_mut_view(&mut self) -> BitBufferMutView<&mut BitBufferMut<A>>
         ensures lends { IsSameReference (store_of result) self.entry }
         ensures window { ShowsWindow self.old.offset self.old.bits result }

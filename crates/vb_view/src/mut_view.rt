@@ -23,16 +23,17 @@ pub trait BitStore {
     // the bits of a window of them
     ghost bits: { Self → ℕ → ℕ → List Bool };
 
-    // it allows views of this window
+    // it allows views of this window: bytes of any that lies in them and ends below 2^64, a set of
+    // its own
     ghost fits: { Self → ℕ → ℕ → Type 0 };
 
     // of which there is one proof at most
     ghost fits_prop: { (s : Self) (o n : ℕ) (a b : fits s o n) → a ≡ b };
 
-    // the loan that it is
+    // the name of the `&mut` itself, by which a clause says that the same place is written to
     ghost lender: { Self → GName };
 
-    // what no write changes
+    // what no write changes: of bytes their number, of a set all but its bits and bytes
     ghost Kept: { Type 0 };
 
     ghost kept: { Self → Kept };
@@ -66,6 +67,7 @@ pub trait BitStore {
         ensures same_reference { lender self.new ≡ lender self.old }
         ensures kept { kept self.new ≡ kept self.old };
 
+    // a window that it allows has as many bits as it is long
     ghost counted: { (s : Self) (o n : ℕ) → fits s o n → length (bits s o n) ≡ n };
 }
 

@@ -272,9 +272,8 @@ impl<'a> BitBufferView<'a> {
     }
 
     /// The place of the first true bit from place `from` on; `None` where there is none, as there
-    /// is none from the end on. It reads the word in which place `from` is, then words to the one
-    /// that has the bit, four at once, and nothing behind it. For all true bits, one after the
-    /// other, [`set_indices`](Self::set_indices) takes less.
+    /// is none from the end on. It goes by words, from the third on four at once, to that which has
+    /// it. For all true bits, one after the other, [`set_indices`](Self::set_indices) takes less.
     pub fn next_set(&self, from: usize) -> Option<usize>
         ensures { IsNext (bits_of self.now) from result }
     {

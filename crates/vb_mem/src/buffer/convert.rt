@@ -130,7 +130,8 @@ impl<T: Element, A: Allocator + Clone> Buffer<T, A> {
         copy?.freeze()
     }
 
-    /// Lends the items as a growing buffer, in which items can be written, added and dropped. When
+    /// Lends the items as a growing buffer of the same items and reported alignment, in which items
+    /// can be written, added and dropped. When
     /// the loan ends, this buffer has the items and the alignments that the growing one has then.
     /// All other buffers keep their items.
     ///

@@ -47,8 +47,8 @@ impl<A: Allocator + Clone> BitBufferMut<A> {
     /// and none while they are within [`capacity`](Self::capacity), which stays then.
     ///
     /// Refused by `TooManyBits` where items came whose bits, behind the offset and the bits before
-    /// them, pass `usize::MAX`, else by `OutOfMemory` alone. Then the items that came until the
-    /// capacity was full stand, and those behind them, at most 64, are lost.
+    /// them, pass `usize::MAX`, else by `OutOfMemory` alone. Then the set is full of the items
+    /// that came first, and at most 64 more are lost; those behind them weren't asked for.
     pub fn extend<I: IntoIterator<Item = bool>>(&mut self, iter: I) -> Result<()>
         requires { IsFiniteIterable I.into_iter_gives I.IntoIter.can_next
             I.IntoIter.remaining iter }
