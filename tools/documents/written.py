@@ -1,6 +1,8 @@
-"""Lists that a tool writes from where their names stand first: the table by which the Rust crate
-calls the C functions, of the C headers, and what is reached by the tests of the crate to depend on.
+"""Lists that a tool writes from where their names stand first: what vb_kernel and the crate to depend
+on give of vb_pair, what the tests of that crate reach, and the table by which the Rust crate calls
+the C functions.
 """
+import re
 import textwrap
 
 from documents import signatures
@@ -9,6 +11,8 @@ from documents.lists import NOT_CALLED, OF_THE_LIBRARY, exported, headers, made
 from documents.signatures import Signature
 
 TABLE = "bindings/rust/src/native.rs"
+PAIR = "crates/vb_pair/src/lib.rt"
+KERNEL = "crates/vb_kernel/src/lib.rt"
 CRATE = "crates/vortex_buffer/src/lib.rt"
 REACHED = "crates/vortex_buffer_tests/src/reached.rt"
 
@@ -40,6 +44,26 @@ def table(repository: Repository) -> str:
     return "\n".join([head, "kernels! {", *lines, "}", behind])
 
 
+def kernel(repository: Repository) -> str:
+    """The top of vb_kernel, which gives on all that vb_pair gives."""
+    names = ", ".join(sorted(exported(repository.read(PAIR))))
+    listed = textwrap.fill(f"{names},", 100, initial_indent=" " * 4, subsequent_indent=" " * 4)
+    text = repository.read(KERNEL)
+    return re.sub(r"(pub use vb_pair::\{\n)[^}]*\}", rf"\g<1>{listed}\n}}", text)
+
+
+def facade(repository: Repository) -> str:
+    """The top of the crate to depend on, which gives all of vb_pair among what vb_kernel gives."""
+    start = "pub use vb_kernel::"
+    lines = repository.read(CRATE).split("\n")
+    places = [n for n, line in enumerate(lines) if line.startswith(start)]
+    if places:
+        given = {f"{start}{it};" for it in exported(repository.read(PAIR))}
+        part = slice(places[0], places[-1] + 1)
+        lines[part] = sorted(given.union(lines[part]))
+    return "\n".join(lines)
+
+
 def reached(repository: Repository) -> str:
     """The file that reaches each name that the crate to depend on gives."""
     names = sorted(exported(repository.read(CRATE)))
@@ -47,7 +71,7 @@ def reached(repository: Repository) -> str:
     return head + "".join(f"pub use vortex_buffer::{it};\n" for it in names)
 
 
-WRITTEN = {TABLE: table, REACHED: reached}
+WRITTEN = {KERNEL: kernel, CRATE: facade, REACHED: reached, TABLE: table}
 
 
 def not_written(repository: Repository) -> list[str]:

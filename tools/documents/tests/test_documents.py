@@ -11,7 +11,7 @@ from documents.picture import dependencies, levels, picture, reduced
 from documents.signatures import of_header
 from documents.texts import links, names, stale
 from documents.widths import widths
-from documents.written import REACHED, TABLE, declared, not_written, reached, table
+from documents.written import REACHED, TABLE, declared, facade, kernel, not_written, reached, table
 
 CRATES = "# NAME:\nlow:\nmiddle: low thiserror\nvortex_buffer: low middle\nlow_tests: low\n"
 FILES = {
@@ -58,9 +58,13 @@ pub fn two(n: u8) -> u8
     "bindings/c/library/made.h": "bool vb_all(size_t n)\n{\n    return CALL(get)(n);\n}\n",
     "bindings/rust/src/bits.rs": "/// ```\n/// bits.count(1);\n/// ```\npub fn count(n: u8) {}\n",
     "bindings/rust/src/native.rs": "\nkernels! {\n    get(n: usize) -> bool;\n}\n",
-    "crates/vortex_buffer/src/lib.rt": "pub use low::{one,\n    two};\npub use low::Type;\n",
+    "crates/vb_pair/src/lib.rt": "mod of;\n\npub use of::{or_count, xor_count};\n",
+    "crates/vb_kernel/src/lib.rt": "pub use vb_pair::{\n    or_count, xor_count,\n};\n",
+    "crates/vortex_buffer/src/lib.rt": "pub use low::{one,\n    two};\npub use low::Type;\n"
+    "pub use vb_kernel::or_count;\npub use vb_kernel::xor_count;\n",
     "crates/vortex_buffer_tests/src/reached.rt": "//! All.\npub use vortex_buffer::Type;\n"
-    "pub use vortex_buffer::one;\npub use vortex_buffer::two;\n",
+    "pub use vortex_buffer::one;\npub use vortex_buffer::or_count;\n"
+    "pub use vortex_buffer::two;\npub use vortex_buffer::xor_count;\n",
     "crates/vb_command/src/command.rt": "pub enum Mode {\n    Ref(u8),\n}\n\n"
     "pub enum Command<A> {\n    /// `len k`: the length.\n    Len(usize),\n}\n",
     "docs/COMMANDS.md": "| Line | Answers |\n|---|---|\n| `len k` | how many |\n",
@@ -76,7 +80,7 @@ class Checked(unittest.TestCase):
         root = Path(folder.name)
         for path, text in FILES.items():
             for where, (old, new) in edits.items():
-                if path.endswith(where.replace("_dot_", ".")):
+                if path.endswith(where.replace("_dot_", ".").replace("_slash_", "/")):
                     self.assertIn(old, text)
                     text = text.replace(old, new)
             (root / path).parent.mkdir(parents=True, exist_ok=True)
@@ -113,6 +117,13 @@ class Checked(unittest.TestCase):
         wanted = f"{REACHED}: isn't what tools/write-lists makes of its list: run it"
         self.assertEqual(not_written(repository), [wanted])
         self.assertEqual(reached(repository), FILES[REACHED])
+
+    def test_a_call_of_pairs_that_is_not_given_on(self):
+        repository = self.repository(pair_slash_src_slash_lib_dot_rt=("or_count, ", "nor_count, "))
+        self.assertIn("    nor_count, xor_count,\n", kernel(repository))
+        self.assertIn("pub use vb_kernel::nor_count;\npub use vb_kernel::or_count;\n",
+                      facade(repository))
+        self.assertEqual(len(not_written(repository)), 2)
 
     def test_a_function_that_the_rust_table_lacks(self):
         repository = self.repository(native_dot_rs=("    get(n: usize) -> bool;\n", ""))
