@@ -1,6 +1,6 @@
-"""Lists that a tool writes from where their names stand first: what vb_kernel and the crate to depend
-on give of vb_pair, what the tests of that crate reach, and the table by which the Rust crate calls
-the C functions.
+"""Lists that a tool writes from where their names stand first: what vb_kernel and the crate to
+depend on give of vb_pair, what the tests of that crate reach, and the table by which the Rust crate
+calls the C functions.
 """
 import re
 import textwrap
