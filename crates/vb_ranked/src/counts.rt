@@ -122,6 +122,27 @@ impl<A: Allocator> Counts<A> {
     }
 }
 
+impl<A: Allocator + Clone> Counts<A> {
+    /// A copy with room for the counts of `room` bits, by one request to a copy of the allocator,
+    /// and none where there are no counts. Refused by `OutOfMemory` alone.
+    pub(crate) fn copy(&self, room: usize) -> Result<Self>
+        ensures numbers { IfOk result (λ c. c.numbers ≡ self.now.numbers) }
+        ensures room { IfOk result (λ c. 0 < length self.now.numbers
+            → numbers_for room ≤ c.room) }
+        ensures refused { IsOkUnless result BufferError.OutOfMemory }
+    {
+        let alloc = self.numbers.allocator().clone()?;
+        if self.numbers.is_empty() {
+            return Ok(Counts {
+                numbers: Vec::new(alloc),
+            });
+        }
+        let mut numbers = Vec::with_capacity(alloc, size_for(room))?;
+        numbers.extend_from_slice(self.numbers.as_slice())?;
+        Ok(Counts { numbers })
+    }
+}
+
 /// How many numbers the counts of so many bits take.
 fn size_for(bits: usize) -> usize
     ensures { result ≡ numbers_for bits }

@@ -11,7 +11,7 @@ ghost use Rattle.vb_set.specs.View.{bits_of, offset_of, bytes_of};
 
 use crate::ask::{rank_of, select_of};
 use crate::counts::Counts;
-use std::alloc::{Allocator, Global};
+use std::alloc::{AllocError, Allocator, Global};
 use std::marker::Model;
 use vb_set::{BitBuffer, BitBufferMut, BitBufferView, BufferError, Result};
 
@@ -58,6 +58,18 @@ impl<A: Allocator + Clone> Ranked<A> {
         ensures refused { IsOkUnless result BufferError.OutOfMemory }
     {
         let counts = Counts::of(alloc, set.as_view(), set.capacity())?;
+        Ok(Ranked { set, counts })
+    }
+
+    /// A copy of the set, with all its bytes, and of its counts, of which none is counted again. It
+    /// takes memory of the set's allocator for the bytes, and of the counts' allocator for those of
+    /// as many bits as the copy has room for: by one request each, and none for no bytes or no
+    /// bits. Refused by `OutOfMemory` alone.
+    pub fn clone(&self) -> Result<Self>
+        ensures { Makes (λ s. s ≡ record self.now { room = s.room }) result }
+    {
+        let set = self.set.clone()?;
+        let counts = self.counts.copy(set.capacity())?;
         Ok(Ranked { set, counts })
     }
 
@@ -170,5 +182,16 @@ impl<A: Allocator + Clone> Ranked<A> {
         ensures { Selects (hits value self.now.bits) n result }
     {
         select_of(self.as_view(), &self.counts, n, value)
+    }
+}
+
+/// A copy, as [`Ranked::clone`] makes it, for code over std's trait.
+impl<A: Allocator + Clone> Clone for Ranked<A> {
+    ghost use Rattle.std.specs.Prelude.{◌≡◌};
+
+    ghost is_clone = { λ s copy. copy ≡ record s { room = copy.room } };
+
+    fn clone(&self) -> Result<Self, AllocError> {
+        Ranked::clone(self).or(Err(AllocError))
     }
 }

@@ -1,12 +1,14 @@
 //! Tests of directories of counts: worked rows, the probes and looks of questions, edits and bits
-//! that are added beside a directory made anew, shared sets beside their views, and calls whose
-//! requests for memory are refused.
+//! that are added beside a directory made anew, copies, shared sets beside their views, and calls
+//! whose requests for memory are refused.
 #![tactic(auto)]
 
 #[cfg(test)]
 mod appended;
 #[cfg(test)]
 mod compared;
+#[cfg(test)]
+mod copied;
 #[cfg(test)]
 mod costs;
 #[cfg(test)]
