@@ -51,7 +51,7 @@ fn write_words<S: Truths>(out: &mut [u8], offset: usize, source: &S, from: usize
 /// Writes the bytes of `word` from byte `at` on.
 ///
 /// It isn't inlined: where the answers of a comparison are stored right away, the compiler stores
-/// each lane of its vector apart, which takes up to nine times as long at x86-64-v3.
+/// each lane of its vector apart, which is slower at x86-64-v3.
 #[inline(never)]
 fn store_word(out: &mut [u8], at: usize, word: u64)
     requires { at + 8 ≤ length out.old }
