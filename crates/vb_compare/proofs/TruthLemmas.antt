@@ -1,15 +1,15 @@
 -- What a comparison answers of lists, and of their parts.
 use Rattle.std.proofs.Common.{◌≡◌, ℕ, ℤ, suc, zero, ◌+◌, ◌-◌, ◌*◌, ◌/◌, ◌^◌, ◌<◌, ◌≤◌, Bool, not}
 use Rattle.std.proofs.Common.{List, [], ◌∷◌, ◌++◌, length, map, take, drop, replicate, refl, sym}
-use Rattle.std.proofs.Common.{ap, ◌∙◌, arith, zero-add}
+use Rattle.std.proofs.Common.{ap, ◌∙◌, arith}
 use Rattle.std.proofs.lemmas.List.{take-map, take-take, take-replicate, take_all, take-append-drop}
 use Rattle.std.proofs.lemmas.List.{drop-map, drop-drop, length-map, length-drop, length-take-le}
 use Rattle.std.proofs.lemmas.Simd.{zip2_splat, length-zip2, map-map}
-use Rattle.std.proofs.Math.Seq.{take-add, take-append_seam, drop-append_seam}
+use Rattle.std.proofs.Math.Seq.{take-add, take-append_seam}
 use lib.Lanes.{zip2}
 use Rattle.vb_bits.specs.Digits.{digits}
 use Rattle.vb_bits.proofs.DigitsLemmas.{length-digits, digits-add}
-use Rattle.vb_bits.proofs.ShiftLemmas.{digits_shr}
+use Rattle.vb_pack.proofs.TruthLemmas.{last_values}
 
 -- ---- two lists, place by place
 -- the other way round
@@ -60,13 +60,6 @@ take-digits w k h =
     ∙ ap (λ n. take n (digits w 0 k ++ digits w (0 + k) (64 - k))) (sym (length-digits w 0 k))
     ∙ take-append_seam (digits w 0 k) (digits w (0 + k) (64 - k)))
 
-drop-digits : (w s r : ℕ) → s + r ≡ 64 → digits w s r ≡ drop s (digits w 0 64)
-drop-digits w s r whole =
-    sym (ap (λ n. drop s (digits w 0 n)) (sym whole) ∙ ap (drop s) (digits-add w 0 s r)
-    ∙ ap (λ n. drop n (digits w 0 s ++ digits w (0 + s) r)) (sym (length-digits w 0 s))
-    ∙ drop-append_seam (digits w 0 s) (digits w (0 + s) r)
-    ∙ ap (λ a. digits w a r) (zero-add s))
-
 -- the first ones of a word of a list
 pub front_digits : (w a k : ℕ) (l : List Bool) → digits w 0 64 ≡ take 64 (drop a l) → k ≤ 64
     → digits w 0 k ≡ take k (drop a l)
@@ -78,10 +71,8 @@ pub last_digits : (w r : ℕ) (l : List Bool) → 64 ≤ length l
     → digits (w / 2 ^ (64 - r)) 0 r ≡ drop (length l - r) l
 last_digits w r l enough e h =
     let from : ℕ = length l - 64 in
-    let place : from + (64 - r) ≡ length l - r = omega arith in
-    digits_shr w (64 - r) r ∙ drop-digits w (64 - r) r (omega arith)
-    ∙ ap (drop (64 - r)) (e ∙ take_all 64 (drop from l) (omega (arith, length-drop from l)))
-    ∙ drop-drop (64 - r) from l ∙ ap (λ k. drop k l) place
+    last_values w r l enough h
+    (e ∙ take_all 64 (drop from l) (omega (arith, length-drop from l)))
 
 -- ---- values and one number
 module _ {X : Type 0} (s : ℤ → ℤ → Bool) (f : X → ℤ) (y : ℤ) (xs : List X) where
