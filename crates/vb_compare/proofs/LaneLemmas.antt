@@ -15,7 +15,7 @@ use Rattle.vb_bits.specs.Digits.{digits}
 use Rattle.vb_pack.proofs.MaskLemmas.{digits-mask_l}
 
 -- its digits are what the comparison answers
-digits_compared : (w : Width) (t : ℕ → ℕ → Bool) (xs ys : List ℕ)
+pub digits_compared : {X : Type 0} (w : Width) (t : X → X → Bool) (xs ys : List X)
     → length xs ≡ 64 → length ys ≡ 64
     → digits (mask_l (map (top (hbits w)) (zip2 (λ x y. cond (t x y) (2 ^ width w - 1) 0) xs ys))
     % 2 ^ 64) 0 64 ≡ zip2 t xs ys

@@ -1,2 +1,2 @@
-mod LaneLemmas
+pub mod LaneLemmas
 pub mod TruthLemmas

@@ -1,5 +1,5 @@
 -- What a comparison answers of lists, and of their parts.
-use Rattle.std.proofs.Common.{◌≡◌, ℕ, ℤ, suc, zero, ◌+◌, ◌-◌, ◌*◌, ◌/◌, ◌^◌, ◌<◌, ◌≤◌, Bool, not}
+use Rattle.std.proofs.Common.{◌≡◌, ℕ, suc, zero, ◌+◌, ◌-◌, ◌*◌, ◌/◌, ◌^◌, ◌<◌, ◌≤◌, Bool, not}
 use Rattle.std.proofs.Common.{List, [], ◌∷◌, ◌++◌, length, map, take, drop, replicate, refl, sym}
 use Rattle.std.proofs.Common.{ap, ◌∙◌, arith}
 use Rattle.std.proofs.lemmas.List.{take-map, take-take, take-replicate, take_all, take-append-drop}
@@ -28,7 +28,7 @@ negated f (x ∷ xs) [] = refl
 negated f (x ∷ xs) (y ∷ ys) = ap (λ l. not (f x y) ∷ l) (negated f xs ys)
 
 -- the first ones
-take-zip2 : {X Y Z : Type 0} (f : X → Y → Z) (n : ℕ) (xs : List X) (ys : List Y)
+pub take-zip2 : {X Y Z : Type 0} (f : X → Y → Z) (n : ℕ) (xs : List X) (ys : List Y)
     → take n (zip2 f xs ys) ≡ zip2 f (take n xs) (take n ys)
 take-zip2 f zero xs ys = refl
 take-zip2 f (suc n) [] ys = refl
@@ -45,7 +45,7 @@ zip2-nil f [] = refl
 zip2-nil f (x ∷ xs) = refl
 
 -- those behind them
-drop-zip2 : {X Y Z : Type 0} (f : X → Y → Z) (n : ℕ) (xs : List X) (ys : List Y)
+pub drop-zip2 : {X Y Z : Type 0} (f : X → Y → Z) (n : ℕ) (xs : List X) (ys : List Y)
     → drop n (zip2 f xs ys) ≡ zip2 f (drop n xs) (drop n ys)
 drop-zip2 f zero xs ys = refl
 drop-zip2 f (suc n) [] ys = refl
@@ -75,8 +75,8 @@ last_digits w r l enough e h =
     (e ∙ take_all 64 (drop from l) (omega (arith, length-drop from l)))
 
 -- ---- values and one number
-module _ {X : Type 0} (s : ℤ → ℤ → Bool) (f : X → ℤ) (y : ℤ) (xs : List X) where
-  pub to_number : (w at : ℕ) (zs : List ℤ) → at + 64 ≤ length (map (λ x. s (f x) y) xs)
+module _ {X Y : Type 0} (s : Y → Y → Bool) (f : X → Y) (y : Y) (xs : List X) where
+  pub to_number : (w at : ℕ) (zs : List Y) → at + 64 ≤ length (map (λ x. s (f x) y) xs)
       → zs ≡ map f (take 64 (take (length xs - at) (drop at xs)))
       → digits w 0 64 ≡ zip2 s zs (replicate 64 y)
       → digits w 0 64 ≡ take 64 (drop at (map (λ x. s (f x) y) xs))
@@ -91,7 +91,7 @@ module _ {X : Type 0} (s : ℤ → ℤ → Bool) (f : X → ℤ) (y : ℤ) (xs :
       ∙ sym (ap (take 64) (drop-map (λ x. s (f x) y) at xs)
       ∙ take-map (λ x. s (f x) y) 64 (drop at xs))
 
-  pub few_to_number : (w : ℕ) (zs : List ℤ) → length (map (λ x. s (f x) y) xs) < 64
+  pub few_to_number : (w : ℕ) (zs : List Y) → length (map (λ x. s (f x) y) xs) < 64
       → take (length xs) zs ≡ map f xs
       → digits w 0 64 ≡ zip2 s zs (replicate 64 y)
       → digits w 0 (length (map (λ x. s (f x) y) xs)) ≡ map (λ x. s (f x) y) xs
@@ -105,23 +105,23 @@ module _ {X : Type 0} (s : ℤ → ℤ → Bool) (f : X → ℤ) (y : ℤ) (xs :
       ∙ zip2_splat s (map f xs) n y (length-map xs f) ∙ map-map (λ z. s z y) f xs
 
 -- ---- values and others
-module _ {X : Type 0} (s : ℤ → ℤ → Bool) (f : X → ℤ) where
-  -- by the numbers
-  zip2-numbers : (xs ys : List X)
+module _ {X Y : Type 0} (s : Y → Y → Bool) (f : X → Y) where
+  -- by what is compared
+  pub zip2-values : (xs ys : List X)
       → zip2 s (map f xs) (map f ys) ≡ zip2 (λ x y. s (f x) (f y)) xs ys
-  zip2-numbers [] ys = refl
-  zip2-numbers (x ∷ xs) [] = refl
-  zip2-numbers (x ∷ xs) (y ∷ ys) = ap (λ l. s (f x) (f y) ∷ l) (zip2-numbers xs ys)
+  zip2-values [] ys = refl
+  zip2-values (x ∷ xs) [] = refl
+  zip2-values (x ∷ xs) (y ∷ ys) = ap (λ l. s (f x) (f y) ∷ l) (zip2-values xs ys)
 
   -- the first 64 of a part
-  loaded : (at : ℕ) (zs : List ℤ) (xs : List X)
+  loaded : (at : ℕ) (zs : List Y) (xs : List X)
       → zs ≡ map f (take 64 (take (length xs - at) (drop at xs)))
       → zs ≡ map f (take 64 (drop at xs))
   loaded at zs xs e =
       e ∙ ap (λ l. map f (take 64 l))
       (take_all (length xs - at) (drop at xs) (omega (arith, length-drop at xs)))
 
-  pub to_others : (w at : ℕ) (xs ys : List X) (zs us : List ℤ)
+  pub to_others : (w at : ℕ) (xs ys : List X) (zs us : List Y)
       → zs ≡ map f (take 64 (take (length xs - at) (drop at xs)))
       → us ≡ map f (take 64 (take (length ys - at) (drop at ys)))
       → digits w 0 64 ≡ zip2 s zs us
@@ -130,11 +130,11 @@ module _ {X : Type 0} (s : ℤ → ℤ → Bool) (f : X → ℤ) where
       let answer : X → X → Bool = λ x y. s (f x) (f y) in
       e ∙ ap (λ l. zip2 s l us) (loaded at zs xs left)
       ∙ ap (zip2 s (map f (take 64 (drop at xs)))) (loaded at us ys right)
-      ∙ zip2-numbers (take 64 (drop at xs)) (take 64 (drop at ys))
+      ∙ zip2-values (take 64 (drop at xs)) (take 64 (drop at ys))
       ∙ sym (ap (take 64) (drop-zip2 answer at xs ys)
       ∙ take-zip2 answer 64 (drop at xs) (drop at ys))
 
-  pub few_to_others : (w : ℕ) (xs ys : List X) (zs us : List ℤ) → length ys ≡ length xs
+  pub few_to_others : (w : ℕ) (xs ys : List X) (zs us : List Y) → length ys ≡ length xs
       → length (zip2 (λ x y. s (f x) (f y)) xs ys) < 64
       → take (length xs) zs ≡ map f xs → take (length ys) us ≡ map f ys
       → digits w 0 64 ≡ zip2 s zs us
@@ -146,7 +146,7 @@ module _ {X : Type 0} (s : ℤ → ℤ → Bool) (f : X → ℤ) where
       ∙ ap (take n) e ∙ take-zip2 s n zs us
       ∙ ap (λ l. zip2 s l (take n us)) left
       ∙ ap (λ k. zip2 s (map f xs) (take k us)) (sym same)
-      ∙ ap (zip2 s (map f xs)) right ∙ zip2-numbers xs ys
+      ∙ ap (zip2 s (map f xs)) right ∙ zip2-values xs ys
 
 -- ---- a list cut where words begin
 -- one word more

@@ -1,2 +1,1 @@
-mod LaneLemmas
 mod TruthLemmas

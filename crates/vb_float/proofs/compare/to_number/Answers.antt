@@ -4,7 +4,8 @@ use Rattle.std.proofs.lemmas.List.{length-map, length-drop, length-take-le}
 use lib.Lanes.{zip2}
 use Rattle.vb_bits.specs.Writes.{Writes}
 use Rattle.vb_bits.proofs.WritesLemmas.{Writes_none}
-use Rattle.vb_float.proofs.TruthLemmas.{to_number, few_to_number, next_word, last_word}
+use Rattle.vb_compare.proofs.TruthLemmas.{to_number}
+use Rattle.vb_float.proofs.TruthLemmas.{rest_to_number, next_word, last_word}
 use Rattle.vb_float.proofs.compare.to_number.Goals as goal
 
 pub loop-k-init : goal.loop-k-init
@@ -37,7 +38,7 @@ returns g c =
     let end : 64 * c.loop-k.k ≡ at = omega arith in
     last_word c.args.out.now c.loop-k.out c.write_digits-2.new.out c.args.offset at
     c.word-last.result (length rest) l (omega arith)
-    (few_to_number s f y xs rest c.word-last.result at zs refl (omega arith) c.load_few.ensures
+    (rest_to_number s f y xs rest c.word-last.result at zs refl (omega arith) c.load_few.ensures
     (c.word-last.ensures ∙ ap (zip2 s zs) c.splat-2.ensures))
     (subst (λ n. Writes c.args.out.now c.loop-k.out c.args.offset (take n l)) end
     c.loop-k.invariant) c.write_digits-2.ensures

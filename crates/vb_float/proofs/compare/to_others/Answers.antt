@@ -4,8 +4,8 @@ use Rattle.std.proofs.lemmas.List.{length-drop, length-take-le}
 use lib.Lanes.{zip2}
 use Rattle.vb_bits.specs.Writes.{Writes}
 use Rattle.vb_bits.proofs.WritesLemmas.{Writes_none}
-use Rattle.vb_compare.proofs.TruthLemmas.{length_paired}
-use Rattle.vb_float.proofs.TruthLemmas.{to_others, few_to_others, next_word, last_word}
+use Rattle.vb_compare.proofs.TruthLemmas.{length_paired, to_others}
+use Rattle.vb_float.proofs.TruthLemmas.{rest_to_others, next_word, last_word}
 use Rattle.vb_float.proofs.compare.to_others.Goals as goal
 
 pub loop-k-init : goal.loop-k-init
@@ -22,7 +22,7 @@ loop-k-preserved g c =
     length_paired (λ x y. s (f x) (f y)) xs ys c.requires.others in
     next_word c.args.out.now c.loop-k.out c.write_digits.new.out c.args.offset k
     c.word.result l (omega arith)
-    (to_others s f xs ys c.word.result (64 * k) zs us c.load-left.ensures c.load-right.ensures
+    (to_others s f c.word.result (64 * k) xs ys zs us c.load-left.ensures c.load-right.ensures
     c.word.ensures) c.loop-k.invariant c.write_digits.ensures
 
 pub returns : goal.returns
@@ -45,7 +45,7 @@ returns g c =
     let end : 64 * c.loop-k.k ≡ at = omega arith in
     last_word c.args.out.now c.loop-k.out c.write_digits-2.new.out c.args.offset at
     c.word-last.result (length rest) l (omega arith)
-    (few_to_others s f xs ys rest more c.word-last.result at zs us refl refl (omega arith)
+    (rest_to_others s f xs ys rest more c.word-last.result at zs us refl refl (omega arith)
     (omega arith) c.load_few.ensures c.load_few-2.ensures c.word-last.ensures)
     (subst (λ n. Writes c.args.out.now c.loop-k.out c.args.offset (take n l)) end
     c.loop-k.invariant) c.write_digits-2.ensures

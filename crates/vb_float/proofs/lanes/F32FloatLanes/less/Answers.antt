@@ -1,6 +1,6 @@
 use mir.Syntax.{w32}
 use lib.Ieee.{lt}
-use Rattle.vb_float.proofs.LaneLemmas.{digits_compared}
+use Rattle.vb_compare.proofs.LaneLemmas.{digits_compared}
 use Rattle.vb_float.proofs.lanes.F32FloatLanes.less.Goals as goal
 
 pub returns : goal.returns

@@ -1,6 +1,6 @@
 use mir.Syntax.{w64}
 use lib.Ieee.{le}
-use Rattle.vb_float.proofs.LaneLemmas.{digits_compared}
+use Rattle.vb_compare.proofs.LaneLemmas.{digits_compared}
 use Rattle.vb_float.proofs.lanes.F64FloatLanes.less_or_equal.Goals as goal
 
 pub returns : goal.returns

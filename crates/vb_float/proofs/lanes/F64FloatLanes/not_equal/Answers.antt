@@ -1,6 +1,6 @@
 use mir.Syntax.{w64}
 use lib.Ieee.{ne}
-use Rattle.vb_float.proofs.LaneLemmas.{digits_compared}
+use Rattle.vb_compare.proofs.LaneLemmas.{digits_compared}
 use Rattle.vb_float.proofs.lanes.F64FloatLanes.not_equal.Goals as goal
 
 pub returns : goal.returns
