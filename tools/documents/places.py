@@ -33,10 +33,11 @@ COMMAND = [
     ]),
     Task("What carries it out: a method, and an arm of `serve`", [
         (r"crates/vb_pool/src/", r"\bfn NAME\b|Command::NAME\b"),
-        (r"crates/vb_script/src/", r"\bNAME\b"),
+        (r"crates/vb_script/src/", r"(?<!\.)\bNAME\b"),
     ]),
     Task("Lines with known answers; what a plain list answers", [
-        (r"crates/(vb_command_tests|vb_script_(plain_)?tests|vb_plain_machine)/src/", r"\bNAME\b"),
+        (r"crates/(vb_command_tests|vb_script_(plain_)?tests)/src/", r"\bNAME\b"),
+        (r"crates/vb_plain_machine/src/", r"(?<!\.)\bNAME\b"),
         (r"crates/vbits/stdin$", r"\bNAME\b"),
     ]),
     Task("Wrong bodies, and proofs", [

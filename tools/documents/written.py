@@ -1,6 +1,6 @@
-"""Lists that a tool writes from where their names stand first: what vb_kernel and the crate to
-depend on give of vb_pair, what the tests of that crate reach, and the table by which the Rust crate
-calls the C functions.
+"""Lists that a tool writes from where their names stand first: what vb_pair gives of its files, what
+vb_kernel and the crate to depend on give of vb_pair, what the tests of that crate reach, and the
+table by which the Rust crate calls the C functions.
 """
 import re
 import textwrap
@@ -44,12 +44,32 @@ def table(repository: Repository) -> str:
     return "\n".join([head, "kernels! {", *lines, "}", behind])
 
 
+def given_on(path: str, names: list[str]) -> str:
+    """A `pub use` item, in the layout of `rt fmt`."""
+    listed = ", ".join(names)
+    if len(names) == 1:
+        return f"pub use {path}::{listed};"
+    if len(line := f"pub use {path}::{{{listed}}};") <= 100:
+        return line
+    wrapped = textwrap.fill(f"{listed},", 100, initial_indent=" " * 4, subsequent_indent=" " * 4)
+    return f"pub use {path}::{{\n{wrapped}\n}};"
+
+
+def pair(repository: Repository) -> str:
+    """The top of vb_pair, which gives the public functions of each file that it gives any of."""
+    text = repository.read(PAIR)
+
+    def given(found: re.Match) -> str:
+        file = repository.read(PAIR.replace("lib.rt", f"{found[1]}.rt"))
+        return given_on(found[1], sorted(re.findall(r"^pub fn (\w+)", file, re.MULTILINE)))
+
+    return re.sub(r"^pub use (\w+)::[^;]*;", given, text, flags=re.MULTILINE)
+
+
 def kernel(repository: Repository) -> str:
     """The top of vb_kernel, which gives on all that vb_pair gives."""
-    names = ", ".join(sorted(exported(repository.read(PAIR))))
-    listed = textwrap.fill(f"{names},", 100, initial_indent=" " * 4, subsequent_indent=" " * 4)
-    text = repository.read(KERNEL)
-    return re.sub(r"(pub use vb_pair::\{\n)[^}]*\}", rf"\g<1>{listed}\n}}", text)
+    given = given_on("vb_pair", sorted(exported(pair(repository))))
+    return re.sub(r"pub use vb_pair::[^;]*;", given, repository.read(KERNEL))
 
 
 def facade(repository: Repository) -> str:
@@ -58,7 +78,7 @@ def facade(repository: Repository) -> str:
     lines = repository.read(CRATE).split("\n")
     places = [n for n, line in enumerate(lines) if line.startswith(start)]
     if places:
-        given = {f"{start}{it};" for it in exported(repository.read(PAIR))}
+        given = {f"{start}{it};" for it in exported(pair(repository))}
         part = slice(places[0], places[-1] + 1)
         lines[part] = sorted(given.union(lines[part]))
     return "\n".join(lines)
@@ -71,7 +91,7 @@ def reached(repository: Repository) -> str:
     return head + "".join(f"pub use vortex_buffer::{it};\n" for it in names)
 
 
-WRITTEN = {KERNEL: kernel, CRATE: facade, REACHED: reached, TABLE: table}
+WRITTEN = {PAIR: pair, KERNEL: kernel, CRATE: facade, REACHED: reached, TABLE: table}
 
 
 def not_written(repository: Repository) -> list[str]:

@@ -1,26 +1,53 @@
 //! Counts of two windows that are combined.
+ghost use Rattle.vb_bits.specs.InBytes.{InBytes};
+
 use crate::compared::{equal, equal_at, holds};
-use crate::plain::{self, Counts};
+use crate::plain::combined_bit;
 use crate::sample::mix;
 use std::process::Abort;
 use vb_kernel::{
-    Tally, and_count, and_count_by, andnot_count, andnot_count_by, count_ones_by, get_bit,
+    BitOp, Tally, and_count, and_count_by, andnot_count, andnot_count_by, count_ones_by, get_bit,
     is_disjoint, is_subset, or_count, or_count_by, window_fits, xor_count, xor_count_by,
 };
 
 /// Where two windows begin, and how long both are.
 type Windows = (usize, usize, usize);
 
+/// The operators whose true answers are counted.
+const OPERATORS: [BitOp; 4] = [BitOp::And, BitOp::Or, BitOp::Xor, BitOp::AndNot];
+
+/// For how many bits of two windows each of these answers true.
+type Counts = [usize; 4];
+
+/// Makes of counts those of windows that are longer by a bit each.
+fn count_more(counts: &mut Counts, left: bool, right: bool) {
+    for (count, op) in counts.iter_mut().zip(OPERATORS) {
+        *count = count.saturating_add(usize::from(combined_bit(op, left, right)));
+    }
+}
+
+/// The counts of two windows, bit by bit.
+fn plain_counts(left: &[u8], l: usize, right: &[u8], r: usize, len: usize) -> Counts
+    requires left { InBytes left.now l len }
+    requires right { InBytes right.now r len }
+{
+    let mut counts = [0; 4];
+    for i in 0..len {
+        count_more(&mut counts, get_bit(left, l + i), get_bit(right, r + i));
+    }
+    counts
+}
+
 /// The counts are those that are wanted.
 fn counts_are(rt: &impl Abort, left: &[u8], right: &[u8], (l, r, len): Windows, wanted: Counts) {
     holds(rt, window_fits(left, l, len));
     holds(rt, window_fits(right, r, len));
-    let counted = Counts {
-        and: and_count(left, l, right, r, len),
-        or: or_count(left, l, right, r, len),
-        xor: xor_count(left, l, right, r, len),
-        andnot: andnot_count(left, l, right, r, len),
-    };
+    let counted = [
+        and_count(left, l, right, r, len),
+        or_count(left, l, right, r, len),
+        xor_count(left, l, right, r, len),
+        andnot_count(left, l, right, r, len),
+    ];
     equal_at(rt, counted, wanted, (l, r, len));
 }
 
@@ -29,27 +56,28 @@ fn looks_tell(rt: &impl Abort, left: &[u8], right: &[u8], (l, r, len): Windows, 
     holds(rt, window_fits(left, l, len));
     holds(rt, window_fits(right, r, len));
     let (one, other) = (&mut Tally::new(left), &mut Tally::new(right));
-    let counted = Counts {
-        and: and_count_by(one, l, other, r, len),
-        or: or_count_by(one, l, other, r, len),
-        xor: xor_count_by(one, l, other, r, len),
-        andnot: andnot_count_by(one, l, other, r, len),
-    };
+    let counted = [
+        and_count_by(one, l, other, r, len),
+        or_count_by(one, l, other, r, len),
+        xor_count_by(one, l, other, r, len),
+        andnot_count_by(one, l, other, r, len),
+    ];
     equal_at(rt, counted, wanted, (l, r, len));
+    let [and, _, _, andnot] = wanted;
     let disjoint = is_disjoint(left, l, right, r, len);
-    equal_at(rt, disjoint, wanted.and == 0, (l, r, len));
+    equal_at(rt, disjoint, and == 0, (l, r, len));
     let within = is_subset(left, l, right, r, len);
-    equal_at(rt, within, wanted.andnot == 0, (l, r, len));
+    equal_at(rt, within, andnot == 0, (l, r, len));
 }
 
 /// Windows from these bits on, of each length up to `most`.
 fn counts_are_plain(rt: &impl Abort, left: &[u8], l: usize, right: &[u8], r: usize, most: usize) {
     holds(rt, window_fits(left, l, most));
     holds(rt, window_fits(right, r, most));
-    let mut wanted = Counts::none();
+    let mut wanted = [0; 4];
     for len in 0..most {
         counts_are(rt, left, right, (l, r, len), wanted);
-        wanted = wanted.more(get_bit(left, l + len), get_bit(right, r + len));
+        count_more(&mut wanted, get_bit(left, l + len), get_bit(right, r + len));
     }
 }
 
@@ -78,7 +106,7 @@ fn counts_of_long_windows_are_plain(rt: HostRuntime) {
             for len in LENS {
                 holds(&rt, window_fits(left, l, len));
                 holds(&rt, window_fits(right, r, len));
-                let wanted = plain::combined_counts(left, l, right, r, len);
+                let wanted = plain_counts(left, l, right, r, len);
                 counts_are(&rt, left, right, (l, r, len), wanted);
                 looks_tell(&rt, left, right, (l, r, len), wanted);
             }

@@ -15,57 +15,6 @@ pub(crate) fn combined_bit(op: BitOp, left: bool, right: bool) -> bool {
     }
 }
 
-/// For how many bits of two windows each operator answers true.
-#[derive(Clone, Copy, Debug, PartialEq)]
-pub(crate) struct Counts {
-    pub(crate) and: usize,
-    pub(crate) or: usize,
-    pub(crate) xor: usize,
-    pub(crate) andnot: usize,
-}
-
-impl Counts {
-    /// Those of windows of no bits.
-    pub(crate) fn none() -> Counts {
-        Counts {
-            and: 0,
-            or: 0,
-            xor: 0,
-            andnot: 0,
-        }
-    }
-
-    /// Those of windows that are longer by a bit each.
-    pub(crate) fn more(self, left: bool, right: bool) -> Counts {
-        Counts {
-            and: self
-                .and
-                .saturating_add(usize::from(combined_bit(BitOp::And, left, right))),
-            or: self
-                .or
-                .saturating_add(usize::from(combined_bit(BitOp::Or, left, right))),
-            xor: self
-                .xor
-                .saturating_add(usize::from(combined_bit(BitOp::Xor, left, right))),
-            andnot: self
-                .andnot
-                .saturating_add(usize::from(combined_bit(BitOp::AndNot, left, right))),
-        }
-    }
-}
-
-/// The counts of two windows.
-pub(crate) fn combined_counts(left: &[u8], l: usize, right: &[u8], r: usize, len: usize) -> Counts
-    requires left { InBytes left.now l len }
-    requires right { InBytes right.now r len }
-{
-    let mut counts = Counts::none();
-    for i in 0..len {
-        counts = counts.more(get_bit(left, l + i), get_bit(right, r + i));
-    }
-    counts
-}
-
 /// How many bits of the window are true.
 #[tactic(auto, using(vb_bits::proofs::BitsLemmas::windows))]
 pub(crate) fn count_ones(bytes: &[u8], offset: usize, len: usize) -> usize

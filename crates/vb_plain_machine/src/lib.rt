@@ -3,6 +3,7 @@
 #![tactic(auto)]
 
 mod answer;
+mod commands;
 mod form;
 mod line;
 mod list;
@@ -10,7 +11,8 @@ mod plain;
 mod stop;
 mod text;
 
-pub use form::{FORMS, Form, Kind, Memory, Then, form_of};
+pub use commands::{FORMS, form_of};
+pub use form::{Form, Kind, Memory, Then};
 pub use line::{Call, Line, read};
 pub use plain::Plain;
 pub use text::Text;

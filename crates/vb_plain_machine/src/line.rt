@@ -1,5 +1,6 @@
 //! Lines read by splitting them at their spaces.
-use crate::form::{Form, Kind, form_of};
+use crate::commands::form_of;
+use crate::form::{Form, Kind};
 
 /// The word at a place of a line, or no text where there are fewer.
 pub(crate) fn word(text: &str, place: usize) -> &str {

@@ -1,8 +1,7 @@
 //! The commands on plain lists of truth values, one list a slot, which share nothing.
-use crate::answer::answer;
+use crate::commands::{Named, answer, change};
 use crate::form::{Kind, Memory, Then};
 use crate::line::Call;
-use crate::list::{combine, cut, fill, lengthen, name_places, take, window};
 use crate::stop::{BAD_SLOT, OUT_OF_MEMORY, Stop};
 use crate::text::Text;
 use std::alloc::{AllocError, Global};
@@ -95,7 +94,12 @@ impl Plain {
 
     /// Makes of the list what the line makes of it, unless memory is refused.
     fn make(&mut self, call: Call<'_>, is_refused: bool) -> Result<(), Stop> {
-        let changed = change(&self.slots, call, &mut self.list);
+        let named = Named {
+            first: bits_of(&self.slots, call, 1),
+            second: bits_of(&self.slots, call, 2),
+            third: bits_of(&self.slots, call, 3),
+        };
+        let changed = change(call, named, &mut self.list);
         // The indexes of a `take` come after memory, all else before it.
         if let Err(Stop::Refused(_) | Stop::TooLong) = changed {
             return changed;
@@ -174,36 +178,5 @@ fn bits_of<'a>(slots: &'a [Slot], call: Call<'_>, place: usize) -> &'a [bool] {
     match slots.get(call.number(place)) {
         Some(slot) if !matches!(slot.holds, Holds::Nothing) => &slot.bits,
         _ => &[],
-    }
-}
-
-/// Makes of a list, that of a line's first slot or no bits, what the line makes of it.
-fn change(slots: &[Slot], call: Call<'_>, bits: &mut Vec<bool>) -> Result<(), Stop> {
-    let (a, b, c) = (call.number(2), call.number(3), call.number(4));
-    let (right, items) = (bits_of(slots, call, 3), call.items());
-    match call.name {
-        "import" => window(bits, a, b, items),
-        "full" | "appendn" => lengthen(bits, a == 1, b),
-        "append" => lengthen(bits, a == 1, 1),
-        "appendset" => Ok(bits.extend_from_slice(bits_of(slots, call, 2))?),
-        "indices" => name_places(bits, a, items),
-        "set" => fill(bits, a, a.saturating_add(1), b == 1),
-        "fill" => fill(bits, a, b, c == 1),
-        "slice" => cut(bits, a, b),
-        "truncate" => cut(bits, 0, a.min(bits.len())),
-        "clear" => cut(bits, 0, 0),
-        "and" | "or" | "xor" | "andnot" => combine(bits, call.name, right),
-        "take" => {
-            let counts = (call.word(3) != "-").then_some(right);
-            take(bits, bits_of(slots, call, 1), counts, items)
-        }
-        "flip" | "not" => {
-            for bit in bits.iter_mut() {
-                *bit = !*bit;
-            }
-            Ok(())
-        }
-        // All others leave it.
-        _ => Ok(()),
     }
 }

@@ -11,7 +11,9 @@ from documents.picture import dependencies, levels, picture, reduced
 from documents.signatures import of_header
 from documents.texts import links, names, stale
 from documents.widths import widths
-from documents.written import REACHED, TABLE, declared, facade, kernel, not_written, reached, table
+from documents.written import (
+    REACHED, TABLE, declared, facade, given_on, kernel, not_written, pair, reached, table,
+)
 
 CRATES = "# NAME:\nlow:\nmiddle: low thiserror\nvortex_buffer: low middle\nlow_tests: low\n"
 FILES = {
@@ -59,7 +61,8 @@ pub fn two(n: u8) -> u8
     "bindings/rust/src/bits.rs": "/// ```\n/// bits.count(1);\n/// ```\npub fn count(n: u8) {}\n",
     "bindings/rust/src/native.rs": "\nkernels! {\n    get(n: usize) -> bool;\n}\n",
     "crates/vb_pair/src/lib.rt": "mod of;\n\npub use of::{or_count, xor_count};\n",
-    "crates/vb_kernel/src/lib.rt": "pub use vb_pair::{\n    or_count, xor_count,\n};\n",
+    "crates/vb_pair/src/of.rt": "pub fn xor_count() {}\nfn own() {}\npub fn or_count() {}\n",
+    "crates/vb_kernel/src/lib.rt": "pub use vb_pair::{or_count, xor_count};\n",
     "crates/vortex_buffer/src/lib.rt": "pub use low::{one,\n    two};\npub use low::Type;\n"
     "pub use vb_kernel::or_count;\npub use vb_kernel::xor_count;\n",
     "crates/vortex_buffer_tests/src/reached.rt": "//! All.\npub use vortex_buffer::Type;\n"
@@ -68,7 +71,7 @@ pub fn two(n: u8) -> u8
     "crates/vb_command/src/command.rt": "pub enum Mode {\n    Ref(u8),\n}\n\n"
     "pub enum Command<A> {\n    /// `len k`: the length.\n    Len(usize),\n}\n",
     "docs/COMMANDS.md": "| Line | Answers |\n|---|---|\n| `len k` | how many |\n",
-    "crates/vb_plain_machine/src/form.rt": '    Form("len", &[Held], Answers, Never),\n',
+    "crates/vb_plain_machine/src/commands.rt": '    Form("len", &[Held], Answers, Never),\n',
     "crates/vb_script_tests/src/sessions.rt": '    ("drop 0\\nlen 0\\n", "0\\n"),\n',
 }
 
@@ -119,11 +122,20 @@ class Checked(unittest.TestCase):
         self.assertEqual(reached(repository), FILES[REACHED])
 
     def test_a_call_of_pairs_that_is_not_given_on(self):
-        repository = self.repository(pair_slash_src_slash_lib_dot_rt=("or_count, ", "nor_count, "))
-        self.assertIn("    nor_count, xor_count,\n", kernel(repository))
+        repository = self.repository(pair_slash_src_slash_of_dot_rt=("fn own", "pub fn nor_count"))
+        given = "{nor_count, or_count, xor_count};\n"
+        self.assertIn(f"pub use of::{given}", pair(repository))
+        self.assertIn(f"pub use vb_pair::{given}", kernel(repository))
         self.assertIn("pub use vb_kernel::nor_count;\npub use vb_kernel::or_count;\n",
                       facade(repository))
-        self.assertEqual(len(not_written(repository)), 2)
+        self.assertEqual(len(not_written(repository)), 3)
+
+    def test_names_that_one_line_does_not_hold(self):
+        names = [f"count_of_windows_{n}" for n in range(5)]
+        lines = given_on("of", names).split("\n")
+        self.assertEqual((lines[0], lines[-1]), ("pub use of::{", "};"))
+        self.assertLessEqual(max(map(len, lines)), 100)
+        self.assertEqual(given_on("of", ["one"]), "pub use of::one;")
 
     def test_a_function_that_the_rust_table_lacks(self):
         repository = self.repository(native_dot_rs=("    get(n: usize) -> bool;\n", ""))
@@ -147,7 +159,7 @@ class Checked(unittest.TestCase):
         crate = "crates/vb_command/src/command.rt"
         for where, (old, other) in {
             "COMMANDS_dot_md": ("`len ", "docs/COMMANDS.md"),
-            "form_dot_rt": ('"len"', "crates/vb_plain_machine/src/form.rt"),
+            "commands_dot_rt": ('"len"', "crates/vb_plain_machine/src/commands.rt"),
             "sessions_dot_rt": ("len 0", "crates/vb_script_tests/src/sessions.rt"),
         }.items():
             found = lists(self.repository(**{where: (old, old.replace("len", ""))}))
