@@ -90,7 +90,8 @@ pub fn bit_select_unset(bytes: &[u8], offset: usize, len: usize, n: usize) -> Op
 }
 
 /// The place of the `n`-th true bit, counted from 0, of the `len` bits of `src` from bit `offset`
-/// on; `None` where at most `n` of them are true. The place is relative to bit `offset`.
+/// on; `None` where at most `n` of them are true. The place is relative to bit `offset`. Clause
+/// `place` says so, and `each` that every true bit with `n` true ones before it is the answer.
 ///
 /// The search takes at most the looks of [`count_ones_by`](crate::count_ones_by) of the same bits,
 /// and so at most [`most_looks`](crate::most_looks) of `len`. A look is one read of a chunk of 64

@@ -106,7 +106,8 @@ impl<T: Element, A: Allocator> BufferMut<T, A> {
         self.items.as_slice()
     }
 
-    /// The items, to be written. All else stays.
+    /// The items, to be written. Once the loan of the slice ends, the buffer has the items that the
+    /// slice has then, as many as before; all else stays. So says clause `writes_back`.
     pub fn as_mut_slice(&mut self) -> &mut [T]
         ensures* writes_back { sem 𝓛 (Lends (the_row T.row A.row T.Element A.Allocator)
             (Array T.row 0) self.entry result (with_items self.old)) }

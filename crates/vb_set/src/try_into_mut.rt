@@ -13,7 +13,8 @@ pub trait TryIntoMut<A: Allocator + Clone>: Sized {
     ghost set: { Self → SharedSet };
 
     /// The same bits, offset and bytes for editing, in the same storage, where no other owner has
-    /// it; else `Err` gives the set back unchanged. No memory is taken.
+    /// it; else `Err` gives the set back unchanged. The set for editing reports alignment 1. No
+    /// memory is taken. That a lone owner gets its set is tested: no clause speaks of owners.
     ///
     /// It takes constant time, unless the bytes don't begin the storage, as those of a slice may
     /// not: then they are moved to its front.
