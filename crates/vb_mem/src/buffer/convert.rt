@@ -140,8 +140,8 @@ impl<T: Element, A: Allocator + Clone> Buffer<T, A> {
     /// dropped. Where another one does, or this buffer is empty and has no storage, memory is asked
     /// for a copy of the items, over-aligned to 256 bytes, and for its count of owners.
     ///
-    /// Refused by `OutOfMemory` alone; the buffer is unchanged then, and `writes_back` says so of the
-    /// items and the reported alignment. That a lone owner isn't refused no clause says.
+    /// Refused by `OutOfMemory` alone; the buffer is unchanged then, and `writes_back` says so of
+    /// the items and the reported alignment. That a lone owner isn't refused no clause says.
     pub fn items_mut(&mut self) -> Result<&mut BufferMut<T, A>>
         ensures* writes_back { sem 𝓛 (LendsAll T.row A.row T.Element A.Allocator
             self.entry result) }
