@@ -1,7 +1,12 @@
-"""Lines of the crates that are too wide to be read beside another file."""
+"""Lines of the crates that are too wide to be read beside another file, and files that are too
+long."""
+from pathlib import Path
+
 from documents.files import Repository
 
 WIDEST = 100
+LONGEST = 500
+CODE = {".rt", ".antt", ".rs", ".c", ".h", ".cpp", ".hpp", ".py"}
 FOLDERS = {"src", "specs", "proofs"}
 
 
@@ -18,3 +23,14 @@ def widths(repository: Repository) -> list[str]:
                 if len(line) > WIDEST
             ]
     return found
+
+
+def lengths(repository: Repository) -> list[str]:
+    """The files of code that have more than 500 lines."""
+    paths = [it for it in repository.paths if Path(it).suffix in CODE]
+    counts = {it: repository.read(it).count("\n") for it in paths}
+    return [
+        f"{path}: {count} lines, where {LONGEST} are the most"
+        for path, count in counts.items()
+        if count > LONGEST
+    ]

@@ -10,7 +10,7 @@ from documents.lists import lists
 from documents.picture import dependencies, levels, picture, reduced
 from documents.signatures import of_header
 from documents.texts import links, names, stale
-from documents.widths import widths
+from documents.widths import lengths, widths
 from documents.written import (
     REACHED, TABLE, declared, facade, given_on, kernel, not_written, pair, reached, table,
 )
@@ -213,6 +213,11 @@ class Checked(unittest.TestCase):
         found = widths(self.repository(F_dot_antt=("-- f", wide)))
         wanted = "crates/use_low/specs/F.antt:1: 101 columns, where 100 are the most"
         self.assertEqual(found, [wanted])
+
+    def test_a_file_of_too_many_lines(self):
+        self.assertEqual(lengths(self.repository(bits_dot_rs=("pub", "\n" * 496 + "pub"))), [])
+        found = lengths(self.repository(bits_dot_rs=("pub", "\n" * 497 + "pub")))
+        self.assertEqual(found, ["bindings/rust/src/bits.rs: 501 lines, where 500 are the most"])
 
 
 if __name__ == "__main__":
