@@ -9,8 +9,9 @@
  *
  * The last is the shared library. A checkout has this file in bindings/c, and the libraries in
  * bindings/out once bindings/run has made them. Beside it, and included by it, vortex_bits_gather.h
- * has bits put together of others, vortex_bits_values.h and vortex_bits_compare.h what is done with
- * values; vortex_bits.hpp has the windows as C++ classes.
+ * has bits put together of others, vortex_bits_ranks.h ranks over a table of counts,
+ * vortex_bits_values.h and vortex_bits_compare.h what is done with values; vortex_bits.hpp has the
+ * windows as C++ classes.
  *
  * libvortex_bits.a and libvortex_bits.so have code for x86-64-v2 and for x86-64-v3, and take the
  * higher one that the processor has. libvortex_bits_x86-64-v2.a and libvortex_bits_x86-64-v3.a have
@@ -429,57 +430,6 @@ VB_CHECKED bool vb_try_and_not_into(uint8_t *out, size_t out_size, size_t out_of
         size_t right_size, size_t right_offset, size_t len);
 
 /*
- * Ranks over a table that the caller keeps: it has, for each block of 512 bits of the window, how
- * many true bits are before it, which is ceil(len / 512) numbers. Writes these to the front of
- * `table`, as many as have room, and answers (`written`) how many these are. It counts the bits
- * once.
- *
- *     uint8_t rows[128];
- *     memset(rows, 0x11, sizeof rows);
- *     size_t table[2];
- *     assert(vb_block_counts(rows, 128, 0, 1024, table, 2) == 2 && table[1] == 128);
- */
-size_t vb_block_counts(const uint8_t *bytes, size_t size, size_t offset, size_t len, size_t *table,
-        size_t room);
-VB_CHECKED bool vb_try_block_counts(const uint8_t *bytes, size_t size, size_t offset, size_t len,
-        size_t *table, size_t room, size_t *written);
-
-/*
- * How many of the first `place` bits of the window are true, in constant time; `place` is at most
- * `len`. Here and below the table has exactly ceil(len / 512) entries, which the checked forms
- * test; that they are those of vb_block_counts they cannot test: of other ones the answer says
- * nothing, and does no harm.
- *
- *     uint8_t rows[128];
- *     memset(rows, 0x11, sizeof rows);
- *     const size_t table[2] = {0, 128};    // of vb_block_counts
- *     assert(vb_rank(rows, 128, 0, 1024, table, 2, 601) == 151);
- */
-size_t vb_rank(const uint8_t *bytes, size_t size, size_t offset, size_t len, const size_t *table,
-        size_t entries, size_t place);
-VB_CHECKED bool vb_try_rank(const uint8_t *bytes, size_t size, size_t offset, size_t len,
-        const size_t *table, size_t entries, size_t place, size_t *rank);
-
-/*
- * The place of the n-th true bit of the window, and of its n-th false bit, by halves of the table
- * and within one block.
- *
- *     uint8_t rows[128];
- *     memset(rows, 0x11, sizeof rows);
- *     const size_t table[2] = {0, 128};
- *     assert(vb_ranked_select(rows, 128, 0, 1024, table, 2, 151).index == 604);
- *     assert(vb_ranked_select_unset(rows, 128, 0, 1024, table, 2, 3).index == 5);
- */
-vb_place vb_ranked_select(const uint8_t *bytes, size_t size, size_t offset, size_t len,
-        const size_t *table, size_t entries, size_t n);
-VB_CHECKED bool vb_try_ranked_select(const uint8_t *bytes, size_t size, size_t offset, size_t len,
-        const size_t *table, size_t entries, size_t n, vb_place *place);
-vb_place vb_ranked_select_unset(const uint8_t *bytes, size_t size, size_t offset, size_t len,
-        const size_t *table, size_t entries, size_t n);
-VB_CHECKED bool vb_try_ranked_select_unset(const uint8_t *bytes, size_t size, size_t offset,
-        size_t len, const size_t *table, size_t entries, size_t n, vb_place *place);
-
-/*
  * The processor level of the code that calls run: "x86-64-v2", say.
  *
  *     assert(vb_has_level() && strncmp(vb_level(), "x86-64-v", 8) == 0);
@@ -495,6 +445,7 @@ bool vb_has_level(void);
 
 #include "vortex_bits_compare.h"
 #include "vortex_bits_gather.h"
+#include "vortex_bits_ranks.h"
 #include "vortex_bits_values.h"
 
 #endif

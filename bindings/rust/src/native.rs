@@ -147,14 +147,6 @@ kernels! {
     and_not_into(out: *mut u8, out_size: usize, out_offset: usize, left: *const u8,
         left_size: usize, left_offset: usize, right: *const u8, right_size: usize,
         right_offset: usize, len: usize);
-    block_counts(bytes: *const u8, size: usize, offset: usize, len: usize, table: *mut usize,
-        room: usize) -> usize;
-    rank(bytes: *const u8, size: usize, offset: usize, len: usize, table: *const usize,
-        entries: usize, place: usize) -> usize;
-    ranked_select(bytes: *const u8, size: usize, offset: usize, len: usize, table: *const usize,
-        entries: usize, n: usize) -> Place;
-    ranked_select_unset(bytes: *const u8, size: usize, offset: usize, len: usize,
-        table: *const usize, entries: usize, n: usize) -> Place;
     compare_u8(out: *mut u8, out_size: usize, out_offset: usize, values: *const u8,
         values_size: usize, op: u8, number: u8);
     compare_u16(out: *mut u8, out_size: usize, out_offset: usize, values: *const u16,
@@ -218,6 +210,14 @@ kernels! {
     deposit_bits(out: *mut u8, out_size: usize, out_offset: usize, values: *const u8,
         values_size: usize, values_offset: usize, mask: *const u8, mask_size: usize,
         mask_offset: usize, len: usize);
+    block_counts(bytes: *const u8, size: usize, offset: usize, len: usize, table: *mut usize,
+        room: usize) -> usize;
+    rank(bytes: *const u8, size: usize, offset: usize, len: usize, table: *const usize,
+        entries: usize, place: usize) -> usize;
+    ranked_select(bytes: *const u8, size: usize, offset: usize, len: usize, table: *const usize,
+        entries: usize, n: usize) -> Place;
+    ranked_select_unset(bytes: *const u8, size: usize, offset: usize, len: usize,
+        table: *const usize, entries: usize, n: usize) -> Place;
     filter_u8(out: *mut u8, room: usize, values: *const u8, count: usize, mask: *const u8,
         mask_size: usize, mask_offset: usize) -> usize;
     filter_u16(out: *mut u16, room: usize, values: *const u16, count: usize, mask: *const u8,

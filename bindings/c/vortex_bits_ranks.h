@@ -1,0 +1,69 @@
+/*
+ * Ranks and places of ranks over a table of counts. vortex_bits.h includes this file, and its head
+ * says what the caller owes of every call.
+ */
+#ifndef VORTEX_BITS_RANKS_H
+#define VORTEX_BITS_RANKS_H
+
+#include "vortex_bits.h"
+
+#ifdef __cplusplus
+extern "C" {
+#endif
+
+/*
+ * Ranks over a table that the caller keeps: it has, for each block of 512 bits of the window, how
+ * many true bits are before it, which is ceil(len / 512) numbers. Writes these to the front of
+ * `table`, as many as have room, and answers (`written`) how many these are. It counts the bits
+ * once.
+ *
+ *     uint8_t rows[128];
+ *     memset(rows, 0x11, sizeof rows);
+ *     size_t table[2];
+ *     assert(vb_block_counts(rows, 128, 0, 1024, table, 2) == 2 && table[1] == 128);
+ */
+size_t vb_block_counts(const uint8_t *bytes, size_t size, size_t offset, size_t len, size_t *table,
+        size_t room);
+VB_CHECKED bool vb_try_block_counts(const uint8_t *bytes, size_t size, size_t offset, size_t len,
+        size_t *table, size_t room, size_t *written);
+
+/*
+ * How many of the first `place` bits of the window are true, in constant time; `place` is at most
+ * `len`. Here and below the table has exactly ceil(len / 512) entries, which the checked forms
+ * test; that they are those of vb_block_counts they cannot test: of other ones the answer says
+ * nothing, and does no harm.
+ *
+ *     uint8_t rows[128];
+ *     memset(rows, 0x11, sizeof rows);
+ *     const size_t table[2] = {0, 128};    // of vb_block_counts
+ *     assert(vb_rank(rows, 128, 0, 1024, table, 2, 601) == 151);
+ */
+size_t vb_rank(const uint8_t *bytes, size_t size, size_t offset, size_t len, const size_t *table,
+        size_t entries, size_t place);
+VB_CHECKED bool vb_try_rank(const uint8_t *bytes, size_t size, size_t offset, size_t len,
+        const size_t *table, size_t entries, size_t place, size_t *rank);
+
+/*
+ * The place of the n-th true bit of the window, and of its n-th false bit, by halves of the table
+ * and within one block.
+ *
+ *     uint8_t rows[128];
+ *     memset(rows, 0x11, sizeof rows);
+ *     const size_t table[2] = {0, 128};
+ *     assert(vb_ranked_select(rows, 128, 0, 1024, table, 2, 151).index == 604);
+ *     assert(vb_ranked_select_unset(rows, 128, 0, 1024, table, 2, 3).index == 5);
+ */
+vb_place vb_ranked_select(const uint8_t *bytes, size_t size, size_t offset, size_t len,
+        const size_t *table, size_t entries, size_t n);
+VB_CHECKED bool vb_try_ranked_select(const uint8_t *bytes, size_t size, size_t offset, size_t len,
+        const size_t *table, size_t entries, size_t n, vb_place *place);
+vb_place vb_ranked_select_unset(const uint8_t *bytes, size_t size, size_t offset, size_t len,
+        const size_t *table, size_t entries, size_t n);
+VB_CHECKED bool vb_try_ranked_select_unset(const uint8_t *bytes, size_t size, size_t offset,
+        size_t len, const size_t *table, size_t entries, size_t n, vb_place *place);
+
+#ifdef __cplusplus
+}
+#endif
+
+#endif
