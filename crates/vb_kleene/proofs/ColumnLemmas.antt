@@ -1,0 +1,87 @@
+-- Columns of truth values that may be null, and their parts.
+use Rattle.std.proofs.Common.{◌≡◌, ℕ, Bool, true, false, not, ◌&&◌, List, length, map}
+use Rattle.std.proofs.Common.{Option, Some, None, sym, ap, ◌∙◌}
+use Rattle.std.specs.Option.{option_map}
+use Rattle.std.specs.Prelude.{slice_range}
+use Rattle.std.proofs.lemmas.List.{length-map}
+use Rattle.std.proofs.lemmas.Simd.{length-zip2}
+use Rattle.vb_bits.specs.Bits.{complement}
+use Rattle.vb_bits.specs.Operators.{merged_by}
+use Rattle.vb_bits.proofs.OperatorsLemmas.{length-merged_by}
+use Rattle.vb_kleene.specs.Combined.{column, trues_by, valid_by}
+use Rattle.vb_kleene.specs.Kleene.{truth, truths, validity_of, is_truth}
+use Rattle.vb_kleene.specs.declared.column.Column.{Column}
+use Rattle.vb_kleene.proofs.KleeneLemmas.{where_true, where_false, all_true, all_false}
+use Rattle.vb_kleene.proofs.KleeneLemmas.{long_validity}
+use Rattle.vb_kleene.proofs.PartLemmas.{both_parts, part_negated}
+use Rattle.vb_view.specs.View.{bits_of}
+use Rattle.vb_view.specs.declared.view.BitBufferView.{BitBufferView}
+
+-- what it was made of
+pub column_of : (c : Column) (values : BitBufferView) (validity : Option BitBufferView)
+    → c.values ≡ values → c.validity ≡ validity
+    → column c ≡ truths (bits_of values) (option_map bits_of validity)
+column_of c values validity e f =
+    ap (λ x. truths (bits_of x) (option_map bits_of c.validity)) e
+    ∙ ap (λ v. truths (bits_of values) (option_map bits_of v)) f
+
+-- ---- a part, of which x are the values and y says which are valid
+module _ (l m : List Bool) (v : Option (List Bool)) (x y : List Bool) (a b : ℕ) where
+  pub true_part : v ≡ Some m → y ≡ slice_range m a b → x ≡ slice_range l a b
+      → merged_by (λ a b. a && b) y x ≡ slice_range (map (is_truth true) (truths l v)) a b
+  true_part e valid values =
+      both_parts (λ a b. a && b) m l y x a b valid values
+      ∙ ap (λ k. slice_range k a b)
+      (where_true l m ∙ ap (λ w. map (is_truth true) (truths l w)) (sym e))
+
+  pub false_part : v ≡ Some m → y ≡ slice_range m a b → x ≡ slice_range l a b
+      → merged_by (λ a b. a && not b) y x ≡ slice_range (map (is_truth false) (truths l v)) a b
+  false_part e valid values =
+      both_parts (λ a b. a && not b) m l y x a b valid values
+      ∙ ap (λ k. slice_range k a b)
+      (where_false l m ∙ ap (λ w. map (is_truth false) (truths l w)) (sym e))
+
+-- ---- a part, where all are valid
+module _ (l : List Bool) (v : Option (List Bool)) (x : List Bool) (a b : ℕ) where
+  pub all_true_part : v ≡ None → x ≡ slice_range l a b
+      → x ≡ slice_range (map (is_truth true) (truths l v)) a b
+  all_true_part e values =
+      values ∙ ap (λ k. slice_range k a b)
+      (all_true l ∙ ap (λ w. map (is_truth true) (truths l w)) (sym e))
+
+  pub all_false_part : v ≡ None → x ≡ slice_range l a b
+      → complement x ≡ slice_range (map (is_truth false) (truths l v)) a b
+  all_false_part e values =
+      part_negated l x a b values ∙ ap (λ k. slice_range k a b)
+      (all_false l ∙ ap (λ w. map (is_truth false) (truths l w)) (sym e))
+
+-- ---- lengths
+pub length-column : (c : Column) → length (column c) ≡ length (bits_of c.values)
+length-column c =
+    length-zip2 truth (bits_of c.values)
+    (validity_of (length (bits_of c.values)) (option_map bits_of c.validity))
+    (sym (long_validity bits_of c.validity (length (bits_of c.values)) c.one_each))
+
+length-where : (which : Bool) (c : Column)
+    → length (map (is_truth which) (column c)) ≡ length (bits_of c.values)
+length-where which c = length-map (column c) (is_truth which) ∙ length-column c
+
+-- two columns of one length
+module _ (l r : Column) (same : length (bits_of r.values) ≡ length (bits_of l.values)) where
+  length-both : (f : Bool → Bool → Bool) (which : Bool)
+      → length (merged_by f (map (is_truth which) (column l)) (map (is_truth which) (column r)))
+      ≡ length (bits_of l.values)
+  length-both f which =
+      length-merged_by f (map (is_truth which) (column l)) (map (is_truth which) (column r))
+      (length-where which l ∙ sym (length-where which r ∙ same)) ∙ length-where which l
+
+  pub length-trues_by : (f : Bool → Bool → Bool)
+      → length (trues_by f (column l) (column r)) ≡ length (bits_of l.values)
+  length-trues_by f = length-both f true
+
+  pub length-valid_by : (f g : Bool → Bool → Bool)
+      → length (valid_by f g (column l) (column r)) ≡ length (bits_of l.values)
+  length-valid_by f g =
+      length-merged_by _ (trues_by f (column l) (column r))
+      (merged_by g (map (is_truth false) (column l)) (map (is_truth false) (column r)))
+      (length-trues_by f ∙ sym (length-both g false)) ∙ length-trues_by f

@@ -1,0 +1,3 @@
+mod ColumnLemmas
+pub mod KleeneLemmas
+mod PartLemmas

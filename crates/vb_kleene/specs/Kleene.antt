@@ -1,0 +1,40 @@
+-- Truth values that may be null, combined by SQL's three-valued logic, which is Kleene's.
+use Rattle.std.specs.Prelude.{ℕ, Bool, true, false, not, cond, List, length, replicate}
+use Rattle.std.specs.Prelude.{Option, Some, None}
+use Rattle.std.specs.Simd.Lanes.{zip2}
+
+-- `and` of two truth values, of which None is null: false where one of them is false, else null
+-- where one is null
+abbrev pub and_truths : Option Bool → Option Bool → Option Bool
+and_truths (Some false) b = Some false
+and_truths (Some true) b = b
+and_truths None (Some false) = Some false
+and_truths None (Some true) = None
+and_truths None None = None
+
+-- `or` of two truth values: true where one of them is true, else null where one is null
+abbrev pub or_truths : Option Bool → Option Bool → Option Bool
+or_truths (Some true) b = Some true
+or_truths (Some false) b = b
+or_truths None (Some true) = Some true
+or_truths None (Some false) = None
+or_truths None None = None
+
+-- a truth value, null where it isn't valid
+abbrev pub truth : Bool → Bool → Option Bool
+truth value valid = cond valid (Some value) None
+
+-- which of n values are valid: all, where there is no validity
+abbrev pub validity_of : ℕ → Option (List Bool) → List Bool
+validity_of n None = replicate n true
+validity_of n (Some validity) = validity
+
+-- the truth values of a column
+abbrev pub truths : List Bool → Option (List Bool) → List (Option Bool)
+truths values validity = zip2 truth values (validity_of (length values) validity)
+
+-- whether a truth value is known to be this one
+abbrev pub is_truth : Bool → Option Bool → Bool
+is_truth which None = false
+is_truth true (Some value) = value
+is_truth false (Some value) = not value

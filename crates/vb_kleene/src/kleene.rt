@@ -1,0 +1,89 @@
+//! `and` and `or` of truth values that may be null, into bits.
+ghost use Rattle.std.specs.Prelude.{◌≡◌, true, length, map, is_some};
+ghost use Rattle.std.specs.Option.{ForSome, option_map};
+ghost use Rattle.std.specs.Simd.Lanes.{zip2};
+ghost use Rattle.vb_kleene.specs.InBytes.{InBytes};
+ghost use Rattle.vb_kleene.specs.Kleene.{truths, and_truths, or_truths, is_truth};
+ghost use Rattle.vb_kleene.specs.View.{bits_of};
+ghost use Rattle.vb_kleene.specs.Writes.{Writes};
+
+use crate::column::Column;
+use crate::write::write_combined;
+use vb_bits::{And, Or};
+use vb_view::BitBufferView;
+
+/// Writes `left and right` of truth values that may be null, by three-valued logic, Kleene's, as in
+/// SQL: false where one of the two is false, even if the other one is null; else null where one is
+/// null. Which are true goes to the bits of `trues` from bit `trues_offset` on, and which aren't
+/// null to those of `valid` from bit `valid_offset` on, one for each value. No other bit changes.
+///
+/// A validity says which values aren't null; without one none is. It has to be as long as its
+/// values, and `right` as long as `left`. Both windows that are written have to lie in their bytes,
+/// and their ends have to fit in a `usize`. What values have at nulls counts for nothing, and at a
+/// null of the answer the bit of `trues` is false.
+///
+/// It goes over the bits once, by four words at a time, whatever the offsets are. Where a window
+/// that is written doesn't begin with a byte, each four words are shifted into it by one more pass
+/// over them.
+pub fn and_kleene_into(
+    trues: &mut [u8],
+    trues_offset: usize,
+    valid: &mut [u8],
+    valid_offset: usize,
+    left: BitBufferView<'_>,
+    left_validity: Option<BitBufferView<'_>>,
+    right: BitBufferView<'_>,
+    right_validity: Option<BitBufferView<'_>>,
+)
+    requires trues { InBytes trues.old trues_offset (length (bits_of left)) }
+    requires valid { InBytes valid.old valid_offset (length (bits_of left)) }
+    requires right { length (bits_of right) ≡ length (bits_of left) }
+    requires left_valid { ForSome left_validity (λ v. length (bits_of v) ≡ length (bits_of left)) }
+    requires right_valid { ForSome right_validity (λ v. length (bits_of v)
+        ≡ length (bits_of left)) }
+    ensures trues { Writes trues.old trues.new trues_offset
+        (map (is_truth true) (zip2 and_truths
+        (truths (bits_of left.entry) (option_map bits_of left_validity.entry))
+        (truths (bits_of right.entry) (option_map bits_of right_validity.entry)))) }
+    ensures valid { Writes valid.old valid.new valid_offset
+        (map is_some (zip2 and_truths
+        (truths (bits_of left.entry) (option_map bits_of left_validity.entry))
+        (truths (bits_of right.entry) (option_map bits_of right_validity.entry)))) }
+{
+    let left = Column::new(left, left_validity);
+    let right = Column::new(right, right_validity);
+    write_combined::<And, Or>(trues, trues_offset, valid, valid_offset, &left, &right);
+}
+
+/// Writes `left or right` of truth values that may be null, by three-valued logic: true where one
+/// of the two is true, even if the other one is null; else null where one is null. Of windows,
+/// lengths, validities and nulls [`and_kleene_into`] says all.
+pub fn or_kleene_into(
+    trues: &mut [u8],
+    trues_offset: usize,
+    valid: &mut [u8],
+    valid_offset: usize,
+    left: BitBufferView<'_>,
+    left_validity: Option<BitBufferView<'_>>,
+    right: BitBufferView<'_>,
+    right_validity: Option<BitBufferView<'_>>,
+)
+    requires trues { InBytes trues.old trues_offset (length (bits_of left)) }
+    requires valid { InBytes valid.old valid_offset (length (bits_of left)) }
+    requires right { length (bits_of right) ≡ length (bits_of left) }
+    requires left_valid { ForSome left_validity (λ v. length (bits_of v) ≡ length (bits_of left)) }
+    requires right_valid { ForSome right_validity (λ v. length (bits_of v)
+        ≡ length (bits_of left)) }
+    ensures trues { Writes trues.old trues.new trues_offset
+        (map (is_truth true) (zip2 or_truths
+        (truths (bits_of left.entry) (option_map bits_of left_validity.entry))
+        (truths (bits_of right.entry) (option_map bits_of right_validity.entry)))) }
+    ensures valid { Writes valid.old valid.new valid_offset
+        (map is_some (zip2 or_truths
+        (truths (bits_of left.entry) (option_map bits_of left_validity.entry))
+        (truths (bits_of right.entry) (option_map bits_of right_validity.entry)))) }
+{
+    let left = Column::new(left, left_validity);
+    let right = Column::new(right, right_validity);
+    write_combined::<Or, And>(trues, trues_offset, valid, valid_offset, &left, &right);
+}
