@@ -88,6 +88,65 @@ static void deposits(const uint8_t *bytes, size_t v, const uint8_t *mask, size_t
     check(memcmp(got[1], wanted, BYTES) == 0, "what stands after a refusal");
 }
 
+/* A row of a column: null is 2. */
+static unsigned truth(const uint8_t *values, size_t v, const uint8_t *validity, size_t w, size_t i)
+{
+    return validity == NULL || bit(validity, w + i) ? bit(values, v + i) : 2u;
+}
+
+/* Three-valued logic, its calls with a validity or null, and what `and` or `or` answers of rows. */
+static const struct {
+    void (*plain)(uint8_t *, size_t, size_t, uint8_t *, size_t, size_t, const uint8_t *, size_t,
+        size_t, bool, const uint8_t *, size_t, size_t, const uint8_t *, size_t, size_t, bool,
+        const uint8_t *, size_t, size_t, size_t);
+    bool (*checked)(uint8_t *, size_t, size_t, uint8_t *, size_t, size_t, const uint8_t *, size_t,
+        size_t, bool, const uint8_t *, size_t, size_t, const uint8_t *, size_t, size_t, bool,
+        const uint8_t *, size_t, size_t, size_t);
+    unsigned table[3][3];
+} logics[] = {
+    {vb_and_kleene, vb_try_and_kleene, {{0, 0, 0}, {0, 1, 2}, {0, 2, 2}}},
+    {vb_or_kleene, vb_try_or_kleene, {{0, 1, 2}, {1, 1, 1}, {2, 1, 2}}},
+};
+
+/* Into windows whose other bits stay; without a validity on a side where it is null. */
+static void three_valued(const uint8_t *left, size_t l, const uint8_t *left_valid,
+    const uint8_t *right, size_t r, const uint8_t *right_valid, size_t len)
+{
+    const size_t sizes[] = {left_valid == NULL ? 0 : BYTES, right_valid == NULL ? 0 : BYTES};
+    const bool all[] = {left_valid == NULL, right_valid == NULL};
+    const size_t t = random_below(BITS - len + 1), v = random_below(BITS - len + 1);
+    for (size_t c = 0; c < sizeof logics / sizeof logics[0]; c++) {
+        uint8_t wanted[2][BYTES], got[2][BYTES], checked[2][BYTES];
+        memset(wanted, 0x3C, sizeof wanted);
+        memset(got, 0x3C, sizeof got);
+        memset(checked, 0x3C, sizeof checked);
+        for (size_t i = 0; i < len; i++) {
+            const unsigned row = logics[c].table[truth(left, l, left_valid, r, i)]
+                [truth(right, r, right_valid, l, i)];
+            put(wanted[0], t + i, row == 1);
+            put(wanted[1], v + i, row != 2);
+        }
+        logics[c].plain(got[0], BYTES, t, got[1], BYTES, v, left, BYTES, l, all[0], left_valid,
+            sizes[0], r, right, BYTES, r, all[1], right_valid, sizes[1], l, len);
+        check(memcmp(got, wanted, sizeof wanted) == 0, "three-valued logic");
+        check(logics[c].checked(checked[0], BYTES, t, checked[1], BYTES, v, left, BYTES, l, all[0],
+                left_valid, sizes[0], r, right, BYTES, r, all[1], right_valid, sizes[1], l, len)
+                && memcmp(checked, wanted, sizeof wanted) == 0, "three-valued logic, checked");
+        const size_t past = BITS + 1 - len;
+        const bool done = logics[c].checked(checked[0], BYTES, past, checked[1], BYTES, v, left,
+                BYTES, l, all[0], left_valid, sizes[0], r, right, BYTES, r, all[1], right_valid,
+                sizes[1], l, len)
+            || logics[c].checked(checked[0], BYTES, t, checked[1], BYTES, past, left, BYTES, l,
+                all[0], left_valid, sizes[0], r, right, BYTES, r, all[1], right_valid, sizes[1], l,
+                len)
+            || logics[c].checked(checked[0], BYTES, t, checked[1], BYTES, v, left, BYTES, l, false,
+                left, BYTES, past, right, BYTES, r, all[1], right_valid, sizes[1], l, len)
+            || logics[c].checked(checked[0], BYTES, t, checked[1], BYTES, v, left, BYTES, l, all[0],
+                left_valid, sizes[0], r, right, BYTES, r, false, right, BYTES, SIZE_MAX, len + 1);
+        check(!done && memcmp(checked, wanted, sizeof wanted) == 0, "a bad window of truth values");
+    }
+}
+
 /* Of bits and of values the ones that a mask keeps, with what stood in memory behind them. */
 static void filters(const uint8_t *bytes, size_t v, const uint8_t *mask, size_t m, size_t len)
 {
@@ -145,6 +204,9 @@ static void filters(const uint8_t *bytes, size_t v, const uint8_t *mask, size_t 
     deposits(bytes, v, mask, m, len, ones);
     combined_counts(bytes, v, mask, m, len);
     relations(bytes, v, mask, m, len);
+    three_valued(bytes, v, mask, mask, m, bytes, len);
+    three_valued(bytes, v, NULL, mask, m, random_below(2) == 0 ? bytes : NULL, len);
+    three_valued(bytes, v, mask, mask, m, NULL, len);
     for (size_t k = 0; k < 2 && ones < BITS; k++) {
         check(u8[k][ones] == 0xA5 && u16[k][ones] == 0xA5A5 && u32[k][ones] == 0xA5A5A5A5u
                 && u64[k][ones] == 0xA5A5A5A5A5A5A5A5u

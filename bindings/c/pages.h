@@ -14,7 +14,7 @@
 #include <string.h>
 #include <sys/mman.h>
 
-enum { PAGE = 4096, ROOM = 2 * PAGE, ARENAS = 4, ROUNDS = 2000, MOST = 500 };
+enum { PAGE = 4096, ROOM = 2 * PAGE, ARENAS = 6, ROUNDS = 2000, MOST = 500 };
 
 static uint64_t state = 88172645463325252u;
 static int failures = 0;

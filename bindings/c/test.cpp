@@ -205,6 +205,26 @@ static void pairs()
     refused([&] { window.deposit_of(right, left); }, "too many bits");
 }
 
+static void truths()
+{
+    // True, true, false and null, with true, false, true and false.
+    const buffer a = {0x18}, a_valid = {0x07}, b = {0x05};
+    const bits left(a, 3, 4), left_valid(a_valid, 0, 4), right(b, 0, 4);
+    buffer out = {0xFF, 0x00}, known = {0xFF};
+    bits_mut trues(out, 6, 4), valid(known, 1, 4);
+    trues.and_kleene_of(left, left_valid, right, std::nullopt, valid);
+    check(out[0] == 0x7F && out[1] == 0x00 && known[0] == 0xFF, "a null and false");
+    trues.or_kleene_of(left, left_valid, right, std::nullopt, valid);
+    check(out[0] == 0xFF && out[1] == 0x01 && known[0] == 0xEF, "a null or false");
+    trues.or_kleene_of(right, std::nullopt, left, std::nullopt, valid);
+    check(out[0] == 0xFF && out[1] == 0x01 && known[0] == 0xFF, "no validity");
+    const auto three = bits(b, 0, 3);
+    refused([&] { trues.and_kleene_of(left, three, right, std::nullopt, valid); }, "a validity");
+    refused([&] { trues.or_kleene_of(left, left_valid, three, std::nullopt, valid); }, "a side");
+    refused([&] { trues.or_kleene_of(left, left_valid, right, left_valid, bits_mut(known, 0, 3)); },
+        "where the validity goes");
+}
+
 static void joins()
 {
     const buffer some = {0xB6, 0x01}, others = {0x1E, 0x00};
@@ -416,6 +436,7 @@ int main()
     takes();
     filters();
     pairs();
+    truths();
     joins();
     nearest();
     comparisons();

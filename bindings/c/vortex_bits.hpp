@@ -420,6 +420,17 @@ public:
     template <class Indices>
     std::optional<std::size_t> take_of(bits values, const Indices &indices, bits valid);
 
+    /*
+     * Which are true of `left and right`, or of `left or right`, truth values that may be null, by
+     * three-valued logic: `and` is false where one is false and `or` true where one is true, even
+     * if the other one is null; else the answer is null where one is, and false stands here.
+     * `valid` says which answers are not null. A side without a validity has no null.
+     */
+    void and_kleene_of(bits left, std::optional<bits> left_valid, bits right,
+        std::optional<bits> right_valid, bits_mut valid);
+    void or_kleene_of(bits left, std::optional<bits> left_valid, bits right,
+        std::optional<bits> right_valid, bits_mut valid);
+
     /* As many bools, of which std::vector<bool> has none; and bytes, true where they are not 0. */
     template <class Bools> void copy_from_bools(const Bools &bools);
     template <class Bytes> void copy_from_truthy(const Bytes &truthy);
@@ -443,6 +454,10 @@ private:
         call(bytes_, size_, offset_, left.bytes_, left.size_, left.offset_, right.bytes_,
             right.size_, right.offset_, len_);
     }
+
+    template <class Call>
+    void by_columns(Call call, bits left, std::optional<bits> left_valid, bits right,
+        std::optional<bits> right_valid, bits_mut valid);
 
     std::uint8_t *bytes_;
     std::size_t size_;

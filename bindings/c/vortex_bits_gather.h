@@ -1,7 +1,7 @@
 /*
  * Bits that are put together of others: truth values packed, bits at indices, those that a mask
- * keeps and those that go back to where it kept them. vortex_bits.h includes this file, and its
- * head says what the caller owes of every call.
+ * keeps and those that go back to where it kept them, and `and` and `or` of truth values that may
+ * be null. vortex_bits.h includes this file, and its head says what the caller owes of every call.
  *
  * Calls that end in _at write to any window of `out`, and leave every other bit of it: so what
  * batches give is joined as it is made. The others write the first bits.
@@ -194,6 +194,58 @@ void vb_deposit_bits(uint8_t *out, size_t out_size, size_t out_offset, const uin
 VB_CHECKED bool vb_try_deposit_bits(uint8_t *out, size_t out_size, size_t out_offset,
         const uint8_t *values, size_t values_size, size_t values_offset, const uint8_t *mask,
         size_t mask_size, size_t mask_offset, size_t len);
+
+/*
+ * Writes `left and right`, or `left or right`, of `len` truth values that may be null, by
+ * three-valued logic, Kleene's, as in SQL: `and` is false where one of the two is false and `or` is
+ * true where one is true, even if the other one is null; else the answer is null where one is.
+ * Which are true goes to the bits of `trues` from bit `trues_offset` on, with false at nulls, and
+ * which are not null to those of `valid` from bit `valid_offset` on. Every other bit of both stays.
+ *
+ * The values are the bits of `left` from bit `left_offset` on, and of `right` from `right_offset`
+ * on. Where `left_all_valid` is true, none of `left` is null, and its validity may be null, of no
+ * bytes; else a value is null if the bit of `left_validity` from bit `left_validity_offset` on is
+ * false there, whatever the value is. So on the right. `not` needs no call of its own: it is
+ * vb_negate_bits of the values, and the same validity.
+ *
+ *     // True, true, false and null, with true, false, true and false.
+ *     uint8_t trues[] = {0}, valid[] = {0};
+ *     const uint8_t left[] = {0x03}, left_valid[] = {0x07}, right[] = {0x05};
+ *     vb_and_kleene(trues, 1, 0, valid, 1, 0, left, 1, 0, false, left_valid, 1, 0, right, 1, 0,
+ *         true, NULL, 0, 0, 4);
+ *     assert(trues[0] == 0x01 && valid[0] == 0x0F);
+ *     vb_or_kleene(trues, 1, 0, valid, 1, 0, left, 1, 0, false, left_valid, 1, 0, right, 1, 0,
+ *         true, NULL, 0, 0, 4);
+ *     assert(trues[0] == 0x07 && valid[0] == 0x07);
+ */
+void vb_and_kleene(uint8_t *trues, size_t trues_size, size_t trues_offset, uint8_t *valid,
+        size_t valid_size, size_t valid_offset, const uint8_t *left, size_t left_size,
+        size_t left_offset, bool left_all_valid, const uint8_t *left_validity,
+        size_t left_validity_size, size_t left_validity_offset, const uint8_t *right,
+        size_t right_size, size_t right_offset, bool right_all_valid,
+        const uint8_t *right_validity, size_t right_validity_size, size_t right_validity_offset,
+        size_t len);
+VB_CHECKED bool vb_try_and_kleene(uint8_t *trues, size_t trues_size, size_t trues_offset, uint8_t *valid,
+        size_t valid_size, size_t valid_offset, const uint8_t *left, size_t left_size,
+        size_t left_offset, bool left_all_valid, const uint8_t *left_validity,
+        size_t left_validity_size, size_t left_validity_offset, const uint8_t *right,
+        size_t right_size, size_t right_offset, bool right_all_valid,
+        const uint8_t *right_validity, size_t right_validity_size, size_t right_validity_offset,
+        size_t len);
+void vb_or_kleene(uint8_t *trues, size_t trues_size, size_t trues_offset, uint8_t *valid,
+        size_t valid_size, size_t valid_offset, const uint8_t *left, size_t left_size,
+        size_t left_offset, bool left_all_valid, const uint8_t *left_validity,
+        size_t left_validity_size, size_t left_validity_offset, const uint8_t *right,
+        size_t right_size, size_t right_offset, bool right_all_valid,
+        const uint8_t *right_validity, size_t right_validity_size, size_t right_validity_offset,
+        size_t len);
+VB_CHECKED bool vb_try_or_kleene(uint8_t *trues, size_t trues_size, size_t trues_offset, uint8_t *valid,
+        size_t valid_size, size_t valid_offset, const uint8_t *left, size_t left_size,
+        size_t left_offset, bool left_all_valid, const uint8_t *left_validity,
+        size_t left_validity_size, size_t left_validity_offset, const uint8_t *right,
+        size_t right_size, size_t right_offset, bool right_all_valid,
+        const uint8_t *right_validity, size_t right_validity_size, size_t right_validity_offset,
+        size_t len);
 
 #ifdef __cplusplus
 }

@@ -1,6 +1,7 @@
 /*
  * Bits that are put together of others, for vortex_bits.hpp, which includes this file: truth values
- * packed, bits at indices, those that a mask keeps, and those that go back to where it kept them.
+ * packed, bits at indices, those that a mask keeps, those that go back to where it kept them, and
+ * `and` and `or` of truth values that may be null.
  *
  *     std::array<bool, 3> flags = {true, false, true};
  *     std::vector<std::uint8_t> packed(1);
@@ -111,6 +112,32 @@ inline void bits_mut::deposit_of(bits values, bits mask)
     detail::expect(mask.count_ones() == values.len_, "not a bit for each that the mask keeps");
     vb_deposit_bits(bytes_, size_, offset_, values.bytes_, values.size_, values.offset_,
         mask.bytes_, mask.size_, mask.offset_, len_);
+}
+
+template <class Call>
+void bits_mut::by_columns(Call call, bits left, std::optional<bits> left_valid, bits right,
+    std::optional<bits> right_valid, bits_mut valid)
+{
+    detail::expect(left.len_ == len_ && right.len_ == len_ && valid.len_ == len_
+            && (!left_valid || left_valid->len_ == len_)
+            && (!right_valid || right_valid->len_ == len_),
+        "windows are of two lengths");
+    const bits one = left_valid.value_or(bits()), other = right_valid.value_or(bits());
+    call(bytes_, size_, offset_, valid.bytes_, valid.size_, valid.offset_, left.bytes_, left.size_,
+        left.offset_, !left_valid, one.bytes_, one.size_, one.offset_, right.bytes_, right.size_,
+        right.offset_, !right_valid, other.bytes_, other.size_, other.offset_, len_);
+}
+
+inline void bits_mut::and_kleene_of(bits left, std::optional<bits> left_valid, bits right,
+    std::optional<bits> right_valid, bits_mut valid)
+{
+    by_columns(vb_and_kleene, left, left_valid, right, right_valid, valid);
+}
+
+inline void bits_mut::or_kleene_of(bits left, std::optional<bits> left_valid, bits right,
+    std::optional<bits> right_valid, bits_mut valid)
+{
+    by_columns(vb_or_kleene, left, left_valid, right, right_valid, valid);
 }
 
 template <class Bools> void bits_mut::copy_from_bools(const Bools &bools)

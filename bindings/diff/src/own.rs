@@ -1,10 +1,10 @@
 //! Bitmaps with their bytes, counts of two windows, walks over false bits, validity that may be
 //! missing, and three-valued logic.
 
-use vortex_bits::{Bitmap, Bits, Validity, values};
+use vortex_bits::{Bitmap, Bits, BitsMut, Validity, values};
 
 use crate::ask::same;
-use crate::case::Case;
+use crate::case::{Case, put};
 use crate::plain;
 use crate::random::Random;
 
@@ -235,6 +235,23 @@ fn kleene(case: &Case, random: &mut Random, left: &[bool], right: &[bool]) -> Re
         calls += lists(name, list(&trues), wanted)?
             + same(name, valid.is_some(), known.contains(&false))?
             + lists(name, filled(valid, len), known)?;
+    }
+    let (offsets, size) = ([case.r, case.l], (case.l.max(case.r) + len).div_ceil(8) + 2);
+    for decides in [false, true] {
+        let beside: Vec<u8> = case.right.iter().copied().cycle().take(size).collect();
+        let (mut made, mut rows) = ([beside.clone(), beside.clone()], [beside.clone(), beside]);
+        for ((bytes, at), row) in rows.iter_mut().zip(offsets).zip(wanted(decides)) {
+            (0..len).for_each(|i| put(bytes, at + i, row[i]));
+        }
+        let [trues, valid] = &mut made;
+        let trues = BitsMut::new(trues, offsets[0], len);
+        let valid = BitsMut::new(valid, offsets[1], len);
+        if decides {
+            values::or_kleene_into(a, a_valid, b, b_valid, trues, valid);
+        } else {
+            values::and_kleene_into(a, a_valid, b, b_valid, trues, valid);
+        }
+        calls += same("and_kleene_into, or_kleene_into", made, rows)?;
     }
     Ok(calls)
 }

@@ -6,12 +6,14 @@ mod call;
 mod compare;
 mod filter;
 mod gather;
+mod kleene;
 mod values;
 mod walk;
 
 pub use compare::{compare, compare_with};
 pub use filter::{filter, keep};
 pub use gather::{pack_bools, pack_truthy, take};
+pub use kleene::{Column, Logic, combine_truths};
 pub use values::take_values;
 pub use walk::{set_indices, set_slices};
 

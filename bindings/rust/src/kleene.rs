@@ -1,6 +1,74 @@
 //! Truth values that may be null, combined as SQL does.
 
-use crate::{Bitmap, Bits, Mask, Validity};
+use crate::bits_mut::alike;
+use crate::kernels::{self, Column, Logic};
+use crate::mask::sealed::Mask as _;
+use crate::{Bits, BitsMut, Mask};
+
+#[cfg(feature = "alloc")]
+use crate::Bitmap;
+
+/// Writes `a and b` of truth values that may be null, by three-valued logic, Kleene's, as in SQL:
+/// false where one of the two is false, also where the other one is null; else null where one is
+/// null. `a_valid` and `b_valid` say which aren't null; None stands for all.
+///
+/// Which are true goes to `trues`, with false where the answer is null, and which are valid to
+/// `valid`. What `a` and `b` have at nulls counts for nothing.
+///
+/// ```
+/// use vortex_bits::{Bits, BitsMut, values};
+///
+/// // True, true, false and null, with true, false, true and false.
+/// let (a, a_valid, b) = (Bits::new(&[0b0011], 0, 4), Bits::new(&[0b0111], 0, 4), [0b0101]);
+/// let (b, mut trues, mut valid) = (Bits::new(&b, 0, 4), [0], [0]);
+/// let into = (BitsMut::new(&mut trues, 0, 4), BitsMut::new(&mut valid, 2, 4));
+/// values::and_kleene_into(a, a_valid, b, None::<Bits>, into.0, into.1);
+/// assert_eq!((trues, valid), ([0b0001], [0b11_1100]));
+/// ```
+///
+/// # Panics
+///
+/// Where the windows and masks aren't of one length.
+#[track_caller]
+pub fn and_kleene_into(
+    a: Bits<'_>,
+    a_valid: impl Mask,
+    b: Bits<'_>,
+    b_valid: impl Mask,
+    trues: BitsMut<'_>,
+    valid: BitsMut<'_>,
+) {
+    combine_into(columns(a, &a_valid, b, &b_valid), Logic::And, trues, valid);
+}
+
+/// Writes `a or b` of truth values that may be null, by three-valued logic: true where one of the
+/// two is true, also where the other one is null; else null where one is null. The rest is as of
+/// [`and_kleene_into`].
+///
+/// ```
+/// use vortex_bits::{Bits, BitsMut, values};
+///
+/// let (a, a_valid, b) = (Bits::new(&[0b0011], 0, 4), Bits::new(&[0b0111], 0, 4), [0b0101]);
+/// let (b, mut trues, mut valid) = (Bits::new(&b, 0, 4), [0], [0]);
+/// let into = (BitsMut::new(&mut trues, 0, 4), BitsMut::new(&mut valid, 0, 4));
+/// values::or_kleene_into(a, a_valid, b, None::<Bits>, into.0, into.1);
+/// assert_eq!((trues, valid), ([0b0111], [0b0111]));
+/// ```
+///
+/// # Panics
+///
+/// Where the windows and masks aren't of one length.
+#[track_caller]
+pub fn or_kleene_into(
+    a: Bits<'_>,
+    a_valid: impl Mask,
+    b: Bits<'_>,
+    b_valid: impl Mask,
+    trues: BitsMut<'_>,
+    valid: BitsMut<'_>,
+) {
+    combine_into(columns(a, &a_valid, b, &b_valid), Logic::Or, trues, valid);
+}
 
 /// `a and b` of truth values that may be null, by three-valued logic, Kleene's, as in SQL: false
 /// where one of the two is false, also where the other one is null; else null where one is null.
@@ -26,6 +94,7 @@ use crate::{Bitmap, Bits, Mask, Validity};
 /// # Panics
 ///
 /// Where the windows and masks aren't of one length.
+#[cfg(feature = "alloc")]
 #[must_use]
 #[track_caller]
 pub fn and_kleene(
@@ -34,16 +103,10 @@ pub fn and_kleene(
     b: Bits<'_>,
     b_valid: impl Mask,
 ) -> (Bitmap, Option<Bitmap>) {
-    let (a_valid, b_valid) = (valid_of(a, &a_valid), valid_of(b, &b_valid));
-    let Some(mut valid) = a_valid.and(b_valid) else {
-        return (a & b, None);
-    };
-    let mut falses = falses_of(a, a_valid);
-    falses |= falses_of(b, b_valid);
-    valid |= &falses;
-    // What is valid and isn't false, since all that is false is valid.
-    let trues = falses ^ &valid;
-    (trues, unless_all(valid))
+    match columns(a, &a_valid, b, &b_valid) {
+        [(a, None), (b, None)] => (a & b, None),
+        [a, b] => combined(a, b, Logic::And),
+    }
 }
 
 /// `a or b` of truth values that may be null, by three-valued logic: true where one of the two is
@@ -67,6 +130,7 @@ pub fn and_kleene(
 /// # Panics
 ///
 /// Where the windows and masks aren't of one length.
+#[cfg(feature = "alloc")]
 #[must_use]
 #[track_caller]
 pub fn or_kleene(
@@ -75,30 +139,43 @@ pub fn or_kleene(
     b: Bits<'_>,
     b_valid: impl Mask,
 ) -> (Bitmap, Option<Bitmap>) {
-    let (a_valid, b_valid) = (valid_of(a, &a_valid), valid_of(b, &b_valid));
-    let Some(mut valid) = a_valid.and(b_valid) else {
-        return (a | b, None);
-    };
-    let mut trues = a & a_valid;
-    trues |= b & b_valid;
-    valid |= &trues;
-    (trues, unless_all(valid))
-}
-
-#[track_caller]
-fn valid_of<'a>(bits: Bits<'_>, valid: &'a impl Mask) -> Validity<'a> {
-    Validity::new(valid.of_len(bits.len()), bits.len())
-}
-
-/// Which are valid and false.
-fn falses_of(bits: Bits<'_>, valid: Validity<'_>) -> Bitmap {
-    match valid.bits() {
-        Some(valid) => valid.and_not(bits),
-        None => !bits,
+    match columns(a, &a_valid, b, &b_valid) {
+        [(a, None), (b, None)] => (a | b, None),
+        [a, b] => combined(a, b, Logic::Or),
     }
 }
 
-/// None where all are true.
-fn unless_all(valid: Bitmap) -> Option<Bitmap> {
-    (!valid.all()).then_some(valid)
+/// Two columns, which are as long.
+#[track_caller]
+fn columns<'a>(
+    a: Bits<'a>,
+    a_valid: &'a impl Mask,
+    b: Bits<'a>,
+    b_valid: &'a impl Mask,
+) -> [Column<'a>; 2] {
+    let (a_valid, b_valid) = (a_valid.of_len(a.len()), b_valid.of_len(b.len()));
+    b.of_len(a.len());
+    [(a, a_valid), (b, b_valid)]
+}
+
+#[track_caller]
+fn combine_into(
+    [a, b]: [Column<'_>; 2],
+    logic: Logic,
+    mut trues: BitsMut<'_>,
+    mut valid: BitsMut<'_>,
+) {
+    alike(trues.len(), a.0.len());
+    alike(valid.len(), a.0.len());
+    kernels::combine_truths(&mut trues, &mut valid, a, b, logic);
+}
+
+/// Which are true, and which are valid, of columns that are as long.
+#[cfg(feature = "alloc")]
+fn combined(a: Column<'_>, b: Column<'_>, logic: Logic) -> (Bitmap, Option<Bitmap>) {
+    let mut valid = Bitmap::new_unset(a.0.len());
+    let trues = Bitmap::make(a.0.len(), |trues| {
+        combine_into([a, b], logic, trues, valid.bits_mut());
+    });
+    (trues, (!valid.all()).then_some(valid))
 }

@@ -81,7 +81,6 @@ mod error;
 mod filter;
 pub mod iter;
 mod kernels;
-#[cfg(feature = "alloc")]
 mod kleene;
 mod level;
 mod looks;

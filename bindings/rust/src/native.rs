@@ -210,6 +210,18 @@ kernels! {
     deposit_bits(out: *mut u8, out_size: usize, out_offset: usize, values: *const u8,
         values_size: usize, values_offset: usize, mask: *const u8, mask_size: usize,
         mask_offset: usize, len: usize);
+    and_kleene(trues: *mut u8, trues_size: usize, trues_offset: usize, valid: *mut u8,
+        valid_size: usize, valid_offset: usize, left: *const u8, left_size: usize,
+        left_offset: usize, left_all_valid: bool, left_validity: *const u8,
+        left_validity_size: usize, left_validity_offset: usize, right: *const u8, right_size: usize,
+        right_offset: usize, right_all_valid: bool, right_validity: *const u8,
+        right_validity_size: usize, right_validity_offset: usize, len: usize);
+    or_kleene(trues: *mut u8, trues_size: usize, trues_offset: usize, valid: *mut u8,
+        valid_size: usize, valid_offset: usize, left: *const u8, left_size: usize,
+        left_offset: usize, left_all_valid: bool, left_validity: *const u8,
+        left_validity_size: usize, left_validity_offset: usize, right: *const u8, right_size: usize,
+        right_offset: usize, right_all_valid: bool, right_validity: *const u8,
+        right_validity_size: usize, right_validity_offset: usize, len: usize);
     block_counts(bytes: *const u8, size: usize, offset: usize, len: usize, table: *mut usize,
         room: usize) -> usize;
     rank(bytes: *const u8, size: usize, offset: usize, len: usize, table: *const usize,

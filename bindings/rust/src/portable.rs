@@ -5,6 +5,7 @@
 mod compare;
 mod count;
 mod filter;
+mod kleene;
 mod rank;
 mod take;
 mod walk;
@@ -14,6 +15,7 @@ mod write;
 pub use compare::*;
 pub use count::*;
 pub use filter::*;
+pub use kleene::*;
 pub use rank::*;
 pub use take::*;
 pub use walk::*;

@@ -27,6 +27,7 @@ pub use crate::compare::{compare_into, compare_with_into};
 pub use crate::filter::{filter, filter_onto};
 #[cfg(feature = "alloc")]
 pub use crate::kleene::{and_kleene, or_kleene};
+pub use crate::kleene::{and_kleene_into, or_kleene_into};
 
 use crate::error::{TakeValuesError, expect};
 use crate::{BitIndex, Bits, Mask, Value, kernels};

@@ -1,5 +1,5 @@
 //! Three-valued logic, beside a loop over the nine cases.
-use vortex_bits::{Bitmap, Bits, Validity, values};
+use vortex_bits::{Bitmap, Bits, BitsMut, Validity, values};
 
 /// A truth value; None is null.
 type Truth = Option<bool>;
@@ -64,6 +64,43 @@ fn compare(a: &[Truth], b: &[Truth], offsets: [usize; 2]) {
             by(and)
         );
         assert_eq!(truths(values::or_kleene(x, &x_valid, y, &y_valid)), by(or));
+        written(&by(and), offsets, |trues, valid| {
+            values::and_kleene_into(x, &x_valid, y, &y_valid, trues, valid);
+        });
+        written(&by(or), offsets, |trues, valid| {
+            values::or_kleene_into(x, &x_valid, y, &y_valid, trues, valid);
+        });
+    }
+}
+
+/// Windows from any bit on have what is wanted, and the bits beside them stay.
+#[track_caller]
+fn written(wanted: &[Truth], offsets: [usize; 2], write: impl Fn(BitsMut<'_>, BitsMut<'_>)) {
+    let len = wanted.len();
+    for beside in [0x00, 0xFF] {
+        let [mut trues, mut valid] = offsets.map(|at| vec![beside; (at + len).div_ceil(8) + 1]);
+        write(
+            BitsMut::new(&mut trues, offsets[0], len),
+            BitsMut::new(&mut valid, offsets[1], len),
+        );
+        let bit = |bytes: &[u8], at: usize| bytes[at / 8] >> (at % 8) & 1 == 1;
+        for (bytes, offset, is_valid) in [(&trues, offsets[0], false), (&valid, offsets[1], true)] {
+            for at in 0..8 * bytes.len() {
+                let value = at.checked_sub(offset).and_then(|row| wanted.get(row));
+                let here = value.map(|it| {
+                    if is_valid {
+                        it.is_some()
+                    } else {
+                        *it == Some(true)
+                    }
+                });
+                assert_eq!(
+                    bit(bytes, at),
+                    here.unwrap_or(beside == 0xFF),
+                    "bit {at} of {len}"
+                );
+            }
+        }
     }
 }
 
@@ -114,4 +151,15 @@ fn a_validity_of_another_length_is_refused() {
 fn two_lengths_are_refused() {
     let eight = Bits::new(&[0], 0, 8);
     let _ = values::or_kleene(eight, None::<Bits>, eight.slice(1..), None::<Bits>);
+}
+
+#[test]
+#[should_panic(expected = "7 bits to write and 8 to read")]
+fn a_window_of_another_length_is_refused() {
+    let (eight, mut trues, mut valid) = (Bits::new(&[0], 0, 8), [0], [0]);
+    let (trues, valid) = (
+        BitsMut::new(&mut trues, 0, 8),
+        BitsMut::new(&mut valid, 1, 7),
+    );
+    values::and_kleene_into(eight, None::<Bits>, eight, None::<Bits>, trues, valid);
 }

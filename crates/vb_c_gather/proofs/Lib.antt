@@ -1,2 +1,3 @@
+mod ColumnLemmas
 mod KeptBlocks
 mod TakenBlocks

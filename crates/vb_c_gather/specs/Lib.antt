@@ -1,3 +1,4 @@
+pub mod Columns
 pub mod Deposited
 pub mod Filtered
 pub mod Packed
@@ -7,6 +8,8 @@ pub use Rattle.vb_bits.specs.InBytes
 pub use Rattle.vb_bits.specs.Kept
 pub use Rattle.vb_bits.specs.Writes
 pub use Rattle.vb_c_core.specs.Fits
+pub use Rattle.vb_c_core.specs.Validity
 pub use Rattle.vb_filter.specs.Spread
+pub use Rattle.vb_kleene.specs.Kleene
 pub use Rattle.vb_pack.specs.WordBits
 pub use Rattle.vb_take.specs.Takes

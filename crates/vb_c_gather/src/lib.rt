@@ -1,5 +1,6 @@
 //! Bits that are put together of others, as C functions: those that a mask keeps, those at indices,
-//! those that go back to where a mask kept them, and truth values that are packed.
+//! those that go back to where a mask kept them, truth values that are packed, and such that may be
+//! null, combined.
 //!
 //! What a C caller owes is as in `vb_c`: a slice crosses as a pointer and the number of its items,
 //! and each function has the clauses of the kernel that it calls. Those that end in `_at` write
@@ -12,6 +13,7 @@ mod block;
 pub mod deposit;
 pub mod filter;
 pub mod filter_at;
+pub mod kleene;
 pub mod pack;
 pub mod pack_at;
 pub mod take;

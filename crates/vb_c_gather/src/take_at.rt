@@ -268,7 +268,7 @@ fn take_at<I: BitIndex>(
 }
 
 /// The validity of `n` positions from `start` on, where it counts.
-fn valid_part(
+pub(crate) fn valid_part(
     all_valid: bool,
     validity: &[u8],
     v: usize,

@@ -1,13 +1,14 @@
+pub mod Columns
 pub mod Compared
 pub mod Deposited
 pub mod Filtered
-pub mod Kleene
 pub mod TakenBits
 pub mod TakenItems
 pub use Rattle.vb_bit_buffer.specs.SharedSet
 pub use Rattle.vb_bits.specs.Kept
 pub use Rattle.vb_compare.specs.Compares
 pub use Rattle.vb_filter.specs.Spread
+pub use Rattle.vb_kleene.specs.Kleene
 pub use Rattle.vb_mem.specs.SharedBuffer
 pub use Rattle.vb_take.specs.ItemsTaken
 pub use Rattle.vb_take.specs.Takes

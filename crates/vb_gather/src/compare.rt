@@ -105,7 +105,7 @@ fn write_compared_with<T: CompareLanes>(
 }
 
 /// Makes those of the first `len` bits false that are false in a validity of as many.
-pub(crate) fn clear_nulls(out: &mut [u8], len: usize, validity: Option<BitBufferView<'_>>)
+fn clear_nulls(out: &mut [u8], len: usize, validity: Option<BitBufferView<'_>>)
     requires room { len ≤ 8 * length out.old }
     requires validity { ForSome validity (λ v. length (bits_of v) ≡ len) }
     ensures { Shows len (where_valid (option_map bits_of validity.entry) (bits out.old 0 len))

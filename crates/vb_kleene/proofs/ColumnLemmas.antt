@@ -4,15 +4,14 @@ use Rattle.std.proofs.Common.{Option, Some, None, sym, ap, ◌∙◌}
 use Rattle.std.specs.Option.{option_map}
 use Rattle.std.specs.Prelude.{slice_range}
 use Rattle.std.proofs.lemmas.List.{length-map}
-use Rattle.std.proofs.lemmas.Simd.{length-zip2}
 use Rattle.vb_bits.specs.Bits.{complement}
 use Rattle.vb_bits.specs.Operators.{merged_by}
 use Rattle.vb_bits.proofs.OperatorsLemmas.{length-merged_by}
 use Rattle.vb_kleene.specs.Combined.{column, trues_by, valid_by}
-use Rattle.vb_kleene.specs.Kleene.{truth, truths, validity_of, is_truth}
+use Rattle.vb_kleene.specs.Kleene.{truths, is_truth}
 use Rattle.vb_kleene.specs.declared.column.Column.{Column}
 use Rattle.vb_kleene.proofs.KleeneLemmas.{where_true, where_false, all_true, all_false}
-use Rattle.vb_kleene.proofs.KleeneLemmas.{long_validity}
+use Rattle.vb_kleene.proofs.KleeneLemmas.{length-truths}
 use Rattle.vb_kleene.proofs.PartLemmas.{both_parts, part_negated}
 use Rattle.vb_view.specs.View.{bits_of}
 use Rattle.vb_view.specs.declared.view.BitBufferView.{BitBufferView}
@@ -57,10 +56,7 @@ module _ (l : List Bool) (v : Option (List Bool)) (x : List Bool) (a b : ℕ) wh
 
 -- ---- lengths
 pub length-column : (c : Column) → length (column c) ≡ length (bits_of c.values)
-length-column c =
-    length-zip2 truth (bits_of c.values)
-    (validity_of (length (bits_of c.values)) (option_map bits_of c.validity))
-    (sym (long_validity bits_of c.validity (length (bits_of c.values)) c.one_each))
+length-column c = length-truths bits_of (bits_of c.values) c.validity c.one_each
 
 length-where : (which : Bool) (c : Column)
     → length (map (is_truth which) (column c)) ≡ length (bits_of c.values)

@@ -1,14 +1,16 @@
 -- Truth values that may be null: what is true, false and valid of them, and of what they are
 -- combined to.
 use Rattle.std.proofs.Common.{◌≡◌, ℕ, Bool, true, false, not, ◌&&◌, ◌||◌, List, [], ◌∷◌, length}
-use Rattle.std.proofs.Common.{map, replicate, Option, Some, None, is_some, refl, ap, ◌∙◌}
+use Rattle.std.proofs.Common.{map, replicate, Option, Some, None, is_some, refl, sym, ap, ◌∙◌}
+use Rattle.std.proofs.Common.{arith, true≢false}
 use Rattle.std.specs.Option.{ForSome, option_map}
 use Rattle.std.specs.Simd.Lanes.{zip2}
 use Rattle.std.proofs.lemmas.List.{length-replicate}
+use Rattle.std.proofs.lemmas.Simd.{length-zip2}
 use Rattle.vb_bits.specs.Bits.{complement}
 use Rattle.vb_bits.specs.Operators.{merged_by}
 use Rattle.vb_kleene.specs.Combined.{trues_by, valid_by}
-use Rattle.vb_kleene.specs.Kleene.{and_truths, or_truths, truth, validity_of, is_truth}
+use Rattle.vb_kleene.specs.Kleene.{and_truths, or_truths, truth, truths, validity_of, is_truth}
 
 -- ---- columns
 -- which are valid and true
@@ -43,10 +45,17 @@ all_false [] = refl
 all_false (x ∷ values) = ap (λ l. not x ∷ l) (all_false values)
 
 -- a validity is as long as its values
-pub long_validity : {X : Type 0} (f : X → List Bool) (o : Option X) (n : ℕ)
+long_validity : {X : Type 0} (f : X → List Bool) (o : Option X) (n : ℕ)
     → ForSome o (λ x. length (f x) ≡ n) → length (validity_of n (option_map f o)) ≡ n
 long_validity f None n h = length-replicate n true
 long_validity f (Some x) n h = h x refl
+
+-- and there are as many truth values
+pub length-truths : {X : Type 0} (f : X → List Bool) (l : List Bool) (v : Option X)
+    → ForSome v (λ x. length (f x) ≡ length l) → length (truths l (option_map f v)) ≡ length l
+length-truths f l v h =
+    length-zip2 truth l (validity_of (length l) (option_map f v))
+    (sym (long_validity f v (length l) h))
 
 -- ---- `and` and `or`
 pub and_true : (l r : List (Option Bool))
@@ -124,3 +133,37 @@ or_valid (a ∷ l) (b ∷ r) =
     one (Some false) None = refl
     one (Some false) (Some true) = refl
     one (Some false) (Some false) = refl
+
+-- ---- where none is null
+-- there is no validity
+pub none_is : {X : Type 0} (v : Option X) → is_some v ≡ false → v ≡ None
+none_is None e = refl
+none_is (Some x) e = absurd (true≢false e)
+
+pub and_known : (l r : List Bool) → merged_by (λ a b. a && b) l r
+    ≡ map (is_truth true) (zip2 and_truths (truths l None) (truths r None))
+and_known l r =
+    ap (λ k. merged_by (λ a b. a && b) k r) (all_true l)
+    ∙ ap (merged_by (λ a b. a && b) (map (is_truth true) (truths l None))) (all_true r)
+    ∙ and_true (truths l None) (truths r None)
+
+pub or_known : (l r : List Bool) → merged_by (λ a b. a || b) l r
+    ≡ map (is_truth true) (zip2 or_truths (truths l None) (truths r None))
+or_known l r =
+    ap (λ k. merged_by (λ a b. a || b) k r) (all_true l)
+    ∙ ap (merged_by (λ a b. a || b) (map (is_truth true) (truths l None))) (all_true r)
+    ∙ or_true (truths l None) (truths r None)
+
+pub and_all_valid : (l r : List Bool) → length r ≡ length l → replicate (length l) true
+    ≡ map is_some (zip2 and_truths (truths l None) (truths r None))
+and_all_valid [] r e = refl
+and_all_valid (x ∷ l) [] e = absurd (omega arith)
+and_all_valid (true ∷ l) (y ∷ r) e = ap (λ k. true ∷ k) (and_all_valid l r (omega arith))
+and_all_valid (false ∷ l) (y ∷ r) e = ap (λ k. true ∷ k) (and_all_valid l r (omega arith))
+
+pub or_all_valid : (l r : List Bool) → length r ≡ length l → replicate (length l) true
+    ≡ map is_some (zip2 or_truths (truths l None) (truths r None))
+or_all_valid [] r e = refl
+or_all_valid (x ∷ l) [] e = absurd (omega arith)
+or_all_valid (true ∷ l) (y ∷ r) e = ap (λ k. true ∷ k) (or_all_valid l r (omega arith))
+or_all_valid (false ∷ l) (y ∷ r) e = ap (λ k. true ∷ k) (or_all_valid l r (omega arith))

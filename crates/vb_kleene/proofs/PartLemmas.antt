@@ -1,5 +1,6 @@
 -- Parts of lists that are combined place by place, and writes of one part after another.
-use Rattle.std.proofs.Common.{◌≡◌, ℕ, zero, suc, ◌+◌, ◌-◌, ◌≤◌, Bool, not, List, [], ◌∷◌, ◌++◌}
+use Rattle.std.proofs.Common.{◌≡◌, ℕ, zero, suc, ◌+◌, ◌-◌, ◌<◌, ◌≤◌, ◌⊎◌, Bool, not, List}
+use Rattle.std.proofs.Common.{[], ◌∷◌, ◌++◌}
 use Rattle.std.proofs.Common.{length, take, drop, refl, sym, ap, subst, ◌∙◌, arith}
 use Rattle.std.specs.Prelude.{slice_range}
 use Rattle.std.proofs.lemmas.List.{take-map, drop-map, drop-drop, length-take-le}
@@ -84,3 +85,12 @@ length-part l a w inside =
     let size : a + w - a ≡ w = omega arith in
     ap (λ n. length (take n (drop a l))) size
     ∙ length-take-le w (drop a l) (omega (arith, length-drop a l))
+
+-- one list written over another one
+pub Writes-over : (b c d : List ℕ) (o : ℕ) (l m : List Bool) → length l ≡ length m
+    → Writes b c o l → Writes c d o m → Writes b d o m
+Writes-over b c d o l m e one two = record {
+  same_len = two.same_len ∙ one.same_len;
+  window = two.window;
+  others = λ i h. two.others i h ∙ one.others i (subst (λ n. (i < o) ⊎ (o + n ≤ i)) (sym e) h);
+}

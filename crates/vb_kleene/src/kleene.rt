@@ -8,8 +8,9 @@ ghost use Rattle.vb_kleene.specs.View.{bits_of};
 ghost use Rattle.vb_kleene.specs.Writes.{Writes};
 
 use crate::column::Column;
+use crate::known::write_known;
 use crate::write::write_combined;
-use vb_bits::{And, Or};
+use vb_bits::{And, BitOp, Or};
 use vb_view::BitBufferView;
 
 /// Writes `left and right` of truth values that may be null, by three-valued logic, Kleene's, as in
@@ -23,8 +24,8 @@ use vb_view::BitBufferView;
 /// null of the answer the bit of `trues` is false.
 ///
 /// It goes over the bits once, by four words at a time, whatever the offsets are. Where a window
-/// that is written doesn't begin with a byte, each four words are shifted into it by one more pass
-/// over them.
+/// that is written doesn't begin with a byte, what is made is copied into it, by blocks. Without
+/// validities the values alone are combined.
 pub fn and_kleene_into(
     trues: &mut [u8],
     trues_offset: usize,
@@ -50,6 +51,18 @@ pub fn and_kleene_into(
         (truths (bits_of left.entry) (option_map bits_of left_validity.entry))
         (truths (bits_of right.entry) (option_map bits_of right_validity.entry)))) }
 {
+    if left_validity.is_none() && right_validity.is_none() {
+        write_known(
+            trues,
+            trues_offset,
+            valid,
+            valid_offset,
+            left,
+            right,
+            BitOp::And,
+        );
+        return;
+    }
     let left = Column::new(left, left_validity);
     let right = Column::new(right, right_validity);
     write_combined::<And, Or>(trues, trues_offset, valid, valid_offset, &left, &right);
@@ -83,6 +96,18 @@ pub fn or_kleene_into(
         (truths (bits_of left.entry) (option_map bits_of left_validity.entry))
         (truths (bits_of right.entry) (option_map bits_of right_validity.entry)))) }
 {
+    if left_validity.is_none() && right_validity.is_none() {
+        write_known(
+            trues,
+            trues_offset,
+            valid,
+            valid_offset,
+            left,
+            right,
+            BitOp::Or,
+        );
+        return;
+    }
     let left = Column::new(left, left_validity);
     let right = Column::new(right, right_validity);
     write_combined::<Or, And>(trues, trues_offset, valid, valid_offset, &left, &right);

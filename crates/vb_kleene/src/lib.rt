@@ -6,6 +6,7 @@
 mod column;
 mod combine;
 mod kleene;
+mod known;
 mod write;
 
 pub use kleene::{and_kleene_into, or_kleene_into};

@@ -28,15 +28,16 @@ pub use Rattle.vb_core.specs.Indices
 pub use Rattle.vb_core.specs.Lengths
 pub use Rattle.vb_core.specs.LittleEndian
 pub use Rattle.vb_filter.specs.Spread
+pub use Rattle.vb_gather.specs.Columns
 pub use Rattle.vb_gather.specs.Compared
 pub use Rattle.vb_gather.specs.Deposited
 pub use Rattle.vb_gather.specs.Filtered
-pub use Rattle.vb_gather.specs.Kleene
 pub use Rattle.vb_gather.specs.TakenBits
 pub use Rattle.vb_gather.specs.TakenItems
 pub use Rattle.vb_kernel.specs.Beside
 pub use Rattle.vb_kernel.specs.Hits
 pub use Rattle.vb_kernel.specs.Looks
+pub use Rattle.vb_kleene.specs.Kleene
 pub use Rattle.vb_mem.specs.Makes
 pub use Rattle.vb_mem.specs.Collected
 pub use Rattle.vb_mem.specs.Loans

@@ -62,7 +62,8 @@ returns-else-rest-ne0-clause-trues g c =
     let left = c.args.left.now in let right = c.args.right.now in let f = g.T.Merge.bit in
     let n = c.len-len.result in let len = c.len-len.ensures in
     no_rest c.args.trues.now c.loop-k.trues c.loop-k.trues c.args.t c.loop-k.k n 0
-    (trues_by f (column left) (column right)) (length-trues_by left right c.requires.right f ∙ sym len)
+    (trues_by f (column left) (column right))
+    (length-trues_by left right c.requires.right f ∙ sym len)
     (omega arith) c.loop-k.invariant.trues
 
 pub returns-else-rest-ne0-clause-valid : goal.returns-else-rest-ne0-clause-valid

@@ -1,0 +1,71 @@
+//! Truth values that may be null, combined by three-valued logic: by operators, each of which goes
+//! by words, and those of a word at once.
+
+use super::word::{low, only_word};
+use super::{combine, combine_into, copy, fill, negate};
+use crate::kernels::{Column, Logic, Operator};
+use crate::{Bits, BitsMut};
+
+/// Writes which are true, and which aren't null.
+pub fn combine_truths(
+    trues: &mut BitsMut<'_>,
+    valid: &mut BitsMut<'_>,
+    left: Column<'_>,
+    right: Column<'_>,
+    logic: Logic,
+) {
+    let decides = logic == Logic::Or;
+    // Where one of the two decides alone.
+    write_where(trues, left, decides);
+    write_where(valid, right, decides);
+    combine(trues, valid.as_bits(), Operator::Or);
+    match (left.1, right.1) {
+        (Some(left), Some(right)) => combine_into(valid, left, right, Operator::And),
+        (Some(one), None) | (None, Some(one)) => copy(valid, one),
+        (None, None) => fill(valid, true),
+    }
+    combine(valid, trues.as_bits(), Operator::Or);
+    if !decides {
+        // What is valid and isn't false, since all that is false is valid.
+        combine(trues, valid.as_bits(), Operator::Xor);
+    }
+}
+
+/// Writes which are valid and `which`.
+fn write_where(out: &mut BitsMut<'_>, (bits, valid): Column<'_>, which: bool) {
+    match (valid, which) {
+        (Some(valid), true) => combine_into(out, valid, bits, Operator::And),
+        (Some(valid), false) => combine_into(out, valid, bits, Operator::AndNot),
+        (None, true) => copy(out, bits),
+        (None, false) => {
+            copy(out, bits);
+            negate(out);
+        }
+    }
+}
+
+/// The same of at most 64.
+#[inline]
+pub fn combine_truth_word(
+    trues: &mut BitsMut<'_>,
+    valid: &mut BitsMut<'_>,
+    left: Column<'_>,
+    right: Column<'_>,
+    logic: Logic,
+) {
+    let len = trues.len();
+    let [left, right] = [left, right].map(|(bits, valid)| known(bits, valid, len));
+    let (are_true, are_false) = match logic {
+        Logic::And => (left.0 & right.0, left.1 | right.1),
+        Logic::Or => (left.0 | right.0, left.1 & right.1),
+    };
+    trues.write(0, len, are_true);
+    valid.write(0, len, are_true | are_false);
+}
+
+/// Which are true, and which are false, as the lowest digits of words.
+#[inline]
+fn known(bits: Bits<'_>, valid: Option<Bits<'_>>, len: usize) -> (u64, u64) {
+    let (bits, valid) = (only_word(bits), valid.map_or(low(len), only_word));
+    (valid & bits, valid & !bits)
+}

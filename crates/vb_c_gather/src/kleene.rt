@@ -1,0 +1,223 @@
+//! Truth values that may be null, combined by three-valued logic.
+ghost use Rattle.std.specs.Prelude.{◌≡◌};
+ghost use Rattle.std.specs.Simd.Lanes.{zip2};
+ghost use Rattle.vb_bits.specs.InBytes.{InBytes};
+ghost use Rattle.vb_c_core.specs.Fits.{DoneIf};
+ghost use Rattle.vb_c_gather.specs.Columns.{ColumnFits, WritesColumn, column};
+ghost use Rattle.vb_kleene.specs.Kleene.{and_truths, or_truths};
+
+use crate::take_at::valid_part;
+use vb_bits::window_fits;
+use vb_kleene::{and_kleene_into, or_kleene_into};
+use vb_view::BitBufferView;
+
+/// Writes `left and right` of `len` truth values that may be null, by three-valued logic: false
+/// where one of the two is false, else null where one is null. Which are true goes to the bits of
+/// `trues` from bit `t` on, with false at nulls, and which aren't null to those of `valid` from bit
+/// `v` on; every other bit stays.
+///
+/// The values are the bits of `left` from bit `l` on and those of `right` from bit `r` on. Where
+/// `left_all_valid` is false, one of `left` is null where the bit of `left_validity` from bit
+/// `left_validity_offset` on is false, and so on the right; else none is, and the validity isn't
+/// looked at.
+#[unsafe(no_mangle)]
+pub extern "C" fn vb_and_kleene(
+    trues: &mut [u8],
+    t: usize,
+    valid: &mut [u8],
+    v: usize,
+    left: &[u8],
+    l: usize,
+    left_all_valid: bool,
+    left_validity: &[u8],
+    left_validity_offset: usize,
+    right: &[u8],
+    r: usize,
+    right_all_valid: bool,
+    right_validity: &[u8],
+    right_validity_offset: usize,
+    len: usize,
+)
+    requires trues { InBytes trues.old t len }
+    requires valid { InBytes valid.old v len }
+    requires left { ColumnFits left.now l
+        left_all_valid left_validity.now left_validity_offset len }
+    requires right { ColumnFits right.now r
+        right_all_valid right_validity.now right_validity_offset len }
+    ensures { WritesColumn (zip2 and_truths
+        (column left.now l left_all_valid left_validity.now left_validity_offset len)
+        (column right.now r right_all_valid right_validity.now right_validity_offset len))
+        trues.old trues.new t valid.old valid.new v }
+{
+    let left_valid = valid_part(left_all_valid, left_validity, left_validity_offset, 0, len);
+    let right_valid = valid_part(
+        right_all_valid,
+        right_validity,
+        right_validity_offset,
+        0,
+        len,
+    );
+    let left = BitBufferView::new_with_offset(left, len, l);
+    let right = BitBufferView::new_with_offset(right, len, r);
+    and_kleene_into(trues, t, valid, v, left, left_valid, right, right_valid);
+}
+
+/// Whether all windows lie in their bytes, those of validities that count too; [`vb_and_kleene`] is
+/// then done, else nothing.
+#[unsafe(no_mangle)]
+pub extern "C" fn vb_try_and_kleene(
+    trues: &mut [u8],
+    t: usize,
+    valid: &mut [u8],
+    v: usize,
+    left: &[u8],
+    l: usize,
+    left_all_valid: bool,
+    left_validity: &[u8],
+    left_validity_offset: usize,
+    right: &[u8],
+    r: usize,
+    right_all_valid: bool,
+    right_validity: &[u8],
+    right_validity_offset: usize,
+    len: usize,
+) -> bool
+    ensures { DoneIf (InBytes trues.old t len × InBytes valid.old v len
+        × ColumnFits left.now l left_all_valid left_validity.now left_validity_offset len
+        × ColumnFits right.now r right_all_valid right_validity.now right_validity_offset len)
+        (WritesColumn (zip2 and_truths
+        (column left.now l left_all_valid left_validity.now left_validity_offset len)
+        (column right.now r right_all_valid right_validity.now right_validity_offset len))
+        trues.old trues.new t valid.old valid.new v)
+        ((trues.new ≡ trues.old) × (valid.new ≡ valid.old)) result }
+{
+    if !window_fits(trues, t, len)
+        || !window_fits(valid, v, len)
+        || !window_fits(left, l, len)
+        || !window_fits(right, r, len)
+        || !left_all_valid && !window_fits(left_validity, left_validity_offset, len)
+        || !right_all_valid && !window_fits(right_validity, right_validity_offset, len)
+    {
+        return false;
+    }
+    vb_and_kleene(
+        trues,
+        t,
+        valid,
+        v,
+        left,
+        l,
+        left_all_valid,
+        left_validity,
+        left_validity_offset,
+        right,
+        r,
+        right_all_valid,
+        right_validity,
+        right_validity_offset,
+        len,
+    );
+    true
+}
+
+/// Writes `left or right` of truth values that may be null: true where one of the two is true, else
+/// null where one is null. The rest is as of [`vb_and_kleene`].
+#[unsafe(no_mangle)]
+pub extern "C" fn vb_or_kleene(
+    trues: &mut [u8],
+    t: usize,
+    valid: &mut [u8],
+    v: usize,
+    left: &[u8],
+    l: usize,
+    left_all_valid: bool,
+    left_validity: &[u8],
+    left_validity_offset: usize,
+    right: &[u8],
+    r: usize,
+    right_all_valid: bool,
+    right_validity: &[u8],
+    right_validity_offset: usize,
+    len: usize,
+)
+    requires trues { InBytes trues.old t len }
+    requires valid { InBytes valid.old v len }
+    requires left { ColumnFits left.now l
+        left_all_valid left_validity.now left_validity_offset len }
+    requires right { ColumnFits right.now r
+        right_all_valid right_validity.now right_validity_offset len }
+    ensures { WritesColumn (zip2 or_truths
+        (column left.now l left_all_valid left_validity.now left_validity_offset len)
+        (column right.now r right_all_valid right_validity.now right_validity_offset len))
+        trues.old trues.new t valid.old valid.new v }
+{
+    let left_valid = valid_part(left_all_valid, left_validity, left_validity_offset, 0, len);
+    let right_valid = valid_part(
+        right_all_valid,
+        right_validity,
+        right_validity_offset,
+        0,
+        len,
+    );
+    let left = BitBufferView::new_with_offset(left, len, l);
+    let right = BitBufferView::new_with_offset(right, len, r);
+    or_kleene_into(trues, t, valid, v, left, left_valid, right, right_valid);
+}
+
+/// Whether all windows lie in their bytes, those of validities that count too; [`vb_or_kleene`] is
+/// then done, else nothing.
+#[unsafe(no_mangle)]
+pub extern "C" fn vb_try_or_kleene(
+    trues: &mut [u8],
+    t: usize,
+    valid: &mut [u8],
+    v: usize,
+    left: &[u8],
+    l: usize,
+    left_all_valid: bool,
+    left_validity: &[u8],
+    left_validity_offset: usize,
+    right: &[u8],
+    r: usize,
+    right_all_valid: bool,
+    right_validity: &[u8],
+    right_validity_offset: usize,
+    len: usize,
+) -> bool
+    ensures { DoneIf (InBytes trues.old t len × InBytes valid.old v len
+        × ColumnFits left.now l left_all_valid left_validity.now left_validity_offset len
+        × ColumnFits right.now r right_all_valid right_validity.now right_validity_offset len)
+        (WritesColumn (zip2 or_truths
+        (column left.now l left_all_valid left_validity.now left_validity_offset len)
+        (column right.now r right_all_valid right_validity.now right_validity_offset len))
+        trues.old trues.new t valid.old valid.new v)
+        ((trues.new ≡ trues.old) × (valid.new ≡ valid.old)) result }
+{
+    if !window_fits(trues, t, len)
+        || !window_fits(valid, v, len)
+        || !window_fits(left, l, len)
+        || !window_fits(right, r, len)
+        || !left_all_valid && !window_fits(left_validity, left_validity_offset, len)
+        || !right_all_valid && !window_fits(right_validity, right_validity_offset, len)
+    {
+        return false;
+    }
+    vb_or_kleene(
+        trues,
+        t,
+        valid,
+        v,
+        left,
+        l,
+        left_all_valid,
+        left_validity,
+        left_validity_offset,
+        right,
+        r,
+        right_all_valid,
+        right_validity,
+        right_validity_offset,
+        len,
+    );
+    true
+}
