@@ -186,10 +186,13 @@ static void finish(struct answer *answer)
         at[answer->taken] = place_at(i);
         answer->taken += place_at(i) < answer->kept;
     }
-    vb_take_values_u64_u32((uint64_t *)answer->at, AT, (const uint64_t *)answer->b, answer->kept,
-        at, answer->taken, true, NULL, 0, 0);
-    vb_take_u32(valid, sizeof valid, answer->c_valid, answer->c_valid_size, 0, answer->kept, at,
-        answer->taken);
+    const vb_place past = vb_take_values_u64_u32((uint64_t *)answer->at, AT,
+        (const uint64_t *)answer->b, answer->kept, at, answer->taken, true, NULL, 0, 0);
+    const vb_place past_valid = vb_take_u32(valid, sizeof valid, answer->c_valid,
+        answer->c_valid_size, 0, answer->kept, at, answer->taken);
+    if (past.found || past_valid.found) {
+        abort();    // each place is below the number of rows that are kept
+    }
     answer->taken_nulls = answer->taken - vb_count_ones(valid, sizeof valid, 0, answer->taken);
 }
 

@@ -8,7 +8,7 @@
  *     cc -O2 app.c $(pkg-config --cflags --libs vortex_bits)
  *
  * The last is the shared library. A checkout has this file in bindings/c, and the libraries in
- * bindings/out once bindings/run has made them. Beside it, and included by it, vortex_bits_gather.h
+ * bindings/out once `bindings/build x86-64-v2 x86-64-v3` has made them. Beside it, and included by it, vortex_bits_gather.h
  * has bits put together of others, vortex_bits_ranks.h ranks over a table of counts,
  * vortex_bits_values.h and vortex_bits_compare.h what is done with values; vortex_bits.hpp has the
  * windows as C++ classes.
@@ -32,9 +32,20 @@
  * Of a call without `try` also: each window ends within its bytes, and its end, offset + len, is at
  * most SIZE_MAX.
  *
- * The vb_try_ functions owe no more than the first: each tests its numbers, and answers false and
- * leaves everything as it was where they aren't good. No function takes memory or keeps a pointer,
- * and all may be called on any thread.
+ * Of a vb_try_ function the caller owes what is owed of every call, and no more: it tests sizes,
+ * offsets, lengths and rooms, and answers false and leaves everything as it was where they aren't
+ * good. What indices say is no such number: takes tell of the first bad one by the place that they
+ * answer, their vb_try_ forms by `past`. No function takes memory or keeps a pointer, and all may
+ * be called on any thread.
+ *
+ * Arrow's arrays have bits so: `offset` is the array's, added to those of the structs that it is a
+ * column of, and `size` is (offset + len + 7) / 8. A validity that isn't there, a null pointer,
+ * says that all are valid: takes, vb_and_kleene and vb_or_kleene are told so; elsewhere leave out
+ * the `and` with it. As three arguments for each window are many, write
+ *
+ *     struct { const uint8_t *bytes; size_t size, offset; } a = {(const uint8_t[]){0xE8}, 1, 3};
+ *     #define WINDOW(it) (it).bytes, (it).size, (it).offset
+ *     assert(vb_and_count(WINDOW(a), WINDOW(a), 5) == 4);
  *
  * Proved are the functions of each level. Written by hand, and tested, is what stands before them:
  * a null pointer is made one that they accept; the level is chosen; vb_set_indices, vb_set_slices
@@ -407,20 +418,6 @@ VB_CHECKED bool vb_try_xor_into(uint8_t *out, size_t out_size, size_t out_offset
  *     const uint8_t left[] = {0x0C}, right[] = {0x0A};
  *     vb_and_not_into(out, 1, 0, left, 1, 0, right, 1, 0, 4);
  *     assert(out[0] == 0x04);
- *
- * With it goes three-valued `and` of a and b, of which some are null: true where both are, false
- * where one of them is, and null elsewhere.
- *
- *     const uint8_t a[] = {0x03}, a_valid[] = {0x07}, b[] = {0x05}, b_valid[] = {0x0D};
- *     uint8_t trues[1] = {0}, falses[1] = {0}, valid[1] = {0};
- *     vb_and_into(trues, 1, 0, a, 1, 0, a_valid, 1, 0, 4);
- *     vb_and_bits(trues, 1, 0, b, 1, 0, 4);
- *     vb_and_bits(trues, 1, 0, b_valid, 1, 0, 4);
- *     vb_and_not_into(valid, 1, 0, a_valid, 1, 0, a, 1, 0, 4);
- *     vb_and_not_into(falses, 1, 0, b_valid, 1, 0, b, 1, 0, 4);
- *     vb_or_bits(valid, 1, 0, falses, 1, 0, 4);
- *     vb_or_bits(valid, 1, 0, trues, 1, 0, 4);
- *     assert(trues[0] == 0x01 && valid[0] == 0x0D);
  */
 void vb_and_not_into(uint8_t *out, size_t out_size, size_t out_offset, const uint8_t *left,
         size_t left_size, size_t left_offset, const uint8_t *right, size_t right_size,

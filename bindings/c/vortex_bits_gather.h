@@ -70,11 +70,11 @@ VB_CHECKED bool vb_try_pack_truthy_at(uint8_t *out, size_t out_size, size_t out_
  *     assert(!vb_take_u32(out, 1, bits, 1, 0, 5, indices, 3).found && out[0] == 0x05);
  *     assert(vb_take_u32(out, 1, bits, 1, 0, 4, indices, 3).found);    // index 4 at position 0
  */
-vb_place vb_take_u32(uint8_t *out, size_t out_size, const uint8_t *bytes, size_t size,
+VB_CHECKED vb_place vb_take_u32(uint8_t *out, size_t out_size, const uint8_t *bytes, size_t size,
         size_t offset, size_t len, const uint32_t *indices, size_t index_count);
 VB_CHECKED bool vb_try_take_u32(uint8_t *out, size_t out_size, const uint8_t *bytes, size_t size,
         size_t offset, size_t len, const uint32_t *indices, size_t index_count, vb_place *past);
-vb_place vb_take_u64(uint8_t *out, size_t out_size, const uint8_t *bytes, size_t size,
+VB_CHECKED vb_place vb_take_u64(uint8_t *out, size_t out_size, const uint8_t *bytes, size_t size,
         size_t offset, size_t len, const uint64_t *indices, size_t index_count);
 VB_CHECKED bool vb_try_take_u64(uint8_t *out, size_t out_size, const uint8_t *bytes, size_t size,
         size_t offset, size_t len, const uint64_t *indices, size_t index_count, vb_place *past);
@@ -89,14 +89,14 @@ VB_CHECKED bool vb_try_take_u64(uint8_t *out, size_t out_size, const uint8_t *by
  *     assert(!vb_take_valid_u64(out, 1, bits, 1, 0, 5, indices, 3, valid, 1, 0).found);
  *     assert(out[0] == 0x04);
  */
-vb_place vb_take_valid_u32(uint8_t *out, size_t out_size, const uint8_t *bytes, size_t size,
-        size_t offset, size_t len, const uint32_t *indices, size_t index_count,
+VB_CHECKED vb_place vb_take_valid_u32(uint8_t *out, size_t out_size, const uint8_t *bytes,
+        size_t size, size_t offset, size_t len, const uint32_t *indices, size_t index_count,
         const uint8_t *validity, size_t validity_size, size_t validity_offset);
 VB_CHECKED bool vb_try_take_valid_u32(uint8_t *out, size_t out_size, const uint8_t *bytes,
         size_t size, size_t offset, size_t len, const uint32_t *indices, size_t index_count,
         const uint8_t *validity, size_t validity_size, size_t validity_offset, vb_place *past);
-vb_place vb_take_valid_u64(uint8_t *out, size_t out_size, const uint8_t *bytes, size_t size,
-        size_t offset, size_t len, const uint64_t *indices, size_t index_count,
+VB_CHECKED vb_place vb_take_valid_u64(uint8_t *out, size_t out_size, const uint8_t *bytes,
+        size_t size, size_t offset, size_t len, const uint64_t *indices, size_t index_count,
         const uint8_t *validity, size_t validity_size, size_t validity_offset);
 VB_CHECKED bool vb_try_take_valid_u64(uint8_t *out, size_t out_size, const uint8_t *bytes,
         size_t size, size_t offset, size_t len, const uint64_t *indices, size_t index_count,
@@ -113,7 +113,7 @@ VB_CHECKED bool vb_try_take_valid_u64(uint8_t *out, size_t out_size, const uint8
  *     vb_place past = vb_take_bits_at_u8(out, 1, 4, bits, 1, 0, 5, indices, 3, true, NULL, 0, 0);
  *     assert(!past.found && out[0] == 0xDF);
  */
-vb_place vb_take_bits_at_u8(uint8_t *out, size_t out_size, size_t out_offset,
+VB_CHECKED vb_place vb_take_bits_at_u8(uint8_t *out, size_t out_size, size_t out_offset,
         const uint8_t *bytes, size_t size, size_t offset, size_t len, const uint8_t *indices,
         size_t index_count, bool all_valid, const uint8_t *validity, size_t validity_size,
         size_t validity_offset);
@@ -121,7 +121,7 @@ VB_CHECKED bool vb_try_take_bits_at_u8(uint8_t *out, size_t out_size, size_t out
         const uint8_t *bytes, size_t size, size_t offset, size_t len, const uint8_t *indices,
         size_t index_count, bool all_valid, const uint8_t *validity, size_t validity_size,
         size_t validity_offset, vb_place *past);
-vb_place vb_take_bits_at_u16(uint8_t *out, size_t out_size, size_t out_offset,
+VB_CHECKED vb_place vb_take_bits_at_u16(uint8_t *out, size_t out_size, size_t out_offset,
         const uint8_t *bytes, size_t size, size_t offset, size_t len, const uint16_t *indices,
         size_t index_count, bool all_valid, const uint8_t *validity, size_t validity_size,
         size_t validity_offset);
@@ -129,7 +129,7 @@ VB_CHECKED bool vb_try_take_bits_at_u16(uint8_t *out, size_t out_size, size_t ou
         const uint8_t *bytes, size_t size, size_t offset, size_t len, const uint16_t *indices,
         size_t index_count, bool all_valid, const uint8_t *validity, size_t validity_size,
         size_t validity_offset, vb_place *past);
-vb_place vb_take_bits_at_u32(uint8_t *out, size_t out_size, size_t out_offset,
+VB_CHECKED vb_place vb_take_bits_at_u32(uint8_t *out, size_t out_size, size_t out_offset,
         const uint8_t *bytes, size_t size, size_t offset, size_t len, const uint32_t *indices,
         size_t index_count, bool all_valid, const uint8_t *validity, size_t validity_size,
         size_t validity_offset);
@@ -137,7 +137,7 @@ VB_CHECKED bool vb_try_take_bits_at_u32(uint8_t *out, size_t out_size, size_t ou
         const uint8_t *bytes, size_t size, size_t offset, size_t len, const uint32_t *indices,
         size_t index_count, bool all_valid, const uint8_t *validity, size_t validity_size,
         size_t validity_offset, vb_place *past);
-vb_place vb_take_bits_at_u64(uint8_t *out, size_t out_size, size_t out_offset,
+VB_CHECKED vb_place vb_take_bits_at_u64(uint8_t *out, size_t out_size, size_t out_offset,
         const uint8_t *bytes, size_t size, size_t offset, size_t len, const uint64_t *indices,
         size_t index_count, bool all_valid, const uint8_t *validity, size_t validity_size,
         size_t validity_offset);
@@ -225,13 +225,12 @@ void vb_and_kleene(uint8_t *trues, size_t trues_size, size_t trues_offset, uint8
         size_t right_size, size_t right_offset, bool right_all_valid,
         const uint8_t *right_validity, size_t right_validity_size, size_t right_validity_offset,
         size_t len);
-VB_CHECKED bool vb_try_and_kleene(uint8_t *trues, size_t trues_size, size_t trues_offset, uint8_t *valid,
-        size_t valid_size, size_t valid_offset, const uint8_t *left, size_t left_size,
-        size_t left_offset, bool left_all_valid, const uint8_t *left_validity,
+VB_CHECKED bool vb_try_and_kleene(uint8_t *trues, size_t trues_size, size_t trues_offset,
+        uint8_t *valid, size_t valid_size, size_t valid_offset, const uint8_t *left,
+        size_t left_size, size_t left_offset, bool left_all_valid, const uint8_t *left_validity,
         size_t left_validity_size, size_t left_validity_offset, const uint8_t *right,
-        size_t right_size, size_t right_offset, bool right_all_valid,
-        const uint8_t *right_validity, size_t right_validity_size, size_t right_validity_offset,
-        size_t len);
+        size_t right_size, size_t right_offset, bool right_all_valid, const uint8_t *right_validity,
+        size_t right_validity_size, size_t right_validity_offset, size_t len);
 void vb_or_kleene(uint8_t *trues, size_t trues_size, size_t trues_offset, uint8_t *valid,
         size_t valid_size, size_t valid_offset, const uint8_t *left, size_t left_size,
         size_t left_offset, bool left_all_valid, const uint8_t *left_validity,
@@ -239,13 +238,12 @@ void vb_or_kleene(uint8_t *trues, size_t trues_size, size_t trues_offset, uint8_
         size_t right_size, size_t right_offset, bool right_all_valid,
         const uint8_t *right_validity, size_t right_validity_size, size_t right_validity_offset,
         size_t len);
-VB_CHECKED bool vb_try_or_kleene(uint8_t *trues, size_t trues_size, size_t trues_offset, uint8_t *valid,
-        size_t valid_size, size_t valid_offset, const uint8_t *left, size_t left_size,
-        size_t left_offset, bool left_all_valid, const uint8_t *left_validity,
+VB_CHECKED bool vb_try_or_kleene(uint8_t *trues, size_t trues_size, size_t trues_offset,
+        uint8_t *valid, size_t valid_size, size_t valid_offset, const uint8_t *left,
+        size_t left_size, size_t left_offset, bool left_all_valid, const uint8_t *left_validity,
         size_t left_validity_size, size_t left_validity_offset, const uint8_t *right,
-        size_t right_size, size_t right_offset, bool right_all_valid,
-        const uint8_t *right_validity, size_t right_validity_size, size_t right_validity_offset,
-        size_t len);
+        size_t right_size, size_t right_offset, bool right_all_valid, const uint8_t *right_validity,
+        size_t right_validity_size, size_t right_validity_offset, size_t len);
 
 #ifdef __cplusplus
 }

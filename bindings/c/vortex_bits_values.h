@@ -84,126 +84,126 @@ VB_CHECKED bool vb_try_filter_values(void *out, size_t room, const void *values,
  *     uint64_t taken[2];
  *     const uint64_t values[] = {5, 6, 7};
  *     const uint32_t indices[] = {2, 0};
- *     vb_take_values_u64_u32(taken, 2, values, 3, indices, 2, true, NULL, 0, 0);
- *     assert(taken[0] == 7 && taken[1] == 5);
+ *     vb_place past = vb_take_values_u64_u32(taken, 2, values, 3, indices, 2, true, NULL, 0, 0);
+ *     assert(!past.found && taken[0] == 7 && taken[1] == 5);
  */
-vb_place vb_take_values_u8_u8(uint8_t *out, size_t room, const uint8_t *values, size_t count,
-        const uint8_t *indices, size_t index_count, bool all_valid, const uint8_t *validity,
-        size_t validity_size, size_t validity_offset);
+VB_CHECKED vb_place vb_take_values_u8_u8(uint8_t *out, size_t room, const uint8_t *values,
+        size_t count, const uint8_t *indices, size_t index_count, bool all_valid,
+        const uint8_t *validity, size_t validity_size, size_t validity_offset);
 VB_CHECKED bool vb_try_take_values_u8_u8(uint8_t *out, size_t room, const uint8_t *values, size_t
         count, const uint8_t *indices, size_t index_count, bool all_valid, const uint8_t
         *validity, size_t validity_size, size_t validity_offset, vb_place *past);
-vb_place vb_take_values_u16_u8(uint16_t *out, size_t room, const uint16_t *values, size_t count,
-        const uint8_t *indices, size_t index_count, bool all_valid, const uint8_t *validity,
-        size_t validity_size, size_t validity_offset);
+VB_CHECKED vb_place vb_take_values_u16_u8(uint16_t *out, size_t room, const uint16_t *values,
+        size_t count, const uint8_t *indices, size_t index_count, bool all_valid,
+        const uint8_t *validity, size_t validity_size, size_t validity_offset);
 VB_CHECKED bool vb_try_take_values_u16_u8(uint16_t *out, size_t room, const uint16_t *values,
         size_t count, const uint8_t *indices, size_t index_count, bool all_valid, const uint8_t
         *validity, size_t validity_size, size_t validity_offset, vb_place *past);
-vb_place vb_take_values_u32_u8(uint32_t *out, size_t room, const uint32_t *values, size_t count,
-        const uint8_t *indices, size_t index_count, bool all_valid, const uint8_t *validity,
-        size_t validity_size, size_t validity_offset);
+VB_CHECKED vb_place vb_take_values_u32_u8(uint32_t *out, size_t room, const uint32_t *values,
+        size_t count, const uint8_t *indices, size_t index_count, bool all_valid,
+        const uint8_t *validity, size_t validity_size, size_t validity_offset);
 VB_CHECKED bool vb_try_take_values_u32_u8(uint32_t *out, size_t room, const uint32_t *values,
         size_t count, const uint8_t *indices, size_t index_count, bool all_valid, const uint8_t
         *validity, size_t validity_size, size_t validity_offset, vb_place *past);
-vb_place vb_take_values_u64_u8(uint64_t *out, size_t room, const uint64_t *values, size_t count,
-        const uint8_t *indices, size_t index_count, bool all_valid, const uint8_t *validity,
-        size_t validity_size, size_t validity_offset);
+VB_CHECKED vb_place vb_take_values_u64_u8(uint64_t *out, size_t room, const uint64_t *values,
+        size_t count, const uint8_t *indices, size_t index_count, bool all_valid,
+        const uint8_t *validity, size_t validity_size, size_t validity_offset);
 VB_CHECKED bool vb_try_take_values_u64_u8(uint64_t *out, size_t room, const uint64_t *values,
         size_t count, const uint8_t *indices, size_t index_count, bool all_valid, const uint8_t
         *validity, size_t validity_size, size_t validity_offset, vb_place *past);
-vb_place vb_take_values_u128_u8(vb_u128 *out, size_t room, const vb_u128 *values, size_t count,
-        const uint8_t *indices, size_t index_count, bool all_valid, const uint8_t *validity,
-        size_t validity_size, size_t validity_offset);
+VB_CHECKED vb_place vb_take_values_u128_u8(vb_u128 *out, size_t room, const vb_u128 *values,
+        size_t count, const uint8_t *indices, size_t index_count, bool all_valid,
+        const uint8_t *validity, size_t validity_size, size_t validity_offset);
 VB_CHECKED bool vb_try_take_values_u128_u8(vb_u128 *out, size_t room, const vb_u128 *values,
         size_t count, const uint8_t *indices, size_t index_count, bool all_valid, const uint8_t
         *validity, size_t validity_size, size_t validity_offset, vb_place *past);
-vb_place vb_take_values_u8_u16(uint8_t *out, size_t room, const uint8_t *values, size_t count,
-        const uint16_t *indices, size_t index_count, bool all_valid, const uint8_t *validity,
-        size_t validity_size, size_t validity_offset);
+VB_CHECKED vb_place vb_take_values_u8_u16(uint8_t *out, size_t room, const uint8_t *values,
+        size_t count, const uint16_t *indices, size_t index_count, bool all_valid,
+        const uint8_t *validity, size_t validity_size, size_t validity_offset);
 VB_CHECKED bool vb_try_take_values_u8_u16(uint8_t *out, size_t room, const uint8_t *values, size_t
         count, const uint16_t *indices, size_t index_count, bool all_valid, const uint8_t
         *validity, size_t validity_size, size_t validity_offset, vb_place *past);
-vb_place vb_take_values_u16_u16(uint16_t *out, size_t room, const uint16_t *values, size_t count,
-        const uint16_t *indices, size_t index_count, bool all_valid, const uint8_t *validity,
-        size_t validity_size, size_t validity_offset);
+VB_CHECKED vb_place vb_take_values_u16_u16(uint16_t *out, size_t room, const uint16_t *values,
+        size_t count, const uint16_t *indices, size_t index_count, bool all_valid,
+        const uint8_t *validity, size_t validity_size, size_t validity_offset);
 VB_CHECKED bool vb_try_take_values_u16_u16(uint16_t *out, size_t room, const uint16_t *values,
         size_t count, const uint16_t *indices, size_t index_count, bool all_valid, const uint8_t
         *validity, size_t validity_size, size_t validity_offset, vb_place *past);
-vb_place vb_take_values_u32_u16(uint32_t *out, size_t room, const uint32_t *values, size_t count,
-        const uint16_t *indices, size_t index_count, bool all_valid, const uint8_t *validity,
-        size_t validity_size, size_t validity_offset);
+VB_CHECKED vb_place vb_take_values_u32_u16(uint32_t *out, size_t room, const uint32_t *values,
+        size_t count, const uint16_t *indices, size_t index_count, bool all_valid,
+        const uint8_t *validity, size_t validity_size, size_t validity_offset);
 VB_CHECKED bool vb_try_take_values_u32_u16(uint32_t *out, size_t room, const uint32_t *values,
         size_t count, const uint16_t *indices, size_t index_count, bool all_valid, const uint8_t
         *validity, size_t validity_size, size_t validity_offset, vb_place *past);
-vb_place vb_take_values_u64_u16(uint64_t *out, size_t room, const uint64_t *values, size_t count,
-        const uint16_t *indices, size_t index_count, bool all_valid, const uint8_t *validity,
-        size_t validity_size, size_t validity_offset);
+VB_CHECKED vb_place vb_take_values_u64_u16(uint64_t *out, size_t room, const uint64_t *values,
+        size_t count, const uint16_t *indices, size_t index_count, bool all_valid,
+        const uint8_t *validity, size_t validity_size, size_t validity_offset);
 VB_CHECKED bool vb_try_take_values_u64_u16(uint64_t *out, size_t room, const uint64_t *values,
         size_t count, const uint16_t *indices, size_t index_count, bool all_valid, const uint8_t
         *validity, size_t validity_size, size_t validity_offset, vb_place *past);
-vb_place vb_take_values_u128_u16(vb_u128 *out, size_t room, const vb_u128 *values, size_t count,
-        const uint16_t *indices, size_t index_count, bool all_valid, const uint8_t *validity,
-        size_t validity_size, size_t validity_offset);
+VB_CHECKED vb_place vb_take_values_u128_u16(vb_u128 *out, size_t room, const vb_u128 *values,
+        size_t count, const uint16_t *indices, size_t index_count, bool all_valid,
+        const uint8_t *validity, size_t validity_size, size_t validity_offset);
 VB_CHECKED bool vb_try_take_values_u128_u16(vb_u128 *out, size_t room, const vb_u128 *values,
         size_t count, const uint16_t *indices, size_t index_count, bool all_valid, const uint8_t
         *validity, size_t validity_size, size_t validity_offset, vb_place *past);
-vb_place vb_take_values_u8_u32(uint8_t *out, size_t room, const uint8_t *values, size_t count,
-        const uint32_t *indices, size_t index_count, bool all_valid, const uint8_t *validity,
-        size_t validity_size, size_t validity_offset);
+VB_CHECKED vb_place vb_take_values_u8_u32(uint8_t *out, size_t room, const uint8_t *values,
+        size_t count, const uint32_t *indices, size_t index_count, bool all_valid,
+        const uint8_t *validity, size_t validity_size, size_t validity_offset);
 VB_CHECKED bool vb_try_take_values_u8_u32(uint8_t *out, size_t room, const uint8_t *values, size_t
         count, const uint32_t *indices, size_t index_count, bool all_valid, const uint8_t
         *validity, size_t validity_size, size_t validity_offset, vb_place *past);
-vb_place vb_take_values_u16_u32(uint16_t *out, size_t room, const uint16_t *values, size_t count,
-        const uint32_t *indices, size_t index_count, bool all_valid, const uint8_t *validity,
-        size_t validity_size, size_t validity_offset);
+VB_CHECKED vb_place vb_take_values_u16_u32(uint16_t *out, size_t room, const uint16_t *values,
+        size_t count, const uint32_t *indices, size_t index_count, bool all_valid,
+        const uint8_t *validity, size_t validity_size, size_t validity_offset);
 VB_CHECKED bool vb_try_take_values_u16_u32(uint16_t *out, size_t room, const uint16_t *values,
         size_t count, const uint32_t *indices, size_t index_count, bool all_valid, const uint8_t
         *validity, size_t validity_size, size_t validity_offset, vb_place *past);
-vb_place vb_take_values_u32_u32(uint32_t *out, size_t room, const uint32_t *values, size_t count,
-        const uint32_t *indices, size_t index_count, bool all_valid, const uint8_t *validity,
-        size_t validity_size, size_t validity_offset);
+VB_CHECKED vb_place vb_take_values_u32_u32(uint32_t *out, size_t room, const uint32_t *values,
+        size_t count, const uint32_t *indices, size_t index_count, bool all_valid,
+        const uint8_t *validity, size_t validity_size, size_t validity_offset);
 VB_CHECKED bool vb_try_take_values_u32_u32(uint32_t *out, size_t room, const uint32_t *values,
         size_t count, const uint32_t *indices, size_t index_count, bool all_valid, const uint8_t
         *validity, size_t validity_size, size_t validity_offset, vb_place *past);
-vb_place vb_take_values_u64_u32(uint64_t *out, size_t room, const uint64_t *values, size_t count,
-        const uint32_t *indices, size_t index_count, bool all_valid, const uint8_t *validity,
-        size_t validity_size, size_t validity_offset);
+VB_CHECKED vb_place vb_take_values_u64_u32(uint64_t *out, size_t room, const uint64_t *values,
+        size_t count, const uint32_t *indices, size_t index_count, bool all_valid,
+        const uint8_t *validity, size_t validity_size, size_t validity_offset);
 VB_CHECKED bool vb_try_take_values_u64_u32(uint64_t *out, size_t room, const uint64_t *values,
         size_t count, const uint32_t *indices, size_t index_count, bool all_valid, const uint8_t
         *validity, size_t validity_size, size_t validity_offset, vb_place *past);
-vb_place vb_take_values_u128_u32(vb_u128 *out, size_t room, const vb_u128 *values, size_t count,
-        const uint32_t *indices, size_t index_count, bool all_valid, const uint8_t *validity,
-        size_t validity_size, size_t validity_offset);
+VB_CHECKED vb_place vb_take_values_u128_u32(vb_u128 *out, size_t room, const vb_u128 *values,
+        size_t count, const uint32_t *indices, size_t index_count, bool all_valid,
+        const uint8_t *validity, size_t validity_size, size_t validity_offset);
 VB_CHECKED bool vb_try_take_values_u128_u32(vb_u128 *out, size_t room, const vb_u128 *values,
         size_t count, const uint32_t *indices, size_t index_count, bool all_valid, const uint8_t
         *validity, size_t validity_size, size_t validity_offset, vb_place *past);
-vb_place vb_take_values_u8_u64(uint8_t *out, size_t room, const uint8_t *values, size_t count,
-        const uint64_t *indices, size_t index_count, bool all_valid, const uint8_t *validity,
-        size_t validity_size, size_t validity_offset);
+VB_CHECKED vb_place vb_take_values_u8_u64(uint8_t *out, size_t room, const uint8_t *values,
+        size_t count, const uint64_t *indices, size_t index_count, bool all_valid,
+        const uint8_t *validity, size_t validity_size, size_t validity_offset);
 VB_CHECKED bool vb_try_take_values_u8_u64(uint8_t *out, size_t room, const uint8_t *values, size_t
         count, const uint64_t *indices, size_t index_count, bool all_valid, const uint8_t
         *validity, size_t validity_size, size_t validity_offset, vb_place *past);
-vb_place vb_take_values_u16_u64(uint16_t *out, size_t room, const uint16_t *values, size_t count,
-        const uint64_t *indices, size_t index_count, bool all_valid, const uint8_t *validity,
-        size_t validity_size, size_t validity_offset);
+VB_CHECKED vb_place vb_take_values_u16_u64(uint16_t *out, size_t room, const uint16_t *values,
+        size_t count, const uint64_t *indices, size_t index_count, bool all_valid,
+        const uint8_t *validity, size_t validity_size, size_t validity_offset);
 VB_CHECKED bool vb_try_take_values_u16_u64(uint16_t *out, size_t room, const uint16_t *values,
         size_t count, const uint64_t *indices, size_t index_count, bool all_valid, const uint8_t
         *validity, size_t validity_size, size_t validity_offset, vb_place *past);
-vb_place vb_take_values_u32_u64(uint32_t *out, size_t room, const uint32_t *values, size_t count,
-        const uint64_t *indices, size_t index_count, bool all_valid, const uint8_t *validity,
-        size_t validity_size, size_t validity_offset);
+VB_CHECKED vb_place vb_take_values_u32_u64(uint32_t *out, size_t room, const uint32_t *values,
+        size_t count, const uint64_t *indices, size_t index_count, bool all_valid,
+        const uint8_t *validity, size_t validity_size, size_t validity_offset);
 VB_CHECKED bool vb_try_take_values_u32_u64(uint32_t *out, size_t room, const uint32_t *values,
         size_t count, const uint64_t *indices, size_t index_count, bool all_valid, const uint8_t
         *validity, size_t validity_size, size_t validity_offset, vb_place *past);
-vb_place vb_take_values_u64_u64(uint64_t *out, size_t room, const uint64_t *values, size_t count,
-        const uint64_t *indices, size_t index_count, bool all_valid, const uint8_t *validity,
-        size_t validity_size, size_t validity_offset);
+VB_CHECKED vb_place vb_take_values_u64_u64(uint64_t *out, size_t room, const uint64_t *values,
+        size_t count, const uint64_t *indices, size_t index_count, bool all_valid,
+        const uint8_t *validity, size_t validity_size, size_t validity_offset);
 VB_CHECKED bool vb_try_take_values_u64_u64(uint64_t *out, size_t room, const uint64_t *values,
         size_t count, const uint64_t *indices, size_t index_count, bool all_valid, const uint8_t
         *validity, size_t validity_size, size_t validity_offset, vb_place *past);
-vb_place vb_take_values_u128_u64(vb_u128 *out, size_t room, const vb_u128 *values, size_t count,
-        const uint64_t *indices, size_t index_count, bool all_valid, const uint8_t *validity,
-        size_t validity_size, size_t validity_offset);
+VB_CHECKED vb_place vb_take_values_u128_u64(vb_u128 *out, size_t room, const vb_u128 *values,
+        size_t count, const uint64_t *indices, size_t index_count, bool all_valid,
+        const uint8_t *validity, size_t validity_size, size_t validity_offset);
 VB_CHECKED bool vb_try_take_values_u128_u64(vb_u128 *out, size_t room, const vb_u128 *values,
         size_t count, const uint64_t *indices, size_t index_count, bool all_valid, const uint8_t
         *validity, size_t validity_size, size_t validity_offset, vb_place *past);
@@ -215,10 +215,11 @@ VB_CHECKED bool vb_try_take_values_u128_u64(vb_u128 *out, size_t room, const vb_
  *     const float prices[] = {0.5f, 1.5f, 2.5f};
  *     const int32_t rows[] = {2, 0};
  *     float taken[2];
- *     vb_take_values(taken, 2, prices, 3, sizeof *prices, rows, 2, sizeof *rows, true, NULL, 0, 0);
- *     assert(taken[0] == 2.5f);
+ *     vb_place past = vb_take_values(taken, 2, prices, 3, sizeof *prices, rows, 2, sizeof *rows,
+ *         true, NULL, 0, 0);
+ *     assert(!past.found && taken[0] == 2.5f);
  */
-vb_place vb_take_values(void *out, size_t room, const void *values, size_t count,
+VB_CHECKED vb_place vb_take_values(void *out, size_t room, const void *values, size_t count,
         size_t value_size, const void *indices, size_t index_count, size_t index_size,
         bool all_valid, const uint8_t *validity, size_t validity_size, size_t validity_offset);
 VB_CHECKED bool vb_try_take_values(void *out, size_t room, const void *values, size_t count,
