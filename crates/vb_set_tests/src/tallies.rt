@@ -1,11 +1,15 @@
 //! What sets answer beside what the kernels answer of a window of the same bytes.
 use crate::compared::{equal, holds};
-use crate::edits::{LENGTHS, OFFSETS};
 use crate::made::window;
 use std::alloc::Allocator;
 use std::process::Abort;
 use vb_kernel::{Tally, bit_select_by, bit_select_unset_by, count_ones_by, window_fits};
 use vb_set::{BitBuffer, BitBufferMut, Result};
+
+/// The places of the first bit, and the lengths, at which sets are asked.
+const OFFSETS: [usize; 5] = [0, 3, 5, 7, 13];
+
+const LENGTHS: [usize; 9] = [0, 1, 7, 8, 63, 64, 65, 129, 200];
 
 /// How many bits are true, how many of them from `start` up to `end`, and the places of the true
 /// and of the false bit of rank `start`.

@@ -1,0 +1,130 @@
+//! Worked rows: what edits answer and leave.
+use crate::changes::{is_left, layout};
+use crate::compared::{equal, holds, same};
+use crate::made::window;
+use std::alloc::Allocator;
+use std::process::Abort;
+use vb_set::{BitBufferMut, BufferError, Result};
+
+/// An edit of a set.
+enum Edit {
+    Append(bool),
+    AppendN(bool, usize),
+    Truncate(usize),
+}
+
+impl Edit {
+    fn make<A: Allocator + Clone>(&self, set: &mut BitBufferMut<A>) -> Result<()> {
+        match self {
+            Edit::Append(v) => set.append(*v),
+            Edit::AppendN(v, n) => set.append_n(*v, *n),
+            Edit::Truncate(n) => {
+                set.truncate(*n);
+                Ok(())
+            }
+        }
+    }
+}
+
+/// How many true bits are edited, the edits, what the last one answers, and the bits behind it.
+const EDITED: &[(usize, &[Edit], Result<()>, &[bool])] = &[
+    (
+        4,
+        &[Edit::Append(false)],
+        Ok(()),
+        &[true, true, true, true, false],
+    ),
+    (
+        1,
+        &[Edit::AppendN(true, usize::MAX)],
+        Err(BufferError::TooManyBits),
+        &[true],
+    ),
+    (
+        5,
+        &[Edit::Truncate(2), Edit::AppendN(false, 3)],
+        Ok(()),
+        &[true, true, false, false, false],
+    ),
+];
+
+/// Makes the edits of a row. Answers what the last one does.
+fn make_all<A: Allocator + Clone>(set: &mut BitBufferMut<A>, edits: &[Edit]) -> Result<()> {
+    let mut answer = Ok(());
+    for edit in edits {
+        answer = edit.make(set);
+    }
+    answer
+}
+
+/// The edits of a row answer so, and leave these bits.
+fn is_edited<A: Allocator + Clone>(
+    rt: &impl Abort,
+    made: Result<BitBufferMut<A>>,
+    edits: &[Edit],
+    (last, bits): (Result<()>, &[bool]),
+) {
+    let mut set = made.expect(rt, "a set");
+    equal(rt, make_all(&mut set, edits), last);
+    same(rt, &set, bits);
+    drop(set);
+}
+
+#[test]
+fn edits_answer_and_leave_bits(rt: HostRuntime) {
+    for (len, edits, last, bits) in EDITED {
+        let set = window(rt.alloc(), (0xFF, 1), 0, *len);
+        is_edited(&rt, set, edits, (*last, bits));
+    }
+}
+
+/// Adds a false bit to true ones.
+fn ends_false<A: Allocator + Clone>(rt: &impl Abort, made: Result<BitBufferMut<A>>) {
+    let mut set = made.expect(rt, "a set");
+    set.append(false).expect(rt, "room");
+    holds(rt, set.len() == 5);
+    equal(rt, set.value(3), true);
+    equal(rt, set.value(4), false);
+    drop(set);
+}
+
+#[test]
+fn a_false_bit_behind_four_true_ones(rt: HostRuntime) {
+    ends_false(&rt, window(rt.alloc(), (0xFF, 1), 0, 4));
+}
+
+/// The offset of a set, its length, and how many bytes it has.
+fn open_place<A: Allocator + Clone>(set: &BitBufferMut<A>) -> (usize, usize, usize) {
+    (set.offset(), set.len(), set.inner().len())
+}
+
+/// Adds so many bits to one at offset 13 that a `usize` has them, and not the offset too.
+fn is_left_as_one<A: Allocator + Clone>(rt: &impl Abort, made: Result<BitBufferMut<A>>) {
+    let mut set = made.expect(rt, "a set");
+    let before = layout(&set);
+    let answer = set.append_n(true, 18446744073709551602);
+    equal(rt, answer, Err(BufferError::TooManyBits));
+    equal(rt, open_place(&set), (13, 1, 2));
+    is_left(rt, &set, before);
+    drop(set);
+}
+
+#[test]
+fn append_n_past_usize_by_the_offset(rt: HostRuntime) {
+    is_left_as_one(&rt, window(rt.alloc(), (0xFF, 2), 13, 1));
+}
+
+/// Cuts off all but four bits at offset 13, and then these.
+fn are_cut_off<A: Allocator + Clone>(rt: &impl Abort, made: Result<BitBufferMut<A>>) {
+    let mut set = made.expect(rt, "a set");
+    set.truncate(4);
+    equal(rt, open_place(&set), (13, 4, 3));
+    set.clear();
+    equal(rt, open_place(&set), (0, 0, 0));
+    drop(set);
+}
+
+#[test]
+fn truncate_leaves_bytes_and_clear_none(rt: HostRuntime) {
+    are_cut_off(&rt, window(rt.alloc(), (0xFF, 4), 13, 10));
+}
