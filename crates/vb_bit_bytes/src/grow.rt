@@ -5,7 +5,6 @@ ghost use Rattle.std.specs.Int.{div_ceil};
 ghost use Rattle.vb_bits.specs.Writes.{Writes, extension};
 
 use crate::edit::{fill, write_bit};
-use crate::lengthen::push_n;
 use crate::make::byte_of;
 use std::alloc::Allocator;
 use vb_core::{BufferError, Result};
@@ -76,7 +75,7 @@ pub fn push_bits<A: Allocator + Clone>(
         fill(bytes, start, end, v);
         return Ok(());
     }
-    push_n(bytes, byte_of(v), count - len)?;
+    bytes.push_n(byte_of(v), count - len)?;
     fill(bytes, start, len * 8, v);
     Ok(())
 }

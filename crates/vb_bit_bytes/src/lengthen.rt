@@ -1,6 +1,6 @@
-//! Whole bytes added at the end, so that the room stays where it suffices: of the calls of a buffer
-//! that add many items at once no contract says so.
-ghost use Rattle.std.specs.Prelude.{◌≡◌, ◌≤◌, length, replicate, OnOk};
+//! Bytes of a slice added at the end, so that the room stays where it suffices: of the buffer's own
+//! call no contract says so.
+ghost use Rattle.std.specs.Prelude.{◌≡◌, ◌≤◌, length, OnOk};
 ghost use Rattle.vb_mem.specs.Makes.{NeedsRoom};
 ghost use Rattle.vb_mem.specs.OpenBuffer.{Lengthens, HasRoom};
 
@@ -9,29 +9,13 @@ use std::alloc::Allocator;
 use vb_core::Result;
 use vb_mem::ByteBufferMut;
 
-/// Adds `n` bytes `value`.
-///
-/// Refused by `OutOfMemory` alone; then the bytes and their room are unchanged. Within the room it
-/// takes no memory, succeeds, and the room stays.
-pub(crate) fn push_n<A: Allocator + Clone>(
-    bytes: &mut ByteBufferMut<A>,
-    value: u8,
-    n: usize,
-) -> Result<()>
-    ensures ok { OnOk result (Lengthens (replicate n value) bytes.old bytes.new) }
-    ensures stays { HasRoom bytes.old n → bytes.new.room ≡ bytes.old.room }
-    ensures needs_room { NeedsRoom n result bytes.old bytes.new }
-{
-    bytes.reserve(n)?;
-    replace_with(bytes, (value, n), with_copies);
-    Ok(())
-}
-
 /// Up to how many bytes a loop copies as fast as the buffer's own call.
 const SHORT: usize = 64;
 
-/// Adds copies of the bytes of a slice, as [`push_n`] adds its bytes; but the room is known to stay
-/// for 64 bytes at most, since more are copied as a block.
+/// Adds copies of the bytes of a slice, as a block where there are more than 64.
+///
+/// Refused by `OutOfMemory` alone; then the bytes and their room are unchanged. Within the room it
+/// takes no memory and succeeds; of up to 64 bytes the room stays.
 pub(crate) fn push_slice<A: Allocator + Clone>(
     bytes: &mut ByteBufferMut<A>,
     added: &[u8],
@@ -49,25 +33,8 @@ pub(crate) fn push_slice<A: Allocator + Clone>(
     Ok(())
 }
 
-/// The bytes with `n` bytes `value` behind them, for which there is room. They are moved in and
+/// The bytes with those of a slice behind them, for which there is room. They are moved in and
 /// out, as in `push_bytes`, so that the compiler makes vectors of the loop.
-fn with_copies<A: Allocator + Clone>(
-    bytes: ByteBufferMut<A>,
-    run: (u8, usize),
-) -> (ByteBufferMut<A>, ())
-    requires { HasRoom bytes run.1 }
-    ensures added { Lengthens (replicate run.1 run.0) bytes result.0 }
-    ensures stays { result.0.room ≡ bytes.room }
-{
-    let mut bytes = bytes;
-    let (value, n) = run;
-    for _ in 0..n {
-        bytes.push_unchecked(value);
-    }
-    (bytes, ())
-}
-
-/// The bytes with those of a slice behind them, for which there is room.
 fn with_slice<A: Allocator + Clone>(bytes: ByteBufferMut<A>, added: &[u8]) -> (ByteBufferMut<A>, ())
     requires { HasRoom bytes (length added.now) }
     ensures added { Lengthens added.now bytes result.0 }

@@ -7,7 +7,7 @@ ghost use Rattle.vb_bits.specs.InBytes.{InBytes};
 ghost use Rattle.vb_bits.specs.Writes.{Writes, extension};
 
 use crate::edit::copy;
-use crate::lengthen::{push_n, push_slice};
+use crate::lengthen::push_slice;
 use std::alloc::Allocator;
 use vb_core::{BufferError, Result};
 use vb_mem::ByteBufferMut;
@@ -49,7 +49,7 @@ pub fn push_window<A: Allocator + Clone>(
     }
     let added = count - len;
     if start % 8 != offset % 8 {
-        push_n(bytes, 0, added)?;
+        bytes.push_n(0, added)?;
         copy(bytes, start, source, offset, n);
         return Ok(());
     }

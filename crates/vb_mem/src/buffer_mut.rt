@@ -1,5 +1,6 @@
 //! A buffer that grows.
-ghost use Rattle.std.specs.Prelude.{◌≡◌, ◌==◌, ◌+◌, ◌≤◌, [], length, take, drop};
+ghost use Rattle.std.specs.Prelude.{◌≡◌, ◌==◌, ◌↔◌, ◌+◌, ◌-◌, ◌<◌, ◌≤◌, [], length, take, drop};
+ghost use Rattle.std.specs.Prelude.{slice_get, vec_capacity, IsSome};
 ghost use Rattle.std.specs.Borrow.{Lends, Array, sem};
 ghost use Rattle.vb_mem.specs.OpenBuffer.{Holds, with_items};
 ghost use Rattle.vb_mem.specs.contracts.buffer_mut.BufferMut.{the_row};
@@ -128,6 +129,26 @@ impl<T: Element, A: Allocator> BufferMut<T, A> {
         ensures { self.new ≡ record self.old { list = take len self.old.list } }
     {
         self.items.truncate(len);
+    }
+
+    /// Takes the last item away, in constant time. `None` comes just where there are no items. All
+    /// else stays, the capacity too.
+    pub fn pop(&mut self) -> Option<T>
+        ensures last { slice_get self.old.list (length self.old.list - 1) ≡ result }
+        ensures some { IsSome result ↔ (0 < length self.old.list) }
+        ensures left { self.new
+            ≡ record self.old { list = take (length self.old.list - 1) self.old.list } }
+    {
+        self.items.pop()
+    }
+
+    /// The items as a vector, in constant time: it has the storage itself, with its capacity and
+    /// allocator, and no memory is taken. A vector knows no alignment but that of an item.
+    pub fn into_vec(self) -> Vec<T, A>
+        ensures items { result.items ≡ self.list }
+        ensures room { vec_capacity result ≡ self.room }
+    {
+        self.items
     }
 
     // Keeps the items of a window, moved to the front, and reports the window's alignment.

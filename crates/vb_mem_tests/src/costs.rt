@@ -3,7 +3,7 @@
 use crate::compared::equal;
 use crate::makers::{Twin, cloned, frozen, opened};
 use crate::sharing::fill_items;
-use std::alloc::Allocator;
+use std::alloc::{Allocator, Global};
 use std::process::Abort;
 use vb_core::{Alignment, Result};
 use vb_mem::{Buffer, BufferMut};
@@ -94,6 +94,28 @@ fn growing_buffers_ask_for_what_they_need(rt: HostRuntime) {
         grow_sevens(&rt, made, call);
         equal(&rt, heap.asks_within(*least, *most), true);
     }
+}
+
+/// The items of a buffer as a vector, for which the heap is asked for nothing.
+fn is_vector<A: Allocator>(
+    rt: &impl Abort,
+    heap: &Refusing<Global>,
+    made: Result<BufferMut<u32, A>>,
+) {
+    let buffer = made.expect(rt, "room");
+    let room = buffer.capacity();
+    heap.refuse(1);
+    let items = buffer.into_vec();
+    are_sevens(rt, items.as_slice());
+    equal(rt, (items.len(), items.capacity()), (1000, room));
+    equal(rt, heap.asked(), 0);
+    drop(items);
+}
+
+#[test]
+fn a_vector_has_the_storage_itself(rt: HostRuntime) {
+    let heap = Refusing::new(rt.alloc(), 0);
+    is_vector(&rt, &heap, BufferMut::full(&heap, 7, 1000));
 }
 
 /// A call on a shared buffer of a thousand sevens that has no other owner.

@@ -60,6 +60,27 @@ fn room_is_filled_or_refused(rt: HostRuntime) {
     fill_room(&rt, BufferMut::copy_from(rt.alloc(), &[1]));
 }
 
+/// Cuts a buffer, fills it up within its room, and takes its items away from the end.
+fn resize_and_pop<A: Allocator>(rt: &impl Abort, made: Result<BufferMut<u32, A>>) {
+    let mut buffer = made.expect(rt, "room");
+    let room = buffer.capacity();
+    buffer.resize(1, 7).expect(rt, "room");
+    equal(rt, buffer.as_slice(), &[1]);
+    buffer.resize(3, 7).expect(rt, "room");
+    let refused = Err(BufferError::OutOfMemory);
+    equal(rt, buffer.resize(usize::MAX / 4, 0), refused);
+    equal(rt, buffer.as_slice(), &[1, 7, 7]);
+    equal(rt, (buffer.pop(), buffer.pop()), (Some(7), Some(7)));
+    equal(rt, (buffer.pop(), buffer.pop()), (Some(1), None));
+    equal(rt, (buffer.len(), buffer.capacity()), (0, room));
+    drop(buffer);
+}
+
+#[test]
+fn a_buffer_is_cut_filled_and_emptied(rt: HostRuntime) {
+    resize_and_pop(&rt, BufferMut::copy_from(rt.alloc(), &[1, 2, 3]));
+}
+
 /// Two values about an error.
 const VALUES: &[Result<u32, &str>] = &[Ok(20), Err("bad"), Ok(30)];
 

@@ -1,14 +1,16 @@
 //! Growth at the end: of single items, of slices, and of what iterators give.
-ghost use Rattle.std.specs.Prelude.{◌≡◌, ◌≢◌, ◌+◌, ◌≤◌, List, [], ◌∷◌, length, max, replicate};
+ghost use Rattle.std.specs.Prelude.{◌≡◌, ◌≢◌, ◌+◌, ◌-◌, ◌≤◌, List, [], ◌∷◌, ◌++◌, length, max};
+ghost use Rattle.std.specs.Prelude.{replicate, take, vec_capacity};
 ghost use Rattle.std.specs.Prelude.{OnOk, OnErr, IsOk, IsOkUnless, IfSome};
 ghost use Rattle.std.specs.Iterator.{Drains, ExtendsWithItems, HoldsAlong};
 ghost use Rattle.std.specs.Iterator.{IsFinite, IsFiniteIterable};
 ghost use Rattle.vb_mem.specs.Makes.{NeedsRoom};
-ghost use Rattle.vb_mem.specs.OpenBuffer.{Lengthens, HasRoom};
+ghost use Rattle.vb_mem.specs.OpenBuffer.{Holds, Lengthens, HasRoom};
 ghost use Rattle.vb_mem.specs.Collected.{IfItem, OnMemory, GivesThen, GivesValues, GivesError};
 
 use super::BufferMut;
 use crate::Result;
+use core::mem::replace_with;
 use std::alloc::Allocator;
 use vb_core::{BufferError, Element, ExtendError, TrustedLen};
 
@@ -65,6 +67,7 @@ impl<T: Element, A: Allocator> BufferMut<T, A> {
     /// Adds `n` copies of an item. Takes memory and is refused as [`BufferMut::push`] is.
     pub fn push_n(&mut self, item: T, n: usize) -> Result<()>
         ensures ok { OnOk result (Lengthens (replicate n item) self.old self.new) }
+        ensures stays { HasRoom self.old n → self.new.room ≡ self.old.room }
         ensures needs_room { NeedsRoom n result self.old self.new }
     {
         self.reserve(n)?;
@@ -72,13 +75,33 @@ impl<T: Element, A: Allocator> BufferMut<T, A> {
         Ok(())
     }
 
-    /// Adds `n` copies of an item, for which there is room.
+    /// Adds `n` copies of an item, for which there is room. The capacity stays.
     pub fn push_n_unchecked(&mut self, item: T, n: usize)
         requires { HasRoom self.old n }
-        ensures { Lengthens (replicate n item) self.old self.new }
+        ensures adds { Lengthens (replicate n item) self.old self.new }
+        ensures stays { self.new.room ≡ self.old.room }
+    {
+        replace_with(&mut self.items, (item, n), with_copies);
+    }
+
+    /// Makes it `n` items long: cut, or filled up with copies of an item. Both alignments stay.
+    ///
+    /// Up to the capacity it takes no memory, succeeds, and the capacity stays; else it is refused
+    /// by `OutOfMemory`, and the buffer is unchanged then.
+    pub fn resize(&mut self, n: usize, item: T) -> Result<()>
+        ensures ok { OnOk result (Holds
+            (take n self.old.list ++ replicate (n - length self.old.list) item)
+            self.old.alignment self.old.declared self.new) }
+        ensures grows { self.old.room ≤ self.new.room }
+        ensures stays { n ≤ self.old.room → self.new.room ≡ self.old.room }
+        ensures needs_room { NeedsRoom (n - length self.old.list) result self.old self.new }
     {
         let len = self.items.len();
-        let _ = self.items.resize(len + n, item);
+        if n <= len {
+            self.items.truncate(n);
+            return Ok(());
+        }
+        self.push_n(item, n - len)
     }
 
     /// Adds copies of the items of a slice, as a block. Refused as [`BufferMut::push`] is.
@@ -190,4 +213,20 @@ impl<T: Element, A: Allocator> BufferMut<T, A> {
         }
         Ok(())
     }
+}
+
+// The items with so many copies of one behind them, for which there is room. They are moved in and
+// out, so that the compiler makes vectors of the loop; of the call of a vector that adds as many no
+// contract says that its capacity stays.
+fn with_copies<T: Element, A: Allocator>(items: Vec<T, A>, run: (T, usize)) -> (Vec<T, A>, ())
+    requires { length items.items + run.1 ≤ vec_capacity items }
+    ensures items { result.0.items ≡ items.items ++ replicate run.1 run.0 }
+    ensures stays { vec_capacity result.0 ≡ vec_capacity items }
+{
+    let mut items = items;
+    let (item, n) = run;
+    for _ in 0..n {
+        items.push_reserved(item);
+    }
+    (items, ())
 }

@@ -30,7 +30,7 @@ returns g c =
     let zeros : List ℕ = replicate size 0 in
     let none : length c.in_ok-bytes.bytes.list ≡ 0 = ap length c.in_ok-bytes.ensures.ok.0.list in
     let sized : length room ≡ div_ceil count 8 =
-    ap length c.push_n_unchecked.ensures.list
+    ap length c.push_n_unchecked.ensures.adds.list
     ∙ length-append c.in_ok-bytes.bytes.list zeros
     ∙ ap (λ k. k + length zeros) none
     ∙ zero-add (length zeros) ∙ length-replicate size zero
