@@ -1,7 +1,7 @@
 //! A set of bits that one owner edits.
 ghost use Rattle.std.specs.Prelude.{◌≡◌, ◌+◌, ◌-◌, ◌*◌, ◌/◌, ◌%◌, ◌^◌, ◌<◌, ◌≤◌, ◌==◌, [], ◌∷◌};
 ghost use Rattle.std.specs.Prelude.{true, false, length, min, take, drop, replicate};
-ghost use Rattle.std.specs.Prelude.{slice_get, slice_set, OnOk, OnErr};
+ghost use Rattle.std.specs.Prelude.{◌↔◌, slice_get, slice_set, OnOk, OnErr, IsSome};
 ghost use Rattle.std.specs.Borrow.{sem};
 ghost use Rattle.std.specs.Int.{div_ceil};
 ghost use Rattle.vb_bit_buffer.specs.SharedSet.{SharesFrom};
@@ -327,6 +327,29 @@ impl<A: Allocator + Clone> BitBufferMut<A> {
             self.buffer.truncate((self.offset + n).div_ceil(8));
             self.len = n;
         }
+    }
+
+    /// Takes the last bit away, and with it its byte where no other bit of the set is in there, as
+    /// [`truncate`](Self::truncate) does, in constant time. `None` comes just where there are no
+    /// bits, and the set is unchanged then. Offset and room stay.
+    pub fn pop(&mut self) -> Option<bool>
+        ensures last { slice_get self.old.bits (length self.old.bits - 1) ≡ result }
+        ensures some { IsSome result ↔ (0 < length self.old.bits) }
+        ensures bits { self.new.bits ≡ take (length self.old.bits - 1) self.old.bits }
+        ensures len { length self.new.bits ≡ length self.old.bits - 1 }
+        ensures bytes { 0 < length self.old.bits → self.new.bytes
+            ≡ take (div_ceil (self.old.offset + (length self.old.bits - 1)) 8) self.old.bytes }
+        ensures keeps { self.new
+            ≡ record self.old { bits = self.new.bits; bytes = self.new.bytes } }
+        ensures none { length self.old.bits ≡ 0 → self.new ≡ self.old }
+    {
+        if self.len == 0 {
+            return None;
+        }
+        let last = self.len - 1;
+        let bit = self.value(last);
+        self.truncate(last);
+        Some(bit)
     }
 
     /// Leaves no bits and no bytes, with the offset 0. The room doesn't fall.

@@ -1,5 +1,5 @@
 //! Edits of sets beside the same edits of plain lists.
-use crate::compared::same;
+use crate::compared::{equal, same};
 use crate::made::window;
 use std::alloc::Allocator;
 use std::process::Abort;
@@ -54,6 +54,30 @@ fn lengthen<A: Allocator + Clone>(
     same(rt, set, list);
 }
 
+/// Cuts off what is behind a length, or fills up to it.
+fn resize<A: Allocator + Clone>(
+    rt: &impl Abort,
+    set: &mut BitBufferMut<A>,
+    list: &mut Vec<bool, A>,
+    (n, v): (usize, bool),
+) {
+    set.resize(n, v).expect(rt, "room");
+    list.resize(n, v).expect(rt, "room");
+    same(rt, set, list);
+}
+
+/// Takes more bits away than a byte has.
+fn shorten<A: Allocator + Clone>(
+    rt: &impl Abort,
+    set: &mut BitBufferMut<A>,
+    list: &mut Vec<bool, A>,
+) {
+    for _ in 0..11 {
+        equal(rt, set.pop(), list.pop());
+    }
+    same(rt, set, list);
+}
+
 /// The edits with bits `v`, and with the others.
 fn edited_is_plain<A: Allocator + Clone>(
     rt: &impl Abort,
@@ -70,6 +94,10 @@ fn edited_is_plain<A: Allocator + Clone>(
     list.truncate(n);
     same(rt, set, list);
     lengthen(rt, set, list, !v);
+    let n = list.len();
+    resize(rt, set, list, (n / 3, v));
+    resize(rt, set, list, (n, v));
+    shorten(rt, set, list);
 }
 
 /// The set negated, beside the list.

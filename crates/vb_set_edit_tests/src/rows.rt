@@ -2,9 +2,10 @@
 use crate::changes::{is_left, layout};
 use crate::compared::{equal, holds, same};
 use crate::made::window;
-use std::alloc::Allocator;
+use std::alloc::{Allocator, Global};
 use std::process::Abort;
 use vb_set::{BitBufferMut, BufferError, Result};
+use vb_testing::{Handle, Refusing};
 
 /// An edit of a set.
 enum Edit {
@@ -104,6 +105,8 @@ fn is_left_as_one<A: Allocator + Clone>(rt: &impl Abort, made: Result<BitBufferM
     let before = layout(&set);
     let answer = set.append_n(true, 18446744073709551602);
     equal(rt, answer, Err(BufferError::TooManyBits));
+    let answer = set.resize(18446744073709551603, true);
+    equal(rt, answer, Err(BufferError::TooManyBits));
     equal(rt, open_place(&set), (13, 1, 2));
     is_left(rt, &set, before);
     drop(set);
@@ -112,6 +115,47 @@ fn is_left_as_one<A: Allocator + Clone>(rt: &impl Abort, made: Result<BitBufferM
 #[test]
 fn append_n_past_usize_by_the_offset(rt: HostRuntime) {
     is_left_as_one(&rt, window(rt.alloc(), (0xFF, 2), 13, 1));
+}
+
+/// Cuts a set and fills it up within its room, which stays and for which the heap is asked for
+/// nothing.
+fn is_resized<A: Allocator + Clone>(
+    rt: &impl Abort,
+    heap: &Refusing<Global>,
+    made: Result<BitBufferMut<A>>,
+) {
+    let mut set = made.expect(rt, "a set");
+    let room = set.capacity();
+    heap.refuse(1);
+    equal(rt, set.resize(2, false), Ok(()));
+    equal(rt, set.resize(room, false), Ok(()));
+    equal(rt, (set.len(), set.capacity()), (room, room));
+    equal(rt, set.as_view().true_count(), 2);
+    equal(rt, heap.asked(), 0);
+    drop(set);
+}
+
+#[test]
+fn resize_within_the_room_asks_for_nothing(rt: HostRuntime) {
+    let heap = Refusing::new(rt.alloc(), 0);
+    is_resized(
+        &rt,
+        &heap,
+        window(Handle { inner: &heap }, (0xFF, 30), 13, 200),
+    );
+}
+
+/// Takes away the one bit of a set, and none where there is none.
+fn is_emptied<A: Allocator + Clone>(rt: &impl Abort, made: Result<BitBufferMut<A>>) {
+    let mut set = made.expect(rt, "a set");
+    equal(rt, (set.pop(), set.pop()), (Some(true), None));
+    equal(rt, open_place(&set), (13, 0, 2));
+    drop(set);
+}
+
+#[test]
+fn pop_takes_the_last_bit_or_none(rt: HostRuntime) {
+    is_emptied(&rt, window(rt.alloc(), (0xFF, 4), 13, 1));
 }
 
 /// Cuts off all but four bits at offset 13, and then these.

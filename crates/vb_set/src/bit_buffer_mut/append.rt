@@ -1,6 +1,7 @@
-//! Room, and bits added at the end.
-ghost use Rattle.std.specs.Prelude.{◌≡◌, ◌+◌, ◌*◌, ◌^◌, ◌<◌, ◌≤◌, ◌∷◌, [], length, max};
-ghost use Rattle.std.specs.Prelude.{replicate, true, false, OnOk};
+//! Room, bits added at the end, and bits up to a length.
+ghost use Rattle.std.specs.Prelude.{◌≡◌, ◌+◌, ◌-◌, ◌*◌, ◌^◌, ◌<◌, ◌≤◌, ◌∷◌, ◌++◌, []};
+ghost use Rattle.std.specs.Prelude.{length, max, replicate, take, true, false, OnOk};
+ghost use Rattle.std.specs.Int.{div_ceil};
 ghost use Rattle.vb_bits.specs.Bits.{bits};
 ghost use Rattle.vb_bits.specs.InBytes.{InBytes};
 ghost use Rattle.vb_set.specs.OpenSet.{AddsBits, KeepsStart, NeedsBits};
@@ -113,6 +114,34 @@ impl<A: Allocator + Clone> BitBufferMut<A> {
         push_bits(&mut self.buffer, end, n, v)?;
         self.len += n;
         Ok(())
+    }
+
+    /// Makes it `n` bits long: cut, as [`truncate`](Self::truncate) cuts, or filled up with `v`, as
+    /// [`append_n`](Self::append_n) adds. At its own length it is unchanged.
+    ///
+    /// Refused by `TooManyBits` where offset and `n` together pass `usize::MAX`, else by
+    /// `OutOfMemory` alone. In both cases the set and its room are unchanged. Up to
+    /// [`capacity`](Self::capacity) it takes no memory, succeeds, and the capacity stays.
+    pub fn resize(&mut self, n: usize, v: bool) -> Result<()>
+        ensures ok { OnOk result (self.new.bits
+            ≡ take n self.old.bits ++ replicate (n - length self.old.bits) v) }
+        ensures len { OnOk result (length self.new.bits ≡ n) }
+        ensures cut { n < length self.old.bits
+            → self.new.bytes ≡ take (div_ceil (self.old.offset + n) 8) self.old.bytes }
+        ensures filled { length self.old.bits ≤ n → OnOk result
+            (AddsBits (replicate (n - length self.old.bits) v) self.old self.new) }
+        ensures grows { KeepsStart self.old self.new }
+        ensures stays { n ≤ self.old.room → self.new.room ≡ self.old.room }
+        ensures needs { NeedsBits (n - length self.old.bits) result self.old self.new }
+    {
+        // The end of the bits is a `usize`.
+        let _bytes = self.as_slice();
+        let len = self.len();
+        if n < len {
+            self.truncate(n);
+            return Ok(());
+        }
+        self.append_n(v, n - len)
     }
 
     /// Adds the bits of a shared set behind the last bit: [`append_view`](Self::append_view) of its
