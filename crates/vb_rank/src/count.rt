@@ -5,7 +5,8 @@ ghost use Rattle.vb_bits.specs.Digits.{digits};
 ghost use Rattle.vb_bits.specs.InBytes.{InBytes};
 ghost use Rattle.vb_kernel.specs.Looks.{LooksAtMost};
 
-use vb_bits::{full_word, low_digits};
+use crate::front::front_mask;
+use vb_bits::full_word;
 use vb_kernel::{Glance, count_ones_by};
 
 /// How many of the `len` bits from bit `at` on are true, which are no more than a block.
@@ -33,16 +34,16 @@ fn front_ones(chunk: &[u8; 64], n: usize) -> usize
 {
     let mut ones = 0;
     for word in 0..8 {
-        ones += front_ones_of_word(chunk, word, n.saturating_sub(64 * word).min(64));
+        ones += front_ones_of_word(chunk, word, n);
     }
     ones
 }
 
-/// How many of the first `n` bits of a word of the chunk are true.
+/// How many of the first `n` bits of the chunk are in a word of it and true.
 fn front_ones_of_word(chunk: &[u8; 64], word: usize, n: usize) -> usize
     requires inside { word < 8 }
-    requires in_word { n ≤ 64 }
-    ensures { result ≡ count (bits chunk.now (64 * word) n) }
+    requires block { n ≤ 512 }
+    ensures { result ≡ count (bits chunk.now (64 * word) (min (n - 64 * word) 64)) }
 {
-    low_digits(full_word(chunk, 8 * word, 0), n).count_ones() as usize
+    (full_word(chunk, 8 * word, 0) & front_mask(word, n)).count_ones() as usize
 }

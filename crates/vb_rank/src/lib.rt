@@ -11,6 +11,7 @@
 
 mod block;
 mod count;
+mod front;
 mod level;
 mod probe;
 mod rank;

@@ -1,4 +1,5 @@
-use Rattle.std.proofs.Common.{◌≡◌, ℕ, List, ◌*◌, ◌+◌, ◌/◌, ◌%◌, ◌≤◌, take, refl, ap, sym, ◌∙◌}
+use Rattle.std.proofs.Common.{◌≡◌, ℕ, List, ◌*◌, ◌+◌, ◌-◌, ◌/◌, ◌%◌, ◌≤◌, min}
+use Rattle.std.proofs.Common.{take, refl, ap, sym, ◌∙◌}
 use Rattle.std.proofs.Common.{arith}
 use Rattle.std.specs.Prelude.{slice_range}
 use Rattle.vb_bits.specs.Bits.{bits, count}
@@ -26,14 +27,33 @@ window b xs o n read h =
       ap (λ x. count (bits b x n)) place,
     )
 
+-- what is before the window is in the first word
+before : (xs : List ℕ) (o : ℕ)
+    → count (bits xs (64 * 0) (min (o % 8 - 64 * 0) 64)) ≡ count (bits xs 0 (o % 8))
+before xs o =
+    let all : min (o % 8 - 64 * 0) 64 ≡ o % 8 = omega arith in
+    ap (λ k. count (bits xs 0 k)) all
+
 pub overflow_sub-result : goal.overflow_sub-result
 overflow_sub-result g c =
     let parts = window (g.G.Glance.seen c.args.src.now).bytes c.chunk-chunk.result c.args.at
     c.args.len c.chunk-chunk.ensures.value (omega (arith, c.if-skip-len-gt512.false)) in
-    omega (arith, parts, c.front_ones.ensures, c.front_ones_of_word.ensures)
+    omega (
+      arith,
+      parts,
+      c.front_ones.ensures,
+      c.front_ones_of_word.ensures,
+      before c.chunk-chunk.result c.args.at,
+    )
 
 pub returns-clause-value : goal.returns-clause-value
 returns-clause-value g c =
     let parts = window (g.G.Glance.seen c.args.src.now).bytes c.chunk-chunk.result c.args.at
     c.args.len c.chunk-chunk.ensures.value (omega (arith, c.if-skip-len-gt512.false)) in
-    omega (arith, parts, c.front_ones.ensures, c.front_ones_of_word.ensures)
+    omega (
+      arith,
+      parts,
+      c.front_ones.ensures,
+      c.front_ones_of_word.ensures,
+      before c.chunk-chunk.result c.args.at,
+    )

@@ -1,4 +1,4 @@
-use Rattle.std.proofs.Common.{◌≡◌, ℕ, zero, suc, List, ◌*◌, ◌+◌, ◌<◌, min, ap, sym, ◌∙◌, arith}
+use Rattle.std.proofs.Common.{◌≡◌, ℕ, zero, suc, List, ◌-◌, ◌*◌, ◌+◌, ◌<◌, min, ap, sym, ◌∙◌, arith}
 use Rattle.std.proofs.Common.{zero-add}
 use Rattle.vb_bits.specs.Bits.{bits, count}
 use Rattle.vb_kernel.proofs.BitsLemmas.{count-bits_none, count-bits-add, count-bits-le}
@@ -23,21 +23,20 @@ loop-word-init c =
 pub overflow_add-ones : goal.overflow_add-ones
 overflow_add-ones c =
     let b : List ℕ = c.args.chunk.now in
+    let k : ℕ = c.loop-word.word in let n : ℕ = c.args.n in
     record {
       fits = omega (
         arith,
         c.loop-word.invariant,
-        count-bits-le b 0 (min c.args.n (64 * c.loop-word.word)),
+        count-bits-le b 0 (min n (64 * k)),
         c.front_ones_of_word-ones.ensures,
-        count-bits-le b (64 * c.loop-word.word) c.min.result,
-        c.min.ensures,
+        count-bits-le b (64 * k) (min (n - 64 * k) 64),
       );
     }
 
 pub loop-word-preserved : goal.loop-word-preserved
 loop-word-preserved c =
     let b : List ℕ = c.args.chunk.now in let k : ℕ = c.loop-word.word in let n : ℕ = c.args.n in
-    let more = front-more b (min n (64 * k)) c.min.result
-    (min n (64 * (k + 1))) (64 * k) (omega (arith, c.min.ensures, c.saturating_sub.ensures))
-    (λ some. omega (arith, some, c.min.ensures, c.saturating_sub.ensures)) in
+    let more = front-more b (min n (64 * k)) (min (n - 64 * k) 64)
+    (min n (64 * (k + 1))) (64 * k) (omega arith) (λ some. omega (arith, some)) in
     omega (arith, more, c.loop-word.invariant, c.front_ones_of_word-ones.ensures)
