@@ -10,19 +10,6 @@ use vb_set::{BitBufferMut, BufferError, Result};
 /// For how many bits there is room at least where a set has grown.
 const LEAST_ROOM: usize = 64;
 
-/// Whether the next bit lies in a byte that the set has: then there is room for it.
-#[inline(always)]
-pub(crate) fn has_byte<A: Allocator + Clone>(set: &BitBufferMut<A>) -> bool
-    ensures { result ≡ true → 0 < length set.now.bits
-        → set.now.offset + length set.now.bits + 1 < 2 ^ 64
-        → length set.now.bits + 1 ≤ set.now.room }
-{
-    // The room is that of the bytes, which is a number of whole bytes.
-    let _bytes = set.inner();
-    let _room = set.capacity();
-    (set.offset() % 8 + set.len() % 8) % 8 != 0
-}
-
 /// Makes room for a bit more, and for the counts of as many bits as the set then has room for. A
 /// set with bits has the counts of its room, and so where it has room, that is all.
 #[inline(always)]

@@ -1,5 +1,5 @@
 //! Room, and bits added at the end.
-ghost use Rattle.std.specs.Prelude.{◌≡◌, ◌+◌, ◌^◌, ◌<◌, ◌≤◌, ◌∷◌, [], length, replicate};
+ghost use Rattle.std.specs.Prelude.{◌≡◌, ◌+◌, ◌%◌, ◌^◌, ◌<◌, ◌≤◌, ◌∷◌, [], length, replicate};
 ghost use Rattle.std.specs.Prelude.{IsOk, IsOkUnless, IsErrOf, OnOk, OnErr};
 ghost use Rattle.vb_ranked.specs.Counted.{NeedsCountedBits};
 ghost use Rattle.vb_set.specs.OpenSet.{AddsBits, KeepsStart};
@@ -8,7 +8,7 @@ ghost use Rattle.vb_set.specs.View.{bits_of};
 use super::Ranked;
 use crate::added::count_added;
 use crate::parts::append_parts;
-use crate::room::{has_byte, make_room, make_room_for};
+use crate::room::{make_room, make_room_for};
 use std::alloc::Allocator;
 use vb_rank::BLOCK_BITS;
 use vb_set::{BitBufferView, BufferError, Result};
@@ -54,20 +54,58 @@ impl<A: Allocator + Clone> Ranked<A> {
             → IsErrOf result BufferError.TooManyBits }
         ensures err { OnErr result (self.new ≡ self.old) }
     {
+        if self.set.len() % BLOCK_BITS == 0 {
+            return self.begin_block(v);
+        }
+        if self.set.append_within_bytes(v) {
+            return Ok(());
+        }
+        self.begin_byte(v)
+    }
+
+    /// [`append`](Self::append) of a bit that begins a block, before which the bits are counted.
+    #[inline(never)]
+    fn begin_block(&mut self, v: bool) -> Result<()>
+        requires whole { length self.old.bits % BLOCK_BITS ≡ 0 }
+        ensures ok { OnOk result (AddsBits (v ∷ []) self.old self.new) }
+        ensures grows { KeepsStart self.old self.new }
+        ensures in_room { 0 < length self.old.bits → length self.old.bits + 1 ≤ self.old.room
+            → IsOk result }
+        ensures stays { length self.old.bits + 1 ≤ self.old.room
+            → self.new.room ≡ self.old.room }
+        ensures fits { self.old.offset + length self.old.bits + 1 < 2 ^ 64
+            → IsOkUnless result BufferError.OutOfMemory }
+        ensures too_many { 2 ^ 64 ≤ self.old.offset + length self.old.bits + 1
+            → IsErrOf result BufferError.TooManyBits }
+        ensures err { OnErr result (self.new ≡ self.old) }
+    {
         let len = self.set.len();
-        if len % BLOCK_BITS != 0 && has_byte(&self.set) {
-            self.set.append(v)?;
-            return Ok(());
-        }
-        if len % BLOCK_BITS != 0 {
-            make_room(&mut self.set, &mut self.counts)?;
-            self.set.append(v)?;
-            return Ok(());
-        }
         let ones = self.rank(len);
         make_room(&mut self.set, &mut self.counts)?;
         self.set.append(v)?;
         self.counts.push(len / BLOCK_BITS, ones);
+        Ok(())
+    }
+
+    /// [`append`](Self::append) of a bit that begins no block, and for which the bytes have no
+    /// place. It stands apart, as [`begin_block`](Self::begin_block) does, so that the other bits
+    /// save no registers for what only these call.
+    #[inline(never)]
+    fn begin_byte(&mut self, v: bool) -> Result<()>
+        requires part { 0 < length self.old.bits % BLOCK_BITS }
+        ensures ok { OnOk result (AddsBits (v ∷ []) self.old self.new) }
+        ensures grows { KeepsStart self.old self.new }
+        ensures in_room { length self.old.bits + 1 ≤ self.old.room → IsOk result }
+        ensures stays { length self.old.bits + 1 ≤ self.old.room
+            → self.new.room ≡ self.old.room }
+        ensures fits { self.old.offset + length self.old.bits + 1 < 2 ^ 64
+            → IsOkUnless result BufferError.OutOfMemory }
+        ensures too_many { 2 ^ 64 ≤ self.old.offset + length self.old.bits + 1
+            → IsErrOf result BufferError.TooManyBits }
+        ensures err { OnErr result (self.new ≡ self.old) }
+    {
+        make_room(&mut self.set, &mut self.counts)?;
+        self.set.append(v)?;
         Ok(())
     }
 

@@ -1,6 +1,6 @@
 //! Room, bits added at the end, and bits up to a length.
 ghost use Rattle.std.specs.Prelude.{◌≡◌, ◌+◌, ◌-◌, ◌*◌, ◌^◌, ◌<◌, ◌≤◌, ◌∷◌, ◌++◌, []};
-ghost use Rattle.std.specs.Prelude.{length, max, replicate, take, true, false, OnOk};
+ghost use Rattle.std.specs.Prelude.{◌↔◌, length, max, replicate, take, true, false, IsTrue, OnOk};
 ghost use Rattle.std.specs.Int.{div_ceil};
 ghost use Rattle.vb_bits.specs.Bits.{bits};
 ghost use Rattle.vb_bits.specs.InBytes.{InBytes};
@@ -10,7 +10,7 @@ ghost use Rattle.vb_view.specs.View.{bits_of};
 use super::BitBufferMut;
 use std::alloc::Allocator;
 use vb_bit_buffer::BitBuffer;
-use vb_bit_bytes::{push_bit, push_bits, push_window, reserve_exactly_to, reserve_to};
+use vb_bit_bytes::{push_bit, push_bits, push_window, reserve_exactly_to, reserve_to, write_bit};
 use vb_core::{BufferError, Result};
 use vb_view::BitBufferView;
 
@@ -70,6 +70,29 @@ impl<A: Allocator + Clone> BitBufferMut<A> {
         push_bit(&mut self.buffer, end, v)?;
         self.len += 1;
         Ok(())
+    }
+
+    /// Adds one bit, if the set's bytes have a place for it behind the last bit, and answers
+    /// whether they have: then it takes no memory and can't be refused, and the capacity stays.
+    ///
+    /// `false` where the bytes end with the last bit, and where offset and length together are
+    /// `usize::MAX`; then the set and its room are unchanged, and [`append`](Self::append) has to
+    /// lengthen the bytes, or is refused.
+    pub fn append_within_bytes(&mut self, v: bool) -> bool
+        ensures within { IsTrue result
+            ↔ InBytes self.old.bytes self.old.offset (length self.old.bits + 1) }
+        ensures added { result ≡ true → AddsBits (v ∷ []) self.old self.new }
+        ensures grows { KeepsStart self.old self.new }
+        ensures stays { self.new.room ≡ self.old.room }
+        ensures none { result ≡ false → self.new ≡ self.old }
+    {
+        let end = self.offset + self.len;
+        if end == usize::MAX || self.buffer.len() <= end / 8 {
+            return false;
+        }
+        write_bit(&mut self.buffer, end, v);
+        self.len += 1;
+        true
     }
 
     /// Adds a true bit: [`append`](Self::append) of `true`.

@@ -1,0 +1,32 @@
+use Rattle.std.proofs.Common.{◌≡◌, ℕ, Bool, List, ◌+◌, ◌*◌, ◌/◌, ◌^◌, ◌<◌, ◌≤◌, ◌++◌, ◌∷◌, []}
+use Rattle.std.proofs.Common.{length, take}
+use Rattle.std.proofs.Common.{Ok, Err, sym, ap, ◌∙◌, arith, subst, ⊎_elim}
+use Rattle.std.proofs.lemmas.Bool.{cases_lt}
+use Rattle.std.proofs.Math.Seq.{take-length}
+use Rattle.std.proofs.lemmas.List.{length-append, take-append-le}
+use Rattle.vb_bits.specs.Bits.{count}
+use Rattle.vb_ranked.specs.Counts.{AreCounts, numbers_for}
+use Rattle.vb_set.specs.OpenSet.{OpenSet}
+use Rattle.vb_ranked.proofs.CountEditsLemmas.{AreCounts-push}
+use Rattle.vb_ranked.proofs.ranked.Ranked.begin_byte.Goals as goal
+
+-- the counts that were held are, where the room of the set stays
+held_on : {old new : ℕ} (room : ℕ) → new ≡ old → numbers_for old ≤ room → numbers_for new ≤ room
+held_on room same held = rw same held
+
+pub invariant_of-self-2 : goal.invariant_of-self-2
+invariant_of-self-2 g c =
+    let l : List Bool = c.self.inside.set.bits in let v : Bool = c.args.v in
+    let bits : c.append.new.self.bits ≡ l ++ v ∷ [] = c.in_ok-append.ensures.ok.bits
+    ∙ ap (λ s. s.bits ++ v ∷ []) c.make_room.ensures.set in
+    let counts : AreCounts (l ++ v ∷ []) c.self.inside.counts.numbers =
+    AreCounts-push l c.self.inside.counts.numbers v c.self.invariant.exact
+    (omega (arith, ap (λ (s : OpenSet). length s.bits) c.self.view_is, c.requires.part)) in
+    record {
+      exact = subst (λ x. AreCounts x c.make_room.new.counts.numbers) (sym bits)
+          (subst (AreCounts (l ++ v ∷ [])) (sym c.make_room.ensures.numbers) counts);
+      held = λ some. held_on c.make_room.new.counts.room
+          (c.append.ensures.stays
+          (rw c.make_room.ensures.set c.in_ok-make_room.ensures.room))
+          c.in_ok-make_room.ensures.counts_room;
+    }
