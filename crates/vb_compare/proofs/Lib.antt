@@ -1,2 +1,3 @@
+pub mod FewLemmas
 pub mod LaneLemmas
 pub mod TruthLemmas

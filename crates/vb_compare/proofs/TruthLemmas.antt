@@ -1,10 +1,10 @@
 -- What a comparison answers of lists, and of their parts.
 use Rattle.std.proofs.Common.{◌≡◌, ℕ, suc, zero, ◌+◌, ◌-◌, ◌*◌, ◌/◌, ◌^◌, ◌<◌, ◌≤◌, Bool, not}
 use Rattle.std.proofs.Common.{List, [], ◌∷◌, ◌++◌, length, map, take, drop, replicate, refl, sym}
-use Rattle.std.proofs.Common.{ap, ◌∙◌, arith}
-use Rattle.std.proofs.lemmas.List.{take-map, take-take, take-replicate, take_all, take-append-drop}
+use Rattle.std.proofs.Common.{ap, ◌∙◌, arith, false, get_or}
+use Rattle.std.proofs.lemmas.List.{take-map, take-take, take_all, take-append-drop}
 use Rattle.std.proofs.lemmas.List.{drop-map, drop-drop, length-map, length-drop, length-take-le}
-use Rattle.std.proofs.lemmas.Simd.{zip2_splat, length-zip2, map-map}
+use Rattle.std.proofs.lemmas.Simd.{zip2_splat, length-zip2, get_or-zip2, map-map}
 use Rattle.std.proofs.Math.Seq.{take-add, take-append_seam}
 use lib.Lanes.{zip2}
 use Rattle.vb_bits.specs.Digits.{digits}
@@ -53,17 +53,17 @@ drop-zip2 f (suc n) (x ∷ xs) [] = sym (zip2-nil f (drop n xs))
 drop-zip2 f (suc n) (x ∷ xs) (y ∷ ys) = drop-zip2 f n xs ys
 
 -- ---- digits of words
-pub take-digits : (w k : ℕ) → k ≤ 64 → digits w 0 k ≡ take k (digits w 0 64)
-take-digits w k h =
-    let whole : k + (64 - k) ≡ 64 = omega arith in
-    sym (ap (λ n. take k (digits w 0 n)) (sym whole) ∙ ap (take k) (digits-add w 0 k (64 - k))
-    ∙ ap (λ n. take n (digits w 0 k ++ digits w (0 + k) (64 - k))) (sym (length-digits w 0 k))
-    ∙ take-append_seam (digits w 0 k) (digits w (0 + k) (64 - k)))
+pub take-digits : (w k m : ℕ) → k ≤ m → digits w 0 k ≡ take k (digits w 0 m)
+take-digits w k m h =
+    let whole : k + (m - k) ≡ m = omega arith in
+    sym (ap (λ n. take k (digits w 0 n)) (sym whole) ∙ ap (take k) (digits-add w 0 k (m - k))
+    ∙ ap (λ n. take n (digits w 0 k ++ digits w (0 + k) (m - k))) (sym (length-digits w 0 k))
+    ∙ take-append_seam (digits w 0 k) (digits w (0 + k) (m - k)))
 
--- the first ones of a word of a list
-pub front_digits : (w a k : ℕ) (l : List Bool) → digits w 0 64 ≡ take 64 (drop a l) → k ≤ 64
+-- the first ones of those of a list
+pub front_digits : (w a k m : ℕ) (l : List Bool) → digits w 0 m ≡ take m (drop a l) → k ≤ m
     → digits w 0 k ≡ take k (drop a l)
-front_digits w a k l e h = take-digits w k h ∙ ap (take k) e ∙ take-take k 64 (drop a l) h
+front_digits w a k m l e h = take-digits w k m h ∙ ap (take k) e ∙ take-take k m (drop a l) h
 
 -- the last ones of the word of the last 64
 pub last_digits : (w r : ℕ) (l : List Bool) → 64 ≤ length l
@@ -91,19 +91,6 @@ module _ {X Y : Type 0} (s : Y → Y → Bool) (f : X → Y) (y : Y) (xs : List 
       ∙ sym (ap (take 64) (drop-map (λ x. s (f x) y) at xs)
       ∙ take-map (λ x. s (f x) y) 64 (drop at xs))
 
-  pub few_to_number : (w : ℕ) (zs : List Y) → length (map (λ x. s (f x) y) xs) < 64
-      → take (length xs) zs ≡ map f xs
-      → digits w 0 64 ≡ zip2 s zs (replicate 64 y)
-      → digits w 0 (length (map (λ x. s (f x) y) xs)) ≡ map (λ x. s (f x) y) xs
-  few_to_number w zs few front e =
-      let n : ℕ = length xs in
-      let few_values : n < 64 = omega (arith, length-map xs (λ x. s (f x) y)) in
-      ap (digits w 0) (length-map xs (λ x. s (f x) y)) ∙ take-digits w n (omega arith)
-      ∙ ap (take n) e ∙ take-zip2 s n zs (replicate 64 y)
-      ∙ ap (λ l. zip2 s l (take n (replicate 64 y))) front
-      ∙ ap (zip2 s (map f xs)) (take-replicate n 64 y (omega arith))
-      ∙ zip2_splat s (map f xs) n y (length-map xs f) ∙ map-map (λ z. s z y) f xs
-
 -- ---- values and others
 module _ {X Y : Type 0} (s : Y → Y → Bool) (f : X → Y) where
   -- by what is compared
@@ -112,6 +99,16 @@ module _ {X Y : Type 0} (s : Y → Y → Bool) (f : X → Y) where
   zip2-values [] ys = refl
   zip2-values (x ∷ xs) [] = refl
   zip2-values (x ∷ xs) (y ∷ ys) = ap (λ l. s (f x) (f y) ∷ l) (zip2-values xs ys)
+
+  -- the answer at one place
+  pub one_of_others : (xs ys : List X) (k : ℕ) (x y : X) (b : Bool) → length ys ≡ length xs
+      → k < length (zip2 (λ x y. s (f x) (f y)) xs ys)
+      → b ≡ s (f (get_or xs k x)) (f (get_or ys k y))
+      → b ≡ get_or (zip2 (λ x y. s (f x) (f y)) xs ys) k false
+  one_of_others xs ys k x y b same inside e =
+      let answer : X → X → Bool = λ x y. s (f x) (f y) in
+      let long = length_paired answer xs ys same in
+      e ∙ sym (get_or-zip2 answer xs ys k x y false (omega arith) (omega arith))
 
   -- the first 64 of a part
   loaded : (at : ℕ) (zs : List Y) (xs : List X)
@@ -133,20 +130,6 @@ module _ {X Y : Type 0} (s : Y → Y → Bool) (f : X → Y) where
       ∙ zip2-values (take 64 (drop at xs)) (take 64 (drop at ys))
       ∙ sym (ap (take 64) (drop-zip2 answer at xs ys)
       ∙ take-zip2 answer 64 (drop at xs) (drop at ys))
-
-  pub few_to_others : (w : ℕ) (xs ys : List X) (zs us : List Y) → length ys ≡ length xs
-      → length (zip2 (λ x y. s (f x) (f y)) xs ys) < 64
-      → take (length xs) zs ≡ map f xs → take (length ys) us ≡ map f ys
-      → digits w 0 64 ≡ zip2 s zs us
-      → digits w 0 (length (zip2 (λ x y. s (f x) (f y)) xs ys)) ≡ zip2 (λ x y. s (f x) (f y)) xs ys
-  few_to_others w xs ys zs us same few left right e =
-      let n : ℕ = length xs in
-      let size = length_paired (λ x y. s (f x) (f y)) xs ys same in
-      ap (digits w 0) size ∙ take-digits w n (omega arith)
-      ∙ ap (take n) e ∙ take-zip2 s n zs us
-      ∙ ap (λ l. zip2 s l (take n us)) left
-      ∙ ap (λ k. zip2 s (map f xs) (take k us)) (sym same)
-      ∙ ap (zip2 s (map f xs)) right ∙ zip2-values xs ys
 
 -- ---- a list cut where words begin
 -- one word more

@@ -16,8 +16,8 @@ use crate::write::write_truths;
 ///
 /// These bits have to lie in `out`, and `offset` plus the number of values has to fit in a `usize`.
 ///
-/// 64 values are compared at once by vectors, those of 128 bits one by one; fewer than 64 are
-/// copied to the front of 64 first.
+/// 64 values are compared at once by vectors, or eight times eight of 64 bits and more; fewer than
+/// 64 by eights, and fewer than eight one by one.
 pub fn compare_into<T: CompareLanes>(
     out: &mut [u8],
     offset: usize,
@@ -61,8 +61,8 @@ pub fn compare_into<T: CompareLanes>(
 /// There have to be as many others. These bits have to lie in `out`, and `offset` plus the number
 /// of values has to fit in a `usize`.
 ///
-/// 64 values are compared at once by vectors, those of 128 bits one by one; fewer than 64 are
-/// copied to the front of 64 first.
+/// 64 values are compared at once by vectors, or eight times eight of 64 bits and more; fewer than
+/// 64 by eights, and fewer than eight one by one.
 #[tactic(auto, using(crate::proofs::TruthLemmas::length_paired))]
 pub fn compare_with_into<T: CompareLanes>(
     out: &mut [u8],

@@ -52,6 +52,14 @@ pub trait CompareLanes: BitIndex + Element {
         requires left { is_block left }
         requires right { is_block right }
         ensures { digits result 0 64 ≡ zip2 int_lt (numbers left) (numbers right) };
+
+    /// Whether this value is the other one.
+    fn is_equal(self, other: Self) -> bool
+        ensures { result ≡ int_eq (Self.number self) (Self.number other) };
+
+    /// Whether this value is below the other one.
+    fn is_less(self, other: Self) -> bool
+        ensures { result ≡ int_lt (Self.number self) (Self.number other) };
 }
 
 /// The first 64 values.

@@ -5,6 +5,8 @@
 
 mod compare;
 mod comparison;
+mod digits;
+mod few;
 mod lanes;
 mod test;
 mod truths;

@@ -12,6 +12,10 @@ pub(crate) trait Test {
     // What it answers of two numbers.
     ghost holds: { ℤ → ℤ → Bool };
 
+    /// What it answers of two values.
+    fn one<T: CompareLanes>(left: T, right: T) -> bool
+        ensures { result ≡ holds (T.number left) (T.number right) };
+
     /// The word whose digit `k` is what it answers of value `k` of each block.
     fn word<T: CompareLanes>(left: T::Block, right: T::Block) -> u64
         requires left { T.is_block left }
@@ -37,6 +41,11 @@ impl Test for IsEqual {
     ghost holds = { int_eq };
 
     #[inline(always)]
+    fn one<T: CompareLanes>(left: T, right: T) -> bool {
+        left.is_equal(right)
+    }
+
+    #[inline(always)]
     fn word<T: CompareLanes>(left: T::Block, right: T::Block) -> u64 {
         T::equal(left, right)
     }
@@ -44,6 +53,11 @@ impl Test for IsEqual {
 
 impl Test for IsLess {
     ghost holds = { int_lt };
+
+    #[inline(always)]
+    fn one<T: CompareLanes>(left: T, right: T) -> bool {
+        left.is_less(right)
+    }
 
     #[inline(always)]
     fn word<T: CompareLanes>(left: T::Block, right: T::Block) -> u64 {
@@ -55,6 +69,11 @@ impl Test for IsGreater {
     ghost holds = { λ a b. int_lt b a };
 
     #[inline(always)]
+    fn one<T: CompareLanes>(left: T, right: T) -> bool {
+        right.is_less(left)
+    }
+
+    #[inline(always)]
     fn word<T: CompareLanes>(left: T::Block, right: T::Block) -> u64 {
         T::less(right, left)
     }
@@ -62,6 +81,11 @@ impl Test for IsGreater {
 
 impl<C: Test> Test for IsNot<C> {
     ghost holds = { λ a b. not (C.holds a b) };
+
+    #[inline(always)]
+    fn one<T: CompareLanes>(left: T, right: T) -> bool {
+        !C::one::<T>(left, right)
+    }
 
     #[inline(always)]
     fn word<T: CompareLanes>(left: T::Block, right: T::Block) -> u64 {

@@ -1,6 +1,7 @@
-//! What a comparison answers of values, a word at a time.
+//! What a comparison answers of values, one or a word at a time.
 ghost use Rattle.std.specs.Prelude.{◌≡◌, ◌+◌, ◌<◌, ◌≤◌, Bool, List, length, map, take, drop};
 ghost use Rattle.std.specs.Simd.Lanes.{zip2};
+ghost use Rattle.vb_bits.specs.Bits.{at};
 ghost use Rattle.vb_compare.specs.Digits.{digits};
 
 use crate::lanes::CompareLanes;
@@ -9,6 +10,10 @@ use std::marker::PhantomData;
 
 /// Truth values, of which 64 in a row are made at once.
 pub(crate) trait Truths {
+    /// Eight words of vectors are made sooner of eight values each than one of 64: so it is of
+    /// values of eight bytes and more, of which a vector has few.
+    const IS_WIDE: bool;
+
     // The truth values.
     ghost truths: { Self → List Bool };
 
@@ -16,15 +21,15 @@ pub(crate) trait Truths {
     fn len(&self) -> usize
         ensures { result ≡ length (truths self.now) };
 
-    /// The word whose digits are the 64 from place `at` on.
-    fn word(&self, at: usize) -> u64
-        requires { at + 64 ≤ length (truths self.now) }
-        ensures { digits result 0 64 ≡ take 64 (drop at (truths self.now)) };
+    /// The one at place `k`.
+    fn one(&self, k: usize) -> bool
+        requires { k < length (truths self.now) }
+        ensures { result ≡ at (truths self.now) k };
 
-    /// The word whose lowest digits are all of them, where there are fewer than 64.
-    fn few(&self) -> u64
-        requires { length (truths self.now) < 64 }
-        ensures { digits result 0 (length (truths self.now)) ≡ truths self.now };
+    /// The word whose digits are the 64 from place `k` on.
+    fn word(&self, k: usize) -> u64
+        requires { k + 64 ≤ length (truths self.now) }
+        ensures { digits result 0 64 ≡ take 64 (drop k (truths self.now)) };
 }
 
 /// What `C` answers of each value and one number.
@@ -49,6 +54,8 @@ impl<'a, T: CompareLanes, C: Test> ToNumber<'a, T, C> {
 }
 
 impl<T: CompareLanes, C: Test> Truths for ToNumber<'_, T, C> {
+    const IS_WIDE: bool = T::SIZE >= 8;
+
     ghost truths = { λ s. map (λ v. C.holds (T.number v) (T.number s.number)) s.values.now };
 
     #[inline(always)]
@@ -57,13 +64,13 @@ impl<T: CompareLanes, C: Test> Truths for ToNumber<'_, T, C> {
     }
 
     #[inline(always)]
-    fn word(&self, at: usize) -> u64 {
-        C::word::<T>(T::load(&self.values[at..]), T::splat(self.number))
+    fn one(&self, k: usize) -> bool {
+        C::one::<T>(self.values[k], self.number)
     }
 
     #[inline(always)]
-    fn few(&self) -> u64 {
-        C::word::<T>(T::load_few(self.values), T::splat(self.number))
+    fn word(&self, k: usize) -> u64 {
+        C::word::<T>(T::load(&self.values[k..]), T::splat(self.number))
     }
 }
 
@@ -92,6 +99,8 @@ impl<'a, T: CompareLanes, C: Test> ToOthers<'a, T, C> {
 
 #[tactic(auto, using(crate::proofs::TruthLemmas::length_paired))]
 impl<T: CompareLanes, C: Test> Truths for ToOthers<'_, T, C> {
+    const IS_WIDE: bool = T::SIZE >= 8;
+
     ghost truths = { λ s. zip2 (λ v w. C.holds (T.number v) (T.number w))
         s.values.now s.others.now };
 
@@ -101,12 +110,12 @@ impl<T: CompareLanes, C: Test> Truths for ToOthers<'_, T, C> {
     }
 
     #[inline(always)]
-    fn word(&self, at: usize) -> u64 {
-        C::word::<T>(T::load(&self.values[at..]), T::load(&self.others[at..]))
+    fn one(&self, k: usize) -> bool {
+        C::one::<T>(self.values[k], self.others[k])
     }
 
     #[inline(always)]
-    fn few(&self) -> u64 {
-        C::word::<T>(T::load_few(self.values), T::load_few(self.others))
+    fn word(&self, k: usize) -> u64 {
+        C::word::<T>(T::load(&self.values[k..]), T::load(&self.others[k..]))
     }
 }

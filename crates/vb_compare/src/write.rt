@@ -1,17 +1,15 @@
 //! Truth values written as bits.
-ghost use Rattle.std.specs.Prelude.{◌≡◌, ◌+◌, ◌*◌, ◌<◌, ◌≤◌, ◌%◌, length, take, drop};
+ghost use Rattle.std.specs.Prelude.{◌≡◌, ◌+◌, ◌-◌, ◌*◌, ◌^◌, ◌<◌, ◌≤◌, ◌%◌, length, take};
+ghost use Rattle.std.specs.Prelude.{drop};
 ghost use Rattle.vb_compare.specs.Digits.{digits};
 ghost use Rattle.vb_compare.specs.InBytes.{InBytes};
 ghost use Rattle.vb_compare.specs.Writes.{Writes};
 
+use crate::digits::{store_word, write_digits, write_in_byte};
+use crate::few::{eight, last_values, word_from};
 use crate::truths::Truths;
-use vb_bits::{copy_bits, write_word};
 
 /// Writes the truth values to the bits of `out` from bit `offset` on, and leaves every other bit.
-///
-/// Those of a partial first byte are digits of the first word, those behind them go by words that
-/// begin with a byte, and what is left are digits of the word of the last 64. So from 64 values on
-/// each is made by a word.
 #[inline(always)]
 pub(crate) fn write_truths<S: Truths>(out: &mut [u8], offset: usize, source: &S)
     requires { InBytes out.old offset (length (S.truths source.now)) }
@@ -19,17 +17,52 @@ pub(crate) fn write_truths<S: Truths>(out: &mut [u8], offset: usize, source: &S)
 {
     let len = source.len();
     if len < 64 {
-        write_digits(out, offset, len, source.few());
-        return;
+        write_digits(out, offset, len, last_values(source, len));
+    } else {
+        write_many(out, offset, source);
     }
+}
+
+/// [`write_truths`] of 64 and more: those of a partial first byte, those behind them by words that
+/// begin with a byte, and what is left by fewer digits.
+#[inline(always)]
+fn write_many<S: Truths>(out: &mut [u8], offset: usize, source: &S)
+    requires many { 64 ≤ length (S.truths source.now) }
+    requires window { InBytes out.old offset (length (S.truths source.now)) }
+    ensures { Writes out.old out.new offset (S.truths source.now) }
+{
+    let len = source.len();
     let head = (8 - offset % 8) % 8;
-    write_digits(out, offset, head, source.word(0));
-    let words = (len - head) / 64;
-    write_words(out, offset, source, head, words);
-    let rest = (len - head) % 64;
-    if rest != 0 {
-        let last = source.word(len - 64) >> (64 - rest);
-        write_digits(out, offset + (len - rest), rest, last);
+    write_head(out, offset, source, head);
+    write_words(out, offset, source, head, (len - head) / 64);
+    write_rest(out, offset, source, (len - head) % 64);
+}
+
+/// [`write_truths`] of the first `n`, fewer than eight of at least 64, whose bits lie in one byte.
+#[inline(always)]
+fn write_head<S: Truths>(out: &mut [u8], offset: usize, source: &S, n: usize)
+    requires few { n < 8 }
+    requires enough { 64 ≤ length (S.truths source.now) }
+    requires in_byte { offset % 8 + n ≤ 8 }
+    requires window { InBytes out.old offset (length (S.truths source.now)) }
+    ensures { Writes out.old out.new offset (take n (S.truths source.now)) }
+{
+    if n != 0 {
+        write_in_byte(out, offset, n, first_digits(source));
+    }
+}
+
+/// The word whose lowest digits are the first eight truth values, of at least 64.
+#[inline(always)]
+fn first_digits<S: Truths>(source: &S) -> u64
+    requires fits { length (S.truths source.now) < 2 ^ 64 }
+    requires enough { 64 ≤ length (S.truths source.now) }
+    ensures { digits result 0 8 ≡ take 8 (S.truths source.now) }
+{
+    if S::IS_WIDE {
+        eight(source, 0)
+    } else {
+        source.word(0)
     }
 }
 
@@ -44,27 +77,38 @@ fn write_words<S: Truths>(out: &mut [u8], offset: usize, source: &S, from: usize
 {
     let first = (offset + from) / 8;
     for k in 0..words {
-        store_word(out, first + 8 * k, source.word(from + 64 * k));
+        store_word(out, first + 8 * k, word_from(source, from + 64 * k));
     }
 }
 
-/// Writes the bytes of `word` from byte `at` on.
-///
-/// It isn't inlined: where the answers of a comparison are stored right away, the compiler stores
-/// each lane of its vector apart, which is slower at x86-64-v3.
-#[inline(never)]
-fn store_word(out: &mut [u8], at: usize, word: u64)
-    requires { at + 8 ≤ length out.old }
-    ensures { Writes out.old out.new (8 * at) (digits word 0 64) }
+/// [`write_truths`] of the last `n`, fewer than 64 of at least 64.
+#[inline(always)]
+fn write_rest<S: Truths>(out: &mut [u8], offset: usize, source: &S, n: usize)
+    requires few { n < 64 }
+    requires enough { 64 ≤ length (S.truths source.now) }
+    requires window { InBytes out.old offset (length (S.truths source.now)) }
+    ensures { Writes out.old out.new (offset + (length (S.truths source.now) - n))
+        (drop (length (S.truths source.now) - n) (S.truths source.now)) }
 {
-    write_word(out, at, word);
+    if n != 0 {
+        let len = source.len();
+        write_digits(out, offset + (len - n), n, rest_digits(source, n));
+    }
 }
 
-/// Writes the `n` lowest digits of `word` to the bits from bit `at` on.
-fn write_digits(out: &mut [u8], at: usize, n: usize, word: u64)
-    requires in_word { n ≤ 64 }
-    requires window { InBytes out.old at n }
-    ensures { Writes out.old out.new at (digits word 0 n) }
+/// The word whose lowest digits are the last `n` truth values, fewer than 64 of at least 64.
+///
+/// Up to two eights take less than a word of 64, and where one goes by eights any number does.
+#[inline(always)]
+fn rest_digits<S: Truths>(source: &S, n: usize) -> u64
+    requires few { n < 64 }
+    requires enough { 64 ≤ length (S.truths source.now) }
+    ensures { digits result 0 n
+        ≡ drop (length (S.truths source.now) - n) (S.truths source.now) }
 {
-    copy_bits(out, at, &word.to_le_bytes(), 0, n);
+    if S::IS_WIDE || n <= 16 {
+        last_values(source, n)
+    } else {
+        source.word(source.len() - 64) >> (64 - n)
+    }
 }

@@ -23,9 +23,6 @@ const ALL: [Comparison; 6] = [
     Comparison::GreaterOrEqual,
 ];
 
-/// Lengths at which each bit offset is tried.
-const EDGES: [usize; 12] = [1, 7, 8, 9, 56, 57, 63, 64, 65, 71, 127, 135];
-
 /// As many bytes as hold the longest one from any offset on.
 const ROOM: usize = 150;
 
@@ -44,7 +41,7 @@ fn answer<T: Ord>(left: &T, op: Comparison, right: &T) -> bool {
     }
 }
 
-/// The bits from bit `offset` on are those answers, and all others of as many bytes those of
+/// The bits from bit `offset` on are those answers, and those before and behind them those of
 /// `0x5A`.
 fn are_written<T: Ord + Copy>(
     rt: &impl Abort,
@@ -54,7 +51,8 @@ fn are_written<T: Ord + Copy>(
     op: Comparison,
     right: &[T],
 ) {
-    for i in 0..8 * out.len().min(ROOM) {
+    let end = offset.saturating_add(left.len()).saturating_add(16);
+    for i in 0..end.min(8 * out.len().min(ROOM)) {
         let stale = (0x5A_u8 >> (i % 8)) & 1 == 1;
         let inside = offset <= i && i - offset < left.len() && i - offset < right.len();
         let wanted = if inside {
@@ -97,18 +95,14 @@ fn first<T>(items: &[T], count: usize) -> &[T] {
     &items[..count.min(items.len())]
 }
 
-/// All lengths below 201 at one offset each, some at each offset, and some long ones.
+/// All lengths below 201 at each offset within a byte, and some long ones.
 fn beside_a_loop<T: CompareLanes + Ord>(rt: &impl Abort, alloc: Global) {
     let left = values::<T>(rt, alloc, 1027, 1);
     let right = values::<T>(rt, alloc, 1027, 2);
     for len in 0..=200usize {
         let (a, b) = (first(&left, len), first(&right, len));
-        at_offset(rt, alloc, a, b, len % 10, value(len % 7, 77));
-    }
-    for len in EDGES {
-        let (a, b) = (first(&left, len), first(&right, len));
-        for offset in 0..10 {
-            at_offset(rt, alloc, a, b, offset, value(offset % 7, 99));
+        for offset in 0..9 {
+            at_offset(rt, alloc, a, b, offset, value((len + offset) % 7, 77));
         }
     }
     for len in LONG {

@@ -38,6 +38,16 @@ impl CompareLanes for i8 {
     fn less(left: Simd<i8, 64>, right: Simd<i8, 64>) -> u64 {
         left.simd_lt(right).to_bitmask()
     }
+
+    #[inline(always)]
+    fn is_equal(self, other: i8) -> bool {
+        self == other
+    }
+
+    #[inline(always)]
+    fn is_less(self, other: i8) -> bool {
+        self < other
+    }
 }
 
 impl CompareLanes for i16 {
@@ -69,6 +79,16 @@ impl CompareLanes for i16 {
     #[inline(always)]
     fn less(left: Simd<i16, 64>, right: Simd<i16, 64>) -> u64 {
         left.simd_lt(right).to_bitmask()
+    }
+
+    #[inline(always)]
+    fn is_equal(self, other: i16) -> bool {
+        self == other
+    }
+
+    #[inline(always)]
+    fn is_less(self, other: i16) -> bool {
+        self < other
     }
 }
 
@@ -102,6 +122,16 @@ impl CompareLanes for i32 {
     fn less(left: Simd<i32, 64>, right: Simd<i32, 64>) -> u64 {
         left.simd_lt(right).to_bitmask()
     }
+
+    #[inline(always)]
+    fn is_equal(self, other: i32) -> bool {
+        self == other
+    }
+
+    #[inline(always)]
+    fn is_less(self, other: i32) -> bool {
+        self < other
+    }
 }
 
 impl CompareLanes for i64 {
@@ -134,6 +164,16 @@ impl CompareLanes for i64 {
     fn less(left: Simd<i64, 64>, right: Simd<i64, 64>) -> u64 {
         left.simd_lt(right).to_bitmask()
     }
+
+    #[inline(always)]
+    fn is_equal(self, other: i64) -> bool {
+        self == other
+    }
+
+    #[inline(always)]
+    fn is_less(self, other: i64) -> bool {
+        self < other
+    }
 }
 
 impl CompareLanes for isize {
@@ -165,5 +205,15 @@ impl CompareLanes for isize {
     #[inline(always)]
     fn less(left: Simd<isize, 64>, right: Simd<isize, 64>) -> u64 {
         left.simd_lt(right).to_bitmask()
+    }
+
+    #[inline(always)]
+    fn is_equal(self, other: isize) -> bool {
+        self == other
+    }
+
+    #[inline(always)]
+    fn is_less(self, other: isize) -> bool {
+        self < other
     }
 }

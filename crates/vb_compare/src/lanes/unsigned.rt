@@ -34,6 +34,16 @@ impl CompareLanes for u8 {
     fn less(left: Simd<u8, 64>, right: Simd<u8, 64>) -> u64 {
         left.simd_lt(right).to_bitmask()
     }
+
+    #[inline(always)]
+    fn is_equal(self, other: u8) -> bool {
+        self == other
+    }
+
+    #[inline(always)]
+    fn is_less(self, other: u8) -> bool {
+        self < other
+    }
 }
 
 impl CompareLanes for u16 {
@@ -65,6 +75,16 @@ impl CompareLanes for u16 {
     #[inline(always)]
     fn less(left: Simd<u16, 64>, right: Simd<u16, 64>) -> u64 {
         left.simd_lt(right).to_bitmask()
+    }
+
+    #[inline(always)]
+    fn is_equal(self, other: u16) -> bool {
+        self == other
+    }
+
+    #[inline(always)]
+    fn is_less(self, other: u16) -> bool {
+        self < other
     }
 }
 
@@ -98,6 +118,16 @@ impl CompareLanes for u32 {
     fn less(left: Simd<u32, 64>, right: Simd<u32, 64>) -> u64 {
         left.simd_lt(right).to_bitmask()
     }
+
+    #[inline(always)]
+    fn is_equal(self, other: u32) -> bool {
+        self == other
+    }
+
+    #[inline(always)]
+    fn is_less(self, other: u32) -> bool {
+        self < other
+    }
 }
 
 impl CompareLanes for u64 {
@@ -130,6 +160,16 @@ impl CompareLanes for u64 {
     fn less(left: Simd<u64, 64>, right: Simd<u64, 64>) -> u64 {
         left.simd_lt(right).to_bitmask()
     }
+
+    #[inline(always)]
+    fn is_equal(self, other: u64) -> bool {
+        self == other
+    }
+
+    #[inline(always)]
+    fn is_less(self, other: u64) -> bool {
+        self < other
+    }
 }
 
 impl CompareLanes for usize {
@@ -161,5 +201,15 @@ impl CompareLanes for usize {
     #[inline(always)]
     fn less(left: Simd<usize, 64>, right: Simd<usize, 64>) -> u64 {
         left.simd_lt(right).to_bitmask()
+    }
+
+    #[inline(always)]
+    fn is_equal(self, other: usize) -> bool {
+        self == other
+    }
+
+    #[inline(always)]
+    fn is_less(self, other: usize) -> bool {
+        self < other
     }
 }

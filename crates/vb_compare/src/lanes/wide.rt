@@ -43,6 +43,16 @@ impl CompareLanes for u128 {
         }
         pack_bool_word_lanes(&bools)
     }
+
+    #[inline(always)]
+    fn is_equal(self, other: u128) -> bool {
+        self == other
+    }
+
+    #[inline(always)]
+    fn is_less(self, other: u128) -> bool {
+        self < other
+    }
 }
 
 impl CompareLanes for i128 {
@@ -82,5 +92,15 @@ impl CompareLanes for i128 {
             bools[k] = left[k] < right[k];
         }
         pack_bool_word_lanes(&bools)
+    }
+
+    #[inline(always)]
+    fn is_equal(self, other: i128) -> bool {
+        self == other
+    }
+
+    #[inline(always)]
+    fn is_less(self, other: i128) -> bool {
+        self < other
     }
 }

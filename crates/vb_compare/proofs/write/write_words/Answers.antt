@@ -18,7 +18,7 @@ loop-k-preserved g c =
     length-take-le (64 * k) (drop from l) (omega (arith, length-drop from l)) in
     let place : 8 * ((o + from) / 8 + 8 * k) ≡ o + from + length part = omega arith in
     let wrote = subst (Writes c.loop-k.out c.store_word.new.out
-    (8 * ((o + from) / 8 + 8 * k))) c.word.ensures c.store_word.ensures in
+    (8 * ((o + from) / 8 + 8 * k))) c.word_from.ensures c.store_word.ensures in
     subst (Writes c.args.out.now c.store_word.new.out (o + from)) (next_word l from k)
     (Writes-add c.args.out.now c.loop-k.out c.store_word.new.out (o + from)
     (8 * ((o + from) / 8 + 8 * k)) part (take 64 (drop (from + 64 * k) l)) place

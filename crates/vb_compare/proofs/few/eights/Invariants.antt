@@ -1,0 +1,9 @@
+use Rattle.std.proofs.Common.{◌≡◌, ◌*◌, ◌^◌, ◌<◌, take, drop}
+use Rattle.vb_bits.specs.Digits.{digits}
+use Rattle.vb_compare.proofs.few.eights.Given as goal
+
+abbrev pub invariant-loop-k : goal.invariant-loop-k
+invariant-loop-k g l = record {
+  digits : digits l.word 0 (8 * l.k) ≡ take (8 * l.k) (drop l.from (g.S.Truths.truths l.source));
+  clear : l.word < 2 ^ (8 * l.k);
+}
