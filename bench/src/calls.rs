@@ -133,6 +133,29 @@ unsafe extern "C" {
         m: usize,
         len: usize,
     ) -> usize;
+    pub fn vb_and_kleene(
+        trues: *mut u8,
+        trues_size: usize,
+        t: usize,
+        valid: *mut u8,
+        valid_size: usize,
+        v: usize,
+        left: Bytes,
+        left_size: usize,
+        l: usize,
+        left_all_valid: bool,
+        left_validity: Bytes,
+        left_validity_size: usize,
+        left_validity_offset: usize,
+        right: Bytes,
+        right_size: usize,
+        r: usize,
+        right_all_valid: bool,
+        right_validity: Bytes,
+        right_validity_size: usize,
+        right_validity_offset: usize,
+        len: usize,
+    );
 }
 
 #[link(name = "vb_c_values", kind = "static")]

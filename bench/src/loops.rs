@@ -174,6 +174,26 @@ pub fn above<T: PartialOrd + Copy>(out: &mut [u8], values: &[T], limit: T) {
     }
 }
 
+/// `and` of truth values that may be null, of two columns of values and validity: which answers are
+/// true, and which aren't null, a word of each at a time.
+#[inline(never)]
+pub fn and_kleene(
+    [trues, valid]: &mut [Vec<u64>; 2],
+    left: [&Input; 2],
+    right: [&Input; 2],
+    offset: usize,
+    len: usize,
+) {
+    let [a, a_valid] = left.map(|it| realigned(it, 0, len));
+    let [b, b_valid] = right.map(|it| realigned(it, offset, len));
+    let outs = trues.iter_mut().zip(valid);
+    for ((to, known), ((a, a_valid), (b, b_valid))) in outs.zip(a.zip(a_valid).zip(b.zip(b_valid)))
+    {
+        *to = a & a_valid & b & b_valid;
+        *known = *to | a_valid & !a | b_valid & !b;
+    }
+}
+
 /// A window of whole words combined into words that begin with it.
 #[inline(never)]
 pub fn combine_in_place(left: &mut [u64], right: (&Input, usize), len: usize) {

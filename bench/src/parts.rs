@@ -8,6 +8,7 @@ mod count;
 mod directory;
 mod filters;
 mod growth;
+mod kleene;
 mod made;
 mod operators;
 mod pairs;
@@ -46,6 +47,7 @@ pub fn measure(bench: &mut Bench) {
     walks::measure(bench);
     closures::measure(bench);
     compared::measure(bench);
+    kleene::measure(bench);
     operators::measure(bench);
     pairs::measure(bench);
     copies::measure(bench);

@@ -112,7 +112,8 @@ static const struct {
 static void three_valued(const uint8_t *left, size_t l, const uint8_t *left_valid,
     const uint8_t *right, size_t r, const uint8_t *right_valid, size_t len)
 {
-    const size_t sizes[] = {left_valid == NULL ? 0 : BYTES, right_valid == NULL ? 0 : BYTES};
+    const size_t size = BYTES;
+    const size_t sizes[] = {left_valid == NULL ? 0 : size, right_valid == NULL ? 0 : size};
     const bool all[] = {left_valid == NULL, right_valid == NULL};
     const size_t t = random_below(BITS - len + 1), v = random_below(BITS - len + 1);
     for (size_t c = 0; c < sizeof logics / sizeof logics[0]; c++) {

@@ -82,6 +82,8 @@ pub use vb_kernel::window_fits;
 pub use vb_kernel::xor_count;
 pub use vb_kernel::xor_count_by;
 pub use vb_kernel::zip_words;
+pub use vb_kleene::and_kleene_into;
+pub use vb_kleene::or_kleene_into;
 pub use vb_mem::Buffer;
 pub use vb_mem::BufferIterator;
 pub use vb_mem::BufferMut;
