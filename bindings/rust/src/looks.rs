@@ -40,6 +40,14 @@ impl PartialEq<BitsMut<'_>> for Bits<'_> {
     }
 }
 
+/// The same window, for calls that take one by [`Into`].
+impl<'a> From<&Bits<'a>> for Bits<'a> {
+    #[inline]
+    fn from(bits: &Bits<'a>) -> Bits<'a> {
+        *bits
+    }
+}
+
 impl Hash for Bits<'_> {
     fn hash<H: Hasher>(&self, state: &mut H) {
         self.len().hash(state);

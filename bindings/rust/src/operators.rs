@@ -6,7 +6,7 @@ use crate::kernels::Operator;
 use crate::{Bits, BitsMut, Mask};
 
 #[cfg(feature = "alloc")]
-use crate::{Bitmap, Grow};
+use crate::{Bitmap, Grow, Validity};
 #[cfg(feature = "alloc")]
 use core::ops::{BitAnd, BitOr, BitXor, Not};
 
@@ -22,18 +22,30 @@ fn right_of(left: usize, right: &impl Mask) -> Option<Bits<'_>> {
     right.mask()
 }
 
-/// What the operator makes of the bits and of those of the right side.
+/// What the operator makes of the bits of the left side, which are all true where it has none, and
+/// of those of the right side.
 #[cfg(feature = "alloc")]
 #[track_caller]
-fn combined(left: Bits<'_>, right: &impl Mask, operator: Operator) -> Bitmap {
+fn combined(left: Validity<'_>, right: &impl Mask, operator: Operator) -> Bitmap {
     let right = right_of(left.len(), right);
     Bitmap::make(left.len(), |mut out| {
-        if let Some(right) = right {
+        if let (Some(left), Some(right)) = (left.bits(), right) {
             return out.combine_into(left, right, operator);
         }
-        out.copy_from(left);
-        by_all(&mut out, operator);
+        match left.bits() {
+            Some(left) => out.copy_from(left),
+            None => out.fill(true),
+        }
+        apply(&mut out, right, operator);
     })
+}
+
+/// The operator with a right side that is as long, or all true.
+fn apply(bits: &mut BitsMut<'_>, right: Option<Bits<'_>>, operator: Operator) {
+    match right {
+        Some(right) => bits.combine(right, operator),
+        None => by_all(bits, operator),
+    }
 }
 
 /// The operator with a right side that is all true.
@@ -48,16 +60,14 @@ fn by_all(bits: &mut BitsMut<'_>, operator: Operator) {
 
 #[track_caller]
 fn write(bits: &mut BitsMut<'_>, right: &impl Mask, operator: Operator) {
-    match right_of(bits.len(), right) {
-        Some(right) => bits.combine(right, operator),
-        None => by_all(bits, operator),
-    }
+    let right = right_of(bits.len(), right);
+    apply(bits, right, operator);
 }
 
 /// An operator on this left side, which gives new bits.
 #[cfg(feature = "alloc")]
 macro_rules! on {
-    ($operator:ident, $trait:ident, $name:ident, [$($generic:tt)*] $left:ty, $bits:expr) => {
+    ($operator:ident, $trait:ident, $name:ident, [$($generic:tt)*] $left:ty, $rows:expr) => {
         /// New bits. The right side is what has some, by value or by reference.
         ///
         /// # Panics
@@ -68,8 +78,8 @@ macro_rules! on {
 
             #[track_caller]
             fn $name(self, right: R) -> Bitmap {
-                let bits: fn(&Self) -> Bits<'_> = $bits;
-                combined(bits(&self), &right, Operator::$operator)
+                let rows: fn(&Self) -> Validity<'_> = $rows;
+                combined(rows(&self), &right, Operator::$operator)
             }
         }
     };
@@ -78,13 +88,17 @@ macro_rules! on {
 macro_rules! operators {
     ($($operator:ident: $trait:ident, $name:ident, $assign:ident, $assign_name:ident;)*) => {$(
         #[cfg(feature = "alloc")]
-        on!($operator, $trait, $name, [] Bits<'_>, |bits| *bits);
+        on!($operator, $trait, $name, [] Bits<'_>, |bits| (*bits).into());
         #[cfg(feature = "alloc")]
-        on!($operator, $trait, $name, [] &Bits<'_>, |bits| **bits);
+        on!($operator, $trait, $name, [] &Bits<'_>, |bits| (**bits).into());
         #[cfg(feature = "alloc")]
-        on!($operator, $trait, $name, [B: AsRef<[u8]>,] Bitmap<B>, |bitmap| bitmap.bits());
+        on!($operator, $trait, $name, [] Validity<'_>, |rows| *rows);
         #[cfg(feature = "alloc")]
-        on!($operator, $trait, $name, [B: AsRef<[u8]>,] &Bitmap<B>, |bitmap| bitmap.bits());
+        on!($operator, $trait, $name, [] &Validity<'_>, |rows| **rows);
+        #[cfg(feature = "alloc")]
+        on!($operator, $trait, $name, [B: AsRef<[u8]>,] Bitmap<B>, |bitmap| bitmap.bits().into());
+        #[cfg(feature = "alloc")]
+        on!($operator, $trait, $name, [B: AsRef<[u8]>,] &Bitmap<B>, |bitmap| bitmap.bits().into());
 
         /// # Panics
         ///
@@ -135,7 +149,7 @@ impl Bits<'_> {
     #[must_use]
     #[track_caller]
     pub fn and_not(self, right: impl Mask) -> Bitmap {
-        combined(self, &right, Operator::AndNot)
+        combined(self.into(), &right, Operator::AndNot)
     }
 }
 
@@ -153,6 +167,34 @@ impl Not for Bits<'_> {
 
 #[cfg(feature = "alloc")]
 impl Not for &Bits<'_> {
+    type Output = Bitmap;
+
+    fn not(self) -> Bitmap {
+        !*self
+    }
+}
+
+/// Which rows are null: a bit for each, also where all are valid.
+///
+/// ```
+/// use vortex_bits::{Bitmap, Bits, Validity};
+///
+/// let (some, all) = (Validity::from(Bits::new(&[0b0110], 0, 4)), Validity::new(None, 4));
+/// assert_eq!((!some, !all), (Bitmap::from_indices(4, &[0, 3]), Bitmap::new_unset(4)));
+/// assert_eq!((some & all, some ^ all), (Bitmap::from(some), !some));
+/// ```
+#[cfg(feature = "alloc")]
+impl Not for Validity<'_> {
+    type Output = Bitmap;
+
+    fn not(self) -> Bitmap {
+        let none = || Bitmap::new_unset(self.len());
+        self.bits().map_or_else(none, |bits| !bits)
+    }
+}
+
+#[cfg(feature = "alloc")]
+impl Not for &Validity<'_> {
     type Output = Bitmap;
 
     fn not(self) -> Bitmap {

@@ -10,10 +10,16 @@ use crate::{Bits, BitsMut, Mask};
 #[cfg(feature = "alloc")]
 use crate::error::TakeError;
 #[cfg(feature = "alloc")]
-use crate::{BitIndex, Bitmap};
+use crate::{BitIndex, Bitmap, Grow};
 
 /// Which of some rows are valid: a bit for each, or none where all are, as Arrow leaves out the
-/// validity of a column that has no null. What is made of such is left out too.
+/// validity of a column that has no null. What the calls here make of such is left out too: they
+/// answer None where no bits were there. Bits that are there may still be all true; nothing looks
+/// for that. Two are equal where they say the same of as many rows, with bits or without.
+///
+/// Operators give a [`Bitmap`](crate::Bitmap) in either case, as `is null` and `is not null` want
+/// it: `!` is which rows are null, `Bitmap::from` which are valid, and `&`, `|` and `^` take a
+/// validity on both sides.
 ///
 /// ```
 /// use vortex_bits::{Bits, Validity};
@@ -23,6 +29,8 @@ use crate::{BitIndex, Bitmap};
 /// assert_eq!((some.count_zeros(), all.count_zeros()), (2, 0));
 /// assert_eq!(some.and(all).unwrap(), Bits::new(&[0b0110], 0, 4));
 /// assert_eq!((all.and(all), all.take(&[3u32, 0]), some.or(all)), (None, None, None));
+/// assert_eq!(all, Validity::from(Bits::new(&[0b1111], 0, 4)));
+/// assert_eq!((!some, !all), ([true, false, false, true].into(), [false; 4].into()));
 /// ```
 #[derive(Clone, Copy, Debug)]
 pub struct Validity<'a> {
@@ -46,7 +54,8 @@ impl<'a> Validity<'a> {
         }
     }
 
-    /// The bits; None where all rows are valid.
+    /// The bits. None where no bits were there: all rows are valid then. Some may still be all
+    /// true, which [`count_zeros`](Validity::count_zeros) tells.
     ///
     /// ```
     /// assert!(vortex_bits::Validity::new(None, 4).bits().is_none());
@@ -162,6 +171,20 @@ impl<'a> Validity<'a> {
     }
 }
 
+/// What they say of rows: without bits as with bits that are all true.
+impl PartialEq for Validity<'_> {
+    fn eq(&self, other: &Validity<'_>) -> bool {
+        self.len == other.len
+            && match (self.bits, other.bits) {
+                (None, None) => true,
+                (Some(bits), Some(others)) => bits == others,
+                (Some(bits), None) | (None, Some(bits)) => bits.all(),
+            }
+    }
+}
+
+impl Eq for Validity<'_> {}
+
 /// Of as many rows as there are bits.
 impl<'a> From<Bits<'a>> for Validity<'a> {
     fn from(bits: Bits<'a>) -> Validity<'a> {
@@ -169,7 +192,23 @@ impl<'a> From<Bits<'a>> for Validity<'a> {
     }
 }
 
-/// Calls into new memory, which answer None where all rows are valid without a look at bits.
+/// Which rows are valid, as `is not null` wants them: a bit for each, also where none were there.
+///
+/// ```
+/// use vortex_bits::{Bitmap, Validity};
+///
+/// assert_eq!(Bitmap::from(Validity::new(None, 4)), Bitmap::new_set(4));
+/// ```
+#[cfg(feature = "alloc")]
+impl From<Validity<'_>> for Bitmap {
+    fn from(validity: Validity<'_>) -> Bitmap {
+        let all = || Bitmap::new_set(validity.len);
+        validity.bits.map_or_else(all, Bitmap::from)
+    }
+}
+
+/// Calls into new memory, which answer None where no bits were there: all rows are valid then. Of
+/// bits that are there no call looks whether they are all true.
 #[cfg(feature = "alloc")]
 impl Validity<'_> {
     /// Which rows are valid here and in `right`. Truth values that may be null are combined by
@@ -227,6 +266,34 @@ impl Validity<'_> {
     pub fn filter(self, mask: impl Mask) -> Option<Bitmap> {
         mask.of_len(self.len);
         Some(self.bits?.filter(mask))
+    }
+
+    /// Adds to the end of `kept` which of the rows that a mask keeps are valid, in their order: a
+    /// bit for each, also where none were there. So the rows that batches keep make one column,
+    /// with [`values::filter_onto`](crate::values::filter_onto); all of the rows are added by
+    /// [`Extend`].
+    ///
+    /// ```
+    /// use vortex_bits::{Bitmap, Bits, Validity};
+    ///
+    /// let (mask, mut valid) = (Bits::new(&[0b1010], 0, 4), Bitmap::growing(0));
+    /// for batch in [Validity::new(None, 4), Validity::from(Bits::new(&[0b0010], 0, 4))] {
+    ///     batch.filter_onto(mask, &mut valid);
+    /// }
+    /// valid.extend([Validity::new(None, 2)]);
+    /// assert_eq!(format!("{valid:?}"), "Bits(111011)");
+    /// ```
+    ///
+    /// # Panics
+    ///
+    /// Where `mask` isn't one for these rows; `kept` is as it was.
+    #[track_caller]
+    pub fn filter_onto<B: Grow>(self, mask: impl Mask, kept: &mut Bitmap<B>) {
+        let rows = mask.of_len(self.len).map_or(self.len, Bits::count_ones);
+        match self.bits {
+            Some(bits) => bits.filter_into(mask, kept.grow(rows)),
+            None => kept.append_n(rows, true),
+        }
     }
 
     /// Which of the rows at the indices are valid.

@@ -3,7 +3,7 @@
 use super::Bitmap;
 use crate::bytes::AlignedBytes;
 use crate::kernels;
-use crate::{Bits, BitsMut, Grow};
+use crate::{Bits, BitsMut, Grow, Validity};
 
 /// Calls that write: in the bytes at once where they have no other owner, else in a copy of the
 /// bits, which takes memory.
@@ -35,7 +35,7 @@ impl<B: Grow> Bitmap<B> {
     /// # Panics
     ///
     /// Where the end of the bits is no `usize`.
-    fn grow(&mut self, n: usize) -> BitsMut<'_> {
+    pub(crate) fn grow(&mut self, n: usize) -> BitsMut<'_> {
         let (bytes, offset, len) = self.owned();
         let start = offset + *len;
         let end = start.checked_add(n).expect("an end is a usize");
@@ -230,6 +230,26 @@ impl<'a, B: Grow> Extend<Bits<'a>> for Bitmap<B> {
     fn extend<I: IntoIterator<Item = Bits<'a>>>(&mut self, windows: I) {
         for bits in windows {
             self.append_bits(bits);
+        }
+    }
+}
+
+/// Which rows are valid, of one after the other: a bit for each row, also where none were there.
+///
+/// ```
+/// use vortex_bits::{Bitmap, Bits, Validity};
+///
+/// let mut rows = Bitmap::default();
+/// rows.extend([Validity::new(None, 2), Validity::from(Bits::new(&[0b10], 0, 2))]);
+/// assert_eq!(format!("{rows:?}"), "Bits(1101)");
+/// ```
+impl<'a, B: Grow> Extend<Validity<'a>> for Bitmap<B> {
+    fn extend<I: IntoIterator<Item = Validity<'a>>>(&mut self, validities: I) {
+        for validity in validities {
+            match validity.bits() {
+                Some(bits) => self.append_bits(bits),
+                None => self.append_n(validity.len(), true),
+            }
         }
     }
 }

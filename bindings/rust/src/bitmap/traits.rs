@@ -6,8 +6,8 @@ use core::hash::{Hash, Hasher};
 use core::ops::Index;
 
 use super::Bitmap;
-use crate::Bits;
 use crate::iter::Iter;
+use crate::{Bits, Validity};
 
 /// No bits.
 impl Default for Bitmap {
@@ -46,6 +46,20 @@ impl From<Bits<'_>> for Bitmap {
     }
 }
 
+/// The bits as a window, for calls that take one by [`Into`].
+///
+/// ```
+/// use vortex_bits::{Bitmap, Bits};
+///
+/// assert!(Bits::from(&Bitmap::new_set(3)).all());
+/// ```
+impl<'a, B: AsRef<[u8]>> From<&'a Bitmap<B>> for Bits<'a> {
+    #[inline]
+    fn from(bitmap: &'a Bitmap<B>) -> Bits<'a> {
+        bitmap.bits()
+    }
+}
+
 /// The truth values, a byte each.
 ///
 /// ```
@@ -79,6 +93,15 @@ impl<'a> FromIterator<Bits<'a>> for Bitmap {
     fn from_iter<I: IntoIterator<Item = Bits<'a>>>(windows: I) -> Bitmap {
         let mut joined = Bitmap::growing(0);
         joined.extend(windows);
+        joined.share()
+    }
+}
+
+/// Which rows are valid, of one after the other: a bit for each row, also where none were there.
+impl<'a> FromIterator<Validity<'a>> for Bitmap {
+    fn from_iter<I: IntoIterator<Item = Validity<'a>>>(validities: I) -> Bitmap {
+        let mut joined = Bitmap::growing(0);
+        joined.extend(validities);
         joined.share()
     }
 }
