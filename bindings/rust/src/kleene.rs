@@ -10,7 +10,11 @@ use crate::Bitmap;
 
 /// Writes `a and b` of truth values that may be null, by three-valued logic, Kleene's, as in SQL:
 /// false where one of the two is false, also where the other one is null; else null where one is
-/// null. `a_valid` and `b_valid` say which aren't null; None stands for all.
+/// null.
+///
+/// `a` and `b` are windows, or bitmaps by reference; `a_valid` and `b_valid` say which of their
+/// bits aren't null, and are what a mask is elsewhere. None stands for all: `None::<Bits>` where it
+/// stands by itself.
 ///
 /// Which are true goes to `trues`, with false where the answer is null, and which are valid to
 /// `valid`. What `a` and `b` have at nulls counts for nothing.
@@ -30,15 +34,16 @@ use crate::Bitmap;
 ///
 /// Where the windows and masks aren't of one length.
 #[track_caller]
-pub fn and_kleene_into(
-    a: Bits<'_>,
+pub fn and_kleene_into<'a, 'b>(
+    a: impl Into<Bits<'a>>,
     a_valid: impl Mask,
-    b: Bits<'_>,
+    b: impl Into<Bits<'b>>,
     b_valid: impl Mask,
     trues: BitsMut<'_>,
     valid: BitsMut<'_>,
 ) {
-    combine_into(columns(a, &a_valid, b, &b_valid), Logic::And, trues, valid);
+    let both = columns(a.into(), &a_valid, b.into(), &b_valid);
+    combine_into(both, Logic::And, trues, valid);
 }
 
 /// Writes `a or b` of truth values that may be null, by three-valued logic: true where one of the
@@ -59,23 +64,30 @@ pub fn and_kleene_into(
 ///
 /// Where the windows and masks aren't of one length.
 #[track_caller]
-pub fn or_kleene_into(
-    a: Bits<'_>,
+pub fn or_kleene_into<'a, 'b>(
+    a: impl Into<Bits<'a>>,
     a_valid: impl Mask,
-    b: Bits<'_>,
+    b: impl Into<Bits<'b>>,
     b_valid: impl Mask,
     trues: BitsMut<'_>,
     valid: BitsMut<'_>,
 ) {
-    combine_into(columns(a, &a_valid, b, &b_valid), Logic::Or, trues, valid);
+    let both = columns(a.into(), &a_valid, b.into(), &b_valid);
+    combine_into(both, Logic::Or, trues, valid);
 }
 
 /// `a and b` of truth values that may be null, by three-valued logic, Kleene's, as in SQL: false
 /// where one of the two is false, also where the other one is null; else null where one is null.
-/// `a_valid` and `b_valid` say which aren't null; None stands for all.
+///
+/// `a` and `b` are windows, or bitmaps by reference; `a_valid` and `b_valid` say which of their
+/// bits aren't null, and are what a mask is elsewhere. None stands for all: `None::<Bits>` where it
+/// stands by itself.
 ///
 /// It answers which are true, and which are valid: None where all are. The first is false where the
 /// answer is null, and what `a` and `b` have at nulls counts for nothing.
+///
+/// Which rows a `where` keeps wants no three-valued logic unless there is a `not` in it: they are
+/// the same where truth values are and'ed with their validity first, and combined by `&` and `|`.
 ///
 /// ```
 /// use vortex_bits::{Bits, Comparison, values};
@@ -86,9 +98,10 @@ pub fn or_kleene_into(
 /// let grown = values::compare(&ages, Comparison::Greater, 17);
 /// let small = values::compare(&heights, Comparison::Less, 190);
 ///
-/// let (both, valid) = values::and_kleene(grown.bits(), ages_valid, small.bits(), heights_valid);
+/// let (both, valid) = values::and_kleene(&grown, ages_valid, &small, heights_valid);
 /// assert_eq!(both.set_indices().collect::<Vec<_>>(), [0]);
 /// assert_eq!(valid.unwrap().unset_indices().collect::<Vec<_>>(), [1]);
+/// assert_eq!(both, (grown & ages_valid) & (small & heights_valid));
 /// ```
 ///
 /// # Panics
@@ -97,13 +110,13 @@ pub fn or_kleene_into(
 #[cfg(feature = "alloc")]
 #[must_use]
 #[track_caller]
-pub fn and_kleene(
-    a: Bits<'_>,
+pub fn and_kleene<'a, 'b>(
+    a: impl Into<Bits<'a>>,
     a_valid: impl Mask,
-    b: Bits<'_>,
+    b: impl Into<Bits<'b>>,
     b_valid: impl Mask,
 ) -> (Bitmap, Option<Bitmap>) {
-    match columns(a, &a_valid, b, &b_valid) {
+    match columns(a.into(), &a_valid, b.into(), &b_valid) {
         [(a, None), (b, None)] => (a & b, None),
         [a, b] => combined(a, b, Logic::And),
     }
@@ -133,13 +146,13 @@ pub fn and_kleene(
 #[cfg(feature = "alloc")]
 #[must_use]
 #[track_caller]
-pub fn or_kleene(
-    a: Bits<'_>,
+pub fn or_kleene<'a, 'b>(
+    a: impl Into<Bits<'a>>,
     a_valid: impl Mask,
-    b: Bits<'_>,
+    b: impl Into<Bits<'b>>,
     b_valid: impl Mask,
 ) -> (Bitmap, Option<Bitmap>) {
-    match columns(a, &a_valid, b, &b_valid) {
+    match columns(a.into(), &a_valid, b.into(), &b_valid) {
         [(a, None), (b, None)] => (a | b, None),
         [a, b] => combined(a, b, Logic::Or),
     }

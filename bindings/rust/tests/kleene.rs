@@ -140,6 +140,49 @@ fn an_answer_without_nulls_has_no_validity() {
 }
 
 #[test]
+fn bitmaps_and_windows_stand_by_reference() {
+    let [a, b, valid] = [&[0b0110], &[0b0011], &[0b1011]].map(|it| Bits::new(it, 0, 4));
+    let (owned, lent) = (Bitmap::from(a), Bitmap::new(vec![0b0110u8], 1, 2));
+    let both = values::and_kleene(a, b, b, valid);
+    assert_eq!(
+        both,
+        (Bits::new(&[0b0010], 0, 4).into(), Some(valid.into()))
+    );
+    let by_reference = &b;
+    let again = values::and_kleene(&owned, by_reference, by_reference, Some(valid));
+    assert_eq!(again, both);
+    assert_eq!(
+        values::or_kleene(&owned, Some(b), &owned, Validity::new(None, 4)),
+        values::or_kleene(a, b, a, None::<Bits>)
+    );
+    let all = values::or_kleene(&lent, None::<Bits>, &lent, None::<&Bitmap>);
+    assert_eq!(all, (Bitmap::new_set(2), None));
+    let (mut trues, mut known) = (Bitmap::new_unset(4), Bitmap::new_unset(4));
+    values::and_kleene_into(
+        &owned,
+        b,
+        by_reference,
+        valid,
+        trues.bits_mut(),
+        known.bits_mut(),
+    );
+    assert_eq!((trues, Some(known)), both);
+}
+
+/// Rows that are true are those of values that are and'ed with their validity first.
+#[test]
+fn a_where_without_not_needs_no_nulls() {
+    for offsets in [[0, 0], [3, 5]] {
+        let [a, b] = pairs(&ALL, &ALL, 200);
+        let ([a, a_valid], [b, b_valid]) =
+            (column(&a, offsets[0], true), column(&b, offsets[1], true));
+        let (x, y) = (&a & &a_valid, &b & &b_valid);
+        assert_eq!(values::and_kleene(&a, &a_valid, &b, &b_valid).0, &x & &y);
+        assert_eq!(values::or_kleene(&a, &a_valid, &b, &b_valid).0, x | y);
+    }
+}
+
+#[test]
 #[should_panic(expected = "a mask of 7 bits for 8")]
 fn a_validity_of_another_length_is_refused() {
     let eight = Bits::new(&[0], 0, 8);
