@@ -1,5 +1,6 @@
 //! Arrays that another part of the program made.
 
+mod dictionary;
 mod variable;
 
 use alloc::string::String;
@@ -16,7 +17,7 @@ use super::layout::Layout;
 use super::node::Node;
 use super::primitive::{Primitive, Unaligned};
 use crate::bits::within;
-use crate::error::{OutOfBounds, expect};
+use crate::error::{OutOfBounds, TakeValuesError, expect};
 use crate::{Bits, Validity};
 
 /// Rows of an array of the Arrow C data interface: an own owner of what another part of the program
@@ -290,7 +291,9 @@ impl Array {
         }))
     }
 
-    /// The items that the values are indices of; None where they aren't indices.
+    /// The items that the values are indices of; None where they aren't indices. The index of a
+    /// null row may be anything: [`values::take_valid`](crate::values::take_valid) and
+    /// [`dictionary_values`](Array::dictionary_values) don't look at it.
     #[must_use]
     pub fn dictionary(&self) -> Option<Array> {
         self.node.dictionary.as_ref().map(Array::whole)
@@ -330,6 +333,15 @@ impl Array {
         ArrowError::Malformed {
             column: self.name(),
             fault,
+        }
+    }
+
+    /// Rows or items aren't taken at indices.
+    #[cold]
+    pub(super) fn not_taken(&self, error: TakeValuesError) -> ArrowError {
+        ArrowError::Take {
+            column: self.name(),
+            error,
         }
     }
 

@@ -1,8 +1,13 @@
 //! Why an array isn't read.
 
-use alloc::string::String;
+use alloc::string::{String, ToString};
 use core::error::Error;
 use core::fmt;
+
+use crate::TakeValuesError;
+
+/// The errno of what isn't as it is asked for.
+pub(super) const EINVAL: i32 = 22;
 
 /// What a stream says of a call that fails: its errno, and its text, which is empty where it has
 /// none. The producer of an [`ExportStream`](super::ExportStream) says it too.
@@ -25,6 +30,28 @@ impl fmt::Display for StreamError {
 }
 
 impl Error for StreamError {}
+
+/// What a producer says whose batches are made of arrays of others: the error of a stream as it
+/// came, and of everything else the text with errno 22, EINVAL. So `?` stands in what makes the
+/// batches of an [`ExportStream`](super::ExportStream).
+///
+/// ```
+/// use vortex_bits::arrow::{ArrowError, StreamError};
+///
+/// let error = ArrowError::NoColumn { name: "a".into() };
+/// assert_eq!(StreamError::from(error).to_string(), "errno 22: no column \"a\"");
+/// ```
+impl From<ArrowError> for StreamError {
+    fn from(error: ArrowError) -> StreamError {
+        match error {
+            ArrowError::Stream { error, .. } => error,
+            error => StreamError {
+                errno: EINVAL,
+                text: error.to_string(),
+            },
+        }
+    }
+}
 
 /// Why an array, its values or a stream aren't read.
 #[derive(Clone, Debug, PartialEq, Eq)]
@@ -66,6 +93,20 @@ pub enum ArrowError {
     NoColumn {
         /// The name that was asked for.
         name: String,
+    },
+    /// Rows, or the items of a dictionary, aren't taken at indices.
+    Take {
+        /// The name of the column.
+        column: String,
+        /// Why they aren't.
+        error: TakeValuesError,
+    },
+    /// Texts are longer together than their offsets of 32 bits can say, which is 2^31 - 1 bytes.
+    LongTexts {
+        /// The name of the column.
+        column: String,
+        /// How many bytes the texts have up to the first one that lies too far, with it.
+        bytes: usize,
     },
 }
 
@@ -176,12 +217,20 @@ impl fmt::Display for ArrowError {
                 write!(f, "{column}values don't begin at a multiple of {alignment}")
             }
             ArrowError::NoColumn { name } => write!(f, "no column {name:?}"),
+            ArrowError::Take { column, error } => write!(f, "{}{error}", Of(column)),
+            ArrowError::LongTexts { column, bytes } => {
+                let (column, most) = (Of(column), i32::MAX);
+                write!(
+                    f,
+                    "{column}texts of {bytes} bytes, and offsets up to {most}"
+                )
+            }
         }
     }
 }
 
 /// Before what is said of a column.
-struct Of<'a>(&'a str);
+pub(super) struct Of<'a>(pub &'a str);
 
 impl fmt::Display for Of<'_> {
     fn fmt(&self, f: &mut fmt::Formatter<'_>) -> fmt::Result {

@@ -1,5 +1,7 @@
 //! Bits and values that are handed on as arrays.
 
+mod texts;
+
 use alloc::boxed::Box;
 use alloc::sync::Arc;
 use alloc::vec;
@@ -13,7 +15,7 @@ use super::array::Array;
 use super::error::{ArrowError, Fault};
 use super::ffi::{ArrowArray, ArrowSchema, Below, Owned};
 use super::field::Field;
-use super::layout::{Layout, Of};
+use super::layout::Layout;
 use super::node::Node;
 use super::primitive::Primitive;
 use crate::Bitmap;
@@ -92,29 +94,6 @@ impl Export {
             kept,
             valid,
         )
-    }
-
-    /// Texts, which are copied one behind the other, and which of them are valid; all are where
-    /// that is None. Their type is `U`, whose offsets have 64 bits.
-    ///
-    /// # Panics
-    ///
-    /// Where there isn't a bit for each text.
-    #[must_use]
-    #[track_caller]
-    pub fn texts(
-        texts: impl IntoIterator<Item = impl AsRef<str>>,
-        valid: Option<Bitmap>,
-    ) -> Export {
-        let (mut ends, mut bytes) = (vec![0i64], Vec::new());
-        for text in texts {
-            bytes.extend_from_slice(text.as_ref().as_bytes());
-            ends.push(number(bytes.len()));
-        }
-        let pointers = [ends.as_ptr().cast(), bytes.as_ptr().cast()];
-        let field = Field::of("", "U", Layout::Ranges(8, Of::Bytes));
-        let len = ends.len() - 1;
-        Export::column(field, len, 0, &pointers, Arc::new((ends, bytes)), valid)
     }
 
     /// A column whose buffers behind that of the validity are these.
@@ -211,16 +190,25 @@ impl Export {
     }
 
     /// The items that the values are indices of, as of texts that stand once each: the consumer
-    /// reads the items. No index is tested.
+    /// reads the items. No index is tested: [`Array::dictionary_values`] does so where it reads.
     ///
     /// ```
     /// use vortex_bits::arrow::Export;
     ///
+    /// use vortex_bits::values;
+    ///
     /// let prices = Export::values(vec![9.5, 12.0], None);
-    /// let rows = Export::values(vec![1i8, 1, 0], None).with_dictionary(prices)?.into_array();
-    /// let prices = rows.dictionary().unwrap();
-    /// let of = |&index: &i8| prices.values::<f64>().unwrap()[index as usize];
-    /// assert_eq!(rows.values::<i8>()?.iter().map(of).sum::<f64>(), 33.5);
+    /// let valid = [true, true, false, true].into();
+    /// let rows = Export::values(vec![1i8, 1, -7, 0], Some(valid)).with_dictionary(prices)?;
+    ///
+    /// // A null's index may be anything.
+    /// let rows = rows.into_array();
+    /// let (items, indices, valid) = (rows.dictionary().unwrap(), rows.values()?, rows.validity()?);
+    /// let prices = values::take_valid::<f64, i8>(items.values()?, indices, valid);
+    /// assert_eq!(prices, [12.0, 12.0, 0.0, 9.5]);
+    /// // Which are valid counts the items' validity in, and both are one call too.
+    /// assert!(items.validity()?.take_valid(indices, valid) == valid.bits().map(Into::into));
+    /// assert_eq!(rows.dictionary_values::<f64>()?.0, prices);
     /// # Ok::<(), vortex_bits::arrow::ArrowError>(())
     /// ```
     ///

@@ -39,18 +39,57 @@ pub struct Field {
 
 impl Field {
     /// A column of values, of truth values or of texts, whose type is written as the interface
-    /// does: `i` for `i32`, `tdD` for days, `d:19,2` for decimals. It may have nulls.
+    /// does: `i` for `i32`, `tdD` for days, `d:19,2` for decimals, `vu` for views of texts. It may
+    /// have nulls.
     ///
     /// # Errors
     ///
     /// Where it is no such type.
     pub fn new(name: &str, format: &str) -> Result<Field, ArrowError> {
         match Layout::of(format) {
-            Some(layout @ (Layout::Bits | Layout::Fixed(..) | Layout::Ranges(_, Of::Bytes))) => {
-                Ok(Field::of(name, format, layout))
-            }
+            Some(
+                layout @ (Layout::Bits
+                | Layout::Fixed(..)
+                | Layout::Ranges(_, Of::Bytes)
+                | Layout::Views),
+            ) => Ok(Field::of(name, format, layout)),
             _ => Err(Fault::Format(format.to_owned()).into()),
         }
+    }
+
+    /// The same as a column with a dictionary of such items, of whose values it has the indices: as
+    /// [`Export::with_dictionary`](super::Export::with_dictionary) makes it.
+    ///
+    /// ```
+    /// use vortex_bits::arrow::{Export, ExportStream, Field};
+    ///
+    /// let words = Field::new("", "U")?;
+    /// let answer = Field::new("answer", "c")?.with_dictionary(words)?;
+    /// let stream = ExportStream::new(Field::batch([answer]), []).into_stream()?;
+    /// let answer = stream.field().fields().next().unwrap();
+    /// assert_eq!((answer.format(), answer.dictionary().unwrap().format()), ("c", "U"));
+    ///
+    /// let rows = Export::values(vec![0i8], None).named("answer");
+    /// let rows = rows.with_dictionary(Export::texts(["no", "yes"], None))?;
+    /// assert_eq!(rows.field(), answer);
+    /// # Ok::<(), vortex_bits::arrow::ArrowError>(())
+    /// ```
+    ///
+    /// # Errors
+    ///
+    /// Where the values aren't whole numbers of 8 to 64 bits, or have a dictionary.
+    pub fn with_dictionary(mut self, items: Field) -> Result<Field, ArrowError> {
+        if !self.layout.is_index() || self.dictionary.is_some() {
+            return Err(Fault::Dictionary.into());
+        }
+        self.dictionary = Some(Arc::new(items));
+        Ok(self)
+    }
+
+    /// The same where rows may be null.
+    pub(super) fn nullable(mut self) -> Field {
+        self.flags |= NULLABLE;
+        self
     }
 
     pub(super) fn of(name: &str, format: &str, layout: Layout) -> Field {

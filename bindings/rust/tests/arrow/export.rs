@@ -13,7 +13,7 @@ use crate::plain::{Random, bit};
 use crate::raw::{self, Count};
 
 /// The two structs, as C sees them.
-fn raw_of(export: Export) -> (raw::Array, raw::Schema) {
+pub fn raw_of(export: Export) -> (raw::Array, raw::Schema) {
     let (array, schema) = export.into_raw();
     // SAFETY: the types are laid out alike.
     unsafe {

@@ -6,7 +6,7 @@ use vortex_bits::arrow::Array;
 use crate::raw::{self, Buffer, Count, Schema, import, import_as};
 
 /// The buffer of offsets, of numbers of 32 or 64 bits.
-fn offsets(numbers: &[i64], is_wide: bool, shift: usize) -> Buffer {
+pub fn offsets(numbers: &[i64], is_wide: bool, shift: usize) -> Buffer {
     let narrow = |it: i64| i32::try_from(it).unwrap().to_ne_bytes().to_vec();
     let wide = |it: i64| it.to_ne_bytes().to_vec();
     let bytes = numbers
@@ -123,7 +123,7 @@ fn texts_want_their_buffers() {
 }
 
 /// A view of a text, which lies in this buffer from this place on where it is long.
-fn view(text: &str, buffer: i32, start: i32) -> [u8; 16] {
+pub fn view(text: &str, buffer: i32, start: i32) -> [u8; 16] {
     let mut view = [0; 16];
     view[..4].copy_from_slice(&i32::try_from(text.len()).unwrap().to_ne_bytes());
     if text.len() <= 12 {

@@ -73,15 +73,20 @@ impl Array {
     ///
     /// Of another type, and where a row isn't behind the one before it, or lies in no buffer.
     pub fn texts(&self) -> Result<Texts<'_>, ArrowError> {
-        if self.node.field.layout != Layout::Views {
+        let Some(views) = self.views() else {
             let bytes = self.bytes()?;
             return Ok(Texts::joined(self.offsets()?, bytes, self.validity()?));
-        }
+        };
         let valid = self.validity()?;
-        // SAFETY: there is a view for each item.
-        let views = unsafe { self.items_of::<View>(self.len) };
         let texts = self.buffers().and_then(|it| Texts::views(views, it, valid));
         texts.map_err(|fault| self.malformed(fault))
+    }
+
+    /// The views of an array of these; None of another type. Those of null rows are any.
+    pub(in crate::arrow) fn views(&self) -> Option<&[View]> {
+        let has_views = self.node.field.layout == Layout::Views;
+        // SAFETY: there is a view for each item.
+        has_views.then(|| unsafe { self.items_of::<View>(self.len) })
     }
 
     /// The buffers of views, whose sizes the last one has.

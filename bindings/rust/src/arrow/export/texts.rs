@@ -1,0 +1,373 @@
+//! Texts that are handed on.
+
+use alloc::sync::Arc;
+use alloc::vec;
+use alloc::vec::Vec;
+use core::ffi::c_void;
+use core::slice;
+
+use super::{Export, number};
+use crate::arrow::array::Array;
+use crate::arrow::error::ArrowError;
+use crate::arrow::field::Field;
+use crate::arrow::layout::{Layout, Of};
+use crate::arrow::texts::View;
+use crate::{BitIndex, Bitmap, Bits, Mask, TakeError, TakeValuesError, Validity, values};
+
+/// Texts.
+impl Export {
+    /// Texts, which are copied one behind the other, and which of them are valid; all are where
+    /// that is None. Their type is `U`, whose offsets have 64 bits: [`narrow`](Export::narrow)
+    /// makes it `u`.
+    ///
+    /// # Panics
+    ///
+    /// Where there isn't a bit for each text.
+    #[must_use]
+    #[track_caller]
+    pub fn texts(
+        texts: impl IntoIterator<Item = impl AsRef<str>>,
+        valid: Option<Bitmap>,
+    ) -> Export {
+        let mut rows = Joined::new();
+        for text in texts {
+            rows.push(text.as_ref().as_bytes());
+        }
+        rows.export(valid)
+    }
+
+    /// [`Export::texts`] of items that may be null: None is one that is.
+    ///
+    /// ```
+    /// use vortex_bits::arrow::Export;
+    ///
+    /// let names = Export::texts_or_nulls(["a", "", "bc"].map(|it| Some(it).filter(|it| it != &"")));
+    /// let names = names.into_array();
+    /// assert!(names.texts()?.iter().eq([Some(&b"a"[..]), None, Some(b"bc")]));
+    /// # Ok::<(), vortex_bits::arrow::ArrowError>(())
+    /// ```
+    #[must_use]
+    pub fn texts_or_nulls(texts: impl IntoIterator<Item = Option<impl AsRef<str>>>) -> Export {
+        let (mut rows, mut valid) = (Joined::new(), Bitmap::growing(0));
+        for text in texts {
+            valid.append(text.is_some());
+            rows.push(text.as_ref().map_or("", AsRef::as_ref).as_bytes());
+        }
+        rows.export(Some(valid.share()))
+    }
+
+    /// The rows of texts, or of binary values, that a mask keeps, in their order, with the name and
+    /// the type that they have, and with their validity. The bytes of those that are valid are
+    /// copied; of views the views alone are, and the buffers shared.
+    ///
+    /// ```
+    /// use vortex_bits::Bits;
+    /// use vortex_bits::arrow::Export;
+    ///
+    /// let names = Export::texts_or_nulls([Some("a"), None, Some("bc")]).named("name").into_array();
+    /// let kept = Export::texts_kept(&names, Bits::new(&[0b110], 0, 3))?;
+    /// assert_eq!(kept.field(), names.field());
+    /// assert!(kept.into_array().texts()?.iter().eq([None, Some(&b"bc"[..])]));
+    /// # Ok::<(), vortex_bits::arrow::ArrowError>(())
+    /// ```
+    ///
+    /// # Errors
+    ///
+    /// As of [`Array::texts`].
+    ///
+    /// # Panics
+    ///
+    /// Where `mask` isn't one for these rows.
+    #[track_caller]
+    pub fn texts_kept(texts: &Array, mask: impl Mask) -> Result<Export, ArrowError> {
+        let mask = mask.of_len(texts.len());
+        let rows = texts.texts()?;
+        let valid = texts.validity()?.filter(mask);
+        if let Some(views) = texts.views() {
+            let len = mask.map_or(views.len(), Bits::count_ones);
+            return Ok(shown(texts, len, valid, |kept, valid| {
+                match mask {
+                    Some(mask) => drop(mask.keep_into(views, kept)),
+                    None => kept.copy_from_slice(views),
+                }
+                let nulls = valid.iter().flat_map(|valid| valid.unset_indices());
+                nulls.for_each(|row| kept[row] = View::default());
+            }));
+        }
+        let text = |row| rows.get(row);
+        match mask {
+            Some(mask) => joined(texts, mask.set_indices().map(text), valid),
+            None => joined(texts, (0..rows.len()).map(text), valid),
+        }
+    }
+
+    /// The rows of texts, or of binary values, at indices, with the name and the type that they
+    /// have, and with their validity. The bytes of those that are valid are copied; of views the
+    /// views alone are, and the buffers shared.
+    ///
+    /// ```
+    /// use vortex_bits::arrow::Export;
+    ///
+    /// let names = Export::texts(["a", "bc"], None).into_array();
+    /// let taken = Export::texts_taken(&names, &[1u8, 1, 0])?.into_array();
+    /// assert!(taken.texts()?.iter().eq([&b"bc"[..], b"bc", b"a"].map(Some)));
+    /// # Ok::<(), vortex_bits::arrow::ArrowError>(())
+    /// ```
+    ///
+    /// # Errors
+    ///
+    /// As of [`Array::texts`], at the first index that isn't one of a row, and where the texts are
+    /// longer together than 2^31 - 1 bytes and their offsets have 32 bits.
+    pub fn texts_taken<I: BitIndex>(texts: &Array, indices: &[I]) -> Result<Export, ArrowError> {
+        Export::texts_taken_valid(texts, indices, None::<Bits<'_>>)
+    }
+
+    /// [`Export::texts_taken`] of the indices that are valid: the others give null rows, whatever
+    /// they are. So the rows of a column are taken whose dictionary has texts.
+    ///
+    /// ```
+    /// use vortex_bits::arrow::Export;
+    ///
+    /// let words = Export::texts(["no", "yes"], None);
+    /// let rows = Export::values(vec![1i8, -7, 0], Some([true, false, true].into()));
+    /// let rows = rows.with_dictionary(words)?.named("answer").into_array();
+    ///
+    /// let (words, indices) = (rows.dictionary().unwrap(), rows.values::<i8>()?);
+    /// let answers = Export::texts_taken_valid(&words, indices, rows.validity()?)?.into_array();
+    /// assert!(answers.texts()?.iter().eq([Some(&b"yes"[..]), None, Some(b"no")]));
+    /// # Ok::<(), vortex_bits::arrow::ArrowError>(())
+    /// ```
+    ///
+    /// # Errors
+    ///
+    /// As of [`Array::texts`], where `validity` isn't as long as the indices, at the first index
+    /// that is valid and isn't one of a row, and where the texts are longer together than 2^31 - 1
+    /// bytes and their offsets have 32 bits.
+    pub fn texts_taken_valid<I: BitIndex>(
+        texts: &Array,
+        indices: &[I],
+        validity: impl Mask,
+    ) -> Result<Export, ArrowError> {
+        let refused = |error| texts.not_taken(values_error(error));
+        let rows = texts.texts()?;
+        let valid = valid_at(texts.validity()?, indices, &validity).map_err(refused)?;
+        if let Some(views) = texts.views() {
+            let taken = shown(texts, indices.len(), valid, |taken, valid| {
+                values::take_valid_into(views, indices, valid, taken);
+            });
+            return Ok(taken.or_null());
+        }
+        let valid_rows = Validity::new(valid.as_ref().map(Bitmap::bits), indices.len());
+        let taken = indices.iter().enumerate().map(|(place, index)| {
+            let is_valid = valid_rows.get(place) == Some(true);
+            index
+                .place()
+                .filter(|_| is_valid)
+                .and_then(|row| rows.get(row))
+        });
+        joined(texts, taken, valid.clone()).map(Export::or_null)
+    }
+
+    /// The same texts with offsets of 32 bits, which are new: `u` in place of `U`, and `z` of `Z`.
+    /// The bytes of the texts stay where they are. What has such offsets comes back as it is.
+    ///
+    /// ```
+    /// use vortex_bits::arrow::Export;
+    ///
+    /// let names = Export::texts(["a", "bc"], None).named("name").narrow()?;
+    /// assert_eq!(names.field().format(), "u");
+    /// assert!(names.into_array().texts()?.iter().eq([&b"a"[..], b"bc"].map(Some)));
+    /// # Ok::<(), vortex_bits::arrow::ArrowError>(())
+    /// ```
+    ///
+    /// # Errors
+    ///
+    /// Of another type, views among them; where the texts are longer together than 2^31 - 1 bytes;
+    /// and, of texts that another part of the program made, as of [`Array::texts`].
+    pub fn narrow(self) -> Result<Export, ArrowError> {
+        let format = match (self.field.layout, self.field.format()) {
+            (Layout::Ranges(4, Of::Bytes), _) => return Ok(self),
+            (Layout::Ranges(_, Of::Bytes), "Z") => "z",
+            (Layout::Ranges(_, Of::Bytes), _) => "u",
+            _ => {
+                return Err(ArrowError::Type {
+                    column: self.field.name,
+                    format: self.field.format,
+                    wanted: "that of texts between offsets",
+                });
+            }
+        };
+        let field = Field {
+            format: format.into(),
+            layout: Layout::Ranges(4, Of::Bytes),
+            ..self.field.clone()
+        };
+        let texts = self.into_array();
+        let (ranges, bytes) = (texts.ranges()?, texts.bytes()?);
+        let start = ranges.get(0).map_or(0, |first| first.start);
+        let ends = ranges.iter().map(|row| row.end - start);
+        let ends = Ends::new(true, ends).map_err(|bytes| long(&texts, bytes))?;
+        let valid = texts.validity()?.bits().map(Bitmap::from);
+        let buffers = [ends.pointer(), bytes[start..].as_ptr().cast()];
+        let (len, node) = (texts.len(), Arc::clone(&texts.node));
+        Ok(Export::column(
+            field,
+            len,
+            0,
+            &buffers,
+            Arc::new((ends, node)),
+            valid,
+        ))
+    }
+
+    /// The same as a column that may have nulls.
+    fn or_null(mut self) -> Export {
+        self.field = self.field.nullable();
+        self
+    }
+}
+
+/// Texts one behind the other, whose offsets have 64 bits.
+struct Joined {
+    ends: Vec<i64>,
+    bytes: Vec<u8>,
+}
+
+impl Joined {
+    fn new() -> Joined {
+        Joined {
+            ends: vec![0],
+            bytes: Vec::new(),
+        }
+    }
+
+    fn push(&mut self, text: &[u8]) {
+        self.bytes.extend_from_slice(text);
+        self.ends.push(number(self.bytes.len()));
+    }
+
+    #[track_caller]
+    fn export(self, valid: Option<Bitmap>) -> Export {
+        let Joined { ends, bytes } = self;
+        let pointers = [ends.as_ptr().cast(), bytes.as_ptr().cast()];
+        let field = Field::of("", "U", Layout::Ranges(8, Of::Bytes));
+        let len = ends.len() - 1;
+        Export::column(field, len, 0, &pointers, Arc::new((ends, bytes)), valid)
+    }
+}
+
+/// Where the rows end, behind a 0.
+enum Ends {
+    Narrow(Vec<i32>),
+    Wide(Vec<i64>),
+}
+
+impl Ends {
+    /// Of rows that end at these places, none before the one before it.
+    ///
+    /// # Errors
+    ///
+    /// The first place that a number of 32 bits can't say, where they are to be such.
+    fn new(is_narrow: bool, ends: impl Iterator<Item = usize>) -> Result<Ends, usize> {
+        let ends = [0].into_iter().chain(ends);
+        if !is_narrow {
+            return Ok(Ends::Wide(ends.map(number).collect()));
+        }
+        let narrow = |end| i32::try_from(end).map_err(|_| end);
+        ends.map(narrow).collect::<Result<_, _>>().map(Ends::Narrow)
+    }
+
+    fn pointer(&self) -> *const c_void {
+        match self {
+            Ends::Narrow(ends) => ends.as_ptr().cast(),
+            Ends::Wide(ends) => ends.as_ptr().cast(),
+        }
+    }
+}
+
+/// The rows' texts, of the type of others: a null one has no byte. Their lengths are gone over
+/// before memory is taken for the bytes.
+fn joined<'a>(
+    of: &Array,
+    rows: impl Iterator<Item = Option<&'a [u8]>> + Clone,
+    valid: Option<Bitmap>,
+) -> Result<Export, ArrowError> {
+    let field = of.field();
+    let is_narrow = field.layout == Layout::Ranges(4, Of::Bytes);
+    let texts = rows.map(Option::unwrap_or_default);
+    let (mut len, mut end) = (0, 0usize);
+    let ends = texts.clone().map(|text| {
+        len += 1;
+        end = end.saturating_add(text.len());
+        end
+    });
+    let ends = Ends::new(is_narrow, ends).map_err(|bytes| long(of, bytes))?;
+    let mut bytes = Vec::with_capacity(end);
+    texts.for_each(|text| bytes.extend_from_slice(text));
+    let buffers = [ends.pointer(), bytes.as_ptr().cast()];
+    Ok(Export::column(
+        field.clone(),
+        len,
+        0,
+        &buffers,
+        Arc::new((ends, bytes)),
+        valid,
+    ))
+}
+
+/// So many views of the buffers that another array of views has, which are written with regard to
+/// their validity.
+fn shown(
+    of: &Array,
+    len: usize,
+    valid: Option<Bitmap>,
+    write: impl FnOnce(&mut [View], Option<&Bitmap>),
+) -> Export {
+    // Aligned as some consumers want them.
+    let mut views = vec![0u128; len];
+    // SAFETY: a number of 128 bits has as many bytes as a view, each arrangement of which is one of
+    // both.
+    let written = unsafe { slice::from_raw_parts_mut(views.as_mut_ptr().cast::<View>(), len) };
+    write(written, valid.as_ref());
+    let buffers = [&[views.as_ptr().cast()], &of.node.buffers[2..]].concat();
+    let kept = Arc::new((views, Arc::clone(&of.node)));
+    Export::column(of.field().clone(), len, 0, &buffers, kept, valid)
+}
+
+/// Which rows are valid at the indices, of which those count that are valid themselves.
+fn valid_at<I: BitIndex>(
+    rows: Validity<'_>,
+    indices: &[I],
+    validity: &impl Mask,
+) -> Result<Option<Bitmap>, TakeError> {
+    crate::take::one_each(indices, validity)?;
+    rows.try_take_valid(indices, Validity::new(validity.mask(), indices.len()))
+}
+
+/// What is said of values in place of bits.
+fn values_error(error: TakeError) -> TakeValuesError {
+    match error {
+        TakeError::Room { bits, indices } => TakeValuesError::Room {
+            room: bits,
+            indices,
+        },
+        TakeError::Validity { bits, indices } => TakeValuesError::Validity { bits, indices },
+        TakeError::Index {
+            position,
+            index,
+            len,
+        } => TakeValuesError::Index {
+            position,
+            index,
+            values: len,
+        },
+    }
+}
+
+#[cold]
+fn long(texts: &Array, bytes: usize) -> ArrowError {
+    ArrowError::LongTexts {
+        column: texts.field().name().into(),
+        bytes,
+    }
+}

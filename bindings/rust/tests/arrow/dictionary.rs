@@ -1,0 +1,143 @@
+//! Columns with a dictionary, beside loops over rows.
+use vortex_bits::arrow::{Array, Export, ExportStream, Field, Primitive};
+use vortex_bits::{BitIndex, Bitmap, Validity};
+
+use crate::raw::{self, Buffer, Count, Schema, import};
+
+/// Items, of which every fifth one is null.
+fn items() -> Vec<Option<i64>> {
+    (0..100)
+        .map(|row| (row % 5 != 0).then_some(row * row))
+        .collect()
+}
+
+fn exported(items: &[Option<i64>]) -> Export {
+    let values: Vec<i64> = items.iter().map(|it| it.unwrap_or(-1)).collect();
+    let valid = items.iter().map(Option::is_some).collect();
+    Export::values(values, Some(valid)).named("items")
+}
+
+/// Rows of which every third one is null, whose index is `lost`.
+fn of_each_index<I>(lost: I, of: impl Fn(u8) -> I)
+where
+    I: Primitive + BitIndex,
+{
+    let items = items();
+    let rows: Vec<Option<u8>> = (0..250u8)
+        .map(|row| (row % 3 != 0).then_some(row / 3))
+        .collect();
+    let indices: Vec<I> = rows.iter().map(|row| row.map_or(lost, &of)).collect();
+    let valid: Bitmap = rows.iter().map(Option::is_some).collect();
+    let array = Export::values(indices, Some(valid)).with_dictionary(exported(&items));
+    let array = array.unwrap().into_array();
+    for part in [0..250, 0..0, 13..200] {
+        let (values, valid) = array
+            .slice(part.clone())
+            .dictionary_values::<i64>()
+            .unwrap();
+        let valid = Validity::new(valid.as_ref().map(Bitmap::bits), values.len());
+        let got = values.iter().enumerate().map(|(row, &value)| {
+            let is_valid = valid.get(row).unwrap();
+            is_valid.then_some(value)
+        });
+        let wanted = rows[part].iter().map(|row| items[usize::from((*row)?)]);
+        assert!(got.eq(wanted));
+    }
+}
+
+#[test]
+fn values_of_a_dictionary_are_those_of_its_items() {
+    of_each_index(i8::MIN, |row| i8::try_from(row).unwrap());
+    of_each_index(u8::MAX, |row| row);
+    of_each_index(-1i16, i16::from);
+    of_each_index(u16::MAX, u16::from);
+    of_each_index(i32::MIN, i32::from);
+    of_each_index(u32::MAX, u32::from);
+    of_each_index(i64::MAX, i64::from);
+    of_each_index(u64::MAX, u64::from);
+}
+
+#[test]
+fn a_validity_is_there_where_one_was() {
+    let column = |valid: Option<Bitmap>, items_valid: Option<Bitmap>| {
+        let items = Export::values(vec![[1u8, 2, 3], [4, 5, 6]], items_valid);
+        let rows = Export::values(vec![1u16, 0, 1], valid)
+            .with_dictionary(items)
+            .unwrap();
+        rows.into_array().dictionary_values::<[u8; 3]>().unwrap()
+    };
+    let all = vec![[4, 5, 6], [1, 2, 3], [4, 5, 6]];
+    assert_eq!(column(None, None), (all.clone(), None));
+    let only = Bitmap::from([false, true, false]);
+    assert_eq!(
+        column(None, Some([true, false].into())),
+        (all, Some(only.clone()))
+    );
+    let nulls = vec![[0; 3], [1, 2, 3], [0; 3]];
+    assert_eq!(column(Some(only.clone()), None), (nulls, Some(only)));
+}
+
+/// Rows of the indices 2, 9 and -1 behind one more, of these valid.
+fn malformed(valid: u8) -> Array {
+    let none = Count::default();
+    let items = raw::Array::values(3, None, &[1, 2, 3], &none);
+    let buffers = vec![
+        Some(Buffer::new(&[valid << 1], 0)),
+        Some(Buffer::new(&[0, 2, 9, 255], 0)),
+    ];
+    let array = raw::Array::of(3, buffers, vec![], Some(items), &none).at(1);
+    let items = Schema::new("", "C", &none);
+    import(array, Schema::of("d", "c", vec![], Some(items), &none)).unwrap()
+}
+
+#[test]
+fn indices_that_name_no_item_are_refused_where_they_are_valid() {
+    let said = |array: &Array| array.dictionary_values::<u8>().unwrap_err().to_string();
+    let wanted = |index: i32, position: usize| {
+        format!("column \"d\": index {index} at position {position} names none of 3 values")
+    };
+    assert_eq!(said(&malformed(0b111)), wanted(9, 1));
+    assert_eq!(said(&malformed(0b101)), wanted(-1, 2));
+    let (values, valid) = malformed(0b001).dictionary_values::<u8>().unwrap();
+    assert_eq!(
+        (values, valid),
+        (vec![3, 0, 0], Some([true, false, false].into()))
+    );
+    let array = malformed(0b111);
+    assert_eq!(
+        array.dictionary_values::<i8>().unwrap_err().to_string(),
+        "format \"C\" isn't that of values of i8"
+    );
+    let plain = Export::values([1u8], None).named("p").into_array();
+    assert_eq!(
+        said(&plain),
+        "column \"p\": format \"C\" isn't that of a column with a dictionary"
+    );
+}
+
+#[test]
+fn fields_have_dictionaries() {
+    for (format, items) in [("c", "U"), ("L", "vu"), ("i", "tdD"), ("s", "b")] {
+        let field = Field::new("d", format).unwrap();
+        let field = field
+            .with_dictionary(Field::new("", items).unwrap())
+            .unwrap();
+        let stream = ExportStream::new(Field::batch([field.clone()]), []);
+        let mut stream = stream.into_stream().unwrap();
+        assert!(stream.field().fields().eq([&field]) && stream.next().is_none());
+        assert_eq!(field.dictionary().unwrap().format(), items);
+        assert!(field.with_dictionary(Field::new("", "c").unwrap()).is_err());
+    }
+    for format in ["f", "U", "b", "w:4", "d:9,2"] {
+        let items = Field::new("", "U").unwrap();
+        let refused = Field::new("d", format).unwrap().with_dictionary(items);
+        assert_eq!(
+            refused.unwrap_err().to_string(),
+            "no array of its type has such a dictionary"
+        );
+    }
+    let rows = Export::values([1u32, 0], None).with_dictionary(exported(&items()));
+    let indices = Field::new("", "I").unwrap();
+    let wanted = indices.with_dictionary(Field::new("items", "l").unwrap());
+    assert_eq!(rows.unwrap().field(), &wanted.unwrap());
+}
