@@ -41,6 +41,7 @@
 //! [Arrow C data interface]: https://arrow.apache.org/docs/format/CDataInterface.html
 
 mod array;
+mod difference;
 mod error;
 mod export;
 mod ffi;

@@ -10,7 +10,8 @@ use core::iter::FusedIterator;
 use core::ptr;
 
 use super::array::Array;
-use super::error::{ArrowError, Fault, StreamError};
+use super::difference::difference;
+use super::error::{ArrowError, EINVAL, Fault, StreamError};
 use super::export::Export;
 use super::ffi::{ArrowArray, ArrowArrayStream, ArrowSchema, Owned};
 use super::field::Field;
@@ -18,7 +19,6 @@ use super::schema::c_string;
 
 /// The errno where a producer says none.
 const EIO: i32 = 5;
-const EINVAL: i32 = 22;
 
 /// The arrays of a stream of the Arrow C stream interface, one after the other: of most producers
 /// batches, whose [`columns`](Array::columns) are read. Behind an error there are none. Arrays stay
@@ -158,7 +158,8 @@ pub struct ExportStream {
 
 impl ExportStream {
     /// A stream of the batches, which are made as they are asked for, each of this type: another
-    /// one's consumer sees EINVAL. The batches of an iterator that panics abort the program, since
+    /// one's consumer sees EINVAL, and where its type is another first. What reads arrays of others
+    /// may have a `?` in it: an [`ArrowError`] becomes a [`StreamError`]. The batches of an iterator that panics abort the program, since
     /// C has no panics.
     #[must_use]
     pub fn new<I>(field: Field, batches: I) -> ExportStream
@@ -231,7 +232,7 @@ impl Producer {
             Some(batch) if *batch.field() == self.field => Ok(batch.into_owned()),
             Some(batch) => Err(StreamError {
                 errno: EINVAL,
-                text: alloc::format!("a batch of {:?} of a stream of {:?}", batch, self.field),
+                text: difference(batch.field(), &self.field),
             }),
         }
     }

@@ -261,10 +261,111 @@ fn exported_streams_say_what_is_wrong() {
     );
     assert_eq!(of(vec![full(0)]), "get_next: errno 5: full");
     let bools = Export::batch([Export::bits(Bitmap::new_set(2), None).named("a")]);
-    let text = of(vec![Ok(batch(&[1])), Ok(bools)]);
-    assert!(
-        text.starts_with("get_next: errno 22: a batch of "),
-        "{text}"
+    assert_eq!(
+        of(vec![Ok(batch(&[1])), Ok(bools)]),
+        "get_next: errno 22: column \"a\": the batch has \"b\", the stream \"l\""
+    );
+}
+
+/// What a stream of a column says of a batch of another one.
+fn difference(batch: Export, stream: Field) -> String {
+    let batches = [Ok(Export::batch([batch]))];
+    let stream = ExportStream::new(Field::batch([stream]), batches);
+    let said = stream.into_stream().unwrap().next().unwrap();
+    let said = said.map(drop).unwrap_err().to_string();
+    let prefix = "get_next: errno 22: ";
+    said.strip_prefix(prefix).unwrap_or(&said).to_string()
+}
+
+#[test]
+fn exported_streams_name_the_column_of_another_type() {
+    let field = |name, format| Field::new(name, format).unwrap();
+    let values = || Export::values([1i8], None).named("a");
+    let coded = || values().with_dictionary(Export::texts(["x"], None));
+    for (batch, stream, wanted) in [
+        (
+            Export::texts(["x"], None).named("s"),
+            field("s", "u"),
+            "column \"s\": the batch has \"U\", the stream \"u\"",
+        ),
+        (
+            values(),
+            field("b", "c"),
+            "column \"b\": the batch has the name \"a\", the stream \"b\"",
+        ),
+        (
+            values(),
+            Field::batch([field("b", "c"), field("c", "c")]),
+            "column \"0\": the batch has \"c\", the stream \"+s\"",
+        ),
+        (
+            Export::batch([values()]),
+            Field::batch([field("b", "c"), field("c", "c")]),
+            "column \"0\": the batch has the number of columns 1, the stream 2",
+        ),
+        (
+            Export::batch([values()]),
+            Field::batch([field("a", "C")]),
+            "column \"0.a\": the batch has \"c\", the stream \"C\"",
+        ),
+        (
+            coded().unwrap(),
+            field("a", "c"),
+            "column \"a\": the batch has a dictionary, the stream none",
+        ),
+        (
+            values(),
+            field("a", "c").with_dictionary(field("", "U")).unwrap(),
+            "column \"a\": the batch has no dictionary, the stream one",
+        ),
+        (
+            coded().unwrap(),
+            field("a", "c").with_dictionary(field("", "vu")).unwrap(),
+            "column \"a.dictionary\": the batch has \"U\", the stream \"vu\"",
+        ),
+    ] {
+        assert_eq!(difference(batch, stream), wanted);
+    }
+    let of = |flags, metadata: &'static [u8]| {
+        let mut schema = Schema::new("a", "C", &Count::default());
+        (schema.flags, schema.metadata) = (flags, metadata.as_ptr().cast());
+        let array = Array::values(1, None, &[1], &Count::default());
+        Export::from(raw::import(array, schema).unwrap())
+    };
+    assert_eq!(
+        difference(of(0, &[0; 4]), field("a", "C")),
+        "column \"a\": the batch has the flags 0, the stream 2"
+    );
+    assert_eq!(
+        difference(of(2, &[0; 4]), field("a", "C")),
+        "column \"a\": the batch has other metadata than the stream"
+    );
+}
+
+/// A query's errors come to the consumer of its batches: those of the stream that it reads too.
+#[test]
+fn errors_of_arrays_become_those_of_streams() {
+    let doubled = |stream: Stream| {
+        let batches = stream.map(|rows| {
+            let rows = rows?;
+            let column = rows.column("a")?;
+            let values = column.values::<u8>()?.iter().map(|&it| i64::from(it) * 2);
+            Ok(batch(&values.collect::<Vec<_>>()))
+        });
+        ExportStream::new(field(), batches).into_stream().unwrap()
+    };
+    let read = import(raw_stream(1, 28, Some("no room"), &Counts::default())).unwrap();
+    let mut stream = doubled(read);
+    let first = stream.next().unwrap().unwrap().column("a").unwrap();
+    assert_eq!(first.values::<i64>(), Ok(&[0; 3][..]));
+    let said = |stream: &mut Stream| stream.next().unwrap().map(drop).unwrap_err();
+    assert_eq!(said(&mut stream).to_string(), "get_next: errno 28: no room");
+    let mut raw = raw_stream(1, 0, None, &Counts::default());
+    // SAFETY: it isn't released.
+    unsafe { producer(&raw mut raw).format = "c" };
+    assert_eq!(
+        said(&mut doubled(import(raw).unwrap())).to_string(),
+        "get_next: errno 22: column \"a\": format \"c\" isn't that of values of u8"
     );
 }
 
