@@ -14,7 +14,7 @@ use vb_testing::Refusing;
 use vb_view::BitBufferView;
 
 /// A truth value; None is null.
-type Truth = Option<bool>;
+pub(crate) type Truth = Option<bool>;
 
 const T: Truth = Some(true);
 
@@ -23,13 +23,13 @@ const F: Truth = Some(false);
 const N: Truth = None;
 
 /// A connective, by the values on the left and on the right, which stand in the order of T, F, N.
-type Table = [[Truth; 3]; 3];
+pub(crate) type Table = [[Truth; 3]; 3];
 
-const AND: &Table = &[[T, F, N], [F, F, F], [N, F, N]];
+pub(crate) const AND: &Table = &[[T, F, N], [F, F, F], [N, F, N]];
 
-const OR: &Table = &[[T, T, T], [T, F, N], [T, N, N]];
+pub(crate) const OR: &Table = &[[T, T, T], [T, F, N], [T, N, N]];
 
-fn combined(table: &Table, left: Truth, right: Truth) -> Truth {
+pub(crate) fn combined(table: &Table, left: Truth, right: Truth) -> Truth {
     table[place(left)][place(right)]
 }
 

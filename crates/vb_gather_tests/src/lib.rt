@@ -18,6 +18,8 @@ mod filters;
 #[cfg(test)]
 mod kleene;
 #[cfg(test)]
+mod kleene_windows;
+#[cfg(test)]
 mod masks;
 #[cfg(test)]
 mod takes;

@@ -53,7 +53,7 @@ impl Bytes {
 }
 
 /// So many bytes, whose bits are true where they are kept.
-fn bytes_of(rt: &impl Abort, alloc: Global, count: usize, kept: Kept) -> Vec<u8> {
+pub(crate) fn bytes_of(rt: &impl Abort, alloc: Global, count: usize, kept: Kept) -> Vec<u8> {
     let mut made = Vec::new(alloc);
     for at in 0..count {
         made.push(byte(kept, at)).expect(rt, "memory");
@@ -83,7 +83,7 @@ fn deposit_by_bits(
     }
 }
 
-fn set(bytes: &mut [u8], bit: usize, value: bool) {
+pub(crate) fn set(bytes: &mut [u8], bit: usize, value: bool) {
     if let Some(byte) = bytes.get_mut(bit / 8) {
         let digit = 1 << (bit % 8);
         *byte = if value { *byte | digit } else { *byte & !digit };
@@ -107,7 +107,7 @@ fn deposits_as_a_loop(rt: &impl Abort, alloc: Global, bytes: &Bytes, at: Windows
     drop((out, wanted));
 }
 
-fn copied(rt: &impl Abort, alloc: Global, bytes: &[u8]) -> Vec<u8> {
+pub(crate) fn copied(rt: &impl Abort, alloc: Global, bytes: &[u8]) -> Vec<u8> {
     let mut made = Vec::new(alloc);
     made.extend_from_slice(bytes).expect(rt, "memory");
     made
