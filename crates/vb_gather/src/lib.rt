@@ -6,7 +6,7 @@
 //! seen from the mask. [`take_bits`] and [`Take::taken`] take bits and items at indices.
 //! [`compared`] and [`compared_with`] say of each value how it compares, and [`and_kleene`] and
 //! [`or_kleene`] combine such answers where some are null. The kernels under them, over slices, are
-//! those of `vb_filter`, `vb_take`, `vb_compare` and `vb_bits`.
+//! those of `vb_filter`, `vb_take`, `vb_compare`, `vb_kleene` and `vb_bits`.
 #![tactic(auto)]
 
 mod compare;

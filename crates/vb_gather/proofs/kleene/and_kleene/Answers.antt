@@ -1,4 +1,4 @@
-use Rattle.std.proofs.Common.{length, map, is_some, true, sym, ◌∙◌}
+use Rattle.std.proofs.Common.{map, is_some, true, sym, ◌∙◌}
 use Rattle.std.proofs.lemmas.Result.{IfOk-weaker}
 use Rattle.std.specs.Option.{option_map}
 use Rattle.std.specs.Simd.Lanes.{zip2}
