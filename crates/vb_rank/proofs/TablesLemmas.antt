@@ -1,6 +1,7 @@
 -- Tables of counts by blocks, and a search of them by halves.
 use Rattle.std.proofs.Common.{◌≡◌, ℕ, zero, suc, ◌+◌, ◌-◌, ◌*◌, ◌/◌, ◌^◌, ◌<◌, ◌≤◌, Bool, true}
-use Rattle.std.proofs.Common.{false, List, length, get_or, take, None, Some, min, refl, sym, ap}
+use Rattle.std.proofs.Common.{false, List, [], ◌∷◌, length, get_or, take, None, Some, min, refl}
+use Rattle.std.proofs.Common.{sym, ap}
 use Rattle.std.proofs.Common.{◌∙◌, arith, subst, ⊎_elim}
 use Rattle.std.specs.Int.{div_ceil}
 use Rattle.std.specs.Int.Digits.{digits_of}
@@ -15,7 +16,7 @@ use Rattle.vb_kernel.proofs.HitsLemmas.{count-hits-bits_split, count-hits-bits_f
 use Rattle.vb_kernel.proofs.SearchesLemmas.{Searched_after, Searched_longer}
 use Rattle.vb_rank.specs.Tables.{CountedEntries, ProbesExactly, ProbesAtMost, blocks}
 use Rattle.vb_rank.specs.Tables.{block_counts, binary_digits}
-use Rattle.vb_rank.specs.Tables.{count_before, BeginsBefore, Rises}
+use Rattle.vb_rank.specs.Tables.{count_before, BeginsBefore, Narrows, Rises}
 
 -- ---- looks
 -- a block takes at most 16 looks, wherever it begins
@@ -155,6 +156,73 @@ rank-block b t o n i j m k e h from to before here =
           (512 * j) i (o + 512 * j) (i - 512 * j) refl (omega arith),
       ap count (take-bits b o n i to),
     )
+
+-- ---- halves
+-- no values are before the first part
+count_before-first : (w : ℕ) (v : Bool) (t : List ℕ) → Rises w v t → 0 ≡ count_before w v t 0
+count_before-first w true [] r = refl
+count_before-first w true (x ∷ t) r = omega (arith, r.small 0 (omega arith))
+count_before-first w false t r = omega arith
+
+-- the upper half is left, where so many values before it are among those that are sought
+pub narrows-up : (w : ℕ) (v : Bool) (t : List ℕ) (n j m k here : ℕ)
+    → Narrows w v t n j m k → 2 ≤ k → (Rises w v t → here ≡ count_before w v t (j + k / 2))
+    → here ≤ n → Narrows w v t n (j + k / 2) here (k - k / 2)
+narrows-up w v t n j m k here f two is low =
+    let end : j + k / 2 + (k - k / 2) ≡ j + k = omega arith in
+    record {
+      some = omega (arith, two);
+      within = omega (arith, f.within);
+      low = low;
+      before = is;
+      above = λ r more. subst (λ x. n < count_before w v t x) (sym end)
+          (f.above r (omega (arith, more, end)));
+    }
+
+-- else the lower one
+pub narrows-down : (w : ℕ) (v : Bool) (t : List ℕ) (n j m k here : ℕ)
+    → Narrows w v t n j m k → 2 ≤ k → (Rises w v t → here ≡ count_before w v t (j + k / 2))
+    → (m ≤ here → n < here) → Narrows w v t n j m (k - k / 2)
+narrows-down w v t n j m k here f two is high = record {
+  some = omega (arith, two);
+  within = omega (arith, f.within);
+  low = f.low;
+  before = f.before;
+  above = λ r more.
+      let inside : j + (k - k / 2) < length t = more in
+      let up = r.rising j (j + k / 2) (omega arith) (omega (arith, inside)) in
+      let past : n < here = high (omega (arith, up, f.before r, is r)) in
+      omega (
+        arith,
+        r.rising (j + k / 2) (j + (k - k / 2)) (omega arith) inside,
+        is r,
+        past,
+      );
+}
+
+-- one part is left, which is the one
+pub Narrows-BeginsBefore : (w : ℕ) (v : Bool) (t : List ℕ) (n j m k : ℕ)
+    → Narrows w v t n j m k → k ≤ 1 → Rises w v t → BeginsBefore w v t n j m
+Narrows-BeginsBefore w v t n j m k f one r =
+    let single : k ≡ 1 = omega (arith, one, f.some) in
+    record {
+      within = omega (arith, f.within, single);
+      before = f.before r;
+      low = f.low;
+      high = λ more. subst (λ x. n < count_before w v t (j + x)) single
+          (f.above r (omega (arith, more, single)));
+    }
+
+-- at the begin all parts are left
+pub Narrows-all : (w : ℕ) (v : Bool) (t : List ℕ) (n k : ℕ)
+    → 0 < k → k ≡ length t → Narrows w v t n 0 0 k
+Narrows-all w v t n k some size = record {
+  some = some;
+  within = omega (arith, size);
+  low = omega arith;
+  before = λ r. count_before-first w v t r;
+  above = λ r more. absurd (omega (arith, more, size));
+}
 
 -- ---- probes
 -- a half has a digit less

@@ -1,6 +1,6 @@
 -- Tables of the counts before each block of 512 bits, and their probes.
 use Rattle.std.specs.Prelude.{◌≡◌, ℕ, ◌+◌, ◌-◌, ◌*◌, ◌<◌, ◌≤◌, Bool, true, false}
-use Rattle.std.specs.Prelude.{List, length, map, take, slice_index}
+use Rattle.std.specs.Prelude.{◌/◌, ◌%◌, List, length, map, take, slice_index, slice_range}
 use Rattle.std.specs.Int.{div_ceil}
 use Rattle.std.specs.Int.Digits.{digits_of}
 use Rattle.std.specs.List.{range_with_len}
@@ -54,3 +54,17 @@ pub record BeginsBefore (w : ℕ) (v : Bool) (t : List ℕ) (n j m : ℕ) : Type
   pub before : m ≡ count_before w v t j
   pub low : m ≤ n
   pub high : j + 1 < length t → n < count_before w v t (j + 1)
+
+-- a search for value n has come to k parts from part j on: before it are m values that are v, where
+-- the table rises, and behind these parts lies no part that begins at most n
+pub record Narrows (w : ℕ) (v : Bool) (t : List ℕ) (n j m k : ℕ) : Type 0 where
+  pub some : 0 < k
+  pub within : j + k ≤ length t
+  pub low : m ≤ n
+  pub before : Rises w v t → m ≡ count_before w v t j
+  pub above : Rises w v t → j + k < length t → n < count_before w v t (j + k)
+
+-- the chunk of the bytes that begins with bit o, where that begins a byte and there is a chunk
+abbrev pub IsChunkFrom : List ℕ → ℕ → List ℕ → Type 0
+IsChunkFrom b o chunk = o % 8 ≡ 0 → o / 8 + 64 ≤ length b
+    → chunk ≡ slice_range b (o / 8) (o / 8 + 64)

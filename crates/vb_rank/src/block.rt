@@ -48,7 +48,7 @@ pub fn find_block<S, L: Level<S>>(
 }
 
 /// How many bits that are `value` are before block `j`, which isn't the first, by one probe.
-fn bits_before<S, L: Level<S>>(
+pub(crate) fn bits_before<S, L: Level<S>>(
     source: &mut S,
     level: &L,
     width: usize,

@@ -11,6 +11,7 @@
 
 mod block;
 mod count;
+mod eight;
 mod front;
 mod level;
 mod probe;
@@ -20,6 +21,7 @@ mod size;
 mod table;
 
 pub use block::find_block;
+pub use eight::{LANES, find_blocks, select_each_from};
 pub use level::Level;
 pub use probe::{PlainTable, Probe, TallyTable};
 pub use rank::{rank_by, rank_from};

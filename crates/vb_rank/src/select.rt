@@ -166,7 +166,7 @@ fn select_in_block<G: Glance>(
 
 /// The place of the `n`-th bit of the chunk that is `value`: its word is found, and then halved, by
 /// moves in place of branches. So the questions that come next don't wait for the bits of this one.
-fn select_by_moves(chunk: &[u8; 64], n: usize, value: bool) -> Option<usize>
+pub(crate) fn select_by_moves(chunk: &[u8; 64], n: usize, value: bool) -> Option<usize>
     ensures { Selects (hits value (bits chunk.now 0 512)) n result }
 {
     let (k, before, word) = find_word(chunk, n, value);

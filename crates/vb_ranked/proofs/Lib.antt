@@ -1,2 +1,3 @@
 mod CountEditsLemmas
 mod CountsLemmas
+mod ManyLemmas

@@ -8,6 +8,7 @@
 mod added;
 mod ask;
 mod counts;
+mod eight;
 mod groups;
 mod parts;
 mod probe_groups;

@@ -41,7 +41,7 @@ pub(crate) trait ProbeGroups {
 }
 
 /// The counts before the groups.
-#[derive(Drop)]
+#[derive(Clone, Copy, Drop)]
 pub(crate) struct Befores;
 
 impl<S: ProbeGroups> Level<S> for Befores {
@@ -60,7 +60,7 @@ impl<S: ProbeGroups> Level<S> for Befores {
 }
 
 /// The counts before the first blocks of a group.
-#[derive(Drop)]
+#[derive(Clone, Copy, Drop)]
 pub(crate) struct Withins {
     pub(crate) group: usize,
     pub(crate) blocks: usize,
