@@ -45,6 +45,7 @@ impl<'a> Validity<'a> {
     /// # Panics
     ///
     /// Where there are bits, and not as many.
+    #[inline]
     #[must_use]
     #[track_caller]
     pub fn new(bits: Option<Bits<'a>>, len: usize) -> Validity<'a> {
@@ -187,6 +188,7 @@ impl Eq for Validity<'_> {}
 
 /// Of as many rows as there are bits.
 impl<'a> From<Bits<'a>> for Validity<'a> {
+    #[inline]
     fn from(bits: Bits<'a>) -> Validity<'a> {
         Validity::new(Some(bits), bits.len())
     }

@@ -292,8 +292,9 @@ impl Array {
     }
 
     /// The items that the values are indices of; None where they aren't indices. The index of a
-    /// null row may be anything: [`values::take_valid`](crate::values::take_valid) and
-    /// [`dictionary_values`](Array::dictionary_values) don't look at it.
+    /// null row may be anything: [`values::take_valid`](crate::values::take_valid),
+    /// [`dictionary_values`](Array::dictionary_values) and
+    /// [`dictionary_texts`](Array::dictionary_texts) don't look at it.
     #[must_use]
     pub fn dictionary(&self) -> Option<Array> {
         self.node.dictionary.as_ref().map(Array::whole)

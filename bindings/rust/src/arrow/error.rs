@@ -246,10 +246,16 @@ impl Error for ArrowError {}
 impl ArrowError {
     /// The same, of the column of a parent.
     pub(super) fn under(mut self, parent: &str) -> ArrowError {
-        if let ArrowError::Malformed { column, .. } = &mut self {
-            let point = if column.is_empty() { "" } else { "." };
-            *column = alloc::format!("{parent}{point}{column}");
-        }
+        let column = match &mut self {
+            ArrowError::Malformed { column, .. }
+            | ArrowError::Type { column, .. }
+            | ArrowError::Unaligned { column, .. }
+            | ArrowError::Take { column, .. }
+            | ArrowError::LongTexts { column, .. } => column,
+            ArrowError::Stream { .. } | ArrowError::NoColumn { .. } => return self,
+        };
+        let point = if column.is_empty() { "" } else { "." };
+        *column = alloc::format!("{parent}{point}{column}");
         self
     }
 }

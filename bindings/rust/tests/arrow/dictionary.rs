@@ -106,12 +106,70 @@ fn indices_that_name_no_item_are_refused_where_they_are_valid() {
     let array = malformed(0b111);
     assert_eq!(
         array.dictionary_values::<i8>().unwrap_err().to_string(),
-        "format \"C\" isn't that of values of i8"
+        "column \"d.dictionary\": format \"C\" isn't that of values of i8"
     );
     let plain = Export::values([1u8], None).named("p").into_array();
     assert_eq!(
         said(&plain),
         "column \"p\": format \"C\" isn't that of a column with a dictionary"
+    );
+}
+
+fn words<I: Primitive>(indices: Vec<I>, valid: Bitmap, items: Export) -> Array {
+    let rows = Export::values(indices, Some(valid)).with_dictionary(items);
+    rows.unwrap().named("word").into_array()
+}
+
+#[test]
+fn texts_of_a_dictionary_are_those_of_its_items() {
+    let all = [
+        Some("a"),
+        None,
+        Some("a text of more than twelve bytes"),
+        Some(""),
+    ];
+    let items = || Export::texts_or_nulls(all);
+    let rows = [Some(2), Some(1), None, Some(3), Some(0), Some(2)];
+    let valid = || rows.iter().map(Option::is_some).collect();
+    let narrow = rows.iter().map(|row| row.unwrap_or(u8::MAX)).collect();
+    let wide = rows.iter().map(|row| row.map_or(-1, i64::from)).collect();
+    for (array, format) in [
+        (words(narrow, valid(), items()), "U"),
+        (words(wide, valid(), items().narrow().unwrap()), "u"),
+    ] {
+        let array = array.slice(1..);
+        let texts = array.dictionary_texts().unwrap();
+        assert_eq!(
+            (texts.field().name(), texts.field().format()),
+            ("word", format)
+        );
+        let wanted = rows[1..].iter().map(|row| all[usize::from((*row)?)]);
+        let texts = texts.into_array();
+        assert!(
+            texts
+                .texts()
+                .unwrap()
+                .iter()
+                .eq(wanted.map(|it| it.map(str::as_bytes)))
+        );
+    }
+    let said = |array: &Array| array.dictionary_texts().map(drop).unwrap_err().to_string();
+    assert_eq!(
+        said(&malformed(0b001)),
+        "column \"d.dictionary\": format \"C\" isn't that of texts"
+    );
+    assert_eq!(
+        said(&words(vec![0u8, 4, 9], [true; 3].into(), items())),
+        "column \"word\": index 4 at position 1 names none of 4 values"
+    );
+    let unnamed = Export::values([0u8], None).with_dictionary(Export::values([1u8], None));
+    assert_eq!(
+        said(&unnamed.unwrap().into_array()),
+        "column \"dictionary\": format \"C\" isn't that of texts"
+    );
+    assert_eq!(
+        said(&Export::texts(["a"], None).into_array()),
+        "format \"U\" isn't that of a column with a dictionary"
     );
 }
 

@@ -4,12 +4,30 @@ use alloc::vec::Vec;
 
 use super::Array;
 use crate::arrow::error::ArrowError;
+use crate::arrow::export::Export;
 use crate::arrow::layout::{Kind, Layout};
 use crate::arrow::primitive::Primitive;
 use crate::{BitIndex, Bitmap, Value, values};
 
 /// Values and their validity.
 type Column<T> = (Vec<T>, Option<Bitmap>);
+
+/// The call of a column with a dictionary, for the type of its indices.
+macro_rules! by_index {
+    ($column:ident.$call:ident::<$($type:ident,)? _>($items:expr)) => {
+        match $column.node.field.layout {
+            Layout::Fixed(Kind::Signed, 1) => $column.$call::<$($type,)? i8>($items),
+            Layout::Fixed(Kind::Signed, 2) => $column.$call::<$($type,)? i16>($items),
+            Layout::Fixed(Kind::Signed, 4) => $column.$call::<$($type,)? i32>($items),
+            Layout::Fixed(Kind::Signed, 8) => $column.$call::<$($type,)? i64>($items),
+            Layout::Fixed(Kind::Unsigned, 1) => $column.$call::<$($type,)? u8>($items),
+            Layout::Fixed(Kind::Unsigned, 2) => $column.$call::<$($type,)? u16>($items),
+            Layout::Fixed(Kind::Unsigned, 4) => $column.$call::<$($type,)? u32>($items),
+            Layout::Fixed(Kind::Unsigned, 8) => $column.$call::<$($type,)? u64>($items),
+            _ => Err($column.is_not("that of indices")),
+        }
+    };
+}
 
 /// Dictionaries.
 impl Array {
@@ -20,7 +38,6 @@ impl Array {
     ///
     /// It is [`values::take_valid`] of the items and [`Validity::take_valid`] of their validity, by
     /// [`values`](Array::values) of the index type that the column has.
-    /// [`Export::texts_taken_valid`](crate::arrow::Export::texts_taken_valid) does it for texts.
     ///
     /// ```
     /// use vortex_bits::Bitmap;
@@ -44,32 +61,71 @@ impl Array {
     ///
     /// [`Validity::take_valid`]: crate::Validity::take_valid
     pub fn dictionary_values<T: Primitive + Value>(&self) -> Result<Column<T>, ArrowError> {
-        let Some(items) = self.dictionary() else {
-            return Err(self.is_not("that of a column with a dictionary"));
-        };
-        match self.node.field.layout {
-            Layout::Fixed(Kind::Signed, 1) => self.taken::<T, i8>(&items),
-            Layout::Fixed(Kind::Signed, 2) => self.taken::<T, i16>(&items),
-            Layout::Fixed(Kind::Signed, 4) => self.taken::<T, i32>(&items),
-            Layout::Fixed(Kind::Signed, 8) => self.taken::<T, i64>(&items),
-            Layout::Fixed(Kind::Unsigned, 1) => self.taken::<T, u8>(&items),
-            Layout::Fixed(Kind::Unsigned, 2) => self.taken::<T, u16>(&items),
-            Layout::Fixed(Kind::Unsigned, 4) => self.taken::<T, u32>(&items),
-            Layout::Fixed(Kind::Unsigned, 8) => self.taken::<T, u64>(&items),
-            _ => Err(self.is_not("that of indices")),
-        }
+        let items = self.items_of_indices()?;
+        by_index!(self.values_taken::<T, _>(&items))
     }
 
-    fn taken<T, I>(&self, items: &Array) -> Result<Column<T>, ArrowError>
+    /// The texts of a column with a dictionary of these, with the column's name and the items'
+    /// type: of each row the item at its index, in new memory, or null where its index or the item
+    /// is. It is [`Export::texts_taken_valid`] by the index type that the column has.
+    ///
+    /// ```
+    /// use vortex_bits::arrow::Export;
+    ///
+    /// let words = Export::texts(["no", "yes"], None);
+    /// let rows = Export::values(vec![1i8, -7, 0], Some([true, false, true].into()));
+    /// let rows = rows.with_dictionary(words)?.named("answer").into_array();
+    ///
+    /// let answers = rows.dictionary_texts()?.into_array();
+    /// assert_eq!((answers.field().name(), answers.field().format()), ("answer", "U"));
+    /// assert!(answers.texts()?.iter().eq([Some(&b"yes"[..]), None, Some(b"no")]));
+    /// # Ok::<(), vortex_bits::arrow::ArrowError>(())
+    /// ```
+    ///
+    /// # Errors
+    ///
+    /// Of a column without a dictionary, where the buffer of the indices isn't aligned as these
+    /// are, as of [`Array::texts`] of the items, at the first index that is valid and names no
+    /// item, and where the texts are longer together than 2^31 - 1 bytes and their offsets have 32
+    /// bits.
+    pub fn dictionary_texts(&self) -> Result<Export, ArrowError> {
+        let items = self.items_of_indices()?;
+        let texts = by_index!(self.texts_taken::<_>(&items))?;
+        Ok(texts.named(&self.node.field.name))
+    }
+
+    fn items_of_indices(&self) -> Result<Array, ArrowError> {
+        let items = self.dictionary();
+        items.ok_or_else(|| self.is_not("that of a column with a dictionary"))
+    }
+
+    fn values_taken<T, I>(&self, items: &Array) -> Result<Column<T>, ArrowError>
     where
         T: Primitive + Value,
         I: Primitive + BitIndex,
     {
         let (indices, valid) = (self.values::<I>()?, self.validity()?);
-        let taken = values::try_take_valid(items.values::<T>()?, indices, valid);
+        let (values, valid_items) = (items.values::<T>(), items.validity());
+        let values = values.map_err(|error| self.of_items(error))?;
+        let taken = values::try_take_valid(values, indices, valid);
         let taken = taken.map_err(|error| self.not_taken(error))?;
         // The indices are tested by now.
-        let valid = items.validity()?.take_valid(indices, valid);
+        let valid = valid_items?.take_valid(indices, valid);
         Ok((taken, valid))
+    }
+
+    fn texts_taken<I: Primitive + BitIndex>(&self, items: &Array) -> Result<Export, ArrowError> {
+        let taken = Export::texts_taken_valid(items, self.values::<I>()?, self.validity()?);
+        taken.map_err(|error| self.of_items(error))
+    }
+
+    /// An error of the items, as one of the column: of its indices where they name none.
+    #[cold]
+    fn of_items(&self, error: ArrowError) -> ArrowError {
+        match (error, &self.node.field.name) {
+            (ArrowError::Take { error, .. }, _) => self.not_taken(error),
+            (error, name) if name.is_empty() => error.under("dictionary"),
+            (error, name) => error.under("dictionary").under(name),
+        }
     }
 }

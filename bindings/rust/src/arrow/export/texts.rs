@@ -123,18 +123,16 @@ impl Export {
     }
 
     /// [`Export::texts_taken`] of the indices that are valid: the others give null rows, whatever
-    /// they are. So the rows of a column are taken whose dictionary has texts.
+    /// they are. [`Array::dictionary_texts`] does it for a column whose dictionary has texts.
     ///
     /// ```
+    /// use vortex_bits::Bits;
     /// use vortex_bits::arrow::Export;
     ///
-    /// let words = Export::texts(["no", "yes"], None);
-    /// let rows = Export::values(vec![1i8, -7, 0], Some([true, false, true].into()));
-    /// let rows = rows.with_dictionary(words)?.named("answer").into_array();
-    ///
-    /// let (words, indices) = (rows.dictionary().unwrap(), rows.values::<i8>()?);
-    /// let answers = Export::texts_taken_valid(&words, indices, rows.validity()?)?.into_array();
-    /// assert!(answers.texts()?.iter().eq([Some(&b"yes"[..]), None, Some(b"no")]));
+    /// let words = Export::texts(["no", "yes"], None).into_array();
+    /// let valid = Bits::new(&[0b101], 0, 3);
+    /// let taken = Export::texts_taken_valid(&words, &[1i8, -7, 0], valid)?.into_array();
+    /// assert!(taken.texts()?.iter().eq([Some(&b"yes"[..]), None, Some(b"no")]));
     /// # Ok::<(), vortex_bits::arrow::ArrowError>(())
     /// ```
     ///
