@@ -1,11 +1,10 @@
 -- The word that a comparison of lanes makes.
 use Rattle.std.proofs.Common.{◌≡◌, ℕ, ℤ, pos, ◌-◌, ◌%◌, ◌^◌, ◌<◌, Bool, cond, eqb, ltb, int_eq}
 use Rattle.std.proofs.Common.{int_lt, All, List, [], ◌∷◌, map, length, FitsSigned, refl, sym, ap}
-use Rattle.std.proofs.Common.{◌∙◌, ◌≤◌, false, take, replicate, get_or, subst, arith}
+use Rattle.std.proofs.Common.{◌∙◌, false, replicate, get_or, subst, arith}
 use Rattle.std.proofs.lemmas.Bool.Decides.{nat_tests}
 use Rattle.std.proofs.lemmas.Int.{ints, to_z-of_z}
 use Rattle.std.proofs.lemmas.List.{length-map, length-replicate, same_lists, get_or_default}
-use Rattle.std.proofs.lemmas.List.{take-map, take-take}
 use Rattle.std.proofs.lemmas.List.Elements.{All-head, All-tail, All-replicate}
 use Rattle.std.proofs.lemmas.Simd.{tops_compared, mask_l-mod, length-zip2, get_or-zip2}
 use Rattle.std.specs.Int.{Width}
@@ -133,12 +132,3 @@ pub unsigned_each : (t : ℕ → ℕ → Bool) (s : ℤ → ℤ → Bool)
     → l ≡ zip2 s (map pos xs) (map pos ys)
 unsigned_each t s same xs ys l lx ly n each =
     compared_each t xs ys 0 l lx ly n each ∙ same_unsigned t s same xs ys
-
--- ---- fewer than 64
--- the numbers of the values that stand in front of a block
-pub loaded_few : {X : Type 0} (f : X → ℤ) (xs ys : List X) (zs : List ℤ)
-    → zs ≡ map f (take 64 ys) → take (length xs) ys ≡ xs → length xs ≤ 64
-    → take (length xs) zs ≡ map f xs
-loaded_few f xs ys zs e front few =
-    ap (take (length xs)) e ∙ take-map f (length xs) (take 64 ys)
-    ∙ ap (map f) (take-take (length xs) 64 ys few ∙ front)

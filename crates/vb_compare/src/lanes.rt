@@ -28,13 +28,6 @@ pub trait CompareLanes: BitIndex + Element {
         ensures numbers { numbers result ≡ map Self.number (take 64 values.now) }
         ensures block { is_block result };
 
-    /// The values, fewer than 64, and behind them any others.
-    fn load_few(values: &[Self]) -> Self::Block
-        requires { length values.now < 64 }
-        ensures numbers { take (length values.now) (numbers result)
-            ≡ map Self.number values.now }
-        ensures block { is_block result };
-
     /// One value, 64 times.
     fn splat(value: Self) -> Self::Block
         ensures numbers { numbers result ≡ replicate 64 (Self.number value) }
@@ -74,15 +67,5 @@ pub(crate) fn first_values<T: Element>(values: &[T]) -> [T; 64]
         value.is_value();
         block[k] = value;
     }
-    block
-}
-
-/// The values, fewer than 64, in front of zeros.
-pub(crate) fn padded_values<T: Element>(values: &[T]) -> [T; 64]
-    requires { length values.now < 64 }
-    ensures { take (length values.now) result ≡ values.now }
-{
-    let mut block = [T::zero(); 64];
-    block[..values.len()].copy_from_slice(values);
     block
 }

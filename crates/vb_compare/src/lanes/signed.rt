@@ -5,7 +5,7 @@
 ghost use Rattle.std.specs.Prelude.{◌≡◌, All, length, FitsSigned};
 ghost use Rattle.std.specs.Int.{w8, w16, w32, w64};
 
-use crate::lanes::{CompareLanes, first_values, padded_values};
+use crate::lanes::{CompareLanes, first_values};
 use std::simd::prelude::*;
 
 impl CompareLanes for i8 {
@@ -18,10 +18,6 @@ impl CompareLanes for i8 {
     #[inline(always)]
     fn load(values: &[i8]) -> Simd<i8, 64> {
         Simd::<i8, 64>::from_array(first_values(values))
-    }
-
-    fn load_few(values: &[i8]) -> Simd<i8, 64> {
-        Self::load(&padded_values(values))
     }
 
     #[inline(always)]
@@ -62,10 +58,6 @@ impl CompareLanes for i16 {
         Simd::<i16, 64>::from_array(first_values(values))
     }
 
-    fn load_few(values: &[i16]) -> Simd<i16, 64> {
-        Self::load(&padded_values(values))
-    }
-
     #[inline(always)]
     fn splat(value: i16) -> Simd<i16, 64> {
         Simd::<i16, 64>::splat(value)
@@ -102,10 +94,6 @@ impl CompareLanes for i32 {
     #[inline(always)]
     fn load(values: &[i32]) -> Simd<i32, 64> {
         Simd::<i32, 64>::from_array(first_values(values))
-    }
-
-    fn load_few(values: &[i32]) -> Simd<i32, 64> {
-        Self::load(&padded_values(values))
     }
 
     #[inline(always)]
@@ -146,10 +134,6 @@ impl CompareLanes for i64 {
         Simd::<i64, 64>::from_array(first_values(values))
     }
 
-    fn load_few(values: &[i64]) -> Simd<i64, 64> {
-        Self::load(&padded_values(values))
-    }
-
     #[inline(always)]
     fn splat(value: i64) -> Simd<i64, 64> {
         Simd::<i64, 64>::splat(value)
@@ -186,10 +170,6 @@ impl CompareLanes for isize {
     #[inline(always)]
     fn load(values: &[isize]) -> Simd<isize, 64> {
         Simd::<isize, 64>::from_array(first_values(values))
-    }
-
-    fn load_few(values: &[isize]) -> Simd<isize, 64> {
-        Self::load(&padded_values(values))
     }
 
     #[inline(always)]

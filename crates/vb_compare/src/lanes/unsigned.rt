@@ -1,7 +1,7 @@
 //! The unsigned whole numbers, compared by lanes.
 ghost use Rattle.std.specs.Prelude.{◌≡◌, length, map, pos};
 
-use crate::lanes::{CompareLanes, padded_values};
+use crate::lanes::CompareLanes;
 use std::simd::prelude::*;
 
 impl CompareLanes for u8 {
@@ -14,10 +14,6 @@ impl CompareLanes for u8 {
     #[inline(always)]
     fn load(values: &[u8]) -> Simd<u8, 64> {
         Simd::<u8, 64>::from_slice(values)
-    }
-
-    fn load_few(values: &[u8]) -> Simd<u8, 64> {
-        Self::load(&padded_values(values))
     }
 
     #[inline(always)]
@@ -58,10 +54,6 @@ impl CompareLanes for u16 {
         Simd::<u16, 64>::from_slice(values)
     }
 
-    fn load_few(values: &[u16]) -> Simd<u16, 64> {
-        Self::load(&padded_values(values))
-    }
-
     #[inline(always)]
     fn splat(value: u16) -> Simd<u16, 64> {
         Simd::<u16, 64>::splat(value)
@@ -98,10 +90,6 @@ impl CompareLanes for u32 {
     #[inline(always)]
     fn load(values: &[u32]) -> Simd<u32, 64> {
         Simd::<u32, 64>::from_slice(values)
-    }
-
-    fn load_few(values: &[u32]) -> Simd<u32, 64> {
-        Self::load(&padded_values(values))
     }
 
     #[inline(always)]
@@ -142,10 +130,6 @@ impl CompareLanes for u64 {
         Simd::<u64, 64>::from_slice(values)
     }
 
-    fn load_few(values: &[u64]) -> Simd<u64, 64> {
-        Self::load(&padded_values(values))
-    }
-
     #[inline(always)]
     fn splat(value: u64) -> Simd<u64, 64> {
         Simd::<u64, 64>::splat(value)
@@ -182,10 +166,6 @@ impl CompareLanes for usize {
     #[inline(always)]
     fn load(values: &[usize]) -> Simd<usize, 64> {
         Simd::<usize, 64>::from_slice(values)
-    }
-
-    fn load_few(values: &[usize]) -> Simd<usize, 64> {
-        Self::load(&padded_values(values))
     }
 
     #[inline(always)]

@@ -2,7 +2,7 @@
 ghost use Rattle.std.specs.Prelude.{◌≡◌, All, length, map, pos, FitsSigned};
 ghost use Rattle.std.specs.Int.{w128};
 
-use crate::lanes::{CompareLanes, first_values, padded_values};
+use crate::lanes::{CompareLanes, first_values};
 use vb_pack::pack_bool_word_lanes;
 
 impl CompareLanes for u128 {
@@ -15,10 +15,6 @@ impl CompareLanes for u128 {
     #[inline(always)]
     fn load(values: &[u128]) -> [u128; 64] {
         first_values(values)
-    }
-
-    fn load_few(values: &[u128]) -> [u128; 64] {
-        Self::load(&padded_values(values))
     }
 
     #[inline(always)]
@@ -65,10 +61,6 @@ impl CompareLanes for i128 {
     #[inline(always)]
     fn load(values: &[i128]) -> [i128; 64] {
         first_values(values)
-    }
-
-    fn load_few(values: &[i128]) -> [i128; 64] {
-        Self::load(&padded_values(values))
     }
 
     #[inline(always)]

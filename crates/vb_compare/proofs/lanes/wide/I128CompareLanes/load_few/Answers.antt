@@ -1,8 +1,0 @@
-use Rattle.std.proofs.Common.{arith}
-use Rattle.vb_compare.proofs.LaneLemmas.{loaded_few}
-use Rattle.vb_compare.proofs.lanes.wide.I128CompareLanes.load_few.Goals as goal
-
-pub returns-clause-numbers : goal.returns-clause-numbers
-returns-clause-numbers c =
-    loaded_few (λ x. x) c.args.values.now c.padded_values.result _
-    c.load.ensures.numbers c.padded_values.ensures (omega arith)
