@@ -1,6 +1,6 @@
 //! Tests of directories of counts: worked rows, the probes and looks of questions, edits and bits
-//! that are added beside a directory made anew, copies, shared sets beside their views, and calls
-//! whose requests for memory are refused.
+//! that are added beside a directory made anew, copies, shared sets beside their views, many ranks
+//! a call beside single calls, and calls whose requests for memory are refused.
 #![tactic(auto)]
 
 #[cfg(test)]
@@ -15,6 +15,8 @@ mod costs;
 mod edits;
 #[cfg(test)]
 mod made;
+#[cfg(test)]
+mod many;
 #[cfg(test)]
 mod refused;
 #[cfg(test)]
