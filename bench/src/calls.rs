@@ -48,6 +48,10 @@ pub type OfTableInTurn = unsafe extern "C" fn(
     usize,
 ) -> usize;
 
+/// Places of ranks by a directory that is made of bits, in so many rounds.
+pub type SelectRounds =
+    unsafe extern "C" fn(Bytes, usize, usize, *const usize, usize, usize) -> usize;
+
 /// A call on a set that is made of a window, in so many rounds.
 pub type InRounds = unsafe extern "C" fn(Bytes, usize, usize, usize, usize) -> usize;
 
@@ -395,6 +399,22 @@ unsafe extern "C" {
     ) -> usize;
     pub fn bench_ranked_set_to(len: usize, rounds: usize) -> usize;
     pub fn bench_ranked_append(bytes: Bytes, many: usize) -> usize;
+    pub fn bench_ranked_select(
+        bytes: Bytes,
+        size: usize,
+        len: usize,
+        ranks: *const usize,
+        many: usize,
+        rounds: usize,
+    ) -> usize;
+    pub fn bench_ranked_select_many(
+        bytes: Bytes,
+        size: usize,
+        len: usize,
+        ranks: *const usize,
+        many: usize,
+        rounds: usize,
+    ) -> usize;
     pub fn bench_filtered(
         items: *const u32,
         many: usize,

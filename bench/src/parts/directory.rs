@@ -4,7 +4,7 @@ use std::cell::RefCell;
 
 use super::MILLION;
 use crate::bench::Bench;
-use crate::calls::{self, OfTable, OfTableInTurn};
+use crate::calls::{self, OfTable, OfTableInTurn, SelectRounds};
 use crate::input::{Input, Random};
 use crate::loops;
 use crate::measure::Contender;
@@ -34,6 +34,7 @@ pub fn measure(bench: &mut Bench) {
             asked.ranks(bench);
             asked.selects(bench);
         }
+        selects_of_many(bench, &input, len);
         edits(bench, len);
     }
     appends(bench);
@@ -142,6 +143,26 @@ impl<'a> Asked<'a> {
             .how("random, in turn")
             .plain(Contender::of_each(list.len(), plain))
     }
+}
+
+/// Places of a thousand ranks by one call, beside a call for each.
+fn selects_of_many(bench: &mut Bench, input: &Input, len: usize) {
+    let bytes = input.bytes(len / 8);
+    let ranks = &Random(11).list(1000, len / 2);
+    let of = move |call: SelectRounds| {
+        Contender::in_rounds(move |rounds| unsafe {
+            let (list, many) = (ranks.as_ptr(), ranks.len());
+            call(bytes.as_ptr(), bytes.len(), len, list, many, rounds)
+        })
+    };
+    let row = Row::new(
+        "`select_many` of a directory",
+        of(calls::bench_ranked_select_many),
+    )
+    .bits(len)
+    .how("1,000 ranks at random")
+    .beside("`select` of each", of(calls::bench_ranked_select));
+    bench.row(row);
 }
 
 /// An edit of the first bit, beside a loop over a table of one number a block, which moves all

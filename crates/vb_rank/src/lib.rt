@@ -4,7 +4,8 @@
 //! The bits are cut into blocks of 512. A table has, for each block, how many true bits are before
 //! it: one number for 64 bytes of bits. [`table_of`] makes one, and [`rank_by`], [`select_by`] and
 //! [`select_unset_by`] answer by any [`Probe`] of one and any `Glance` at the bits. [`find_block`],
-//! [`rank_from`] and [`select_from`] are their parts, for counts that are kept in another way.
+//! [`rank_from`] and [`select_from`] are their parts, for counts that are kept in another way, and
+//! [`find_blocks`] and [`select_each_from`] those of eight selects at once.
 //!
 //! Lengths and places are counted in bits.
 #![tactic(auto)]

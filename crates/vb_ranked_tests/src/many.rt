@@ -3,7 +3,7 @@ use crate::compared::{equal, holds};
 use crate::made::mixed;
 use std::alloc::{Allocator, Global};
 use std::process::Abort;
-use vb_ranked::Ranked;
+use vb_ranked::{Ranked, RankedBuffer};
 
 /// Ranks up to past the last bit, in no order, some of them twice.
 fn ranks(rt: &impl Abort, alloc: Global, len: usize, many: usize) -> Vec<usize, Global> {
@@ -20,6 +20,26 @@ fn answers_each<A: Allocator + Clone>(
     rt: &impl Abort,
     alloc: Global,
     ranked: &Ranked<A>,
+    ranks: &[usize],
+) {
+    let mut places = Vec::from_elem(alloc, Some(7), ranks.len()).expect(rt, "room");
+    ranked.select_many(ranks, places.as_mut_slice());
+    for (n, place) in ranks.iter().zip(places.as_slice()) {
+        equal(rt, *place, ranked.select(*n));
+    }
+    holds(rt, places.len() == ranks.len());
+    ranked.select_unset_many(ranks, places.as_mut_slice());
+    for (n, place) in ranks.iter().zip(places.as_slice()) {
+        equal(rt, *place, ranked.select_unset(*n));
+    }
+    drop(places);
+}
+
+/// And one of a shared set.
+fn shared_answers_each(
+    rt: &impl Abort,
+    alloc: Global,
+    ranked: &RankedBuffer<Global>,
     ranks: &[usize],
 ) {
     let mut places = Vec::from_elem(alloc, Some(7), ranks.len()).expect(rt, "room");
@@ -59,6 +79,22 @@ fn many_ranks_are_answered_as_each(rt: HostRuntime) {
         for many in MANY {
             let ranks = ranks(&rt, rt.alloc(), len, many);
             answers_each(&rt, rt.alloc(), &ranked, ranks.as_slice());
+            drop(ranks);
+        }
+        drop(ranked);
+    }
+}
+
+#[test]
+fn many_ranks_of_shared_sets_are_answered_as_each(rt: HostRuntime) {
+    for (offset, len) in SETS {
+        let set = mixed(&rt, rt.alloc(), offset, len)
+            .freeze()
+            .expect(&rt, "an owner");
+        let ranked = RankedBuffer::new(rt.alloc(), set).expect(&rt, "counts");
+        for many in MANY {
+            let ranks = ranks(&rt, rt.alloc(), len, many);
+            shared_answers_each(&rt, rt.alloc(), &ranked, ranks.as_slice());
             drop(ranks);
         }
         drop(ranked);

@@ -33,7 +33,8 @@ impl<A: Allocator + Clone> Ranked<A> {
         self.set.reserve(n)
     }
 
-    /// Adds one bit, in amortized constant time.
+    /// Adds one bit, in amortized constant time. Offset and alignment stay, and the room never
+    /// shrinks, refused or not.
     ///
     /// Refused by `TooManyBits` where offset and length together are `usize::MAX`, else by
     /// `OutOfMemory` alone. Then the set and its room are unchanged. Where there are bits, and
