@@ -1,4 +1,4 @@
-use Rattle.std.proofs.Common.{◌≡◌, ◌≤◌, ◌++◌, take}
+use Rattle.std.proofs.Common.{◌≡◌, ◌++◌, take}
 use Rattle.vb_bit_bytes.proofs.lengthen.with_slice.Given as goal
 
 abbrev pub invariant-loop-k : goal.invariant-loop-k

@@ -1,13 +1,11 @@
-use Rattle.std.proofs.Common.{◌≡◌, ℕ, Bool, List, ◌+◌, ◌*◌, ◌/◌, ◌^◌, ◌<◌, ◌≤◌, ◌++◌, ◌∷◌, []}
+use Rattle.std.proofs.Common.{◌≡◌, ℕ, Bool, List, ◌+◌, ◌*◌, ◌/◌, ◌≤◌, ◌++◌, ◌∷◌, []}
 use Rattle.std.proofs.Common.{length, take}
-use Rattle.std.proofs.Common.{Ok, Err, sym, ap, ◌∙◌, arith, subst, ⊎_elim}
-use Rattle.std.proofs.lemmas.Bool.{cases_lt}
+use Rattle.std.proofs.Common.{sym, ap, ◌∙◌, arith, subst}
 use Rattle.std.proofs.Math.Seq.{take-length}
 use Rattle.std.proofs.lemmas.List.{length-append, take-append-le}
 use Rattle.vb_bits.specs.Bits.{count}
 use Rattle.vb_ranked.specs.Counts.{AreCounts, numbers_for}
 use Rattle.vb_set.specs.OpenSet.{OpenSet}
-use Rattle.vb_ranked.proofs.CountEditsLemmas.{AreCounts-push}
 use Rattle.vb_ranked.proofs.ranked.Ranked.begin_block.Goals as goal
 
 -- the counts that were held are, where the room of the set stays

@@ -1,6 +1,5 @@
-use Rattle.std.proofs.Common.{rules, ◌≡◌, ℕ, ◌+◌, List, [], ◌∷◌, ◌++◌, length, ap, sym, ◌∙◌, subst}
+use Rattle.std.proofs.Common.{rules, ℕ, ◌+◌, List, [], ◌∷◌, ◌++◌, length, ap, sym, ◌∙◌, subst}
 use Rattle.vb_bit_bytes.proofs.BytesLemmas.{edits}
-use Rattle.vb_bits.specs.Bits.{bits}
 use Rattle.vb_bits.specs.Writes.{Writes, extension}
 use Rattle.vb_bits.proofs.BitsLemmas.{length-bits}
 use Rattle.vb_bits.proofs.WritesLemmas.{Writes-extension, bits-pushed}
