@@ -78,6 +78,23 @@ fn shorten<A: Allocator + Clone>(
     same(rt, set, list);
 }
 
+/// Adds bits `v` for as long as the bytes have a place for them.
+fn fill_bytes<A: Allocator + Clone>(
+    rt: &impl Abort,
+    set: &mut BitBufferMut<A>,
+    list: &mut Vec<bool, A>,
+    v: bool,
+) {
+    let end = set.offset().saturating_add(set.len());
+    let places = set.as_slice().len().saturating_mul(8).saturating_sub(end);
+    for _ in 0..places {
+        equal(rt, set.append_within_bytes(v), true);
+        list.push(v).expect(rt, "room");
+    }
+    equal(rt, set.append_within_bytes(v), false);
+    same(rt, set, list);
+}
+
 /// The edits with bits `v`, and with the others.
 fn edited_is_plain<A: Allocator + Clone>(
     rt: &impl Abort,
@@ -93,6 +110,7 @@ fn edited_is_plain<A: Allocator + Clone>(
     set.truncate(n);
     list.truncate(n);
     same(rt, set, list);
+    fill_bytes(rt, set, list, v);
     lengthen(rt, set, list, !v);
     let n = list.len();
     resize(rt, set, list, (n / 3, v));
