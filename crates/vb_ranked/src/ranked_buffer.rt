@@ -115,6 +115,7 @@ impl<A: Allocator + Clone> RankedBuffer<A> {
 
     /// The places of the true bits by their ranks: `places[k]` becomes what
     /// [`select`](Self::select) answers of `ranks[k]`. There have to be as many places as ranks.
+    /// Clause `each` says that every true bit with `ranks[k]` true ones before it is that answer.
     ///
     /// Above 65,536 bits eight ranks are sought side by side, since each search waits for what it
     /// reads: so a call with many ranks takes less time than a call for each, the most less where

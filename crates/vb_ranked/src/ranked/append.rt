@@ -34,7 +34,7 @@ impl<A: Allocator + Clone> Ranked<A> {
     }
 
     /// Adds one bit, in amortized constant time. Offset and alignment stay, and the room never
-    /// shrinks, refused or not.
+    /// shrinks, refused or not. The bytes become longer only where none has a place for the bit.
     ///
     /// Refused by `TooManyBits` where offset and length together are `usize::MAX`, else by
     /// `OutOfMemory` alone. Then the set and its room are unchanged. Where there are bits, and

@@ -140,7 +140,8 @@ impl<A: Allocator + Clone> BitBufferMut<A> {
     }
 
     /// Makes it `n` bits long: cut, as [`truncate`](Self::truncate) cuts, or filled up with `v`, as
-    /// [`append_n`](Self::append_n) adds. At its own length it is unchanged.
+    /// [`append_n`](Self::append_n) adds. At its own length it is unchanged. Offset and alignment
+    /// stay, the room never shrinks, and no bit before the shorter of both lengths changes.
     ///
     /// Refused by `TooManyBits` where offset and `n` together pass `usize::MAX`, else by
     /// `OutOfMemory` alone. In both cases the set and its room are unchanged. Up to
