@@ -346,14 +346,16 @@ pub fn filter_bits(bits: &BitBuffer, mask: &BitBuffer) -> usize {
     used(kept.freeze())
 }
 
-/// The places of a mask, and a bit set for each that gets a true one.
+/// The places of a mask, and a bit set for each that gets a true one; how many places these are.
 #[inline(never)]
 pub fn deposit(bits: &BitBuffer, mask: &BitBuffer) -> usize {
-    let mut made = BitBufferMut::new_unset(mask.len());
-    for (at, place) in mask.set_indices().enumerate() {
+    let (mut made, mut at) = (BitBufferMut::new_unset(mask.len()), 0);
+    for place in mask.set_indices() {
         if bits.value(at) {
             made.set(place);
         }
+        at += 1;
     }
-    used(made.freeze())
+    used(made.freeze());
+    at
 }
