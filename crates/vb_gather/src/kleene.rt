@@ -21,7 +21,7 @@ use vb_view::BitBufferView;
 /// `left and right` of truth values that may be null, by three-valued logic, Kleene's, as in SQL:
 /// false where one of the two is false, even if the other one is null; else null where one is null.
 ///
-/// A validity says which values aren't null; without one none is. It has to be as long as its
+/// A validity says which values aren't null; without one, no value is. It has to be as long as its
 /// values, and `right` as long as `left`. What values have at nulls counts for nothing.
 ///
 /// It answers two sets, of offset 0 and in as few bytes as hold them: which values are true, and

@@ -95,7 +95,8 @@ pub fn bit_select_unset(bytes: &[u8], offset: usize, len: usize, n: usize) -> Op
 ///
 /// The search takes at most the looks of [`count_ones_by`](crate::count_ones_by) of the same bits,
 /// and so at most [`most_looks`](crate::most_looks) of `len`. A look is one read of a chunk of 64
-/// bytes, of a word of eight, or of a byte.
+/// bytes, of a word of eight, or of a byte; `G.seen` of a source is its bytes, which no look
+/// changes, and how many looks they have had.
 pub fn bit_select_by<G: Glance>(src: &mut G, offset: usize, len: usize, n: usize) -> Option<usize>
     requires window { InBytes (G.seen src.old).bytes offset len }
     ensures place { Selects (bits (G.seen src.old).bytes offset len) n result }
@@ -110,7 +111,8 @@ pub fn bit_select_by<G: Glance>(src: &mut G, offset: usize, len: usize, n: usize
 ///
 /// The search takes at most the looks of [`count_ones_by`](crate::count_ones_by) of the same bits,
 /// and so at most [`most_looks`](crate::most_looks) of `len`. A look is one read of a chunk of 64
-/// bytes, of a word of eight, or of a byte.
+/// bytes, of a word of eight, or of a byte; `G.seen` of a source is its bytes, which no look
+/// changes, and how many looks they have had.
 pub fn bit_select_unset_by<G: Glance>(
     src: &mut G,
     offset: usize,

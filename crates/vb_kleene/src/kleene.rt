@@ -18,7 +18,7 @@ use vb_view::BitBufferView;
 /// null. Which are true goes to the bits of `trues` from bit `trues_offset` on, and which aren't
 /// null to those of `valid` from bit `valid_offset` on, one for each value. No other bit changes.
 ///
-/// A validity says which values aren't null; without one none is. It has to be as long as its
+/// A validity says which values aren't null; without one, no value is. It has to be as long as its
 /// values, and `right` as long as `left`. Both windows that are written have to lie in their bytes,
 /// and their ends have to fit in a `usize`. What values have at nulls counts for nothing, and at a
 /// null of the answer the bit of `trues` is false.

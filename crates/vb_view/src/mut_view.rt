@@ -14,8 +14,9 @@ use crate::view::BitBufferView;
 use vb_bits::{fill_bits, set_bit_to};
 use vb_walk::BitIterator;
 
-/// What a [`BitBufferMutView`] writes to: a `&mut` to bytes, or to a set of bits over bytes. Who
-/// writes by views calls none of this.
+/// What a [`BitBufferMutView`] writes to: a `&mut` to bytes, or to a set of bits over bytes. A
+/// `&mut [u8]` allows every window inside it that ends below 2^64, a set only that of its own bits.
+/// Who writes by views calls none of this.
 pub trait BitStore {
     // its bytes
     ghost bytes: { Self → List ℕ };
