@@ -7,7 +7,7 @@ use crate::merge::merge_bits;
 use crate::operator::Right;
 
 /// Copies the `len` bits of `src` from bit `s` on to the bits of `dst` from bit `d` on, and leaves
-/// every other bit of `dst`.
+/// every other bit of `dst`. Each window has to lie in its bytes, and to end below 2^64.
 ///
 /// It goes by words of 64 bits, four at a time, whatever the two offsets are.
 pub fn copy_bits(dst: &mut [u8], d: usize, src: &[u8], s: usize, len: usize)

@@ -9,7 +9,8 @@ use crate::read::{read_bits, shifted_word};
 /// How many words are compared before it is seen whether they differ: a vector loop has no way out.
 const BLOCK_WORDS: usize = 64;
 
-/// Whether the `len` bits of `left` from bit `l` on are those of `right` from bit `r` on.
+/// Whether the `len` bits of `left` from bit `l` on are those of `right` from bit `r` on. Each
+/// window has to lie in its bytes, and to end below 2^64.
 ///
 /// The bits up to a word of `left` are compared as one number, and so are the last 64; the words
 /// between go by blocks, which begin with a cache line of `left` where `left` begins with one. No

@@ -8,7 +8,8 @@ use crate::bytes::{byte_mask, word_at, write_word};
 use crate::lanes::{words_at, write_words};
 use std::simd::prelude::*;
 
-/// Negates each bit of the window and leaves every other bit.
+/// Negates each of the `len` bits from bit `offset` on, and leaves every other bit. The window has
+/// to lie in the bytes, and to end below 2^64.
 ///
 /// The bits of a partial first and last byte go by a mask, the whole bytes between by words, four
 /// at a time where there are so many, and then by bytes.

@@ -11,8 +11,8 @@ use crate::test::{IsEqual, IsGreater, IsLess, IsNot};
 use crate::truths::{ToNumber, ToOthers};
 use crate::write::write_truths;
 
-/// Writes to bit `offset + k` of `out`, for each `k` below the number of values, how `values[k]`
-/// compares with `number`. No other bit changes.
+/// Writes to bit `offset + k` of `out`, for each `k` below the number of values, whether
+/// `values[k]` compares with `number` as `op` says. No other bit changes.
 ///
 /// These bits have to lie in `out`, and `offset` plus the number of values has to fit in a `usize`.
 ///

@@ -23,7 +23,8 @@ const MIN_ADDER_CHUNKS: usize = 64;
 /// So many chunks, which are 8 MiB, lie past the caches of most machines.
 const PAST_CACHES: usize = 131_072;
 
-/// How many bits of the window are true.
+/// How many of the `len` bits from bit `offset` on are true. The window has to lie in the bytes,
+/// and to end below 2^64.
 pub fn count_ones(bytes: &[u8], offset: usize, len: usize) -> usize
     requires window { InBytes bytes.now offset len }
     ensures { result ≡ count (bits bytes.now offset len) }
@@ -45,7 +46,8 @@ fn count_of_many(bytes: &[u8], offset: usize, len: usize) -> usize
     count_long(&mut Plain::new(bytes), offset, len)
 }
 
-/// How many bits of the window of `src`, which has to lie in its bytes, are true.
+/// How many bits are true of the window of `src`, which has to lie in its bytes and to end below
+/// 2^64.
 ///
 /// It looks once at a partial first byte, once at each 64 whole bytes, once at each eight of those
 /// left, once at each byte then left, and once at a partial last byte. `G.seen` of a source is its

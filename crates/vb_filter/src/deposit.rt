@@ -19,7 +19,8 @@ use vb_view::{BitBufferView, view_word};
 ///
 /// It undoes [`filter_into`](crate::filter_into): those that the mask keeps of the new bits are
 /// `values`. There have to be as many `values` as the mask has true bits, and in `out` room for as
-/// many bits as the mask has, behind the first `offset`.
+/// many bits as the mask has, behind the first `offset`; `offset` plus the mask's length has to fit
+/// in a `usize`.
 ///
 /// It goes by 64 bits of the mask, and writes a word at a time. Where none of 64 is true, the
 /// values aren't looked at. No memory is asked for.

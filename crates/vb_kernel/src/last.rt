@@ -13,7 +13,8 @@ use vb_walk::others;
 /// How many words are looked at together, so that one test serves all of them.
 const PASSED_WORDS: usize = 8;
 
-/// The place, relative to the window, of its last true bit; `None` where it has none.
+/// The place, relative to the window of `len` bits from bit `offset` on, of its last true bit;
+/// `None` where it has none. The window has to lie in the bytes, and to end below 2^64.
 ///
 /// Words are read from the end to the front. Those that have no true bit are passed by blocks of
 /// eight, and then one by one.
@@ -25,7 +26,8 @@ pub fn last_set_index(bytes: &[u8], offset: usize, len: usize) -> Option<usize>
 }
 
 /// The last true bit before place `before`, as its place in the window; `None` where there is none.
-/// From the end on each place has the bits of the window before it.
+/// From the end on each place has the bits of the window before it. The window has to lie in the
+/// bytes, and to end below 2^64.
 ///
 /// It reads as [`last_set_index`] does, from place `before` to the front.
 pub fn previous_set(bytes: &[u8], offset: usize, len: usize, before: usize) -> Option<usize>
@@ -36,7 +38,7 @@ pub fn previous_set(bytes: &[u8], offset: usize, len: usize, before: usize) -> O
 }
 
 /// The last false bit before place `before`, as its place in the window; `None` where there is
-/// none. It reads as [`previous_set`] does.
+/// none. Of the window and what is read [`previous_set`] says all.
 pub fn previous_unset(bytes: &[u8], offset: usize, len: usize, before: usize) -> Option<usize>
     requires window { InBytes bytes.now offset len }
     ensures { IsPrevious (complement (bits bytes.now offset len)) before result }

@@ -10,7 +10,8 @@ use vb_bits::{low_digits, read_bits, word_at};
 use vb_walk::{first_other, others};
 
 /// The first true bit from place `from` on, as its place in the window; `None` where there is
-/// none, as there is none from the end on.
+/// none, as there is none from the end on. The window has to lie in the bytes, and to end below
+/// 2^64.
 ///
 /// It reads the eight bytes from that of place `from` on, then the next eight, and then words four
 /// at once, to those of which one has the bit.
@@ -22,7 +23,7 @@ pub fn next_set(bytes: &[u8], offset: usize, len: usize, from: usize) -> Option<
 }
 
 /// The first false bit from place `from` on, as its place in the window; `None` where there is
-/// none, as there is none from the end on. It reads as [`next_set`] does.
+/// none, as there is none from the end on. Of the window and what is read [`next_set`] says all.
 pub fn next_unset(bytes: &[u8], offset: usize, len: usize, from: usize) -> Option<usize>
     requires window { InBytes bytes.now offset len }
     ensures { IsNext (complement (bits bytes.now offset len)) from result }
@@ -30,8 +31,8 @@ pub fn next_unset(bytes: &[u8], offset: usize, len: usize, from: usize) -> Optio
     next_match(bytes, offset, len, from, false)
 }
 
-/// Whether a bit of the window is true, as none is of a window of no bits. It reads as [`next_set`]
-/// does, up to the first true bit.
+/// Whether a bit of the window is true, as none is of a window of no bits. The window has to lie in
+/// the bytes, and to end below 2^64. It reads as [`next_set`] does, up to the first true bit.
 pub fn any_set(bytes: &[u8], offset: usize, len: usize) -> bool
     requires window { InBytes bytes.now offset len }
     ensures { IsTrue result ↔ (0 < count (bits bytes.now offset len)) }
@@ -39,8 +40,8 @@ pub fn any_set(bytes: &[u8], offset: usize, len: usize) -> bool
     next_set(bytes, offset, len, 0).is_some()
 }
 
-/// Whether each bit of the window is true, as of a window of no bits. It reads as [`next_set`]
-/// does, up to the first false bit.
+/// Whether each bit of the window is true, as of a window of no bits. The window has to lie in the
+/// bytes, and to end below 2^64. It reads as [`next_set`] does, up to the first false bit.
 pub fn all_set(bytes: &[u8], offset: usize, len: usize) -> bool
     requires window { InBytes bytes.now offset len }
     ensures { IsTrue result ↔ (count (bits bytes.now offset len) ≡ len) }

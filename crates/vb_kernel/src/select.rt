@@ -69,8 +69,9 @@ fn searched_first(n: usize) -> usize {
     }
 }
 
-/// The place, relative to the window, of its `n`-th true bit, counted from 0; `None` where the
-/// window has at most `n`.
+/// The place, relative to the window of `len` bits from bit `offset` on, of its `n`-th true bit,
+/// counted from 0; `None` where the window has at most `n`. The window has to lie in the bytes, and
+/// to end below 2^64.
 pub fn bit_select(bytes: &[u8], offset: usize, len: usize, n: usize) -> Option<usize>
     requires window { InBytes bytes.now offset len }
     ensures place { Selects (bits bytes.now offset len) n result }
@@ -79,8 +80,9 @@ pub fn bit_select(bytes: &[u8], offset: usize, len: usize, n: usize) -> Option<u
     bit_select_by(&mut Plain::new(bytes), offset, len, n)
 }
 
-/// The place, relative to the window, of its `n`-th false bit, counted from 0; `None` where the
-/// window has at most `n`.
+/// The place, relative to the window of `len` bits from bit `offset` on, of its `n`-th false bit,
+/// counted from 0; `None` where the window has at most `n`. The window has to lie in the bytes, and
+/// to end below 2^64.
 pub fn bit_select_unset(bytes: &[u8], offset: usize, len: usize, n: usize) -> Option<usize>
     requires window { InBytes bytes.now offset len }
     ensures place { Selects (complement (bits bytes.now offset len)) n result }
@@ -90,8 +92,9 @@ pub fn bit_select_unset(bytes: &[u8], offset: usize, len: usize, n: usize) -> Op
 }
 
 /// The place of the `n`-th true bit, counted from 0, of the `len` bits of `src` from bit `offset`
-/// on; `None` where at most `n` of them are true. The place is relative to bit `offset`. Clause
-/// `place` says so, and `each` that every true bit with `n` true ones before it is the answer.
+/// on; `None` where at most `n` of them are true. The place is relative to bit `offset`. The window
+/// has to lie in the bytes, and to end below 2^64. Clause `place` says what the answer is, and
+/// `each` that every true bit with `n` true ones before it is the answer.
 ///
 /// The search takes at most the looks of [`count_ones_by`](crate::count_ones_by) of the same bits,
 /// and so at most [`most_looks`](crate::most_looks) of `len`. A look is one read of a chunk of 64
@@ -107,7 +110,8 @@ pub fn bit_select_by<G: Glance>(src: &mut G, offset: usize, len: usize, n: usize
 }
 
 /// The place of the `n`-th false bit, counted from 0, of the `len` bits of `src` from bit `offset`
-/// on; `None` where at most `n` of them are false. The place is relative to bit `offset`.
+/// on; `None` where at most `n` of them are false. The place is relative to bit `offset`. The
+/// window has to lie in the bytes, and to end below 2^64.
 ///
 /// The search takes at most the looks of [`count_ones_by`](crate::count_ones_by) of the same bits,
 /// and so at most [`most_looks`](crate::most_looks) of `len`. A look is one read of a chunk of 64

@@ -164,8 +164,8 @@ impl<A: Allocator + Clone> Ranked<A> {
     /// Clause `each` says that every true bit with `ranks[k]` true ones before it is that answer.
     ///
     /// Above 65,536 bits eight ranks are sought side by side, since each search waits for what it
-    /// reads: so a call with many ranks takes less time than a call for each, the most less where
-    /// the bits are more than fit the caches. Fewer than eight go one by one. It takes no memory.
+    /// reads: so a call with many ranks takes less time than a call for each, and saves the most
+    /// where the bits don't fit the caches. Fewer than eight go one by one. It takes no memory.
     pub fn select_many(&self, ranks: &[usize], places: &mut [Option<usize>])
         requires { length places.old ≡ length ranks.now }
         ensures places { AllZip (Selects self.now.bits) ranks.now places.new }

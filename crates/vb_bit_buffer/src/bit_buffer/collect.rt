@@ -20,10 +20,10 @@ use vb_core::{BufferError, Result};
 impl<A: Allocator + Clone> BitBuffer<A> {
     /// A set, of offset 0, of what `f` answers at the places from 0 up to `len`, `len` excluded.
     /// `f` is called in order and once at each place, and has to be callable there whatever it
-    /// answered before. Full words go by vectors of bytes, the rest bit by bit.
+    /// answered before. 64 answers at a time are packed, by vectors of bytes, the rest bit by bit.
     ///
     /// It takes memory for the bytes of the bits and the count of owners. Refused by `OutOfMemory`
-    /// alone, before the first call of `f`.
+    /// alone, so says clause `fresh`, and before the first call of `f`.
     pub fn collect_bool<F: FnMut(usize) -> bool>(alloc: A, len: usize, f: &mut F) -> Result<Self>
         requires { CanAsk (F.pre) (F.step) f.old (span 0 len) }
         ensures answered { IfOk result (λ s.

@@ -117,7 +117,8 @@ impl<A: Allocator + Clone> BitBufferMut<A> {
         self.append(false)
     }
 
-    /// Adds `n` bits, all `v`, whole bytes at once.
+    /// Adds `n` bits, all `v`, whole bytes at once. Offset and alignment stay, and the room never
+    /// shrinks, refused or not: so says clause `grows`.
     ///
     /// Refused by `TooManyBits` where offset, length and `n` together pass `usize::MAX`, else by
     /// `OutOfMemory` alone. In both cases the set and its room are unchanged. Where the length and
