@@ -5,11 +5,11 @@ use Rattle.std.proofs.Common.{arith, zero-add}
 use Rattle.std.proofs.lemmas.Bool.{cases_lt}
 use Rattle.vb_bits.specs.Bits.{bit_of, bits, count}
 use Rattle.vb_bits.specs.Operators.{merged_by}
-use Rattle.vb_count.specs.Looks.{looks}
+use Rattle.vb_count.specs.Looks.{looks, CountedBytes, LooksExactly}
 use Rattle.vb_pair.specs.Beside.{part_looks, unit_looks, looks_beside}
 use Rattle.vb_pair.specs.Merged.{merged_ones}
 use Rattle.vb_bits.proofs.BitsLemmas.{same_bits, at-bits}
-use Rattle.vb_pair.proofs.MergedLemmas.{merged_ones_none, merged_ones_split}
+use Rattle.vb_pair.proofs.MergedLemmas.{merged_ones-le, merged_ones_none, merged_ones_split}
 use Rattle.vb_count.proofs.RestLemmas.{bits_of_byte_at}
 
 -- ---- looks
@@ -26,7 +26,7 @@ unit_looks-add zero j k = refl
 unit_looks-add (suc s) j k = omega arith
 
 -- of one unit
-pub unit_looks_one : (s : ℕ) → unit_looks s 1 ≡ 1 + min s 1
+unit_looks_one : (s : ℕ) → unit_looks s 1 ≡ 1 + min s 1
 unfolding unit_looks
 unit_looks_one zero = refl
 unit_looks_one (suc s) = omega arith
@@ -144,3 +144,81 @@ merged_ones_of_units f a b xs ys y i j k x s n o p long left right next from at 
       back,
       merged_ones_split f a b o p t n (o + t) (p + t) e refl refl (omega arith),
     )
+
+-- a whole unit of k bytes beside one that ends at digit r % 8 of the byte behind it, which was read
+-- after it
+pub merged_ones_of_whole : (f : Bool → Bool → Bool) (a b c xs ys : List ℕ) (y l r k : ℕ)
+    → 0 < k → length xs ≡ k → bits xs 0 (8 * k) ≡ bits a (8 * l) (8 * k)
+    → bits ys 0 (8 * k) ≡ bits b (8 * (r / 8)) (8 * k)
+    → (0 < r % 8 → y ≡ get_or c (r / 8 + k) 0) → c ≡ b
+    → merged_ones f xs 0 ys (r % 8) (min (8 * k) (8 * length xs - r % 8))
+    + merged_ones f xs (0 + min (8 * k) (8 * length xs - r % 8)) (y ∷ []) 0
+    (8 * k - (8 * length xs - r % 8))
+    ≡ merged_ones f a (8 * l) b r (8 * k)
+merged_ones_of_whole f a b c xs ys y l r k some long left right next same =
+    merged_ones_of_units f a b xs ys y l (r / 8) k 0 (r % 8) (8 * k) (8 * l) r long left right
+    (λ h. next (omega arith) ∙ ap (λ x. get_or x (r / 8 + k) 0) same)
+    (omega arith) (omega arith) (omega arith) (omega arith) some
+
+-- the looks at it and at the byte behind it
+pub unit_looks_of_whole : {old mid new : CountedBytes} → (s : ℕ) → LooksExactly 1 old mid
+    → LooksExactly (min s 1) mid new → LooksExactly (unit_looks s 1) old new
+unit_looks_of_whole s unit behind = record {
+  same = behind.same ∙ unit.same;
+  looks = omega (arith, unit.looks, behind.looks, unit_looks_one s);
+}
+
+-- ---- units in a row
+-- the first k units have n bits: how many of these are true, and the looks that they took
+pub record UnitsCounted (f : Bool → Bool → Bool) (o p k n ones : ℕ)
+    (left left_now right right_now : CountedBytes) : Type 0 where
+  pub value : ones ≡ merged_ones f left.bytes o right.bytes p n
+  pub looks : LooksExactly k left left_now
+  pub beside : LooksExactly (unit_looks (p % 8) k) right right_now
+
+-- no unit
+pub units_none : (f : Bool → Bool → Bool) (o p : ℕ) (left right : CountedBytes)
+    → UnitsCounted f o p 0 0 0 left left right right
+units_none f o p left right = record {
+  value = sym (merged_ones_none f left.bytes right.bytes o p);
+  looks = record { same = refl; looks = omega arith };
+  beside = record { same = refl; looks = omega (arith, unit_looks_none (p % 8)) };
+}
+
+module _ {f : Bool → Bool → Bool} {o p k n ones : ℕ} {left mid right amid : CountedBytes}
+    (so_far : UnitsCounted f o p k n ones left mid right amid) where
+  -- no more than there are bits
+  pub units-le : ones ≤ n
+  units-le = omega (arith, so_far.value, merged_ones-le f left.bytes right.bytes o p n)
+
+  -- one more, of u bits, of which x are true
+  pub units_more : {new anew : CountedBytes} → (at from u m x : ℕ)
+      → x ≡ merged_ones f mid.bytes at amid.bytes from u → LooksExactly 1 mid new
+      → LooksExactly (unit_looks (from % 8) 1) amid anew
+      → at ≡ o + n → from ≡ p + n → from % 8 ≡ p % 8 → m ≡ n + u
+      → UnitsCounted f o p (k + 1) m (ones + x) left new right anew
+  units_more at from u m x value looks beside place other digit end =
+      let a = left.bytes in let b = right.bytes in
+      record {
+        value = omega (
+          arith,
+          so_far.value,
+          value,
+          merged_ones_same f a b _ _ at from u so_far.looks.same so_far.beside.same,
+          merged_ones_split f a b o p n m at from u place other end,
+        );
+        looks = record {
+          same = looks.same ∙ so_far.looks.same;
+          looks = omega (arith, so_far.looks.looks, looks.looks);
+        };
+        beside = record {
+          same = beside.same ∙ so_far.beside.same;
+          looks = omega (
+            arith,
+            so_far.beside.looks,
+            beside.looks,
+            unit_looks_on p from 1 digit,
+            unit_looks-add (p % 8) k 1,
+          );
+        };
+      }

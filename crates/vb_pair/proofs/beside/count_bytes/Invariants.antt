@@ -1,14 +1,9 @@
-use Rattle.std.proofs.Common.{◌≡◌, ◌+◌, ◌*◌, ◌%◌}
-use Rattle.vb_count.specs.Looks.{LooksExactly}
-use Rattle.vb_pair.specs.Beside.{unit_looks}
-use Rattle.vb_pair.specs.Merged.{merged_ones}
+use Rattle.std.proofs.Common.{◌*◌}
+use Rattle.vb_pair.proofs.BesideLemmas.{UnitsCounted}
 use Rattle.vb_pair.proofs.beside.count_bytes.Given as goal
 
 abbrev pub invariant-loop-k : goal.invariant-loop-k
-invariant-loop-k g l = record {
-  value : l.ones ≡ merged_ones g.M.Merge.bit (g.L.Glance.seen l.initial.left).bytes (8 * l.l)
-      (g.R.Glance.seen l.initial.right).bytes l.r (8 * l.k);
-  looks : LooksExactly l.k (g.L.Glance.seen l.initial.left) (g.L.Glance.seen l.left);
-  beside : LooksExactly (unit_looks (l.r % 8) l.k)
-      (g.R.Glance.seen l.initial.right) (g.R.Glance.seen l.right);
-}
+invariant-loop-k g l =
+    UnitsCounted g.M.Merge.bit (8 * l.l) l.r l.k (8 * l.k) l.ones
+    (g.L.Glance.seen l.initial.left) (g.L.Glance.seen l.left)
+    (g.R.Glance.seen l.initial.right) (g.R.Glance.seen l.right)
