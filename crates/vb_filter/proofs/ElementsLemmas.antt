@@ -272,3 +272,25 @@ module _ (keep n m : ℕ) (mask : m ≡ 2 ^ n - 1) (clear : keep < 2 ^ (n + n)) 
         ∙ append_assoc (take len old) (kept_by (digits low 0 n) (slice_range values 0 n))
         (kept_by (digits (keep / 2 ^ n) 0 n) (slice_range values n (n + n)))
         ∙ ap (λ l. take len old ++ l) halves_kept
+
+    -- and what was behind them is there
+    pub halves_behind : (old mid new : List T) (len : ℕ)
+        → drop (len + count_ones low + 4) mid ≡ drop (len + count_ones low + 4) old
+        → drop (len + count_ones low + count_ones (keep / 2 ^ n) + 4) new
+        ≡ drop (len + count_ones low + count_ones (keep / 2 ^ n) + 4) mid
+        → drop (len + count_ones keep + 4) new ≡ drop (len + count_ones keep + 4) old
+    halves_behind old mid new len first second =
+        let end : ℕ = len + count_ones keep + 4 in
+        drop_further new mid _ end (omega (arith, ones_halves)) second
+        ∙ drop_further mid old _ end (omega (arith, ones_halves)) first
+
+-- the ones of words of eight and 16 digits
+pub ones_of_fours : (keep : ℕ) → keep < 2 ^ 8
+    → count_ones keep ≡ count_ones (bit_and keep 15) + count_ones (keep / 2 ^ 4)
+ones_of_fours keep = ones_halves keep 4 15 refl
+
+pub ones_of_eights : (keep : ℕ) → keep < 2 ^ 16
+    → count_ones keep ≡ count_ones (bit_and keep 255) + count_ones (keep / 2 ^ 8)
+ones_of_eights keep = ones_halves keep 8 255 refl
+
+pub ruleset halves = (ones_of_fours, ones_of_eights)

@@ -3,6 +3,7 @@ mod ElementsLemmas
 mod FieldsLemmas
 mod FilteredBits
 mod FourLanes
+mod FrontLemmas
 pub mod GatherLemmas
 mod PackedDigits
 mod PendingLemmas

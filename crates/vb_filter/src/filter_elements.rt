@@ -142,6 +142,7 @@ fn put_over<T: Element>(out: &mut [T], len: usize, values: &[T], keep: u64)
 
 /// [`put_over`] of 16 elements.
 #[inline(always)]
+#[tactic(auto, using(crate::proofs::ElementsLemmas::halves))]
 fn put_sixteen<T: Element>(out: &mut [T], len: usize, values: &[T], keep: u64)
     requires size { T.SIZE ≡ 4 }
     requires long { length values.now ≡ 16 }
@@ -165,6 +166,7 @@ fn put_sixteen<T: Element>(out: &mut [T], len: usize, values: &[T], keep: u64)
 
 /// [`put_over`] of eight elements.
 #[inline(always)]
+#[tactic(auto, using(crate::proofs::ElementsLemmas::halves))]
 fn put_eight<T: Element>(out: &mut [T], len: usize, values: &[T], keep: u64)
     requires size { T.SIZE ≡ 4 }
     requires long { length values.now ≡ 8 }
