@@ -1,8 +1,10 @@
 -- Columns of truth values that may be null, and their parts.
 use Rattle.std.proofs.Common.{◌≡◌, ℕ, Bool, true, false, not, ◌&&◌, List, length, map}
-use Rattle.std.proofs.Common.{Option, Some, None, sym, ap, ◌∙◌}
+use Rattle.std.proofs.Common.{Option, Some, None, is_some, replicate, refl, sym, ap, ◌∙◌}
+use Rattle.std.proofs.Common.{true≢false}
 use Rattle.std.specs.Option.{option_map}
 use Rattle.std.specs.Prelude.{slice_range}
+use Rattle.std.specs.Simd.Lanes.{zip2}
 use Rattle.std.proofs.lemmas.List.{length-map}
 use Rattle.vb_bits.specs.Bits.{complement}
 use Rattle.vb_bits.specs.Operators.{merged_by}
@@ -10,6 +12,8 @@ use Rattle.vb_bits.proofs.OperatorsLemmas.{length-merged_by}
 use Rattle.vb_kleene.specs.Combined.{column, trues_by, valid_by}
 use Rattle.vb_kleene.specs.Kleene.{truths, is_truth}
 use Rattle.vb_kleene.specs.declared.column.Column.{Column}
+use Rattle.vb_kleene.proofs.KleeneLemmas.{CombinedBy, trues_of, valid_of}
+use Rattle.vb_kleene.proofs.KleeneLemmas.{trues_of_known, valid_of_known}
 use Rattle.vb_kleene.proofs.KleeneLemmas.{where_true, where_false, all_true, all_false}
 use Rattle.vb_kleene.proofs.KleeneLemmas.{length-truths}
 use Rattle.vb_kleene.proofs.PartLemmas.{both_parts, part_negated}
@@ -17,7 +21,7 @@ use Rattle.vb_view.specs.View.{bits_of}
 use Rattle.vb_view.specs.declared.view.BitBufferView.{BitBufferView}
 
 -- what it was made of
-pub column_of : (c : Column) (values : BitBufferView) (validity : Option BitBufferView)
+column_of : (c : Column) (values : BitBufferView) (validity : Option BitBufferView)
     → c.values ≡ values → c.validity ≡ validity
     → column c ≡ truths (bits_of values) (option_map bits_of validity)
 column_of c values validity e f =
@@ -81,3 +85,51 @@ module _ (l r : Column) (same : length (bits_of r.values) ≡ length (bits_of l.
       length-merged_by _ (trues_by f (column l) (column r))
       (merged_by g (map (is_truth false) (column l)) (map (is_truth false) (column r)))
       (length-trues_by f ∙ sym (length-both g false)) ∙ length-trues_by f
+
+-- ---- what two views with validities are combined to
+abbrev answers : (Option Bool → Option Bool → Option Bool) → BitBufferView → Option BitBufferView
+    → BitBufferView → Option BitBufferView → List (Option Bool)
+answers op l v r w =
+    zip2 op (truths (bits_of l) (option_map bits_of v)) (truths (bits_of r) (option_map bits_of w))
+
+-- where the answer is true, and where it isn't null
+pub record Answered (op : Option Bool → Option Bool → Option Bool) (l : BitBufferView)
+    (v : Option BitBufferView) (r : BitBufferView) (w : Option BitBufferView)
+    (true_bits valid_bits : List Bool) : Type 0 where
+  pub trues : true_bits ≡ map (is_truth true) (answers op l v r w)
+  pub valid : valid_bits ≡ map is_some (answers op l v r w)
+
+-- there is no validity
+none_is : {X : Type 0} (v : Option X) → is_some v ≡ false → v ≡ None
+none_is None e = refl
+none_is (Some x) e = absurd (true≢false e)
+
+module _ {op : Option Bool → Option Bool → Option Bool} {f g : Bool → Bool → Bool}
+    (by : CombinedBy op f g) where
+  -- of the columns that are made of them
+  pub answered_by : {l r : BitBufferView} {v w : Option BitBufferView} → (x y : Column)
+      → x.values ≡ l → x.validity ≡ v → y.values ≡ r → y.validity ≡ w
+      → Answered op l v r w (trues_by f (column x) (column y)) (valid_by f g (column x) (column y))
+  answered_by {l} {r} {v} {w} x y xl xv yr yw =
+      let a = truths (bits_of l) (option_map bits_of v) in
+      let b = truths (bits_of r) (option_map bits_of w) in
+      let left = column_of x l v xl xv in let right = column_of y r w yr yw in
+      record {
+        trues = ap (λ k. trues_by f k (column y)) left ∙ ap (trues_by f a) right ∙ trues_of by a b;
+        valid = ap (λ k. valid_by f g k (column y)) left ∙ ap (valid_by f g a) right
+            ∙ valid_of by a b;
+      }
+
+  -- of their values, where they have no validities
+  pub answered_known : (l : BitBufferView) (v : Option BitBufferView) (r : BitBufferView)
+      (w : Option BitBufferView) → is_some v ≡ false → is_some w ≡ false
+      → length (bits_of r) ≡ length (bits_of l) → Answered op l v r w
+      (merged_by f (bits_of l) (bits_of r)) (replicate (length (bits_of l)) true)
+  answered_known l v r w left right same =
+      let none : answers op l None r None ≡ answers op l v r w =
+      ap (λ k. answers op l k r None) (sym (none_is v left))
+      ∙ ap (λ k. answers op l v r k) (sym (none_is w right)) in
+      record {
+        trues = trues_of_known by (bits_of l) (bits_of r) ∙ ap (map (is_truth true)) none;
+        valid = valid_of_known by (bits_of l) (bits_of r) same ∙ ap (map is_some) none;
+      }

@@ -2,7 +2,7 @@
 -- combined to.
 use Rattle.std.proofs.Common.{◌≡◌, ℕ, Bool, true, false, not, ◌&&◌, ◌||◌, List, [], ◌∷◌, length}
 use Rattle.std.proofs.Common.{map, replicate, Option, Some, None, is_some, refl, sym, ap, ◌∙◌}
-use Rattle.std.proofs.Common.{arith, true≢false}
+use Rattle.std.proofs.Common.{arith}
 use Rattle.std.specs.Option.{ForSome, option_map}
 use Rattle.std.specs.Simd.Lanes.{zip2}
 use Rattle.std.proofs.lemmas.List.{length-replicate}
@@ -58,112 +58,100 @@ length-truths f l v h =
     (sym (long_validity f v (length l) h))
 
 -- ---- `and` and `or`
-pub and_true : (l r : List (Option Bool))
-    → trues_by (λ a b. a && b) l r ≡ map (is_truth true) (zip2 and_truths l r)
-unfolding merged_by
-and_true [] r = refl
-and_true (a ∷ l) [] = refl
-and_true (a ∷ l) (b ∷ r) =
-    ap (λ x. x ∷ trues_by (λ a b. a && b) l r) (one a b)
-    ∙ ap (λ k. is_truth true (and_truths a b) ∷ k) (and_true l r)
+-- f combines where both sides are true to where the answer is, and g where they are false to where
+-- it is false; of two that aren't null it isn't
+pub record CombinedBy (op : Option Bool → Option Bool → Option Bool) (f g : Bool → Bool → Bool)
+    : Type 0 where
+  pub trues : (a b : Option Bool) → f (is_truth true a) (is_truth true b) ≡ is_truth true (op a b)
+  pub valid : (a b : Option Bool) → (f (is_truth true a) (is_truth true b)
+      || g (is_truth false a) (is_truth false b)) ≡ is_some (op a b)
+  pub known : (x y : Bool) → true ≡ is_some (op (Some x) (Some y))
+
+pub and_combined : CombinedBy and_truths (λ a b. a && b) (λ a b. a || b)
+and_combined = record { trues = trues; valid = valid; known = known }
   where
-    one : (a b : Option Bool)
+    trues : (a b : Option Bool)
         → (is_truth true a && is_truth true b) ≡ is_truth true (and_truths a b)
-    one None None = refl
-    one None (Some true) = refl
-    one None (Some false) = refl
-    one (Some true) b = refl
-    one (Some false) b = refl
+    trues None None = refl
+    trues None (Some true) = refl
+    trues None (Some false) = refl
+    trues (Some true) b = refl
+    trues (Some false) b = refl
 
-pub or_true : (l r : List (Option Bool))
-    → trues_by (λ a b. a || b) l r ≡ map (is_truth true) (zip2 or_truths l r)
-unfolding merged_by
-or_true [] r = refl
-or_true (a ∷ l) [] = refl
-or_true (a ∷ l) (b ∷ r) =
-    ap (λ x. x ∷ trues_by (λ a b. a || b) l r) (one a b)
-    ∙ ap (λ k. is_truth true (or_truths a b) ∷ k) (or_true l r)
-  where
-    one : (a b : Option Bool)
-        → (is_truth true a || is_truth true b) ≡ is_truth true (or_truths a b)
-    one None None = refl
-    one None (Some true) = refl
-    one None (Some false) = refl
-    one (Some true) b = refl
-    one (Some false) b = refl
-
-pub and_valid : (l r : List (Option Bool))
-    → valid_by (λ a b. a && b) (λ a b. a || b) l r ≡ map is_some (zip2 and_truths l r)
-unfolding merged_by
-and_valid [] r = refl
-and_valid (a ∷ l) [] = refl
-and_valid (a ∷ l) (b ∷ r) =
-    ap (λ x. x ∷ valid_by (λ a b. a && b) (λ a b. a || b) l r) (one a b)
-    ∙ ap (λ k. is_some (and_truths a b) ∷ k) (and_valid l r)
-  where
-    one : (a b : Option Bool) → ((is_truth true a && is_truth true b)
+    valid : (a b : Option Bool) → ((is_truth true a && is_truth true b)
         || (is_truth false a || is_truth false b)) ≡ is_some (and_truths a b)
-    one None None = refl
-    one None (Some true) = refl
-    one None (Some false) = refl
-    one (Some true) None = refl
-    one (Some true) (Some true) = refl
-    one (Some true) (Some false) = refl
-    one (Some false) None = refl
-    one (Some false) (Some true) = refl
-    one (Some false) (Some false) = refl
+    valid None None = refl
+    valid None (Some true) = refl
+    valid None (Some false) = refl
+    valid (Some true) None = refl
+    valid (Some true) (Some true) = refl
+    valid (Some true) (Some false) = refl
+    valid (Some false) None = refl
+    valid (Some false) (Some true) = refl
+    valid (Some false) (Some false) = refl
 
-pub or_valid : (l r : List (Option Bool))
-    → valid_by (λ a b. a || b) (λ a b. a && b) l r ≡ map is_some (zip2 or_truths l r)
-unfolding merged_by
-or_valid [] r = refl
-or_valid (a ∷ l) [] = refl
-or_valid (a ∷ l) (b ∷ r) =
-    ap (λ x. x ∷ valid_by (λ a b. a || b) (λ a b. a && b) l r) (one a b)
-    ∙ ap (λ k. is_some (or_truths a b) ∷ k) (or_valid l r)
+    known : (x y : Bool) → true ≡ is_some (and_truths (Some x) (Some y))
+    known true y = refl
+    known false y = refl
+
+pub or_combined : CombinedBy or_truths (λ a b. a || b) (λ a b. a && b)
+or_combined = record { trues = trues; valid = valid; known = known }
   where
-    one : (a b : Option Bool) → ((is_truth true a || is_truth true b)
+    trues : (a b : Option Bool)
+        → (is_truth true a || is_truth true b) ≡ is_truth true (or_truths a b)
+    trues None None = refl
+    trues None (Some true) = refl
+    trues None (Some false) = refl
+    trues (Some true) b = refl
+    trues (Some false) b = refl
+
+    valid : (a b : Option Bool) → ((is_truth true a || is_truth true b)
         || (is_truth false a && is_truth false b)) ≡ is_some (or_truths a b)
-    one None None = refl
-    one None (Some true) = refl
-    one None (Some false) = refl
-    one (Some true) None = refl
-    one (Some true) (Some true) = refl
-    one (Some true) (Some false) = refl
-    one (Some false) None = refl
-    one (Some false) (Some true) = refl
-    one (Some false) (Some false) = refl
+    valid None None = refl
+    valid None (Some true) = refl
+    valid None (Some false) = refl
+    valid (Some true) None = refl
+    valid (Some true) (Some true) = refl
+    valid (Some true) (Some false) = refl
+    valid (Some false) None = refl
+    valid (Some false) (Some true) = refl
+    valid (Some false) (Some false) = refl
 
--- ---- where none is null
--- there is no validity
-pub none_is : {X : Type 0} (v : Option X) → is_some v ≡ false → v ≡ None
-none_is None e = refl
-none_is (Some x) e = absurd (true≢false e)
+    known : (x y : Bool) → true ≡ is_some (or_truths (Some x) (Some y))
+    known true y = refl
+    known false y = refl
 
-pub and_known : (l r : List Bool) → merged_by (λ a b. a && b) l r
-    ≡ map (is_truth true) (zip2 and_truths (truths l None) (truths r None))
-and_known l r =
-    ap (λ k. merged_by (λ a b. a && b) k r) (all_true l)
-    ∙ ap (merged_by (λ a b. a && b) (map (is_truth true) (truths l None))) (all_true r)
-    ∙ and_true (truths l None) (truths r None)
+-- ---- columns that are combined
+module _ {op : Option Bool → Option Bool → Option Bool} {f g : Bool → Bool → Bool}
+    (by : CombinedBy op f g) where
+  pub trues_of : (l r : List (Option Bool)) → trues_by f l r ≡ map (is_truth true) (zip2 op l r)
+  unfolding merged_by
+  trues_of [] r = refl
+  trues_of (a ∷ l) [] = refl
+  trues_of (a ∷ l) (b ∷ r) =
+      ap (λ x. x ∷ trues_by f l r) (by.trues a b)
+      ∙ ap (λ k. is_truth true (op a b) ∷ k) (trues_of l r)
 
-pub or_known : (l r : List Bool) → merged_by (λ a b. a || b) l r
-    ≡ map (is_truth true) (zip2 or_truths (truths l None) (truths r None))
-or_known l r =
-    ap (λ k. merged_by (λ a b. a || b) k r) (all_true l)
-    ∙ ap (merged_by (λ a b. a || b) (map (is_truth true) (truths l None))) (all_true r)
-    ∙ or_true (truths l None) (truths r None)
+  pub valid_of : (l r : List (Option Bool)) → valid_by f g l r ≡ map is_some (zip2 op l r)
+  unfolding merged_by
+  valid_of [] r = refl
+  valid_of (a ∷ l) [] = refl
+  valid_of (a ∷ l) (b ∷ r) =
+      ap (λ x. x ∷ valid_by f g l r) (by.valid a b)
+      ∙ ap (λ k. is_some (op a b) ∷ k) (valid_of l r)
 
-pub and_all_valid : (l r : List Bool) → length r ≡ length l → replicate (length l) true
-    ≡ map is_some (zip2 and_truths (truths l None) (truths r None))
-and_all_valid [] r e = refl
-and_all_valid (x ∷ l) [] e = absurd (omega arith)
-and_all_valid (true ∷ l) (y ∷ r) e = ap (λ k. true ∷ k) (and_all_valid l r (omega arith))
-and_all_valid (false ∷ l) (y ∷ r) e = ap (λ k. true ∷ k) (and_all_valid l r (omega arith))
+  -- where none is null
+  pub trues_of_known : (l r : List Bool)
+      → merged_by f l r ≡ map (is_truth true) (zip2 op (truths l None) (truths r None))
+  trues_of_known l r =
+      ap (λ k. merged_by f k r) (all_true l)
+      ∙ ap (merged_by f (map (is_truth true) (truths l None))) (all_true r)
+      ∙ trues_of (truths l None) (truths r None)
 
-pub or_all_valid : (l r : List Bool) → length r ≡ length l → replicate (length l) true
-    ≡ map is_some (zip2 or_truths (truths l None) (truths r None))
-or_all_valid [] r e = refl
-or_all_valid (x ∷ l) [] e = absurd (omega arith)
-or_all_valid (true ∷ l) (y ∷ r) e = ap (λ k. true ∷ k) (or_all_valid l r (omega arith))
-or_all_valid (false ∷ l) (y ∷ r) e = ap (λ k. true ∷ k) (or_all_valid l r (omega arith))
+  pub valid_of_known : (l r : List Bool) → length r ≡ length l
+      → replicate (length l) true ≡ map is_some (zip2 op (truths l None) (truths r None))
+  valid_of_known [] r e = refl
+  valid_of_known (x ∷ l) [] e = absurd (omega arith)
+  valid_of_known (x ∷ l) (y ∷ r) e =
+      ap (λ k. true ∷ k) (valid_of_known l r (omega arith))
+      ∙ ap (λ b. b ∷ map is_some (zip2 op (truths l None) (truths r None))) (by.known x y)

@@ -94,3 +94,7 @@ Writes-over b c d o l m e one two = record {
   window = two.window;
   others = λ i h. two.others i h ∙ one.others i (subst (λ n. (i < o) ⊎ (o + n ≤ i)) (sym e) h);
 }
+
+-- a list that is another one
+pub Writes-as : {b c : List ℕ} {o : ℕ} {l m : List Bool} → l ≡ m → Writes b c o l → Writes b c o m
+Writes-as {b} {c} {o} same wrote = subst (Writes b c o) same wrote
