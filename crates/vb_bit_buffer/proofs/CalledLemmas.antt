@@ -1,6 +1,6 @@
 -- The places of a word at which a closure is called.
-use Rattle.std.proofs.Common.{◌≡◌, inl, inr, ℕ, zero, suc, ◌+◌, ◌-◌, ◌*◌, ◌^◌, ◌<◌, ◌≤◌, Bool}
-use Rattle.std.proofs.Common.{not, cond, true, false, ◌&&◌, eqb, List, [], ◌∷◌, ◌++◌, length}
+use Rattle.std.proofs.Common.{◌≡◌, inl, inr, ℕ, zero, suc, ◌+◌, ◌-◌, ◌*◌, ◌/◌, ◌%◌, ◌^◌, ◌<◌, ◌≤◌}
+use Rattle.std.proofs.Common.{Bool, not, cond, true, false, ◌&&◌, eqb, List, [], ◌∷◌, ◌++◌, length}
 use Rattle.std.proofs.Common.{get_or, filter, refl}
 use Rattle.std.proofs.Common.{sym, ap, ◌∙◌, arith}
 use Rattle.std.specs.Int.{trailing_zeros, w64}
@@ -126,15 +126,16 @@ places_of-ones b o v a n w few small read =
     sym (read (i - a) (omega arith) ∙ ap value place)) ∙ ones_of-few w a n few small
 
 -- a window as its first part, whole words, and the rest
-pub window_cut : (b : List ℕ) (o : ℕ) (v : Bool) (n first words rest : ℕ)
-    → n ≡ first + (64 * words + rest)
+pub window_cut : (b : List ℕ) (o : ℕ) (v : Bool) (n first : ℕ) → first ≤ n
     → places_of b o v 0 n ≡ places_of b o v 0 first
-    ++ (places_of b o v first (64 * words) ++ places_of b o v (first + 64 * words) rest)
-window_cut b o v n first words rest whole =
+    ++ (places_of b o v first (64 * ((n - first) / 64))
+    ++ places_of b o v (first + 64 * ((n - first) / 64)) ((n - first) % 64))
+window_cut b o v n first inside =
     let value : ℕ → Bool = λ i. cond v (bit_of b (o + i)) (not (bit_of b (o + i))) in
-    places_in-cut value 0 first first n (64 * words + rest) (omega arith) whole
-    ∙ ap (λ l. places_of b o v 0 first ++ l) (places_in-cut value first (first + 64 * words)
-    (64 * words) (64 * words + rest) rest refl refl)
+    let m : ℕ = 64 * ((n - first) / 64) in let rest : ℕ = (n - first) % 64 in
+    places_in-cut value 0 first first n (m + rest) (omega arith) (omega arith)
+    ∙ ap (λ l. places_of b o v 0 first ++ l)
+    (places_in-cut value first (first + m) m (m + rest) rest refl refl)
 
 -- of digits that were read, those that are v, as ones
 pub valued_read : (b : List ℕ) (o : ℕ) (v : Bool) (a n r w : ℕ)
@@ -150,7 +151,7 @@ valued_read b o v a n r w few fits read same i l =
     ∙ ap (λ x. cond v x (not x)) (has_bit-bits b r (o + a) n i read l ∙ ap (bit_of b) place)
 
 -- the places behind those that were passed over: the ones of a word, and those behind it
-pub places_of-other : (b : List ℕ) (o : ℕ) (v : Bool) (at end s : ℕ) (w : OtherWord)
+places_of-other : (b : List ℕ) (o : ℕ) (v : Bool) (at end s : ℕ) (w : OtherWord)
     → o + s ≡ 8 * at → IsOther b at end (not v) w
     → places_of b o v s (8 * (end - at)) ≡ ones_of (others (not v) w.word) (8 * (w.behind - 8) - o)
     ++ places_of b o v (8 * w.behind - o) (8 * (end - w.behind))
@@ -175,11 +176,53 @@ places_of-other b o v at end s w from found =
     ∙ ap (λ l. l ++ places_of b o v (8 * w.behind - o) (8 * (end - w.behind))) here
 
 -- no places where all was passed over
-pub places_of-passed : (b : List ℕ) (o : ℕ) (v : Bool) (at end s : ℕ) → (at < end → o + s ≡ 8 * at)
+places_of-passed : (b : List ℕ) (o : ℕ) (v : Bool) (at end s : ℕ) → (at < end → o + s ≡ 8 * at)
     → AreAll b (not v) (8 * at) (8 * end) → places_of b o v s (8 * (end - at)) ≡ []
 places_of-passed b o v at end s from passed =
     places_of_none b o v s (8 * (end - at))
     (λ i lo hi. let here = from (omega arith) in passed (o + i) (omega arith) (omega arith))
+
+-- ---- of n words from place p on, those that are left from byte `at` on
+module _ (b : List ℕ) (o : ℕ) (v : Bool) (p n : ℕ) where
+  abbrev words_end : ℕ
+  words_end = (o + p) / 8 + 8 * n
+
+  -- the place of byte `at`
+  abbrev place_at : ℕ → ℕ
+  place_at at = p + (64 * n - 8 * (words_end - at))
+
+  abbrev pub places_left : ℕ → List ℕ
+  places_left at = places_of b o v (place_at at) (8 * (words_end - at))
+
+  -- all
+  pub places_left-all : places_left ((o + p) / 8) ≡ places_of b o v p (64 * n)
+  places_left-all =
+      let all : 8 * (words_end - (o + p) / 8) ≡ 64 * n = omega arith in
+      let here : place_at ((o + p) / 8) ≡ p = omega arith in
+      ap (λ a. places_of b o v a (8 * (words_end - (o + p) / 8))) here
+      ∙ ap (places_of b o v p) all
+
+  module _ (at : ℕ) (from : (o + p) / 8 ≤ at) (whole : 0 < n → (o + p) % 8 ≡ 0) where
+    -- none, where all was passed over
+    pub places_left-passed : at ≤ words_end → AreAll b (not v) (8 * at) (8 * words_end)
+        → places_left at ≡ []
+    places_left-passed within passed =
+        places_of-passed b o v at words_end (place_at at)
+        (λ some. omega (arith, from, within, whole (omega arith))) passed
+
+    -- the ones x of the next word with one, and those behind it
+    pub places_left-other : (w : OtherWord) (x : ℕ) → x ≡ others (not v) w.word
+        → IsOther b at words_end (not v) w
+        → places_left at ≡ ones_of x (8 * (w.behind - 8) - o) ++ places_left w.behind
+    places_left-other w x is found =
+        let some : 0 < n = omega (arith, from, found.from, found.within) in
+        let aligned = whole some in
+        let here : o + place_at at ≡ 8 * at = omega (arith, from, found.from, found.within) in
+        let next : 8 * w.behind - o ≡ place_at w.behind = omega (arith, found.from, found.within) in
+        places_of-other b o v at words_end (place_at at) w here found
+        ∙ ap (λ a. ones_of (others (not v) w.word) (8 * (w.behind - 8) - o)
+        ++ places_of b o v a (8 * (words_end - w.behind))) next
+        ∙ ap (λ y. ones_of y (8 * (w.behind - 8) - o) ++ places_left w.behind) (sym is)
 
 -- all ones
 places_in_all : (t : ℕ → Bool) (a n : ℕ)
