@@ -1,12 +1,16 @@
-use Rattle.std.proofs.Common.{rules, ◌≡◌, Bool, List, [], ◌<◌, ◌++◌, inl, inr, ⊎_elim, Result}
-use Rattle.std.proofs.Common.{Ok, Err, IsErr, length, length-append, take, refl, ap, ◌∙◌, arith}
+use Rattle.std.proofs.Common.{rules, ◌≡◌, ℕ, ◌+◌, ◌<◌, Bool, Option, List, [], ◌++◌, Result}
+use Rattle.std.proofs.Common.{Ok, Err, IsErr, inl, inr, ⊎_elim, length, length-append, take}
+use Rattle.std.proofs.Common.{refl, ap, ◌∙◌, arith}
 use Rattle.std.specs.Prelude.{⊤, MatchResult}
+use Rattle.std.specs.Iterator.{Yields}
 use Rattle.std.specs.Result.{IsErrAnd}
 use Rattle.vb_bits.specs.Digits.{digits}
 use Rattle.vb_bits.proofs.DigitsLemmas.{length-digits}
 use Rattle.vb_mem.proofs.Runs.{Yields-append}
 use Rattle.vb_set.proofs.AddsLemmas.{AddsBits-none, AddsBits-append, Yields-front, Yields-word}
+use Rattle.vb_set.proofs.bit_buffer_mut.BitBufferMut.extend.Given.{Over}
 use Rattle.vb_set.proofs.bit_buffer_mut.BitBufferMut.extend.Goals as goal
+use Rattle.vb_set.proofs.bit_buffer_mut.BitBufferMut.extend.Goals.{After-append_word}
 
 -- an error is no value
 at_err : {B E : Type 0} (r : Result B E) (P Q : Type 0) → IsErr r → Q
@@ -19,6 +23,33 @@ refused_by : {B E : Type 0} (r : Result B E) (P Q : E → Type 0) → IsErrAnd r
     → ((e : E) → P e → Q e) → MatchResult r (λ _. ⊤) Q
 refused_by (Ok _) P Q said f = tt
 refused_by (Err e) P Q said f = f e said
+
+-- n items came behind those that were kept
+record CameBehind {S : Type 0} (steps : S → Option Bool → S → Type 0) (start rest : S)
+    (kept items : List Bool) (n : ℕ) : Type 0 where
+  end : S
+  last : Yields steps rest items end
+  all : Yields steps start (kept ++ items) end
+  len : length (kept ++ items) ≡ length kept + n
+
+-- the word's did
+came : (g : Over) (c : After-append_word g) → CameBehind g.I.IntoIter.Iterator.next_gives
+    c.into_iter-rest.result c.loop.rest c.loop.invariant.given.0
+    (digits c.next_word-word.result.0 0 c.next_word-word.result.1) c.next_word-word.result.1
+came g c =
+    let iter = g.I.IntoIter.Iterator in let kept = c.loop.invariant.given in
+    let word = c.next_word-word in
+    let d : List Bool = digits word.result.0 0 word.result.1 in
+    let long = length-digits word.result.0 0 word.result.1 in
+    let last = Yields-word iter.can_next iter.remaining iter.next_gives c.loop.rest d word.result.2
+    word.ensures.gives (omega (arith, long, word.ensures.in_word)) in
+    record {
+      end = last.0;
+      last = last.1;
+      all = Yields-append iter.next_gives kept.0 d c.into_iter-rest.result c.loop.rest last.0 kept.1
+          last.1;
+      len = omega (arith, long, length-append kept.0 d);
+    }
 
 pub loop-init : goal.loop-init
 loop-init g c =
@@ -44,18 +75,12 @@ loop-init g c =
 -- the words before, and what the room took of the last one
 pub returns-in_err-append_word-clause-adds : goal.returns-in_err-append_word-clause-adds
 returns-in_err-append_word-clause-adds g c =
-    let iter = g.I.IntoIter.Iterator in
-    let steps = iter.next_gives in
-    let start = c.into_iter-rest.result in
-    let inv = c.loop.invariant in
-    let kept = inv.given in
-    let word = c.next_word-word in
-    let d : List Bool = digits word.result.0 0 word.result.1 in
-    let came = Yields-word iter.can_next iter.remaining steps c.loop.rest d word.result.2
-    word.ensures.gives
-    (omega (arith, length-digits word.result.0 0 word.result.1, word.ensures.in_word)) in
+    let steps = g.I.IntoIter.Iterator.next_gives in
+    let start = c.into_iter-rest.result in let inv = c.loop.invariant in let kept = inv.given in
+    let word = came g (goal.at.returns-in_err-append_word-clause-adds g c).After-append_word in
+    let d : List Bool = digits c.next_word-word.result.0 0 c.next_word-word.result.1 in
     let some = c.in_err-append_word.ensures.err in
-    let cut = Yields-front steps some.0 d c.loop.rest came.0 came.1 in
+    let cut = Yields-front steps some.0 d c.loop.rest word.end word.last in
     let run = Yields-append steps kept.0 (take some.0 d) start c.loop.rest cut.0 kept.1 cut.1 in (
       start,
       kept.0 ++ take some.0 d,
@@ -68,24 +93,14 @@ returns-in_err-append_word-clause-adds g c =
 -- had there been room for all items, the word would have been added
 pub returns-in_err-append_word-clause-in_room : goal.returns-in_err-append_word-clause-in_room
 returns-in_err-append_word-clause-in_room g c room =
-    let iter = g.I.IntoIter.Iterator in
-    let steps = iter.next_gives in
-    let start = c.into_iter-rest.result in
-    let inv = c.loop.invariant in
-    let kept = inv.given in
-    let word = c.next_word-word in
-    let d : List Bool = digits word.result.0 0 word.result.1 in
-    let long = length-digits word.result.0 0 word.result.1 in
-    let came = Yields-word iter.can_next iter.remaining steps c.loop.rest d word.result.2
-    word.ensures.gives (omega (arith, long, word.ensures.in_word)) in
-    let run = Yields-append steps kept.0 d start c.loop.rest came.0 kept.1 came.1 in
-    let all = room start c.into_iter-rest.ensures.into_iter_gives (kept.0 ++ d) came.0 run in
+    let start = c.into_iter-rest.result in let inv = c.loop.invariant in let kept = inv.given in
+    let word = came g (goal.at.returns-in_err-append_word-clause-in_room g c).After-append_word in
+    let all = room start c.into_iter-rest.ensures.into_iter_gives _ word.end word.all in
     let ok = c.in_err-append_word.ensures.in_room (omega (
       arith,
       all,
       kept.2.len,
-      length-append kept.0 d,
-      long,
+      word.len,
       inv.grows,
     )) in
     absurd (search (rules, ok))
@@ -93,28 +108,19 @@ returns-in_err-append_word-clause-in_room g c room =
 -- the items that came are too many
 pub returns-in_err-append_word-clause-err : goal.returns-in_err-append_word-clause-err
 returns-in_err-append_word-clause-err g c =
-    let iter = g.I.IntoIter.Iterator in
-    let steps = iter.next_gives in
-    let start = c.into_iter-rest.result in
-    let inv = c.loop.invariant in
-    let kept = inv.given in
-    let word = c.next_word-word in
-    let d : List Bool = digits word.result.0 0 word.result.1 in
-    let long = length-digits word.result.0 0 word.result.1 in
-    let came = Yields-word iter.can_next iter.remaining steps c.loop.rest d word.result.2
-    word.ensures.gives (omega (arith, long, word.ensures.in_word)) in
-    let run = Yields-append steps kept.0 d start c.loop.rest came.0 kept.1 came.1 in
+    let start = c.into_iter-rest.result in let inv = c.loop.invariant in let kept = inv.given in
+    let word = came g (goal.at.returns-in_err-append_word-clause-err g c).After-append_word in
     refused_by c.from_residual.result _ _ c.from_residual.ensures.1 (λ e same. ⊎_elim
     (λ memory. inl (same ∙ memory))
     (λ many. inr (
       same ∙ many.0,
       (
         start,
-        kept.0 ++ d,
-        came.0,
+        kept.0 ++ digits c.next_word-word.result.0 0 c.next_word-word.result.1,
+        word.end,
         c.into_iter-rest.ensures.into_iter_gives,
-        run,
-        omega (arith, many.1, kept.2.len, length-append kept.0 d, long, inv.offset),
+        word.all,
+        omega (arith, many.1, kept.2.len, word.len, inv.offset),
       ),
     ))
     c.in_err-append_word.ensures.refused)
@@ -141,28 +147,17 @@ returns-then-count-lt64-clause-adds g c =
 
 pub returns-then-count-lt64-clause-in_room : goal.returns-then-count-lt64-clause-in_room
 returns-then-count-lt64-clause-in_room g c room =
-    let iter = g.I.IntoIter.Iterator in
-    let steps = iter.next_gives in
-    let start = c.into_iter-rest.result in
-    let inv = c.loop.invariant in
-    let kept = inv.given in
-    let word = c.next_word-word in
-    let d : List Bool = digits word.result.0 0 word.result.1 in
-    let long = length-digits word.result.0 0 word.result.1 in
-    let came = Yields-word iter.can_next iter.remaining steps c.loop.rest d word.result.2
-    word.ensures.gives (omega (arith, long, word.ensures.in_word)) in
-    let run = Yields-append steps kept.0 d start c.loop.rest came.0 kept.1 came.1 in
-    let all = room start c.into_iter-rest.ensures.into_iter_gives (kept.0 ++ d) came.0 run in
-    let both = length-append kept.0 d in
+    let start = c.into_iter-rest.result in let inv = c.loop.invariant in let kept = inv.given in
+    let word = came g (goal.at.returns-then-count-lt64-clause-in_room g c).After-append_word in
+    let all = room start c.into_iter-rest.ensures.into_iter_gives _ word.end word.all in
     let same = (c.append_word.ensures.in_room (omega (
       arith,
       all,
       kept.2.len,
-      both,
-      long,
+      word.len,
       inv.grows,
     ))).1 in
-    (refl, same ∙ inv.stays (omega (arith, all, kept.2.len, both)))
+    (refl, same ∙ inv.stays (omega (arith, all, kept.2.len, word.len)))
 
 pub loop-smaller : goal.loop-smaller
 loop-smaller g c =
