@@ -1,3 +1,1 @@
-mod CountEditsLemmas
-mod CountsLemmas
 mod ManyLemmas

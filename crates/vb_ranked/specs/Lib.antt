@@ -1,11 +1,8 @@
 pub mod Counted
-pub mod Counts
-pub use Rattle.vb_bits.specs.InBytes
 pub use Rattle.vb_bits.specs.Bits
 pub use Rattle.vb_bits.specs.Writes
+pub use Rattle.vb_directory.specs.Counts
 pub use Rattle.vb_kernel.specs.Hits
-pub use Rattle.vb_kernel.specs.Looks
-pub use Rattle.vb_rank.specs.Tables
 pub use Rattle.vb_set.specs.Makes
 pub use Rattle.vb_set.specs.OpenSet
 pub use Rattle.vb_set.specs.SharedSet

@@ -10,10 +10,9 @@ ghost use Rattle.vb_set.specs.OpenSet.{KeepsLayout};
 ghost use Rattle.vb_set.specs.SharedSet.{SharesFrom};
 ghost use Rattle.vb_set.specs.View.{bits_of, offset_of, bytes_of};
 
-use crate::ask::{rank_of, select_many_of, select_of};
-use crate::counts::Counts;
 use std::alloc::{AllocError, Allocator, Global};
 use std::marker::Model;
+use vb_directory::Counts;
 use vb_set::{BitBuffer, BitBufferMut, BitBufferView, BufferError, Result};
 
 mod append;
@@ -34,7 +33,7 @@ pub struct Ranked<A: Allocator + Clone = Global> {
 
 impl<A: Allocator + Clone> Model for Ranked<A> {
     ghost use Rattle.std.specs.Prelude.{◌<◌, ◌≤◌, length};
-    ghost use Rattle.vb_ranked.specs.Counts.{AreCounts, numbers_for};
+    ghost use Rattle.vb_directory.specs.Counts.{AreCounts, numbers_for};
     ghost use Rattle.vb_set.specs.OpenSet.{OpenSet};
 
     ghost Value = { OpenSet };
@@ -137,7 +136,7 @@ impl<A: Allocator + Clone> Ranked<A> {
         requires { i ≤ length self.now.bits }
         ensures { result ≡ count (take i self.now.bits) }
     {
-        rank_of(self.as_view(), &self.counts, i)
+        self.counts.rank(self.as_view(), i)
     }
 
     /// The place of the `n`-th true bit, counted from 0; `None` where at most `n` bits are true. It
@@ -171,7 +170,7 @@ impl<A: Allocator + Clone> Ranked<A> {
         ensures places { AllZip (Selects self.now.bits) ranks.now places.new }
         ensures each { AllZip (InvertsCount self.now.bits) ranks.now places.new }
     {
-        select_many_of(self.as_view(), &self.counts, ranks, places, true);
+        self.counts.select_many(self.as_view(), ranks, places, true);
     }
 
     /// The places of the false bits by their ranks: `places[k]` becomes what
@@ -182,7 +181,8 @@ impl<A: Allocator + Clone> Ranked<A> {
         ensures places { AllZip (Selects (complement self.now.bits)) ranks.now places.new }
         ensures each { AllZip (InvertsCount (complement self.now.bits)) ranks.now places.new }
     {
-        select_many_of(self.as_view(), &self.counts, ranks, places, false);
+        self.counts
+            .select_many(self.as_view(), ranks, places, false);
     }
 
     /// Sets the bit at place `i` to `v`. Ranks are then those of the new list. The place has to be
@@ -208,7 +208,7 @@ impl<A: Allocator + Clone> Ranked<A> {
     fn select_value(&self, n: usize, value: bool) -> Option<usize>
         ensures { Selects (hits value self.now.bits) n result }
     {
-        select_of(self.as_view(), &self.counts, n, value)
+        self.counts.select(self.as_view(), n, value)
     }
 }
 

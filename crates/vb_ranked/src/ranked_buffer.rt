@@ -6,10 +6,9 @@ ghost use Rattle.vb_bits.specs.Bits.{count, complement, Selects, InvertsCount};
 ghost use Rattle.vb_kernel.specs.Hits.{hits};
 ghost use Rattle.vb_set.specs.View.{bits_of, offset_of, bytes_of};
 
-use crate::ask::{rank_of, select_many_of, select_of};
-use crate::counts::Counts;
 use std::alloc::{Allocator, Global};
 use std::marker::Model;
+use vb_directory::Counts;
 use vb_set::{BitBuffer, BitBufferView, BufferError, Result};
 
 /// A set of bits whose storage may be shared, which is read alone, with the counts of true bits
@@ -24,7 +23,7 @@ pub struct RankedBuffer<A: Allocator + Clone = Global> {
 }
 
 impl<A: Allocator + Clone> Model for RankedBuffer<A> {
-    ghost use Rattle.vb_ranked.specs.Counts.{AreCounts};
+    ghost use Rattle.vb_directory.specs.Counts.{AreCounts};
     ghost use Rattle.vb_set.specs.SharedSet.{SharedSet};
 
     ghost Value = { SharedSet };
@@ -91,7 +90,7 @@ impl<A: Allocator + Clone> RankedBuffer<A> {
         requires { i ≤ length self.now.bits }
         ensures { result ≡ count (take i self.now.bits) }
     {
-        rank_of(self.as_view(), &self.counts, i)
+        self.counts.rank(self.as_view(), i)
     }
 
     /// The place of the `n`-th true bit, counted from 0; `None` where at most `n` bits are true. It
@@ -125,7 +124,7 @@ impl<A: Allocator + Clone> RankedBuffer<A> {
         ensures places { AllZip (Selects self.now.bits) ranks.now places.new }
         ensures each { AllZip (InvertsCount self.now.bits) ranks.now places.new }
     {
-        select_many_of(self.as_view(), &self.counts, ranks, places, true);
+        self.counts.select_many(self.as_view(), ranks, places, true);
     }
 
     /// The places of the false bits by their ranks: `places[k]` becomes what
@@ -136,13 +135,14 @@ impl<A: Allocator + Clone> RankedBuffer<A> {
         ensures places { AllZip (Selects (complement self.now.bits)) ranks.now places.new }
         ensures each { AllZip (InvertsCount (complement self.now.bits)) ranks.now places.new }
     {
-        select_many_of(self.as_view(), &self.counts, ranks, places, false);
+        self.counts
+            .select_many(self.as_view(), ranks, places, false);
     }
 
     /// The place of the `n`-th bit that is `value`.
     fn select_value(&self, n: usize, value: bool) -> Option<usize>
         ensures { Selects (hits value self.now.bits) n result }
     {
-        select_of(self.as_view(), &self.counts, n, value)
+        self.counts.select(self.as_view(), n, value)
     }
 }

@@ -1,10 +1,10 @@
 //! Room for bits and their counts.
 ghost use Rattle.std.specs.Prelude.{◌≡◌, ◌+◌, ◌^◌, ◌≤◌, ◌<◌, true, length, IsOk, IsOkUnless};
 ghost use Rattle.std.specs.Prelude.{OnOk, OnErr};
-ghost use Rattle.vb_ranked.specs.Counts.{numbers_for};
+ghost use Rattle.vb_directory.specs.Counts.{numbers_for};
 
-use crate::counts::Counts;
 use std::alloc::Allocator;
+use vb_directory::Counts;
 use vb_set::{BitBufferMut, BufferError, Result};
 
 /// For how many bits there is room at least where a set has grown.

@@ -6,7 +6,6 @@ ghost use Rattle.vb_set.specs.OpenSet.{AddsBits, KeepsStart};
 ghost use Rattle.vb_set.specs.View.{bits_of};
 
 use super::Ranked;
-use crate::added::count_added;
 use crate::parts::append_parts;
 use crate::room::{make_room, make_room_for};
 use std::alloc::Allocator;
@@ -125,7 +124,7 @@ impl<A: Allocator + Clone> Ranked<A> {
         make_room_for(&mut self.set, &mut self.counts, n)?;
         let len = self.set.len();
         self.set.append_n(v, n)?;
-        count_added(&mut self.counts, self.set.as_view(), len);
+        self.counts.count_added(self.set.as_view(), len);
         Ok(())
     }
 
@@ -144,7 +143,7 @@ impl<A: Allocator + Clone> Ranked<A> {
         make_room_for(&mut self.set, &mut self.counts, bits.len())?;
         let len = self.set.len();
         append_parts(&mut self.set, bits)?;
-        count_added(&mut self.counts, self.set.as_view(), len);
+        self.counts.count_added(self.set.as_view(), len);
         Ok(())
     }
 }

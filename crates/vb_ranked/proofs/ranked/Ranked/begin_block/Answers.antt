@@ -4,7 +4,7 @@ use Rattle.std.proofs.Common.{sym, ap, ◌∙◌, arith, subst}
 use Rattle.std.proofs.Math.Seq.{take-length}
 use Rattle.std.proofs.lemmas.List.{length-append, take-append-le}
 use Rattle.vb_bits.specs.Bits.{count}
-use Rattle.vb_ranked.specs.Counts.{AreCounts, numbers_for}
+use Rattle.vb_directory.specs.Counts.{AreCounts, numbers_for}
 use Rattle.vb_set.specs.OpenSet.{OpenSet}
 use Rattle.vb_ranked.proofs.ranked.Ranked.begin_block.Goals as goal
 

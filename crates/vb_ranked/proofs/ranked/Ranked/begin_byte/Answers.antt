@@ -1,9 +1,9 @@
 use Rattle.std.proofs.Common.{◌≡◌, ℕ, Bool, List, ◌≤◌, ◌++◌, ◌∷◌, []}
 use Rattle.std.proofs.Common.{length}
 use Rattle.std.proofs.Common.{sym, ap, ◌∙◌, arith, subst}
-use Rattle.vb_ranked.specs.Counts.{AreCounts, numbers_for}
+use Rattle.vb_directory.specs.Counts.{AreCounts, numbers_for}
 use Rattle.vb_set.specs.OpenSet.{OpenSet}
-use Rattle.vb_ranked.proofs.CountEditsLemmas.{AreCounts-push}
+use Rattle.vb_directory.proofs.CountEditsLemmas.{AreCounts-push}
 use Rattle.vb_ranked.proofs.ranked.Ranked.begin_byte.Goals as goal
 
 -- the counts that were held are, where the room of the set stays

@@ -6,7 +6,7 @@ use Rattle.std.proofs.Math.Bool.{beq}
 use Rattle.vb_bits.specs.Bits.{at}
 use Rattle.vb_kernel.proofs.BitsLemmas.{length-bits}
 use Rattle.vb_set.specs.View.{bits_of}
-use Rattle.vb_ranked.specs.Counts.{AreCounts}
+use Rattle.vb_directory.specs.Counts.{AreCounts}
 use Rattle.vb_ranked.proofs.ranked.Ranked.set_to.Goals as goal
 
 -- a test for another value, passed and failed

@@ -8,5 +8,5 @@ pub returns-clause-each : goal.returns-clause-each
 returns-clause-each g c =
     let l : List Bool = complement c.args.self.now.bits in
     AllZip-through (Selects l) (InvertsCount l) (λ n r s. Selects-InvertsCount l n r s)
-    c.args.ranks.now c.select_many_of.new.places
-    (rw c.as_view.ensures.bits at c.select_many_of.ensures)
+    c.args.ranks.now c.select_many.new.places
+    (rw c.as_view.ensures.bits at c.select_many.ensures)

@@ -1,0 +1,3 @@
+pub mod CountEditsLemmas
+mod CountsLemmas
+mod ManyLemmas

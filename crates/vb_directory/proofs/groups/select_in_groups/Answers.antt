@@ -1,0 +1,21 @@
+use Rattle.std.proofs.Common.{ℕ, Bool, true, false, List, refl, ap, ◌∙◌}
+use Rattle.vb_bits.specs.Bits.{bits}
+use Rattle.vb_kernel.proofs.BitsLemmas.{length-bits}
+use Rattle.vb_rank.specs.Tables.{block_counts}
+use Rattle.vb_rank.proofs.TablesLemmas.{Rises-table}
+use Rattle.vb_directory.specs.Counts.{numbers_for}
+use Rattle.vb_directory.proofs.groups.select_in_groups.Goals as goal
+
+pub find_in_groups-found-requires-clause-size : goal.find_in_groups-found-requires-clause-size
+find_in_groups-found-requires-clause-size g c = c.requires.counts.long ∙ ap numbers_for
+    (length-bits (g.G.Glance.seen c.args.src.now).bytes c.args.offset c.args.len)
+
+pub returns-clause-place : goal.returns-clause-place
+returns-clause-place g c =
+    let b : List ℕ = (g.G.Glance.seen c.args.src.now).bytes in
+    let o : ℕ = c.args.offset in let n : ℕ = c.args.len in
+    let l : List Bool = bits b o n in
+    let t : List ℕ = block_counts l in
+    c.select_from.ensures.place t refl
+    (c.find_in_groups-found.ensures.block l (length-bits b o n) c.requires.counts
+    (Rises-table true b t o n refl) (Rises-table false b t o n refl))

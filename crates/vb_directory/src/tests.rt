@@ -1,0 +1,97 @@
+//! How often questions of groups probe their counts.
+ghost use Rattle.std.specs.Prelude.{◌≡◌, true};
+
+use crate::counts::{Counts, TallyGroups};
+use crate::groups::{rank_in_groups, select_in_groups};
+use std::alloc::Global;
+use std::fmt::Debug;
+use std::process::Abort;
+use vb_kernel::Plain;
+use vb_view::BitBufferView;
+
+/// The two values are equal.
+fn equal<T: Copy + PartialEq + Debug>(rt: &impl Abort, given: T, wanted: T) {
+    assert_eq!(rt; given, wanted);
+}
+
+/// The condition holds, as calls behind it ask for.
+fn holds(rt: &impl Abort, condition: bool)
+    ensures { condition ≡ true }
+{
+    assert!(rt; condition);
+}
+
+/// Five bytes of bits that are true where 5 divides the place.
+const BY_FIVES: [u8; 5] = [0x21, 0x84, 0x10, 0x42, 0x08];
+
+/// Bytes of so many bits that are true where 5 divides the place.
+fn by_fives(rt: &impl Abort, alloc: Global, len: usize) -> Vec<u8, Global> {
+    let mut bytes = Vec::new(alloc);
+    for k in 0..len.div_ceil(8) {
+        bytes.push(BY_FIVES[k % 5]).expect(rt, "room");
+    }
+    bytes
+}
+
+/// How many probes a rank takes in a block: one in the first group and in the first block of
+/// another one, and else two.
+fn probes_in(block: usize) -> u64 {
+    if block < 128 || block % 128 == 0 {
+        1
+    } else {
+        2
+    }
+}
+
+/// A rank of any bits takes so many probes.
+fn ranks(rt: &impl Abort, alloc: Global, bits: BitBufferView<'_>, i: usize) {
+    holds(rt, 0 < i);
+    holds(rt, i <= bits.len());
+    let counts = Counts::of(alloc, bits, bits.len()).expect(rt, "counts");
+    let mut tally = TallyGroups::new(&counts);
+    let mut src = Plain::new(bits.inner());
+    let ones = rank_in_groups(&mut src, bits.offset(), bits.len(), &mut tally, i);
+    equal(rt, ones, bits.slice(0..i).true_count());
+    equal(rt, tally.probes(), probes_in((i - 1) / 512));
+    drop(counts);
+}
+
+/// Selects take as many probes at most as one more than the number of blocks has binary digits.
+fn selects(rt: &impl Abort, alloc: Global, bits: BitBufferView<'_>, n: usize) {
+    holds(rt, 0 < bits.len());
+    let counts = Counts::of(alloc, bits, bits.len()).expect(rt, "counts");
+    let most = u64::from(usize::BITS - bits.len().div_ceil(512).saturating_add(1).leading_zeros());
+    for value in [true, false] {
+        let mut tally = TallyGroups::new(&counts);
+        let mut src = Plain::new(bits.inner());
+        let (offset, len) = (bits.offset(), bits.len());
+        let place = select_in_groups(&mut src, offset, len, &mut tally, n, value);
+        let wanted = if value {
+            bits.select(n)
+        } else {
+            bits.select_unset(n)
+        };
+        equal(rt, place, wanted);
+        equal(rt, tally.probes() <= most, true);
+    }
+    drop(counts);
+}
+
+/// One bit, one block and a bit more, one group and a bit more, and several.
+const LENGTHS: [usize; 7] = [1, 512, 513, 65_536, 65_537, 131_072, 200_003];
+
+const PLACES: [usize; 7] = [1, 512, 513, 13_107, 65_536, 65_537, 160_000];
+
+#[test]
+fn questions_take_few_probes(rt: HostRuntime) {
+    for len in LENGTHS {
+        let bytes = by_fives(&rt, rt.alloc(), len);
+        holds(&rt, len.div_ceil(8) <= bytes.len());
+        let bits = BitBufferView::new(bytes.as_slice(), len);
+        for i in PLACES {
+            ranks(&rt, rt.alloc(), bits, i.min(len));
+            selects(&rt, rt.alloc(), bits, i - 1);
+        }
+        drop(bytes);
+    }
+}
