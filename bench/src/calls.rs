@@ -55,6 +55,9 @@ pub type SelectRounds =
 /// A call on a set that is made of a window, in so many rounds.
 pub type InRounds = unsafe extern "C" fn(Bytes, usize, usize, usize, usize) -> usize;
 
+/// Whether the bits of a window are in some way.
+pub type Whether = unsafe extern "C" fn(Bytes, usize, usize, usize) -> bool;
+
 /// Finds the `n`-th true or false bit of a window.
 pub type Select = unsafe extern "C" fn(Bytes, usize, usize, usize, usize) -> Place;
 
@@ -121,6 +124,15 @@ unsafe extern "C" {
         len: usize,
     ) -> bool;
     pub fn vb_next_set(bytes: Bytes, size: usize, offset: usize, len: usize, from: usize) -> Place;
+    pub fn vb_previous_set(
+        bytes: Bytes,
+        size: usize,
+        offset: usize,
+        len: usize,
+        before: usize,
+    ) -> Place;
+    pub fn vb_any_set(bytes: Bytes, size: usize, offset: usize, len: usize) -> bool;
+    pub fn vb_all_set(bytes: Bytes, size: usize, offset: usize, len: usize) -> bool;
 }
 
 #[link(name = "vb_c_gather", kind = "static")]
@@ -309,6 +321,13 @@ unsafe extern "C" {
     pub fn bench_new_unset(len: usize) -> usize;
     pub fn bench_append(bytes: Bytes, many: usize, room: usize) -> usize;
     pub fn bench_append_n(before: usize, n: usize) -> usize;
+    pub fn bench_append_bools(
+        bools: *const bool,
+        many: usize,
+        before: usize,
+        rounds: usize,
+    ) -> usize;
+    pub fn bench_extend(bytes: Bytes, many: usize, before: usize, rounds: usize) -> usize;
     pub fn bench_append_buffer(
         bytes: Bytes,
         size: usize,

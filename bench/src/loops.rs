@@ -57,6 +57,48 @@ fn place_in(word: u64, n: usize) -> usize {
     word.trailing_zeros() as usize
 }
 
+/// Whether a bit is true.
+#[inline(never)]
+pub fn any_set(w: Window) -> bool {
+    has::<false>(w)
+}
+
+/// Whether each bit is true.
+#[inline(never)]
+pub fn all_set(w: Window) -> bool {
+    !has::<true>(w)
+}
+
+/// Whether a bit is set, or clear with `UNSET`: of the first word, the ones between, or the last.
+#[inline(always)]
+fn has<const UNSET: bool>(w: Window) -> bool {
+    let mut words = words(w.bytes).map(|word| if UNSET { !word } else { word });
+    let in_first = u64::MAX << w.offset;
+    let in_last = u64::MAX >> (8 * w.bytes.len() - w.offset - w.len);
+    let first = words.next().unwrap_or(0) & in_first;
+    match words.next_back() {
+        Some(last) => first != 0 || words.any(|word| word != 0) || last & in_last != 0,
+        None => first & in_last != 0,
+    }
+}
+
+/// Finds the last set bit before a place.
+#[inline(never)]
+pub fn previous_set(w: Window, before: usize) -> usize {
+    let end = w.offset + before;
+    let size = end.div_ceil(64);
+    let mut inside = u64::MAX >> (64 * size - end);
+    for (k, word) in words(&w.bytes[..8 * size]).enumerate().rev() {
+        let word = word & inside;
+        if word != 0 {
+            let place = 64 * k + 63 - word.leading_zeros() as usize;
+            return place.checked_sub(w.offset).unwrap_or(usize::MAX);
+        }
+        inside = u64::MAX;
+    }
+    usize::MAX
+}
+
 /// The words of a window of whole ones, from its first bit on.
 fn realigned(input: &Input, offset: usize, len: usize) -> impl Iterator<Item = u64> {
     let words = &input.words()[offset / 64..];
@@ -224,6 +266,48 @@ pub fn collect_below(values: &[u32], limit: u32) -> usize {
 #[inline(never)]
 pub fn collect_truthy(bytes: &[u8]) -> usize {
     collect(bytes.len(), |i| bytes[i] != 0)
+}
+
+/// Truth values put behind so many bits of words, by words; the answer is how many bits these are.
+#[inline(never)]
+pub fn append_bools(words: &mut Vec<u64>, before: usize, bools: &[bool]) -> usize {
+    let packed = |bools: &[bool]| {
+        let digits = bools.iter().enumerate();
+        digits.fold(0u64, |word, (at, &bit)| word | u64::from(bit) << at)
+    };
+    let used = before % 64;
+    let (first, rest) = bools.split_at(bools.len().min((64 - used) % 64));
+    words.truncate(before.div_ceil(64));
+    if used > 0 {
+        let last = &mut words[before / 64];
+        *last = *last & !(u64::MAX << used) | packed(first) << used;
+    }
+    words.extend(rest.chunks(64).map(packed));
+    before + bools.len()
+}
+
+/// The same of bits that an iterator gives, of which each 64 are put into a word one by one.
+#[inline(never)]
+pub fn extend(words: &mut Vec<u64>, before: usize, mut bits: impl Iterator<Item = bool>) -> usize {
+    words.resize(before / 64 + 1, 0);
+    let mut word = words.pop().unwrap_or(0) & !(u64::MAX << (before % 64));
+    let mut used = before % 64;
+    loop {
+        for bit in bits.by_ref().take(64 - used) {
+            word |= u64::from(bit) << used;
+            used += 1;
+        }
+        if used < 64 {
+            break;
+        }
+        words.push(word);
+        (word, used) = (0, 0);
+    }
+    let len = 64 * words.len() + used;
+    if used > 0 {
+        words.push(word);
+    }
+    len
 }
 
 /// The bits at indices.

@@ -10,6 +10,7 @@ mod filters;
 mod growth;
 mod kleene;
 mod made;
+mod nearest;
 mod operators;
 mod pairs;
 mod select;
@@ -50,6 +51,7 @@ pub fn measure(bench: &mut Bench) {
     kleene::measure(bench);
     operators::measure(bench);
     pairs::measure(bench);
+    nearest::measure(bench);
     copies::measure(bench);
     made::measure(bench);
     taking::measure(bench);

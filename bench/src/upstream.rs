@@ -94,6 +94,12 @@ pub fn last_set_index(set: &BitBuffer) -> usize {
     set.last_set_index().unwrap_or(set.len())
 }
 
+/// The last true bit of what is before a place.
+#[inline(never)]
+pub fn previous_set(set: &BitBuffer, before: usize) -> usize {
+    set.slice(..before).last_set_index().unwrap_or(usize::MAX)
+}
+
 #[inline(never)]
 pub fn value(w: Window, places: &[usize]) -> usize {
     let view = view(w);
@@ -279,6 +285,22 @@ pub fn append_n(before: usize, n: usize) -> usize {
 pub fn append_buffer(grown: &mut BitBufferMut, set: &BitBuffer, before: usize) -> usize {
     grown.truncate(before);
     grown.append_buffer(set);
+    grown.len()
+}
+
+/// By a set made of the truth values, since it has no call that appends these.
+#[inline(never)]
+pub fn append_bools(grown: &mut BitBufferMut, bools: &[bool], before: usize) -> usize {
+    grown.truncate(before);
+    grown.append_buffer(&BitBuffer::from(bools));
+    grown.len()
+}
+
+/// The same of an iterator's.
+#[inline(never)]
+pub fn extend(grown: &mut BitBufferMut, bytes: &[u8], before: usize) -> usize {
+    grown.truncate(before);
+    grown.append_buffer(&bytes.iter().map(|&byte| byte != 0).collect());
     grown.len()
 }
 

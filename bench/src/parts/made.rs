@@ -1,12 +1,14 @@
 //! Sets made of closures, lists, iterators and places.
 
+use std::cell::RefCell;
+
 use super::{MILLION, upstream};
 use crate::bench::Bench;
 use crate::calls;
 use crate::input::Random;
 use crate::loops;
 use crate::measure::Contender;
-use crate::row::{Row, UPSTREAM};
+use crate::row::{LOOP, Row, UPSTREAM};
 
 const READING: &str = "sum of the bytes' words";
 const FROM_BOOLS: &str = "`from_bools`";
@@ -23,6 +25,12 @@ pub fn measure(bench: &mut Bench) {
         .map(|&v| if v < LIMIT { v as u8 | 1 } else { 0 })
         .collect();
     packed(bench, &bools, &truthy);
+    for many in [100, MILLION] {
+        for before in [0, 3] {
+            bench.row(appended(&bools[..many], before));
+            bench.row(extended(&truthy[..many], before));
+        }
+    }
     places(bench);
 }
 
@@ -81,6 +89,45 @@ fn packed(bench: &mut Bench, bools: &[bool], truthy: &[u8]) {
         )))
         .beside(FROM_BOOLS, from_bools());
     bench.row(row.at_most(2.0, FROM_BOOLS));
+}
+
+/// Truth values behind so many bits.
+fn appended(bools: &[bool], before: usize) -> Row<'_> {
+    let (list, many) = (bools.as_ptr(), bools.len());
+    let ours = move |rounds| unsafe { calls::bench_append_bools(list, many, before, rounds) };
+    let words = RefCell::new(vec![u64::MAX; before.div_ceil(64)]);
+    let plain = move || loops::append_bools(&mut words.borrow_mut(), before, bools);
+    Row::new("`append_bools`", Contender::in_rounds(ours))
+        .items(many)
+        .how(format!("behind {before} bits"))
+        .upstream(upstream!({
+            let grown = RefCell::new(vortex_buffer::BitBufferMut::new_set(before));
+            Contender::of(move || {
+                crate::upstream::append_bools(&mut grown.borrow_mut(), bools, before)
+            })
+        }))
+        .plain(Contender::of(plain))
+        .at_most(1.0, LOOP)
+}
+
+/// The same by an iterator.
+fn extended(truthy: &[u8], before: usize) -> Row<'_> {
+    let (bytes, many) = (truthy.as_ptr(), truthy.len());
+    let ours = move |rounds| unsafe { calls::bench_extend(bytes, many, before, rounds) };
+    let words = RefCell::new(vec![u64::MAX; before.div_ceil(64)]);
+    let plain = move || {
+        let bits = truthy.iter().map(|&byte| byte != 0);
+        loops::extend(&mut words.borrow_mut(), before, bits)
+    };
+    Row::new("`extend` of bits", Contender::in_rounds(ours))
+        .items(many)
+        .how(format!("behind {before} bits"))
+        .upstream(upstream!({
+            let grown = RefCell::new(vortex_buffer::BitBufferMut::new_set(before));
+            Contender::of(move || crate::upstream::extend(&mut grown.borrow_mut(), truthy, before))
+        }))
+        .plain(Contender::of(plain))
+        .at_most(1.0, LOOP)
 }
 
 fn places(bench: &mut Bench) {

@@ -1,10 +1,9 @@
 //! Two windows at once: how many bits they have in common, and whether one has all of the other's.
-//! And the next bit from a place on, asked for one after the other.
 
 use super::MILLION;
 use crate::bench::Bench;
 use crate::calls;
-use crate::input::{Input, Window};
+use crate::input::Input;
 use crate::loops;
 use crate::measure::Contender;
 use crate::row::{LOOP, Row};
@@ -35,27 +34,4 @@ pub fn measure(bench: &mut Bench) {
         .bits(MILLION)
         .plain(Contender::of(plain));
     bench.row(row.at_most(1.2, LOOP));
-    let few = &Input::sparsest(MILLION / 8);
-    let w = few.bits(3, MILLION);
-    let ours = move || sum_of_next(w);
-    let plain = move || loops::set_indices(few, 3, MILLION);
-    let row = Row::new("`next_set`, of each true bit", Contender::of(ours))
-        .bits(MILLION)
-        .offsets(&[3])
-        .set(1.0 / 4096.0)
-        .plain(Contender::of(plain));
-    bench.row(row.at_most(1.0, LOOP));
-}
-
-fn sum_of_next(w: Window<'_>) -> usize {
-    let (bytes, size) = (w.bytes.as_ptr(), w.bytes.len());
-    let (mut sum, mut from) = (0, 0);
-    loop {
-        let place = unsafe { calls::vb_next_set(bytes, size, w.offset, w.len, from) }.index();
-        if place == usize::MAX {
-            return sum;
-        }
-        sum += place;
-        from = place + 1;
-    }
 }
