@@ -1,7 +1,6 @@
 pub mod Machine
 pub mod Views
 pub mod Printed
-pub mod Parts
 pub mod Optional
 pub mod Words
 pub mod Hex

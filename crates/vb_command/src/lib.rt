@@ -16,7 +16,7 @@ mod unread;
 pub use answer::Answer;
 pub use command::Command;
 pub use mode::Mode;
-pub use print::{Part, digit};
+pub use print::Printer;
 pub use read::command_of;
 pub use refusal::Refusal;
 pub use unread::Unread;

@@ -1,8 +1,8 @@
 //! How answers are printed.
 mod answer;
-mod digits;
-mod places;
-mod runs;
+mod digit;
+mod formatter;
+mod lists;
+mod printer;
 
-pub use answer::Part;
-pub use digits::digit;
+pub use printer::Printer;

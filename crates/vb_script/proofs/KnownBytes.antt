@@ -1,38 +1,8 @@
 -- The bytes that a stream tells.
 use Rattle.std.proofs.Common.{◌≡◌, ℕ, List, [], ◌++◌, refl, sym, ap, ◌∙◌, Option, Some, None}
-use Rattle.std.proofs.Common.{append_assoc, subst, true, is_ok, Result, Ok, Err}
-use Rattle.std.specs.Prelude.{IfSome, OnOk}
+use Rattle.std.proofs.Common.{append_assoc, append-nil, subst}
+use Rattle.std.specs.Prelude.{IfSome}
 use Rattle.std.specs.Io.KnownBytes.{prepend_known, append_known, Keeps, Appends, Consumes, IsAtEnd}
-use mathlib.Core.List.{append-nil}
-
--- bytes that stay, stay
-pub Keeps-refl : (known : Option (List ℕ)) → Keeps known known
-Keeps-refl None = tt
-Keeps-refl (Some xs) = refl
-
--- bytes that stay twice
-pub Keeps-trans : (a b c : Option (List ℕ)) → Keeps a b → Keeps b c → Keeps a c
-Keeps-trans None b c h k = tt
-Keeps-trans (Some xs) None c h k = absurd h
-Keeps-trans (Some xs) (Some ys) None h k = absurd k
-Keeps-trans (Some xs) (Some ys) (Some zs) h k = k ∙ h
-
--- bytes are added twice
-pub Appends-trans : (a b c : Option (List ℕ)) (xs ys : List ℕ) → Appends a b xs → Appends b c ys
-    → Appends a c (xs ++ ys)
-Appends-trans None b c xs ys h k = tt
-Appends-trans (Some x) None c xs ys h k = absurd h
-Appends-trans (Some x) (Some y) None xs ys h k = absurd k
-Appends-trans (Some x) (Some y) (Some z) xs ys h k = k ∙ (ap (λ l. l ++ ys) h
-    ∙ append_assoc x xs ys)
-
--- bytes are added, and then kept
-pub Appends-Keeps : (a b c : Option (List ℕ)) (xs : List ℕ) → Appends a b xs → Keeps b c
-    → Appends a c xs
-Appends-Keeps None b c xs h k = tt
-Appends-Keeps (Some x) None c xs h k = absurd h
-Appends-Keeps (Some x) (Some y) None xs h k = absurd k
-Appends-Keeps (Some x) (Some y) (Some z) xs h k = k ∙ h
 
 -- the bytes that waited are written
 pub Keeps-written : (written written' : Option (List ℕ)) (out : List ℕ)
@@ -69,11 +39,6 @@ Appends-past (Some w) None written'' out text h k = absurd h
 Appends-past (Some w) (Some z) None out text h k = absurd k
 Appends-past (Some w) (Some z) (Some y) out text h k = append-nil y ∙ (k ∙ ap (λ l. l ++ text) h)
 
--- nothing is written
-pub Appends-nil : (known : Option (List ℕ)) → Appends known known []
-Appends-nil None = tt
-Appends-nil (Some xs) = sym (append-nil xs)
-
 -- of known bytes those behind the ones that were read are still to come
 pub known_rest : (xs bytes : List ℕ) (remaining : Option (List ℕ))
     → Keeps (Some xs) (prepend_known bytes remaining) → (rest : List ℕ) × (remaining ≡ Some rest) ×
@@ -91,11 +56,6 @@ pub IfSome-known : (known : Option (List ℕ)) (P : List ℕ → Type 0)
     → ((bytes : List ℕ) → known ≡ Some bytes → P bytes) → IfSome known P
 IfSome-known None P h = tt
 IfSome-known (Some bytes) P h = h bytes refl
-
--- what holds at `Ok`, where that was given
-pub OnOk-is_ok : {T E : Type 0} (r : Result T E) (P : Type 0) → is_ok r ≡ true → OnOk r P → P
-OnOk-is_ok (Ok x) P ok h = h
-OnOk-is_ok (Err e) P ok h = absurd (cc)
 
 -- bytes that were read stand behind those before them
 pub Keeps-read : (front bytes : List ℕ) (old new : Option (List ℕ)) → Consumes old new bytes

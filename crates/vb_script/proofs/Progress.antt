@@ -18,8 +18,8 @@ use Rattle.vb_script.specs.Session.{AnswersEnded, StopsAt, SessionEnds, count_en
 use Rattle.vb_script.specs.declared.error.DriveError.{DriveError}
 use Rattle.vb_script.specs.declared.error.DriveError.TheVariants.{Unreadable, Read, Write, Memory}
 use Rattle.vb_script.proofs.InputLines.{line_feeds-append}
-use Rattle.vb_script.proofs.KnownBytes.{Appends-Keeps, Appends-nil, Appends-trans, Appends-wait-nil}
-use Rattle.vb_script.proofs.KnownBytes.{Keeps-written, nil_at_end}
+use Rattle.std.proofs.KnownBytes.{Appends-kept, Appends-nil, Appends-trans}
+use Rattle.vb_script.proofs.KnownBytes.{Appends-wait-nil, Keeps-written, nil_at_end}
 use Rattle.vb_script.proofs.Scripts.{script-append}
 use Rattle.vb_script.proofs.Passed.{Passed, Passed-nil, Passed-Keeps, Passed-append}
 use Rattle.vb_script.proofs.Passed.{Passed-ended_lines, Passed-front, Passed-count, next_of}
@@ -42,7 +42,7 @@ pub Ran-Keeps : (commands : List Order) (first now now' : Option (List ℕ)) (sl
 Ran-Keeps commands first now now' slots a told = record {
   replies = a.replies;
   ran = a.ran;
-  told = Appends-Keeps first now now' (lines_of a.replies) a.told told;
+  told = Appends-kept first now now' (lines_of a.replies) a.told told;
 }
 
 -- one more answer

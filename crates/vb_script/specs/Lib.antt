@@ -10,7 +10,6 @@ pub use Rattle.vb_command.specs.Hex
 pub use Rattle.vb_command.specs.Listed
 pub use Rattle.vb_command.specs.Machine
 pub use Rattle.vb_command.specs.Optional
-pub use Rattle.vb_command.specs.Parts
 pub use Rattle.vb_command.specs.Printed
 pub use Rattle.vb_command.specs.Reading
 pub use Rattle.vb_command.specs.Views

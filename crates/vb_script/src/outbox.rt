@@ -1,15 +1,9 @@
 //! Answers that wait to be written.
-//!
-//! They aren't printed by `Display`: `fmt::Write` says nothing of its writer after an error, so it
-//! couldn't be shown how many writes of the sink have failed. Both ways print the same parts of an
-//! answer, by `Answer::parts`.
 ghost use Rattle.std.specs.Prelude.{◌≡◌, ◌+◌, ◌<◌, ◌≤◌, [], ◌∷◌, ◌++◌, length, take, vec_capacity};
-ghost use Rattle.std.specs.Prelude.{codes, decimal, IfOk, OnOk};
+ghost use Rattle.std.specs.Prelude.{decimal, IfOk, OnOk};
 ghost use Rattle.std.specs.Io.KnownBytes.{Appends};
 ghost use Rattle.std.specs.List.{flat_map};
-ghost use Rattle.vb_command.specs.Printed.{digit_of, digits_of, line_of, places_text, run_text};
-ghost use Rattle.vb_command.specs.Printed.{runs_text};
-ghost use Rattle.vb_command.specs.Parts.{part_text};
+ghost use Rattle.vb_command.specs.Printed.{digit_of, line_of};
 ghost use Rattle.vb_command.specs.Views.{reply};
 ghost use Rattle.vb_script.specs.Fault.{CountsFault};
 ghost use Rattle.vb_script.specs.Outbox.{Adds};
@@ -19,7 +13,7 @@ use crate::sink::Sink;
 use itoa::{self, Buffer};
 use std::alloc::{AllocError, Allocator};
 use std::marker::Model;
-use vb_command::{Answer, Part};
+use vb_command::{Answer, Printer};
 
 /// How many bytes wait at most.
 const ROOM: usize = 65536;
@@ -68,173 +62,7 @@ impl<A: Allocator> Outbox<A> {
             (W.contents output.old) self.old (W.contents output.new) self.new
             (W.faults output.old) (W.faults output.new) }
     {
-        let (part, position) = answer.parts();
-        match position {
-            None => self.put_part_line(part, output),
-            Some(position) => {
-                self.put_part(part, output)?;
-                self.put_number_line(position, output)
-            }
-        }
-    }
-
-    /// Adds a line of a part of an answer.
-    fn put_part_line<W: Sink>(&mut self, part: Part<'_>, output: &mut W) -> Result<(), Fault>
-        ensures { Adds (part_text part.entry ++ 10 ∷ []) result
-            (W.contents output.old) self.old (W.contents output.new) self.new
-            (W.faults output.old) (W.faults output.new) }
-    {
-        match part {
-            Part::Words(words) => self.put_line(words.as_bytes(), output),
-            Part::Number(n) => self.put_number_line(n, output),
-            _ => {
-                self.put_part(part, output)?;
-                self.put(b"\n", output)
-            }
-        }
-    }
-
-    /// Adds a part of an answer.
-    fn put_part<W: Sink>(&mut self, part: Part<'_>, output: &mut W) -> Result<(), Fault>
-        ensures { Adds (part_text part.entry) result
-            (W.contents output.old) self.old (W.contents output.new) self.new
-            (W.faults output.old) (W.faults output.new) }
-    {
-        match part {
-            Part::Words(words) => self.put(words.as_bytes(), output),
-            Part::Number(n) => self.put_number(n, output),
-            Part::Bits(bits) => self.put_bits(bits, output),
-            Part::Places(places) => self.put_places(places, output),
-            Part::Runs(runs) => self.put_runs(runs, output),
-        }
-    }
-
-    /// Adds a line of these bytes.
-    #[tactic(auto, using(crate::proofs::KnownBytes::known_bytes))]
-    fn put_line<W: Sink>(&mut self, bytes: &[u8], output: &mut W) -> Result<(), Fault>
-        ensures { Adds (bytes.now ++ 10 ∷ []) result
-            (W.contents output.old) self.old (W.contents output.new) self.new
-            (W.faults output.old) (W.faults output.new) }
-    {
-        if bytes.len() >= ROOM - self.bytes.len() {
-            self.put(bytes, output)?;
-            return self.put(b"\n", output);
-        }
-        self.bytes.extend_from_slice(bytes).unwrap();
-        self.bytes.push(b'\n').unwrap();
-        Ok(())
-    }
-
-    /// Adds a line of a number in decimal.
-    #[tactic(auto, using(crate::proofs::KnownBytes::known_bytes))]
-    fn put_number_line<W: Sink>(&mut self, n: usize, output: &mut W) -> Result<(), Fault>
-        ensures { Adds (decimal n ++ 10 ∷ []) result
-            (W.contents output.old) self.old (W.contents output.new) self.new
-            (W.faults output.old) (W.faults output.new) }
-    {
-        if PIECE > ROOM - self.bytes.len() {
-            self.put_number(n, output)?;
-            return self.put(b"\n", output);
-        }
-        push_number_line(&mut self.bytes, n);
-        Ok(())
-    }
-
-    /// Adds a byte, and a number in decimal behind it.
-    #[tactic(auto, using(crate::proofs::KnownBytes::known_bytes))]
-    fn put_behind<W: Sink>(&mut self, byte: u8, n: usize, output: &mut W) -> Result<(), Fault>
-        ensures { Adds (byte ∷ decimal n) result
-            (W.contents output.old) self.old (W.contents output.new) self.new
-            (W.faults output.old) (W.faults output.new) }
-    {
-        if PIECE > ROOM - self.bytes.len() {
-            self.put(&[byte], output)?;
-            return self.put_number(n, output);
-        }
-        push_behind(&mut self.bytes, byte, n);
-        Ok(())
-    }
-
-    /// Adds a number in decimal.
-    fn put_number<W: Sink>(&mut self, n: usize, output: &mut W) -> Result<(), Fault>
-        ensures { Adds (decimal n) result
-            (W.contents output.old) self.old (W.contents output.new) self.new
-            (W.faults output.old) (W.faults output.new) }
-    {
-        let mut digits = Buffer::new();
-        self.put(digits.format(n).as_bytes(), output)
-    }
-
-    /// Adds places with commas between two.
-    fn put_places<W: Sink>(&mut self, places: &[usize], output: &mut W) -> Result<(), Fault>
-        ensures { Adds (places_text places.now) result
-            (W.contents output.old) self.old (W.contents output.new) self.new
-            (W.faults output.old) (W.faults output.new) }
-    {
-        let [first, rest @ ..] = places else {
-            return self.put(b"-", output);
-        };
-        self.put_number(*first, output)?;
-        for place in rest {
-            self.put_behind(b',', *place, output)?;
-        }
-        Ok(())
-    }
-
-    /// Adds runs with commas between two.
-    fn put_runs<W: Sink>(&mut self, runs: &[(usize, usize)], output: &mut W) -> Result<(), Fault>
-        ensures { Adds (runs_text runs.now) result
-            (W.contents output.old) self.old (W.contents output.new) self.new
-            (W.faults output.old) (W.faults output.new) }
-    {
-        let [first, rest @ ..] = runs else {
-            return self.put(b"-", output);
-        };
-        self.put_run(*first, output)?;
-        for run in rest {
-            self.put_next_run(*run, output)?;
-        }
-        Ok(())
-    }
-
-    /// Adds a run: where it begins, and the place behind it.
-    fn put_run<W: Sink>(&mut self, run: (usize, usize), output: &mut W) -> Result<(), Fault>
-        ensures { Adds (run_text run) result
-            (W.contents output.old) self.old (W.contents output.new) self.new
-            (W.faults output.old) (W.faults output.new) }
-    {
-        let (start, end) = run;
-        self.put_number(start, output)?;
-        self.put_behind(b'-', end, output)
-    }
-
-    /// Adds a comma, and a run behind it.
-    fn put_next_run<W: Sink>(&mut self, run: (usize, usize), output: &mut W) -> Result<(), Fault>
-        ensures { Adds (codes "," ++ run_text run) result
-            (W.contents output.old) self.old (W.contents output.new) self.new
-            (W.faults output.old) (W.faults output.new) }
-    {
-        let (start, end) = run;
-        self.put_behind(b',', start, output)?;
-        self.put_behind(b'-', end, output)
-    }
-
-    /// Adds truth values as binary digits.
-    fn put_bits<W: Sink>(&mut self, bits: &[bool], output: &mut W) -> Result<(), Fault>
-        ensures { Adds (digits_of bits.now) result
-            (W.contents output.old) self.old (W.contents output.new) self.new
-            (W.faults output.old) (W.faults output.new) }
-    {
-        if bits.is_empty() {
-            return self.put(b"-", output);
-        }
-        let mut start = 0;
-        while start < bits.len() {
-            let end = start + ROOM.min(bits.len() - start);
-            self.put_block(&bits[start..end], output)?;
-            start = end;
-        }
-        Ok(())
+        answer.print(self, output)
     }
 
     /// Adds truth values as binary digits, no more than there is room for. What waits is written
@@ -282,6 +110,79 @@ impl<A: Allocator> Outbox<A> {
         }
         output.write(&self.bytes)?;
         self.bytes.clear();
+        Ok(())
+    }
+}
+
+/// Behind an answer stands a line feed.
+impl<A: Allocator, W: Sink> Printer<W> for Outbox<A> {
+    ghost use Rattle.vb_script.specs.Outbox.{Adds, Adds-nil, Adds-trans};
+
+    type Error = Fault;
+
+    ghost puts = { λ o w text r p x.
+        Adds text r (W.contents w) o (W.contents x) p (W.faults w) (W.faults x) };
+
+    ghost end = { 10 ∷ [] };
+
+    ghost nothing = { λ o w. Adds-nil (W.contents w) o (W.faults w) };
+
+    ghost joins = { λ o w front p x back r q y first next. Adds-trans (W.contents w) (W.contents x)
+        (W.contents y) o p q front back (W.faults w) (W.faults x) (W.faults y) r first next };
+
+    ghost fails = { λ _ _ _ _ _ _ _ failed. record { told = tt; writes = failed.writes } };
+
+    fn put_words(&mut self, words: &str, output: &mut W) -> Result<(), Fault> {
+        self.put(words.as_bytes(), output)
+    }
+
+    fn put_number(&mut self, n: usize, output: &mut W) -> Result<(), Fault> {
+        let mut digits = Buffer::new();
+        self.put(digits.format(n).as_bytes(), output)
+    }
+
+    #[tactic(auto, using(crate::proofs::KnownBytes::known_bytes))]
+    fn put_behind(&mut self, byte: u8, n: usize, output: &mut W) -> Result<(), Fault> {
+        if PIECE > ROOM - self.bytes.len() {
+            self.put(&[byte], output)?;
+            return self.put_number(n, output);
+        }
+        push_behind(&mut self.bytes, byte, n);
+        Ok(())
+    }
+
+    fn put_digits(&mut self, bits: &[bool], output: &mut W) -> Result<(), Fault> {
+        let mut start = 0;
+        while start < bits.len() {
+            let end = start + ROOM.min(bits.len() - start);
+            self.put_block(&bits[start..end], output)?;
+            start = end;
+        }
+        Ok(())
+    }
+
+    fn put_end(&mut self, output: &mut W) -> Result<(), Fault> {
+        self.put(b"\n", output)
+    }
+
+    #[tactic(auto, using(crate::proofs::KnownBytes::known_bytes))]
+    fn put_last_words(&mut self, words: &str, output: &mut W) -> Result<(), Fault> {
+        if words.len() >= ROOM - self.bytes.len() {
+            self.put_words(words, output)?;
+            return self.put_end(output);
+        }
+        self.bytes.extend_from_slice(words.as_bytes()).unwrap();
+        self.bytes.push(b'\n').unwrap();
+        Ok(())
+    }
+
+    #[tactic(auto, using(crate::proofs::KnownBytes::known_bytes))]
+    fn put_last_number(&mut self, n: usize, output: &mut W) -> Result<(), Fault> {
+        if PIECE > ROOM - self.bytes.len() {
+            self.put_number(n, output)?;
+            return self.put_end(output);
+        }
+        push_number_line(&mut self.bytes, n);
         Ok(())
     }
 }

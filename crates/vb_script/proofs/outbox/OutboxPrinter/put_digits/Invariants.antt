@@ -2,7 +2,7 @@ use Rattle.std.proofs.Common.{◌≡◌, ◌-◌, ◌≤◌, length, take}
 use Rattle.std.specs.Io.KnownBytes.{append_known, Appends}
 use Rattle.std.specs.List.{flat_map}
 use Rattle.vb_command.specs.Printed.{digit_of}
-use Rattle.vb_script.proofs.outbox.Outbox.put_bits.Given as goal
+use Rattle.vb_script.proofs.outbox.OutboxPrinter.put_digits.Given as goal
 
 -- the digits so far were added, and no write has failed
 abbrev pub invariant-loop-start : goal.invariant-loop-start

@@ -3,8 +3,8 @@ use Rattle.std.specs.List.{flat_map}
 use Rattle.std.proofs.Math.Seq.{take-add}
 use Rattle.std.proofs.lemmas.Grind.{flat_map-append}
 use Rattle.vb_command.specs.Printed.{digit_of}
-use Rattle.vb_script.proofs.KnownBytes.{Appends-trans}
-use Rattle.vb_script.proofs.outbox.Outbox.put_bits.Goals as goal
+use Rattle.std.proofs.KnownBytes.{Appends-trans}
+use Rattle.vb_script.proofs.outbox.OutboxPrinter.put_digits.Goals as goal
 
 pub loop-start-preserved : goal.loop-start-preserved
 loop-start-preserved g c =
