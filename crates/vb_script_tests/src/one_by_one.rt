@@ -1,11 +1,12 @@
 //! The outbox as it was while each piece of an answer was put by itself: a number, a comma, a dash,
-//! a line feed. Sessions are compared with it, since no contract says how wide a write is.
-ghost use Rattle.std.specs.Prelude.{◌≡◌, ◌+◌, ◌≤◌, [], ◌∷◌, length, vec_capacity, OnOk};
+//! a line feed. Sessions are compared with it, since no contract says how wide a write is. So it
+//! goes over an answer by itself, and not by what is tried.
+ghost use Rattle.std.specs.Prelude.{◌≡◌, ◌+◌, ◌≤◌, [], length, vec_capacity, OnOk};
 
 use itoa::Buffer;
 use std::alloc::{AllocError, Global};
 use std::marker::Model;
-use vb_command::{Answer, Printer};
+use vb_command::{Answer, Refusal};
 use vb_script::{Fault, Sink};
 
 /// How many bytes wait at most.
@@ -37,7 +38,90 @@ impl OneByOne {
 
     /// Adds the line of an answer.
     pub(crate) fn push<W: Sink>(&mut self, answer: &Answer, output: &mut W) -> Result<(), Fault> {
-        answer.print(self, output)
+        match answer {
+            Answer::Done => self.put(b"ok", output)?,
+            Answer::Number(n) => self.put_number(*n, output)?,
+            Answer::Truth(true) => self.put(b"1", output)?,
+            Answer::Truth(false) => self.put(b"0", output)?,
+            Answer::Place(None) => self.put(b"none", output)?,
+            Answer::Place(Some(place)) => self.put_number(*place, output)?,
+            Answer::Bits(bits) => self.put_bits(bits, output)?,
+            Answer::Places(places) => self.put_places(places, output)?,
+            Answer::Runs(runs) => self.put_runs(runs, output)?,
+            Answer::Text(text) => self.put(text.as_bytes(), output)?,
+            Answer::Refused(why) => self.put_refusal(*why, output)?,
+        }
+        self.put(b"\n", output)
+    }
+
+    /// Adds a refusal, and the position that it names.
+    fn put_refusal<W: Sink>(&mut self, why: Refusal, output: &mut W) -> Result<(), Fault> {
+        match why {
+            Refusal::BadSlot => self.put(b"refused BadSlot", output),
+            Refusal::BadWindow => self.put(b"refused BadWindow", output),
+            Refusal::OutOfRange => self.put(b"refused OutOfRange", output),
+            Refusal::LengthMismatch => self.put(b"refused LengthMismatch", output),
+            Refusal::TakeOutOfRange(position) => {
+                self.put(b"refused TakeOutOfRange ", output)?;
+                self.put_number(position, output)
+            }
+            Refusal::TooManyBits => self.put(b"refused TooManyBits", output),
+            Refusal::OutOfMemory => self.put(b"refused OutOfMemory", output),
+        }
+    }
+
+    /// Adds a number in decimal.
+    fn put_number<W: Sink>(&mut self, n: usize, output: &mut W) -> Result<(), Fault> {
+        let mut digits = Buffer::new();
+        self.put(digits.format(n).as_bytes(), output)
+    }
+
+    /// Adds places with commas between two.
+    fn put_places<W: Sink>(&mut self, places: &[usize], output: &mut W) -> Result<(), Fault> {
+        let [first, rest @ ..] = places else {
+            return self.put(b"-", output);
+        };
+        self.put_number(*first, output)?;
+        for place in rest {
+            self.put(b",", output)?;
+            self.put_number(*place, output)?;
+        }
+        Ok(())
+    }
+
+    /// Adds runs with commas between two.
+    fn put_runs<W: Sink>(&mut self, runs: &[(usize, usize)], output: &mut W) -> Result<(), Fault> {
+        let [first, rest @ ..] = runs else {
+            return self.put(b"-", output);
+        };
+        self.put_run(*first, output)?;
+        for run in rest {
+            self.put(b",", output)?;
+            self.put_run(*run, output)?;
+        }
+        Ok(())
+    }
+
+    /// Adds a run: where it begins, and the place behind it.
+    fn put_run<W: Sink>(&mut self, run: (usize, usize), output: &mut W) -> Result<(), Fault> {
+        let (start, end) = run;
+        self.put_number(start, output)?;
+        self.put(b"-", output)?;
+        self.put_number(end, output)
+    }
+
+    /// Adds truth values as binary digits.
+    fn put_bits<W: Sink>(&mut self, bits: &[bool], output: &mut W) -> Result<(), Fault> {
+        if bits.is_empty() {
+            return self.put(b"-", output);
+        }
+        let mut start = 0;
+        while start < bits.len() {
+            let end = start + ROOM.min(bits.len() - start);
+            self.put_block(&bits[start..end], output)?;
+            start = end;
+        }
+        Ok(())
     }
 
     /// Adds truth values as binary digits, no more than there is room for. What waits is written
@@ -74,59 +158,6 @@ impl OneByOne {
         output.write(&self.bytes)?;
         self.bytes.clear();
         Ok(())
-    }
-}
-
-/// Each piece by itself.
-impl<W: Sink> Printer<W> for OneByOne {
-    type Error = Fault;
-
-    ghost puts = { λ _ _ _ _ _ _. Unit {0} };
-
-    ghost end = { 10 ∷ [] };
-
-    ghost nothing = { λ _ _. tt };
-
-    ghost joins = { λ _ _ _ _ _ _ _ _ _ _ _. tt };
-
-    ghost fails = { λ _ _ _ _ _ _ _ _. tt };
-
-    fn put_words(&mut self, words: &str, output: &mut W) -> Result<(), Fault> {
-        self.put(words.as_bytes(), output)
-    }
-
-    fn put_number(&mut self, n: usize, output: &mut W) -> Result<(), Fault> {
-        let mut digits = Buffer::new();
-        self.put(digits.format(n).as_bytes(), output)
-    }
-
-    fn put_behind(&mut self, byte: u8, n: usize, output: &mut W) -> Result<(), Fault> {
-        self.put(&[byte], output)?;
-        self.put_number(n, output)
-    }
-
-    fn put_digits(&mut self, bits: &[bool], output: &mut W) -> Result<(), Fault> {
-        let mut start = 0;
-        while start < bits.len() {
-            let end = start + ROOM.min(bits.len() - start);
-            self.put_block(&bits[start..end], output)?;
-            start = end;
-        }
-        Ok(())
-    }
-
-    fn put_end(&mut self, output: &mut W) -> Result<(), Fault> {
-        self.put(b"\n", output)
-    }
-
-    fn put_last_words(&mut self, words: &str, output: &mut W) -> Result<(), Fault> {
-        self.put_words(words, output)?;
-        self.put_end(output)
-    }
-
-    fn put_last_number(&mut self, n: usize, output: &mut W) -> Result<(), Fault> {
-        self.put_number(n, output)?;
-        self.put_end(output)
     }
 }
 
