@@ -39,8 +39,8 @@ impl<I> Model for TrustedLenAdapter<I> {
 }
 
 /// The iterator `iter` with the number of its items. The caller has to prove that `iter`, if it
-/// ends, has given exactly `n` items by then. The adapter ends after `n` items, and asks `iter` for
-/// no more.
+/// ends, has given exactly `n` items by then; of one that never ends that holds for every `n`. The
+/// adapter ends after `n` items, and asks `iter` for no more.
 pub fn trusted_len<I: Iterator>(iter: I, n: usize) -> TrustedLenAdapter<I>
     requires { IsLength I.next_gives iter n }
     ensures iter { result.iter ≡ iter }

@@ -50,8 +50,9 @@ fn count_of_many(bytes: &[u8], offset: usize, len: usize) -> usize
 /// 2^64.
 ///
 /// It looks once at a partial first byte, once at each 64 whole bytes, once at each eight of those
-/// left, once at each byte then left, and once at a partial last byte. `G.seen` of a source is its
-/// bytes, which no look changes, and how many looks they have had.
+/// left, once at each byte then left, and once at a partial last byte; once in all where the window
+/// lies in one byte, and not at all where it is empty. `G.seen` of a source is its bytes, which no
+/// look changes, and how many looks they have had.
 pub fn count_ones_by<G: Glance>(src: &mut G, offset: usize, len: usize) -> usize
     requires window { InBytes (G.seen src.old).bytes offset len }
     ensures value { result ≡ count (bits (G.seen src.old).bytes offset len) }

@@ -71,7 +71,8 @@ fn searched_first(n: usize) -> usize {
 
 /// The place, relative to the window of `len` bits from bit `offset` on, of its `n`-th true bit,
 /// counted from 0; `None` where the window has at most `n`. The window has to lie in the bytes, and
-/// to end below 2^64.
+/// to end below 2^64. Clause `place` says what the answer is, and `each` that every true bit with
+/// `n` true ones before it is the answer.
 pub fn bit_select(bytes: &[u8], offset: usize, len: usize, n: usize) -> Option<usize>
     requires window { InBytes bytes.now offset len }
     ensures place { Selects (bits bytes.now offset len) n result }
@@ -82,7 +83,8 @@ pub fn bit_select(bytes: &[u8], offset: usize, len: usize, n: usize) -> Option<u
 
 /// The place, relative to the window of `len` bits from bit `offset` on, of its `n`-th false bit,
 /// counted from 0; `None` where the window has at most `n`. The window has to lie in the bytes, and
-/// to end below 2^64.
+/// to end below 2^64. Clause `place` says what the answer is, and `each` that every false bit with
+/// `n` false ones before it is the answer.
 pub fn bit_select_unset(bytes: &[u8], offset: usize, len: usize, n: usize) -> Option<usize>
     requires window { InBytes bytes.now offset len }
     ensures place { Selects (complement (bits bytes.now offset len)) n result }
@@ -111,7 +113,8 @@ pub fn bit_select_by<G: Glance>(src: &mut G, offset: usize, len: usize, n: usize
 
 /// The place of the `n`-th false bit, counted from 0, of the `len` bits of `src` from bit `offset`
 /// on; `None` where at most `n` of them are false. The place is relative to bit `offset`. The
-/// window has to lie in the bytes, and to end below 2^64.
+/// window has to lie in the bytes, and to end below 2^64. Clause `place` says what the answer is,
+/// and `each` that every false bit with `n` false ones before it is the answer.
 ///
 /// The search takes at most the looks of [`count_ones_by`](crate::count_ones_by) of the same bits,
 /// and so at most [`most_looks`](crate::most_looks) of `len`. A look is one read of a chunk of 64

@@ -28,7 +28,7 @@ pub trait BitStore {
     // its own
     ghost fits: { Self → ℕ → ℕ → Type 0 };
 
-    // of which there is one proof at most
+    // all proofs of that are equal, so no view differs from another one by its proof
     ghost fits_prop: { (s : Self) (o n : ℕ) (a b : fits s o n) → a ≡ b };
 
     // the name of the `&mut` itself, by which a clause says that the same place is written to
