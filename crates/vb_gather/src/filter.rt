@@ -23,10 +23,10 @@ pub trait Filter: Sized {
     /// or to that alignment if it is greater; or a set of offset 0 whose bytes are as few as hold
     /// its bits.
     ///
-    /// Refused by `LengthMismatch`, with both lengths, exactly where the mask is longer or shorter
-    /// than the values, before memory is asked for; else by `OutOfMemory` alone. Memory comes from
-    /// the allocator of this buffer or set: by one request for the values that are kept, if any,
-    /// and by one for the count of owners.
+    /// Refused by `LengthMismatch`, with the number of values as `left` and the length of the mask
+    /// as `right`, exactly where they differ, before memory is asked for; else by `OutOfMemory`
+    /// alone. Memory comes from the allocator of this buffer or set: by one request for the values
+    /// that are kept, if any, and by one for the count of owners.
     ///
     /// The time is linear in the length of the mask and the number of values that are kept. The
     /// items of a buffer are copied as a block where 64 bits of the mask, from a multiple of 64 on,

@@ -34,18 +34,21 @@ pub trait BitStore {
     // the name of the `&mut` itself, by which a clause says that the same place is written to
     ghost lender: { Self → GName };
 
-    // what no write changes: of bytes their number, of a set all but its bits and bytes
+    // what no write changes: of bytes their number, of a set its offset, number of bytes, alignment
+    // and room
     ghost Kept: { Type 0 };
 
     ghost kept: { Self → Kept };
 
-    /// The bytes, for a window that it allows.
+    /// All its bytes, for a window that it allows. Clause `window` says that the window lies in
+    /// them and ends below 2^64, and that its bits in them are those that `bits` says.
     fn as_slice(&self, offset: usize, len: usize) -> &[u8]
         requires { fits self.now offset len }
         ensures bytes { result.now ≡ bytes self.now }
         ensures window { IsWindow result.now offset (bits self.now offset len) };
 
-    /// Makes the bit at place `i` of a window `v`, and leaves every other bit of the bytes.
+    /// Gives the bit at place `i` of a window, counted from its first one, the value `v`. Every
+    /// other bit of the bytes stays, and so does their number: so says clause `bytes`.
     fn set_to(&mut self, offset: usize, len: usize, i: usize, v: bool)
         requires fits { fits self.old offset len }
         requires within { i < len }
@@ -55,8 +58,8 @@ pub trait BitStore {
         ensures same_reference { lender self.new ≡ lender self.old }
         ensures kept { kept self.new ≡ kept self.old };
 
-    /// Makes the bits of a window from `start` up to `end`, `end` excluded, `v`, and leaves every
-    /// other bit of the bytes.
+    /// Gives the bits of a window from place `start` up to `end`, `end` excluded, the value `v`.
+    /// Every other bit of the bytes stays, and so does their number: so says clause `bytes`.
     fn fill_range(&mut self, offset: usize, len: usize, start: usize, end: usize, v: bool)
         requires fits { fits self.old offset len }
         requires order { start ≤ end }

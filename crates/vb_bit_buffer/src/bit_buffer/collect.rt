@@ -22,8 +22,9 @@ impl<A: Allocator + Clone> BitBuffer<A> {
     /// `f` is called in order and once at each place, and has to be callable there whatever it
     /// answered before. 64 answers at a time are packed, by vectors of bytes, the rest bit by bit.
     ///
-    /// It takes memory for the bytes of the bits and the count of owners. Refused by `OutOfMemory`
-    /// alone, so says clause `fresh`, and before the first call of `f`.
+    /// It takes memory for the bytes of the bits, which are as few as hold them, and the count of
+    /// owners. Refused by `OutOfMemory` alone, so says clause `fresh`, and before the first call of
+    /// `f`.
     pub fn collect_bool<F: FnMut(usize) -> bool>(alloc: A, len: usize, f: &mut F) -> Result<Self>
         requires { CanAsk (F.pre) (F.step) f.old (span 0 len) }
         ensures answered { IfOk result (λ s.

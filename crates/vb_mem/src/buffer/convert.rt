@@ -133,14 +133,14 @@ impl<T: Element, A: Allocator + Clone> Buffer<T, A> {
     /// Lends the items as a growing buffer of the same items and reported alignment, in which items
     /// can be written, added and dropped. The reported alignment is what [`Buffer::alignment`]
     /// answers; the declared one, which is at least that, is what the storage is asked for with:
-    /// this storage's, or that of a copy, 256 bytes or the reported one if that is greater. When the
-    /// loan ends, this buffer has the items and both alignments that the growing one has then, and
-    /// its items begin the storage. All other buffers keep their items.
+    /// this storage's, or that of a copy, 256 bytes or the reported one if that is greater. When
+    /// the loan ends, this buffer has the items and both alignments that the growing one has then,
+    /// and its items begin the storage. All other buffers keep their items.
     ///
     /// Where no other buffer shares the storage, the call takes no memory: the items are moved to
     /// the front of the storage, in time linear in their number, and what stood beside them is
-    /// dropped. Where another one does, or this buffer is empty and has no storage, memory is asked
-    /// for a copy of the items and for its count of owners.
+    /// dropped. Where another one does, or this buffer is empty and has no storage, memory is taken
+    /// by one request for a copy of the items, if there are any, and one for its count of owners.
     ///
     /// Refused by `OutOfMemory` alone; the buffer is unchanged then, and `writes_back` says so of
     /// the items and the reported alignment. That a lone owner isn't refused no clause says.

@@ -117,8 +117,10 @@ impl<A: Allocator + Clone> BitBufferMut<A> {
         self.append(false)
     }
 
-    /// Adds `n` bits, all `v`, whole bytes at once. Offset and alignment stay, and the room never
-    /// shrinks, refused or not: so says clause `grows`.
+    /// Adds `n` bits, all `v`, behind the last one, whole bytes at once. The bytes are lengthened
+    /// where they are too few, to as few as hold all bits, and no other bit that they had changes:
+    /// so says clause `ok`. Offset and alignment stay, and the room never shrinks, refused or not:
+    /// so says clause `grows`.
     ///
     /// Refused by `TooManyBits` where offset, length and `n` together pass `usize::MAX`, else by
     /// `OutOfMemory` alone. In both cases the set and its room are unchanged. Where the length and

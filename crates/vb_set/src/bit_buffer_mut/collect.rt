@@ -18,7 +18,8 @@ use vb_core::{BufferError, Result};
 impl<A: Allocator + Clone> BitBufferMut<A> {
     /// A set, of offset 0, of what `f` answers at the places from 0 up to `len`, `len` excluded.
     /// `f` is called in order and once at each place, and has to be callable there whatever it
-    /// answered before. Full words go by vectors of bytes, the rest bit by bit.
+    /// answered before. The bytes are as few as hold the bits, with alignment 1: so says clause
+    /// `fresh`. Full words go by vectors of bytes, the rest bit by bit.
     ///
     /// It takes memory for the bytes of the bits. Refused by `OutOfMemory` alone, before the first
     /// call of `f`.
