@@ -19,9 +19,9 @@ pub trait Filter: Sized {
     ghost keeps: { Self → List Bool → Self → Type 0 };
 
     /// The values whose bit in the mask is true, in order, as a copy: a buffer of the alignment
-    /// that this one reports, whose items, if any are kept, begin a storage aligned to 256 bytes,
-    /// or to that alignment if it is greater; or a set of offset 0 whose bytes are as few as hold
-    /// its bits.
+    /// that this one reports, whose items, if any are kept, begin a storage that is declared with
+    /// 256 bytes, or with that alignment if it is greater; or a set of offset 0 whose bytes are as
+    /// few as hold its bits.
     ///
     /// Refused by `LengthMismatch`, with the number of values as `left` and the length of the mask
     /// as `right`, exactly where they differ, before memory is asked for; else by `OutOfMemory`

@@ -17,8 +17,8 @@ fn are_sevens(rt: &impl Abort, items: &[u32]) {
     equal(rt, SEVENS.starts_with(items), true);
 }
 
-/// A call on a growing buffer of a thousand sevens, which fill a storage that is aligned to 256
-/// bytes.
+/// A call on a growing buffer of a thousand sevens, which fill a storage that is declared with
+/// 256 bytes.
 enum Growing {
     Freeze,
     Take,

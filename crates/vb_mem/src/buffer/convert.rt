@@ -132,10 +132,10 @@ impl<T: Element, A: Allocator + Clone> Buffer<T, A> {
 
     /// Lends the items as a growing buffer of the same items and reported alignment, in which items
     /// can be written, added and dropped. The reported alignment is what [`Buffer::alignment`]
-    /// answers; the declared one, which is at least that, is what the storage is asked for with:
-    /// this storage's, or that of a copy, 256 bytes or the reported one if that is greater. When
-    /// the loan ends, this buffer has the items and both alignments that the growing one has then,
-    /// and its items begin the storage. All other buffers keep their items.
+    /// answers. The declared one, which is at least that, stays where the storage does; that of a
+    /// copy is 256 bytes, or the reported one if that is greater. When the loan ends, this buffer
+    /// has the items and both alignments that the growing one has then, and its items begin the
+    /// storage. All other buffers keep their items.
     ///
     /// Where no other buffer shares the storage, the call takes no memory: the items are moved to
     /// the front of the storage, in time linear in their number, and what stood beside them is
