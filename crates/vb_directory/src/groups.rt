@@ -16,7 +16,8 @@ use vb_kernel::Glance;
 use vb_rank::{BLOCK_BITS, find_block, rank_from, select_from};
 
 /// How many of the first `i` of the `len` bits from bit `offset` on are true, as
-/// `rank_by` answers, from the counts of these bits, by at most two probes.
+/// `rank_by` answers, from the counts of these bits, by at most two probes. A single block needs
+/// none: before it are no bits.
 pub(crate) fn rank_in_groups<G: Glance, S: ProbeGroups>(
     src: &mut G,
     offset: usize,
@@ -33,6 +34,9 @@ pub(crate) fn rank_in_groups<G: Glance, S: ProbeGroups>(
     ensures looks { LooksAtMost 16 (G.seen src.old) (G.seen src.new) }
     ensures probes { ProbesAtMost 2 (S.seen groups.old) (S.seen groups.new) }
 {
+    if len <= BLOCK_BITS {
+        return rank_from(src, offset, 0, 0, i);
+    }
     // The block of the last of the bits, as in `rank_by`.
     let block = (i - 1) / BLOCK_BITS;
     let before = ones_before(groups, len, block);

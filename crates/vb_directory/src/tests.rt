@@ -33,10 +33,12 @@ fn by_fives(rt: &impl Abort, alloc: Global, len: usize) -> Vec<u8, Global> {
     bytes
 }
 
-/// How many probes a rank takes in a block: one in the first group and in the first block of
-/// another one, and else two.
-fn probes_in(block: usize) -> u64 {
-    if block < 128 || block % 128 == 0 {
+/// How many probes a rank in a block of so many bits takes: none where there is one block, one in
+/// the first group and in the first block of another one, and else two.
+fn probes_in(len: usize, block: usize) -> u64 {
+    if len <= 512 {
+        0
+    } else if block < 128 || block % 128 == 0 {
         1
     } else {
         2
@@ -52,7 +54,7 @@ fn ranks(rt: &impl Abort, alloc: Global, bits: BitBufferView<'_>, i: usize) {
     let mut src = Plain::new(bits.inner());
     let ones = rank_in_groups(&mut src, bits.offset(), bits.len(), &mut tally, i);
     equal(rt, ones, bits.slice(0..i).true_count());
-    equal(rt, tally.probes(), probes_in((i - 1) / 512));
+    equal(rt, tally.probes(), probes_in(bits.len(), (i - 1) / 512));
     drop(counts);
 }
 

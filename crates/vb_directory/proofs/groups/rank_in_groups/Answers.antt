@@ -1,4 +1,4 @@
-use Rattle.std.proofs.Common.{◌≡◌, ℕ, Bool, List, ◌-◌, ◌*◌, ◌/◌, ◌<◌, sym, ap, ◌∙◌, arith}
+use Rattle.std.proofs.Common.{◌≡◌, ℕ, Bool, List, ◌-◌, ◌*◌, ◌/◌, ◌<◌, refl, sym, ap, ◌∙◌, arith}
 use Rattle.vb_bits.specs.Bits.{bits, count}
 use Rattle.vb_kernel.proofs.BitsLemmas.{length-bits, take-bits}
 use Rattle.vb_directory.specs.Counts.{numbers_for}
@@ -7,6 +7,14 @@ use Rattle.vb_directory.proofs.groups.rank_in_groups.Goals as goal
 pub ones_before-before-requires-clause-size : goal.ones_before-before-requires-clause-size
 ones_before-before-requires-clause-size g c = c.requires.counts.long ∙ ap numbers_for
     (length-bits (g.G.Glance.seen c.args.src.now).bytes c.args.offset c.args.len)
+
+-- a single block has no bits before it
+pub returns-then-len-le-BLOCK_BITS-clause-value : goal.returns-then-len-le-BLOCK_BITS-clause-value
+unfolding bits
+returns-then-len-le-BLOCK_BITS-clause-value g c =
+    let b : List ℕ = (g.G.Glance.seen c.args.src.now).bytes in
+    c.rank_from.ensures.value refl
+    ∙ sym (ap count (take-bits b c.args.offset c.args.len c.args.i c.requires.within))
 
 pub returns-clause-value : goal.returns-clause-value
 returns-clause-value g c =
@@ -18,4 +26,4 @@ returns-clause-value g c =
     let before : c.ones_before-before.result ≡ count (bits b o (512 * j)) =
     c.ones_before-before.ensures.value l c.requires.counts (length-bits b o n)
     ∙ ap count (take-bits b o n (512 * j) (omega (arith, begins))) in
-    c.rank_from.ensures.value before ∙ sym (ap count (take-bits b o n i c.requires.within))
+    c.rank_from-2.ensures.value before ∙ sym (ap count (take-bits b o n i c.requires.within))
