@@ -1,1 +1,2 @@
 mod ManyLemmas
+mod RoomLemmas

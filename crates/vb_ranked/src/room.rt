@@ -10,22 +10,21 @@ use vb_set::{BitBufferMut, BufferError, Result};
 /// For how many bits there is room at least where a set has grown.
 const LEAST_ROOM: usize = 64;
 
-/// Makes room for a bit more, and for the counts of as many bits as the set then has room for. A
-/// set with bits has the counts of its room, and so where it has room, that is all.
+/// Makes room for a bit more in a set with bits, and for the counts of as many bits as it then has
+/// room for. It has the counts of its room, and so where it has room, that is all.
 #[inline(always)]
 pub(crate) fn make_room<A: Allocator + Clone>(
     set: &mut BitBufferMut<A>,
     counts: &mut Counts<A>,
 ) -> Result<()>
-    requires held { 0 < length set.old.bits → numbers_for set.old.room ≤ counts.old.room }
+    requires held { numbers_for set.old.room ≤ counts.old.room }
     ensures set { set.new ≡ record set.old { room = set.new.room } }
     ensures set_grows { set.old.room ≤ set.new.room }
     ensures numbers { counts.new.numbers ≡ counts.old.numbers }
     ensures counts_grow { counts.old.room ≤ counts.new.room }
     ensures room { OnOk result (length set.old.bits + 1 ≤ set.new.room) }
     ensures counts_room { OnOk result (numbers_for set.new.room ≤ counts.new.room) }
-    ensures in_room { 0 < length set.old.bits → length set.old.bits + 1 ≤ set.old.room
-        → IsOk result }
+    ensures in_room { length set.old.bits + 1 ≤ set.old.room → IsOk result }
     ensures stays { length set.old.bits + 1 ≤ set.old.room → set.new ≡ set.old }
     ensures fits { set.old.offset + length set.old.bits + 1 < 2 ^ 64
         → IsOkUnless result BufferError.OutOfMemory }
@@ -33,10 +32,39 @@ pub(crate) fn make_room<A: Allocator + Clone>(
         → IsOkUnless result BufferError.TooManyBits }
     ensures err { OnErr result (set.new ≡ set.old) }
 {
-    if !set.is_empty() && set.len() < set.capacity() {
+    if set.len() < set.capacity() {
         return Ok(());
     }
     ask_for_room(set, counts, 1)
+}
+
+/// [`make_room`] of a set with no bits. Most have no room then either, and get the least that one
+/// has which grows: by numbers that are known beforehand.
+#[inline(always)]
+pub(crate) fn make_first_room<A: Allocator + Clone>(
+    set: &mut BitBufferMut<A>,
+    counts: &mut Counts<A>,
+) -> Result<()>
+    requires none { length set.old.bits ≡ 0 }
+    ensures set { set.new ≡ record set.old { room = set.new.room } }
+    ensures set_grows { set.old.room ≤ set.new.room }
+    ensures numbers { counts.new.numbers ≡ counts.old.numbers }
+    ensures room { OnOk result (1 ≤ set.new.room) }
+    ensures counts_room { OnOk result (numbers_for set.new.room ≤ counts.new.room) }
+    ensures stays { 1 ≤ set.old.room → set.new ≡ set.old }
+    ensures fits { set.old.offset + 1 < 2 ^ 64 → IsOkUnless result BufferError.OutOfMemory }
+    ensures too_many { 2 ^ 64 ≤ set.old.offset + 1 → IsOkUnless result BufferError.TooManyBits }
+    ensures err { OnErr result (set.new ≡ set.old) }
+{
+    if set.offset() > 0 || set.capacity() > 0 {
+        return ask_for_room(set, counts, 1);
+    }
+    // As for more bits: the room may become larger by less than a byte.
+    counts.reserve(LEAST_ROOM + 7)?;
+    set.reserve_exact(LEAST_ROOM)?;
+    // The room is a `usize`.
+    let _room = set.capacity();
+    Ok(())
 }
 
 /// [`make_room`] for `n` bits more. None need none.

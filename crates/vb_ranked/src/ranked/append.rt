@@ -7,7 +7,7 @@ ghost use Rattle.vb_set.specs.View.{bits_of};
 
 use super::Ranked;
 use crate::parts::append_parts;
-use crate::room::{make_room, make_room_for};
+use crate::room::{make_first_room, make_room, make_room_for};
 use std::alloc::Allocator;
 use vb_rank::BLOCK_BITS;
 use vb_set::{BitBufferView, BufferError, Result};
@@ -63,21 +63,50 @@ impl<A: Allocator + Clone> Ranked<A> {
         self.begin_byte(v)
     }
 
-    /// [`append`](Self::append) of a bit that begins a block, before which the bits are counted.
+    /// [`append`](Self::append) of a bit that begins a block.
     #[inline(never)]
     fn begin_block(&mut self, v: bool) -> Result<()>
         requires whole { length self.old.bits % BLOCK_BITS ≡ 0 }
         ensures ok { OnOk result (AddsBits (v ∷ []) self.old self.new) }
         ensures grows { KeepsStart self.old self.new }
-        ensures in_room { 0 < length self.old.bits → length self.old.bits + 1 ≤ self.old.room
-            → IsOk result }
         ensures stays { length self.old.bits + 1 ≤ self.old.room
             → self.new.room ≡ self.old.room }
-        ensures fits { self.old.offset + length self.old.bits + 1 < 2 ^ 64
-            → IsOkUnless result BufferError.OutOfMemory }
-        ensures too_many { 2 ^ 64 ≤ self.old.offset + length self.old.bits + 1
-            → IsErrOf result BufferError.TooManyBits }
-        ensures err { OnErr result (self.new ≡ self.old) }
+        ensures needs { NeedsCountedBits 1 result self.old self.new }
+    {
+        if self.set.is_empty() {
+            self.begin_first_block(v)
+        } else {
+            self.begin_next_block(v)
+        }
+    }
+
+    /// [`append`](Self::append) of the first bit, before which there is nothing to count. It may
+    /// ask for memory within the room too.
+    #[inline(never)]
+    fn begin_first_block(&mut self, v: bool) -> Result<()>
+        requires none { length self.old.bits ≡ 0 }
+        ensures ok { OnOk result (AddsBits (v ∷ []) self.old self.new) }
+        ensures grows { KeepsStart self.old self.new }
+        ensures stays { length self.old.bits + 1 ≤ self.old.room
+            → self.new.room ≡ self.old.room }
+        ensures needs { NeedsCountedBits 1 result self.old self.new }
+    {
+        make_first_room(&mut self.set, &mut self.counts)?;
+        self.set.append(v)?;
+        self.counts.push(0, 0);
+        Ok(())
+    }
+
+    /// [`append`](Self::append) of a bit that begins a block behind others, whose bits are counted.
+    #[inline(never)]
+    fn begin_next_block(&mut self, v: bool) -> Result<()>
+        requires some { 0 < length self.old.bits }
+        requires whole { length self.old.bits % BLOCK_BITS ≡ 0 }
+        ensures ok { OnOk result (AddsBits (v ∷ []) self.old self.new) }
+        ensures grows { KeepsStart self.old self.new }
+        ensures stays { length self.old.bits + 1 ≤ self.old.room
+            → self.new.room ≡ self.old.room }
+        ensures needs { NeedsCountedBits 1 result self.old self.new }
     {
         let len = self.set.len();
         let ones = self.rank(len);
@@ -95,14 +124,9 @@ impl<A: Allocator + Clone> Ranked<A> {
         requires part { 0 < length self.old.bits % BLOCK_BITS }
         ensures ok { OnOk result (AddsBits (v ∷ []) self.old self.new) }
         ensures grows { KeepsStart self.old self.new }
-        ensures in_room { length self.old.bits + 1 ≤ self.old.room → IsOk result }
         ensures stays { length self.old.bits + 1 ≤ self.old.room
             → self.new.room ≡ self.old.room }
-        ensures fits { self.old.offset + length self.old.bits + 1 < 2 ^ 64
-            → IsOkUnless result BufferError.OutOfMemory }
-        ensures too_many { 2 ^ 64 ≤ self.old.offset + length self.old.bits + 1
-            → IsErrOf result BufferError.TooManyBits }
-        ensures err { OnErr result (self.new ≡ self.old) }
+        ensures needs { NeedsCountedBits 1 result self.old self.new }
     {
         make_room(&mut self.set, &mut self.counts)?;
         self.set.append(v)?;

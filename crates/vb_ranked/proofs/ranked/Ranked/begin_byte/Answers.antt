@@ -1,14 +1,11 @@
-use Rattle.std.proofs.Common.{◌≡◌, ℕ, Bool, List, ◌≤◌, ◌++◌, ◌∷◌, []}
+use Rattle.std.proofs.Common.{◌≡◌, Bool, List, ◌++◌, ◌∷◌, []}
 use Rattle.std.proofs.Common.{length}
 use Rattle.std.proofs.Common.{sym, ap, ◌∙◌, arith, subst}
-use Rattle.vb_directory.specs.Counts.{AreCounts, numbers_for}
+use Rattle.vb_directory.specs.Counts.{AreCounts}
 use Rattle.vb_set.specs.OpenSet.{OpenSet}
 use Rattle.vb_directory.proofs.CountEditsLemmas.{AreCounts-push}
+use Rattle.vb_ranked.proofs.RoomLemmas.{held_on}
 use Rattle.vb_ranked.proofs.ranked.Ranked.begin_byte.Goals as goal
-
--- the counts that were held are, where the room of the set stays
-held_on : {old new : ℕ} (room : ℕ) → new ≡ old → numbers_for old ≤ room → numbers_for new ≤ room
-held_on room same held = rw same held
 
 pub invariant_of-self-2 : goal.invariant_of-self-2
 invariant_of-self-2 g c =

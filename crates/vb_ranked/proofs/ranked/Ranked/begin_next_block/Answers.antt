@@ -1,16 +1,13 @@
-use Rattle.std.proofs.Common.{◌≡◌, ℕ, Bool, List, ◌+◌, ◌*◌, ◌/◌, ◌≤◌, ◌++◌, ◌∷◌, []}
+use Rattle.std.proofs.Common.{◌≡◌, Bool, List, ◌+◌, ◌*◌, ◌/◌, ◌++◌, ◌∷◌, []}
 use Rattle.std.proofs.Common.{length, take}
 use Rattle.std.proofs.Common.{sym, ap, ◌∙◌, arith, subst}
 use Rattle.std.proofs.Math.Seq.{take-length}
 use Rattle.std.proofs.lemmas.List.{length-append, take-append-le}
 use Rattle.vb_bits.specs.Bits.{count}
-use Rattle.vb_directory.specs.Counts.{AreCounts, numbers_for}
+use Rattle.vb_directory.specs.Counts.{AreCounts}
 use Rattle.vb_set.specs.OpenSet.{OpenSet}
-use Rattle.vb_ranked.proofs.ranked.Ranked.begin_block.Goals as goal
-
--- the counts that were held are, where the room of the set stays
-held_on : {old new : ℕ} (room : ℕ) → new ≡ old → numbers_for old ≤ room → numbers_for new ≤ room
-held_on room same held = rw same held
+use Rattle.vb_ranked.proofs.RoomLemmas.{held_on}
+use Rattle.vb_ranked.proofs.ranked.Ranked.begin_next_block.Goals as goal
 
 pub invariant_of-self-2 : goal.invariant_of-self-2
 invariant_of-self-2 g c =
