@@ -1,6 +1,6 @@
 -- What a command's method gives.
 use Rattle.std.specs.Prelude.{◌≡◌, Option, Some, None, Result, Ok, Err}
-use Rattle.vb_command.specs.Machine.{Order, Len, Count, Get, Countrange, Select, Selectunset}
+use Rattle.vb_command.specs.Machine.{Order, Len, Count, Select, Selectunset}
 use Rattle.vb_command.specs.Machine.{Last, Bits, Places, Runs, Show, Eq, Reply, Refused}
 use Rattle.vb_command.specs.Views.{reply}
 use Rattle.vb_command.specs.declared.answer.Answer.{Answer}
@@ -15,21 +15,23 @@ abbrev pub reply_of : {A : Type 0} → Result (Answer A) Refusal → Reply
 reply_of (Ok answer) = reply answer
 reply_of (Err why) = Refused why
 
--- an order that asks for something and changes no slot
+-- an order that asks for all bits of a set, as a list, a text or beside those of another
+abbrev pub AsksWhole : Order → Type 0
+AsksWhole (Bits k) = Unit {0}
+AsksWhole (Places k) = Unit {0}
+AsksWhole (Runs k) = Unit {0}
+AsksWhole (Show k) = Unit {0}
+AsksWhole (Eq k j) = Unit {0}
+AsksWhole order = ⊥
+
+-- an order that asks for a number or a place, or for all bits of a set
 abbrev pub IsQuestion : Order → Type 0
 IsQuestion (Len k) = Unit {0}
 IsQuestion (Count k) = Unit {0}
-IsQuestion (Get k i) = Unit {0}
-IsQuestion (Countrange k a b) = Unit {0}
 IsQuestion (Select k n) = Unit {0}
 IsQuestion (Selectunset k n) = Unit {0}
 IsQuestion (Last k) = Unit {0}
-IsQuestion (Bits k) = Unit {0}
-IsQuestion (Places k) = Unit {0}
-IsQuestion (Runs k) = Unit {0}
-IsQuestion (Show k) = Unit {0}
-IsQuestion (Eq k j) = Unit {0}
-IsQuestion order = ⊥
+IsQuestion order = AsksWhole order
 
 -- what a slot holds is given, seen in this way; where it holds nothing of the kind, the slot is
 -- refused

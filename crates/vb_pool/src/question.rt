@@ -1,7 +1,7 @@
 //! What commands ask of a set. No slot changes, and the lists alone take memory.
 ghost use Rattle.vb_command.specs.Machine.{Step, Outcome, order_of};
 ghost use Rattle.vb_command.specs.Machine as machine;
-ghost use Rattle.vb_pool.specs.Answered.{IsQuestion, reply_of};
+ghost use Rattle.vb_pool.specs.Answered.{AsksWhole, IsQuestion, reply_of};
 
 use crate::lists::{list_bits, list_places, list_runs, text};
 use crate::pool::Pool;
@@ -11,7 +11,9 @@ use std::alloc::Allocator;
 use vb_command::{Answer, Command, Refusal};
 
 impl<A: Allocator + Clone> Pool<A> {
-    /// Answers a question.
+    /// Answers a question for a number or a place. It is a call of its own: what is made room for
+    /// in a function is cleared where it begins.
+    #[inline(never)]
     pub(crate) fn ask(&self, alloc: &A, question: &Command<A>) -> Result<Answer<A>, Refusal>
         requires { IsQuestion (order_of question.now) }
         ensures { Outcome self.now (order_of question.now) (reply_of result) self.now }
@@ -19,11 +21,20 @@ impl<A: Allocator + Clone> Pool<A> {
         match *question {
             Command::Len(k) => Ok(Answer::Number(self.set_at(k)?.len())),
             Command::Count(k) => Ok(Answer::Number(self.set_at(k)?.true_count())),
-            Command::Get(k, i) => self.get(k, i),
-            Command::Countrange(k, a, b) => self.count_range(k, a, b),
             Command::Select(k, n) => Ok(Answer::Place(self.set_at(k)?.select(n))),
             Command::Selectunset(k, n) => Ok(Answer::Place(self.set_at(k)?.select_unset(n))),
             Command::Last(k) => Ok(Answer::Place(self.set_at(k)?.last_set_index())),
+            _ => self.ask_whole(alloc, question),
+        }
+    }
+
+    /// Answers a question for all bits of a set.
+    #[inline(never)]
+    fn ask_whole(&self, alloc: &A, question: &Command<A>) -> Result<Answer<A>, Refusal>
+        requires { AsksWhole (order_of question.now) }
+        ensures { Outcome self.now (order_of question.now) (reply_of result) self.now }
+    {
+        match *question {
             Command::Eq(k, j) => Ok(Answer::Truth(self.set_at(k)? == self.set_at(j)?)),
             Command::Bits(k) => {
                 let bits = list_bits(alloc, self.set_at(k)?).map_err(refusal_of)?;

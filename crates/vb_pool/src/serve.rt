@@ -79,6 +79,8 @@ impl<A: Allocator + Clone> Pool<A> {
             Command::Andnot(mode, l, r, t) => self.combine(BitOp::AndNot, mode, l, r, t),
             Command::Not(mode, l, t) => self.not(mode, l, t),
             Command::Take(k, t, m, ref indices) => self.take(alloc, k, t, m, indices),
+            Command::Get(k, i) => self.get(k, i),
+            Command::Countrange(k, a, b) => self.count_range(k, a, b),
             ref question => self.ask(alloc, question),
         }
     }
