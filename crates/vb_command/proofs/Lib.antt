@@ -4,4 +4,5 @@ pub mod NumberWords
 pub mod HexLists
 pub mod Lines
 pub mod Behind
+pub mod SpaceLemmas
 pub mod ListedLemmas

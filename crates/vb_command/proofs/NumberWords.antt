@@ -1,5 +1,13 @@
 -- The numbers that words write, from what `parse` gives of them.
 use Rattle.std.proofs.Common.{◌≡◌, ◌≢◌, ℕ, ◌^◌, ◌-◌, ◌<◌, ◌≤◌, Bool, true, false, ◌&&◌, cond, List}
+use Rattle.std.proofs.Math.Nat.{pow-le-pow_right}
+use Rattle.std.proofs.Math.Seq.{drop-cons}
+use Rattle.std.proofs.lemmas.Bool.Decides.{nat_tests}
+use Rattle.std.proofs.lemmas.Int.Digits.{digits_value_more}
+use Rattle.std.proofs.lemmas.Str.{digit_value_digit}
+use Rattle.std.specs.Char.{is_ascii_digit}
+use Rattle.std.specs.Int.{IsInRange}
+use Rattle.std.proofs.Common.{suc, pow-suc, ◌+◌, ◌*◌, take}
 use Rattle.std.proofs.Common.{length, get_or, drop, refl, sym, ap, ◌∙◌, Some, None, arith}
 use Rattle.std.proofs.Common.{Result, Ok, Err}
 use Rattle.std.specs.Prelude.{ℤ, pos, neg_ℤ, ◌==◌, nat_le, if◌then◌else◌}
@@ -7,8 +15,10 @@ use Rattle.std.specs.Option.{option_map}
 use Rattle.std.specs.Result.{OkIff, result_ok}
 use Rattle.std.specs.Str.{all_ascii_digits}
 use Rattle.std.specs.Str.Parse.{ParsesUnsigned, ParsesSigned, digits_value}
+use Rattle.std.proofs.lemmas.Bool.{both_ways}
 use Rattle.std.proofs.lemmas.Bool.{and_parts, and_from, eqb-true, eqb-false, false_from_ne_true}
 use Rattle.std.proofs.lemmas.Bool.{le-leb, leb-true, lt-ltb, ltb-true}
+use Rattle.std.proofs.lemmas.Str.Parse.{digits_value_short}
 use Rattle.std.proofs.lemmas.Str.Parse.{IsNumeralModel, numerals_by_value, tells_all_ascii_digits}
 use Rattle.std.proofs.lemmas.Str.Parse.{parse_plain, parse_signed_minus, parse_signed_plain}
 use Rattle.vb_command.specs.Listed.{index, number_to}
@@ -46,6 +56,60 @@ number_gives {E} w (Err e) h plain =
     let p = parse_plain decimal_digits {E = E} 64 w (Err e) h plain in
     let none = false_from_ne_true _ (λ t. p (number-facts w t)) in
     sym (ap (λ b. cond b (Some (digits_value 10 w)) None) none)
+
+-- a word of at most 19 digits writes a number that fits
+pub few_fit : (w : List ℕ) → 0 < length w → length w ≤ 19
+    → number w ≡ cond (all_ascii_digits w) (Some (digits_value 10 w)) None
+few_fit w some few = by (all_ascii_digits w) refl
+  where
+    by : (b : Bool) → all_ascii_digits w ≡ b
+        → number w ≡ cond b (Some (digits_value 10 w)) None
+    by true all =
+        let small = digits_value_short decimal_digits w 19 all few in
+        ap (λ b. cond b (Some (digits_value 10 w)) None)
+        (is_number-true w (all, some, omega (arith, small)))
+    by false none =
+        ap (λ b. cond b (Some (digits_value 10 w)) None)
+        (false_from_ne_true _ (λ t. both_ways _ none (number-facts w t).0))
+
+-- what a digit's code tells
+pub in_range : (c : ℕ) → is_ascii_digit c ≡ true → IsInRange 48 57 c
+in_range c is = grind (arith, nat_tests, is)
+
+-- one digit more
+pub few_more : (w : List ℕ) (n i : ℕ) → i < length w → is_ascii_digit (get_or w i 0) ≡ true
+    → n ≡ digits_value 10 (take i w)
+    → 10 * n + (get_or w i 0 - 48) ≡ digits_value 10 (take (i + 1) w)
+few_more w n i within is value =
+    let d = digit_value_digit (get_or w i 0) (in_range (get_or w i 0) is) in
+    let more = digits_value_more 10 w i within in
+    omega (arith, d, more, value)
+
+-- whether all are digits is told by the rest
+pub few_same : (w : List ℕ) (i : ℕ) → i < length w → is_ascii_digit (get_or w i 0) ≡ true
+    → all_ascii_digits (drop i w) ≡ all_ascii_digits (drop (i + 1) w)
+few_same w i within is =
+    ap all_ascii_digits (drop-cons w i 0 within)
+    ∙ ap (λ b. b && all_ascii_digits (drop (suc i) w)) is
+    ∙ (let next : suc i ≡ i + 1 = omega arith in ap (λ k. all_ascii_digits (drop k w)) next)
+
+-- where one is none, not all are
+pub few_other : (w : List ℕ) (i : ℕ) → i < length w → is_ascii_digit (get_or w i 0) ≡ false
+    → all_ascii_digits (drop i w) ≡ false
+few_other w i within is =
+    ap all_ascii_digits (drop-cons w i 0 within)
+    ∙ ap (λ b. b && all_ascii_digits (drop (suc i) w)) is
+
+-- the number stays small
+pub few_small : (n d i : ℕ) → n < 10 ^ i → d ≤ 9 → 10 * n + d < 10 ^ (i + 1)
+few_small n d i small digit =
+    let next : i + 1 ≡ suc i = omega arith in
+    let more : 10 ^ (i + 1) ≡ 10 ^ i * 10 = ap (λ k. 10 ^ k) next ∙ pow-suc 10 i in
+    omega (arith, more)
+
+-- and fits
+pub few_below : (n i : ℕ) → n < 10 ^ i → i ≤ 19 → n < 10 ^ 19
+few_below n i small few = omega (arith, pow-le-pow_right {n = 10} (omega arith) few)
 
 -- a limit is one more test of a number
 limit : (b : Bool) (v most : ℕ)
@@ -101,5 +165,8 @@ pub index_gives : {E : Type 0} (w : List ℕ) (r : Result ℤ E) → ParsesSigne
     → get_or w 0 0 ≢ 43 → result_ok r ≡ index w
 index_gives w r h plain = signed w r (get_or w 0 0 == 45) refl h plain
 
--- for `#[tactic(auto, using(..))]`: numbers and indices
+-- for `#[tactic(auto, using(..))]`: numbers of few digits
+pub ruleset few = (few_fit, few_more, few_same, few_other, few_small, few_below)
+
+-- numbers and indices
 pub ruleset numbers = (number_gives, index_gives)

@@ -3,6 +3,7 @@ pub mod Views
 pub mod Printed
 pub mod Optional
 pub mod Words
+pub mod Spaces
 pub mod Hex
 pub mod Listed
 pub mod Arguments

@@ -17,6 +17,6 @@ pub use answer::Answer;
 pub use command::Command;
 pub use mode::Mode;
 pub use print::Printer;
-pub use read::command_of;
+pub use read::{command_of, command_within};
 pub use refusal::Refusal;
 pub use unread::Unread;

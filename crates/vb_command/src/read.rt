@@ -6,8 +6,9 @@ mod line;
 mod listed;
 mod mode;
 mod number;
+mod spaces;
 mod split;
 mod truth;
 mod words;
 
-pub use line::command_of;
+pub use line::{command_of, command_within};

@@ -9,3 +9,5 @@ mod compared;
 mod lines;
 #[cfg(test)]
 mod shown;
+#[cfg(test)]
+mod within;

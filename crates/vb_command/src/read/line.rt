@@ -1,44 +1,68 @@
 //! Lines as commands.
-ghost use Rattle.std.specs.Prelude.{◌≡◌, true, false, MatchOption, option_map, IsErrOf, IsTrue};
+ghost use Rattle.std.specs.Prelude.{◌≡◌, ◌≤◌, true, false, length, take, MatchOption, option_map};
+ghost use Rattle.std.specs.Prelude.{IsErrOf, IsTrue};
+ghost use Rattle.std.specs.Str.{IsAscii};
 ghost use Rattle.vb_command.specs.Words.{line_words};
 ghost use Rattle.vb_command.specs.Reading.{Gives, all_ascii, request_of, asks_memory, reading};
 ghost use Rattle.vb_command.specs.Machine.{order_of};
 
 use crate::command::Command;
 use crate::read::arguments::arguments;
+use crate::read::spaces::{NEAR, spaces_of_ascii};
 use crate::read::words::Words;
 use crate::unread::Unread;
 use std::alloc::Allocator;
 
-/// The line as a text, if it is ASCII.
+/// The words of the first `len` of these bytes, if they are ASCII. Those of a few bytes are found
+/// at once, where enough stand behind them.
+#[inline(always)]
 #[tactic(auto, using(crate::proofs::Lines::ascii))]
-fn ascii_text(line: &[u8]) -> Option<&str>
+fn words_within(bytes: &[u8], len: usize) -> Option<Words<'_>>
+    requires { len ≤ length bytes.now }
     ensures { MatchOption result
-        (all_ascii line.now ≡ false)
-        (λ text. (all_ascii line.now ≡ true) × (text.now ≡ line.now)) }
+        (all_ascii (take len bytes.now) ≡ false)
+        (λ words. (all_ascii (take len bytes.now) ≡ true)
+        × (words ≡ line_words (take len bytes.now))) }
 {
+    let line = &bytes[..len];
+    if len <= NEAR && NEAR <= bytes.len() {
+        if let Some(spaces) = spaces_of_ascii(bytes, len) {
+            return Some(Words::between(known_text(line), spaces));
+        }
+    }
     if !line.is_ascii() {
         return None;
     }
-    // ASCII is UTF-8, as is proved here, and so the line isn't looked at again.
-    Some(unsafe { std::str::from_utf8_unchecked(line) })
+    Some(Words::new(known_text(line)))
 }
 
-/// What the words of a text ask for.
-#[tactic(auto, unfolding(crate::specs::Reading::request_of))]
-fn request<A: Allocator + Clone>(alloc: &A, text: &str) -> Result<Option<Command<A>>, Unread>
-    ensures read { Gives (option_map order_of) result (request_of (line_words text.now)) }
-    ensures memory { IsErrOf result Unread.Memory →
-        IsTrue (asks_memory (request_of (line_words text.now))) }
+/// The text of ASCII bytes. ASCII is UTF-8, as is proved here, and so it isn't looked at again.
+#[inline(always)]
+#[tactic(auto, using(crate::proofs::Lines::ascii))]
+fn known_text(line: &[u8]) -> &str
+    requires { IsAscii line.now }
+    ensures { result.now ≡ line.now }
 {
-    let mut words = Words::new(text);
+    unsafe { std::str::from_utf8_unchecked(line) }
+}
+
+/// What words ask for.
+#[tactic(auto, unfolding(crate::specs::Reading::request_of))]
+fn request<A: Allocator + Clone>(
+    alloc: &A,
+    words: &mut Words<'_>,
+) -> Result<Option<Command<A>>, Unread>
+    ensures read { Gives (option_map order_of) result (request_of words.old) }
+    ensures memory { IsErrOf result Unread.Memory →
+        IsTrue (asks_memory (request_of words.old)) }
+{
     let Some(name) = words.next() else {
         return Ok(None);
     };
     if name.starts_with('#') {
         return Ok(None);
     }
-    Ok(Some(arguments(alloc, name, &mut words)?))
+    Ok(Some(arguments(alloc, name, words)?))
 }
 
 /// Reads a line: the command that it asks for, or `None` where it has no words or is a comment.
@@ -68,6 +92,21 @@ pub fn command_of<A: Allocator + Clone>(
     ensures read { Gives (option_map order_of) result (reading line.now) }
     ensures memory { IsErrOf result Unread.Memory → IsTrue (asks_memory (reading line.now)) }
 {
-    let text = ascii_text(line).ok_or(Unread::Unreadable)?;
-    request(alloc, text)
+    command_within(alloc, line, line.len())
+}
+
+/// Reads a line as [`command_of`] does: the first `len` of these bytes. Where bytes stand behind a
+/// short line it is read sooner, since it is looked at in one step that takes them too.
+pub fn command_within<A: Allocator + Clone>(
+    alloc: &A,
+    bytes: &[u8],
+    len: usize,
+) -> Result<Option<Command<A>>, Unread>
+    requires { len ≤ length bytes.now }
+    ensures read { Gives (option_map order_of) result (reading (take len bytes.now)) }
+    ensures memory { IsErrOf result Unread.Memory →
+        IsTrue (asks_memory (reading (take len bytes.now))) }
+{
+    let mut words = words_within(bytes, len).ok_or(Unread::Unreadable)?;
+    request(alloc, &mut words)
 }

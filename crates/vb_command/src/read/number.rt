@@ -1,6 +1,13 @@
 //! Numbers that are written in decimal.
+ghost use Rattle.std.specs.Prelude.{◌<◌, ◌≤◌, length};
+ghost use Rattle.vb_command.specs.Reading.{Tells};
+ghost use Rattle.vb_command.specs.Words.{number};
+
 use crate::read::field::Field;
 use crate::unread::Unread;
+
+/// How many digits a number has at most that needs no test for overflow.
+const FEW: usize = 19;
 
 /// Unlike `parse`, it takes no `+`.
 #[tactic(auto, using(crate::proofs::NumberWords::numbers))]
@@ -9,12 +16,47 @@ impl Field for usize {
 
     ghost written = { number };
 
+    /// Most slots and truth values are written by one digit, for which there is no call.
+    #[inline(always)]
     fn read(word: &str) -> Result<usize, Unread> {
-        if word.starts_with('+') {
+        if word.len() == 1 {
+            return few_digits(word.as_bytes());
+        }
+        digits(word)
+    }
+}
+
+/// The number that a word writes.
+#[inline(never)]
+#[tactic(auto, using(crate::proofs::NumberWords::numbers))]
+fn digits(word: &str) -> Result<usize, Unread>
+    ensures { Tells (λ n. n) result (number word.now) }
+{
+    if !word.is_empty() && word.len() <= FEW {
+        return few_digits(word.as_bytes());
+    }
+    if word.starts_with('+') {
+        return Err(Unread::Unreadable);
+    }
+    word.parse().map_err(|_| Unread::Unreadable)
+}
+
+/// The number that so few bytes write that it fits.
+#[inline(always)]
+#[tactic(auto, using(crate::proofs::NumberWords::few))]
+fn few_digits(bytes: &[u8]) -> Result<usize, Unread>
+    requires some { 0 < length bytes.now }
+    requires few { length bytes.now ≤ FEW }
+    ensures { Tells (λ n. n) result (number bytes.now) }
+{
+    let mut n = 0;
+    for byte in bytes {
+        if !byte.is_ascii_digit() {
             return Err(Unread::Unreadable);
         }
-        word.parse().map_err(|_| Unread::Unreadable)
+        n = 10 * n + (*byte - b'0') as usize;
     }
+    Ok(n)
 }
 
 /// A number, or `-` for none.

@@ -1,7 +1,9 @@
 //! The words of a line: its parts between spaces that aren't empty.
 ghost use Rattle.std.specs.Prelude.{◌≡◌, [], ◌∷◌, MatchOption};
 ghost use Rattle.vb_command.specs.Words.{line_words};
+ghost use Rattle.vb_command.specs.Spaces.{AreSpaces};
 
+use crate::read::spaces::cut_at_space;
 use crate::read::split::split_short;
 use std::marker::Model;
 
@@ -9,15 +11,20 @@ use std::marker::Model;
 #[derive(Drop)]
 pub(crate) struct Words<'a> {
     rest: &'a str,
+    /// Where its spaces are, if that is known: the lowest bit is the first byte's.
+    spaces: Option<u64>,
 }
 
 impl<'a> Model for Words<'a> {
-    ghost use Rattle.std.specs.Prelude.{ℕ, List};
+    ghost use Rattle.std.specs.Prelude.{ℕ, List, IfSome};
+    ghost use Rattle.vb_command.specs.Spaces.{AreSpaces};
     ghost use Rattle.vb_command.specs.Words.{line_words};
 
     ghost Value = { List (List ℕ) };
 
     ghost view = { λ w. line_words w.rest.now };
+
+    ghost invariant = { λ w. IfSome w.spaces (AreSpaces w.rest.now) };
 }
 
 impl<'a> Words<'a> {
@@ -25,18 +32,67 @@ impl<'a> Words<'a> {
     pub(crate) fn new(text: &'a str) -> Self
         ensures { result ≡ line_words text.now }
     {
-        Words { rest: text }
+        Words {
+            rest: text,
+            spaces: None,
+        }
+    }
+
+    /// The words of a text whose spaces are known.
+    #[inline(always)]
+    pub(crate) fn between(text: &'a str, spaces: u64) -> Self
+        requires { AreSpaces text.now spaces }
+        ensures { result ≡ line_words text.now }
+    {
+        Words {
+            rest: text,
+            spaces: Some(spaces),
+        }
     }
 
     /// The next word, if there is one.
+    #[inline(always)]
     pub(crate) fn next(&mut self) -> Option<&'a str>
         ensures { MatchOption result
             (self.old ≡ [])
             (λ word. self.old ≡ word.now ∷ self.new) }
     {
+        if let Some(spaces) = self.spaces {
+            let (word, rest, left) = next_between(self.rest, spaces)?;
+            self.rest = rest;
+            self.spaces = Some(left);
+            return Some(word);
+        }
         let (word, rest) = next_word(self.rest)?;
         self.rest = rest;
         Some(word)
+    }
+}
+
+/// The first word of a text whose spaces are known, what follows it, and the spaces in that.
+#[inline(always)]
+#[tactic(auto, using(crate::proofs::WordLists::parts))]
+fn next_between(text: &str, spaces: u64) -> Option<(&str, &str, u64)>
+    requires { AreSpaces text.now spaces }
+    ensures { MatchOption result
+        (line_words text.now ≡ [])
+        (λ (word, rest, left). (line_words text.now ≡ word.now ∷ line_words rest.now)
+        × AreSpaces rest.now left) }
+{
+    let mut rest = text;
+    let mut left = spaces;
+    while left != 0 {
+        let (part, after, spaces) = cut_at_space(rest, left);
+        if !part.is_empty() {
+            return Some((part, after, spaces));
+        }
+        rest = after;
+        left = spaces;
+    }
+    if rest.is_empty() {
+        None
+    } else {
+        Some((rest, "", 0))
     }
 }
 
