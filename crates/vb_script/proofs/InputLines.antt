@@ -1,15 +1,18 @@
 -- The lines of an input, one line feed after the other.
-use Rattle.std.proofs.Common.{◌≡◌, ℕ, suc, ◌+◌, ◌<◌, ◌≤◌, false, cond, List, [], ◌∷◌, ◌++◌, length}
+use mathlib.Core.Logic.{inl, inr}
+use Rattle.std.proofs.Common.{◌≡◌, ℕ, suc, ◌+◌, ◌-◌, ◌<◌, ◌≤◌, false, cond, List, []}
+use Rattle.std.proofs.Common.{◌∷◌, ◌++◌, length}
 use Rattle.std.proofs.Common.{get_or, take, drop, refl, sym, ap, ◌∙◌, Some, None, arith, eqb}
 use Rattle.std.proofs.Common.{add-one}
 use Rattle.std.specs.Prelude.{position, count_by}
 use Rattle.std.specs.List.{All, slice_split, position_or_len}
 use Rattle.std.specs.Str.Lines.{lines, lines_of_parts, strip_carriage_return}
-use Rattle.std.proofs.lemmas.List.{get_or-take}
+use Rattle.std.proofs.Math.ListN.{get_or-eq_default}
+use Rattle.std.proofs.lemmas.List.{get_or-take, length-take-le, take-take}
 use Rattle.std.proofs.lemmas.List.Quantifiers.{position-Some}
 use Rattle.std.proofs.lemmas.List.Splits.{slice_split_none, slice_split_at, length-slice_split}
 use Rattle.std.proofs.lemmas.List.Sums.{fails_before_first, sum_by-append}
-use Rattle.std.proofs.lemmas.Bool.{eqb-true, ne_eqb}
+use Rattle.std.proofs.lemmas.Bool.{eqb-true, eq-eqb, ne_eqb, cases_lt}
 use Rattle.std.proofs.lemmas.Grind.{common_steps}
 use Rattle.std.proofs.Math.Seq.{split_at}
 
@@ -20,6 +23,37 @@ IsWithinLine bytes = All (λ b. eqb b 10 ≡ false) bytes
 -- how many line feeds there are
 abbrev pub line_feeds : List ℕ → ℕ
 line_feeds bytes = count_by (λ b. eqb b 10) bytes
+
+-- a line without the carriage return at its end
+pub strip-cut : (bytes : List ℕ) (at : ℕ) → at ≤ length bytes → 0 < at
+    → get_or bytes (at - 1) 0 ≡ 13
+    → take (at - 1) bytes ≡ strip_carriage_return (take at bytes)
+strip-cut bytes at within some return =
+    let line : List ℕ = take at bytes in
+    let size : length line ≡ at = length-take-le at bytes within in
+    let last : get_or line (length line - 1) 0 ≡ 13 =
+    rw size (get_or-take at bytes (at - 1) 0 (omega arith) ∙ return) in
+    sym (ap (λ b. cond b (take (length line - 1) line) line) (eq-eqb _ _ last)
+    ∙ ap (λ n. take (n - 1) line) size ∙ take-take (at - 1) at bytes (omega arith))
+
+-- and one that has none there
+pub strip-whole : (bytes : List ℕ) (at : ℕ) → at ≤ length bytes
+    → (0 < at → get_or bytes (at - 1) 0 ≡ 13 → ⊥)
+    → take at bytes ≡ strip_carriage_return (take at bytes)
+strip-whole bytes at within other =
+    let line : List ℕ = take at bytes in
+    let size : length line ≡ at = length-take-le at bytes within in
+    sym (ap (λ b. cond b (take (length line - 1) line) line)
+    (ne_eqb (get_or line (length line - 1) 0) 13 (elim (cases_lt 0 at) [
+      | inl some ↦ λ is. other some (sym (get_or-take at bytes (at - 1) 0 (omega arith))
+          ∙ (rw size at is))
+      | inr none ↦ λ is.
+          let past : length line ≤ length line - 1 = omega (arith, size) in
+          absurd (omega (arith, is, get_or-eq_default line 0 past))
+    ])))
+
+-- for `#[tactic(auto, using(..))]`: where a line ends
+pub ruleset fronts = (strip-cut, strip-whole)
 
 lines_of_parts-cons : (x : List ℕ) (parts : List (List ℕ)) → 0 < length parts
     → lines_of_parts (x ∷ parts) ≡ strip_carriage_return x ∷ lines_of_parts parts

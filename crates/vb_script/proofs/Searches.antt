@@ -1,12 +1,14 @@
 -- Searches that go on where an earlier one ended.
 use Rattle.std.proofs.Common.{◌≡◌, ℕ, zero, suc, ◌+◌, ◌<◌, ◌≤◌, Bool, true, false, cond, List, []}
+use Rattle.std.proofs.Common.{take, get_or}
 use Rattle.std.proofs.Common.{◌∷◌, ◌++◌, length, drop, sym, ap, ◌∙◌, Option, Some, None, arith}
 use Rattle.std.proofs.Common.{lt-ltb, ⊎_elim}
 use Rattle.std.specs.Prelude.{position, option_map}
 use Rattle.std.specs.List.{prefix_len, position_or_len}
 use Rattle.std.proofs.lemmas.Bool.{cases_lt, false_from_ne_true, le-ltb}
-use Rattle.std.proofs.lemmas.List.{length-drop}
+use Rattle.std.proofs.lemmas.List.{length-drop, length-take-le, get_or-take}
 use Rattle.std.proofs.lemmas.List.Sums.{position_or_len_is, prefix_len-le-length}
+use Rattle.std.proofs.lemmas.List.Sums.{fails_before_first, passes_at_first}
 use Rattle.memchr.specs.Find.{IsFirstByte}
 
 drop_one : (p : ℕ → Bool) (b : Bool) (x : ℕ) (xs : List ℕ) (n : ℕ)
@@ -80,8 +82,22 @@ position-IsFirstByte p xs (Some k) h =
     (λ i lt. false_from_ne_true _ (h.0.before i (omega arith) lt)) (λ lt. h.1) in
     sym (position_before p xs (omega (arith, here, h.0.high)) ∙ ap Some here)
 
+-- a search of a first part that ends within it
+pub position-near : (p : ℕ → Bool) (xs : List ℕ) (n k : ℕ) → n ≤ length xs
+    → k ≡ position_or_len p (take n xs) → k < n → Some k ≡ position p xs
+position-near p xs n k within is lt =
+    let front : List ℕ = take n xs in
+    let size : length front ≡ n = length-take-le n xs within in
+    let inside : position_or_len p front < length front = omega (arith, is) in
+    let there : p (get_or front k 0) ≡ true = rw is (passes_at_first p front 0 inside) in
+    let here : position_or_len p xs ≡ k = position_or_len_is p xs k 0 (omega arith)
+    (λ i less. ap p (sym (get_or-take n xs i 0 (omega arith)))
+    ∙ fails_before_first p front i 0 (omega (arith, is)))
+    (λ _. ap p (sym (get_or-take n xs k 0 lt)) ∙ there) in
+    sym (position_before p xs (omega (arith, here)) ∙ ap Some here)
+
 -- for `#[tactic(auto, using(..))]`: searches for a line feed
 pub ruleset searches = (position_or_len-le, position_or_len-le-append, position-drop)
 
 -- the same of what `memchr` answers
-pub ruleset first_byte = (position-IsFirstByte, position_or_len-le)
+pub ruleset first_byte = (position-IsFirstByte, position_or_len-le, position-near)

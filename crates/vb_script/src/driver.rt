@@ -1,5 +1,5 @@
 //! The whole of an input, line by line.
-ghost use Rattle.std.specs.Prelude.{◌≡◌, ◌<◌, [], length, IfErr, IfOk, OnOk};
+ghost use Rattle.std.specs.Prelude.{◌≡◌, ◌<◌, ◌≤◌, [], length, take, IfErr, IfOk, OnOk};
 ghost use Rattle.std.specs.Io.KnownBytes.{append_known, Appends};
 ghost use Rattle.vb_command.specs.Machine.{empty_slots};
 ghost use Rattle.vb_script.specs.DriveError.{FailsReads, FailsWrites, UnlessWrite};
@@ -8,7 +8,7 @@ ghost use Rattle.vb_script.specs.Session.{IsUnread};
 
 use crate::error::DriveError;
 use crate::feed::Feed;
-use crate::lines::{line_ready, without_carriage_return};
+use crate::lines::{line_len, line_ready};
 use crate::outbox::Outbox;
 use crate::session::Session;
 use crate::sink::Sink;
@@ -88,8 +88,8 @@ fn answer_all<A: Allocator + Clone, R: Source, W: Sink>(
 {
     let mut number = 1;
     while let Some(at) = line_ready(feed, out, input, output)? {
-        let line = without_carriage_return(&feed.as_slice()[..at]);
-        answer_line(session, line, number, out, output)?;
+        let bytes = feed.as_slice();
+        answer_line(session, bytes, line_len(bytes, at), number, out, output)?;
         feed.consume(at + 1);
         number += 1;
     }
@@ -112,28 +112,31 @@ fn answer_last<A: Allocator + Clone, W: Sink>(
     ensures writes { FailsWrites result (W.faults output.old) (W.faults output.new) }
 {
     if !line.is_empty() {
-        answer_line(session, line, number, out, output)?;
+        answer_line(session, line, line.len(), number, out, output)?;
     }
     out.flush(output).map_err(|_| DriveError::Write)
 }
 
-/// Answers the line of this number, which comes without its line feed. Where it gives no command,
-/// what waits is written.
+/// Answers the line of this number: the first `len` of these bytes, without its line feed. Where it
+/// gives no command, what waits is written.
 fn answer_line<A: Allocator + Clone, W: Sink>(
     session: &mut Session<A>,
-    line: &[u8],
+    bytes: &[u8],
+    len: usize,
     number: u64,
     out: &mut Outbox<A>,
     output: &mut W,
 ) -> Result<(), DriveError>
-    ensures ok { OnOk result (AnswersLine line.now number session.old.pool session.new.pool
+    requires { len ≤ length bytes.now }
+    ensures ok { OnOk result (AnswersLine (take len bytes.now) number
+        session.old.pool session.new.pool
         (append_known (W.contents output.old) out.old)
         (append_known (W.contents output.new) out.new)) }
-    ensures err { UnlessWrite result (IfErr result (λ why. IsUnread line.now number why
+    ensures err { UnlessWrite result (IfErr result (λ why. IsUnread (take len bytes.now) number why
         × Appends (W.contents output.old) (W.contents output.new) out.old)) }
     ensures writes { FailsWrites result (W.faults output.old) (W.faults output.new) }
 {
-    match session.answer(line, number) {
+    match session.answer(bytes, len, number) {
         Ok(Some(answer)) => {
             let pushed = out.push(&answer, output);
             drop(answer);

@@ -13,9 +13,13 @@ use crate::source::Source;
 use memchr::memchr;
 use std::alloc::{AllocError, Allocator};
 use std::marker::Model;
+use std::simd::prelude::*;
 
 /// How many bytes there is room for at first.
 const CHUNK: usize = 65536;
+
+/// How many bytes are looked at at once for a line feed.
+const NEAR: usize = 32;
 
 /// The bytes that were read and aren't used yet. Contracts see the list of them.
 #[derive(Drop)]
@@ -129,12 +133,34 @@ fn line_feed_from(bytes: &[u8], searched: usize) -> Option<usize>
     }
 }
 
-/// The place of the first line feed.
+/// The place of the first line feed. Most lines are short, so some bytes are looked at first.
 #[tactic(auto, using(crate::proofs::Searches::first_byte))]
 fn line_feed(bytes: &[u8]) -> Option<usize>
     ensures { result ≡ position (λ b. b == 10) bytes.now }
 {
+    if bytes.len() >= NEAR {
+        let at = line_feed_near(bytes);
+        if at < NEAR {
+            return Some(at);
+        }
+    }
     memchr(b'\n', bytes)
+}
+
+/// The place of the first line feed among the `NEAR` bytes at the front, or `NEAR`.
+#[inline(always)]
+fn line_feed_near(bytes: &[u8]) -> usize
+    requires { NEAR ≤ length bytes.now }
+    ensures { result ≡ position_or_len (λ b. b == 10) (take NEAR bytes.now) }
+{
+    let found = u8x32::from_slice(bytes)
+        .simd_eq(u8x32::splat(b'\n'))
+        .to_bitmask();
+    if found == 0 {
+        NEAR
+    } else {
+        found.trailing_zeros() as usize
+    }
 }
 
 /// Moves the bytes from `start` up to `end` to the front.

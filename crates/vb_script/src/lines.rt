@@ -1,5 +1,6 @@
 //! Lines of the input, as they come.
-ghost use Rattle.std.specs.Prelude.{◌≡◌, ◌==◌, ℕ, None, position, IfErr, IfOk, OnOk};
+ghost use Rattle.std.specs.Prelude.{◌≡◌, ◌≤◌, ◌==◌, ℕ, None, length, take, position};
+ghost use Rattle.std.specs.Prelude.{IfErr, IfOk, OnOk};
 ghost use Rattle.std.specs.Io.KnownBytes.{append_known, prepend_known, Appends, IsAtEnd, Keeps};
 ghost use Rattle.std.specs.Str.Lines.{strip_carriage_return};
 ghost use Rattle.vb_script.specs.DriveError.{FailsReading, FailsReads, FailsWrites, UnlessWrite};
@@ -45,12 +46,17 @@ pub(crate) fn line_ready<A: Allocator, R: Source, W: Sink>(
     }
 }
 
-/// The line without the carriage return at its end.
-pub(crate) fn without_carriage_return(line: &[u8]) -> &[u8]
-    ensures { result.now ≡ strip_carriage_return line.now }
+/// How many bytes the line has whose line feed is at this place, without the carriage return before
+/// that.
+#[tactic(auto, using(crate::proofs::InputLines::fronts))]
+pub(crate) fn line_len(bytes: &[u8], at: usize) -> usize
+    requires { at ≤ length bytes.now }
+    ensures line { take result bytes.now ≡ strip_carriage_return (take at bytes.now) }
+    ensures within { result ≤ length bytes.now }
 {
-    match line {
-        [front @ .., b'\r'] => front,
-        _ => line,
+    if at > 0 && bytes[at - 1] == b'\r' {
+        at - 1
+    } else {
+        at
     }
 }

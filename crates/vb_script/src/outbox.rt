@@ -165,6 +165,8 @@ impl<A: Allocator, W: Sink> Printer<W> for Outbox<A> {
         self.put(b"\n", output)
     }
 
+    /// It is no call, so that words of a known length are stored and not copied by one.
+    #[inline(always)]
     #[tactic(auto, using(crate::proofs::KnownBytes::known_bytes))]
     fn put_last_words(&mut self, words: &str, output: &mut W) -> Result<(), Fault> {
         if words.len() >= ROOM - self.bytes.len() {

@@ -1,5 +1,6 @@
 //! What the lines of an input are run on.
-ghost use Rattle.std.specs.Prelude.{◌≡◌, ◌<◌, ◌-◌, ◌^◌, option_map, IfErr, IfOk, OnErr, OnOk};
+ghost use Rattle.std.specs.Prelude.{◌≡◌, ◌<◌, ◌≤◌, ◌-◌, ◌^◌, length, take, option_map};
+ghost use Rattle.std.specs.Prelude.{IfErr, IfOk, OnErr, OnOk};
 ghost use Rattle.vb_command.specs.Machine.{empty_slots};
 ghost use Rattle.vb_command.specs.Reading.{reading};
 ghost use Rattle.vb_command.specs.Views.{reply};
@@ -7,7 +8,7 @@ ghost use Rattle.vb_script.specs.Session.{IsUnread, RepliesTo};
 
 use crate::error::DriveError;
 use std::alloc::Allocator;
-use vb_command::{Answer, Unread, command_of};
+use vb_command::{Answer, Unread, command_within};
 use vb_pool::Pool;
 
 /// The slots of a session, and the allocator that their sets are made with.
@@ -29,26 +30,29 @@ impl<A: Allocator + Clone> Session<A> {
     }
 
     /// Reads the line of this number, carries out its command and answers it; a line that asks for
-    /// nothing has no answer. The line comes without its line feed.
+    /// nothing has no answer. The line is the first `len` of these bytes, without its line feed.
     ///
     /// Refused by `Unreadable`, where the line is no command or its number is 18446744073709551615,
     /// and by `Memory`, where that is refused to read it. Then nothing changes.
+    #[inline(always)]
     pub(crate) fn answer(
         &mut self,
-        line: &[u8],
+        bytes: &[u8],
+        len: usize,
         number: u64,
     ) -> Result<Option<Answer<A>>, DriveError>
-        ensures ok { IfOk result (λ answer. RepliesTo (reading line.now)
+        requires { len ≤ length bytes.now }
+        ensures ok { IfOk result (λ answer. RepliesTo (reading (take len bytes.now))
             self.old.pool (option_map reply answer) self.new.pool) }
         ensures numbered { OnOk result (number < 2 ^ 64 - 1) }
         ensures same { OnErr result (self.new.pool ≡ self.old.pool) }
-        ensures err { IfErr result (IsUnread line.now number) }
+        ensures err { IfErr result (IsUnread (take len bytes.now) number) }
     {
         let unreadable = DriveError::Unreadable { line: number };
         if number == u64::MAX {
             return Err(unreadable);
         }
-        match command_of(&self.alloc, line) {
+        match command_within(&self.alloc, bytes, len) {
             Ok(Some(command)) => Ok(Some(self.pool.serve_owned(&self.alloc, command))),
             Ok(None) => Ok(None),
             Err(Unread::Unreadable) => Err(unreadable),

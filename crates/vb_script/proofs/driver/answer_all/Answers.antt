@@ -34,8 +34,8 @@ returns-in_err-answer_line-clause-ends g c =
     let remaining = g.R.Source.remaining in
     let contents = g.W.Sink.contents in
     let some : c.in_ok-at.field-0 ≡ Some c.in-Some.at = search rules in
-    let line = c.without_carriage_return-line.ensures
-    ∙ ap (λ xs. strip_carriage_return (take c.in-Some.at xs)) c.as_slice.ensures in
+    let line = c.line_len.ensures.line
+    ∙ ap (λ xs. strip_carriage_return (take c.in-Some.at xs)) c.as_slice-bytes.ensures in
     let q = err_from_is_err_and c.from_residual-in_err-answer_line.result
     c.from_residual-in_err-answer_line.ensures.1 in
     rw (q.1, q.2) (IfSome-known _ _ (λ input e.
@@ -63,8 +63,8 @@ returns-clause-ends g c =
     Progress-ends l.number r.feed (remaining r.input) (contents r.output) r.out l.session.pool
     (contents s.output) s.session.pool c.answer_last.result p
     (rw none at c.in_ok-at.ensures.ready) (c.in_ok-at.ensures.end none)
-    (rw c.as_slice-2.ensures at c.answer_last.ensures.ok)
-    (rw c.as_slice-2.ensures at c.answer_last.ensures.err))
+    (rw c.as_slice.ensures at c.answer_last.ensures.ok)
+    (rw c.as_slice.ensures at c.answer_last.ensures.err))
 
 pub returns-clause-ran : goal.returns-clause-ran
 returns-clause-ran g c =
@@ -90,8 +90,8 @@ loop-at-preserved g c =
     let old = append_known (contents r.output) r.out in
     let now = append_known (contents s.output) s.out in
     let some : c.in_ok-at.field-0 ≡ Some c.in-Some.at = search rules in
-    let line = c.without_carriage_return-line.ensures
-    ∙ ap (λ xs. strip_carriage_return (take c.in-Some.at xs)) c.as_slice.ensures in
+    let line = c.line_len.ensures.line
+    ∙ ap (λ xs. strip_carriage_return (take c.in-Some.at xs)) c.as_slice-bytes.ensures in
     record {
       far = λ input e.
           let p = Progress-Keeps l.number l.session.pool l.feed (remaining l.input)
