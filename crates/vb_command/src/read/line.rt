@@ -95,8 +95,9 @@ pub fn command_of<A: Allocator + Clone>(
     command_within(alloc, line, line.len())
 }
 
-/// Reads a line as [`command_of`] does: the first `len` of these bytes. Where bytes stand behind a
-/// short line it is read sooner, since it is looked at in one step that takes them too.
+/// Reads a line as [`command_of`] does: the first `len` of these bytes, which has to be at most
+/// their number. What stands behind the line changes no answer; but a line of at most 32 bytes is
+/// read sooner where 32 are there, since its words are then found by one comparison of as many.
 pub fn command_within<A: Allocator + Clone>(
     alloc: &A,
     bytes: &[u8],
