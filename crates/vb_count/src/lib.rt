@@ -1,7 +1,7 @@
 //! Counts of the true bits of a window, by looks that are counted.
 //!
-//! A window is the `len` bits from bit `offset` on. It has to lie in the bytes, and its end has to
-//! be a `usize`; `vb_bits::window_fits` is the test. Counts are of bits.
+//! A window is the `len` bits from bit `offset` on, least significant first. It has to lie in the
+//! bytes, and its end has to be a `usize`; `vb_bits::window_fits` is the test. Counts are of bits.
 //!
 //! Counting reads a [`Glance`], a source of bytes that counts its reads: see [`count_ones_by`] for
 //! the exact number, and [`most_looks`] for a bound on it.

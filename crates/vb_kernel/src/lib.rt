@@ -1,8 +1,8 @@
 //! Counts and selects of the bits of a window, by looks that are counted.
 //!
-//! A window is the `len` bits from bit `offset` on. It has to lie in the bytes, and its end has to
-//! be a `usize`; [`window_fits`] is the test. Places and counts are of bits, relative to the
-//! window.
+//! A window is the `len` bits from bit `offset` on, least significant first. It has to lie in the
+//! bytes, and its end has to be a `usize`; [`window_fits`] is the test. Places and counts are of
+//! bits, relative to the window.
 //!
 //! Counting and selecting read a [`Glance`], a source of bytes that counts its reads: see
 //! [`count_ones_by`] for the exact number, and [`most_looks`] for a bound on it. The calls of

@@ -247,9 +247,10 @@ impl<A: Allocator + Clone> BitBufferMut<A> {
     /// A view that writes the bits, in constant time. It borrows the set: when it ends, the set has
     /// the bits and bytes that the view has then; offset, number of bytes, alignment and room stay,
     /// and so does each bit of the bytes that isn't one of the set's. Clause `lends` says that the
-    /// view writes to this very `&mut`; what a write makes of it the clauses of [`BitStore`] say.
-    /// In contracts the view's bytes are those of the set, and the place of its first bit in them
-    /// is the set's offset, which may be 8 or more; the view's `offset()` answers it modulo 8.
+    /// view writes to this very `&mut`, and so that its bytes are those of the set; what a write
+    /// makes of it the clauses of [`BitStore`] say. Clause `window` says that its bits are those of
+    /// the set and the first of them is at the set's offset, which may be 8 or more; the view's
+    /// `offset()` answers it modulo 8.
     pub fn as_mut_view(&mut self) -> BitBufferMutView<&mut BitBufferMut<A>>
         ensures lends { IsSameReference (store_of result) self.entry }
         ensures window { ShowsWindow self.old.offset self.old.bits result }

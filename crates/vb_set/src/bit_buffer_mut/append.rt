@@ -125,7 +125,8 @@ impl<A: Allocator + Clone> BitBufferMut<A> {
     /// Refused by `TooManyBits` where offset, length and `n` together pass `usize::MAX`, else by
     /// `OutOfMemory` alone. In both cases the set and its room are unchanged. Where the length and
     /// `n` together are at most [`capacity`](Self::capacity), it takes no memory, succeeds, and the
-    /// capacity stays. When it succeeds and how it is refused clause `needs` says.
+    /// capacity stays. When it succeeds, how it is refused, and that nothing changes then, clause
+    /// `needs` says.
     pub fn append_n(&mut self, v: bool, n: usize) -> Result<()>
         ensures ok { OnOk result (AddsBits (replicate n v) self.old self.new) }
         ensures grows { KeepsStart self.old self.new }
