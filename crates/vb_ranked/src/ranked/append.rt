@@ -1,6 +1,6 @@
 //! Room, and bits added at the end.
 ghost use Rattle.std.specs.Prelude.{◌≡◌, ◌+◌, ◌%◌, ◌^◌, ◌<◌, ◌≤◌, ◌∷◌, [], length, replicate};
-ghost use Rattle.std.specs.Prelude.{IsOk, IsOkUnless, IsErrOf, OnOk, OnErr};
+ghost use Rattle.std.specs.Prelude.{true, false, IsOk, IsOkUnless, IsErrOf, OnOk, OnErr};
 ghost use Rattle.vb_ranked.specs.Counted.{NeedsCountedBits};
 ghost use Rattle.vb_set.specs.OpenSet.{AddsBits, KeepsStart};
 ghost use Rattle.vb_set.specs.View.{bits_of};
@@ -54,17 +54,53 @@ impl<A: Allocator + Clone> Ranked<A> {
             → IsErrOf result BufferError.TooManyBits }
         ensures err { OnErr result (self.new ≡ self.old) }
     {
-        if self.set.len() % BLOCK_BITS == 0 {
-            return self.begin_block(v);
-        }
-        if self.set.append_within_bytes(v) {
+        if self.set.len() % BLOCK_BITS > 0 && self.set.append_within_bytes(v) {
             return Ok(());
         }
-        self.begin_byte(v)
+        if self.begin(v) {
+            return Ok(());
+        }
+        Err(self.why_full())
+    }
+
+    /// [`append`](Self::append) of a bit that begins a block or a byte: whether it was added. It
+    /// stands apart, so that the other bits save no registers for what only these call; and it
+    /// answers no error, for which the loop of a caller would clear room at each bit.
+    #[inline(never)]
+    fn begin(&mut self, v: bool) -> bool
+        ensures added { result ≡ true → AddsBits (v ∷ []) self.old self.new }
+        ensures grows { KeepsStart self.old self.new }
+        ensures in_room { 0 < length self.old.bits → length self.old.bits + 1 ≤ self.old.room
+            → result ≡ true }
+        ensures stays { length self.old.bits + 1 ≤ self.old.room
+            → self.new.room ≡ self.old.room }
+        ensures too_many { 2 ^ 64 ≤ self.old.offset + length self.old.bits + 1 → result ≡ false }
+        ensures refused { result ≡ false → self.new ≡ self.old }
+    {
+        let added = if self.set.len() % BLOCK_BITS == 0 {
+            self.begin_block(v)
+        } else {
+            self.begin_byte(v)
+        };
+        added.is_ok()
+    }
+
+    /// Why a bit can't be added.
+    fn why_full(&self) -> BufferError
+        ensures fits { self.now.offset + length self.now.bits + 1 < 2 ^ 64
+            → result ≡ BufferError.OutOfMemory }
+        ensures too_many { 2 ^ 64 ≤ self.now.offset + length self.now.bits + 1
+            → result ≡ BufferError.TooManyBits }
+    {
+        if usize::MAX - self.set.len() <= self.set.offset() {
+            BufferError::TooManyBits
+        } else {
+            BufferError::OutOfMemory
+        }
     }
 
     /// [`append`](Self::append) of a bit that begins a block.
-    #[inline(never)]
+    #[inline(always)]
     fn begin_block(&mut self, v: bool) -> Result<()>
         requires whole { length self.old.bits % BLOCK_BITS ≡ 0 }
         ensures ok { OnOk result (AddsBits (v ∷ []) self.old self.new) }
@@ -116,10 +152,8 @@ impl<A: Allocator + Clone> Ranked<A> {
         Ok(())
     }
 
-    /// [`append`](Self::append) of a bit that begins no block, and for which the bytes have no
-    /// place. It stands apart, as [`begin_block`](Self::begin_block) does, so that the other bits
-    /// save no registers for what only these call.
-    #[inline(never)]
+    /// [`append`](Self::append) of a bit that begins no block.
+    #[inline(always)]
     fn begin_byte(&mut self, v: bool) -> Result<()>
         requires part { 0 < length self.old.bits % BLOCK_BITS }
         ensures ok { OnOk result (AddsBits (v ∷ []) self.old self.new) }
