@@ -12,7 +12,7 @@ use Rattle.std.proofs.lemmas.Nat.Bits.{bit_at_mask_inside, bit_at_mask_below, bi
 use Rattle.std.proofs.lemmas.Nat.Bits.{bit_at_set_same, bit_at_set_other, bit_at_clear_same}
 use Rattle.std.proofs.lemmas.Nat.Bits.{bit_at_clear_other}
 use Rattle.std.proofs.Math.Pow.{pow_mono}
-use Rattle.std.specs.Int.{bit_at, bit_not, from_bool, w8}
+use Rattle.std.specs.Int.{bit_at, bit_not, from_bool, rotate_left, w8}
 use Rattle.std.specs.Int.Bits.{or_zero_r}
 use Rattle.std.specs.Prelude.{bit_and, bit_or, bit_xor}
 use Rattle.vb_bits.specs.Bits.{bit_of, bits, complement}
@@ -105,10 +105,35 @@ put_digit b i false h =
     ∙ ap (λ d. eqb d 1) (bit_at_clear_same w8 x (i % 8) small))
     (λ j l ne. ap (λ y. bit_at y j) same ∙ bit_at_clear_other w8 x (i % 8) small j l ne)
 
-pub Writes_put : (b : List ℕ) (i y : ℕ) (v : Bool) → y ≡ from_bool v → i / 8 < length b
+-- one digit is turned to where it would be shifted
+turned_digit : (v : Bool) (k : ℕ) → k < 8
+    → rotate_left w8 (from_bool v) k ≡ from_bool v * 2 ^ k % 256
+turned_digit true zero h = refl
+turned_digit true (suc zero) h = refl
+turned_digit true (suc (suc zero)) h = refl
+turned_digit true (suc (suc (suc zero))) h = refl
+turned_digit true (suc (suc (suc (suc zero)))) h = refl
+turned_digit true (suc (suc (suc (suc (suc zero))))) h = refl
+turned_digit true (suc (suc (suc (suc (suc (suc zero)))))) h = refl
+turned_digit true (suc (suc (suc (suc (suc (suc (suc zero))))))) h = refl
+turned_digit false zero h = refl
+turned_digit false (suc zero) h = refl
+turned_digit false (suc (suc zero)) h = refl
+turned_digit false (suc (suc (suc zero))) h = refl
+turned_digit false (suc (suc (suc (suc zero)))) h = refl
+turned_digit false (suc (suc (suc (suc (suc zero))))) h = refl
+turned_digit false (suc (suc (suc (suc (suc (suc zero)))))) h = refl
+turned_digit false (suc (suc (suc (suc (suc (suc (suc zero))))))) h = refl
+turned_digit v (suc (suc (suc (suc (suc (suc (suc (suc k)))))))) h = absurd (omega (arith, h))
+
+pub Writes_put : (b : List ℕ) (i y z : ℕ) (v : Bool) → y ≡ from_bool v
+    → z ≡ rotate_left w8 y (i % 8) → i / 8 < length b
     → Writes b (set b (i / 8) (bit_or (bit_and (get_or b (i / 8) 0) (255 - 1 * 2 ^ (i % 8) % 256))
-    (y * 2 ^ (i % 8) % 256))) i (v ∷ [])
-Writes_put b i y v e h = rw e (put_digit b i v h)
+    z)) i (v ∷ [])
+Writes_put b i y z v e f h =
+    let shifted : z ≡ from_bool v * 2 ^ (i % 8) % 256 =
+    f ∙ ap (λ d. rotate_left w8 d (i % 8)) e ∙ turned_digit v (i % 8) (omega arith) in
+    rw shifted (put_digit b i v h)
 
 -- ---- masks of one byte
 -- a mask of a byte

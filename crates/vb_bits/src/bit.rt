@@ -44,5 +44,6 @@ pub fn set_bit_to(buf: &mut [u8], i: usize, v: bool)
     ensures { Writes buf.old buf.new i (v ∷ []) }
 {
     let others = buf[i / 8] & !(1 << (i % 8));
-    buf[i / 8] = others | (u8::from(v) << (i % 8));
+    // A digit is turned to its place as a shift would put it, in fewer instructions.
+    buf[i / 8] = others | u8::from(v).rotate_left((i % 8) as u32);
 }
