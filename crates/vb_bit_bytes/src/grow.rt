@@ -42,6 +42,24 @@ pub fn push_bit<A: Allocator + Clone>(
     Ok(())
 }
 
+/// [`push_bit`] of a bit for which there is room, as there is in the bytes. It takes no memory, and
+/// the room stays.
+#[tactic(auto, using(crate::proofs::BytesLemmas::edits))]
+pub fn push_bit_unchecked<A: Allocator + Clone>(bytes: &mut ByteBufferMut<A>, end: usize, v: bool)
+    requires within { end ≤ 8 * length bytes.old.list }
+    requires room { end < 8 * bytes.old.room }
+    ensures len { length bytes.new.list ≡ max (length bytes.old.list) (div_ceil (end + 1) 8) }
+    ensures bits { Writes (extension bytes.old.list bytes.new.list) bytes.new.list end (v ∷ []) }
+    ensures alignment { bytes.new.alignment ≡ bytes.old.alignment }
+    ensures room { bytes.new.room ≡ bytes.old.room }
+{
+    if end / 8 < bytes.len() {
+        write_bit(bytes, end, v);
+        return;
+    }
+    bytes.push_unchecked(u8::from(v));
+}
+
 /// Adds `n` bits `v` from bit `start` on, behind the bits below it, which lie in the bytes: whole
 /// bytes at once. `start + n` has to be a `usize`.
 ///

@@ -19,7 +19,7 @@ mod window;
 pub use bytewise::combine_into;
 pub use collect::{collect_bool, collect_bool_shared, from_bools, from_truthy, map_bool_shared};
 pub use edit::{combine, copy, fill, negate, write_bit};
-pub use grow::{push_bit, push_bits, reserve_exactly_to, reserve_to};
+pub use grow::{push_bit, push_bit_unchecked, push_bits, reserve_exactly_to, reserve_to};
 pub use indices::{from_indices, from_indices_shared};
 pub use iter::{from_iter, next_word};
 pub use make::{full, unaligned};

@@ -1,5 +1,5 @@
 //! Edits of sets beside the same edits of plain lists.
-use crate::compared::{equal, same};
+use crate::compared::{equal, holds, same};
 use crate::made::window;
 use std::alloc::Allocator;
 use std::process::Abort;
@@ -95,6 +95,24 @@ fn fill_bytes<A: Allocator + Clone>(
     same(rt, set, list);
 }
 
+/// Adds bits `v` for as long as there is room for them, which stays.
+fn fill_room<A: Allocator + Clone>(
+    rt: &impl Abort,
+    set: &mut BitBufferMut<A>,
+    list: &mut Vec<bool, A>,
+    v: bool,
+) {
+    let room = set.capacity();
+    for _ in list.len()..room {
+        holds(rt, set.has_room());
+        set.append_unchecked(v);
+        list.push(v).expect(rt, "room");
+    }
+    equal(rt, set.has_room(), false);
+    equal(rt, set.capacity(), room);
+    same(rt, set, list);
+}
+
 /// The edits with bits `v`, and with the others.
 fn edited_is_plain<A: Allocator + Clone>(
     rt: &impl Abort,
@@ -111,6 +129,7 @@ fn edited_is_plain<A: Allocator + Clone>(
     list.truncate(n);
     same(rt, set, list);
     fill_bytes(rt, set, list, v);
+    fill_room(rt, set, list, !v);
     lengthen(rt, set, list, !v);
     let n = list.len();
     resize(rt, set, list, (n / 3, v));

@@ -10,7 +10,9 @@ ghost use Rattle.vb_view.specs.View.{bits_of};
 use super::BitBufferMut;
 use std::alloc::Allocator;
 use vb_bit_buffer::BitBuffer;
-use vb_bit_bytes::{push_bit, push_bits, push_window, reserve_exactly_to, reserve_to, write_bit};
+use vb_bit_bytes::{
+    push_bit, push_bit_unchecked, push_bits, push_window, reserve_exactly_to, reserve_to, write_bit,
+};
 use vb_core::{BufferError, Result};
 use vb_view::BitBufferView;
 
@@ -93,6 +95,32 @@ impl<A: Allocator + Clone> BitBufferMut<A> {
         write_bit(&mut self.buffer, end, v);
         self.len += 1;
         true
+    }
+
+    /// Whether there is room for one bit more: whether the length is below
+    /// [`capacity`](Self::capacity).
+    pub fn has_room(&self) -> bool
+        ensures room { IsTrue result ↔ (length self.now.bits + 1 ≤ self.now.room) }
+        ensures fits { result ≡ true → self.now.offset + length self.now.bits + 1 < 2 ^ 64 }
+    {
+        let end = self.offset + self.len;
+        end != usize::MAX && end / 8 < self.buffer.capacity()
+    }
+
+    /// Adds one bit, for which there has to be room: [`has_room`](Self::has_room) is the test. It
+    /// takes no memory, and the capacity stays.
+    ///
+    /// [`append`](Self::append) is as fast in a loop of its own. A caller that has more to do where
+    /// there is no room makes it in a call, and then adds the bit here, at one place.
+    pub fn append_unchecked(&mut self, v: bool)
+        requires { length self.old.bits + 1 ≤ self.old.room }
+        ensures adds { AddsBits (v ∷ []) self.old self.new }
+        ensures starts { KeepsStart self.old self.new }
+        ensures stays { self.new.room ≡ self.old.room }
+    {
+        let end = self.offset + self.len;
+        push_bit_unchecked(&mut self.buffer, end, v);
+        self.len += 1;
     }
 
     /// Adds a true bit: [`append`](Self::append) of `true`.
