@@ -1,8 +1,9 @@
 -- How calls answer that add bits to a set with its counts.
-use Rattle.std.specs.Prelude.{◌≡◌, ℕ, ◌+◌, ◌^◌, ◌<◌, ◌≤◌, length}
+use Rattle.std.specs.Prelude.{◌≡◌, ℕ, ◌+◌, ◌^◌, ◌<◌, ◌≤◌, Bool, [], ◌∷◌, ◌++◌, length}
 use Rattle.std.specs.Prelude.{Result, IsOk, IsOkUnless, IsErrOf, OnErr}
 use Rattle.vb_core.specs.declared.error.BufferError.{BufferError}
 use Rattle.vb_core.specs.declared.error.BufferError.TheVariants.{OutOfMemory, TooManyBits}
+use Rattle.vb_directory.specs.Counts.{HeldCounts, AreCounts, numbers_for}
 use Rattle.vb_set.specs.OpenSet.{OpenSet}
 
 -- a call that needs n bits more: where there are bits it succeeds within the room, of which there
@@ -14,3 +15,11 @@ pub record NeedsCountedBits {T : Type 0} (n : ℕ) (result : Result T BufferErro
   pub fits : old.offset + length old.bits + n < 2 ^ 64 → IsOkUnless result OutOfMemory
   pub too_many : 2 ^ 64 ≤ old.offset + length old.bits + n → IsErrOf result TooManyBits
   pub err : OnErr result (new ≡ old)
+
+-- a set and its counts are ready for one bit more: there is room for it and for the counts of as
+-- many bits as the set has room for, and the counts are those of its bits with the one, be it true
+-- or false
+pub record IsReady (set : OpenSet) (counts : HeldCounts) : Type 0 where
+  pub room : length set.bits + 1 ≤ set.room
+  pub counts_room : numbers_for set.room ≤ counts.room
+  pub exact : (v : Bool) → AreCounts (set.bits ++ v ∷ []) counts.numbers

@@ -8,6 +8,7 @@
 mod parts;
 mod ranked;
 mod ranked_buffer;
+mod ready;
 mod room;
 
 pub use ranked::Ranked;

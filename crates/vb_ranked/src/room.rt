@@ -1,5 +1,5 @@
 //! Room for bits and their counts.
-ghost use Rattle.std.specs.Prelude.{◌≡◌, ◌+◌, ◌^◌, ◌≤◌, ◌<◌, true, length, IsOk, IsOkUnless};
+ghost use Rattle.std.specs.Prelude.{◌≡◌, ◌+◌, ◌^◌, ◌≤◌, ◌<◌, true, length, IsOk, IsOkUnless, IsErrOf};
 ghost use Rattle.std.specs.Prelude.{OnOk, OnErr};
 ghost use Rattle.vb_directory.specs.Counts.{numbers_for};
 
@@ -29,10 +29,10 @@ pub(crate) fn make_room<A: Allocator + Clone>(
     ensures fits { set.old.offset + length set.old.bits + 1 < 2 ^ 64
         → IsOkUnless result BufferError.OutOfMemory }
     ensures too_many { 2 ^ 64 ≤ set.old.offset + length set.old.bits + 1
-        → IsOkUnless result BufferError.TooManyBits }
+        → IsErrOf result BufferError.TooManyBits }
     ensures err { OnErr result (set.new ≡ set.old) }
 {
-    if set.len() < set.capacity() {
+    if set.has_room() {
         return Ok(());
     }
     ask_for_room(set, counts, 1)
@@ -49,11 +49,12 @@ pub(crate) fn make_first_room<A: Allocator + Clone>(
     ensures set { set.new ≡ record set.old { room = set.new.room } }
     ensures set_grows { set.old.room ≤ set.new.room }
     ensures numbers { counts.new.numbers ≡ counts.old.numbers }
+    ensures counts_grow { counts.old.room ≤ counts.new.room }
     ensures room { OnOk result (1 ≤ set.new.room) }
     ensures counts_room { OnOk result (numbers_for set.new.room ≤ counts.new.room) }
     ensures stays { 1 ≤ set.old.room → set.new ≡ set.old }
     ensures fits { set.old.offset + 1 < 2 ^ 64 → IsOkUnless result BufferError.OutOfMemory }
-    ensures too_many { 2 ^ 64 ≤ set.old.offset + 1 → IsOkUnless result BufferError.TooManyBits }
+    ensures too_many { 2 ^ 64 ≤ set.old.offset + 1 → IsErrOf result BufferError.TooManyBits }
     ensures err { OnErr result (set.new ≡ set.old) }
 {
     if set.offset() > 0 || set.capacity() > 0 {
@@ -119,7 +120,7 @@ fn ask_for_room<A: Allocator + Clone>(
     ensures fits { set.old.offset + length set.old.bits + n < 2 ^ 64
         → IsOkUnless result BufferError.OutOfMemory }
     ensures too_many { 2 ^ 64 ≤ set.old.offset + length set.old.bits + n
-        → IsOkUnless result BufferError.TooManyBits }
+        → IsErrOf result BufferError.TooManyBits }
     ensures err { OnErr result (set.new ≡ set.old) }
 {
     let (len, room) = (set.len(), set.capacity());

@@ -7,7 +7,8 @@ ghost use Rattle.vb_set.specs.View.{bits_of};
 
 use super::Ranked;
 use crate::parts::append_parts;
-use crate::room::{make_first_room, make_room, make_room_for};
+use crate::ready::make_ready;
+use crate::room::make_room_for;
 use std::alloc::Allocator;
 use vb_rank::BLOCK_BITS;
 use vb_set::{BitBufferView, BufferError, Result};
@@ -54,35 +55,12 @@ impl<A: Allocator + Clone> Ranked<A> {
             → IsErrOf result BufferError.TooManyBits }
         ensures err { OnErr result (self.new ≡ self.old) }
     {
-        if self.set.len() % BLOCK_BITS > 0 && self.set.append_within_bytes(v) {
-            return Ok(());
+        let ready = self.set.len() % BLOCK_BITS > 0 && self.set.has_room();
+        if !ready && !make_ready(&mut self.set, &mut self.counts) {
+            return Err(self.why_full());
         }
-        if self.begin(v) {
-            return Ok(());
-        }
-        Err(self.why_full())
-    }
-
-    /// [`append`](Self::append) of a bit that begins a block or a byte: whether it was added. It
-    /// stands apart, so that the other bits save no registers for what only these call; and it
-    /// answers no error, for which the loop of a caller would clear room at each bit.
-    #[inline(never)]
-    fn begin(&mut self, v: bool) -> bool
-        ensures added { result ≡ true → AddsBits (v ∷ []) self.old self.new }
-        ensures grows { KeepsStart self.old self.new }
-        ensures in_room { 0 < length self.old.bits → length self.old.bits + 1 ≤ self.old.room
-            → result ≡ true }
-        ensures stays { length self.old.bits + 1 ≤ self.old.room
-            → self.new.room ≡ self.old.room }
-        ensures too_many { 2 ^ 64 ≤ self.old.offset + length self.old.bits + 1 → result ≡ false }
-        ensures refused { result ≡ false → self.new ≡ self.old }
-    {
-        let added = if self.set.len() % BLOCK_BITS == 0 {
-            self.begin_block(v)
-        } else {
-            self.begin_byte(v)
-        };
-        added.is_ok()
+        self.set.append_unchecked(v);
+        Ok(())
     }
 
     /// Why a bit can't be added.
@@ -97,74 +75,6 @@ impl<A: Allocator + Clone> Ranked<A> {
         } else {
             BufferError::OutOfMemory
         }
-    }
-
-    /// [`append`](Self::append) of a bit that begins a block.
-    #[inline(always)]
-    fn begin_block(&mut self, v: bool) -> Result<()>
-        requires whole { length self.old.bits % BLOCK_BITS ≡ 0 }
-        ensures ok { OnOk result (AddsBits (v ∷ []) self.old self.new) }
-        ensures grows { KeepsStart self.old self.new }
-        ensures stays { length self.old.bits + 1 ≤ self.old.room
-            → self.new.room ≡ self.old.room }
-        ensures needs { NeedsCountedBits 1 result self.old self.new }
-    {
-        if self.set.is_empty() {
-            self.begin_first_block(v)
-        } else {
-            self.begin_next_block(v)
-        }
-    }
-
-    /// [`append`](Self::append) of the first bit, before which there is nothing to count. It may
-    /// ask for memory within the room too.
-    #[inline(never)]
-    fn begin_first_block(&mut self, v: bool) -> Result<()>
-        requires none { length self.old.bits ≡ 0 }
-        ensures ok { OnOk result (AddsBits (v ∷ []) self.old self.new) }
-        ensures grows { KeepsStart self.old self.new }
-        ensures stays { length self.old.bits + 1 ≤ self.old.room
-            → self.new.room ≡ self.old.room }
-        ensures needs { NeedsCountedBits 1 result self.old self.new }
-    {
-        make_first_room(&mut self.set, &mut self.counts)?;
-        self.set.append(v)?;
-        self.counts.push(0, 0);
-        Ok(())
-    }
-
-    /// [`append`](Self::append) of a bit that begins a block behind others, whose bits are counted.
-    #[inline(never)]
-    fn begin_next_block(&mut self, v: bool) -> Result<()>
-        requires some { 0 < length self.old.bits }
-        requires whole { length self.old.bits % BLOCK_BITS ≡ 0 }
-        ensures ok { OnOk result (AddsBits (v ∷ []) self.old self.new) }
-        ensures grows { KeepsStart self.old self.new }
-        ensures stays { length self.old.bits + 1 ≤ self.old.room
-            → self.new.room ≡ self.old.room }
-        ensures needs { NeedsCountedBits 1 result self.old self.new }
-    {
-        let len = self.set.len();
-        let ones = self.rank(len);
-        make_room(&mut self.set, &mut self.counts)?;
-        self.set.append(v)?;
-        self.counts.push(len / BLOCK_BITS, ones);
-        Ok(())
-    }
-
-    /// [`append`](Self::append) of a bit that begins no block.
-    #[inline(always)]
-    fn begin_byte(&mut self, v: bool) -> Result<()>
-        requires part { 0 < length self.old.bits % BLOCK_BITS }
-        ensures ok { OnOk result (AddsBits (v ∷ []) self.old self.new) }
-        ensures grows { KeepsStart self.old self.new }
-        ensures stays { length self.old.bits + 1 ≤ self.old.room
-            → self.new.room ≡ self.old.room }
-        ensures needs { NeedsCountedBits 1 result self.old self.new }
-    {
-        make_room(&mut self.set, &mut self.counts)?;
-        self.set.append(v)?;
-        Ok(())
     }
 
     /// Adds `n` bits, all `v`, whole bytes at once, and counts them once.
