@@ -7,17 +7,17 @@ use Rattle.std.proofs.lemmas.Int.Digits.{digits_value_more}
 use Rattle.std.proofs.lemmas.Str.{digit_value_digit}
 use Rattle.std.specs.Char.{is_ascii_digit}
 use Rattle.std.specs.Int.{IsInRange}
-use Rattle.std.proofs.Common.{suc, pow-suc, ◌+◌, ◌*◌, take}
+use Rattle.std.proofs.Common.{Option, suc, pow-suc, ◌+◌, ◌*◌, take}
 use Rattle.std.proofs.Common.{length, get_or, drop, refl, sym, ap, ◌∙◌, Some, None, arith}
 use Rattle.std.proofs.Common.{Result, Ok, Err}
-use Rattle.std.specs.Prelude.{ℤ, pos, neg_ℤ, ◌==◌, nat_le, if◌then◌else◌}
+use Rattle.std.specs.Prelude.{ℤ, pos, neg_ℤ, FitsSigned, ◌==◌, nat_le, if◌then◌else◌}
 use Rattle.std.specs.Option.{option_map}
 use Rattle.std.specs.Result.{OkIff, result_ok}
 use Rattle.std.specs.Str.{all_ascii_digits}
 use Rattle.std.specs.Str.Parse.{ParsesUnsigned, ParsesSigned, digits_value}
 use Rattle.std.proofs.lemmas.Bool.{both_ways}
 use Rattle.std.proofs.lemmas.Bool.{and_parts, and_from, eqb-true, eqb-false, false_from_ne_true}
-use Rattle.std.proofs.lemmas.Bool.{le-leb, leb-true, lt-ltb, ltb-true}
+use Rattle.std.proofs.lemmas.Bool.{le-leb, leb-true, lt-ltb, ltb-true, ne_eqb}
 use Rattle.std.proofs.lemmas.Str.Parse.{digits_value_short}
 use Rattle.std.proofs.lemmas.Str.Parse.{IsNumeralModel, numerals_by_value, tells_all_ascii_digits}
 use Rattle.std.proofs.lemmas.Str.Parse.{parse_plain, parse_signed_minus, parse_signed_plain}
@@ -165,8 +165,34 @@ pub index_gives : {E : Type 0} (w : List ℕ) (r : Result ℤ E) → ParsesSigne
     → get_or w 0 0 ≢ 43 → result_ok r ≡ index w
 index_gives w r h plain = signed w r (get_or w 0 0 == 45) refl h plain
 
+-- with no minus in front an index is a number that fits
+plain_index : (w : List ℕ) (o : Option ℕ) → get_or w 0 0 ≢ 45 → number w ≡ o
+    → index w ≡ option_map pos (o >>= (λ n. if nat_le n (2 ^ 63 - 1) then Some n else None))
+plain_index w o plain is =
+    ap (λ t. if t then option_map (λ n. neg_ℤ (pos n)) (number_to (2 ^ 63) (drop 1 w))
+    else option_map pos (number_to (2 ^ 63 - 1) w)) (ne_eqb _ _ plain)
+    ∙ ap (λ p. option_map pos (p >>= (λ n. if nat_le n (2 ^ 63 - 1) then Some n else None))) is
+
+-- no number, no index
+pub no_index : (w : List ℕ) → get_or w 0 0 ≢ 45 → number w ≡ None → index w ≡ None
+no_index w plain none = plain_index w None plain none
+
+-- a number, and whether it fits
+pub index_of : {E : Type 0} (w : List ℕ) (n : ℕ) (r : Result ℤ E)
+    → OkIff r (FitsSigned w64 (pos n)) (pos n) → number w ≡ Some n → get_or w 0 0 ≢ 45
+    → result_ok r ≡ index w
+index_of w n (Ok i) h is plain =
+    ap Some h.1 ∙ sym (plain_index w (Some n) plain is
+    ∙ ap (λ t. option_map pos (if t then Some n else None))
+    (le-leb n (2 ^ 63 - 1) (omega (arith, h.0))))
+index_of w n (Err e) h is plain =
+    sym (plain_index w (Some n) plain is
+    ∙ ap (λ t. option_map pos (if t then Some n else None))
+    (false_from_ne_true (nat_le n (2 ^ 63 - 1))
+    (λ t. h (omega (arith, leb-true n (2 ^ 63 - 1) t)))))
+
 -- for `#[tactic(auto, using(..))]`: numbers of few digits
 pub ruleset few = (few_fit, few_more, few_same, few_other, few_small, few_below)
 
 -- numbers and indices
-pub ruleset numbers = (number_gives, index_gives)
+pub ruleset numbers = (number_gives, index_gives, index_of, no_index)

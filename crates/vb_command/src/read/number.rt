@@ -73,7 +73,8 @@ impl Field for Option<usize> {
     }
 }
 
-/// A number that may have a `-` before it. Unlike `parse`, it takes no `+`.
+/// A number that may have a `-` before it. Unlike `parse`, it takes no `+`. One of few digits is read
+/// as those of a `usize` are.
 #[tactic(auto, using(crate::proofs::NumberWords::numbers))]
 impl Field for i64 {
     ghost use Rattle.vb_command.specs.Listed.{index};
@@ -81,6 +82,10 @@ impl Field for i64 {
     ghost written = { index };
 
     fn read(word: &str) -> Result<i64, Unread> {
+        if !word.is_empty() && word.len() <= FEW && !word.starts_with('-') {
+            let n = few_digits(word.as_bytes())?;
+            return i64::try_from(n).map_err(|_| Unread::Unreadable);
+        }
         if word.starts_with('+') {
             return Err(Unread::Unreadable);
         }
