@@ -54,10 +54,10 @@ pub fn push_bit_unchecked<A: Allocator + Clone>(bytes: &mut ByteBufferMut<A>, en
     ensures room { bytes.new.room ≡ bytes.old.room }
 {
     if end / 8 < bytes.len() {
-        write_bit(bytes, end, v);
-        return;
+        write_bit(bytes, end, v)
+    } else {
+        bytes.push_unchecked(u8::from(v))
     }
-    bytes.push_unchecked(u8::from(v));
 }
 
 /// Adds `n` bits `v` from bit `start` on, behind the bits below it, which lie in the bytes: whole

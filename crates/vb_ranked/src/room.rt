@@ -1,6 +1,6 @@
 //! Room for bits and their counts.
-ghost use Rattle.std.specs.Prelude.{◌≡◌, ◌+◌, ◌^◌, ◌≤◌, ◌<◌, true, length, IsOk, IsOkUnless, IsErrOf};
-ghost use Rattle.std.specs.Prelude.{OnOk, OnErr};
+ghost use Rattle.std.specs.Prelude.{◌≡◌, ◌+◌, ◌^◌, ◌≤◌, ◌<◌, true, length, IsOk, IsOkUnless};
+ghost use Rattle.std.specs.Prelude.{IsErrOf, OnOk, OnErr};
 ghost use Rattle.vb_directory.specs.Counts.{numbers_for};
 
 use std::alloc::Allocator;

@@ -73,8 +73,8 @@ impl Field for Option<usize> {
     }
 }
 
-/// A number that may have a `-` before it. Unlike `parse`, it takes no `+`. One of few digits is read
-/// as those of a `usize` are.
+/// A number that may have a `-` before it. Unlike `parse`, it takes no `+`. One of few digits is
+/// read as a `usize` is.
 #[tactic(auto, using(crate::proofs::NumberWords::numbers))]
 impl Field for i64 {
     ghost use Rattle.vb_command.specs.Listed.{index};
