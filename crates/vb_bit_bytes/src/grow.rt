@@ -11,7 +11,7 @@ use vb_core::{BufferError, Result};
 use vb_mem::ByteBufferMut;
 
 /// Adds bit `end`, `v`, behind the bits below it, which lie in the bytes: in one of these, or in a
-/// byte of its own.
+/// byte of its own, of whose other bits no clause tells.
 ///
 /// Refused by `OutOfMemory` alone; then the bytes and their room are unchanged. Within the room it
 /// takes no memory, succeeds, and the room stays.
@@ -42,8 +42,8 @@ pub fn push_bit<A: Allocator + Clone>(
     Ok(())
 }
 
-/// [`push_bit`] of a bit for which there is room, as there is in the bytes. It takes no memory, and
-/// the room stays.
+/// [`push_bit`] of a bit for which there has to be room; for a bit whose byte is there already there
+/// always is. It takes no memory, and the room stays.
 #[tactic(auto, using(crate::proofs::BytesLemmas::edits))]
 pub fn push_bit_unchecked<A: Allocator + Clone>(bytes: &mut ByteBufferMut<A>, end: usize, v: bool)
     requires within { end ≤ 8 * length bytes.old.list }

@@ -17,9 +17,9 @@ pub record NeedsCountedBits {T : Type 0} (n : ℕ) (result : Result T BufferErro
   pub err : OnErr result (new ≡ old)
 
 -- a set and its counts are ready for one bit more: there is room for it and for the counts of as
--- many bits as the set has room for, and the counts are those of its bits with the one, be it true
--- or false
-pub record IsReady (set : OpenSet) (counts : HeldCounts) : Type 0 where
+-- many bits as the set has room for, and the counts are those of its bits with that one, whatever
+-- it is: they are of the true bits before each block, and it stands before none
+pub record IsReadyForBit (set : OpenSet) (counts : HeldCounts) : Type 0 where
   pub room : length set.bits + 1 ≤ set.room
   pub counts_room : numbers_for set.room ≤ counts.room
-  pub exact : (v : Bool) → AreCounts (set.bits ++ v ∷ []) counts.numbers
+  pub exact_with : (v : Bool) → AreCounts (set.bits ++ v ∷ []) counts.numbers

@@ -2,7 +2,7 @@
 ghost use Rattle.std.specs.Prelude.{◌≡◌, ◌+◌, ◌%◌, ◌^◌, ◌<◌, ◌≤◌, true, false, length};
 ghost use Rattle.std.specs.Prelude.{OnOk, OnErr};
 ghost use Rattle.vb_directory.specs.Counts.{AreCounts, numbers_for};
-ghost use Rattle.vb_ranked.specs.Counted.{IsReady, NeedsCountedBits};
+ghost use Rattle.vb_ranked.specs.Counted.{IsReadyForBit, NeedsCountedBits};
 
 use crate::room::{make_first_room, make_room};
 use std::alloc::Allocator;
@@ -10,12 +10,17 @@ use vb_directory::Counts;
 use vb_rank::BLOCK_BITS;
 use vb_set::{BitBufferMut, Result};
 
-/// Makes a set and its counts ready for one bit more, and answers whether they are: there is room
-/// for it, and where it begins a block, the bits before it are counted.
+/// Makes a set and its counts ready for one bit more, which has to be added next, and answers
+/// whether they are. There is room for the bit then, and where it begins a block, the counts have
+/// the number of true bits before that block.
 ///
-/// It stands apart, so that the other bits save no registers for what only these call, and a loop
-/// goes over them with one jump; and it answers no error, for which the loop of a caller would
-/// clear room at each bit.
+/// It may ask for memory where the set is full and for the first bit. `false` where that is
+/// refused, or where offset and length together are `usize::MAX`: the set, its room and the numbers
+/// of the counts are then unchanged.
+///
+/// It is kept out of line, since few bits need it: so `append` saves no registers for what is
+/// called here. It answers no error, for which a caller's loop would clear a place on the stack at
+/// each bit.
 #[cold]
 #[inline(never)]
 pub(crate) fn make_ready<A: Allocator + Clone>(
@@ -27,7 +32,7 @@ pub(crate) fn make_ready<A: Allocator + Clone>(
     ensures set { set.new ≡ record set.old { room = set.new.room } }
     ensures set_grows { set.old.room ≤ set.new.room }
     ensures counts_grow { counts.old.room ≤ counts.new.room }
-    ensures ready { result ≡ true → IsReady set.new counts.new }
+    ensures ready { result ≡ true → IsReadyForBit set.new counts.new }
     ensures in_room { 0 < length set.old.bits → length set.old.bits + 1 ≤ set.old.room
         → result ≡ true }
     ensures stays { length set.old.bits + 1 ≤ set.old.room → set.new ≡ set.old }
@@ -55,7 +60,7 @@ fn make_first_ready<A: Allocator + Clone>(
     ensures set { set.new ≡ record set.old { room = set.new.room } }
     ensures set_grows { set.old.room ≤ set.new.room }
     ensures counts_grow { counts.old.room ≤ counts.new.room }
-    ensures ready { OnOk result (IsReady set.new counts.new) }
+    ensures ready { OnOk result (IsReadyForBit set.new counts.new) }
     ensures stays { length set.old.bits + 1 ≤ set.old.room → set.new ≡ set.old }
     ensures needs { NeedsCountedBits 1 result set.old set.new }
     ensures numbers { OnErr result (counts.new.numbers ≡ counts.old.numbers) }
@@ -77,7 +82,7 @@ fn make_block_ready<A: Allocator + Clone>(
     ensures set { set.new ≡ record set.old { room = set.new.room } }
     ensures set_grows { set.old.room ≤ set.new.room }
     ensures counts_grow { counts.old.room ≤ counts.new.room }
-    ensures ready { OnOk result (IsReady set.new counts.new) }
+    ensures ready { OnOk result (IsReadyForBit set.new counts.new) }
     ensures stays { length set.old.bits + 1 ≤ set.old.room → set.new ≡ set.old }
     ensures needs { NeedsCountedBits 1 result set.old set.new }
     ensures numbers { OnErr result (counts.new.numbers ≡ counts.old.numbers) }

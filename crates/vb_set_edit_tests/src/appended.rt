@@ -164,6 +164,23 @@ fn stays<A: Allocator + Clone>(
     heap.refuse(0);
 }
 
+/// The rest of the room is filled bit by bit, with no memory.
+fn fills<A: Allocator + Clone>(
+    rt: &impl Abort,
+    heap: &Refusing<Global>,
+    set: &mut BitBufferMut<A>,
+) {
+    let room = set.capacity();
+    heap.refuse(1);
+    for _ in set.len()..room {
+        holds(rt, set.has_room());
+        set.append_unchecked(true);
+    }
+    equal(rt, set.has_room(), false);
+    equal(rt, (set.capacity(), heap.asked()), (room, 0));
+    heap.refuse(0);
+}
+
 #[test]
 fn appends_within_the_room_ask_for_nothing(rt: HostRuntime) {
     let heap = Refusing::new(rt.alloc(), 0);
@@ -172,5 +189,6 @@ fn appends_within_the_room_ask_for_nothing(rt: HostRuntime) {
         stays(&rt, &heap, &mut set, source);
     }
     equal(&rt, set.len(), 1000);
+    fills(&rt, &heap, &mut set);
     drop(set);
 }

@@ -73,8 +73,8 @@ impl Field for Option<usize> {
     }
 }
 
-/// A number that may have a `-` before it. Unlike `parse`, it takes no `+`. One of few digits is
-/// read as a `usize` is.
+/// A number that may have a `-` before it; with none it is read as a `usize` is. Unlike `parse`, it
+/// takes no `+`.
 #[tactic(auto, using(crate::proofs::NumberWords::numbers))]
 impl Field for i64 {
     ghost use Rattle.vb_command.specs.Listed.{index};
@@ -82,12 +82,9 @@ impl Field for i64 {
     ghost written = { index };
 
     fn read(word: &str) -> Result<i64, Unread> {
-        if !word.is_empty() && word.len() <= FEW && !word.starts_with('-') {
-            let n = few_digits(word.as_bytes())?;
+        if !word.starts_with('-') {
+            let n = usize::read(word)?;
             return i64::try_from(n).map_err(|_| Unread::Unreadable);
-        }
-        if word.starts_with('+') {
-            return Err(Unread::Unreadable);
         }
         word.parse().map_err(|_| Unread::Unreadable)
     }

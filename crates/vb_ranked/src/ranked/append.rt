@@ -1,6 +1,6 @@
 //! Room, and bits added at the end.
-ghost use Rattle.std.specs.Prelude.{◌≡◌, ◌+◌, ◌%◌, ◌^◌, ◌<◌, ◌≤◌, ◌∷◌, [], length, replicate};
-ghost use Rattle.std.specs.Prelude.{true, false, IsOk, IsOkUnless, IsErrOf, OnOk, OnErr};
+ghost use Rattle.std.specs.Prelude.{◌≡◌, ◌+◌, ◌^◌, ◌<◌, ◌≤◌, ◌∷◌, [], length, replicate};
+ghost use Rattle.std.specs.Prelude.{IsOk, IsOkUnless, IsErrOf, OnOk, OnErr};
 ghost use Rattle.vb_ranked.specs.Counted.{NeedsCountedBits};
 ghost use Rattle.vb_set.specs.OpenSet.{AddsBits, KeepsStart};
 ghost use Rattle.vb_set.specs.View.{bits_of};

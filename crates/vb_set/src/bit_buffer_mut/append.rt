@@ -98,24 +98,28 @@ impl<A: Allocator + Clone> BitBufferMut<A> {
     }
 
     /// Whether there is room for one bit more: whether the length is below
-    /// [`capacity`](Self::capacity).
+    /// [`capacity`](Self::capacity). Then the offset and the length with that bit are together
+    /// below 2^64.
     pub fn has_room(&self) -> bool
         ensures room { IsTrue result ↔ (length self.now.bits + 1 ≤ self.now.room) }
         ensures fits { result ≡ true → self.now.offset + length self.now.bits + 1 < 2 ^ 64 }
     {
+        // By the bit's byte, which takes fewer steps than the capacity in bits.
         let end = self.offset + self.len;
         end != usize::MAX && end / 8 < self.buffer.capacity()
     }
 
-    /// Adds one bit, for which there has to be room: [`has_room`](Self::has_room) is the test. It
-    /// takes no memory, and the capacity stays.
+    /// Adds one bit, for which there has to be room, as [`has_room`](Self::has_room) tells and
+    /// [`reserve`](Self::reserve) makes it. It takes no memory. The capacity, the offset and the
+    /// alignment stay. The bytes become longer only where none has a place for the bit.
     ///
-    /// [`append`](Self::append) is as fast in a loop of its own. A caller that has more to do where
-    /// there is no room makes it in a call, and then adds the bit here, at one place.
+    /// It doesn't test for room when it runs, since each caller has proved it. A caller that does
+    /// more than [`append`](Self::append) where there is no room can do that in a function of its
+    /// own, and then add the bit here in both cases.
     pub fn append_unchecked(&mut self, v: bool)
         requires { length self.old.bits + 1 ≤ self.old.room }
         ensures adds { AddsBits (v ∷ []) self.old self.new }
-        ensures starts { KeepsStart self.old self.new }
+        ensures grows { KeepsStart self.old self.new }
         ensures stays { self.new.room ≡ self.old.room }
     {
         let end = self.offset + self.len;

@@ -19,7 +19,7 @@ returns-clause-ready g c =
     record {
       room = rw bits c.in_ok-make_room.ensures.room;
       counts_room = rw c.push.ensures.room c.in_ok-make_room.ensures.counts_room;
-      exact = λ v.
+      exact_with = λ v.
           let more : length (l ++ v ∷ []) ≡ length l + 1 = length-append l (v ∷ []) in
           subst (λ x. AreCounts (x ++ v ∷ []) c.push.new.self.numbers) (sym bits)
           (c.push.ensures.pushed l (l ++ v ∷ [])
