@@ -42,8 +42,8 @@ pub fn push_bit<A: Allocator + Clone>(
     Ok(())
 }
 
-/// [`push_bit`] of a bit for which there has to be room; for a bit whose byte is there already there
-/// always is. It takes no memory, and the room stays.
+/// [`push_bit`] of a bit for which there has to be room; for a bit whose byte is there there always
+/// is. It takes no memory, and the room stays.
 #[tactic(auto, using(crate::proofs::BytesLemmas::edits))]
 pub fn push_bit_unchecked<A: Allocator + Clone>(bytes: &mut ByteBufferMut<A>, end: usize, v: bool)
     requires within { end ≤ 8 * length bytes.old.list }

@@ -12,8 +12,8 @@ use Rattle.vb_ranked.proofs.ranked.Ranked.append.Goals.{
 
 pub invariant_of-self-2 : goal.invariant_of-self-2
 invariant_of-self-2 g c =
-    let is_ready : IsReadyForBit c.else-not-ready.self-inside.set c.else-not-ready.self-inside.counts =
-    elim c.else-not-ready.branch [
+    let now = c.else-not-ready.self-inside in
+    let is_ready : IsReadyForBit now.set now.counts = elim c.else-not-ready.branch [
       | else-not-ready-via-then-not-ready+else-not-make_ready w ↦
           subst (λ s. IsReadyForBit s.set s.counts) (sym w.self-inside-is)
           (w.make_ready.ensures.ready w.if-not-make_ready.false)
@@ -30,8 +30,8 @@ invariant_of-self-2 g c =
       ]
     ] in
     record {
-      exact = subst (λ x. AreCounts x c.else-not-ready.self-inside.counts.numbers)
+      exact = subst (λ x. AreCounts x now.counts.numbers)
           (sym c.append_unchecked.ensures.adds.bits) (is_ready.exact_with c.args.v);
-      held = λ some. held_on c.else-not-ready.self-inside.counts.room
+      held = λ some. held_on now.counts.room
           c.append_unchecked.ensures.stays is_ready.counts_room;
     }
