@@ -85,3 +85,19 @@ module _ {T : Type 0} {mask : List Bool} {values old mid : List T} {t len : ℕ}
             put = subst (λ l. PutsAt 0 l old new) (sym word.front)
                 (puts-add 0 front _ old mid new so_far.put more);
           }
+
+-- the last word, behind which the mask has no bits: of how many values there are, and all of them
+pub front_last : {T : Type 0} {mask : List Bool} {values old mid new : List T} {t len : ℕ}
+    → FrontKept mask values t len old mid → length values ≡ length mask → (n keep : ℕ)
+    → n ≡ length mask - 64 * t → n < 64 → keep < 2 ^ n
+    → digits keep 0 n ≡ slice_range mask (64 * t) (64 * t + n) → (x : ℕ) → x ≡ count_ones keep
+    → PutsAt len (kept_by (digits keep 0 (length (slice_range values (64 * t) (64 * t + n))))
+    (slice_range values (64 * t) (64 * t + n))) mid new
+    → (len + x ≡ count mask) × (new ≡ kept_by mask values ++ drop (len + x) old)
+front_last {mask = mask} {t = t} so_far same n keep size few clear of_mask x many put =
+    let more = front_more so_far same n keep (length mask) (omega (arith, size, few)) refl clear
+    of_mask x many put in
+    let end : length mask ≤ 64 * (t + 1) = omega (arith, size, few) in (
+      more.number ∙ ap count (take_all (64 * (t + 1)) mask end),
+      front_all more same end,
+    )

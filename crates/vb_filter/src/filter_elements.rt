@@ -53,21 +53,25 @@ pub fn filter_elements_into<T: Element>(
     ensures count { result ≡ count (bits_of mask.entry) }
     ensures kept { out.new ≡ kept_by (bits_of mask.entry) values.now ++ drop result out.old }
 {
+    let whole = mask.len() / 64;
     let mut len = 0;
-    for t in 0..mask.len().div_ceil(64) {
-        let n = (mask.len() - 64 * t).min(64);
-        let keep = view_word(mask, 64 * t, n);
-        len += put_elements(out, len, &values[64 * t..64 * t + n], keep);
+    for t in 0..whole {
+        let keep = view_word(mask, 64 * t, 64);
+        len += put_elements(out, len, &values[64 * t..64 * t + 64], keep);
     }
-    len
+    let n = mask.len() % 64;
+    if n == 0 {
+        return len;
+    }
+    let keep = view_word(mask, 64 * whole, n);
+    len + put_word(out, len, &values[64 * whole..64 * whole + n], keep)
 }
 
-/// Writes the elements whose digit of `keep` is 1 behind the first `len` items of `out`, and
-/// answers how many they are.
+/// Writes those of 64 elements whose digit of `keep` is 1 behind the first `len` items of `out`,
+/// and answers how many they are.
 #[inline(always)]
 fn put_elements<T: Element>(out: &mut [T], len: usize, values: &[T], keep: u64) -> usize
-    requires few { length values.now ≤ 64 }
-    requires clear { keep < 2 ^ length values.now }
+    requires long { length values.now ≡ 64 }
     requires room { len + count_ones keep ≤ length out.old }
     ensures count { result ≡ count_ones keep }
     ensures kept { PutsAt len (kept_by (digits keep 0 (length values.now)) values.now)
@@ -84,8 +88,7 @@ fn put_elements<T: Element>(out: &mut [T], len: usize, values: &[T], keep: u64) 
 #[inline(always)]
 fn put_of_four_bytes<T: Element>(out: &mut [T], len: usize, values: &[T], keep: u64) -> usize
     requires size { T.SIZE ≡ 4 }
-    requires few { length values.now ≤ 64 }
-    requires clear { keep < 2 ^ length values.now }
+    requires long { length values.now ≡ 64 }
     requires room { len + count_ones keep ≤ length out.old }
     ensures count { result ≡ count_ones keep }
     ensures kept { PutsAt len (kept_by (digits keep 0 (length values.now)) values.now)
@@ -95,7 +98,7 @@ fn put_of_four_bytes<T: Element>(out: &mut [T], len: usize, values: &[T], keep: 
     if count <= SINGLE_ELEMENTS {
         put_places(out, len, values, keep);
         count
-    } else if count < 64 && values.len() == 64 && count + 4 <= out.len() - len {
+    } else if count < 64 && count + 4 <= out.len() - len {
         put_fours(out, len, values, keep);
         count
     } else {

@@ -20,13 +20,18 @@ pub fn filter_values_into<T: Copy>(out: &mut [T], values: &[T], mask: BitBufferV
     ensures count { result ≡ count (bits_of mask.entry) }
     ensures kept { out.new ≡ kept_by (bits_of mask.entry) values.now ++ drop result out.old }
 {
+    let whole = mask.len() / 64;
     let mut len = 0;
-    for t in 0..mask.len().div_ceil(64) {
-        let n = (mask.len() - 64 * t).min(64);
-        let keep = view_word(mask, 64 * t, n);
-        len += put_word(out, len, &values[64 * t..64 * t + n], keep);
+    for t in 0..whole {
+        let keep = view_word(mask, 64 * t, 64);
+        len += put_word(out, len, &values[64 * t..64 * t + 64], keep);
     }
-    len
+    let n = mask.len() % 64;
+    if n == 0 {
+        return len;
+    }
+    let keep = view_word(mask, 64 * whole, n);
+    len + put_word(out, len, &values[64 * whole..64 * whole + n], keep)
 }
 
 /// Writes the values whose digit of `keep` is 1 behind the first `len` items of `out`, and answers

@@ -1,6 +1,7 @@
-use Rattle.std.proofs.Common.{arith}
+use Rattle.std.proofs.Common.{◌≡◌, ◌/◌, ◌%◌, subst, arith}
 use Rattle.vb_view.specs.View.{bits_of}
-use Rattle.vb_filter.proofs.FrontLemmas.{front_none, front_all, front_room, front_fits, front_more}
+use Rattle.vb_filter.proofs.FrontLemmas.{FrontKept, front_none, front_all, front_room}
+use Rattle.vb_filter.proofs.FrontLemmas.{front_fits, front_more, front_last}
 use Rattle.vb_filter.proofs.filter_elements.filter_elements_into.Goals as goal
 
 pub loop-t-init : goal.loop-t-init
@@ -10,8 +11,8 @@ pub put_elements-len-requires-clause-room : goal.put_elements-len-requires-claus
 put_elements-len-requires-clause-room g c =
     omega (
       arith,
-      front_room c.loop-t.invariant c.requires.same_len c.min-n.result c.view_word-keep.result _
-          c.min-n.ensures c.len-in-loop-t.ensures c.view_word-keep.ensures.clear
+      front_room c.loop-t.invariant c.requires.same_len 64 c.view_word-keep.result _
+          (omega arith) c.len-whole.ensures c.view_word-keep.ensures.clear
           c.view_word-keep.ensures.digits,
       c.requires.room,
       c.loop-t.auto.out,
@@ -21,21 +22,73 @@ pub overflow_add-len : goal.overflow_add-len
 overflow_add-len g c =
     omega (
       arith,
-      front_fits c.loop-t.invariant c.requires.same_len c.min-n.result c.view_word-keep.result _
-          c.min-n.ensures c.len-in-loop-t.ensures c.view_word-keep.ensures.clear
+      front_fits c.loop-t.invariant c.requires.same_len 64 c.view_word-keep.result _
+          (omega arith) c.len-whole.ensures c.view_word-keep.ensures.clear
           c.view_word-keep.ensures.digits,
       c.put_elements-len.ensures.count,
-      c.len-in-loop-t.type_inv,
+      c.len-whole.type_inv,
     )
 
 pub loop-t-preserved : goal.loop-t-preserved
 loop-t-preserved g c =
-    front_more c.loop-t.invariant c.requires.same_len c.min-n.result c.view_word-keep.result _
-    c.min-n.ensures c.len-in-loop-t.ensures c.view_word-keep.ensures.clear
+    front_more c.loop-t.invariant c.requires.same_len 64 c.view_word-keep.result _
+    (omega arith) c.len-whole.ensures c.view_word-keep.ensures.clear
     c.view_word-keep.ensures.digits _ c.put_elements-len.ensures.count
     c.put_elements-len.ensures.kept
 
+pub put_word-requires-clause-room : goal.put_word-requires-clause-room
+put_word-requires-clause-room g c =
+    let whole = c.len-whole.result / 64 in
+    let end : c.loop-t.t ≡ whole = omega arith in
+    let so_far = subst (λ t. FrontKept (bits_of c.args.mask) c.args.values.now t c.loop-t.len
+    c.args.out.now c.loop-t.out) end c.loop-t.invariant in
+    omega (
+      arith,
+      front_room so_far c.requires.same_len (c.len-n.result % 64) c.view_word-keep-2.result _
+          (omega (arith, c.len-n.ensures, c.len-whole.ensures)) c.len-n.ensures
+          c.view_word-keep-2.ensures.clear c.view_word-keep-2.ensures.digits,
+      c.requires.room,
+      c.loop-t.auto.out,
+    )
+
+pub overflow_add-result : goal.overflow_add-result
+overflow_add-result g c =
+    let whole = c.len-whole.result / 64 in
+    let end : c.loop-t.t ≡ whole = omega arith in
+    let so_far = subst (λ t. FrontKept (bits_of c.args.mask) c.args.values.now t c.loop-t.len
+    c.args.out.now c.loop-t.out) end c.loop-t.invariant in
+    omega (
+      arith,
+      front_fits so_far c.requires.same_len (c.len-n.result % 64) c.view_word-keep-2.result _
+          (omega (arith, c.len-n.ensures, c.len-whole.ensures)) c.len-n.ensures
+          c.view_word-keep-2.ensures.clear c.view_word-keep-2.ensures.digits,
+      c.put_word.ensures.count,
+      c.len-n.type_inv,
+    )
+
+pub returns-then-n-eq0-clause-kept : goal.returns-then-n-eq0-clause-kept
+returns-then-n-eq0-clause-kept g c =
+    front_all c.loop-t.invariant c.requires.same_len
+    (omega (arith, c.len-n.ensures, c.len-whole.ensures))
+
+pub returns-clause-count : goal.returns-clause-count
+returns-clause-count g c =
+    let whole = c.len-whole.result / 64 in
+    let end : c.loop-t.t ≡ whole = omega arith in
+    let so_far = subst (λ t. FrontKept (bits_of c.args.mask) c.args.values.now t c.loop-t.len
+    c.args.out.now c.loop-t.out) end c.loop-t.invariant in
+    (front_last so_far c.requires.same_len (c.len-n.result % 64) c.view_word-keep-2.result
+    (omega (arith, c.len-n.ensures, c.len-whole.ensures)) (omega arith)
+    c.view_word-keep-2.ensures.clear c.view_word-keep-2.ensures.digits _
+    c.put_word.ensures.count c.put_word.ensures.kept).0
+
 pub returns-clause-kept : goal.returns-clause-kept
 returns-clause-kept g c =
-    front_all c.loop-t.invariant c.requires.same_len
-    (omega (arith, c.len.ensures, c.div_ceil-t-end.ensures))
+    let whole = c.len-whole.result / 64 in
+    let end : c.loop-t.t ≡ whole = omega arith in
+    let so_far = subst (λ t. FrontKept (bits_of c.args.mask) c.args.values.now t c.loop-t.len
+    c.args.out.now c.loop-t.out) end c.loop-t.invariant in
+    (front_last so_far c.requires.same_len (c.len-n.result % 64) c.view_word-keep-2.result
+    (omega (arith, c.len-n.ensures, c.len-whole.ensures)) (omega arith)
+    c.view_word-keep-2.ensures.clear c.view_word-keep-2.ensures.digits _
+    c.put_word.ensures.count c.put_word.ensures.kept).1
