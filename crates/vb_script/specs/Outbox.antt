@@ -1,5 +1,6 @@
 -- What a call adds to the answers that were written or wait to be.
-use Rattle.std.specs.Prelude.{ℕ, ◌+◌, List, [], ◌++◌, Option, Result, Ok, Err, OnOk}
+use Rattle.std.specs.Prelude.{◌≡◌, ℕ, ◌+◌, List, [], ◌++◌, length, take, Option, Result, Ok, Err}
+use Rattle.std.specs.Prelude.{OnOk}
 use Rattle.std.specs.Io.KnownBytes.{append_known, Appends}
 use Rattle.std.proofs.Common.{refl, ap, ◌∙◌}
 use Rattle.std.proofs.KnownBytes.{Appends-nil, Appends-trans}
@@ -12,6 +13,12 @@ pub record Adds {X : Type 0} (text : List ℕ) (r : Result X Fault)
     (faults faults' : ℕ) : Type 0 where
   pub told : OnOk r (Appends (append_known written waiting) (append_known written' waiting') text)
   pub writes : CountsFault r faults faults'
+
+-- a text was put behind the first items, which stay, and ends there
+pub record PutsBehind (end : ℕ) (text old new : List ℕ) (behind : ℕ) : Type 0 where
+  pub ends : behind ≡ end + length text
+  pub len : length new ≡ length old
+  pub front : take behind new ≡ take end old ++ text
 
 -- nothing is added
 pub Adds-nil : (written : Option (List ℕ)) (waiting : List ℕ) (faults : ℕ)

@@ -14,6 +14,7 @@ mod outbox;
 mod session;
 mod sink;
 mod source;
+mod write;
 
 pub use driver::drive;
 pub use error::DriveError;

@@ -1,6 +1,6 @@
 use Rattle.std.proofs.Common.{arith}
 use Rattle.itoa.proofs.Decimal.{length_four}
-use Rattle.vb_script.proofs.outbox.short_count.Goals as goal
+use Rattle.vb_script.proofs.write.short_count.Goals as goal
 
 pub returns-else-n-lt10000-clause-count : goal.returns-else-n-lt10000-clause-count
 returns-else-n-lt10000-clause-count c =

@@ -1,0 +1,144 @@
+//! Pieces of answers, written into a room behind the bytes that wait there.
+ghost use Rattle.std.specs.Prelude.{◌≡◌, ◌+◌, ◌<◌, ◌≤◌, [], ◌∷◌, ◌++◌, length, decimal};
+ghost use Rattle.std.specs.List.{flat_map};
+ghost use Rattle.vb_command.specs.Printed.{digit_of};
+ghost use Rattle.vb_script.specs.Outbox.{PutsBehind};
+
+/// How many bytes a number in decimal and a byte beside it have at most.
+pub(crate) const PIECE: usize = 21;
+
+/// Writes bytes behind the first `end` ones, and answers where they end.
+#[inline(always)]
+pub(crate) fn write_bytes(room: &mut [u8], end: usize, bytes: &[u8]) -> usize
+    requires { end + length bytes.now ≤ length room.old }
+    ensures { PutsBehind end bytes.now room.old room.new result }
+{
+    let behind = end + bytes.len();
+    room[end..behind].copy_from_slice(bytes);
+    behind
+}
+
+/// Writes bytes and a line feed behind the first `end` bytes, and answers where they end.
+#[inline(always)]
+pub(crate) fn write_line(room: &mut [u8], end: usize, bytes: &[u8]) -> usize
+    requires { end + length bytes.now < length room.old }
+    ensures { PutsBehind end (bytes.now ++ 10 ∷ []) room.old room.new result }
+{
+    let behind = write_bytes(room, end, bytes);
+    room[behind] = b'\n';
+    behind + 1
+}
+
+/// Writes a number in decimal and a line feed behind the first `end` bytes, and answers where they
+/// end.
+#[inline(always)]
+pub(crate) fn write_number_line(room: &mut [u8], end: usize, n: usize) -> usize
+    requires { end + length (decimal n) < length room.old }
+    ensures { PutsBehind end (decimal n ++ 10 ∷ []) room.old room.new result }
+{
+    let feed = write_number(room, end, n);
+    room[feed] = b'\n';
+    feed + 1
+}
+
+/// Writes a byte, and a number in decimal behind it, behind the first `end` bytes, and answers
+/// where they end.
+#[inline(always)]
+pub(crate) fn write_behind(room: &mut [u8], end: usize, byte: u8, n: usize) -> usize
+    requires { end + length (decimal n) < length room.old }
+    ensures { PutsBehind end (byte ∷ decimal n) room.old room.new result }
+{
+    room[end] = byte;
+    write_number(room, end + 1, n)
+}
+
+/// Writes a number in decimal behind the first `end` bytes, and answers where it ends.
+///
+/// Its digits are counted first, and so written where they stay: a copy of them would wait until
+/// they are stored. The numbers of a list rise, so most have as many digits as the one before, and
+/// the branches of the count are foreseen.
+#[inline(always)]
+fn write_number(room: &mut [u8], end: usize, n: usize) -> usize
+    requires { end + length (decimal n) ≤ length room.old }
+    ensures { PutsBehind end (decimal n) room.old room.new result }
+{
+    let behind = end + digit_count(n as u64);
+    itoa::write_digits(n as u64, room, behind);
+    behind
+}
+
+/// How many digits a number has.
+#[inline(always)]
+fn digit_count(n: u64) -> usize
+    ensures { result ≡ length (decimal n) }
+{
+    if n < 100_000_000 {
+        return short_count(n);
+    }
+    let high = n / 100_000_000;
+    if high < 100_000_000 {
+        8 + short_count(high)
+    } else {
+        16 + short_count(high / 100_000_000)
+    }
+}
+
+/// How many digits a number of at most eight has.
+#[inline(always)]
+fn short_count(n: u64) -> usize
+    requires { n < 100000000 }
+    ensures count { result ≡ length (decimal n) }
+    ensures small { result ≤ 8 }
+{
+    if n < 10_000 {
+        few_count(n)
+    } else {
+        4 + few_count(n / 10_000)
+    }
+}
+
+/// How many digits a number of at most four has.
+#[inline(always)]
+#[tactic(auto, using(crate::proofs::Pieces::counts))]
+fn few_count(n: u64) -> usize
+    requires { n < 10000 }
+    ensures count { result ≡ length (decimal n) }
+    ensures small { result ≤ 4 }
+{
+    match n {
+        0..10 => 1,
+        10..100 => 2,
+        100..1000 => 3,
+        _ => 4,
+    }
+}
+
+/// Writes truth values as binary digits behind the first `end` bytes, and answers where they end.
+#[inline(always)]
+pub(crate) fn write_bit_codes(room: &mut [u8], end: usize, bits: &[bool]) -> usize
+    requires { end + length bits.now ≤ length room.old }
+    ensures { PutsBehind end (flat_map digit_of bits.now) room.old room.new result }
+{
+    let behind = end + bits.len();
+    fill_bit_codes(&mut room[end..behind], bits);
+    behind
+}
+
+/// Makes as many bytes as there are truth values the codes of their binary digits.
+///
+/// The bytes are there before they are written, so the loop has no way out and goes by vectors.
+fn fill_bit_codes(bytes: &mut [u8], bits: &[bool])
+    requires { length bytes.old ≡ length bits.now }
+    ensures { bytes.new ≡ flat_map digit_of bits.now }
+{
+    for k in 0..bits.len() {
+        bytes[k] = digit_byte(bits[k]);
+    }
+}
+
+/// The code of a truth value's binary digit.
+fn digit_byte(bit: bool) -> u8
+    ensures { digit_of bit ≡ result ∷ [] }
+{
+    if bit { b'1' } else { b'0' }
+}
