@@ -86,7 +86,7 @@ module _ {T : Type 0} {mask : List Bool} {values old mid : List T} {t len : ℕ}
                 (puts-add 0 front _ old mid new so_far.put more);
           }
 
--- the last word, behind which the mask has no bits: of how many values there are, and all of them
+-- with the last word, of fewer than 64 bits: how many values are kept, and all of them in front
 pub front_last : {T : Type 0} {mask : List Bool} {values old mid new : List T} {t len : ℕ}
     → FrontKept mask values t len old mid → length values ≡ length mask → (n keep : ℕ)
     → n ≡ length mask - 64 * t → n < 64 → keep < 2 ^ n

@@ -1,8 +1,8 @@
 pub mod InputLines
 pub mod KnownBytes
+pub mod Lengths
 pub mod Parts
 pub mod Passed
-pub mod Pieces
 pub mod Progress
 pub mod Scripts
 pub mod Searches

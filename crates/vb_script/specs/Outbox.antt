@@ -14,7 +14,8 @@ pub record Adds {X : Type 0} (text : List ℕ) (r : Result X Fault)
   pub told : OnOk r (Appends (append_known written waiting) (append_known written' waiting') text)
   pub writes : CountsFault r faults faults'
 
--- a text was put behind the first items, which stay, and ends there
+-- a text was put behind the first `end` items, which stay; it ends at `behind`, and the list is as
+-- long as before
 pub record PutsBehind (end : ℕ) (text old new : List ℕ) (behind : ℕ) : Type 0 where
   pub ends : behind ≡ end + length text
   pub len : length new ≡ length old

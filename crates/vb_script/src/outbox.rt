@@ -11,7 +11,7 @@ ghost use Rattle.vb_script.specs.Outbox.{Adds};
 use crate::fault::Fault;
 use crate::sink::Sink;
 use crate::write::{
-    PIECE, write_behind, write_bit_codes, write_bytes, write_line, write_number_line,
+    write_bit_codes, write_byte_and_number, write_bytes, write_line, write_number_line,
 };
 use itoa::Buffer;
 use std::alloc::{AllocError, Allocator};
@@ -19,10 +19,13 @@ use std::marker::Model;
 use vb_command::{Answer, Printer};
 
 /// How many bytes wait at most.
-const ROOM: usize = 65536;
+const MOST: usize = 65536;
 
-/// For how many bytes there is room at first.
+/// How long the room is at least once it has grown.
 const FIRST_ROOM: usize = 1024;
+
+/// How many bytes a number in decimal and a byte beside it have at most.
+const PIECE: usize = 21;
 
 /// The text of the answers that waits to be written. Contracts see its bytes.
 ///
@@ -30,7 +33,7 @@ const FIRST_ROOM: usize = 1024;
 #[derive(Drop)]
 pub(crate) struct Outbox<A: Allocator> {
     /// The room for bytes, each of which has been written, so that answers are stored there with
-    /// no look at a capacity. It grows up to `ROOM`, within the memory that it has.
+    /// no look at a capacity. It grows up to `MOST`, within the memory that it has.
     room: Vec<u8, A>,
     /// How many bytes at its front wait.
     end: usize,
@@ -38,14 +41,14 @@ pub(crate) struct Outbox<A: Allocator> {
 
 impl<A: Allocator> Model for Outbox<A> {
     ghost use Rattle.std.specs.Prelude.{ℕ, List, ◌≤◌, length, take, vec_capacity};
-    ghost use Rattle.vb_script.specs.declared.outbox.TheConstants.{ROOM};
+    ghost use Rattle.vb_script.specs.declared.outbox.TheConstants.{MOST};
 
     ghost Value = { List ℕ };
 
     ghost view = { λ o. take o.end o.room.items };
 
-    ghost invariant = { λ o. (o.end ≤ length o.room.items) × (length o.room.items ≤ ROOM)
-        × (ROOM ≤ vec_capacity o.room) };
+    ghost invariant = { λ o. (o.end ≤ length o.room.items) × (length o.room.items ≤ MOST)
+        × (MOST ≤ vec_capacity o.room) };
 }
 
 impl<A: Allocator> Outbox<A> {
@@ -54,7 +57,7 @@ impl<A: Allocator> Outbox<A> {
         ensures { IfOk result (λ out. out ≡ []) }
     {
         Ok(Outbox {
-            room: Vec::with_capacity(alloc, ROOM)?,
+            room: Vec::with_capacity(alloc, MOST)?,
             end: 0,
         })
     }
@@ -68,16 +71,16 @@ impl<A: Allocator> Outbox<A> {
         answer.print(self, output)
     }
 
-    /// Adds truth values as binary digits, no more than there is room for. What waits is written
-    /// first where there is no room for both.
+    /// Adds at most `MOST` truth values as binary digits. What waits is written first where both
+    /// would be more than that.
     #[tactic(auto, using(crate::proofs::KnownBytes::known_bytes))]
     fn put_block<W: Sink>(&mut self, bits: &[bool], output: &mut W) -> Result<(), Fault>
-        requires { length bits.now ≤ ROOM }
+        requires { length bits.now ≤ MOST }
         ensures { Adds (flat_map digit_of bits.now) result
             (W.contents output.old) self.old (W.contents output.new) self.new
             (W.faults output.old) (W.faults output.new) }
     {
-        if bits.len() > ROOM - self.end {
+        if bits.len() > MOST - self.end {
             self.flush(output)?;
         }
         lengthen(&mut self.room, self.end + bits.len());
@@ -85,17 +88,17 @@ impl<A: Allocator> Outbox<A> {
         Ok(())
     }
 
-    /// Adds bytes. What waits is written first where there is no room for both.
+    /// Adds bytes. What waits is written first where both would be more than `MOST`.
     #[tactic(auto, using(crate::proofs::KnownBytes::known_bytes))]
     fn put<W: Sink>(&mut self, bytes: &[u8], output: &mut W) -> Result<(), Fault>
         ensures { Adds bytes.now result
             (W.contents output.old) self.old (W.contents output.new) self.new
             (W.faults output.old) (W.faults output.new) }
     {
-        if bytes.len() > ROOM - self.end {
+        if bytes.len() > MOST - self.end {
             self.flush(output)?;
         }
-        if bytes.len() > ROOM {
+        if bytes.len() > MOST {
             return output.write(bytes);
         }
         lengthen(&mut self.room, self.end + bytes.len());
@@ -103,11 +106,11 @@ impl<A: Allocator> Outbox<A> {
         Ok(())
     }
 
-    /// Adds a byte, and then a number in decimal: what few numbers need, which stands apart so that
-    /// the others save no registers for its calls.
+    /// Adds a byte, and then a number in decimal, where both may have no room. It stands apart, so
+    /// that numbers that have it save no registers for these calls.
     #[cold]
     #[inline(never)]
-    fn put_behind_by_parts<W: Sink>(
+    fn put_behind_by_pieces<W: Sink>(
         &mut self,
         byte: u8,
         n: usize,
@@ -121,10 +124,11 @@ impl<A: Allocator> Outbox<A> {
         self.put_number(n, output)
     }
 
-    /// Adds a number in decimal, and then a line feed, as few numbers need it.
+    /// Adds a number in decimal, and then a line feed, where both may have no room. It stands apart
+    /// likewise.
     #[cold]
     #[inline(never)]
-    fn put_last_number_by_parts<W: Sink>(&mut self, n: usize, output: &mut W) -> Result<(), Fault>
+    fn put_last_number_by_pieces<W: Sink>(&mut self, n: usize, output: &mut W) -> Result<(), Fault>
         ensures { Adds (decimal n ++ 10 ∷ []) result
             (W.contents output.old) self.old (W.contents output.new) self.new
             (W.faults output.old) (W.faults output.new) }
@@ -176,19 +180,19 @@ impl<A: Allocator, W: Sink> Printer<W> for Outbox<A> {
         self.put(digits.format(n).as_bytes(), output)
     }
 
-    #[tactic(auto, using(crate::proofs::KnownBytes::known_bytes, crate::proofs::Pieces::pieces))]
+    #[tactic(auto, using(crate::proofs::KnownBytes::known_bytes, crate::proofs::Lengths::lengths))]
     fn put_behind(&mut self, byte: u8, n: usize, output: &mut W) -> Result<(), Fault> {
         if PIECE > self.room.len() - self.end {
-            return self.put_behind_by_parts(byte, n, output);
+            return self.put_behind_by_pieces(byte, n, output);
         }
-        self.end = write_behind(&mut self.room, self.end, byte, n);
+        self.end = write_byte_and_number(&mut self.room, self.end, byte, n);
         Ok(())
     }
 
     fn put_digits(&mut self, bits: &[bool], output: &mut W) -> Result<(), Fault> {
         let mut start = 0;
         while start < bits.len() {
-            let end = start + ROOM.min(bits.len() - start);
+            let end = start + MOST.min(bits.len() - start);
             self.put_block(&bits[start..end], output)?;
             start = end;
         }
@@ -211,31 +215,31 @@ impl<A: Allocator, W: Sink> Printer<W> for Outbox<A> {
         Ok(())
     }
 
-    #[tactic(auto, using(crate::proofs::KnownBytes::known_bytes, crate::proofs::Pieces::pieces))]
+    #[tactic(auto, using(crate::proofs::KnownBytes::known_bytes, crate::proofs::Lengths::lengths))]
     fn put_last_number(&mut self, n: usize, output: &mut W) -> Result<(), Fault> {
         if PIECE > self.room.len() - self.end {
-            return self.put_last_number_by_parts(n, output);
+            return self.put_last_number_by_pieces(n, output);
         }
         self.end = write_number_line(&mut self.room, self.end, n);
         Ok(())
     }
 }
 
-/// Makes a room that has the memory for it hold so many bytes, and, so that few calls do that, at
-/// least twice as many as before.
+/// Makes the room at least so long, within its memory. Where it grows it gets at least twice as
+/// long, or `MOST` bytes, so that it seldom does.
 fn lengthen<A: Allocator>(room: &mut Vec<u8, A>, size: usize)
-    requires size { size ≤ ROOM }
-    requires most { length room.old.items ≤ ROOM }
-    requires memory { ROOM ≤ vec_capacity room.old }
+    requires size { size ≤ MOST }
+    requires most { length room.old.items ≤ MOST }
+    requires memory { MOST ≤ vec_capacity room.old }
     ensures long { size ≤ length room.new.items }
-    ensures most { length room.new.items ≤ ROOM }
-    ensures memory { ROOM ≤ vec_capacity room.new }
+    ensures most { length room.new.items ≤ MOST }
+    ensures memory { MOST ≤ vec_capacity room.new }
     ensures kept { (end : ℕ) → end ≤ length room.old.items
         → take end room.new.items ≡ take end room.old.items }
 {
     let len = room.len();
     if len < size {
-        let more = size.max(2 * len).max(FIRST_ROOM).min(ROOM);
+        let more = size.max(2 * len).max(FIRST_ROOM).min(MOST);
         room.resize(more, 0).unwrap();
     }
 }

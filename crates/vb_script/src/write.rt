@@ -1,11 +1,9 @@
-//! Pieces of answers, written into a room behind the bytes that wait there.
+//! Pieces of answers, written into a room behind the bytes that wait there. What stands behind a
+//! piece is any bytes.
 ghost use Rattle.std.specs.Prelude.{◌≡◌, ◌+◌, ◌<◌, ◌≤◌, [], ◌∷◌, ◌++◌, length, decimal};
 ghost use Rattle.std.specs.List.{flat_map};
 ghost use Rattle.vb_command.specs.Printed.{digit_of};
 ghost use Rattle.vb_script.specs.Outbox.{PutsBehind};
-
-/// How many bytes a number in decimal and a byte beside it have at most.
-pub(crate) const PIECE: usize = 21;
 
 /// Writes bytes behind the first `end` ones, and answers where they end.
 #[inline(always)]
@@ -41,10 +39,9 @@ pub(crate) fn write_number_line(room: &mut [u8], end: usize, n: usize) -> usize
     feed + 1
 }
 
-/// Writes a byte, and a number in decimal behind it, behind the first `end` bytes, and answers
-/// where they end.
+/// Writes a byte and a number in decimal behind the first `end` bytes, and answers where they end.
 #[inline(always)]
-pub(crate) fn write_behind(room: &mut [u8], end: usize, byte: u8, n: usize) -> usize
+pub(crate) fn write_byte_and_number(room: &mut [u8], end: usize, byte: u8, n: usize) -> usize
     requires { end + length (decimal n) < length room.old }
     ensures { PutsBehind end (byte ∷ decimal n) room.old room.new result }
 {
@@ -56,7 +53,7 @@ pub(crate) fn write_behind(room: &mut [u8], end: usize, byte: u8, n: usize) -> u
 ///
 /// Its digits are counted first, and so written where they stay: a copy of them would wait until
 /// they are stored. The numbers of a list rise, so most have as many digits as the one before, and
-/// the branches of the count are foreseen.
+/// the branches of the count are predicted.
 #[inline(always)]
 fn write_number(room: &mut [u8], end: usize, n: usize) -> usize
     requires { end + length (decimal n) ≤ length room.old }
@@ -99,7 +96,7 @@ fn short_count(n: u64) -> usize
 
 /// How many digits a number of at most four has.
 #[inline(always)]
-#[tactic(auto, using(crate::proofs::Pieces::counts))]
+#[tactic(auto, using(crate::proofs::Lengths::counts))]
 fn few_count(n: u64) -> usize
     requires { n < 10000 }
     ensures count { result ≡ length (decimal n) }

@@ -341,7 +341,7 @@ fn is_cut_between_pieces(rt: &impl Abort, alloc: Global, lines: &str) {
 }
 
 /// Each piece of the last answers ends at the end of the room, and at each distance from it up to
-/// past 24 bytes, which is that of a number and the byte beside it. Each write has the bytes that
+/// past 21 bytes, which a number and the byte beside it have at most. Each write has the bytes that
 /// it has where pieces come one by one.
 #[test]
 fn writes_are_cut_between_pieces(rt: HostRuntime) {
@@ -353,12 +353,13 @@ fn writes_are_cut_between_pieces(rt: HostRuntime) {
 }
 
 /// Lines that list as many bits as the room has bytes, and more, before other answers and behind
-/// them.
+/// them; and places, for which the room grows by steps.
 const LONG_LISTS: &[&str] = &[
     "full 0 1 65536\nfreeze 0\nbits 0\nlen 0\n",
     "full 0 1 65537\nbits 0\nlen 0\n",
     "full 0 1 131072\nbits 0\nbits 0\n",
     "len 9\nfull 0 1 131073\nbits 0\nlast 0\nfull 1 1 65000\nbits 1\nbits 0\n",
+    "full 0 1 20000\nplaces 0\nlen 0\nruns 0\nplaces 0\n",
 ];
 
 #[test]

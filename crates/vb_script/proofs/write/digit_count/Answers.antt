@@ -1,5 +1,5 @@
 use Rattle.std.proofs.Common.{◌/◌, ◌^◌, arith}
-use Rattle.vb_script.proofs.Pieces.{length_eight}
+use Rattle.vb_script.proofs.Lengths.{length_eight}
 use Rattle.vb_script.proofs.write.digit_count.Goals as goal
 
 pub returns-then-high-lt100000000 : goal.returns-then-high-lt100000000

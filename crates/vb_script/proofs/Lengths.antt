@@ -1,4 +1,4 @@
--- How long numbers are, and pieces that are put behind others.
+-- How many digits numbers have.
 use Rattle.std.proofs.Common.{◌≡◌, ℕ, ◌+◌, ◌/◌, ◌^◌, ◌<◌}
 use Rattle.std.proofs.Common.{◌≤◌, length}
 use Rattle.std.proofs.Common.{ap, ◌∙◌, arith}
@@ -19,7 +19,7 @@ pub length_fourth : (n : ℕ) → 1000 ≤ n → n < 10000 → length (decimal n
 length_fourth n low high = length_pair n (omega (arith, low)) (omega (arith, high))
     ∙ ap (λ k. k + 2) (length_two (n / 100) (omega (arith, low)) (omega (arith, high)))
 
--- a number of more than eight digits has eight more than what stands before these
+-- a number of more than eight digits has eight more than the number before its last eight
 pub length_eight : (n : ℕ) → 10 ^ 8 ≤ n → n < 2 ^ 64
     → length (decimal n) ≡ 8 + length (decimal (n / 10 ^ 8))
 length_eight n low high =
@@ -32,7 +32,7 @@ length_eight n low high =
     )
 
 -- for `#[tactic(auto, using(..))]`: how long a number is
-pub ruleset pieces = (short-decimal)
+pub ruleset lengths = (short-decimal)
 
 -- for `#[tactic(auto, using(..))]`: how many digits a number of at most four has
 pub ruleset counts = (length_one, length_two, length_three, length_fourth)
