@@ -86,18 +86,34 @@ module _ {T : Type 0} {mask : List Bool} {values old mid : List T} {t len : ℕ}
                 (puts-add 0 front _ old mid new so_far.put more);
           }
 
--- with the last word, of fewer than 64 bits: how many values are kept, and all of them in front
-pub front_last : {T : Type 0} {mask : List Bool} {values old mid new : List T} {t len : ℕ}
-    → FrontKept mask values t len old mid → length values ≡ length mask → (n keep : ℕ)
-    → n ≡ length mask - 64 * t → n < 64 → keep < 2 ^ n
-    → digits keep 0 n ≡ slice_range mask (64 * t) (64 * t + n) → (x : ℕ) → x ≡ count_ones keep
-    → PutsAt len (kept_by (digits keep 0 (length (slice_range values (64 * t) (64 * t + n))))
-    (slice_range values (64 * t) (64 * t + n))) mid new
-    → (len + x ≡ count mask) × (new ≡ kept_by mask values ++ drop (len + x) old)
-front_last {mask = mask} {t = t} so_far same n keep size few clear of_mask x many put =
-    let more = front_more so_far same n keep (length mask) (omega (arith, size, few)) refl clear
-    of_mask x many put in
-    let end : length mask ≤ 64 * (t + 1) = omega (arith, size, few) in (
-      more.number ∙ ap count (take_all (64 * (t + 1)) mask end),
-      front_all more same end,
-    )
+-- once t is the number of the whole words, with the last word, of n bits
+module _ {T : Type 0} {mask : List Bool} {values old mid : List T} {t len : ℕ} (whole : ℕ)
+    (so_far : FrontKept mask values t len old mid) (end : t ≡ whole)
+    (same : length values ≡ length mask) (n keep : ℕ) (size : n ≡ length mask - 64 * whole)
+    (few : n < 64) (clear : keep < 2 ^ n)
+    (of_mask : digits keep 0 n ≡ slice_range mask (64 * whole) (64 * whole + n)) where
+  all_whole : FrontKept mask values whole len old mid
+  all_whole = subst (λ k. FrontKept mask values k len old mid) end so_far
+
+  -- there is room for what it keeps
+  pub last_room : len + count_ones keep ≤ count mask
+  last_room =
+      front_room all_whole same n keep (length mask) (omega (arith, size, few)) refl clear of_mask
+
+  -- and their number fits
+  pub last_fits : len + count_ones keep ≤ length mask
+  last_fits =
+      front_fits all_whole same n keep (length mask) (omega (arith, size, few)) refl clear of_mask
+
+  -- how many values are kept, and all of them in front
+  pub front_last : {new : List T} → (x : ℕ) → x ≡ count_ones keep
+      → PutsAt len (kept_by (digits keep 0 (length (slice_range values (64 * whole) (64 * whole
+      + n)))) (slice_range values (64 * whole) (64 * whole + n))) mid new
+      → (len + x ≡ count mask) × (new ≡ kept_by mask values ++ drop (len + x) old)
+  front_last x many put =
+      let more = front_more all_whole same n keep (length mask) (omega (arith, size, few)) refl
+      clear of_mask x many put in
+      let done : length mask ≤ 64 * (whole + 1) = omega (arith, size, few) in (
+        more.number ∙ ap count (take_all (64 * (whole + 1)) mask done),
+        front_all more same done,
+      )

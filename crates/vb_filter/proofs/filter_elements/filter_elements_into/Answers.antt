@@ -1,7 +1,7 @@
-use Rattle.std.proofs.Common.{◌≡◌, ◌/◌, ◌%◌, subst, arith}
+use Rattle.std.proofs.Common.{◌/◌, ◌%◌, arith}
 use Rattle.vb_view.specs.View.{bits_of}
-use Rattle.vb_filter.proofs.FrontLemmas.{FrontKept, front_none, front_all, front_room}
-use Rattle.vb_filter.proofs.FrontLemmas.{front_fits, front_more, front_last}
+use Rattle.vb_filter.proofs.FrontLemmas.{front_none, front_all, front_room, front_fits}
+use Rattle.vb_filter.proofs.FrontLemmas.{front_more, last_room, last_fits, front_last}
 use Rattle.vb_filter.proofs.filter_elements.filter_elements_into.Goals as goal
 
 pub loop-t-init : goal.loop-t-init
@@ -38,14 +38,11 @@ loop-t-preserved g c =
 
 pub put_word-requires-clause-room : goal.put_word-requires-clause-room
 put_word-requires-clause-room g c =
-    let whole = c.len-whole.result / 64 in
-    let end : c.loop-t.t ≡ whole = omega arith in
-    let so_far = subst (λ t. FrontKept (bits_of c.args.mask) c.args.values.now t c.loop-t.len
-    c.args.out.now c.loop-t.out) end c.loop-t.invariant in
     omega (
       arith,
-      front_room so_far c.requires.same_len (c.len-n.result % 64) c.view_word-keep-2.result _
-          (omega (arith, c.len-n.ensures, c.len-whole.ensures)) c.len-n.ensures
+      last_room (c.len-whole.result / 64) c.loop-t.invariant (omega arith) c.requires.same_len
+          (c.len-n.result % 64) c.view_word-keep-2.result
+          (omega (arith, c.len-n.ensures, c.len-whole.ensures)) (omega arith)
           c.view_word-keep-2.ensures.clear c.view_word-keep-2.ensures.digits,
       c.requires.room,
       c.loop-t.auto.out,
@@ -53,16 +50,14 @@ put_word-requires-clause-room g c =
 
 pub overflow_add-result : goal.overflow_add-result
 overflow_add-result g c =
-    let whole = c.len-whole.result / 64 in
-    let end : c.loop-t.t ≡ whole = omega arith in
-    let so_far = subst (λ t. FrontKept (bits_of c.args.mask) c.args.values.now t c.loop-t.len
-    c.args.out.now c.loop-t.out) end c.loop-t.invariant in
     omega (
       arith,
-      front_fits so_far c.requires.same_len (c.len-n.result % 64) c.view_word-keep-2.result _
-          (omega (arith, c.len-n.ensures, c.len-whole.ensures)) c.len-n.ensures
+      last_fits (c.len-whole.result / 64) c.loop-t.invariant (omega arith) c.requires.same_len
+          (c.len-n.result % 64) c.view_word-keep-2.result
+          (omega (arith, c.len-n.ensures, c.len-whole.ensures)) (omega arith)
           c.view_word-keep-2.ensures.clear c.view_word-keep-2.ensures.digits,
       c.put_word.ensures.count,
+      c.len-n.ensures,
       c.len-n.type_inv,
     )
 
@@ -73,22 +68,16 @@ returns-then-n-eq0-clause-kept g c =
 
 pub returns-clause-count : goal.returns-clause-count
 returns-clause-count g c =
-    let whole = c.len-whole.result / 64 in
-    let end : c.loop-t.t ≡ whole = omega arith in
-    let so_far = subst (λ t. FrontKept (bits_of c.args.mask) c.args.values.now t c.loop-t.len
-    c.args.out.now c.loop-t.out) end c.loop-t.invariant in
-    (front_last so_far c.requires.same_len (c.len-n.result % 64) c.view_word-keep-2.result
+    (front_last (c.len-whole.result / 64) c.loop-t.invariant (omega arith) c.requires.same_len
+    (c.len-n.result % 64) c.view_word-keep-2.result
     (omega (arith, c.len-n.ensures, c.len-whole.ensures)) (omega arith)
     c.view_word-keep-2.ensures.clear c.view_word-keep-2.ensures.digits _
     c.put_word.ensures.count c.put_word.ensures.kept).0
 
 pub returns-clause-kept : goal.returns-clause-kept
 returns-clause-kept g c =
-    let whole = c.len-whole.result / 64 in
-    let end : c.loop-t.t ≡ whole = omega arith in
-    let so_far = subst (λ t. FrontKept (bits_of c.args.mask) c.args.values.now t c.loop-t.len
-    c.args.out.now c.loop-t.out) end c.loop-t.invariant in
-    (front_last so_far c.requires.same_len (c.len-n.result % 64) c.view_word-keep-2.result
+    (front_last (c.len-whole.result / 64) c.loop-t.invariant (omega arith) c.requires.same_len
+    (c.len-n.result % 64) c.view_word-keep-2.result
     (omega (arith, c.len-n.ensures, c.len-whole.ensures)) (omega arith)
     c.view_word-keep-2.ensures.clear c.view_word-keep-2.ensures.digits _
     c.put_word.ensures.count c.put_word.ensures.kept).1
