@@ -1,7 +1,10 @@
 //! The calls that are measured, as C functions: the kernels' of crates/vb_c and its like, and those
 //! of the benchmarks' own library, `library/`, which says what each does.
 
+mod values;
+
 use crate::input::Window;
+pub use values::*;
 
 /// The place of a bit, if there is one.
 #[repr(C)]
@@ -172,46 +175,6 @@ unsafe extern "C" {
         right_validity_offset: usize,
         len: usize,
     );
-}
-
-#[link(name = "vb_c_values", kind = "static")]
-unsafe extern "C" {
-    pub fn vb_filter_u32(
-        out: *mut u32,
-        room: usize,
-        values: *const u32,
-        many: usize,
-        mask: Bytes,
-        mask_size: usize,
-        m: usize,
-    ) -> usize;
-}
-
-/// A comparison of values with a number.
-pub type Compare<T> = unsafe extern "C" fn(*mut u8, usize, usize, *const T, usize, u8, T);
-
-macro_rules! compares {
-    ($($name:ident: $value:ty;)*) => {
-        #[link(name = "vb_c_compare", kind = "static")]
-        unsafe extern "C" {
-            $(pub fn $name(
-                out: *mut u8,
-                out_size: usize,
-                o: usize,
-                values: *const $value,
-                many: usize,
-                op: u8,
-                number: $value,
-            );)*
-        }
-    };
-}
-
-compares! {
-    vb_compare_u32: u32;
-    vb_compare_i64: i64;
-    vb_compare_f32: f32;
-    vb_compare_f64: f64;
 }
 
 // The kit's functions for memory stand behind the library that calls them.

@@ -216,6 +216,18 @@ pub fn above<T: PartialOrd + Copy>(out: &mut [u8], values: &[T], limit: T) {
     }
 }
 
+/// Which values are above others at their places, eight to a byte.
+#[inline(never)]
+pub fn above_others<T: PartialOrd + Copy>(out: &mut [u8], values: &[T], others: &[T]) {
+    let eights = values.chunks_exact(8).zip(others.chunks_exact(8));
+    for (byte, (eight, others)) in out.iter_mut().zip(eights) {
+        let digits = eight.iter().zip(others).enumerate();
+        *byte = digits.fold(0, |byte, (at, (value, other))| {
+            byte | u8::from(value > other) << at
+        });
+    }
+}
+
 /// `and` of truth values that may be null, of two columns of values and validity: which answers are
 /// true, and which aren't null, a word of each at a time.
 #[inline(never)]
@@ -427,6 +439,17 @@ pub fn filtered(values: &[u32], mask: &Input) -> Vec<u32> {
         }
     }
     kept
+}
+
+/// The values at the set places of a mask written one by one; it begins with its words.
+#[inline(never)]
+pub fn filter_ones<T: Copy>(out: &mut [T], values: &[T], mask: &Input) -> usize {
+    let mut at = 0;
+    for_each_set_bit(mask, 0, values.len(), |place| {
+        out[at] = values[place];
+        at += 1;
+    });
+    at
 }
 
 /// The bits at the set places of a mask written one by one; both begin with their words.

@@ -1,10 +1,10 @@
-//! Values compared with a number, into bits.
+//! Values compared with a number and with others, into bits.
 
 use std::cell::RefCell;
 
 use super::MILLION;
 use crate::bench::Bench;
-use crate::calls::{self, Compare};
+use crate::calls::{self, Compare, CompareWith};
 use crate::input::Random;
 use crate::loops;
 use crate::measure::Contender;
@@ -41,7 +41,55 @@ pub fn measure(bench: &mut Bench) {
         ] {
             bench.row(row.at_most(1.2, LOOP));
         }
+        for row in [
+            with_others(
+                "`compare_with_u32`",
+                &numbers,
+                calls::vb_compare_with_u32,
+                offset,
+            ),
+            with_others(
+                "`compare_with_i64`",
+                &wide,
+                calls::vb_compare_with_i64,
+                offset,
+            ),
+        ] {
+            bench.row(row);
+        }
     }
+}
+
+/// Beside the values from the other end on.
+fn with_others<'a, T: PartialOrd + Copy>(
+    call: &str,
+    values: &'a [T],
+    compare: CompareWith<T>,
+    offset: usize,
+) -> Row<'a>
+where
+    T: 'a,
+{
+    let others: Vec<T> = values.iter().rev().copied().collect();
+    let again = others.clone();
+    let (to, over) = (vec![0u8; values.len() / 8 + 1], vec![0u8; values.len() / 8]);
+    let (to, over) = (RefCell::new(to), RefCell::new(over));
+    let ours = move || {
+        let out = &mut *to.borrow_mut();
+        let (to, size) = (out.as_mut_ptr(), out.len());
+        let (from, many) = (values.as_ptr(), values.len());
+        let (beside, as_many) = (others.as_ptr(), others.len());
+        unsafe { compare(to, size, offset, from, many, GREATER, beside, as_many) };
+        0
+    };
+    let plain = move || {
+        loops::above_others(&mut over.borrow_mut(), values, &again);
+        0
+    };
+    Row::new(call, Contender::of(ours))
+        .items(values.len())
+        .offsets(&[offset])
+        .plain(Contender::of(plain))
 }
 
 fn row<'a, T: PartialOrd + Copy>(

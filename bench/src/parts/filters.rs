@@ -5,20 +5,24 @@ use std::hint::black_box;
 
 use super::{MILLION, upstream};
 use crate::bench::Bench;
-use crate::calls;
+use crate::calls::{self, Filter};
 use crate::input::Input;
 use crate::loops;
 use crate::measure::Contender;
 use crate::row::{LOOP, Row};
 
 const MEMCPY: &str = "memcpy";
+const ONES: &str = "a loop over ones";
 
 pub fn measure(bench: &mut Bench) {
     bench.begin("Filters");
     let values: &Vec<u32> = &(0..MILLION as u32).collect();
     for share in [0.5, 0.1, 0.001, 0.9, 1.0] {
         let mask = &Input::with_set(share, MILLION / 8);
-        for row in [owned(values, mask), into(values, mask)] {
+        let into = into("`filter_elements_into`", values, mask, calls::vb_filter_u32)
+            .plain(plain(values, mask))
+            .beside(MEMCPY, memcpy(values));
+        for row in [owned(values, mask), into] {
             let row = row.set(share);
             bench.row(match share {
                 1.0 => row.at_most(1.3, MEMCPY),
@@ -27,6 +31,7 @@ pub fn measure(bench: &mut Bench) {
             });
         }
     }
+    other_widths(bench);
     for share in [0.5, 0.1, 0.001] {
         let mask = &Input::with_set(share, MILLION / 8);
         for offset in [0, 3] {
@@ -75,19 +80,57 @@ fn owned<'a>(values: &'a [u32], mask: &'a Input) -> Row<'a> {
 }
 
 /// Into memory that is there.
-fn into<'a>(values: &'a [u32], mask: &'a Input) -> Row<'a> {
+fn into<'a, T: Copy + Default + 'a>(
+    call: &str,
+    values: &'a [T],
+    mask: &'a Input,
+    filter: Filter<T>,
+) -> Row<'a> {
     let bytes = mask.bytes(MILLION / 8);
-    let over = RefCell::new(vec![0; values.len()]);
+    let over = RefCell::new(vec![T::default(); values.len()]);
     let ours = move || {
         let out = &mut *over.borrow_mut();
         let (to, room) = (out.as_mut_ptr(), out.len());
         let (from, many) = (values.as_ptr(), values.len());
-        unsafe { calls::vb_filter_u32(to, room, from, many, bytes.as_ptr(), bytes.len(), 0) }
+        unsafe { filter(to, room, from, many, bytes.as_ptr(), bytes.len(), 0) }
     };
-    Row::new("`filter_values_into`", Contender::of(ours))
+    let over = RefCell::new(vec![T::default(); values.len()]);
+    let ones = move || loops::filter_ones(&mut over.borrow_mut(), values, mask);
+    Row::new(call, Contender::of(ours))
         .items(values.len())
-        .plain(plain(values, mask))
-        .beside(MEMCPY, memcpy(values))
+        .beside(ONES, Contender::of(ones))
+}
+
+/// Values of other widths than four bytes.
+fn other_widths(bench: &mut Bench) {
+    let bytes: &Vec<u8> = &(0..MILLION).map(|it| it as u8).collect();
+    let halves: &Vec<u16> = &(0..MILLION).map(|it| it as u16).collect();
+    let wide: &Vec<u64> = &(0..MILLION as u64).collect();
+    for share in [0.5, 0.1, 0.001, 0.9] {
+        let mask = &Input::with_set(share, MILLION / 8);
+        for row in [
+            into(
+                "`filter_elements_into` of `u8`",
+                bytes,
+                mask,
+                calls::vb_filter_u8,
+            ),
+            into(
+                "`filter_elements_into` of `u16`",
+                halves,
+                mask,
+                calls::vb_filter_u16,
+            ),
+            into(
+                "`filter_elements_into` of `u64`",
+                wide,
+                mask,
+                calls::vb_filter_u64,
+            ),
+        ] {
+            bench.row(row.set(share));
+        }
+    }
 }
 
 /// To the bits from bit `offset` on of memory that is there.
