@@ -9,6 +9,9 @@ use crate::measure::Contender;
 pub const UPSTREAM: &str = "upstream";
 pub const LOOP: &str = "loop";
 
+/// The name of a loop over the ones of a mask, which stands beside the others.
+pub const ONES: &str = "a loop over ones";
+
 /// How far above an aim a ratio may be and count as met: a tolerance for the noise of rounds.
 pub const NOISE: f64 = 1.02;
 
@@ -139,7 +142,7 @@ impl<'a> Row<'a> {
     pub fn equals(&self) -> impl Iterator<Item = &Contender<'a>> {
         let named = self.names.iter().zip(&self.contenders);
         named
-            .filter(|(name, _)| [UPSTREAM, LOOP].contains(name))
+            .filter(|(name, _)| [UPSTREAM, LOOP, ONES].contains(name))
             .map(|(_, it)| it)
     }
 

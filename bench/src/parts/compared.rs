@@ -80,11 +80,12 @@ where
         let (from, many) = (values.as_ptr(), values.len());
         let (beside, as_many) = (others.as_ptr(), others.len());
         unsafe { compare(to, size, offset, from, many, GREATER, beside, as_many) };
-        0
+        some_answers(out, offset)
     };
     let plain = move || {
-        loops::above_others(&mut over.borrow_mut(), values, &again);
-        0
+        let out = &mut *over.borrow_mut();
+        loops::above_others(out, values, &again);
+        some_answers(out, 0)
     };
     Row::new(call, Contender::of(ours))
         .items(values.len())
@@ -118,14 +119,22 @@ where
                 limit,
             )
         };
-        0
+        some_answers(out, offset)
     };
     let plain = move || {
-        loops::above(&mut over.borrow_mut(), values, limit);
-        0
+        let out = &mut *over.borrow_mut();
+        loops::above(out, values, limit);
+        some_answers(out, 0)
     };
     Row::new(call, Contender::of(ours))
         .items(values.len())
         .offsets(&[offset])
         .plain(Contender::of(plain))
+}
+
+/// Those of some values in the middle, where that of the first value is bit `offset`: contenders
+/// are held against each other by them.
+fn some_answers(bits: &[u8], offset: usize) -> usize {
+    let middle = bits[MILLION / 16..].first_chunk().expect("eight bytes");
+    (u64::from_le_bytes(*middle) >> offset) as u32 as usize
 }

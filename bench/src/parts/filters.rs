@@ -9,10 +9,9 @@ use crate::calls::{self, Filter};
 use crate::input::Input;
 use crate::loops;
 use crate::measure::Contender;
-use crate::row::{LOOP, Row};
+use crate::row::{LOOP, ONES, Row};
 
 const MEMCPY: &str = "memcpy";
-const ONES: &str = "a loop over ones";
 
 pub fn measure(bench: &mut Bench) {
     bench.begin("Filters");
