@@ -50,8 +50,9 @@ impl Bench {
         }
     }
 
-    /// The rows from here on belong to this part.
+    /// The rows from here on belong to this part, which standard error names.
     pub fn begin(&mut self, part: &'static str) {
+        eprintln!("  measures {part}");
         self.part = part;
         self.parts.push((part, String::new()));
     }
