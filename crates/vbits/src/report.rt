@@ -1,9 +1,13 @@
-//! How the program tells of its end.
+//! What the program says beside its answers.
 ghost use Rattle.std.specs.Prelude.{◌≡◌};
 ghost use Rattle.vbits.specs.Report.{status_of};
 
 use std::fmt;
 use vb_script::DriveError;
+
+/// The line that greets a person at a terminal.
+pub const WAITS: &str =
+    "vbits: type commands, one a line, and Ctrl-D at the end; docs/COMMANDS.md lists them";
 
 /// The exit status: 0 where the whole input was answered, 2 where a line can't be read, and 3 where
 /// reading, writing or memory failed.
