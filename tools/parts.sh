@@ -28,19 +28,21 @@ left=0
 all=0
 # About how many seconds it takes to prove a crate for the first time.
 seconds_a_crate=75
-# How many crates the running part needs, how many of them are done, and how many were when it began.
+# How many crates the running part needs, how many of them are done, and how many were when it
+# began.
 crates_all=0
 crates_done=0
 crates_before=0
 
-# Prints its arguments as a line. Inside of another such command, that one keeps the line.
+# Prints its arguments as a line. Inside of another such command, that one keeps the line. On a full
+# disk the line is printed all the same.
 say() {
-    [ -n "${PARTS_LOG:-}" ] || printf '%s\n' "$*" >>"$log"
+    [ -n "${PARTS_LOG:-}" ] || printf '%s\n' "$*" 2>/dev/null >>"$log" || true
     printf '%s\n' "$*"
 }
 
-# Begins a run of parts with the shares after $1, whose output goes to the file $1. Inside of another
-# such command, which passes PARTS_LOG, it goes to that one's file.
+# Begins a run of parts with the shares after $1, whose output goes to the file $1. Inside of
+# another such command, which passes PARTS_LOG, it goes to that one's file.
 begin() {
     log=${PARTS_LOG:-$1}
     shares=("${@:2}")
@@ -82,8 +84,8 @@ about() {
 }
 
 # Prints about how long the rest takes: the shares that are left, by the pace so far. The pace
-# begins as that of the shares, with the weight of a quarter of an hour. After the last crate a tenth
-# of the part is left, for tests, edits and programs.
+# begins as that of the shares, with the weight of a quarter of an hour. After the last crate a
+# tenth of the part is left, for tests, edits and programs.
 rest() {
     local rest=$left proves=$((crates_all - crates_before))
     [ "$proves" -eq 0 ] ||
@@ -154,8 +156,8 @@ show_crate() {
 }
 
 # Keeps the lines of standard input, and shows those that report progress: those of `rt ci`, which
-# names a crate after its proof, of `rt lib` and its like, which name it before, of commands like this
-# one, and of bindings/diff.
+# names a crate after its proof, of `rt lib` and its like, which name it before, of commands like
+# this one, and of bindings/diff.
 progress() {
     local line name=
     trap : TERM
@@ -234,7 +236,7 @@ interrupted() {
     trap 'kill -KILL -- "-$job" || true' HUP INT TERM
     if [ -n "$job" ]; then
         kill -TERM -- "-$job" || true
-        wait "$job" || true
+        wait "$job" || wait "$job" || true
     fi 2>/dev/null
     trap '' HUP INT TERM
     fail 1 "interrupted"

@@ -1,5 +1,5 @@
-"""tools/parts.sh, and the commands that are built on it, beside an `rt` and parts that a test of this
-file wrote."""
+"""tools/parts.sh, and the commands that are built on it, beside an `rt` and parts that a test of
+this file wrote."""
 import os
 import shutil
 import signal
@@ -27,7 +27,8 @@ echo 'rt: chose --jobs 4 for vb_c'
 echo 'fn vb_c::first: not proved'
 exit 1"""
 NEVER_ENDS = "sleep 600 & echo $! >child; echo begun; wait"
-# An `rt` that builds an empty library for each crate, and a cargo that builds a program of benchmarks.
+# An `rt` that builds an empty library for each crate, and a cargo that builds a program of
+# benchmarks.
 EMPTY = """[ "$1" != doc ] || { echo kit/START-HERE.md; exit 0; }
 name=$(basename "$PWD")
 echo "rt: chose --jobs 1 for $name"
@@ -96,21 +97,33 @@ class Folder(unittest.TestCase):
         """The same of a command that gets the signal once `begun` is in its log."""
         run = self.start(*words)
         self.addCleanup(run.stdout.close)
+        self.await_begun(run, log)
+        run.send_signal(sign)
+        return run.wait(timeout=30), run.stdout.read().splitlines()
+
+    def await_begun(self, run: subprocess.Popen, log: str):
+        """Waits for the word `begun` in the file."""
         self.addCleanup(run.kill)
         until = time.monotonic() + 30
         file = self.top / log
         while not (file.is_file() and "begun" in file.read_text()):
             self.assertLess(time.monotonic(), until, "nothing has begun")
             time.sleep(0.02)
-        run.send_signal(sign)
-        return run.wait(timeout=30), run.stdout.read().splitlines()
 
     def assert_gone(self, path: str):
         """The process whose number the file has is ended."""
-        number = int((self.top / path).read_text())
-        state = Path("/proc", str(number), "stat")
-        ended = not state.exists() or state.read_text().rsplit(") ", 1)[1][0] == "Z"
-        self.assertTrue(ended, f"{number} runs on")
+        number = (self.top / path).read_text().strip()
+        until = time.monotonic() + 10
+        while self.runs(Path("/proc", number, "stat")):
+            self.assertLess(time.monotonic(), until, f"{number} runs on")
+            time.sleep(0.02)
+
+    @staticmethod
+    def runs(state: Path) -> bool:
+        try:
+            return state.read_text().rsplit(") ", 1)[1][0] != "Z"
+        except (FileNotFoundError, ProcessLookupError):
+            return False
 
 
 class Parts(Folder):
@@ -141,7 +154,8 @@ class Parts(Folder):
         self.assertEqual([it for it in lines if it not in kept], [])
 
     def test_each_failure_is_named_last_with_the_end_of_its_output(self):
-        self.script("part first\ntry one seq 100\ntry two bash -c 'seq 200; exit 3'\ntry three false")
+        self.command("part", "seq 200; exit 3")
+        self.script("part first\ntry one seq 100\ntry two ./part\ntry three false")
         status, lines = self.run_it("./script")
         self.assertEqual((status, lines[-1]), (1, "1 passed, 2 failed"))
         summary = lines[lines.index("failed: two") :]
@@ -225,6 +239,35 @@ try else echo '6 passed, 1 failed (not the gate)'""")
                 self.assertIn("begun", self.log())
                 self.assert_gone("child")
                 (self.top / "out/log").unlink()
+
+    def test_a_second_interrupt_kills_what_does_not_end(self):
+        loop = "while :; do sleep 0.1; done"
+        self.command("part", f"trap '' TERM; echo $$ >child; echo begun; {loop}")
+        self.script("part first\ntry one ./part")
+        run = self.start("./script")
+        self.addCleanup(run.stdout.close)
+        self.await_begun(run, "out/log")
+        run.send_signal(signal.SIGINT)
+        with self.assertRaises(subprocess.TimeoutExpired):
+            run.wait(timeout=1)
+        run.send_signal(signal.SIGINT)
+        self.assertEqual(run.wait(timeout=30), 130)
+        self.assertEqual(run.stdout.read().splitlines()[-1], "0 passed, 1 failed")
+        self.assert_gone("child")
+
+    def test_any_bytes_are_kept(self):
+        self.script(r"""part first
+try 'the % name' printf 'a\tb %%s \\n \303\244\n5 passed, 0 failed'""")
+        status, lines = self.run_it("./script")
+        self.assertEqual((status, lines[-1]), (0, "5 passed, 0 failed"))
+        self.assertIn("ok      the % name", lines)
+        self.assertIn("a\tb %s \\n \u00e4\n5 passed, 0 failed\n", self.log())
+
+    def test_it_ends_with_counts_where_the_file_cannot_be_written(self):
+        self.script("part first\nrm -r out\n: >out\ntry one true")
+        status, lines = self.run_it("./script")
+        self.assertNotEqual(status, 0)
+        self.assertEqual(lines[-1], "0 passed, 1 failed")
 
     def test_a_command_inside_of_another_keeps_its_output_there(self):
         self.script("part inner\ntry deep seq 3\ntry wrong bash -c 'echo why; exit 1'")
