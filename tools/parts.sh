@@ -147,10 +147,11 @@ share_of_build() {
     echo $(($(share_of "${crates[@]}") + ($1 - 1) * ${#crates[@]} * seconds_a_crate))
 }
 
-# Shows that the crate $1 was $2.
+# Shows that the crate $1 was $2, and counts it at the first time.
 show_crate() {
-    [ "$crates_done" -ge "$crates_all" ] || crates_done=$((crates_done + 1))
     local of="crate"
+    [ -n "${seen[$1]:-}" ] || [ "$crates_done" -ge "$crates_all" ] || crates_done=$((crates_done + 1))
+    seen[$1]=yes
     [ "$crates_all" -eq 0 ] || of="crate $crates_done of $crates_all"
     say "  $of: $1 $2; $(rest) left in all"
 }
@@ -160,13 +161,17 @@ show_crate() {
 # this one, and of bindings/diff.
 progress() {
     local line name=
+    local -A seen=()
     trap : TERM
     while IFS= read -r line || [ -n "$line" ]; do
         printf '%s\n' "$line" >&3
         case $line in
         'rt: chose --jobs '*' for '*) name=${line##* } ;;
         'logic=proved '*) [ -z "$name" ] || show_crate "$name" proved; name= ;;
-        'rt: '*': its tests are '*) say "  ${line#rt: }" ;;
+        'rt: '*': its tests are '* | 'rt: '*': another copy '*) say "  ${line#rt: }" ;;
+        'rt: '*': begins with what a check kept '*)
+            line=${line#rt: } && show_crate "${line%%: *}" "begins with work of another clone"
+            ;;
         'rt: '*' NOT PROVED'*) line=${line#rt: } && show_crate "${line%% *}" "${line#* }" ;;
         'rt: '*' proved') line=${line#rt: } && show_crate "${line%% *}" proved ;;
         'rt: '*' is kept: '*) line=${line#rt: } && show_crate "${line%% *}" "was proved before" ;;

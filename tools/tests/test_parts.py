@@ -215,6 +215,18 @@ try else echo '6 passed, 1 failed (not the gate)'""")
         self.assertTrue(lines[2].startswith("  crate 3 of 5: low proved; about "), lines)
         self.assertNotIn("vb_c proved", self.log())
 
+    def test_work_of_another_clone_is_counted_once(self):
+        kept = "begins with what a check kept in /work/other/crates"
+        copies = "another copy of the repository is building this library; waiting for it"
+        proof = "rt: chose --jobs 4 for high\nlogic=proved functions=1"
+        lines = f"rt: low: {kept}/low\nrt: high: {kept}/high\n{proof}\nrt: vb_c: {copies}"
+        self.command("rt", f"cat <<'END'\n{lines}\nEND")
+        self.script("part first 3\ntry proofs ./rt")
+        shown = [it.split("; about")[0] for it in self.run_it("./script")[1][2:6]]
+        crates = [f"  crate {k} of 3: {it} begins with work of another clone"
+                  for k, it in enumerate(("low", "high"), 1)]
+        self.assertEqual(shown, [*crates, "  crate 2 of 3: high proved", f"  vb_c: {copies}"])
+
     def test_the_rest_becomes_less_with_each_crate(self):
         self.command("rt", "for it in a b c d; do echo \"rt: $it proved\"; done")
         self.script("part first\npart second 4\ntry proofs ./rt")
