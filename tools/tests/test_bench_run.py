@@ -34,12 +34,14 @@ class Run(unittest.TestCase):
         file.chmod(0o755)
 
     def run_it(self, *words: str) -> tuple[int, list[list[str]]]:
-        """The status, and the fields of each line that was printed."""
+        """The status, and the fields of each line that was printed, but for those of `progress`."""
         env = {**os.environ, "PATH": f"{self.root / 'bin'}:{os.environ['PATH']}"}
         sides = [self.root / "old", self.root / "new"]
         command = [self.root / "old/bench/run", *words, *sides]
         ended = subprocess.run(command, env=env, text=True, capture_output=True)
-        lines = (ended.stdout + ended.stderr).splitlines()
+        said = ended.stderr.splitlines()
+        self.progress = [it for it in said if it.startswith("row ")]
+        lines = ended.stdout.splitlines() + [it for it in said if it not in self.progress]
         return ended.returncode, [[it.strip() for it in line.split("|")] for line in lines]
 
     def test_the_table_has_a_row_of_equals_and_one_for_each_workload(self):
@@ -48,6 +50,12 @@ class Run(unittest.TestCase):
         names = ["NAME", "---", "first, beside itself", "first", "second"]
         self.assertEqual([it[1] for it in lines], names)
         self.assertEqual({len(it) for it in lines}, {8}, "a line has other columns")
+
+    def test_standard_error_says_which_row_is_measured(self):
+        self.run_it()
+        rows = ["row 1 of 3: first", "row 2 of 3: first", "row 3 of 3: second"]
+        self.assertEqual([it.split(";")[0] for it in self.progress], rows)
+        self.assertTrue(self.progress[2].endswith("; left: about 1 min"), self.progress)
 
     def test_instructions_are_counted_where_they_are_asked_for(self):
         status, lines = self.run_it("--instructions")
