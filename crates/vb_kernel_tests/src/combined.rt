@@ -2,32 +2,33 @@
 ghost use Rattle.vb_bits.specs.InBytes.{InBytes};
 
 use crate::compared::{equal, equal_at, holds};
+use crate::looks::looks_at;
 use crate::plain::combined_bit;
 use crate::sample::mix;
 use std::process::Abort;
 use vb_kernel::{
-    BitOp, Tally, and_count, and_count_by, andnot_count, andnot_count_by, count_ones_by, get_bit,
-    is_disjoint, is_subset, or_count, or_count_by, window_fits, xor_count, xor_count_by,
+    BitOp, Tally, and_count, and_count_by, andnot_count, andnot_count_by, get_bit, is_disjoint,
+    is_subset, or_count, or_count_by, window_fits, xor_count, xor_count_by,
 };
 
 /// Where two windows begin, and how long both are.
-type Windows = (usize, usize, usize);
+pub(crate) type Windows = (usize, usize, usize);
 
 /// The operators whose true answers are counted.
 const OPERATORS: [BitOp; 4] = [BitOp::And, BitOp::Or, BitOp::Xor, BitOp::AndNot];
 
 /// For how many bits of two windows each of these answers true.
-type Counts = [usize; 4];
+pub(crate) type Counts = [usize; 4];
 
 /// Makes of counts those of windows that are longer by a bit each.
-fn count_more(counts: &mut Counts, left: bool, right: bool) {
+pub(crate) fn count_more(counts: &mut Counts, left: bool, right: bool) {
     for (count, op) in counts.iter_mut().zip(OPERATORS) {
         *count = count.saturating_add(usize::from(combined_bit(op, left, right)));
     }
 }
 
 /// The counts of two windows, bit by bit.
-fn plain_counts(left: &[u8], l: usize, right: &[u8], r: usize, len: usize) -> Counts
+pub(crate) fn plain_counts(left: &[u8], l: usize, right: &[u8], r: usize, len: usize) -> Counts
     requires left { InBytes left.now l len }
     requires right { InBytes right.now r len }
 {
@@ -38,21 +39,35 @@ fn plain_counts(left: &[u8], l: usize, right: &[u8], r: usize, len: usize) -> Co
     counts
 }
 
-/// The counts are those that are wanted.
-fn counts_are(rt: &impl Abort, left: &[u8], right: &[u8], (l, r, len): Windows, wanted: Counts) {
-    holds(rt, window_fits(left, l, len));
-    holds(rt, window_fits(right, r, len));
-    let counted = [
+/// The counts of two windows, as the calls over slices answer them.
+pub(crate) fn slice_counts(left: &[u8], l: usize, right: &[u8], r: usize, len: usize) -> Counts
+    requires left { InBytes left.now l len }
+    requires right { InBytes right.now r len }
+{
+    [
         and_count(left, l, right, r, len),
         or_count(left, l, right, r, len),
         xor_count(left, l, right, r, len),
         andnot_count(left, l, right, r, len),
-    ];
+    ]
+}
+
+/// The counts are those that are wanted.
+fn counts_are(rt: &impl Abort, left: &[u8], right: &[u8], (l, r, len): Windows, wanted: Counts) {
+    holds(rt, window_fits(left, l, len));
+    holds(rt, window_fits(right, r, len));
+    let counted = slice_counts(left, l, right, r, len);
     equal_at(rt, counted, wanted, (l, r, len));
 }
 
-/// So are those of counted sources, and what follows from them.
-fn looks_tell(rt: &impl Abort, left: &[u8], right: &[u8], (l, r, len): Windows, wanted: Counts) {
+/// So are those of counted sources, with the looks at each, and what follows from the counts.
+pub(crate) fn looks_tell(
+    rt: &impl Abort,
+    left: &[u8],
+    right: &[u8],
+    (l, r, len): Windows,
+    wanted: Counts,
+) {
     holds(rt, window_fits(left, l, len));
     holds(rt, window_fits(right, r, len));
     let (one, other) = (&mut Tally::new(left), &mut Tally::new(right));
@@ -63,6 +78,10 @@ fn looks_tell(rt: &impl Abort, left: &[u8], right: &[u8], (l, r, len): Windows, 
         andnot_count_by(one, l, other, r, len),
     ];
     equal_at(rt, counted, wanted, (l, r, len));
+    let looks = (one.looks(), other.looks());
+    let each = [looks_at(l, l, len), looks_at(r, l, len)];
+    let [all_left, all_right] = each.map(|looks| looks.saturating_mul(4));
+    equal_at(rt, looks, (all_left, all_right), (l, r, len));
     let [and, _, _, andnot] = wanted;
     let disjoint = is_disjoint(left, l, right, r, len);
     equal_at(rt, disjoint, and == 0, (l, r, len));
@@ -126,36 +145,6 @@ fn windows_are_told_by_their_last_bit(rt: HostRuntime) {
         equal_at(&rt, is_subset(&last, 0, clear, 7, len), !seen, len);
         equal_at(&rt, is_subset(&last, 0, full, 7, len), true, len);
         equal_at(&rt, is_disjoint(&last, 0, clear, 7, len), true, len);
-    }
-}
-
-/// Where two windows begin, how long they are, and how often each is looked at.
-const LOOKS: [(usize, usize, usize, u64, u64); 6] = [
-    (0, 0, 513, 2, 2),
-    (0, 3, 513, 2, 3),
-    (3, 0, 600, 6, 10),
-    (3, 3, 600, 6, 6),
-    (5, 7, 3, 1, 2),
-    (1, 2, 0, 0, 0),
-];
-
-#[test]
-fn looks_at_two_windows_are_exact(rt: HostRuntime) {
-    let (left, right) = (&[0xFF; 76], &[0xFF; 76]);
-    for (l, r, len, at_left, at_right) in LOOKS {
-        holds(&rt, window_fits(left, l, len));
-        holds(&rt, window_fits(right, r, len));
-        let (one, other) = (&mut Tally::new(left), &mut Tally::new(right));
-        equal_at(&rt, and_count_by(one, l, other, r, len), len, (l, r, len));
-        equal_at(
-            &rt,
-            (one.looks(), other.looks()),
-            (at_left, at_right),
-            (l, r, len),
-        );
-        let alone = &mut Tally::new(left);
-        equal_at(&rt, count_ones_by(alone, l, len), len, (l, r, len));
-        equal_at(&rt, alone.looks(), at_left, (l, r, len));
     }
 }
 

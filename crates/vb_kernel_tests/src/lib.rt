@@ -14,6 +14,8 @@ mod edits;
 #[cfg(test)]
 mod ends;
 #[cfg(test)]
+mod looks;
+#[cfg(test)]
 mod nearest;
 #[cfg(test)]
 mod plain;

@@ -1,79 +1,41 @@
 -- Units of bytes that were read beside each other, and the looks that they took.
-use Rattle.std.proofs.Common.{◌≡◌, ℕ, zero, suc, ◌+◌, ◌-◌, ◌*◌, ◌/◌, ◌%◌, ◌<◌, ◌≤◌, Bool, false}
-use Rattle.std.proofs.Common.{List, [], ◌∷◌, length, get_or, min, inl, inr, refl, sym, ap, ◌∙◌}
-use Rattle.std.proofs.Common.{arith, zero-add}
+use Rattle.std.proofs.Common.{◌≡◌, ℕ, ◌+◌, ◌-◌, ◌*◌, ◌/◌, ◌%◌, ◌<◌, ◌≤◌, Bool, false, List, []}
+use Rattle.std.proofs.Common.{◌∷◌, length, get_or, take, drop, min, inl, inr, refl, sym, subst, ap}
+use Rattle.std.proofs.Common.{◌∙◌, arith, zero-add}
+use Rattle.std.specs.Prelude.{slice_range}
+use Rattle.std.proofs.lemmas.List.{get_or-drop, get_or-take}
 use Rattle.std.proofs.lemmas.Bool.{cases_lt}
 use Rattle.vb_bits.specs.Bits.{bit_of, bits, count}
 use Rattle.vb_bits.specs.Operators.{merged_by}
 use Rattle.vb_count.specs.Looks.{looks, CountedBytes, LooksExactly}
-use Rattle.vb_pair.specs.Beside.{part_looks, unit_looks, looks_beside}
+use Rattle.vb_pair.specs.Beside.{IsHeld, bits_held, part_looks, looks_beside}
 use Rattle.vb_pair.specs.Merged.{merged_ones}
 use Rattle.vb_bits.proofs.BitsLemmas.{same_bits, at-bits}
+use Rattle.vb_bits.proofs.BytesLemmas.{bits_of_read_byte}
 use Rattle.vb_pair.proofs.MergedLemmas.{merged_ones-le, merged_ones_none, merged_ones_split}
-use Rattle.vb_count.proofs.RestLemmas.{bits_of_byte_at}
 
 -- ---- looks
--- none for no unit
-pub unit_looks_none : (s : ℕ) → unit_looks s 0 ≡ 0
-unfolding unit_looks
-unit_looks_none zero = refl
-unit_looks_none (suc s) = refl
+-- of parts that take no more each, and one beside them
+parts_le : (a b c d e u v w n : ℕ) → a ≤ n → b ≤ d → c ≤ e
+    → a + b + u + v + w + c ≤ d + u + v + w + e + n
+parts_le a b c d e u v w n first head tail = omega arith
 
--- of units, and of others behind them
-pub unit_looks-add : (s j k : ℕ) → unit_looks s (j + k) ≡ unit_looks s j + unit_looks s k
-unfolding unit_looks
-unit_looks-add zero j k = refl
-unit_looks-add (suc s) j k = omega arith
-
--- of one unit
-unit_looks_one : (s : ℕ) → unit_looks s 1 ≡ 1 + min s 1
-unfolding unit_looks
-unit_looks_one zero = refl
-unit_looks_one (suc s) = omega arith
-
--- of units that begin some bytes further on
-pub unit_looks_on : (o p n : ℕ) → p % 8 ≡ o % 8 → unit_looks (p % 8) n ≡ unit_looks (o % 8) n
-unit_looks_on o p n e = ap (λ s. unit_looks s n) e
-
--- of all parts of a window whose head has h bits
-pub looks_beside_cut : (o p n h : ℕ) → min n ((8 - o % 8) % 8) ≡ h → looks_beside o p n
-    ≡ part_looks p h + unit_looks ((p + h) % 8) ((n - h) / 8 / 64)
-    + unit_looks ((p + h) % 8) ((n - h) / 8 % 64 / 8) + unit_looks ((p + h) % 8) ((n - h) / 8 % 8)
-    + part_looks (p + h + 8 * ((n - h) / 8)) ((n - h) % 8)
-looks_beside_cut o p n h e =
-    let m : ℕ = (n - h) / 8 in
-    let s : ℕ = (p + h) % 8 in
-    ap (λ k. part_looks p k
-    + unit_looks ((p + k) % 8) ((n - k) / 8 / 64 + (n - k) / 8 % 64 / 8 + (n - k) / 8 % 8)
-    + part_looks (p + k + 8 * ((n - k) / 8)) ((n - k) % 8)) e
-    ∙ omega (
-      arith,
-      unit_looks-add s (m / 64 + m % 64 / 8) (m % 8),
-      unit_looks-add s (m / 64) (m % 64 / 8),
-    )
-
--- no more than two each
-unit_looks-le : (s k : ℕ) → unit_looks s k ≤ 2 * k
-unfolding unit_looks
-unit_looks-le zero k = omega arith
-unit_looks-le (suc s) k = omega arith
-
-pub looks_beside-le : (o p n : ℕ) → looks_beside o p n ≤ 2 * looks o n
+-- at most one more than at the other window, and none for no bits
+pub looks_beside-le : (o p n : ℕ) → looks_beside o p n ≤ looks o n + min n 1
 looks_beside-le o p n =
     let h : ℕ = min n ((8 - o % 8) % 8) in
     let m : ℕ = (n - h) / 8 in
-    omega (arith, unit_looks-le ((p + h) % 8) (m / 64 + m % 64 / 8 + m % 8))
+    let t : ℕ = (n - h) % 8 in
+    parts_le (min (min n (p % 8)) 1) (part_looks p h) (part_looks (p + h + 8 * m) t) (min h 1)
+    (min t 1) (m / 64) (m % 64 / 8) (m % 8) (min n 1) (omega arith) (omega arith) (omega arith)
 
--- of a window that is all head
-pub looks_beside_head : (o p n : ℕ) → n ≤ (8 - o % 8) % 8 → looks_beside o p n ≡ part_looks p n
-looks_beside_head o p n short =
-    let all : min n ((8 - o % 8) % 8) ≡ n = omega arith in
-    let none : n - n ≡ 0 = omega arith in
-    ap (λ k. part_looks p k
-    + unit_looks ((p + k) % 8) ((n - k) / 8 / 64 + (n - k) / 8 % 64 / 8 + (n - k) / 8 % 8)
-    + part_looks (p + k + 8 * ((n - k) / 8)) ((n - k) % 8)) all
-    ∙ ap (λ z. part_looks p n + unit_looks ((p + n) % 8) (z / 8 / 64 + z / 8 % 64 / 8 + z / 8 % 8)
-    + part_looks (p + n + 8 * (z / 8)) (z % 8)) none ∙ omega (arith, unit_looks_none ((p + n) % 8))
+-- the bound
+pub looks_beside-most : (o p n : ℕ) → looks_beside o p n ≤ n / 512 + 16
+looks_beside-most o p n = omega arith
+
+-- of few bits
+pub looks_beside-short : (o p n : ℕ) → n ≤ 512 → looks_beside o p n ≤ 16
+looks_beside-short o p n few = omega arith
 
 -- ---- windows of what was read
 -- of other sources that have the same bytes
@@ -100,105 +62,124 @@ part_of_read b xs a k s n o whole place within =
     ∙ ap (λ l. get_or l (s + i) false) whole ∙ at-bits b (8 * a) (8 * k) (s + i) false inside
     ∙ ap (bit_of b) there)
 
--- what two units have in common with the byte y behind the second one, of which e bits are needed
-behind_units : (f : Bool → Bool → Bool) (a b xs : List ℕ) (y i j k x t e o p : ℕ)
-    → bits xs 0 (8 * k) ≡ bits a (8 * i) (8 * k) → (0 < e → y ≡ get_or b (j + k) 0)
-    → (0 < e → p + t ≡ 8 * (j + k)) → o ≡ 8 * i + x → x + t + e ≤ 8 * k → e ≤ 8
-    → merged_ones f xs (x + t) (y ∷ []) 0 e ≡ merged_ones f a (o + t) b (p + t) e
-behind_units f a b xs y i j k x t e o p left behind end from within few = elim (cases_lt 0 e) [
-  | inl some ↦
-      merged_ones_windows f xs (y ∷ []) a b (x + t) 0 (o + t) (p + t) e
-      (part_of_read a xs i k (x + t) e (o + t) left (omega arith) (omega arith))
-      (bits_of_byte_at b y (j + k) e (behind some) few
-      ∙ ap (λ z. bits b z e) (sym (end some)))
+-- of windows that have the same bits, if they have any
+merged_ones_if_any : (f : Bool → Bool → Bool) (a b c d : List ℕ) (o p q r n : ℕ)
+    → (0 < n → bits a o n ≡ bits c q n) → (0 < n → bits b p n ≡ bits d r n)
+    → merged_ones f a o b p n ≡ merged_ones f c q d r n
+merged_ones_if_any f a b c d o p q r n left right = elim (cases_lt 0 n) [
+  | inl some ↦ merged_ones_windows f a b c d o p q r n (left some) (right some)
   | inr past ↦
-      let none : e ≡ 0 = omega arith in
-      ap (λ z. merged_ones f xs (x + t) (y ∷ []) 0 z) none
-      ∙ merged_ones_none f xs (y ∷ []) (x + t) 0
-      ∙ sym (ap (λ z. merged_ones f a (o + t) b (p + t) z) none
-      ∙ merged_ones_none f a b (o + t) (p + t))
+      let none : n ≡ 0 = omega arith in
+      ap (λ z. merged_ones f a o b p z) none ∙ merged_ones_none f a b o p
+      ∙ sym (ap (λ z. merged_ones f c q d r z) none ∙ merged_ones_none f c d q r)
 ]
 
--- two units of k bytes, and the byte behind the second one
-pub merged_ones_of_units : (f : Bool → Bool → Bool) (a b xs ys : List ℕ) (y i j k x s n o p : ℕ)
-    → length xs ≡ k → bits xs 0 (8 * k) ≡ bits a (8 * i) (8 * k)
-    → bits ys 0 (8 * k) ≡ bits b (8 * j) (8 * k)
-    → (0 < s + n - 8 * k → y ≡ get_or b (j + k) 0) → o ≡ 8 * i + x → p ≡ 8 * j + s
-    → x + n ≤ 8 * k → s < 8 → 0 < k
-    → merged_ones f xs x ys s (min n (8 * length xs - s))
-    + merged_ones f xs (x + min n (8 * length xs - s)) (y ∷ []) 0 (n - (8 * length xs - s))
-    ≡ merged_ones f a o b p n
-merged_ones_of_units f a b xs ys y i j k x s n o p long left right next from at within small some =
-    let t : ℕ = min n (8 * k - s) in
-    let e : ℕ = n - (8 * k - s) in
-    let front = merged_ones_windows f xs ys a b x s o p t
-    (part_of_read a xs i k x t o left from (omega arith))
-    (part_of_read b ys j k s t p right at (omega arith)) in
-    let back = behind_units f a b xs y i j k x t e o p left (λ h. next (omega arith))
-    (λ h. omega arith) from (omega arith) (omega arith) in
-    ap (λ z. merged_ones f xs x ys s (min n (8 * z - s))
-    + merged_ones f xs (x + min n (8 * z - s)) (y ∷ []) 0 (n - (8 * z - s))) long
-    ∙ omega (
+-- n bits of a unit of k bytes that was read, beside those of the held byte y and of k bytes that
+-- were read behind it, from byte j on
+pub merged_ones_of_unit : (f : Bool → Bool → Bool) (a b xs ys : List ℕ) (y i j k x n o p : ℕ)
+    → bits xs 0 (8 * k) ≡ bits a (8 * i) (8 * k)
+    → (0 < n - bits_held p → bits ys 0 (8 * k) ≡ bits b (8 * j) (8 * k)) → IsHeld b p y
+    → o ≡ 8 * i + x → 8 * j ≡ p + bits_held p → x + n ≤ 8 * k
+    → merged_ones f xs x (y ∷ []) (p % 8) (min n (bits_held p))
+    + merged_ones f xs (x + min n (bits_held p)) ys 0 (n - bits_held p) ≡ merged_ones f a o b p n
+merged_ones_of_unit f a b xs ys y i j k x n o p left right held from next within =
+    let t : ℕ = min n (bits_held p) in
+    let e : ℕ = n - bits_held p in
+    let front = merged_ones_if_any f xs (y ∷ []) a b x (p % 8) o p t
+    (λ h. part_of_read a xs i k x t o left from (omega arith))
+    (λ h. bits_of_read_byte b y p t (held.held (omega arith)) (omega arith)) in
+    let back = merged_ones_if_any f xs ys a b (x + t) 0 (o + t) (p + t) e
+    (λ h. part_of_read a xs i k (x + t) e (o + t) left (omega arith) (omega arith))
+    (λ h. part_of_read b ys j k 0 e (p + t) (right h) (omega arith) (omega arith)) in
+    omega (
       arith,
       front,
       back,
       merged_ones_split f a b o p t n (o + t) (p + t) e refl refl (omega arith),
     )
 
--- a whole unit of k bytes beside one that ends at digit r % 8 of the byte behind it, which was read
--- after it
-pub merged_ones_of_whole : (f : Bool → Bool → Bool) (a b c xs ys : List ℕ) (y l r k : ℕ)
-    → 0 < k → length xs ≡ k → bits xs 0 (8 * k) ≡ bits a (8 * l) (8 * k)
-    → bits ys 0 (8 * k) ≡ bits b (8 * (r / 8)) (8 * k)
-    → (0 < r % 8 → y ≡ get_or c (r / 8 + k) 0) → c ≡ b
-    → merged_ones f xs 0 ys (r % 8) (min (8 * k) (8 * length xs - r % 8))
-    + merged_ones f xs (0 + min (8 * k) (8 * length xs - r % 8)) (y ∷ []) 0
-    (8 * k - (8 * length xs - r % 8))
-    ≡ merged_ones f a (8 * l) b r (8 * k)
-merged_ones_of_whole f a b c xs ys y l r k some long left right next same =
-    merged_ones_of_units f a b xs ys y l (r / 8) k 0 (r % 8) (8 * k) (8 * l) r long left right
-    (λ h. next (omega arith) ∙ ap (λ x. get_or x (r / 8 + k) 0) same)
-    (omega arith) (omega arith) (omega arith) (omega arith) some
+-- a whole unit of k bytes
+pub merged_ones_of_whole : (f : Bool → Bool → Bool) (a b xs ys : List ℕ) (y l p j k : ℕ)
+    → bits xs 0 (8 * k) ≡ bits a (8 * l) (8 * k) → bits ys 0 (8 * k) ≡ bits b (8 * j) (8 * k)
+    → IsHeld b p y → 8 * j ≡ p + bits_held p
+    → merged_ones f xs 0 (y ∷ []) (p % 8) (min (8 * k) (bits_held p))
+    + merged_ones f xs (0 + min (8 * k) (bits_held p)) ys 0 (8 * k - bits_held p)
+    ≡ merged_ones f a (8 * l) b p (8 * k)
+merged_ones_of_whole f a b xs ys y l p j k left right held next =
+    merged_ones_of_unit f a b xs ys y l j k 0 (8 * k) (8 * l) p left (λ h. right) held
+    (omega arith) next (omega arith)
 
--- the looks at it and at the byte behind it
-pub unit_looks_of_whole : {old mid new : CountedBytes} → (s : ℕ) → LooksExactly 1 old mid
-    → LooksExactly (min s 1) mid new → LooksExactly (unit_looks s 1) old new
-unit_looks_of_whole s unit behind = record {
-  same = behind.same ∙ unit.same;
-  looks = omega (arith, unit.looks, behind.looks, unit_looks_one s);
+-- ---- the held byte
+-- the last of k bytes that were read from byte j on
+pub held_behind_whole : (b ys : List ℕ) (y p j k n : ℕ) → y ≡ get_or ys (length ys - 1) 0
+    → ys ≡ slice_range b j (j + k) → length ys ≡ k → 0 < k → 8 * j ≡ p + bits_held p
+    → n ≡ p + 8 * k → IsHeld b n y
+held_behind_whole b ys y p j k n last read long some next end = record {
+  held = λ h.
+      let place : length ys - 1 ≡ k - 1 = omega arith in
+      let whole : j + k - j ≡ k = omega arith in
+      let byte : j + (k - 1) ≡ n / 8 = omega arith in
+      last ∙ ap (λ i. get_or ys i 0) place ∙ ap (λ l. get_or l (k - 1) 0) read
+      ∙ ap (λ m. get_or (take m (drop j b)) (k - 1) 0) whole
+      ∙ get_or-take k (drop j b) (k - 1) 0 (omega arith) ∙ get_or-drop j b (k - 1) 0
+      ∙ ap (λ i. get_or b i 0) byte;
 }
 
+-- behind n bits: the byte that was read if they go on in it, else the one before
+pub held_behind_part : (b : List ℕ) (y z p j n : ℕ) → IsHeld b p y
+    → (0 < n - bits_held p → z ≡ get_or b j 0) → (n - bits_held p ≡ 0 → z ≡ y)
+    → 8 * j ≡ p + bits_held p → 0 < n → n ≤ 8 → IsHeld b (p + n) z
+held_behind_part b y z p j n held read kept next some few = record {
+  held = λ h. elim (cases_lt 0 (n - bits_held p)) [
+    | inl past ↦
+        let byte : j ≡ (p + n) / 8 = omega arith in
+        read past ∙ ap (λ i. get_or b i 0) byte
+    | inr within ↦
+        let byte : p / 8 ≡ (p + n) / 8 = omega arith in
+        kept (omega arith) ∙ held.held (omega arith) ∙ ap (λ i. get_or b i 0) byte
+  ];
+}
+
+-- the same byte in other bytes that are the same, at the same bit
+pub is_held_in : {b c : List ℕ} {p q y : ℕ} → c ≡ b → p ≡ q → IsHeld c p y → IsHeld b q y
+is_held_in {b} {c} {p} {q} {y} same place held =
+    subst (λ x. IsHeld x q y) same (subst (λ x. IsHeld c x y) place held)
+
 -- ---- units in a row
--- the first k units have n bits: how many of these are true, and the looks that they took
-pub record UnitsCounted (f : Bool → Bool → Bool) (o p k n ones : ℕ)
+-- the first k units have n bits: how many of these are true, and the looks that they took; behind
+-- them y is held
+pub record UnitsCounted (f : Bool → Bool → Bool) (o p k n ones y : ℕ)
     (left left_now right right_now : CountedBytes) : Type 0 where
   pub value : ones ≡ merged_ones f left.bytes o right.bytes p n
   pub looks : LooksExactly k left left_now
-  pub beside : LooksExactly (unit_looks (p % 8) k) right right_now
+  pub beside : LooksExactly k right right_now
+  pub held : IsHeld right.bytes (p + n) y
 
 -- no unit
-pub units_none : (f : Bool → Bool → Bool) (o p : ℕ) (left right : CountedBytes)
-    → UnitsCounted f o p 0 0 0 left left right right
-units_none f o p left right = record {
+pub units_none : (f : Bool → Bool → Bool) (o p y : ℕ) (left right : CountedBytes)
+    → IsHeld right.bytes p y → UnitsCounted f o p 0 0 0 y left left right right
+units_none f o p y left right held = record {
   value = sym (merged_ones_none f left.bytes right.bytes o p);
   looks = record { same = refl; looks = omega arith };
-  beside = record { same = refl; looks = omega (arith, unit_looks_none (p % 8)) };
+  beside = record { same = refl; looks = omega arith };
+  held = let end : p ≡ p + 0 = omega arith in subst (λ q. IsHeld right.bytes q y) end held;
 }
 
-module _ {f : Bool → Bool → Bool} {o p k n ones : ℕ} {left mid right amid : CountedBytes}
-    (so_far : UnitsCounted f o p k n ones left mid right amid) where
+module _ {f : Bool → Bool → Bool} {o p k n ones y : ℕ} {left mid right amid : CountedBytes}
+    (so_far : UnitsCounted f o p k n ones y left mid right amid) where
   -- no more than there are bits
   pub units-le : ones ≤ n
   units-le = omega (arith, so_far.value, merged_ones-le f left.bytes right.bytes o p n)
 
   -- one more, of u bits, of which x are true
-  pub units_more : {new anew : CountedBytes} → (at from u m x : ℕ)
+  pub units_more : {new anew : CountedBytes} → (at from u m x z : ℕ)
       → x ≡ merged_ones f mid.bytes at amid.bytes from u → LooksExactly 1 mid new
-      → LooksExactly (unit_looks (from % 8) 1) amid anew
-      → at ≡ o + n → from ≡ p + n → from % 8 ≡ p % 8 → m ≡ n + u
-      → UnitsCounted f o p (k + 1) m (ones + x) left new right anew
-  units_more at from u m x value looks beside place other digit end =
+      → LooksExactly 1 amid anew → IsHeld amid.bytes (from + u) z
+      → at ≡ o + n → from ≡ p + n → m ≡ n + u
+      → UnitsCounted f o p (k + 1) m (ones + x) z left new right anew
+  units_more at from u m x z value looks beside held place other end =
       let a = left.bytes in let b = right.bytes in
+      let behind : from + u ≡ p + m = omega arith in
       record {
         value = omega (
           arith,
@@ -213,12 +194,7 @@ module _ {f : Bool → Bool → Bool} {o p k n ones : ℕ} {left mid right amid 
         };
         beside = record {
           same = beside.same ∙ so_far.beside.same;
-          looks = omega (
-            arith,
-            so_far.beside.looks,
-            beside.looks,
-            unit_looks_on p from 1 digit,
-            unit_looks-add (p % 8) k 1,
-          );
+          looks = omega (arith, so_far.beside.looks, beside.looks);
         };
+        held = is_held_in so_far.beside.same behind held;
       }

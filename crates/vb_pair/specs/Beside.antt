@@ -1,22 +1,25 @@
 -- Looks at a window that is read beside another one.
-use Rattle.std.specs.Prelude.{ℕ, zero, suc, ◌+◌, ◌-◌, ◌*◌, ◌/◌, ◌%◌, min}
+use Rattle.std.specs.Prelude.{◌≡◌, ℕ, ◌+◌, ◌-◌, ◌*◌, ◌/◌, ◌%◌, ◌<◌, List, get_or, min}
 
--- the looks that n bits from bit o on take, at most eight: at a byte, or at two
+-- how many bits from bit p on are in the byte that is held: none if bit p is the first of its byte
+abbrev pub bits_held : ℕ → ℕ
+bits_held p = (8 - p % 8) % 8
+
+-- y is the byte that has bit p, if bit p isn't the first of its byte
+pub record IsHeld (bytes : List ℕ) (p y : ℕ) : Type 0 where
+  pub held : 0 < p % 8 → y ≡ get_or bytes (p / 8) 0
+
+-- the looks that at most eight bits from bit p on take: one at the next byte if they continue in it
 abbrev pub part_looks : ℕ → ℕ → ℕ
-part_looks o n = min n 1 + min (o % 8 + n - 8) 1
+part_looks p n = min (n - bits_held p) 1
 
--- the looks that k units take which begin at digit s of a byte: one each, and one more each at the
--- byte behind it where they end in that
-unfoldable pub unit_looks : ℕ → ℕ → ℕ
-unit_looks zero k = k
-unit_looks (suc s) k = 2 * k
-
--- the looks that n bits from bit p on take beside n bits from bit o on, as those are cut: h bits up
--- to the next whole byte, m whole bytes by chunks, words and bytes, and t bits after them
+-- the looks that n bits from bit p on take beside n bits from bit o on: one at the byte of bit p if
+-- that isn't its first bit, and then as those from bit o on are cut: h bits up to the next whole
+-- byte, m whole bytes by chunks, words and bytes with one look each, and t bits after them
 abbrev pub looks_beside : ℕ → ℕ → ℕ → ℕ
 looks_beside o p n =
     let h = min n ((8 - o % 8) % 8) in
     let m = (n - h) / 8 in
     let t = (n - h) % 8 in
-    part_looks p h + unit_looks ((p + h) % 8) (m / 64 + m % 64 / 8 + m % 8)
+    min (min n (p % 8)) 1 + part_looks p h + m / 64 + m % 64 / 8 + m % 8
     + part_looks (p + h + 8 * m) t

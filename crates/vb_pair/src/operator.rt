@@ -1,5 +1,5 @@
 //! Counts of two windows that are combined by an operator.
-ghost use Rattle.std.specs.Prelude.{◌≡◌, ◌*◌, ◌≤◌};
+ghost use Rattle.std.specs.Prelude.{◌≡◌, ◌+◌, ◌/◌, ◌≤◌, min};
 ghost use Rattle.vb_bits.specs.Bits.{bits, count};
 ghost use Rattle.vb_bits.specs.InBytes.{InBytes};
 ghost use Rattle.vb_bits.specs.Operators.{combined_by};
@@ -71,10 +71,13 @@ pub fn andnot_count(left: &[u8], l: usize, right: &[u8], r: usize, len: usize) -
 /// [`and_count`] of two counted sources: for how many `i` below `len` bit `l + i` of `left` and bit
 /// `r + i` of `right` are true.
 ///
-/// It looks at `left` as often as `vb_count::count_ones_by` does over the same bits:
-/// at a partial first byte, at each 64 whole bytes, at each eight of those left, at each byte then
-/// left, and at a partial last byte. Beside each of these it looks at `right` once, and once more
-/// where the bits beside end a byte further on. So `right` has at most twice as many looks.
+/// It looks at `left` as `vb_count::count_ones_by` does over the same bits: once at a partial first
+/// byte, at each 64 whole bytes, at each eight of those left, at each byte then left, and at a
+/// partial last byte. It looks at `right` at most once more than at `left`; clause `beside` has the
+/// exact number. Each source gets at most `len / 512 + 16` looks, and at most 16 if `len` is at
+/// most 512.
+///
+/// Does not allocate. Both windows must fit in their sources, and end below 2^64.
 pub fn and_count_by<L: Glance, R: Glance>(
     left: &mut L,
     l: usize,
@@ -88,7 +91,9 @@ pub fn and_count_by<L: Glance, R: Glance>(
         (bits (L.seen left.old).bytes l len) (bits (R.seen right.old).bytes r len)) }
     ensures looks { LooksExactly (looks l len) (L.seen left.old) (L.seen left.new) }
     ensures beside { LooksExactly (looks_beside l r len) (R.seen right.old) (R.seen right.new) }
-    ensures twice { looks_beside l r len ≤ 2 * looks l len }
+    ensures one_more { looks_beside l r len ≤ looks l len + min len 1 }
+    ensures most { looks_beside l r len ≤ len / 512 + 16 }
+    ensures short { len ≤ 512 → looks_beside l r len ≤ 16 }
 {
     count_beside::<Both, L, R>(left, l, right, r, len)
 }
@@ -96,10 +101,13 @@ pub fn and_count_by<L: Glance, R: Glance>(
 /// [`or_count`] of two counted sources: for how many `i` below `len` bit `l + i` of `left` or bit
 /// `r + i` of `right` is true.
 ///
-/// It looks at `left` as often as `vb_count::count_ones_by` does over the same bits:
-/// at a partial first byte, at each 64 whole bytes, at each eight of those left, at each byte then
-/// left, and at a partial last byte. Beside each of these it looks at `right` once, and once more
-/// where the bits beside end a byte further on. So `right` has at most twice as many looks.
+/// It looks at `left` as `vb_count::count_ones_by` does over the same bits: once at a partial first
+/// byte, at each 64 whole bytes, at each eight of those left, at each byte then left, and at a
+/// partial last byte. It looks at `right` at most once more than at `left`; clause `beside` has the
+/// exact number. Each source gets at most `len / 512 + 16` looks, and at most 16 if `len` is at
+/// most 512.
+///
+/// Does not allocate. Both windows must fit in their sources, and end below 2^64.
 pub fn or_count_by<L: Glance, R: Glance>(
     left: &mut L,
     l: usize,
@@ -113,7 +121,9 @@ pub fn or_count_by<L: Glance, R: Glance>(
         (bits (L.seen left.old).bytes l len) (bits (R.seen right.old).bytes r len)) }
     ensures looks { LooksExactly (looks l len) (L.seen left.old) (L.seen left.new) }
     ensures beside { LooksExactly (looks_beside l r len) (R.seen right.old) (R.seen right.new) }
-    ensures twice { looks_beside l r len ≤ 2 * looks l len }
+    ensures one_more { looks_beside l r len ≤ looks l len + min len 1 }
+    ensures most { looks_beside l r len ≤ len / 512 + 16 }
+    ensures short { len ≤ 512 → looks_beside l r len ≤ 16 }
 {
     count_beside::<Either, L, R>(left, l, right, r, len)
 }
@@ -121,10 +131,13 @@ pub fn or_count_by<L: Glance, R: Glance>(
 /// [`xor_count`] of two counted sources: for how many `i` below `len` bit `l + i` of `left` differs
 /// from bit `r + i` of `right`.
 ///
-/// It looks at `left` as often as `vb_count::count_ones_by` does over the same bits:
-/// at a partial first byte, at each 64 whole bytes, at each eight of those left, at each byte then
-/// left, and at a partial last byte. Beside each of these it looks at `right` once, and once more
-/// where the bits beside end a byte further on. So `right` has at most twice as many looks.
+/// It looks at `left` as `vb_count::count_ones_by` does over the same bits: once at a partial first
+/// byte, at each 64 whole bytes, at each eight of those left, at each byte then left, and at a
+/// partial last byte. It looks at `right` at most once more than at `left`; clause `beside` has the
+/// exact number. Each source gets at most `len / 512 + 16` looks, and at most 16 if `len` is at
+/// most 512.
+///
+/// Does not allocate. Both windows must fit in their sources, and end below 2^64.
 pub fn xor_count_by<L: Glance, R: Glance>(
     left: &mut L,
     l: usize,
@@ -138,7 +151,9 @@ pub fn xor_count_by<L: Glance, R: Glance>(
         (bits (L.seen left.old).bytes l len) (bits (R.seen right.old).bytes r len)) }
     ensures looks { LooksExactly (looks l len) (L.seen left.old) (L.seen left.new) }
     ensures beside { LooksExactly (looks_beside l r len) (R.seen right.old) (R.seen right.new) }
-    ensures twice { looks_beside l r len ≤ 2 * looks l len }
+    ensures one_more { looks_beside l r len ≤ looks l len + min len 1 }
+    ensures most { looks_beside l r len ≤ len / 512 + 16 }
+    ensures short { len ≤ 512 → looks_beside l r len ≤ 16 }
 {
     count_beside::<OneAlone, L, R>(left, l, right, r, len)
 }
@@ -146,10 +161,13 @@ pub fn xor_count_by<L: Glance, R: Glance>(
 /// [`andnot_count`] of two counted sources: for how many `i` below `len` bit `l + i` of `left` is
 /// true and bit `r + i` of `right` isn't.
 ///
-/// It looks at `left` as often as `vb_count::count_ones_by` does over the same bits:
-/// at a partial first byte, at each 64 whole bytes, at each eight of those left, at each byte then
-/// left, and at a partial last byte. Beside each of these it looks at `right` once, and once more
-/// where the bits beside end a byte further on. So `right` has at most twice as many looks.
+/// It looks at `left` as `vb_count::count_ones_by` does over the same bits: once at a partial first
+/// byte, at each 64 whole bytes, at each eight of those left, at each byte then left, and at a
+/// partial last byte. It looks at `right` at most once more than at `left`; clause `beside` has the
+/// exact number. Each source gets at most `len / 512 + 16` looks, and at most 16 if `len` is at
+/// most 512.
+///
+/// Does not allocate. Both windows must fit in their sources, and end below 2^64.
 pub fn andnot_count_by<L: Glance, R: Glance>(
     left: &mut L,
     l: usize,
@@ -163,7 +181,9 @@ pub fn andnot_count_by<L: Glance, R: Glance>(
         (bits (L.seen left.old).bytes l len) (bits (R.seen right.old).bytes r len)) }
     ensures looks { LooksExactly (looks l len) (L.seen left.old) (L.seen left.new) }
     ensures beside { LooksExactly (looks_beside l r len) (R.seen right.old) (R.seen right.new) }
-    ensures twice { looks_beside l r len ≤ 2 * looks l len }
+    ensures one_more { looks_beside l r len ≤ looks l len + min len 1 }
+    ensures most { looks_beside l r len ≤ len / 512 + 16 }
+    ensures short { len ≤ 512 → looks_beside l r len ≤ 16 }
 {
     count_beside::<LeftAlone, L, R>(left, l, right, r, len)
 }

@@ -1,8 +1,8 @@
-use Rattle.std.proofs.Common.{◌≡◌, ◌+◌, ◌*◌, ◌/◌, ◌%◌, ℕ, List, get_or, ap, arith, ◌∙◌, [], ◌∷◌}
+use Rattle.std.proofs.Common.{◌/◌, ◌%◌, ℕ, List, ap, arith, ◌∙◌, [], ◌∷◌}
 use Rattle.vb_pair.specs.Merged.{merged_ones}
 use Rattle.vb_count.proofs.RestLemmas.{bits_of_byte_at}
 use Rattle.vb_pair.proofs.MergedLemmas.{merged_ones_none}
-use Rattle.vb_pair.proofs.BesideLemmas.{merged_ones_of_units}
+use Rattle.vb_pair.proofs.BesideLemmas.{merged_ones_of_unit, held_behind_part}
 use Rattle.vb_pair.proofs.beside.count_part.Goals as goal
 
 pub returns-then-len-eq0-clause-value : goal.returns-then-len-eq0-clause-value
@@ -21,14 +21,20 @@ returns-clause-value g c =
     let f = g.M.Merge.bit in
     let a : List ℕ = (g.L.Glance.seen c.args.left.now).bytes in
     let b : List ℕ = (g.R.Glance.seen c.args.right.now).bytes in
-    let i : ℕ = c.args.l / 8 in let x : ℕ = c.args.l % 8 in
-    let j : ℕ = c.args.r / 8 in let s : ℕ = c.args.r % 8 in
-    let behind = ap (λ y. get_or y (j + 1) 0) c.byte-2.ensures.look.same in
+    let i : ℕ = c.args.l / 8 in let j : ℕ = c.div_ceil.result in
     c.unit_ones.ensures.value
-    ∙ merged_ones_of_units f a b (c.byte.result ∷ []) (c.byte-2.result ∷ [])
-    c.byte_behind-behind.result i j 1 x s c.args.len c.args.l c.args.r (omega arith)
+    ∙ merged_ones_of_unit f a b (c.byte.result ∷ []) (c.next_byte.result ∷ []) c.args.held.now
+    i j 1 (c.args.l % 8) c.args.len c.args.l c.args.r
     (bits_of_byte_at a c.byte.result i 8 c.byte.ensures.value (omega arith))
-    (bits_of_byte_at b c.byte-2.result j 8 c.byte-2.ensures.value (omega arith))
-    (λ h. c.byte_behind-behind.ensures.value (omega arith) ∙ behind)
-    (omega arith) (omega arith) (omega (arith, c.requires.in_byte (omega arith))) (omega arith)
-    (omega arith)
+    (λ h. bits_of_byte_at b c.next_byte.result j 8 (c.next_byte.ensures.value (omega arith))
+    (omega arith))
+    (c.requires.held (omega arith)) (omega arith) (omega arith)
+    (omega (arith, c.requires.in_byte (omega arith)))
+
+pub returns-clause-held : goal.returns-clause-held
+returns-clause-held g c =
+    let b : List ℕ = (g.R.Glance.seen c.args.right.now).bytes in
+    λ before. held_behind_part b c.args.held.now _ c.args.r c.div_ceil.result c.args.len before
+    (λ h. c.unit_ones.ensures.last ∙ c.next_byte.ensures.value (omega arith))
+    (λ h. c.unit_ones.ensures.last ∙ c.next_byte.ensures.stays (omega arith))
+    (omega arith) (omega arith) (omega (arith, c.requires.in_byte (omega arith)))
