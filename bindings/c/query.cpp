@@ -197,9 +197,10 @@ struct by_calls {
             }
         }
         to.taken.resize(at.size());
-        vortex_bits::take_values(to.b, at, to.taken);
         std::vector<std::uint8_t> taken(bytes_for(at.size()));
-        valid.take_into(at, taken);
+        if (vortex_bits::take_values(to.b, at, to.taken) || valid.take_into(at, taken)) {
+            std::abort(); // each place is below the number of rows that are kept
+        }
         to.taken_nulls = bits(taken, 0, at.size()).count_zeros();
     }
 };

@@ -162,8 +162,8 @@ static void takes()
     check(out[0] == 5, "pack_truthy");
     vortex_bits::pack_bools(std::array<bool, 4>{false, true, true, false}, out);
     check(out[0] == 6, "pack_bools");
-    refused([&] { window.take_into(std::vector<std::uint32_t>(9), out); }, "no room");
-    refused([&] { window.take_into(some, window, out); }, "a long validity");
+    refused([&] { (void)window.take_into(std::vector<std::uint32_t>(9), out); }, "no room");
+    refused([&] { (void)window.take_into(some, window, out); }, "a long validity");
     refused([&] { vortex_bits::pack_truthy(buffer(9), out); }, "no room");
     refused([&] { vortex_bits::pack_bools(std::array<bool, 9>{}, out); }, "no room");
 }
@@ -391,7 +391,8 @@ static void types(const buffer &all)
 #endif
     const std::array<bool, 8> flags = {true, false, true, true, false, false, true, false};
     std::array<bool, 8> kept = {};
-    check(bits(buffer{0x0D}, 0, 8).keep_into(flags, kept) == 3 && kept[0] && kept[1] && kept[2],
+    const buffer mask = {0x0D};
+    check(bits(mask, 0, 8).keep_into(flags, kept) == 3 && kept[0] && kept[1] && kept[2],
         "bools that are kept");
 }
 
@@ -411,9 +412,6 @@ static void refusals()
     refused([&] { (void)vortex_bits::ranks(bits(two, 8, 8)).rank(9); }, "a place past the window");
     refused([&] { vortex_bits::ranks(bits(two, 0, 9), {}); }, "a table of another size");
     check(two == buffer(2), "a refused call left all as it was");
-#ifdef __cpp_lib_span
-    check(bits(std::span<const std::uint8_t>(two), 3, 9).bytes().size() == 2, "a span");
-#endif
 }
 
 int main()

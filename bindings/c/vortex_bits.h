@@ -59,7 +59,22 @@
 #include <stddef.h>
 #include <stdint.h>
 
+/*
+ * The version of this file, as text, as its numbers, and as one number, which is larger in each
+ * later version:
+ *
+ *     #if VORTEX_BITS_VERSION_NUMBER < 910001
+ *     #error "this program needs vortex_bits 0.91.0-r1 or later"
+ *     #endif
+ */
 #define VORTEX_BITS_VERSION "0.91.0-r1"
+#define VORTEX_BITS_VERSION_MAJOR 0
+#define VORTEX_BITS_VERSION_MINOR 91
+#define VORTEX_BITS_VERSION_PATCH 0
+#define VORTEX_BITS_VERSION_REVISION 1
+#define VORTEX_BITS_VERSION_NUMBER                                                                \
+    (VORTEX_BITS_VERSION_MAJOR * 10000000 + VORTEX_BITS_VERSION_MINOR * 10000                     \
+        + VORTEX_BITS_VERSION_PATCH * 100 + VORTEX_BITS_VERSION_REVISION)
 
 /* A compiler that can warns where nobody looks whether a checked form was refused. */
 #if defined(__GNUC__)

@@ -9,120 +9,49 @@
  *     rows.count_ones();                                // 6
  *     rows.for_each_set([&](std::size_t row) { .. });
  *
- * A window is tested once, where it is made; it lends its bytes, as a std::span does. What a window
- * can't know is tested at the call: that two have one length, that a place is one of it, that there
- * is room. Where a test fails, std::out_of_range is thrown, and nothing was written; without
- * exceptions the program is aborted.
+ * A window is tested once, where it is made; it lends its bytes, as a std::span does, so that one
+ * over a temporary container does not compile. What a window can't know is tested at the call: that
+ * two have one length, that a place is one of it, that there is room. Where a test fails,
+ * std::out_of_range is thrown, and nothing was written; without exceptions the program is aborted.
  */
 #ifndef VORTEX_BITS_HPP
 #define VORTEX_BITS_HPP
 
-#include "vortex_bits.h"
+#include "vortex_bits_detail.hpp"
 
-#include <algorithm>
-#include <array>
-#include <cstddef>
-#include <cstdint>
-#include <cstdlib>
-#include <limits>
-#include <optional>
-#include <stdexcept>
-#include <type_traits>
-#include <utility>
-#include <vector>
-#if __has_include(<version>)
-#include <version>
-#endif
-#ifdef __cpp_lib_span
-#include <span>
-#endif
+#if __cplusplus >= 201703L
 
 namespace vortex_bits {
-
-namespace detail {
-
-[[noreturn]] inline void refuse(const char *why)
-{
-#ifdef __cpp_exceptions
-    throw std::out_of_range(why);
-#else
-    (void)why;
-    std::abort();
-#endif
-}
-
-inline void expect(bool holds, const char *why)
-{
-    if (!holds) {
-        refuse(why);
-    }
-}
-
-inline std::optional<std::size_t> place(vb_place it)
-{
-    return it.found ? std::optional<std::size_t>(it.index) : std::nullopt;
-}
-
-/* What lends bytes: a std::vector, std::array, std::span, .. of std::uint8_t. */
-template <class Container, class Byte>
-using lends = std::enable_if_t<
-    std::is_convertible_v<decltype(std::declval<Container &>().data()), Byte *>
-    && std::is_convertible_v<decltype(std::declval<Container &>().size()), std::size_t>>;
-
-/* The type of what a container's data() points to; void where it has none. */
-template <class Container, class = void> struct lent { using type = void; };
-template <class Container>
-struct lent<Container, std::void_t<decltype(std::declval<Container &>().data())>> {
-    using type = std::remove_pointer_t<decltype(std::declval<Container &>().data())>;
-};
-template <class Container> using lent_t = typename lent<Container>::type;
-
-/* The type of the C functions for items of so many bytes, or void, and their filter. */
-template <class Type, std::size_t (*Keep)(Type *, std::size_t, const Type *, std::size_t,
-    const std::uint8_t *, std::size_t, std::size_t)>
-struct by {
-    using type = Type;
-    static constexpr auto keep = Keep;
-};
-template <std::size_t Size> struct laid { using type = void; };
-template <> struct laid<1> : by<std::uint8_t, vb_filter_u8> {};
-template <> struct laid<2> : by<std::uint16_t, vb_filter_u16> {};
-template <> struct laid<4> : by<std::uint32_t, vb_filter_u32> {};
-template <> struct laid<8> : by<std::uint64_t, vb_filter_u64> {};
-template <> struct laid<16> : by<vb_u128, vb_filter_u128> {};
-
-/* Whether items of the type may be copied as such a type's are. */
-template <class Item> constexpr bool is_value()
-{
-    if constexpr (std::is_object_v<Item>) {
-        using as = typename laid<sizeof(Item)>::type;
-        if constexpr (!std::is_void_v<as>) {
-            return std::is_trivially_copyable_v<Item> && alignof(Item) % alignof(as) == 0;
-        }
-    }
-    return false;
-}
-
-template <class Item> constexpr bool is_index()
-{
-    if constexpr (std::is_integral_v<Item> && !std::is_same_v<Item, bool>) {
-        return sizeof(Item) <= 8;
-    }
-    return false;
-}
-
-template <class Out> constexpr bool is_bytes()
-{
-    return std::is_same_v<lent_t<std::remove_reference_t<Out>>, std::uint8_t>;
-}
-
-} // namespace detail
 
 /* Whether a window lies in so many bytes, and its end is a std::size_t: then it can be made. */
 constexpr bool fits(std::size_t size, std::size_t offset, std::size_t len)
 {
     return len <= SIZE_MAX - offset && (offset + len) / 8 + ((offset + len) % 8 != 0) <= size;
 }
+
+/*
+ * Whether objects of a type refer to bytes that outlive them, as a std::span does. A window over a
+ * temporary object compiles for these types alone: std::basic_string_view, each borrowed range of
+ * C++20, and each trivially copyable type whose `data() const` points to bytes that may be written,
+ * which can't be its own. Specialise it for another view of yours:
+ *
+ *     template <> inline constexpr bool vortex_bits::is_borrowed<my::slice> = true;
+ */
+template <class Bytes> inline constexpr bool is_borrowed = detail::refers<Bytes>();
+template <class Byte, class Traits>
+inline constexpr bool is_borrowed<std::basic_string_view<Byte, Traits>> = true;
+
+namespace detail {
+
+/* What lends bytes, and of these what borrows them, and what has bytes of its own. */
+template <class Container, class Byte>
+using lender = std::enable_if_t<lends<Container, Byte>, int>;
+template <class Container, class Byte>
+using borrower = std::enable_if_t<lends<Container, Byte> && is_borrowed<Container>, int>;
+template <class Container, class Byte>
+using owner = std::enable_if_t<lends<Container, Byte> && !is_borrowed<Container>, int>;
+
+} // namespace detail
 
 /* A window that is read: the `len` bits from bit `offset` on of some bytes. */
 class bits {
@@ -136,11 +65,15 @@ public:
         detail::expect(fits(size, offset, len), "a window does not lie in its bytes");
     }
 
-    template <class Bytes, class = detail::lends<const Bytes, const std::uint8_t>>
+    template <class Bytes, detail::lender<const Bytes, const std::uint8_t> = 0>
     bits(const Bytes &bytes, std::size_t offset, std::size_t len)
         : bits(bytes.data(), bytes.size(), offset, len)
     {
     }
+
+    /* A temporary container ends before the window would: give it a name. */
+    template <class Bytes, detail::owner<Bytes, const std::uint8_t> = 0>
+    bits(const Bytes &&bytes, std::size_t offset, std::size_t len) = delete;
 
     std::size_t size() const { return len_; }
     bool empty() const { return len_ == 0; }
@@ -231,20 +164,28 @@ public:
 
     friend bool operator!=(const bits &left, const bits &right) { return !(left == right); }
 
-    /* Calls `f` with each place of a true bit, in ascending order. */
+    /*
+     * Calls `f` with each place of a true bit, in ascending order. Where `f` returns a bool, false
+     * ends the walk: no place behind that one is given to `f`.
+     */
     template <class F> void for_each_set(F f) const
     {
         std::array<std::size_t, 64> places;
         walk(places, vb_set_indices, [](std::size_t place) { return place + 1; },
-            [&](std::size_t from, std::size_t place) { f(from + place); });
+            [&](std::size_t from, std::size_t place) { return detail::goes_on(f, from + place); });
     }
 
-    /* Calls `f` with the start and the end of each run of true bits, as long as can be. */
+    /*
+     * Calls `f` with the start and the end of each run of true bits, as long as can be. Where `f`
+     * returns a bool, false ends the walk.
+     */
     template <class F> void for_each_run(F f) const
     {
         std::array<vb_run, 64> runs;
         walk(runs, vb_set_slices, [](vb_run run) { return run.end; },
-            [&](std::size_t from, vb_run run) { f(from + run.start, from + run.end); });
+            [&](std::size_t from, vb_run run) {
+                return detail::goes_on(f, from + run.start, from + run.end);
+            });
     }
 
     /* The places of the true bits. */
@@ -279,11 +220,12 @@ public:
      * these bits then hold anything.
      */
     template <class Indices, class Out>
-    std::optional<std::size_t> take_into(const Indices &indices, Out &&out) const;
+    [[nodiscard]] std::optional<std::size_t> take_into(const Indices &indices, Out &&out) const;
 
     /* The same where `valid` is true; at the other positions false is written. */
     template <class Indices, class Out>
-    std::optional<std::size_t> take_into(const Indices &indices, bits valid, Out &&out) const;
+    [[nodiscard]] std::optional<std::size_t> take_into(const Indices &indices, bits valid,
+        Out &&out) const;
 
     /*
      * Writes the bits that are true in `mask`, which is as long, in order, to the first bits of
@@ -333,20 +275,25 @@ private:
         return call(bytes_, size_, offset_, right.bytes_, right.size_, right.offset_, len_);
     }
 
+    /* Calls `each` with what `find` finds, item by item, until it answers false. */
     template <class Items, class Find, class End, class Each>
     void walk(Items &items, Find find, End end, Each each) const
     {
         std::size_t from = 0, found = items.size();
         while (found == items.size() && from < len_) {
             found = find(bytes_, size_, offset_ + from, len_ - from, items.data(), items.size());
-            std::for_each_n(items.begin(), found, [&](auto item) { each(from, item); });
+            for (std::size_t k = 0; k < found; k++) {
+                if (!each(from, items[k])) {
+                    return;
+                }
+            }
             from += found == items.size() ? end(items.back()) : 0;
         }
     }
 
     template <class Indices>
-    std::optional<std::size_t> take(const Indices &indices, const bits *valid, std::uint8_t *out,
-        std::size_t size, std::size_t at) const;
+    [[nodiscard]] std::optional<std::size_t> take(const Indices &indices, const bits *valid,
+        std::uint8_t *out, std::size_t size, std::size_t at) const;
 
     const std::uint8_t *bytes_ = nullptr;
     std::size_t size_ = 0;
@@ -363,11 +310,20 @@ public:
         detail::expect(fits(size, offset, len), "a window does not lie in its bytes");
     }
 
-    template <class Bytes, class = detail::lends<Bytes, std::uint8_t>>
+    template <class Bytes, detail::lender<Bytes, std::uint8_t> = 0>
     bits_mut(Bytes &bytes, std::size_t offset, std::size_t len)
         : bits_mut(bytes.data(), bytes.size(), offset, len)
     {
     }
+
+    /* Over a temporary one too, if its bytes are another's, as a std::span's. */
+    template <class Bytes, detail::borrower<Bytes, std::uint8_t> = 0>
+    bits_mut(const Bytes &&bytes, std::size_t offset, std::size_t len)
+        : bits_mut(bytes.data(), bytes.size(), offset, len)
+    {
+    }
+    template <class Bytes, detail::owner<Bytes, std::uint8_t> = 0>
+    bits_mut(const Bytes &&bytes, std::size_t offset, std::size_t len) = delete;
 
     std::size_t size() const { return len_; }
 
@@ -414,11 +370,12 @@ public:
 
     /* The bits of `values` at the indices, as bits::take_into writes them, of which all count. */
     template <class Indices>
-    std::optional<std::size_t> take_of(bits values, const Indices &indices);
+    [[nodiscard]] std::optional<std::size_t> take_of(bits values, const Indices &indices);
 
     /* The same where `valid` is true; at the other positions false is written. */
     template <class Indices>
-    std::optional<std::size_t> take_of(bits values, const Indices &indices, bits valid);
+    [[nodiscard]] std::optional<std::size_t> take_of(bits values, const Indices &indices,
+        bits valid);
 
     /*
      * Which are true of `left and right`, or of `left or right`, truth values that may be null, by
@@ -471,5 +428,7 @@ private:
 #include "vortex_bits_gather.hpp"
 #include "vortex_bits_ranks.hpp"
 #include "vortex_bits_values.hpp"
+
+#endif
 
 #endif

@@ -10,6 +10,8 @@
 
 #include "vortex_bits.hpp"
 
+#if __cplusplus >= 201703L
+
 namespace vortex_bits {
 
 namespace detail {
@@ -88,5 +90,7 @@ void compare_with(const Values &values, std::uint8_t op, const Others &others, b
 }
 
 } // namespace vortex_bits
+
+#endif
 
 #endif

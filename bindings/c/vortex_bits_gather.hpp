@@ -12,6 +12,8 @@
 
 #include "vortex_bits.hpp"
 
+#if __cplusplus >= 201703L
+
 namespace vortex_bits {
 
 namespace detail {
@@ -28,15 +30,6 @@ VB_TAKEN_BY(2, u16, std::uint16_t)
 VB_TAKEN_BY(4, u32, std::uint32_t)
 VB_TAKEN_BY(8, u64, std::uint64_t)
 #undef VB_TAKEN_BY
-
-/* How many of so many items indices of the type can name: negative ones are read as behind them. */
-template <class Index> std::size_t reached(std::size_t count)
-{
-    if constexpr (std::is_signed_v<Index>) {
-        return std::min(count, static_cast<std::size_t>(std::numeric_limits<Index>::max()) + 1);
-    }
-    return count;
-}
 
 } // namespace detail
 
@@ -180,5 +173,7 @@ template <class Bytes, class Out> void pack_truthy(const Bytes &truthy, Out &&ou
 }
 
 } // namespace vortex_bits
+
+#endif
 
 #endif

@@ -10,6 +10,8 @@
 
 #include "vortex_bits.hpp"
 
+#if __cplusplus >= 201703L
+
 namespace vortex_bits {
 
 /* A window with the table of its true bits before each block of 512, which it has of its own. */
@@ -69,5 +71,7 @@ private:
 };
 
 } // namespace vortex_bits
+
+#endif
 
 #endif

@@ -8,7 +8,8 @@
 #define VORTEX_BITS_VALUES_HPP
 
 #include "vortex_bits.hpp"
-#include "vortex_bits_gather.hpp"
+
+#if __cplusplus >= 201703L
 
 namespace vortex_bits {
 
@@ -51,7 +52,7 @@ VB_TAKEN_BY(16, 8, u128_u64)
  * `out` behind them stay. Values are of the types that keep_into takes.
  */
 template <class Values, class Indices, class Out>
-std::optional<std::size_t> take_values(const Values &values, const Indices &indices,
+[[nodiscard]] std::optional<std::size_t> take_values(const Values &values, const Indices &indices,
     const std::optional<bits> &valid, Out &&out)
 {
     using value = std::remove_cv_t<detail::lent_t<const Values>>;
@@ -80,11 +81,14 @@ std::optional<std::size_t> take_values(const Values &values, const Indices &indi
 
 /* The same where every position counts. */
 template <class Values, class Indices, class Out>
-std::optional<std::size_t> take_values(const Values &values, const Indices &indices, Out &&out)
+[[nodiscard]] std::optional<std::size_t> take_values(const Values &values, const Indices &indices,
+    Out &&out)
 {
     return take_values(values, indices, std::nullopt, std::forward<Out>(out));
 }
 
 } // namespace vortex_bits
+
+#endif
 
 #endif

@@ -1,0 +1,138 @@
+"""What compiles over vortex_bits.hpp, and what must not: for bindings/c/headers."""
+
+# What each program begins with.
+BEGIN = """\
+#include "vortex_bits.hpp"
+
+#include <memory>
+#include <string>
+#if __cplusplus >= 202002L
+#include <span>
+#endif
+
+using namespace vortex_bits;
+using buffer = std::vector<std::uint8_t>;
+
+/* A view of a user's own, one of bytes that may be written, and what has bytes of its own. */
+struct slice {
+    const std::uint8_t *first;
+    std::size_t count;
+    const std::uint8_t *data() const { return first; }
+    std::size_t size() const { return count; }
+};
+template <> inline constexpr bool vortex_bits::is_borrowed<slice> = true;
+struct spare {
+    std::uint8_t *first;
+    std::size_t count;
+    std::uint8_t *data() const { return first; }
+    std::size_t size() const { return count; }
+};
+struct digest {
+    std::uint8_t all[16];
+    const std::uint8_t *data() const { return all; }
+    std::size_t size() const { return 16; }
+};
+#if __cplusplus >= 202002L
+struct range : slice {};
+template <> inline constexpr bool std::ranges::enable_borrowed_range<range> = true;
+#endif
+[[maybe_unused]] static buffer made() { return buffer(4); }
+[[maybe_unused]] static const buffer made_constant() { return buffer(4); }
+[[maybe_unused]] static std::size_t count(bits rows) { return rows.count_ones(); }
+template <class Window, class Bytes>
+constexpr bool can_be = std::is_constructible_v<Window, Bytes, std::size_t, std::size_t>;
+"""
+# What each line of code finds in its function.
+AROUND = """\
+static void line_{line}()
+{{
+    [[maybe_unused]] buffer bytes(4);
+    [[maybe_unused]] const buffer fixed(4);
+    [[maybe_unused]] std::uint8_t plain[4] = {{}};
+    [[maybe_unused]] bits rows(fixed, 0, 8);
+#line {line}
+    {code}
+}}
+
+"""
+
+# What must compile as C++17 and later, and as C++20 and later.
+ACCEPTED = [
+    "(void)bits(bytes, 0, 8); (void)bits_mut(bytes, 0, 8);",
+    "(void)bits(fixed, 0, 8); (void)count({fixed, 0, 8});",
+    "std::array<std::uint8_t, 4> all = {}; (void)bits(all, 0, 8); (void)bits_mut(all, 0, 8);",
+    "(void)bits(plain, 4, 0, 8); (void)bits_mut(plain, 4, 0, 8);",
+    "const spare all = {plain, 4}; (void)bits(all, 0, 8); (void)bits_mut(all, 0, 8);",
+    "const slice all = {plain, 4}; (void)bits(all, 0, 8);",
+    "(void)bits(slice{plain, 4}, 0, 8); (void)bits(spare{plain, 4}, 0, 8);",
+    "bits_mut(spare{plain, 4}, 0, 8).fill(true);",
+    "spare all = {plain, 4}; (void)bits(std::move(all), 0, 8);",
+    "spare all = {plain, 4}; (void)bits_mut(std::move(all), 0, 8);",
+    "(void)bits(std::basic_string_view<std::uint8_t>(plain, 4), 0, 8);",
+    "(void)count({slice{plain, 4}, 0, 8}); (void)ranks(bits(slice{plain, 4}, 0, 8));",
+    "static_assert(can_be<bits, buffer &> && can_be<bits, const buffer &> && can_be<bits, slice>);",
+    "static_assert(!can_be<bits, buffer> && !can_be<bits, const buffer> && !can_be<bits, digest>);",
+    "static_assert(can_be<bits_mut, buffer &> && can_be<bits_mut, spare>);",
+    "static_assert(!can_be<bits_mut, buffer> && !can_be<bits_mut, const buffer &>);",
+    "static_assert(!can_be<bits_mut, slice> && !can_be<bits_mut, digest &>);",
+    "std::vector<std::size_t> all; rows.for_each_set([&](std::size_t i) { all.push_back(i); });",
+    "rows.for_each_set([](std::size_t i) { return i < 3; });",
+    "rows.for_each_set([p = std::make_unique<int>(1)](std::size_t &&) mutable { return ++*p; });",
+    "bool is = true; rows.for_each_set([&](auto) -> const bool & { return is; });",
+    "rows.for_each_run([](std::size_t, std::size_t end) { return end < 9; });",
+]
+ACCEPTED_SINCE_20 = [
+    "(void)bits(std::span<const std::uint8_t>(fixed), 0, 8);",
+    "(void)bits(std::span<std::uint8_t>(bytes), 0, 8); (void)bits(std::span(plain), 0, 8);",
+    "bits_mut(std::span<std::uint8_t>(plain, 4), 0, 8).fill(true);",
+    "(void)bits_mut(std::span(plain), 0, 8); (void)bits_mut(std::span(bytes).first(2), 0, 8);",
+    "const std::span all(plain); (void)bits(all, 0, 8); (void)bits_mut(all, 0, 8);",
+    "(void)bits(range{plain, 4}, 0, 8);",
+    "static_assert(can_be<bits, std::span<std::uint8_t, 4>> && !can_be<bits, std::span<char>>);",
+    "static_assert(!can_be<bits_mut, std::span<const std::uint8_t>>);",
+]
+
+# What must not: windows over bytes that end before them, or that can't be written, and answers that
+# nobody looks at. Both compilers say it so.
+DELETED, NONE, UNUSED = "deleted (function|constructor)", "no matching", "ignoring return value"
+REFUSED = [
+    ("bits it(buffer(4), 0, 8); (void)it;", DELETED),
+    ("bits it(made(), 0, 8); (void)it;", DELETED),
+    ("bits it(made_constant(), 0, 8); (void)it;", DELETED),
+    ("bits it(std::move(bytes), 0, 8); (void)it;", DELETED),
+    ("bits it(std::array<std::uint8_t, 4>{}, 0, 8); (void)it;", DELETED),
+    ("bits it(std::basic_string<std::uint8_t>(4, 0), 0, 8); (void)it;", DELETED),
+    ("bits it(digest(), 0, 8); (void)it;", DELETED),
+    ("(void)count({buffer(4), 0, 8});", DELETED),
+    ("bits_mut it(buffer(4), 0, 8); (void)it;", DELETED),
+    ("bits_mut(made(), 0, 8).fill(true);", DELETED),
+    ("bits_mut(std::move(bytes), 0, 8).fill(true);", DELETED),
+    ("bits_mut(std::array<std::uint8_t, 4>{}, 0, 8).fill(true);", DELETED),
+    ("bits_mut it(fixed, 0, 8); (void)it;", NONE),
+    ("bits_mut it(made_constant(), 0, 8); (void)it;", DELETED),
+    ("bits_mut it(slice{plain, 4}, 0, 8); (void)it;", NONE),
+    ("rows.take_into(bytes, bytes);", UNUSED),
+    ("rows.take_into(bytes, rows, bytes);", UNUSED),
+    ("bits_mut(bytes, 0, 8).take_of(rows, fixed);", UNUSED),
+    ("bits_mut(bytes, 0, 8).take_of(rows, fixed, rows);", UNUSED),
+    ("take_values(fixed, fixed, bytes);", UNUSED),
+    ("take_values(fixed, fixed, rows, bytes);", UNUSED),
+]
+
+
+def program(codes: list[str]) -> str:
+    """A program in which a line of code has the number of its place in the list, from 1001 on."""
+    parts = [AROUND.format(line=line, code=code) for line, code in enumerate(codes, 1001)]
+    uses = "".join(f"    line_{line}();\n" for line in range(1001, 1001 + len(codes)))
+    return f"{BEGIN}{''.join(parts)}int main()\n{{\n{uses}}}\n"
+
+
+def accepted(standard: str) -> str:
+    """A program of all that compiles."""
+    return program([*ACCEPTED, *(ACCEPTED_SINCE_20 if standard >= "c++20" else [])])
+
+
+def refused() -> tuple[str, dict[int, str]]:
+    """One of all that does not, and what the first error of each of its lines says."""
+    lines = {line: error for line, (_, error) in enumerate(REFUSED, 1001)}
+    return program([code for code, _ in REFUSED]), lines

@@ -1,0 +1,154 @@
+/*
+ * What the parts of vortex_bits.hpp share, each of which includes this file: nothing here is for
+ * users. Before C++17 it is an error, and each part is empty behind that.
+ */
+#ifndef VORTEX_BITS_DETAIL_HPP
+#define VORTEX_BITS_DETAIL_HPP
+
+#if __cplusplus < 201703L
+#error "vortex_bits.hpp needs C++17: compile with -std=c++17 or a later one"
+#else
+
+#include "vortex_bits.h"
+
+#include <algorithm>
+#include <array>
+#include <cstddef>
+#include <cstdint>
+#include <cstdlib>
+#include <limits>
+#include <optional>
+#include <stdexcept>
+#include <string_view>
+#include <type_traits>
+#include <utility>
+#include <vector>
+#if __has_include(<version>)
+#include <version>
+#endif
+#ifdef __cpp_lib_span
+#include <span>
+#endif
+
+namespace vortex_bits {
+
+namespace detail {
+
+[[noreturn]] inline void refuse(const char *why)
+{
+#ifdef __cpp_exceptions
+    throw std::out_of_range(why);
+#else
+    (void)why;
+    std::abort();
+#endif
+}
+
+inline void expect(bool holds, const char *why)
+{
+    if (!holds) {
+        refuse(why);
+    }
+}
+
+inline std::optional<std::size_t> place(vb_place it)
+{
+    return it.found ? std::optional<std::size_t>(it.index) : std::nullopt;
+}
+
+/* Whether it lends bytes: a std::vector, std::array, std::span, .. of std::uint8_t does. */
+template <class Container, class Byte, class = void> inline constexpr bool lends = false;
+template <class Container, class Byte>
+inline constexpr bool lends<Container, Byte,
+    std::void_t<decltype(std::declval<Container &>().data()),
+        decltype(std::declval<Container &>().size())>> =
+    std::is_convertible_v<decltype(std::declval<Container &>().data()), Byte *>
+    && std::is_convertible_v<decltype(std::declval<Container &>().size()), std::size_t>;
+
+/* The type of what a container's data() points to; void where it has none. */
+template <class Container, class = void> struct lent { using type = void; };
+template <class Container>
+struct lent<Container, std::void_t<decltype(std::declval<Container &>().data())>> {
+    using type = std::remove_pointer_t<decltype(std::declval<Container &>().data())>;
+};
+template <class Container> using lent_t = typename lent<Container>::type;
+
+/* Whether the bytes that such a container lends are another's, as far as its type says. */
+template <class Container> constexpr bool refers()
+{
+#if defined(__cpp_lib_span) && defined(__cpp_lib_ranges)
+    if constexpr (std::ranges::enable_borrowed_range<Container>) {
+        return true;
+    }
+#endif
+    return std::is_trivially_copyable_v<Container>
+        && std::is_same_v<lent_t<const Container>, std::uint8_t>;
+}
+
+/* Calls `f` for an item of a walk, and says whether to go on: what returns a bool may end it. */
+template <class F, class... Item> bool goes_on(F &f, Item &&...item)
+{
+    using answer = decltype(f(std::forward<Item>(item)...));
+    if constexpr (std::is_same_v<std::decay_t<answer>, bool>) {
+        return f(std::forward<Item>(item)...);
+    } else {
+        f(std::forward<Item>(item)...);
+        return true;
+    }
+}
+
+/* The type of the C functions for items of so many bytes, or void, and their filter. */
+template <class Type, std::size_t (*Keep)(Type *, std::size_t, const Type *, std::size_t,
+    const std::uint8_t *, std::size_t, std::size_t)>
+struct by {
+    using type = Type;
+    static constexpr auto keep = Keep;
+};
+template <std::size_t Size> struct laid { using type = void; };
+template <> struct laid<1> : by<std::uint8_t, vb_filter_u8> {};
+template <> struct laid<2> : by<std::uint16_t, vb_filter_u16> {};
+template <> struct laid<4> : by<std::uint32_t, vb_filter_u32> {};
+template <> struct laid<8> : by<std::uint64_t, vb_filter_u64> {};
+template <> struct laid<16> : by<vb_u128, vb_filter_u128> {};
+
+/* Whether items of the type may be copied as such a type's are. */
+template <class Item> constexpr bool is_value()
+{
+    if constexpr (std::is_object_v<Item>) {
+        using as = typename laid<sizeof(Item)>::type;
+        if constexpr (!std::is_void_v<as>) {
+            return std::is_trivially_copyable_v<Item> && alignof(Item) % alignof(as) == 0;
+        }
+    }
+    return false;
+}
+
+template <class Item> constexpr bool is_index()
+{
+    if constexpr (std::is_integral_v<Item> && !std::is_same_v<Item, bool>) {
+        return sizeof(Item) <= 8;
+    }
+    return false;
+}
+
+template <class Out> constexpr bool is_bytes()
+{
+    return std::is_same_v<lent_t<std::remove_reference_t<Out>>, std::uint8_t>;
+}
+
+/* How many of so many items indices of the type can name: negative ones are read as behind them. */
+template <class Index> std::size_t reached(std::size_t count)
+{
+    if constexpr (std::is_signed_v<Index>) {
+        return std::min(count, static_cast<std::size_t>(std::numeric_limits<Index>::max()) + 1);
+    }
+    return count;
+}
+
+} // namespace detail
+
+} // namespace vortex_bits
+
+#endif
+
+#endif

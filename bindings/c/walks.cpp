@@ -1,0 +1,97 @@
+/*
+ * Walks of vortex_bits.hpp that end before their window does, and windows over temporary views.
+ */
+#include "vortex_bits.hpp"
+
+#include <cstdio>
+
+using vortex_bits::bits;
+using vortex_bits::bits_mut;
+using buffer = std::vector<std::uint8_t>;
+
+static int failures = 0;
+
+static void check(bool holds, const char *what)
+{
+    if (!holds) {
+        failures++;
+        std::fprintf(stderr, "failed: %s\n", what);
+    }
+}
+
+template <class Call> static void refused(Call call, const char *what)
+{
+    try {
+        call();
+        check(false, what);
+    } catch (const std::out_of_range &) {
+    }
+}
+
+/* Bytes of another, as a std::span of C++20. */
+struct view {
+    std::uint8_t *first;
+    std::size_t count;
+    std::uint8_t *data() const { return first; }
+    std::size_t size() const { return count; }
+};
+
+/* Walks that end at the n-th place or run, where what they call answers false. */
+static void stops(const buffer &all, std::size_t n)
+{
+    const bits window(all, 3, 8 * all.size() - 5);
+    const std::vector<std::size_t> places = window.set_indices();
+    const std::vector<vb_run> runs = window.set_slices();
+    std::vector<std::size_t> walked;
+    window.for_each_set([&](std::size_t place) {
+        walked.push_back(place);
+        return walked.size() < n;
+    });
+    const std::size_t wanted = std::min(std::max<std::size_t>(n, 1), places.size());
+    check(walked.size() == wanted && std::equal(walked.begin(), walked.end(), places.begin()),
+        "a walk over places that stops");
+    std::size_t calls = 0, behind = 0;
+    window.for_each_run([&](std::size_t start, std::size_t end) {
+        check(start == runs[calls].start && end == runs[calls].end, "a run before the stop");
+        behind = end;
+        return ++calls < n;
+    });
+    check(calls == std::min(std::max<std::size_t>(n, 1), runs.size()),
+        "a walk over runs that stops");
+    check(calls == 0 || behind == runs[calls - 1].end, "the run at which it stops");
+    calls = 0;
+    window.for_each_set([&](std::size_t) { return ++calls, 0; });
+    check(calls == places.size(), "a number is no answer");
+}
+
+/* Windows over temporary views of bytes that have a name. */
+static void views()
+{
+    buffer all = {0xB6, 0x01};
+    const bits window(view{all.data(), all.size()}, 1, 8);
+    check(window == bits(all, 1, 8), "a window over a view");
+    bits_mut(view{all.data(), all.size()}, 5, 6).negate();
+    check(all == buffer({0x56, 0x06}), "a write over a view");
+    refused([&] { bits(view{all.data(), 2}, 0, 17); }, "a window past the bytes of a view");
+    refused([&] { bits_mut(view{all.data(), 2}, 15, 2); }, "a window past the bytes of a view");
+#ifdef __cpp_lib_span
+    check(bits(std::span<const std::uint8_t>(all), 3, 9).bytes().size() == 2, "a span");
+    bits_mut(std::span<std::uint8_t>(all.data(), 1), 4, 4).fill(true);
+    check(all == buffer({0xF6, 0x06}), "a write over a span");
+#endif
+}
+
+int main()
+{
+    buffer any(170);
+    for (std::size_t i = 0; i < any.size(); i++) {
+        any[i] = static_cast<std::uint8_t>(i * i * 37 >> 3);
+    }
+    for (const std::size_t n : {0, 1, 2, 63, 64, 65, 128, 129, 9999}) {
+        for (const buffer &all : {any, buffer(200, 0xFF), buffer(200, 0x55), buffer(200)}) {
+            stops(all, n);
+        }
+    }
+    views();
+    return failures == 0 ? 0 : 1;
+}
