@@ -14,7 +14,10 @@
 
 namespace vortex_bits {
 
-/* A window with the table of its true bits before each block of 512, which it has of its own. */
+/*
+ * A window with the table of its true bits before each block of 512, which it has of its own. One
+ * that was moved from has no bits. An assignment that throws leaves both sides as they were.
+ */
 class ranks {
 public:
     /* It counts the bits once. */
@@ -31,6 +34,20 @@ public:
     ranks(bits window, std::vector<std::size_t> table) : bits_(window), table_(std::move(table))
     {
         detail::expect(table_.size() == blocks(window), "not an entry for each block");
+    }
+
+    ranks(const ranks &) = default;
+    ranks(ranks &&from) noexcept
+        : bits_(std::exchange(from.bits_, bits())), table_(std::exchange(from.table_, {}))
+    {
+    }
+
+    /* The copy is made before anything changes here. */
+    ranks &operator=(ranks from) noexcept
+    {
+        std::swap(bits_, from.bits_);
+        table_.swap(from.table_);
+        return *this;
     }
 
     const std::vector<std::size_t> &table() const { return table_; }
