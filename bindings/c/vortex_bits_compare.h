@@ -11,7 +11,14 @@
 extern "C" {
 #endif
 
-/* How a value compares with another one, as `op` below. */
+/*
+ * How a value compares with another one. `op` below is one of these, and less than 6: at another
+ * number a plain form stops the program, by an illegal instruction, and a checked form refuses it.
+ *
+ *     const uint8_t values[] = {7};
+ *     uint8_t out[] = {0};
+ *     assert(!vb_try_compare_u8(out, 1, 0, values, 1, VB_GREATER_OR_EQUAL + 1, 7));
+ */
 enum {
     VB_EQUAL,
     VB_NOT_EQUAL,

@@ -44,7 +44,7 @@ size_t vb_filter_values(void *out, size_t room, const void *values, size_t count
         WIDTH(16, u128, vb_u128)
 #undef WIDTH
     default:
-        return 0;
+        __builtin_trap();
     }
 }
 
@@ -69,8 +69,12 @@ bool vb_try_filter_values(void *out, size_t room, const void *values, size_t cou
     }
 }
 
-/* A value of so many bytes at an index of so many. */
+/* A value of so many bytes at an index of so many; as a function, 0 where one of them is too many. */
 #define PAIR(value_size, index_size) (16 * (value_size) + (index_size))
+static size_t pair(size_t value_size, size_t index_size)
+{
+    return value_size <= 16 && index_size <= 8 ? PAIR(value_size, index_size) : 0;
+}
 #define PAIRS(WIDTH, size, index, I)                                                              \
     WIDTH(1, u8, uint8_t, size, index, I)                                                         \
     WIDTH(2, u16, uint16_t, size, index, I)                                                       \
@@ -82,7 +86,7 @@ vb_place vb_take_values(void *out, size_t room, const void *values, size_t count
     size_t value_size, const void *indices, size_t index_count, size_t index_size, bool all_valid,
     const uint8_t *validity, size_t validity_size, size_t validity_offset)
 {
-    switch (PAIR(value_size, index_size)) {
+    switch (pair(value_size, index_size)) {
 #define WIDTH(size, name, V, wide, index, I)                                                      \
     case PAIR(size, wide):                                                                        \
         return OF_VALUES(take_values_##name##_##index, V, ANY((const I *)indices), index_count,   \
@@ -93,7 +97,7 @@ vb_place vb_take_values(void *out, size_t room, const void *values, size_t count
         PAIRS(WIDTH, 8, u64, uint64_t)
 #undef WIDTH
     default:
-        return (vb_place){false, 0};
+        return (vb_place){true, 0};
     }
 }
 
@@ -105,7 +109,7 @@ bool vb_try_take_values(void *out, size_t room, const void *values, size_t count
             || !is_laid(indices, index_size, 8)) {
         return false;
     }
-    switch (PAIR(value_size, index_size)) {
+    switch (pair(value_size, index_size)) {
 #define WIDTH(size, name, V, wide, index, I)                                                      \
     case PAIR(size, wide):                                                                        \
         return OF_VALUES(try_take_values_##name##_##index, V, ANY((const I *)indices),            \

@@ -22,6 +22,7 @@ static void see(int first, ...)
 }
 
 #define ANY(items) look(items)
+#define KNOWN(op) op
 #define SEE(...) see(0, __VA_ARGS__)
 #define F(type, name, parameters, arguments)                                                      \
     type vb_v2_##name parameters;                                                                 \

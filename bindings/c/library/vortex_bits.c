@@ -103,6 +103,16 @@ bool vb_has_level(void)
 
 #endif
 
+/* A comparison, where there is that one: a plain form stops the program at another. */
+static inline uint8_t known(uint8_t op)
+{
+    if (op > VB_GREATER_OR_EQUAL) {
+        __builtin_trap();
+    }
+    return op;
+}
+#define KNOWN(op) known(op)
+
 #define F(type, name, parameters, arguments)                                                      \
     type vb_##name parameters                                                                     \
     {                                                                                             \
