@@ -1,6 +1,7 @@
 /*
  * The windows of vortex_bits.h as C++ classes, of C++17 and later. This file includes its parts:
- * vortex_bits_compare.hpp, _gather.hpp, _ranks.hpp, and _values.hpp for values at indices.
+ * vortex_bits_compare.hpp, _gather.hpp, _ranks.hpp, and _values.hpp for values at indices. Each of
+ * them may be included alone, and in any order.
  *
  *     c++ -std=c++17 -O2 app.cpp -I DIST/include DIST/lib/libvortex_bits.a
  *
@@ -71,7 +72,7 @@ public:
     {
     }
 
-    /* A temporary container ends before the window would: give it a name. */
+    /* A temporary container ends before the window: give it a name. Of views see is_borrowed. */
     template <class Bytes, detail::owner<Bytes, const std::uint8_t> = 0>
     bits(const Bytes &&bytes, std::size_t offset, std::size_t len) = delete;
 

@@ -69,7 +69,7 @@ bool vb_try_filter_values(void *out, size_t room, const void *values, size_t cou
     }
 }
 
-/* A value of so many bytes at an index of so many; as a function, 0 where one of them is too many. */
+/* A value of so many bytes at an index of so many: as a function 0, where these are too many. */
 #define PAIR(value_size, index_size) (16 * (value_size) + (index_size))
 static size_t pair(size_t value_size, size_t index_size)
 {
