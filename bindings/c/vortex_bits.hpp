@@ -10,7 +10,7 @@
  *     rows.count_ones();                                // 6
  *     rows.for_each_set([&](std::size_t row) { .. });
  *
- * A window is tested once, where it is made; it lends its bytes, as a std::span does, so that one
+ * A window is tested once, where it is made. Like a std::span it does not own its bytes, so a window
  * over a temporary container does not compile. What a window can't know is tested at the call: that
  * two have one length, that a place is one of it, that there is room. Where a test fails,
  * std::out_of_range is thrown, and nothing was written; without exceptions the program is aborted.
@@ -166,8 +166,8 @@ public:
     friend bool operator!=(const bits &left, const bits &right) { return !(left == right); }
 
     /*
-     * Calls `f` with each place of a true bit, in ascending order. Where `f` returns a bool, false
-     * ends the walk: no place behind that one is given to `f`.
+     * Calls `f` with each place of a true bit, in ascending order. If `f` returns a bool, the walk
+     * ends at the first false; any other result is ignored.
      */
     template <class F> void for_each_set(F f) const
     {
@@ -177,8 +177,8 @@ public:
     }
 
     /*
-     * Calls `f` with the start and the end of each run of true bits, as long as can be. Where `f`
-     * returns a bool, false ends the walk.
+     * Calls `f` with the start and the end of each run of true bits, as long as can be. If `f`
+     * returns a bool, the walk ends at the first false; any other result is ignored.
      */
     template <class F> void for_each_run(F f) const
     {

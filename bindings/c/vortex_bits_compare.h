@@ -12,8 +12,9 @@ extern "C" {
 #endif
 
 /*
- * How a value compares with another one. `op` below is one of these, and less than 6: at another
- * number a plain form stops the program, by an illegal instruction, and a checked form refuses it.
+ * How a value compares with another one: the `op` of the calls below, which is less than 6. With
+ * another number a plain form stops the program by an illegal instruction, and a checked form
+ * returns false.
  *
  *     const uint8_t values[] = {7};
  *     uint8_t out[] = {0};
@@ -30,9 +31,10 @@ enum {
 
 /*
  * Writes to bit `out_offset + k` of `out`, for each k below `values_size`, whether value k compares
- * with `number` so. Every other bit of `out` stays. 64 values go at a time, by vectors. Floats
- * compare as C's operators do, and IEEE 754: of what isn't a number VB_NOT_EQUAL alone holds, also
- * where both sides are it, and 0.0 equals -0.0.
+ * with `number` so. `values_size`, and `others_size` below, count values and not bytes. Every other
+ * bit of `out` stays. 64 values go at a time, by vectors. Floats compare as C's operators do, and
+ * IEEE 754: of what isn't a number VB_NOT_EQUAL alone holds, also where both sides are it, and 0.0
+ * equals -0.0.
  *
  *     const double prices[] = {1.5, NAN, 0.25};
  *     uint8_t cheap[] = {0};

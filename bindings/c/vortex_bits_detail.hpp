@@ -1,6 +1,6 @@
 /*
- * What the parts of vortex_bits.hpp share, each of which includes this file: nothing here is for
- * users. Before C++17 it is an error, and each part is empty behind that.
+ * Helpers that the parts of vortex_bits.hpp share; a program needs none of them. Before C++17 this
+ * file is one error, and the parts are empty.
  */
 #ifndef VORTEX_BITS_DETAIL_HPP
 #define VORTEX_BITS_DETAIL_HPP

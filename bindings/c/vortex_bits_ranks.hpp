@@ -15,8 +15,8 @@
 namespace vortex_bits {
 
 /*
- * A window with the table of its true bits before each block of 512, which it has of its own. One
- * that was moved from has no bits. An assignment that throws leaves both sides as they were.
+ * A window with the table of its true bits before each block of 512, which it has of its own. After
+ * a move the source has no bits. An assignment that throws leaves both sides unchanged.
  */
 class ranks {
 public:

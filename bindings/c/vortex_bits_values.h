@@ -52,9 +52,9 @@ VB_CHECKED bool vb_try_filter_u128(vb_u128 *out, size_t room, const vb_u128 *val
 
 /*
  * The same of values of whatever type, signed ones, floats and structs too, by their size: 1, 2, 4,
- * 8 or 16 bytes, aligned as a whole number of so many bytes is, those of 16 as one of 8. At another
- * size the plain form stops the program, by an illegal instruction. The checked form refuses such a
- * size, and values that aren't aligned so.
+ * 8 or 16 bytes, aligned as a whole number of so many bytes is, those of 16 as one of 8. With
+ * another size the plain form stops the program by an illegal instruction. The checked form returns
+ * false for such a size, and for a pointer that isn't aligned so.
  *
  *     const double prices[] = {0.5, 1.5, 2.5, 3.5};
  *     const uint8_t mask[] = {0x0B};
@@ -211,9 +211,9 @@ VB_CHECKED bool vb_try_take_values_u128_u64(vb_u128 *out, size_t room, const vb_
 
 /*
  * The same of values of whatever type, by their size, as of vb_filter_values, and that of an index:
- * 1, 2, 4 or 8 bytes. Where a size is another one, the plain form writes nothing and answers
- * position 0, even of no indices. The checked form refuses such a size, and items that aren't
- * aligned so.
+ * 1, 2, 4 or 8 bytes. With another size the plain form writes nothing and returns position 0, even
+ * if there are no indices. The checked form returns false for such a size, and for a pointer that
+ * isn't aligned so.
  *
  *     const float prices[] = {0.5f, 1.5f, 2.5f};
  *     const int32_t rows[] = {2, 0};
