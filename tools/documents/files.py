@@ -5,7 +5,7 @@ from functools import cached_property
 from pathlib import Path
 
 NAMED = ["README.md", "CONTRIBUTING.md", "CHANGELOG.md"]
-FOLDERS = ["docs", "crates", "bindings"]
+FOLDERS = ["docs", "crates", "bindings", "demo"]
 SOURCES = {".rt", ".antt", ".rs", ".h", ".c", ".py", ".txt", ".toml", ".in", ".edit", ""}
 PROSE = {"LICENSE", "NOTICE", "HANDLES"}
 # What was measured, and of which code, which may be gone.

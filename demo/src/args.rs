@@ -1,0 +1,219 @@
+//! The command line.
+
+use std::ffi::OsString;
+use std::path::PathBuf;
+
+use crate::csv::Dialect;
+use crate::error::Error;
+use crate::survey::Kind;
+
+/// What `--help` prints.
+pub const HELP: &str = "\
+Answers a query over a CSV file by the calls of vortex_bits, and draws it.
+
+usage: demo/query FILE [option..]
+
+  --where CONDITION    the rows to keep: size > 4 and not (name = 'a' or \"a b\" is null)
+  --select LIST        print answers as CSV: count(*), count(c), sum(c), min(c), max(c)
+  --rows               print the kept rows as CSV
+  --nth N              print the N-th kept row, from 1 on; status 1 if there is none
+  --out FILE           write the kept rows to a file as CSV
+  --svg FILE           draw the kept rows and the histogram to a file
+  --histogram COLUMN   the column of the histogram; else the first one of numbers
+  --delimiter BYTE     between fields, a comma by default; tab is one too
+  --no-header          the first line is a row; the columns are c1, c2, ..
+  --no-quotes          a double quote is a byte like others
+  --type COLUMN=TYPE   whole, float or text, in place of what the fields show; may be repeated
+  --help               print this
+
+Without --select, --rows and --nth it prints a table of the columns, which rows are kept, and the
+histogram. An empty field is null. Status 2 is an error.
+";
+
+/// What is printed on standard output.
+#[derive(Clone, Debug, PartialEq, Eq)]
+pub enum Print {
+    /// The table of columns, the kept rows as a strip, and a histogram.
+    Report,
+    /// Answers, by their list.
+    Answers(String),
+    /// All kept rows.
+    Rows,
+    /// The kept row that so many come before.
+    Nth(u64),
+}
+
+/// The options of a run.
+#[derive(Clone, Debug, PartialEq, Eq)]
+pub struct Options {
+    /// The CSV file.
+    pub file: PathBuf,
+    /// The condition, as it is written.
+    pub condition: Option<String>,
+    /// What is printed.
+    pub print: Print,
+    /// The file for kept rows.
+    pub out: Option<PathBuf>,
+    /// The file for the picture.
+    pub svg: Option<PathBuf>,
+    /// The column of the histogram.
+    pub histogram: Option<String>,
+    /// The bytes that separate and quote fields.
+    pub dialect: Dialect,
+    /// Whether the first row has the names of the columns.
+    pub has_header: bool,
+    /// Types of columns.
+    pub kinds: Vec<(String, Kind)>,
+}
+
+/// Returns the options of a command line without the program's name; None if it asks for help.
+///
+/// # Errors
+///
+/// If there is no file or more than one, and at an option that isn't known, has no value, or has
+/// one that it can't have.
+pub fn parse(args: impl IntoIterator<Item = OsString>) -> Result<Option<Options>, Error> {
+    let mut options = Options {
+        file: PathBuf::new(),
+        condition: None,
+        print: Print::Report,
+        out: None,
+        svg: None,
+        histogram: None,
+        dialect: Dialect {
+            delimiter: b',',
+            quote: Some(b'"'),
+        },
+        has_header: true,
+        kinds: Vec::new(),
+    };
+    let (mut files, mut args) = (Vec::new(), args.into_iter());
+    while let Some(arg) = args.next() {
+        match arg.to_str() {
+            Some("--help" | "-h") => return Ok(None),
+            Some("--") => files.extend(args.by_ref().map(PathBuf::from)),
+            Some(option) if option.starts_with("--") => option_of(&mut options, option, &mut args)?,
+            Some(option) if option.len() > 1 && option.starts_with('-') => {
+                return usage(format!("there is no option {option}"));
+            }
+            _ => files.push(PathBuf::from(arg)),
+        }
+    }
+    let [file] = <[PathBuf; 1]>::try_from(files)
+        .or_else(|files| usage(format!("one CSV file is wanted, {} are given", files.len())))?;
+    options.file = file;
+    Ok(Some(options))
+}
+
+fn usage<T>(wrong: String) -> Result<T, Error> {
+    Err(Error::Usage(wrong))
+}
+
+/// Sets an option, whose value may stand behind `=` or be the next argument.
+fn option_of(
+    options: &mut Options,
+    arg: &str,
+    rest: &mut impl Iterator<Item = OsString>,
+) -> Result<(), Error> {
+    let (name, given) = match arg.split_once('=') {
+        Some((name, value)) => (name, Some(OsString::from(value))),
+        None => (arg, None),
+    };
+    if let "--rows" | "--no-header" | "--no-quotes" = name {
+        if given.is_some() {
+            return usage(format!("{name} has no value"));
+        }
+        return flag(options, name);
+    }
+    let known = [
+        "where",
+        "select",
+        "nth",
+        "out",
+        "svg",
+        "histogram",
+        "delimiter",
+        "type",
+    ];
+    if !known.contains(&&name[2..]) {
+        return usage(format!("there is no option {name}"));
+    }
+    let Some(value) = given.or_else(|| rest.next()) else {
+        return usage(format!("{name} wants a value"));
+    };
+    with_value(options, name, value)
+}
+
+fn flag(options: &mut Options, name: &str) -> Result<(), Error> {
+    match name {
+        "--rows" => return print(options, Print::Rows),
+        "--no-header" => options.has_header = false,
+        _ => options.dialect.quote = None,
+    }
+    Ok(())
+}
+
+fn with_value(options: &mut Options, name: &str, value: OsString) -> Result<(), Error> {
+    match name {
+        "--out" => options.out = Some(PathBuf::from(value)),
+        "--svg" => options.svg = Some(PathBuf::from(value)),
+        _ => {
+            let Ok(text) = value.into_string() else {
+                return usage(format!("the value of {name} isn't UTF-8"));
+            };
+            return with_text(options, name, text);
+        }
+    }
+    Ok(())
+}
+
+fn with_text(options: &mut Options, name: &str, text: String) -> Result<(), Error> {
+    match name {
+        "--where" => options.condition = Some(text),
+        "--select" => return print(options, Print::Answers(text)),
+        "--nth" => return print(options, Print::Nth(nth(&text)?)),
+        "--histogram" => options.histogram = Some(text),
+        "--delimiter" => options.dialect.delimiter = delimiter(&text)?,
+        _ => options.kinds.push(kind(&text)?),
+    }
+    Ok(())
+}
+
+fn print(options: &mut Options, print: Print) -> Result<(), Error> {
+    if options.print != Print::Report {
+        return usage("one of --select, --rows and --nth is wanted at most".to_string());
+    }
+    options.print = print;
+    Ok(())
+}
+
+fn nth(text: &str) -> Result<u64, Error> {
+    let number: Option<u64> = text.parse().ok();
+    match number.and_then(|number| number.checked_sub(1)) {
+        Some(before) => Ok(before),
+        None => usage(format!(
+            "--nth {text:?}: a whole number from 1 on is wanted"
+        )),
+    }
+}
+
+fn delimiter(text: &str) -> Result<u8, Error> {
+    match text.as_bytes() {
+        b"tab" | b"\\t" => Ok(b'\t'),
+        &[byte] if !matches!(byte, b'"' | b'\n' | b'\r') => Ok(byte),
+        _ => usage(format!(
+            "--delimiter {text:?}: one ASCII character is wanted, or tab"
+        )),
+    }
+}
+
+fn kind(text: &str) -> Result<(String, Kind), Error> {
+    let parts = text.rsplit_once('=');
+    let typed = parts.and_then(|(column, kind)| Some((column.to_string(), Kind::named(kind)?)));
+    match typed {
+        Some(typed) => Ok(typed),
+        None => usage(format!(
+            "--type {text:?}: COLUMN=whole, =float or =text is wanted"
+        )),
+    }
+}

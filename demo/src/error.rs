@@ -1,0 +1,151 @@
+//! What can go wrong, as it is told to the user.
+
+use std::fmt;
+use std::io;
+use std::path::{Path, PathBuf};
+
+/// A failure of the program.
+#[derive(Debug)]
+pub enum Error {
+    /// The command line can't be read.
+    Usage(String),
+    /// A file can't be opened, read or written.
+    File {
+        /// The file.
+        path: PathBuf,
+        /// What the system says.
+        error: io::Error,
+    },
+    /// A place of the file isn't what is wanted there.
+    Data {
+        /// The file.
+        path: PathBuf,
+        /// The line, from 1 on.
+        line: u64,
+        /// What is wrong, and what is wanted.
+        wrong: String,
+    },
+    /// A text on the command line can't be understood.
+    Query(QueryError),
+    /// The reader of standard output has gone.
+    Closed,
+}
+
+/// A place of a condition or of a list of answers that can't be understood.
+#[derive(Clone, Debug, PartialEq, Eq)]
+pub struct QueryError {
+    /// The byte of the text where it begins.
+    pub at: usize,
+    /// What is wrong, and what is wanted.
+    pub wrong: String,
+    /// The option and its text, once they are known.
+    pub of: Option<(&'static str, String)>,
+}
+
+impl QueryError {
+    /// Returns an error at a byte of the text.
+    #[must_use]
+    pub fn new(at: usize, wrong: impl Into<String>) -> QueryError {
+        QueryError {
+            at,
+            wrong: wrong.into(),
+            of: None,
+        }
+    }
+
+    /// Returns the error with the option and its text.
+    #[must_use]
+    pub fn of(self, option: &'static str, text: &str) -> QueryError {
+        QueryError {
+            of: Some((option, text.to_string())),
+            ..self
+        }
+    }
+}
+
+impl Error {
+    /// Returns the error of a file.
+    #[must_use]
+    pub fn file(path: &Path, error: io::Error) -> Error {
+        Error::File {
+            path: path.to_path_buf(),
+            error,
+        }
+    }
+
+    /// Returns the error of a line of a file.
+    #[must_use]
+    pub fn data(path: &Path, line: u64, wrong: impl Into<String>) -> Error {
+        Error::Data {
+            path: path.to_path_buf(),
+            line,
+            wrong: wrong.into(),
+        }
+    }
+
+    /// Returns the error of standard output, which may have lost its reader.
+    #[must_use]
+    pub fn output(error: io::Error) -> Error {
+        match error.kind() {
+            io::ErrorKind::BrokenPipe => Error::Closed,
+            _ => Error::file(Path::new("standard output"), error),
+        }
+    }
+}
+
+impl From<QueryError> for Error {
+    fn from(error: QueryError) -> Error {
+        Error::Query(error)
+    }
+}
+
+impl fmt::Display for QueryError {
+    /// The message, and the line of the text with a caret below the place.
+    fn fmt(&self, f: &mut fmt::Formatter<'_>) -> fmt::Result {
+        let Some((option, text)) = &self.of else {
+            return f.write_str(&self.wrong);
+        };
+        let before = &text[..self.at];
+        let start = before.rfind('\n').map_or(0, |end| end + 1);
+        let line = text[start..].lines().next().unwrap_or_default();
+        let line: String = line.chars().map(visible).collect();
+        let spaces = " ".repeat(text[start..self.at].chars().count());
+        write!(f, "{option}: {}\n  {line}\n  {spaces}^", self.wrong)
+    }
+}
+
+impl fmt::Display for Error {
+    fn fmt(&self, f: &mut fmt::Formatter<'_>) -> fmt::Result {
+        match self {
+            Error::Usage(wrong) => write!(f, "{wrong}; --help lists the options"),
+            Error::File { path, error } => write!(f, "{}: {error}", path.display()),
+            Error::Data { path, line, wrong } => write!(f, "{}:{line}: {wrong}", path.display()),
+            Error::Query(error) => error.fmt(f),
+            Error::Closed => write!(f, "standard output is closed"),
+        }
+    }
+}
+
+impl std::error::Error for Error {}
+
+/// Returns a character as one that moves no cursor: control characters become `?`.
+fn visible(character: char) -> char {
+    if character.is_control() {
+        '?'
+    } else {
+        character
+    }
+}
+
+/// Returns the text of bytes as a terminal may show it, cut to `most` characters.
+#[must_use]
+pub fn shown(bytes: &[u8], most: usize) -> String {
+    let text = String::from_utf8_lossy(&bytes[..bytes.len().min(most * 4 + 4)]);
+    let mut text = text.chars().map(visible);
+    let mut cut: String = text.by_ref().take(most).collect();
+    if text.next().is_some() {
+        cut.pop();
+        cut.push('…');
+    }
+    cut
+}

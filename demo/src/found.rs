@@ -1,0 +1,108 @@
+//! Rows that are kept, one of them or all.
+
+use std::io::{self, Write};
+
+use vortex_bits::Bitmap;
+
+use crate::csv::Dialect;
+use crate::engine::{Batch, Output};
+use crate::error::Error;
+use crate::rows::write_row;
+
+/// The n-th row that is kept.
+#[derive(Clone, Debug)]
+pub struct Nth {
+    /// How many of those that are kept come before it and aren't read yet.
+    before: u64,
+    /// The row, once it is read.
+    pub found: Option<Row>,
+}
+
+/// A row with its fields.
+#[derive(Clone, Debug, PartialEq)]
+pub struct Row {
+    /// Its number, from 1 on.
+    pub number: u64,
+    /// The line of the file in which it begins.
+    pub line: u64,
+    /// Its fields.
+    pub fields: Vec<Vec<u8>>,
+}
+
+impl Nth {
+    /// Returns the search for the row that `before` others come before.
+    #[must_use]
+    pub fn new(before: u64) -> Nth {
+        Nth {
+            before,
+            found: None,
+        }
+    }
+}
+
+impl Output for Nth {
+    fn take(&mut self, batch: &Batch<'_>, kept: &Bitmap) -> Result<(), Error> {
+        if self.found.is_some() {
+            return Ok(());
+        }
+        let place = usize::try_from(self.before)
+            .ok()
+            .and_then(|n| kept.select(n));
+        let Some(row) = place else {
+            self.before -= kept.count_ones() as u64;
+            return Ok(());
+        };
+        self.found = Some(Row {
+            number: batch.before + row as u64 + 1,
+            line: batch.rows.line(row),
+            fields: batch.rows.row(row).map(<[u8]>::to_vec).collect(),
+        });
+        Ok(())
+    }
+}
+
+/// All rows that are kept, written as CSV.
+pub struct Writer<W, E> {
+    out: W,
+    dialect: Dialect,
+    error: E,
+}
+
+impl<W: Write, E: Fn(io::Error) -> Error> Writer<W, E> {
+    /// Returns a writer of rows; `error` makes an error of what the system says.
+    pub fn new(out: W, dialect: Dialect, error: E) -> Writer<W, E> {
+        Writer {
+            out,
+            dialect,
+            error,
+        }
+    }
+
+    /// Writes a row of names.
+    ///
+    /// # Errors
+    ///
+    /// If the output can't be written.
+    pub fn header(&mut self, names: &[String]) -> Result<(), Error> {
+        let names = names.iter().map(String::as_bytes);
+        write_row(&mut self.out, self.dialect, names).map_err(&self.error)
+    }
+
+    /// Writes what is left to write.
+    ///
+    /// # Errors
+    ///
+    /// If the output can't be written.
+    pub fn finish(&mut self) -> Result<(), Error> {
+        self.out.flush().map_err(&self.error)
+    }
+}
+
+impl<W: Write, E: Fn(io::Error) -> Error> Output for Writer<W, E> {
+    fn take(&mut self, batch: &Batch<'_>, kept: &Bitmap) -> Result<(), Error> {
+        for row in kept.set_indices() {
+            write_row(&mut self.out, self.dialect, batch.rows.row(row)).map_err(&self.error)?;
+        }
+        Ok(())
+    }
+}

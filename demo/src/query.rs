@@ -1,0 +1,14 @@
+//! Conditions and lists of answers: how they are written, what they mean for a table, and which
+//! rows a condition keeps.
+
+pub mod condition;
+mod filter;
+mod near;
+mod parse;
+mod select;
+mod token;
+mod truth;
+
+pub use filter::Filter;
+pub use parse::{condition, selection};
+pub use select::{Aggregate, Answer};

@@ -1,0 +1,74 @@
+//! Answers about the rows that are kept.
+
+use std::fmt;
+
+use super::condition::Name;
+
+/// An answer about a column `C`, or about the rows.
+#[derive(Clone, Debug, PartialEq)]
+pub enum Answer<C> {
+    /// `count(*)`: the number of rows.
+    Rows,
+    /// An answer about a column.
+    Of(Aggregate, C),
+}
+
+impl Answer<usize> {
+    /// Returns the column that the answer is about, by its place.
+    #[must_use]
+    pub fn column(&self) -> Option<usize> {
+        match self {
+            Answer::Rows => None,
+            Answer::Of(_, column) => Some(*column),
+        }
+    }
+}
+
+/// What is answered about a column, of the rows where it isn't null.
+#[derive(Clone, Copy, Debug, PartialEq, Eq)]
+pub enum Aggregate {
+    /// The number of values.
+    Count,
+    /// The sum of all values.
+    Sum,
+    /// The least value.
+    Min,
+    /// The greatest value.
+    Max,
+}
+
+impl Aggregate {
+    const ALL: [(&str, Aggregate); 4] = [
+        ("count", Aggregate::Count),
+        ("sum", Aggregate::Sum),
+        ("min", Aggregate::Min),
+        ("max", Aggregate::Max),
+    ];
+
+    /// Returns the aggregate of a name, in any case of its letters.
+    #[must_use]
+    pub fn named(name: &str) -> Option<Aggregate> {
+        let mut all = Aggregate::ALL.into_iter();
+        all.find(|(own, _)| own.eq_ignore_ascii_case(name))
+            .map(|(_, aggregate)| aggregate)
+    }
+}
+
+impl fmt::Display for Aggregate {
+    fn fmt(&self, f: &mut fmt::Formatter<'_>) -> fmt::Result {
+        let own = Aggregate::ALL
+            .iter()
+            .find(|(_, aggregate)| aggregate == self);
+        f.write_str(own.map_or("", |(name, _)| name))
+    }
+}
+
+/// The answer as the header of its column.
+impl fmt::Display for Answer<Name> {
+    fn fmt(&self, f: &mut fmt::Formatter<'_>) -> fmt::Result {
+        match self {
+            Answer::Rows => f.write_str("count(*)"),
+            Answer::Of(aggregate, column) => write!(f, "{aggregate}({})", column.name),
+        }
+    }
+}

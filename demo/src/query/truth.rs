@@ -1,0 +1,79 @@
+//! Truth values of rows, which may be null, and how comparisons make them.
+
+use std::cmp::Ordering;
+
+use vortex_bits::{Bitmap, Comparison, values};
+
+/// A truth value per row, by SQL's three-valued logic.
+#[derive(Clone, Debug)]
+pub struct Truth {
+    /// Which rows are true; what a null has here counts for nothing.
+    pub trues: Bitmap,
+    /// Which rows aren't null; None if none is.
+    pub valid: Option<Bitmap>,
+}
+
+impl Truth {
+    /// Returns the rows that are true.
+    #[must_use]
+    pub fn kept(self) -> Bitmap {
+        match self.valid {
+            Some(valid) => self.trues & valid,
+            None => self.trues,
+        }
+    }
+
+    /// Returns `self and other`.
+    #[must_use]
+    pub fn and(self, other: &Truth) -> Truth {
+        let (a, b) = (&self, other);
+        let (trues, valid) =
+            values::and_kleene(&a.trues, a.valid.as_ref(), &b.trues, b.valid.as_ref());
+        Truth { trues, valid }
+    }
+
+    /// Returns `self or other`.
+    #[must_use]
+    pub fn or(self, other: &Truth) -> Truth {
+        let (a, b) = (&self, other);
+        let (trues, valid) =
+            values::or_kleene(&a.trues, a.valid.as_ref(), &b.trues, b.valid.as_ref());
+        Truth { trues, valid }
+    }
+}
+
+impl std::ops::Not for Truth {
+    type Output = Truth;
+
+    fn not(self) -> Truth {
+        Truth {
+            trues: !self.trues,
+            valid: self.valid,
+        }
+    }
+}
+
+/// Returns whether a comparison holds between values in this order.
+#[must_use]
+pub fn holds(op: Comparison, order: Ordering) -> bool {
+    match op {
+        Comparison::Equal => order.is_eq(),
+        Comparison::NotEqual => order.is_ne(),
+        Comparison::Less => order.is_lt(),
+        Comparison::LessOrEqual => order.is_le(),
+        Comparison::Greater => order.is_gt(),
+        Comparison::GreaterOrEqual => order.is_ge(),
+    }
+}
+
+/// Returns the comparison with its sides swapped.
+#[must_use]
+pub fn swapped(op: Comparison) -> Comparison {
+    match op {
+        Comparison::Equal | Comparison::NotEqual => op,
+        Comparison::Less => Comparison::Greater,
+        Comparison::LessOrEqual => Comparison::GreaterOrEqual,
+        Comparison::Greater => Comparison::Less,
+        Comparison::GreaterOrEqual => Comparison::LessOrEqual,
+    }
+}

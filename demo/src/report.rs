@@ -1,0 +1,185 @@
+//! What is printed without another option: the columns, which rows are kept, and a histogram.
+
+use std::io::{self, Write};
+use std::path::Path;
+
+use crate::draw::{Histogram, Strip};
+use crate::error::shown;
+use crate::found::Row;
+use crate::progress::grouped;
+use crate::query::Aggregate;
+use crate::summary::Summary;
+use crate::survey::Survey;
+
+/// How many characters of a text a table shows.
+const CELL: usize = 24;
+/// How many characters the longest bar of a histogram has.
+const BAR: usize = 48;
+/// How many cells the strip in a terminal has.
+pub const STRIP: usize = 72;
+
+/// What a report is about.
+pub struct Report<'a> {
+    /// The first line.
+    pub title: String,
+    /// The condition, if there is one.
+    pub condition: Option<&'a str>,
+    /// The columns.
+    pub survey: &'a Survey,
+    /// The number of rows that are kept.
+    pub kept: u64,
+    /// What is answered about each column, in their order.
+    pub summaries: &'a [Summary],
+    /// Which rows are kept.
+    pub strip: &'a Strip,
+    /// The values of a column.
+    pub histogram: Option<&'a Histogram>,
+}
+
+impl Report<'_> {
+    /// Writes the report.
+    ///
+    /// # Errors
+    ///
+    /// If `out` can't be written.
+    pub fn write(&self, out: &mut impl Write) -> io::Result<()> {
+        writeln!(out, "{}", self.title)?;
+        if let Some(condition) = self.condition {
+            writeln!(out, "where {}", shown(condition.as_bytes(), 1000))?;
+        }
+        writeln!(out)?;
+        self.write_table(out)?;
+        if self.condition.is_some() && self.survey.rows > 0 {
+            self.write_strip(out)?;
+        }
+        let Some(histogram) = self.histogram else {
+            return Ok(());
+        };
+        let name = &self.survey.columns[histogram.column()].name;
+        let of = if self.condition.is_some() {
+            " of the kept rows"
+        } else {
+            ""
+        };
+        writeln!(
+            out,
+            "\n{}{of}, by where each bin begins",
+            shown(name.as_bytes(), CELL)
+        )?;
+        for line in histogram.lines(BAR) {
+            writeln!(out, "{line}")?;
+        }
+        Ok(())
+    }
+
+    fn write_table(&self, out: &mut impl Write) -> io::Result<()> {
+        let head = ["column", "type", "nulls", "least", "greatest", "sum"].map(str::to_string);
+        let columns = self.survey.columns.iter().zip(self.summaries);
+        let row = |(column, summary): (&crate::survey::Column, &Summary)| {
+            let answer = |aggregate| shown(&summary.answer(aggregate), CELL);
+            [
+                shown(column.name.as_bytes(), CELL),
+                column.kind.to_string(),
+                grouped(self.kept - summary.count),
+                answer(Aggregate::Min),
+                answer(Aggregate::Max),
+                answer(Aggregate::Sum),
+            ]
+        };
+        let rows: Vec<[String; 6]> = std::iter::once(head).chain(columns.map(row)).collect();
+        let mut widths = [0; 6];
+        for row in &rows {
+            for (width, cell) in widths.iter_mut().zip(row) {
+                *width = cell.chars().count().max(*width);
+            }
+        }
+        for row in &rows {
+            writeln!(out, "{}", aligned(row, widths))?;
+        }
+        Ok(())
+    }
+
+    fn write_strip(&self, out: &mut impl Write) -> io::Result<()> {
+        let (line, last) = (
+            self.strip.line(),
+            format!("row {}", grouped(self.survey.rows)),
+        );
+        let width = line.chars().count().saturating_sub("row 1".len());
+        writeln!(
+            out,
+            "\nkept rows, from · none to █ all\n{line}\nrow 1{last:>width$}"
+        )
+    }
+}
+
+/// The first two cells to the left, the others to the right.
+fn aligned(row: &[String; 6], widths: [usize; 6]) -> String {
+    let cells = row
+        .iter()
+        .zip(widths)
+        .enumerate()
+        .map(|(place, (cell, width))| {
+            if place < 2 {
+                format!("{cell:<width$}")
+            } else {
+                format!("{cell:>width$}")
+            }
+        });
+    cells.collect::<Vec<_>>().join("  ").trim_end().to_string()
+}
+
+/// Returns the first line of a report: how many rows there are, and how many are kept if there is a
+/// condition.
+#[must_use]
+#[allow(
+    clippy::cast_precision_loss,
+    reason = "a share needs no more than three digits"
+)]
+pub fn title(file: &Path, survey: &Survey, kept: Option<u64>) -> String {
+    let (rows, columns) = (survey.rows, survey.columns.len() as u64);
+    let file = shown(file.to_string_lossy().as_bytes(), 200);
+    let title = format!(
+        "{file}: {}, {}",
+        counted(rows, "row"),
+        counted(columns, "column")
+    );
+    let Some(kept) = kept else {
+        return title;
+    };
+    let share = 100.0 * kept as f64 / rows.max(1) as f64;
+    format!("{title}; {} kept, {share:.1} %", grouped(kept))
+}
+
+/// Writes one row, a field per line.
+///
+/// # Errors
+///
+/// If `out` can't be written.
+pub fn write_row(out: &mut impl Write, row: &Row, survey: &Survey) -> io::Result<()> {
+    writeln!(
+        out,
+        "row {}, from line {} on",
+        grouped(row.number),
+        grouped(row.line)
+    )?;
+    let names = survey
+        .columns
+        .iter()
+        .map(|column| shown(column.name.as_bytes(), CELL));
+    let names: Vec<String> = names.collect();
+    let width = names
+        .iter()
+        .map(|name| name.chars().count())
+        .max()
+        .unwrap_or(0);
+    for (name, field) in names.iter().zip(&row.fields) {
+        let line = format!("  {name:<width$}  {}", shown(field, 1000));
+        writeln!(out, "{}", line.trim_end())?;
+    }
+    Ok(())
+}
+
+fn counted(number: u64, thing: &str) -> String {
+    let end = if number == 1 { "" } else { "s" };
+    format!("{} {thing}{end}", grouped(number))
+}

@@ -1,0 +1,350 @@
+//! A run of the program, from its options to what it prints.
+
+use std::collections::BTreeSet;
+use std::fs::{self, File};
+use std::io::{self, BufWriter, Write};
+use std::path::Path;
+
+use vortex_bits::Level;
+
+use crate::args::{Options, Print};
+use crate::draw::{Histogram, Picture, Strip, svg};
+use crate::engine::{self, Output};
+use crate::error::{Error, QueryError};
+use crate::found::{Nth, Writer};
+use crate::progress::grouped;
+use crate::query::condition::{Condition, Name};
+use crate::query::{self, Answer, Filter};
+use crate::report::{self, Report};
+use crate::rows::write_row;
+use crate::summary::{self, Count, Summary};
+use crate::survey::{Kind, Survey};
+use crate::table::Table;
+
+/// How many cells the strip of a picture has.
+const SVG_STRIP: usize = 340;
+
+/// How a run that didn't fail has ended.
+#[derive(Clone, Copy, Debug, PartialEq, Eq)]
+pub enum Outcome {
+    /// All was answered.
+    Done,
+    /// The row that was looked for isn't there.
+    NoRow,
+}
+
+/// Reads the file and prints what the options ask for. Which code runs is told on standard error.
+///
+/// # Errors
+///
+/// If a file can't be read or written, the CSV file is malformed, or the options don't fit it.
+pub fn run(options: &Options) -> Result<Outcome, Error> {
+    let query = Query::parse(options)?;
+    let table = Table::open(&options.file, options.dialect, options.has_header)?;
+    check_outputs(options)?;
+    let kinds = kinds(options, &table)?;
+    let (list, histogram) = (query.list(&table)?, histogram_column(options, &table)?);
+    query.check_names(&table)?;
+    // Without standard error there is nobody to tell.
+    let _ = writeln!(io::stderr(), "{}", code());
+
+    let survey = Survey::of(&table, &kinds)?;
+    let filter = query.filter(&survey)?;
+    let run = Run {
+        options,
+        table: &table,
+        survey: &survey,
+        filter,
+        histogram,
+    };
+    match &options.print {
+        Print::Report => run.report(),
+        Print::Answers(_) => run.answers(&query.answers, &list),
+        Print::Rows => run.rows(),
+        Print::Nth(before) => run.nth(*before),
+    }
+}
+
+/// Returns which code answers.
+fn code() -> &'static str {
+    match Level::current() {
+        Level::V2 => "the bit functions are proved ones, for x86-64-v2",
+        Level::V3 => "the bit functions are proved ones, for x86-64-v3",
+        _ => "the bit functions are portable Rust, tested and not proved; see demo/README.md",
+    }
+}
+
+/// The condition and the list of answers, as they are written.
+struct Query<'a> {
+    options: &'a Options,
+    condition: Option<Condition>,
+    answers: Vec<Answer<Name>>,
+}
+
+impl<'a> Query<'a> {
+    fn parse(options: &'a Options) -> Result<Query<'a>, Error> {
+        let condition = options
+            .condition
+            .as_ref()
+            .map(|text| query::condition(text).map_err(|error| error.of("--where", text)));
+        let answers = match &options.print {
+            Print::Answers(text) => {
+                query::selection(text).map_err(|error| error.of("--select", text))?
+            }
+            _ => Vec::new(),
+        };
+        Ok(Query {
+            options,
+            condition: condition.transpose()?,
+            answers,
+        })
+    }
+
+    /// An error of the condition, with its text.
+    fn wrong(&self, error: QueryError) -> Error {
+        error
+            .of(
+                "--where",
+                self.options.condition.as_deref().unwrap_or_default(),
+            )
+            .into()
+    }
+
+    /// Looks for the columns of the condition, before the file is read.
+    fn check_names(&self, table: &Table) -> Result<(), Error> {
+        for name in self.condition.iter().flat_map(Condition::names) {
+            let found = table.find(&name.name);
+            found.map_err(|wrong| self.wrong(QueryError::new(name.at, wrong)))?;
+        }
+        Ok(())
+    }
+
+    fn filter(&self, survey: &Survey) -> Result<Option<Filter>, Error> {
+        let filter = self
+            .condition
+            .as_ref()
+            .map(|condition| Filter::new(condition, survey));
+        filter.transpose().map_err(|error| self.wrong(error))
+    }
+
+    /// The answers by the places of their columns.
+    fn list(&self, table: &Table) -> Result<Vec<Answer<usize>>, Error> {
+        let Print::Answers(text) = &self.options.print else {
+            return Ok(Vec::new());
+        };
+        let place = |answer: &Answer<Name>| match answer {
+            Answer::Rows => Ok(Answer::Rows),
+            Answer::Of(aggregate, name) => {
+                let place = table.find(&name.name);
+                let place = place.map_err(|wrong| {
+                    Error::from(QueryError::new(name.at, wrong).of("--select", text))
+                });
+                Ok(Answer::Of(*aggregate, place?))
+            }
+        };
+        self.answers.iter().map(place).collect()
+    }
+}
+
+fn kinds(options: &Options, table: &Table) -> Result<Vec<(usize, Kind)>, Error> {
+    let place = |(name, kind): &(String, Kind)| {
+        let place = table.find(name);
+        let place = place.map_err(|wrong| QueryError::new(0, wrong).of("--type", name));
+        Ok((place?, *kind))
+    };
+    options.kinds.iter().map(place).collect()
+}
+
+fn histogram_column(options: &Options, table: &Table) -> Result<Option<usize>, Error> {
+    let Some(name) = &options.histogram else {
+        return Ok(None);
+    };
+    let place = table.find(name);
+    let place = place.map_err(|wrong| QueryError::new(0, wrong).of("--histogram", name));
+    Ok(Some(place?))
+}
+
+/// Refuses to write over the CSV file while it is read.
+fn check_outputs(options: &Options) -> Result<(), Error> {
+    let file = fs::canonicalize(&options.file).ok();
+    for path in [&options.out, &options.svg].into_iter().flatten() {
+        if file.is_some() && fs::canonicalize(path).ok() == file {
+            let wrong = format!("{}: the CSV file would be written over", path.display());
+            return Err(Error::Usage(wrong));
+        }
+    }
+    Ok(())
+}
+
+/// What a run knows once the file was read for the first time.
+struct Run<'a> {
+    options: &'a Options,
+    table: &'a Table,
+    survey: &'a Survey,
+    filter: Option<Filter>,
+    /// The column that the user wants the histogram of.
+    histogram: Option<usize>,
+}
+
+/// Makes an error of what the system says of a file.
+type Failed<'a> = Box<dyn Fn(io::Error) -> Error + 'a>;
+
+/// The writer of `--out`.
+type FileWriter<'a> = Writer<BufWriter<File>, Failed<'a>>;
+
+/// What every pass answers.
+struct Kept {
+    rows: u64,
+    histogram: Option<Histogram>,
+}
+
+impl Run<'_> {
+    /// Reads the file once for what is printed, and for the files of `--out` and `--svg`.
+    fn pass(&self, printed: Vec<&mut dyn Output>) -> Result<Kept, Error> {
+        let (mut count, mut strip) = (Count::default(), Strip::new(self.survey.rows, SVG_STRIP));
+        let (mut histogram, mut out) = (self.histogram()?, self.out()?);
+        let mut outputs: Vec<&mut dyn Output> = vec![&mut count, &mut strip];
+        outputs.extend(printed.into_iter().map(|it| it as &mut dyn Output));
+        outputs.extend(histogram.as_mut().map(|it| it as &mut dyn Output));
+        outputs.extend(out.as_mut().map(|it| it as &mut dyn Output));
+        engine::run(self.table, self.survey, self.filter.as_ref(), &mut outputs)?;
+        if let Some(mut out) = out {
+            out.finish()?;
+        }
+        let kept = Kept {
+            rows: count.0,
+            histogram,
+        };
+        if let Some(path) = &self.options.svg {
+            self.draw(path, &kept, &strip)?;
+        }
+        Ok(kept)
+    }
+
+    /// The histogram of the column that the user wants, else of the first one with numbers; None if
+    /// it isn't shown, or has no number.
+    fn histogram(&self) -> Result<Option<Histogram>, Error> {
+        if self.options.print != Print::Report && self.options.svg.is_none() {
+            return Ok(None);
+        }
+        let columns = &self.survey.columns;
+        if let Some(place) = self
+            .histogram
+            .filter(|&place| columns[place].kind == Kind::Text)
+        {
+            let name = &columns[place].name;
+            let wrong = QueryError::new(0, "this column is text; one of numbers is wanted");
+            return Err(wrong.of("--histogram", name).into());
+        }
+        let first = columns.iter().position(|column| column.range.is_some());
+        let column = self.histogram.or(first);
+        Ok(column.and_then(|place| Some(Histogram::new(place, columns[place].range?))))
+    }
+
+    fn out(&self) -> Result<Option<FileWriter<'_>>, Error> {
+        let Some(path) = &self.options.out else {
+            return Ok(None);
+        };
+        let file = File::create(path).map_err(|error| Error::file(path, error))?;
+        let failed = Box::new(|error| Error::file(path, error));
+        self.writer(BufWriter::new(file), failed as Failed<'_>)
+            .map(Some)
+    }
+
+    fn writer<W: Write, E: Fn(io::Error) -> Error>(
+        &self,
+        out: W,
+        error: E,
+    ) -> Result<Writer<W, E>, Error> {
+        let mut writer = Writer::new(out, self.table.dialect(), error);
+        if self.table.has_header() {
+            writer.header(self.table.names())?;
+        }
+        Ok(writer)
+    }
+
+    fn draw(&self, path: &Path, kept: &Kept, strip: &Strip) -> Result<(), Error> {
+        let column = |it: &Histogram| self.survey.columns[it.column()].name.clone();
+        let picture = Picture {
+            title: self.title(kept),
+            condition: self.options.condition.clone().unwrap_or_default(),
+            strip,
+            rows: self.survey.rows,
+            histogram: kept.histogram.as_ref().map(|it| (column(it), it.bins())),
+        };
+        fs::write(path, svg(&picture)).map_err(|error| Error::file(path, error))
+    }
+
+    fn title(&self, kept: &Kept) -> String {
+        report::title(
+            &self.options.file,
+            self.survey,
+            self.filter.is_some().then_some(kept.rows),
+        )
+    }
+
+    fn report(&self) -> Result<Outcome, Error> {
+        let mut strip = Strip::new(self.survey.rows, report::STRIP);
+        let mut summaries: Vec<Summary> =
+            (0..self.survey.columns.len()).map(Summary::new).collect();
+        let mut printed: Vec<&mut dyn Output> = vec![&mut strip];
+        printed.extend(summaries.iter_mut().map(|it| it as &mut dyn Output));
+        let kept = self.pass(printed)?;
+        let report = Report {
+            title: self.title(&kept),
+            condition: self.options.condition.as_deref(),
+            survey: self.survey,
+            kept: kept.rows,
+            summaries: &summaries,
+            strip: &strip,
+            histogram: kept.histogram.as_ref(),
+        };
+        let mut out = BufWriter::new(io::stdout().lock());
+        report
+            .write(&mut out)
+            .and_then(|()| out.flush())
+            .map_err(Error::output)?;
+        Ok(Outcome::Done)
+    }
+
+    fn answers(&self, names: &[Answer<Name>], list: &[Answer<usize>]) -> Result<Outcome, Error> {
+        let columns: BTreeSet<usize> = list.iter().filter_map(Answer::column).collect();
+        let mut summaries: Vec<Summary> = columns.into_iter().map(Summary::new).collect();
+        let kept = self.pass(
+            summaries
+                .iter_mut()
+                .map(|it| it as &mut dyn Output)
+                .collect(),
+        )?;
+        let names: Vec<String> = names.iter().map(ToString::to_string).collect();
+        let answers = summary::answers(list, kept.rows, &summaries);
+        let (mut out, dialect) = (io::stdout().lock(), self.table.dialect());
+        write_row(&mut out, dialect, names.iter().map(String::as_bytes))
+            .and_then(|()| write_row(&mut out, dialect, answers.iter().map(Vec::as_slice)))
+            .map_err(Error::output)?;
+        Ok(Outcome::Done)
+    }
+
+    fn rows(&self) -> Result<Outcome, Error> {
+        let mut writer = self.writer(BufWriter::new(io::stdout().lock()), Error::output)?;
+        self.pass(vec![&mut writer])?;
+        writer.finish()?;
+        Ok(Outcome::Done)
+    }
+
+    fn nth(&self, before: u64) -> Result<Outcome, Error> {
+        let mut nth = Nth::new(before);
+        let kept = self.pass(vec![&mut nth])?;
+        let Some(row) = nth.found else {
+            let kept = grouped(kept.rows);
+            // Without standard error there is nobody to tell.
+            let _ = writeln!(io::stderr(), "there is no such row: {kept} are kept");
+            return Ok(Outcome::NoRow);
+        };
+        let mut out = BufWriter::new(io::stdout().lock());
+        report::write_row(&mut out, &row, self.survey)
+            .and_then(|()| out.flush())
+            .map_err(Error::output)?;
+        Ok(Outcome::Done)
+    }
+}

@@ -1,0 +1,248 @@
+//! A CSV file as a table: the names of its columns, and its rows by batches.
+
+use std::fs::{self, File};
+use std::io::BufReader;
+use std::path::{Path, PathBuf};
+
+use crate::csv::{CsvError, Dialect, Reader};
+use crate::error::{Error, shown};
+use crate::progress::Progress;
+use crate::rows::Rows;
+
+/// The most rows of a batch.
+pub const BATCH: usize = 65_536;
+/// The number of bytes with which a batch ends, though it may have more rows.
+const BATCH_BYTES: usize = 8 << 20;
+/// How much of the file is read at once.
+const BUFFER: usize = 256 << 10;
+
+/// A CSV file, with the names of its columns.
+#[derive(Clone, Debug)]
+pub struct Table {
+    path: PathBuf,
+    dialect: Dialect,
+    has_header: bool,
+    names: Vec<String>,
+}
+
+impl Table {
+    /// Returns the table of a file, whose first row has the names of the columns. Without a header
+    /// line, and where a name is empty, they are called c1, c2 and so on.
+    ///
+    /// # Errors
+    ///
+    /// If the file isn't a regular one, can't be read, is empty, or begins with no row of CSV.
+    pub fn open(path: &Path, dialect: Dialect, has_header: bool) -> Result<Table, Error> {
+        let file = fs::metadata(path).map_err(|error| Error::file(path, error))?;
+        if !file.is_file() {
+            let wrong = "not a regular file, which is wanted since it is read twice".to_string();
+            return Err(Error::Usage(format!("{}: {wrong}", path.display())));
+        }
+        let mut table = Table {
+            path: path.to_path_buf(),
+            dialect,
+            has_header,
+            names: Vec::new(),
+        };
+        let mut first = Rows::new(0);
+        let mut reader = table.reader()?;
+        if !reader
+            .read_row(&mut first)
+            .map_err(|error| table.error(error))?
+        {
+            let wanted = if has_header {
+                "a row with the names of the columns"
+            } else {
+                "a row"
+            };
+            return Err(Error::data(
+                path,
+                1,
+                format!("the file is empty; {wanted} is wanted"),
+            ));
+        }
+        let names = (1..).zip(first.all_fields());
+        table.names = names
+            .map(|(place, name)| match String::from_utf8_lossy(name) {
+                name if has_header && !name.is_empty() => name.into_owned(),
+                _ => format!("c{place}"),
+            })
+            .collect();
+        Ok(table)
+    }
+
+    /// Returns the file.
+    #[must_use]
+    pub fn path(&self) -> &Path {
+        &self.path
+    }
+
+    /// Returns the bytes that separate and quote fields.
+    #[must_use]
+    pub fn dialect(&self) -> Dialect {
+        self.dialect
+    }
+
+    /// Returns whether the first row has the names of the columns.
+    #[must_use]
+    pub fn has_header(&self) -> bool {
+        self.has_header
+    }
+
+    /// Returns the names of the columns.
+    #[must_use]
+    pub fn names(&self) -> &[String] {
+        &self.names
+    }
+
+    /// Returns the place of a column, as [`find`] does.
+    ///
+    /// # Errors
+    ///
+    /// If no column has the name, or several have it.
+    pub fn find(&self, name: &str) -> Result<usize, String> {
+        find(self.names.iter().map(String::as_str), name)
+    }
+
+    /// Returns the rows of the file, read anew.
+    ///
+    /// # Errors
+    ///
+    /// If the file can't be read.
+    pub fn batches(&self, doing: &'static str) -> Result<Batches<'_>, Error> {
+        let mut reader = self.reader()?;
+        if self.has_header {
+            let header = reader.read_row(&mut Rows::new(0));
+            header.map_err(|error| self.error(error))?;
+        }
+        let size = fs::metadata(&self.path).map_or(0, |file| file.len());
+        Ok(Batches {
+            table: self,
+            reader,
+            rows: Rows::new(self.names.len()),
+            read: 0,
+            progress: Progress::new(doing, size),
+        })
+    }
+
+    fn reader(&self) -> Result<Reader<BufReader<File>>, Error> {
+        let file = File::open(&self.path).map_err(|error| Error::file(&self.path, error))?;
+        let input = BufReader::with_capacity(BUFFER, file);
+        Reader::new(input, self.dialect).map_err(|error| self.error(error))
+    }
+
+    fn error(&self, error: CsvError) -> Error {
+        match error {
+            CsvError::Io(error) => Error::file(&self.path, error),
+            CsvError::Malformed { line, field, what } => {
+                let column = self.column_of(field);
+                Error::data(&self.path, line, format!("{column}: {what}"))
+            }
+        }
+    }
+
+    /// Returns how an error names the column of a field.
+    #[must_use]
+    pub fn column_of(&self, field: usize) -> String {
+        match self.names.get(field) {
+            Some(name) => format!("column \"{}\"", shown(name.as_bytes(), 40)),
+            None => format!("column {}", field + 1),
+        }
+    }
+}
+
+/// The rows of a file by batches, of which one is in memory at a time.
+pub struct Batches<'a> {
+    table: &'a Table,
+    reader: Reader<BufReader<File>>,
+    rows: Rows,
+    /// The number of rows before this batch and in it.
+    read: u64,
+    progress: Progress,
+}
+
+impl Batches<'_> {
+    /// Returns the next batch; None at the end of the file. A line without a byte is skipped, but
+    /// for a table of one column, where it is a null.
+    ///
+    /// # Errors
+    ///
+    /// If the file can't be read, isn't CSV, or a row has another number of fields than the first
+    /// one.
+    pub fn next_batch(&mut self) -> Result<Option<&Rows>, Error> {
+        self.rows.clear();
+        while self.rows.len() < BATCH && self.rows.bytes() < BATCH_BYTES {
+            if !self.next_row()? {
+                break;
+            }
+        }
+        self.read += self.rows.len() as u64;
+        self.progress.tell(self.read, self.reader.read());
+        Ok((!self.rows.is_empty()).then_some(&self.rows))
+    }
+
+    fn next_row(&mut self) -> Result<bool, Error> {
+        let (fields, bytes) = (self.rows.fields(), self.rows.bytes());
+        let has_row = self.reader.read_row(&mut self.rows);
+        let has_row = has_row.map_err(|error| self.table.error(error))?;
+        let (wanted, given) = (self.table.names.len(), self.rows.fields() - fields);
+        if has_row && given != wanted {
+            if given > 1 || self.rows.bytes() > bytes {
+                return Err(self.wrong_width(given));
+            }
+            self.rows.pop_blank();
+        }
+        Ok(has_row)
+    }
+
+    fn wrong_width(&self, given: usize) -> Error {
+        let names = self.table.names.iter().map(String::as_str);
+        let line = self.rows.line(self.rows.len() - 1);
+        let fields = if given == 1 { "field" } else { "fields" };
+        let listed = listed(names);
+        let wanted = self.table.names.len();
+        let wrong = format!("{given} {fields}; {wanted} are wanted: {listed}");
+        Error::data(&self.table.path, line, wrong)
+    }
+}
+
+/// Returns the place of a name. Names are compared as they are; if none is equal, without regard to
+/// the case of ASCII letters, as in SQL.
+///
+/// # Errors
+///
+/// If no column has the name, or several have it; the text says which columns there are.
+pub fn find<'a>(names: impl Iterator<Item = &'a str> + Clone, name: &str) -> Result<usize, String> {
+    let exact = places(names.clone(), |it| it == name);
+    let found = if exact.is_empty() {
+        places(names.clone(), |it| it.eq_ignore_ascii_case(name))
+    } else {
+        exact
+    };
+    let shown = shown(name.as_bytes(), 40);
+    match found[..] {
+        [place] => Ok(place),
+        [] => Err(format!(
+            "there is no column \"{shown}\"; the columns are {}",
+            listed(names)
+        )),
+        _ => Err(format!("{} columns are called \"{shown}\"", found.len())),
+    }
+}
+
+fn places<'a>(names: impl Iterator<Item = &'a str>, is: impl Fn(&str) -> bool) -> Vec<usize> {
+    names
+        .enumerate()
+        .filter(|(_, name)| is(name))
+        .map(|(place, _)| place)
+        .collect()
+}
+
+/// Returns names as an error lists them, the first of many.
+fn listed<'a>(names: impl Iterator<Item = &'a str>) -> String {
+    let mut list: Vec<String> = names.take(13).map(|it| shown(it.as_bytes(), 40)).collect();
+    if list.len() > 12 {
+        list[12] = "..".to_string();
+    }
+    list.join(", ")
+}

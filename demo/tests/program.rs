@@ -1,0 +1,456 @@
+//! The program as its user sees it: what it prints, its errors and its statuses.
+
+mod support;
+
+use std::fs;
+use std::io::Read;
+use std::path::Path;
+use std::process::{Output, Stdio};
+
+use support::{Folder, program};
+
+const PARCELS: &str = concat!(env!("CARGO_MANIFEST_DIR"), "/parcels.csv");
+
+fn run(file: &Path, args: &[&str]) -> Output {
+    program(file).args(args).output().unwrap()
+}
+
+/// What is printed by a run that succeeds.
+fn printed(file: &Path, args: &[&str]) -> String {
+    let output = run(file, args);
+    let errors = String::from_utf8(output.stderr).unwrap();
+    assert_eq!(output.status.code(), Some(0), "{args:?}: {errors}");
+    String::from_utf8(output.stdout).unwrap()
+}
+
+/// What a run that fails tells, without the line on the code that runs.
+fn error(file: &Path, args: &[&str]) -> String {
+    let output = run(file, args);
+    assert_eq!(
+        (output.status.code(), output.stdout.len()),
+        (Some(2), 0),
+        "{args:?}"
+    );
+    let errors = String::from_utf8(output.stderr).unwrap();
+    errors
+        .lines()
+        .filter(|line| !line.starts_with("the bit functions"))
+        .collect::<Vec<_>>()
+        .join("\n")
+}
+
+#[test]
+fn answers_about_the_parcels() {
+    let file = Path::new(PARCELS);
+    assert_eq!(
+        printed(
+            file,
+            &[
+                "--select",
+                "count(*), count(days), sum(cents), min(weight), max(city)"
+            ]
+        ),
+        "count(*),count(days),sum(cents),min(weight),max(city)\n120,113,126584,0.147,Wien\n"
+    );
+    assert_eq!(
+        printed(
+            file,
+            &["--where", "weight > 2.5 and days is null", "--rows"]
+        ),
+        "parcel,city,weight,cents,days,note\nP0000080,Linz,7.667,2010,,\nP0000110,Graz,4.826,1369,,\n"
+    );
+    assert_eq!(
+        printed(
+            file,
+            &[
+                "--where",
+                "days > 100",
+                "--select",
+                "count(*), count(days), sum(days)"
+            ]
+        ),
+        "count(*),count(days),sum(days)\n0,0,\n"
+    );
+    let row = printed(
+        file,
+        &["--where=note = 'ring twice\nsecond floor'", "--nth=2"],
+    );
+    assert!(
+        row.starts_with("row 18, from line 20 on\n  parcel  P0000018\n"),
+        "{row}"
+    );
+}
+
+#[test]
+fn a_report() {
+    let report = printed(Path::new(PARCELS), &["--where", "not days <= 5"]);
+    let lines: Vec<&str> = report.lines().collect();
+    assert!(
+        lines[0].ends_with("parcels.csv: 120 rows, 6 columns; 21 kept, 17.5 %"),
+        "{}",
+        lines[0]
+    );
+    assert_eq!(lines[1], "where not days <= 5");
+    let strip = lines
+        .iter()
+        .position(|line| line.starts_with("kept rows"))
+        .unwrap()
+        + 1;
+    assert_eq!(lines[strip].chars().count(), 72);
+    assert!(
+        lines[strip].chars().all(|it| "·░▒▓█".contains(it)),
+        "{}",
+        lines[strip]
+    );
+    assert!(lines[strip + 1].starts_with("row 1 ") && lines[strip + 1].ends_with(" row 120"));
+}
+
+#[test]
+fn the_code_that_runs_is_told_in_a_line() {
+    let output = run(Path::new(PARCELS), &[]);
+    let errors = String::from_utf8(output.stderr).unwrap();
+    assert!(
+        errors.starts_with("the bit functions are ") && errors.lines().count() == 1,
+        "{errors}"
+    );
+}
+
+#[test]
+fn rows_are_copied_as_they_are() {
+    let folder = Folder::new("copied");
+    let text = "\"n,1\";t\n\"a;b\";\"say \"\"hi\"\"\"\n007;\"two\nlines\"\n;\n";
+    let file = folder.file("in.csv", text);
+    assert_eq!(
+        printed(&file, &["--delimiter", ";", "--rows"]),
+        text.replace("\"n,1\"", "n,1")
+    );
+    let out = folder.path("out.csv");
+    let args = [
+        "--delimiter=;",
+        "--where",
+        "\"n,1\" = '007'",
+        "--out",
+        out.to_str().unwrap(),
+    ];
+    assert!(printed(&file, &args).contains("1 kept"));
+    assert_eq!(
+        fs::read_to_string(out).unwrap(),
+        "n,1;t\n007;\"two\nlines\"\n"
+    );
+}
+
+#[test]
+fn files_without_a_header_line() {
+    let folder = Folder::new("header");
+    let file = folder.file("passwd", "root:x:0:\"\nbin:x:2:\n\nsync:x:4:a\"b");
+    let args = ["--no-header", "--no-quotes", "--delimiter", ":"];
+    let rows = |more: &[&str]| printed(&file, &[&args, more].concat());
+    assert_eq!(
+        rows(&["--where", "c3 >= 2", "--rows"]),
+        "bin:x:2:\nsync:x:4:a\"b\n"
+    );
+    assert_eq!(
+        rows(&["--select", "min(c4),max(c3)"]),
+        "min(c4):max(c3)\n\":4\n"
+    );
+}
+
+#[test]
+fn types_are_found_of_all_rows() {
+    let folder = Folder::new("types");
+    let file = folder.file(
+        "t.csv",
+        "whole,float,text,big,none,mixed\n1,1,1,99999999999999999999,,1.5\n-2,1e3,x,1,,99999999999999999999\n",
+    );
+    let report = printed(&file, &[]);
+    let kinds = report
+        .lines()
+        .skip(3)
+        .take(6)
+        .map(|line| line.split_whitespace().nth(1).unwrap());
+    assert_eq!(
+        kinds.collect::<Vec<_>>(),
+        ["whole", "float", "text", "text", "text", "float"]
+    );
+    let select = [
+        "--type=whole=text",
+        "--type",
+        "big=float",
+        "--select",
+        "max(whole),max(big)",
+    ];
+    assert_eq!(printed(&file, &select), "max(whole),max(big)\n1,1e20\n");
+}
+
+#[test]
+fn errors_of_the_file_name_the_line_and_the_column() {
+    let folder = Folder::new("errors");
+    let cases: [(&str, &[&str], &str); 9] = [
+        (
+            "",
+            &[],
+            ":1: the file is empty; a row with the names of the columns is wanted",
+        ),
+        (
+            "",
+            &["--no-header"],
+            ":1: the file is empty; a row is wanted",
+        ),
+        ("a,b\n1,2\n3\n", &[], ":3: 1 field; 2 are wanted: a, b"),
+        ("a,b\n\n1,2,3\n", &[], ":3: 3 fields; 2 are wanted: a, b"),
+        (
+            "a,b\n1,\"x\n",
+            &[],
+            ":2: column \"b\": the quote that begins this field is never closed",
+        ),
+        (
+            "a,b\n\"1\"2,x\n",
+            &[],
+            ":2: column \"a\": \"2\" follows the closing quote; a delimiter or the end of the line is wanted",
+        ),
+        (
+            "a,b\n1,x\r2\n",
+            &[],
+            ":2: column \"b\": a carriage return without a line feed; lines end in LF or CRLF, and \
+             other carriage returns are quoted",
+        ),
+        (
+            "size,b\n1,\"x\ny\"\n12a,\n",
+            &["--type", "size=whole"],
+            ":4: column \"size\": \"12a\" isn't a whole number of 64 bits, which is wanted; see --type",
+        ),
+        (
+            "size\n1e999\n",
+            &["--type", "size=float"],
+            ":2: column \"size\": \"1e999\" isn't a decimal number, which is wanted; see --type",
+        ),
+    ];
+    for (text, args, wanted) in cases {
+        let file = folder.file("data.csv", text);
+        assert_eq!(error(&file, args), format!("{}{wanted}", file.display()));
+    }
+}
+
+#[test]
+fn errors_of_a_query_point_at_their_place() {
+    let file = Path::new(PARCELS);
+    let cases: [(&[&str], &str); 8] = [
+        (
+            &["--where", "weight > 1 and size = 2"],
+            "--where: there is no column \"size\"; the columns are parcel, city, weight, cents, \
+             days, note\n  weight > 1 and size = 2\n                 ^",
+        ),
+        (
+            &["--where", "city = 4"],
+            "--where: column \"city\" is text; a text is wanted, as '4'\n  city = 4\n         ^",
+        ),
+        (
+            &["--where", "cents = '4'"],
+            "--where: column \"cents\" has numbers; a number without quotes is wanted\n  \
+             cents = '4'\n          ^",
+        ),
+        (
+            &["--where", "cents = city"],
+            "--where: column \"city\" is text and column \"cents\" is whole; numbers compare with \
+             numbers, and texts with texts\n  cents = city\n          ^",
+        ),
+        (
+            &["--where", "1 = 2"],
+            "--where: a column is wanted on one side of a comparison\n  1 = 2\n      ^",
+        ),
+        (
+            &["--select", "count(*), sum(x)"],
+            "--select: there is no column \"x\"; the columns are parcel, city, weight, cents, \
+             days, note\n  count(*), sum(x)\n                ^",
+        ),
+        (
+            &["--histogram", "city"],
+            "--histogram: this column is text; one of numbers is wanted\n  city\n  ^",
+        ),
+        (
+            &["--where", "cents >"],
+            "--where: a column, a number or a text is wanted here\n  cents >\n         ^",
+        ),
+    ];
+    for (args, wanted) in cases {
+        assert_eq!(error(file, args), wanted);
+    }
+}
+
+#[test]
+fn errors_of_the_command_line() {
+    let file = Path::new(PARCELS);
+    let cases: [(&[&str], &str); 11] = [
+        (&["--size"], "there is no option --size"),
+        (&["-x"], "there is no option -x"),
+        (&["--where"], "--where wants a value"),
+        (&["--rows=1"], "--rows has no value"),
+        (
+            &["--nth", "0"],
+            "--nth \"0\": a whole number from 1 on is wanted",
+        ),
+        (
+            &["--nth", "x"],
+            "--nth \"x\": a whole number from 1 on is wanted",
+        ),
+        (
+            &["--delimiter", "ab"],
+            "--delimiter \"ab\": one ASCII character is wanted, or tab",
+        ),
+        (
+            &["--delimiter", "\""],
+            "--delimiter \"\\\"\": one ASCII character is wanted, or tab",
+        ),
+        (
+            &["--type", "a=b"],
+            "--type \"a=b\": COLUMN=whole, =float or =text is wanted",
+        ),
+        (&["other.csv"], "one CSV file is wanted, 2 are given"),
+        (
+            &["--rows", "--nth=1"],
+            "one of --select, --rows and --nth is wanted at most",
+        ),
+    ];
+    for (args, wanted) in cases {
+        assert_eq!(
+            error(file, args),
+            format!("{wanted}; --help lists the options")
+        );
+    }
+}
+
+#[test]
+fn files_that_cannot_be_used() {
+    let folder = Folder::new("unusable");
+    let none = folder.path("none.csv");
+    assert_eq!(
+        error(&none, &[]),
+        format!("{}: No such file or directory (os error 2)", none.display())
+    );
+    let inside = folder.path("");
+    assert!(
+        error(&inside, &[]).contains("not a regular file, which is wanted since it is read twice")
+    );
+    let file = folder.file("in.csv", "a\n1\n");
+    let own = file.to_str().unwrap();
+    for option in ["--out", "--svg"] {
+        assert!(error(&file, &[option, own]).contains("the CSV file would be written over"));
+    }
+    assert_eq!(fs::read_to_string(&file).unwrap(), "a\n1\n");
+    let out = folder.path("none/out.csv");
+    assert!(error(&file, &["--out", out.to_str().unwrap()]).contains("out.csv: No such file"));
+}
+
+#[test]
+fn a_row_that_is_not_there_has_its_status() {
+    let output = run(
+        Path::new(PARCELS),
+        &["--where", "days is null", "--nth", "8"],
+    );
+    assert_eq!((output.status.code(), output.stdout.len()), (Some(1), 0));
+    assert!(
+        String::from_utf8(output.stderr)
+            .unwrap()
+            .ends_with("there is no such row: 7 are kept\n")
+    );
+}
+
+#[test]
+fn a_reader_that_goes_away_is_no_error() {
+    let folder = Folder::new("pipe");
+    let rows = "some text that fills a pipe,1\n".repeat(50_000);
+    let file = folder.file("long.csv", rows);
+    let mut command = program(&file);
+    command
+        .args(["--rows", "--no-header"])
+        .stdout(Stdio::piped())
+        .stderr(Stdio::null());
+    let mut child = command.spawn().unwrap();
+    let mut start = [0; 4];
+    child.stdout.take().unwrap().read_exact(&mut start).unwrap();
+    assert_eq!((&start, child.wait().unwrap().code()), (b"some", Some(0)));
+}
+
+#[test]
+#[cfg(target_os = "linux")]
+fn a_full_disk_is_an_error() {
+    let full = fs::File::options().write(true).open("/dev/full").unwrap();
+    let mut command = program(Path::new(PARCELS));
+    let output = command.arg("--rows").stdout(full).output().unwrap();
+    assert_eq!(output.status.code(), Some(2));
+    let errors = String::from_utf8(output.stderr).unwrap();
+    assert!(
+        errors.ends_with("standard output: No space left on device (os error 28)\n"),
+        "{errors}"
+    );
+}
+
+#[test]
+fn the_picture_has_a_cell_and_a_bar_for_what_is_kept() {
+    let folder = Folder::new("svg");
+    let numbers: Vec<String> = (0..1000).map(|row: u32| row.to_string()).collect();
+    let file = folder.file("n.csv", format!("n\n{}\n", numbers.join("\n")));
+    let svg = folder.path("n.svg");
+    let args = [
+        "--where",
+        "n >= 500 and n < 750",
+        "--rows",
+        "--svg",
+        svg.to_str().unwrap(),
+    ];
+    assert_eq!(printed(&file, &args).lines().count(), 251);
+    let svg = fs::read_to_string(svg).unwrap();
+    assert_eq!(svg.matches("class=\"cell\"").count(), 340 / 4);
+    let bars = ["100 from 500 on", "100 from 600 on", "50 from 700 on"];
+    assert!(bars.iter().all(|bar| svg.contains(bar)), "{svg}");
+    assert_eq!(svg.matches("class=\"bar\"").count(), 3);
+}
+
+#[test]
+fn no_rows_and_no_numbers() {
+    let folder = Folder::new("none");
+    let file = folder.file("none.csv", "a,b\n");
+    assert!(printed(&file, &[]).starts_with(&format!("{}: 0 rows, 2 columns\n", file.display())));
+    let args = [
+        "--where",
+        "a = 'x' or b is null",
+        "--select",
+        "count(*), min(a), sum(b)",
+    ];
+    assert_eq!(printed(&file, &args), "count(*),min(a),sum(b)\n0,,\n");
+    let svg = folder.path("none.svg");
+    printed(&file, &["--svg", svg.to_str().unwrap()]);
+    assert!(fs::read_to_string(svg).unwrap().ends_with("</svg>\n"));
+}
+
+#[test]
+fn help() {
+    let output = run(Path::new("--help"), &[]);
+    let text = String::from_utf8(output.stdout).unwrap();
+    assert!(output.status.success() && text.starts_with("Answers a query over a CSV file"));
+}
+
+/// The example of the README prints what it says.
+#[test]
+fn the_readme() {
+    let folder = Path::new(env!("CARGO_MANIFEST_DIR"));
+    let readme = fs::read_to_string(folder.join("README.md")).unwrap();
+    let block = |language: &str| -> String {
+        let (_, rest) = readme.split_once(&format!("```{language}\n")).unwrap();
+        rest.split_once("```").unwrap().0.to_string()
+    };
+    let command = block("sh");
+    let condition = command
+        .strip_prefix("demo/query demo/parcels.csv --where \"")
+        .unwrap();
+    let condition = condition.strip_suffix("\"\n").unwrap();
+    let mut program = program(Path::new("demo/parcels.csv"));
+    let output = program
+        .args(["--where", condition])
+        .current_dir(folder.join(".."))
+        .output();
+    assert_eq!(
+        String::from_utf8(output.unwrap().stdout).unwrap(),
+        block("text")
+    );
+}
