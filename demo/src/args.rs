@@ -3,9 +3,9 @@
 use std::ffi::OsString;
 use std::path::PathBuf;
 
-use crate::csv::Dialect;
 use crate::error::Error;
 use crate::survey::Kind;
+use crate::table::Format;
 
 /// What `--help` prints.
 pub const HELP: &str = "\
@@ -23,6 +23,7 @@ usage: demo/query FILE [option..]
   --delimiter BYTE     between fields, a comma by default; tab is one too
   --no-header          the first line is a row; the columns are c1, c2, ..
   --no-quotes          a double quote is a byte like others
+  --short-rows         a row may lack fields at its end; they are null
   --type COLUMN=TYPE   whole, float or text, in place of what the fields show; may be repeated
   --help               print this
 
@@ -58,10 +59,8 @@ pub struct Options {
     pub svg: Option<PathBuf>,
     /// The column of the histogram.
     pub histogram: Option<String>,
-    /// The bytes that separate and quote fields.
-    pub dialect: Dialect,
-    /// Whether the first row has the names of the columns.
-    pub has_header: bool,
+    /// How the CSV file is read.
+    pub format: Format,
     /// Types of columns.
     pub kinds: Vec<(String, Kind)>,
 }
@@ -80,11 +79,7 @@ pub fn parse(args: impl IntoIterator<Item = OsString>) -> Result<Option<Options>
         out: None,
         svg: None,
         histogram: None,
-        dialect: Dialect {
-            delimiter: b',',
-            quote: Some(b'"'),
-        },
-        has_header: true,
+        format: Format::default(),
         kinds: Vec::new(),
     };
     let (mut files, mut args) = (Vec::new(), args.into_iter());
@@ -119,7 +114,7 @@ fn option_of(
         Some((name, value)) => (name, Some(OsString::from(value))),
         None => (arg, None),
     };
-    if let "--rows" | "--no-header" | "--no-quotes" = name {
+    if let "--rows" | "--no-header" | "--no-quotes" | "--short-rows" = name {
         if given.is_some() {
             return usage(format!("{name} has no value"));
         }
@@ -147,8 +142,9 @@ fn option_of(
 fn flag(options: &mut Options, name: &str) -> Result<(), Error> {
     match name {
         "--rows" => return print(options, Print::Rows),
-        "--no-header" => options.has_header = false,
-        _ => options.dialect.quote = None,
+        "--no-header" => options.format.has_header = false,
+        "--short-rows" => options.format.has_short_rows = true,
+        _ => options.format.dialect.quote = None,
     }
     Ok(())
 }
@@ -173,7 +169,7 @@ fn with_text(options: &mut Options, name: &str, text: String) -> Result<(), Erro
         "--select" => return print(options, Print::Answers(text)),
         "--nth" => return print(options, Print::Nth(nth(&text)?)),
         "--histogram" => options.histogram = Some(text),
-        "--delimiter" => options.dialect.delimiter = delimiter(&text)?,
+        "--delimiter" => options.format.dialect.delimiter = delimiter(&text)?,
         _ => options.kinds.push(kind(&text)?),
     }
     Ok(())

@@ -18,11 +18,14 @@ use crate::query::{self, Answer, Filter};
 use crate::report::{self, Report};
 use crate::rows::write_row;
 use crate::summary::{self, Count, Summary};
-use crate::survey::{Kind, Survey};
+use crate::survey::{Kind, Range, Survey};
 use crate::table::Table;
 
 /// How many cells the strip of a picture has.
 const SVG_STRIP: usize = 340;
+
+/// A histogram of fewer bins is made once more, of the kept values' own range.
+const FEW_BINS: usize = 4;
 
 /// How a run that didn't fail has ended.
 #[derive(Clone, Copy, Debug, PartialEq, Eq)]
@@ -40,7 +43,7 @@ pub enum Outcome {
 /// If a file can't be read or written, the CSV file is malformed, or the options don't fit it.
 pub fn run(options: &Options) -> Result<Outcome, Error> {
     let query = Query::parse(options)?;
-    let table = Table::open(&options.file, options.dialect, options.has_header)?;
+    let table = Table::open(&options.file, options.format)?;
     check_outputs(options)?;
     let kinds = kinds(options, &table)?;
     let (list, histogram) = (query.list(&table)?, histogram_column(options, &table)?);
@@ -203,17 +206,20 @@ impl Run<'_> {
     fn pass(&self, printed: Vec<&mut dyn Output>) -> Result<Kept, Error> {
         let (mut count, mut strip) = (Count::default(), Strip::new(self.survey.rows, SVG_STRIP));
         let (mut histogram, mut out) = (self.histogram()?, self.out()?);
+        let mut values = histogram.as_ref().map(|it| Summary::new(it.column()));
         let mut outputs: Vec<&mut dyn Output> = vec![&mut count, &mut strip];
         outputs.extend(printed.into_iter().map(|it| it as &mut dyn Output));
         outputs.extend(histogram.as_mut().map(|it| it as &mut dyn Output));
+        outputs.extend(values.as_mut().map(|it| it as &mut dyn Output));
         outputs.extend(out.as_mut().map(|it| it as &mut dyn Output));
         engine::run(self.table, self.survey, self.filter.as_ref(), &mut outputs)?;
         if let Some(mut out) = out {
             out.finish()?;
         }
+        let range = values.and_then(|values| values.range());
         let kept = Kept {
             rows: count.0,
-            histogram,
+            histogram: self.closer(histogram, range)?,
         };
         if let Some(path) = &self.options.svg {
             self.draw(path, &kept, &strip)?;
@@ -241,6 +247,27 @@ impl Run<'_> {
         Ok(column.and_then(|place| Some(Histogram::new(place, columns[place].range?))))
     }
 
+    /// The histogram of the kept values' own range, for which the file is read once more, if these
+    /// fill few bins of the whole column's range.
+    fn closer(
+        &self,
+        histogram: Option<Histogram>,
+        range: Option<Range>,
+    ) -> Result<Option<Histogram>, Error> {
+        let few = |it: &Histogram| self.filter.is_some() && it.bins().len() < FEW_BINS;
+        let (Some(wide), Some(range)) = (histogram.as_ref().filter(|it| few(it)), range) else {
+            return Ok(histogram);
+        };
+        let mut close = Histogram::new(wide.column(), range);
+        engine::run(
+            self.table,
+            self.survey,
+            self.filter.as_ref(),
+            &mut [&mut close],
+        )?;
+        Ok(Some(close))
+    }
+
     fn out(&self) -> Result<Option<FileWriter<'_>>, Error> {
         let Some(path) = &self.options.out else {
             return Ok(None);
@@ -256,8 +283,8 @@ impl Run<'_> {
         out: W,
         error: E,
     ) -> Result<Writer<W, E>, Error> {
-        let mut writer = Writer::new(out, self.table.dialect(), error);
-        if self.table.has_header() {
+        let mut writer = Writer::new(out, self.table.format().dialect, error);
+        if self.table.format().has_header {
             writer.header(self.table.names())?;
         }
         Ok(writer)
@@ -318,7 +345,7 @@ impl Run<'_> {
         )?;
         let names: Vec<String> = names.iter().map(ToString::to_string).collect();
         let answers = summary::answers(list, kept.rows, &summaries);
-        let (mut out, dialect) = (io::stdout().lock(), self.table.dialect());
+        let (mut out, dialect) = (io::stdout().lock(), self.table.format().dialect);
         write_row(&mut out, dialect, names.iter().map(String::as_bytes))
             .and_then(|()| write_row(&mut out, dialect, answers.iter().map(Vec::as_slice)))
             .map_err(Error::output)?;

@@ -6,6 +6,7 @@ use crate::column;
 use crate::engine::{Batch, Output};
 use crate::error::Error;
 use crate::query::{Aggregate, Answer};
+use crate::survey::{Range, Spread};
 
 /// The number of rows that are kept, of each batch in turn.
 #[derive(Clone, Copy, Debug, Default)]
@@ -84,6 +85,40 @@ impl Summary {
             Aggregate::Sum => total.sum().unwrap_or_default().into_bytes(),
             Aggregate::Min => total.least(),
             Aggregate::Max => total.greatest(),
+        }
+    }
+
+    /// Returns the range of the values; None if there is none, and of texts.
+    #[must_use]
+    #[allow(clippy::cast_precision_loss, reason = "a mean is rounded")]
+    pub fn range(&self) -> Option<Range> {
+        let count = self.count as f64;
+        match self.total.as_ref()? {
+            Total::Whole(Values {
+                least,
+                greatest,
+                sum,
+            }) => {
+                let mean = *sum as f64 / count;
+                Some(Range::Whole(Spread {
+                    least: *least,
+                    greatest: *greatest,
+                    mean,
+                }))
+            }
+            Total::Float(Values {
+                least,
+                greatest,
+                sum,
+            }) => {
+                let mean = sum.value() / count;
+                Some(Range::Float(Spread {
+                    least: *least,
+                    greatest: *greatest,
+                    mean,
+                }))
+            }
+            Total::Text(_) => None,
         }
     }
 

@@ -16,12 +16,36 @@ const BATCH_BYTES: usize = 8 << 20;
 /// How much of the file is read at once.
 const BUFFER: usize = 256 << 10;
 
+/// How a file is read.
+#[derive(Clone, Copy, Debug, PartialEq, Eq)]
+pub struct Format {
+    /// The bytes that separate and quote fields.
+    pub dialect: Dialect,
+    /// Whether the first row has the names of the columns.
+    pub has_header: bool,
+    /// Whether rows may lack fields at their end, which are null then.
+    pub has_short_rows: bool,
+}
+
+/// Commas, double quotes and a header line.
+impl Default for Format {
+    fn default() -> Format {
+        Format {
+            dialect: Dialect {
+                delimiter: b',',
+                quote: Some(b'"'),
+            },
+            has_header: true,
+            has_short_rows: false,
+        }
+    }
+}
+
 /// A CSV file, with the names of its columns.
 #[derive(Clone, Debug)]
 pub struct Table {
     path: PathBuf,
-    dialect: Dialect,
-    has_header: bool,
+    format: Format,
     names: Vec<String>,
 }
 
@@ -32,7 +56,8 @@ impl Table {
     /// # Errors
     ///
     /// If the file isn't a regular one, can't be read, is empty, or begins with no row of CSV.
-    pub fn open(path: &Path, dialect: Dialect, has_header: bool) -> Result<Table, Error> {
+    pub fn open(path: &Path, format: Format) -> Result<Table, Error> {
+        let has_header = format.has_header;
         let file = fs::metadata(path).map_err(|error| Error::file(path, error))?;
         if !file.is_file() {
             let wrong = "not a regular file, which is wanted since it is read twice".to_string();
@@ -40,8 +65,7 @@ impl Table {
         }
         let mut table = Table {
             path: path.to_path_buf(),
-            dialect,
-            has_header,
+            format,
             names: Vec::new(),
         };
         let mut first = Rows::new(0);
@@ -77,16 +101,10 @@ impl Table {
         &self.path
     }
 
-    /// Returns the bytes that separate and quote fields.
+    /// Returns how the file is read.
     #[must_use]
-    pub fn dialect(&self) -> Dialect {
-        self.dialect
-    }
-
-    /// Returns whether the first row has the names of the columns.
-    #[must_use]
-    pub fn has_header(&self) -> bool {
-        self.has_header
+    pub fn format(&self) -> Format {
+        self.format
     }
 
     /// Returns the names of the columns.
@@ -111,7 +129,7 @@ impl Table {
     /// If the file can't be read.
     pub fn batches(&self, doing: &'static str) -> Result<Batches<'_>, Error> {
         let mut reader = self.reader()?;
-        if self.has_header {
+        if self.format.has_header {
             let header = reader.read_row(&mut Rows::new(0));
             header.map_err(|error| self.error(error))?;
         }
@@ -128,7 +146,7 @@ impl Table {
     fn reader(&self) -> Result<Reader<BufReader<File>>, Error> {
         let file = File::open(&self.path).map_err(|error| Error::file(&self.path, error))?;
         let input = BufReader::with_capacity(BUFFER, file);
-        Reader::new(input, self.dialect).map_err(|error| self.error(error))
+        Reader::new(input, self.format.dialect).map_err(|error| self.error(error))
     }
 
     fn error(&self, error: CsvError) -> Error {
@@ -186,22 +204,29 @@ impl Batches<'_> {
         let has_row = self.reader.read_row(&mut self.rows);
         let has_row = has_row.map_err(|error| self.table.error(error))?;
         let (wanted, given) = (self.table.names.len(), self.rows.fields() - fields);
-        if has_row && given != wanted {
-            if given > 1 || self.rows.bytes() > bytes {
-                return Err(self.wrong_width(given));
-            }
-            self.rows.pop_blank();
+        if !has_row || given == wanted {
+            return Ok(has_row);
         }
-        Ok(has_row)
+        if given == 1 && self.rows.bytes() == bytes {
+            self.rows.pop_blank();
+        } else if given < wanted && self.table.format.has_short_rows {
+            (given..wanted).for_each(|_| self.rows.end_field());
+        } else {
+            return Err(self.wrong_width(given));
+        }
+        Ok(true)
     }
 
     fn wrong_width(&self, given: usize) -> Error {
         let names = self.table.names.iter().map(String::as_str);
         let line = self.rows.line(self.rows.len() - 1);
+        let (listed, wanted) = (listed(names), self.table.names.len());
         let fields = if given == 1 { "field" } else { "fields" };
-        let listed = listed(names);
-        let wanted = self.table.names.len();
-        let wrong = format!("{given} {fields}; {wanted} are wanted: {listed}");
+        let are = if wanted == 1 { "is" } else { "are" };
+        let mut wrong = format!("{given} {fields}; {wanted} {are} wanted: {listed}");
+        if given < wanted {
+            wrong.push_str("; --short-rows allows for missing ones");
+        }
         Error::data(&self.table.path, line, wrong)
     }
 }

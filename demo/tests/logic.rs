@@ -4,13 +4,12 @@ mod support;
 
 use std::cmp::Ordering;
 
-use demo::csv::Dialect;
 use demo::engine::{self, Batch, Output};
 use demo::error::Error;
 use demo::query::condition::{Condition, Literal, Operand};
 use demo::query::{self, Filter};
 use demo::survey::{Kind, Survey};
-use demo::table::Table;
+use demo::table::{Format, Table};
 use support::{COLUMNS, Folder, Random};
 use vortex_bits::{Bitmap, Comparison};
 
@@ -122,11 +121,7 @@ fn conditions_keep_the_rows_that_are_true() {
     for rows in [1, 63, 64, 65, 130, 700] {
         let fields = support::table(&mut random, rows);
         let file = folder.file("table.csv", support::written(&mut random, &fields));
-        let dialect = Dialect {
-            delimiter: b',',
-            quote: Some(b'"'),
-        };
-        let table = Table::open(&file, dialect, true).unwrap();
+        let table = Table::open(&file, Format::default()).unwrap();
         let survey = Survey::of(&table, &[]).unwrap();
         let kinds: Vec<Kind> = survey.columns.iter().map(|column| column.kind).collect();
         assert_eq!(
@@ -167,11 +162,7 @@ fn rows_of_many_batches() {
     let folder = Folder::new("batches");
     let numbers = (0..150_000).map(|row| format!("{}\n", row % 1000));
     let file = folder.file("numbers.csv", format!("n\n{}", numbers.collect::<String>()));
-    let dialect = Dialect {
-        delimiter: b',',
-        quote: Some(b'"'),
-    };
-    let table = Table::open(&file, dialect, true).unwrap();
+    let table = Table::open(&file, Format::default()).unwrap();
     let survey = Survey::of(&table, &[]).unwrap();
     let condition = query::condition("n = 999 or n < 1").unwrap();
     let wanted = (0..150_000).filter(|row| matches!(row % 1000, 0 | 999));

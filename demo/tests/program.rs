@@ -156,6 +156,33 @@ fn files_without_a_header_line() {
 }
 
 #[test]
+fn short_rows() {
+    let folder = Folder::new("short");
+    let file = folder.file("short.csv", "a,b,c\n1\n2,x\n\n3,,z\n");
+    let rows = printed(&file, &["--short-rows", "--where", "c is null", "--rows"]);
+    assert_eq!(rows, "a,b,c\n1,,\n2,x,\n");
+    let select = ["--short-rows", "--select", "count(*), count(b), sum(a)"];
+    assert_eq!(printed(&file, &select), "count(*),count(b),sum(a)\n3,1,6\n");
+    let long = folder.file("long.csv", "a\n1,2\n");
+    assert!(error(&long, &["--short-rows"]).ends_with(":2: 2 fields; 1 is wanted: a"));
+}
+
+/// A histogram of the whole column's range would have one bar.
+#[test]
+fn a_histogram_of_few_values_has_their_range() {
+    let folder = Folder::new("few");
+    let numbers: Vec<String> = (0..3000).map(|row: u32| row.to_string()).collect();
+    let file = folder.file("n.csv", format!("n\n{}\n", numbers.join("\n")));
+    let report = printed(&file, &["--where", "n >= 1000 and n < 1004"]);
+    let bars: Vec<&str> = report.lines().filter(|line| line.contains('│')).collect();
+    let edges = bars
+        .iter()
+        .map(|bar| bar.split_whitespace().next().unwrap());
+    assert_eq!(edges.collect::<Vec<_>>(), ["1000", "1001", "1002", "1003"]);
+    assert!(bars.iter().all(|bar| bar.ends_with(" 1")), "{report}");
+}
+
+#[test]
 fn types_are_found_of_all_rows() {
     let folder = Folder::new("types");
     let file = folder.file(
@@ -196,7 +223,11 @@ fn errors_of_the_file_name_the_line_and_the_column() {
             &["--no-header"],
             ":1: the file is empty; a row is wanted",
         ),
-        ("a,b\n1,2\n3\n", &[], ":3: 1 field; 2 are wanted: a, b"),
+        (
+            "a,b\n1,2\n3\n",
+            &[],
+            ":3: 1 field; 2 are wanted: a, b; --short-rows allows for missing ones",
+        ),
         ("a,b\n\n1,2,3\n", &[], ":3: 3 fields; 2 are wanted: a, b"),
         (
             "a,b\n1,\"x\n",
@@ -401,9 +432,9 @@ fn the_picture_has_a_cell_and_a_bar_for_what_is_kept() {
     assert_eq!(printed(&file, &args).lines().count(), 251);
     let svg = fs::read_to_string(svg).unwrap();
     assert_eq!(svg.matches("class=\"cell\"").count(), 340 / 4);
-    let bars = ["100 from 500 on", "100 from 600 on", "50 from 700 on"];
+    let bars = ["20 from 500 on", "20 from 520 on", "10 from 740 on"];
     assert!(bars.iter().all(|bar| svg.contains(bar)), "{svg}");
-    assert_eq!(svg.matches("class=\"bar\"").count(), 3);
+    assert_eq!(svg.matches("class=\"bar\"").count(), 13);
 }
 
 #[test]
