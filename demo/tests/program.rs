@@ -71,10 +71,12 @@ fn answers_about_the_parcels() {
         ),
         "count(*),count(days),sum(days)\n0,0,\n"
     );
-    let row = printed(
-        file,
-        &["--where=note = 'ring twice\nsecond floor'", "--nth=2"],
-    );
+}
+
+#[test]
+fn the_nth_of_the_parcels() {
+    let args = ["--where=note = 'ring twice\nsecond floor'", "--nth=2"];
+    let row = printed(Path::new(PARCELS), &args);
     assert!(
         row.starts_with("row 18, from line 20 on\n  parcel  P0000018\n"),
         "{row}"
@@ -209,140 +211,146 @@ fn types_are_found_of_all_rows() {
     assert_eq!(printed(&file, &select), "max(whole),max(big)\n1,1e20\n");
 }
 
+/// Files that are wrong, with the options of a run, and what is told behind their names.
+const BAD_FILES: [(&str, &[&str], &str); 9] = [
+    (
+        "",
+        &[],
+        ":1: the file is empty; a row with the names of the columns is wanted",
+    ),
+    (
+        "",
+        &["--no-header"],
+        ":1: the file is empty; a row is wanted",
+    ),
+    (
+        "a,b\n1,2\n3\n",
+        &[],
+        ":3: 1 field; 2 are wanted: a, b; --short-rows allows for missing ones",
+    ),
+    ("a,b\n\n1,2,3\n", &[], ":3: 3 fields; 2 are wanted: a, b"),
+    (
+        "a,b\n1,\"x\n",
+        &[],
+        ":2: column \"b\": the quote that begins this field is never closed",
+    ),
+    (
+        "a,b\n\"1\"2,x\n",
+        &[],
+        ":2: column \"a\": \"2\" follows the closing quote; a delimiter or the end of the line is wanted",
+    ),
+    (
+        "a,b\n1,x\r2\n",
+        &[],
+        ":2: column \"b\": a carriage return without a line feed; lines end in LF or CRLF, and \
+             other carriage returns are quoted",
+    ),
+    (
+        "size,b\n1,\"x\ny\"\n12a,\n",
+        &["--type", "size=whole"],
+        ":4: column \"size\": \"12a\" isn't a whole number of 64 bits, which is wanted; see --type",
+    ),
+    (
+        "size\n1e999\n",
+        &["--type", "size=float"],
+        ":2: column \"size\": \"1e999\" isn't a decimal number, which is wanted; see --type",
+    ),
+];
+
 #[test]
 fn errors_of_the_file_name_the_line_and_the_column() {
     let folder = Folder::new("errors");
-    let cases: [(&str, &[&str], &str); 9] = [
-        (
-            "",
-            &[],
-            ":1: the file is empty; a row with the names of the columns is wanted",
-        ),
-        (
-            "",
-            &["--no-header"],
-            ":1: the file is empty; a row is wanted",
-        ),
-        (
-            "a,b\n1,2\n3\n",
-            &[],
-            ":3: 1 field; 2 are wanted: a, b; --short-rows allows for missing ones",
-        ),
-        ("a,b\n\n1,2,3\n", &[], ":3: 3 fields; 2 are wanted: a, b"),
-        (
-            "a,b\n1,\"x\n",
-            &[],
-            ":2: column \"b\": the quote that begins this field is never closed",
-        ),
-        (
-            "a,b\n\"1\"2,x\n",
-            &[],
-            ":2: column \"a\": \"2\" follows the closing quote; a delimiter or the end of the line is wanted",
-        ),
-        (
-            "a,b\n1,x\r2\n",
-            &[],
-            ":2: column \"b\": a carriage return without a line feed; lines end in LF or CRLF, and \
-             other carriage returns are quoted",
-        ),
-        (
-            "size,b\n1,\"x\ny\"\n12a,\n",
-            &["--type", "size=whole"],
-            ":4: column \"size\": \"12a\" isn't a whole number of 64 bits, which is wanted; see --type",
-        ),
-        (
-            "size\n1e999\n",
-            &["--type", "size=float"],
-            ":2: column \"size\": \"1e999\" isn't a decimal number, which is wanted; see --type",
-        ),
-    ];
-    for (text, args, wanted) in cases {
+    for (text, args, wanted) in BAD_FILES {
         let file = folder.file("data.csv", text);
         assert_eq!(error(&file, args), format!("{}{wanted}", file.display()));
     }
 }
 
+/// Options that don't fit the parcels, and what is told.
+const BAD_QUERIES: [(&[&str], &str); 8] = [
+    (
+        &["--where", "weight > 1 and size = 2"],
+        "--where: there is no column \"size\"; the columns are parcel, city, weight, cents, \
+             days, note\n  weight > 1 and size = 2\n                 ^",
+    ),
+    (
+        &["--where", "city = 4"],
+        "--where: column \"city\" is text; a text is wanted, as '4'\n  city = 4\n         ^",
+    ),
+    (
+        &["--where", "cents = '4'"],
+        "--where: column \"cents\" has numbers; a number without quotes is wanted\n  \
+             cents = '4'\n          ^",
+    ),
+    (
+        &["--where", "cents = city"],
+        "--where: column \"city\" is text and column \"cents\" is whole; numbers compare with \
+             numbers, and texts with texts\n  cents = city\n          ^",
+    ),
+    (
+        &["--where", "1 = 2"],
+        "--where: a column is wanted on one side of a comparison\n  1 = 2\n      ^",
+    ),
+    (
+        &["--select", "count(*), sum(x)"],
+        "--select: there is no column \"x\"; the columns are parcel, city, weight, cents, \
+             days, note\n  count(*), sum(x)\n                ^",
+    ),
+    (
+        &["--histogram", "city"],
+        "--histogram: this column is text; one of numbers is wanted\n  city\n  ^",
+    ),
+    (
+        &["--where", "cents >"],
+        "--where: a column, a number or a text is wanted here\n  cents >\n         ^",
+    ),
+];
+
 #[test]
 fn errors_of_a_query_point_at_their_place() {
     let file = Path::new(PARCELS);
-    let cases: [(&[&str], &str); 8] = [
-        (
-            &["--where", "weight > 1 and size = 2"],
-            "--where: there is no column \"size\"; the columns are parcel, city, weight, cents, \
-             days, note\n  weight > 1 and size = 2\n                 ^",
-        ),
-        (
-            &["--where", "city = 4"],
-            "--where: column \"city\" is text; a text is wanted, as '4'\n  city = 4\n         ^",
-        ),
-        (
-            &["--where", "cents = '4'"],
-            "--where: column \"cents\" has numbers; a number without quotes is wanted\n  \
-             cents = '4'\n          ^",
-        ),
-        (
-            &["--where", "cents = city"],
-            "--where: column \"city\" is text and column \"cents\" is whole; numbers compare with \
-             numbers, and texts with texts\n  cents = city\n          ^",
-        ),
-        (
-            &["--where", "1 = 2"],
-            "--where: a column is wanted on one side of a comparison\n  1 = 2\n      ^",
-        ),
-        (
-            &["--select", "count(*), sum(x)"],
-            "--select: there is no column \"x\"; the columns are parcel, city, weight, cents, \
-             days, note\n  count(*), sum(x)\n                ^",
-        ),
-        (
-            &["--histogram", "city"],
-            "--histogram: this column is text; one of numbers is wanted\n  city\n  ^",
-        ),
-        (
-            &["--where", "cents >"],
-            "--where: a column, a number or a text is wanted here\n  cents >\n         ^",
-        ),
-    ];
-    for (args, wanted) in cases {
+    for (args, wanted) in BAD_QUERIES {
         assert_eq!(error(file, args), wanted);
     }
 }
 
+/// Options that fit no file, and what is told.
+const BAD_OPTIONS: [(&[&str], &str); 11] = [
+    (&["--size"], "there is no option --size"),
+    (&["-x"], "there is no option -x"),
+    (&["--where"], "--where wants a value"),
+    (&["--rows=1"], "--rows has no value"),
+    (
+        &["--nth", "0"],
+        "--nth \"0\": a whole number from 1 on is wanted",
+    ),
+    (
+        &["--nth", "x"],
+        "--nth \"x\": a whole number from 1 on is wanted",
+    ),
+    (
+        &["--delimiter", "ab"],
+        "--delimiter \"ab\": one ASCII character is wanted, or tab",
+    ),
+    (
+        &["--delimiter", "\""],
+        "--delimiter \"\\\"\": one ASCII character is wanted, or tab",
+    ),
+    (
+        &["--type", "a=b"],
+        "--type \"a=b\": COLUMN=whole, =float or =text is wanted",
+    ),
+    (&["other.csv"], "one CSV file is wanted, 2 are given"),
+    (
+        &["--rows", "--nth=1"],
+        "one of --select, --rows and --nth is wanted at most",
+    ),
+];
+
 #[test]
 fn errors_of_the_command_line() {
     let file = Path::new(PARCELS);
-    let cases: [(&[&str], &str); 11] = [
-        (&["--size"], "there is no option --size"),
-        (&["-x"], "there is no option -x"),
-        (&["--where"], "--where wants a value"),
-        (&["--rows=1"], "--rows has no value"),
-        (
-            &["--nth", "0"],
-            "--nth \"0\": a whole number from 1 on is wanted",
-        ),
-        (
-            &["--nth", "x"],
-            "--nth \"x\": a whole number from 1 on is wanted",
-        ),
-        (
-            &["--delimiter", "ab"],
-            "--delimiter \"ab\": one ASCII character is wanted, or tab",
-        ),
-        (
-            &["--delimiter", "\""],
-            "--delimiter \"\\\"\": one ASCII character is wanted, or tab",
-        ),
-        (
-            &["--type", "a=b"],
-            "--type \"a=b\": COLUMN=whole, =float or =text is wanted",
-        ),
-        (&["other.csv"], "one CSV file is wanted, 2 are given"),
-        (
-            &["--rows", "--nth=1"],
-            "one of --select, --rows and --nth is wanted at most",
-        ),
-    ];
-    for (args, wanted) in cases {
+    for (args, wanted) in BAD_OPTIONS {
         assert_eq!(
             error(file, args),
             format!("{wanted}; --help lists the options")

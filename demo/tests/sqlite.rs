@@ -194,45 +194,45 @@ fn the_same_rows() {
     }
 }
 
-/// Sums of whole numbers are compared to the byte, where `SQLite`'s fit 64 bits.
+/// Rows of numbers whose sums fit 64 bits, some of them null.
+fn numbers(random: &mut Random) -> String {
+    let mut text = COLUMNS.map(name).join(",") + "\n";
+    for _ in 0..2000 {
+        let [a, b, x] = [1_000_000_000_000, 1000, 100_000].map(|end| random.below(end));
+        let sign = if b % 2 == 0 { "-" } else { "" };
+        let a = if a % 7 == 0 {
+            String::new()
+        } else {
+            format!("{sign}{a}")
+        };
+        writeln!(text, "{a},{b},{}.{:02},0.5,x,y", x / 100, x % 100).unwrap();
+    }
+    text
+}
+
+/// Sums of whole numbers are compared to the byte.
 #[test]
 fn the_same_sums() {
     if !has_sqlite() {
         return;
     }
     let (folder, mut random) = (Folder::new("sqlite_sums"), Random::new(5));
-    let mut text = COLUMNS.map(name).join(",") + "\n";
-    for _ in 0..2000 {
-        let [a, b, c] = [1_000_000_000_000, 1000, 100_000].map(|end| random.below(end));
-        let a = if a % 7 == 0 {
-            String::new()
-        } else {
-            format!("{}{a}", if b % 2 == 0 { "-" } else { "" })
-        };
-        writeln!(text, "{a},{b},{}.{},0.5,x,y", c / 100, c % 100).unwrap();
-    }
-    let file = folder.file("t.csv", text);
+    let file = folder.file("t.csv", numbers(&mut random));
     let conditions: Vec<String> = (0..60)
         .map(|_| {
-            format!(
-                "B >= {} and (a > {} or x < {}.5)",
-                random.below(1000),
-                0,
-                random.below(999)
-            )
+            let (b, x) = (random.below(1000), random.below(999));
+            format!("B >= {b} and (a > 0 or x < {x}.5)")
         })
         .collect();
-    let query = |it: &String| format!("select sum(a), sum(B), sum(x) from t where {it}");
+    let selected = "sum(a), sum(B), sum(x)";
+    let query = |it: &String| format!("select {selected} from t where {it}");
     let queries: Vec<String> = conditions.iter().map(query).collect();
     for (condition, theirs) in conditions.iter().zip(sqlite(&file, &queries)) {
-        let ours = printed(
-            &file,
-            &["--where", condition, "--select", "sum(a), sum(B), sum(x)"],
-        );
+        let ours = printed(&file, &["--where", condition, "--select", selected]);
         assert_eq!(ours[0][..2], theirs[0][..2], "{condition}");
         let [ours, theirs] = [&ours, &theirs].map(|it| it[0][2].parse::<f64>().unwrap_or(0.0));
         assert!(
-            (ours - theirs).abs() <= 1e-9 * ours.abs(),
+            (ours - theirs).abs() <= 1e-12 * ours,
             "{condition}: {ours}, {theirs}"
         );
     }

@@ -256,7 +256,7 @@ impl Random {
 #[test]
 fn random_texts_beside_a_plain_reader() {
     let mut random = Random(1);
-    for _ in 0..40_000 {
+    for _ in 0..10_000 {
         let text = random.text(30);
         let wanted = plain(&text);
         for buffer in [1, 2, 5, 100] {

@@ -11,6 +11,7 @@ const STRIP_TOP: f64 = 76.0;
 const STRIP_HEIGHT: f64 = 36.0;
 const CHART_TOP: f64 = 176.0;
 const CHART_HEIGHT: f64 = 200.0;
+const CHART_LEFT: f64 = MARGIN + 40.0;
 /// About how wide a character of an axis is.
 const CHARACTER: f64 = 6.5;
 
@@ -100,49 +101,46 @@ fn strip(out: &mut String, picture: &Picture<'_>) -> fmt::Result {
     text(out, (WIDTH - MARGIN, below), "end", "", &last)
 }
 
+fn chart(out: &mut String, name: &str, bins: &[(String, u64)]) -> fmt::Result {
+    let most = bins.iter().map(|bin| bin.1).max().unwrap_or(0);
+    let bottom = CHART_TOP + CHART_HEIGHT;
+    bars(out, bins, most.max(1))?;
+    writeln!(
+        out,
+        "<path d=\"M{CHART_LEFT} {CHART_TOP}V{bottom}H{}\" stroke=\"#888\" fill=\"none\"/>",
+        WIDTH - MARGIN
+    )?;
+    let left = CHART_LEFT - 6.0;
+    text(out, (left, CHART_TOP + 10.0), "end", "", &grouped(most))?;
+    text(out, (left, bottom), "end", "", "0")?;
+    let caption = format!("{name} of the kept rows: how many are in each bin, by where it begins");
+    text(out, (WIDTH / 2.0, bottom + 38.0), "middle", "", &caption)
+}
+
+/// The bars, with their edges below as far as there is space for these.
 #[allow(
     clippy::cast_precision_loss,
     reason = "a height needs no more than four digits"
 )]
-fn chart(out: &mut String, name: &str, bins: &[(String, u64)]) -> fmt::Result {
-    let most = bins.iter().map(|bin| bin.1).max().unwrap_or(0);
-    let (left, bottom) = (MARGIN + 40.0, CHART_TOP + CHART_HEIGHT);
-    let slot = (WIDTH - MARGIN - left) / bins.len().max(1) as f64;
+fn bars(out: &mut String, bins: &[(String, u64)], most: u64) -> fmt::Result {
+    let slot = (WIDTH - MARGIN - CHART_LEFT) / bins.len().max(1) as f64;
+    let (width, bottom) = ((slot - 1.0).max(0.5), CHART_TOP + CHART_HEIGHT);
     let longest = bins.iter().map(|bin| bin.0.len()).max().unwrap_or(0);
     let each = ((longest + 1) as f64 * CHARACTER / slot).ceil().max(1.0);
     for (place, (edge, count)) in bins.iter().enumerate() {
-        let (place, height) = (
-            place as f64,
-            CHART_HEIGHT * *count as f64 / most.max(1) as f64,
-        );
-        let (x, y) = (left + place * slot, bottom - height);
+        let height = CHART_HEIGHT * *count as f64 / most as f64;
+        let (x, y) = (CHART_LEFT + place as f64 * slot, bottom - height);
+        let (count, title) = (grouped(*count), escaped(edge));
         writeln!(
             out,
-            "<rect class=\"bar\" x=\"{x:.2}\" y=\"{y:.2}\" width=\"{:.2}\" \
-             height=\"{height:.2}\" fill=\"#2f6f9f\"><title>{} from {} on</title></rect>",
-            (slot - 1.0).max(0.5),
-            grouped(*count),
-            escaped(edge)
+            "<rect class=\"bar\" x=\"{x:.2}\" y=\"{y:.2}\" width=\"{width:.2}\" \
+             height=\"{height:.2}\" fill=\"#2f6f9f\"><title>{count} from {title} on</title></rect>"
         )?;
-        if place % each == 0.0 {
+        if place as f64 % each == 0.0 {
             text(out, (x, bottom + 16.0), "middle", "", edge)?;
         }
     }
-    writeln!(
-        out,
-        "<path d=\"M{left} {CHART_TOP}V{bottom}H{}\" stroke=\"#888\" fill=\"none\"/>",
-        WIDTH - MARGIN
-    )?;
-    text(
-        out,
-        (left - 6.0, CHART_TOP + 10.0),
-        "end",
-        "",
-        &grouped(most),
-    )?;
-    text(out, (left - 6.0, bottom), "end", "", "0")?;
-    let caption = format!("{name} of the kept rows: how many are in each bin, by where it begins");
-    text(out, (WIDTH / 2.0, bottom + 38.0), "middle", "", &caption)
+    Ok(())
 }
 
 fn text(out: &mut String, (x, y): (f64, f64), anchor: &str, more: &str, text: &str) -> fmt::Result {
