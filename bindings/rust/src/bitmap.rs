@@ -245,7 +245,7 @@ impl Bitmap {
     /// At the first index that isn't below `len`.
     pub fn try_from_indices<I: BitIndex>(len: usize, indices: &[I]) -> Result<Bitmap, BadIndex> {
         Bitmap::try_make(len, |mut out| {
-            let refused = portable::set_all(&mut out, indices);
+            let refused = portable::set_all(&mut out.written(), indices);
             refused.map_or(Ok(()), |position| {
                 Err(BadIndex {
                     position,

@@ -6,10 +6,11 @@ use crate::Bits;
 use crate::bits::{fits, within};
 use crate::error::{OutOfBounds, expect};
 use crate::kernels::{self, Operator};
-use crate::portable;
+use crate::written::Written;
 
 /// The `len` bits from bit `offset` on of some bytes, as [`Bits`] names them, to be written: every
-/// other bit of the bytes stays as it is.
+/// other bit of the bytes stays as it is. No call stores a byte that has no bit of its window, not
+/// even the value that the byte had.
 ///
 /// ```
 /// use vortex_bits::{Bits, BitsMut};
@@ -125,12 +126,6 @@ impl<'a> BitsMut<'a> {
         self.bytes
     }
 
-    /// How many bytes there are.
-    #[cfg(vortex_bits_native)]
-    pub(crate) const fn size(&self) -> usize {
-        self.bytes.len()
-    }
-
     /// Which bit of the bytes is the first one of the window.
     #[inline]
     #[must_use]
@@ -189,11 +184,24 @@ impl<'a> BitsMut<'a> {
         }
     }
 
-    /// Makes the `len` bits from place `start` on, at most 64, the lowest digits of a word.
+    /// The window over the bytes in which a bit of it lies, and no others.
     #[inline]
-    pub(crate) fn write(&mut self, start: usize, len: usize, word: u64) {
-        debug_assert!(start <= self.len && len <= self.len - start);
-        portable::write(self.bytes, self.offset + start, len, word);
+    pub(crate) fn narrowed(self) -> BitsMut<'a> {
+        let BitsMut { bytes, offset, len } = self;
+        if len == 0 {
+            return BitsMut::default();
+        }
+        BitsMut {
+            bytes: &mut bytes[offset / 8..(offset + len).div_ceil(8)],
+            offset: offset % 8,
+            len,
+        }
+    }
+
+    /// What calls that write it may store.
+    #[inline]
+    pub(crate) fn written(&mut self) -> Written<'_> {
+        Written::of(self.part(0, self.len))
     }
 
     /// The bit at a place; None where the window has no such place.
@@ -234,7 +242,7 @@ impl<'a> BitsMut<'a> {
     /// Makes each bit `value`: of a part, `bits.slice(6..11).fill(true)`.
     #[inline]
     pub fn fill(&mut self, value: bool) {
-        kernels::fill(self, value);
+        kernels::fill(&mut self.written(), value);
     }
 
     /// Negates each bit.
@@ -248,7 +256,7 @@ impl<'a> BitsMut<'a> {
     /// ```
     #[inline]
     pub fn negate(&mut self) {
-        kernels::negate(self);
+        kernels::negate(&mut self.written());
     }
 
     /// Makes each bit what `bit` answers for its place; it is asked once a place, in their order.
@@ -268,7 +276,7 @@ impl<'a> BitsMut<'a> {
             for (place, made) in (start..).zip(&mut made[..len]) {
                 *made = bit(place);
             }
-            kernels::pack_bools(&mut self.part(start, len), &made[..len]);
+            kernels::pack_bools(&mut self.part(start, len).written(), &made[..len]);
         }
     }
 
@@ -290,7 +298,7 @@ impl<'a> BitsMut<'a> {
     #[track_caller]
     pub fn copy_from_bools(&mut self, bools: &[bool]) {
         alike(self.len, bools.len());
-        kernels::pack_bools(self, bools);
+        kernels::pack_bools(&mut self.written(), bools);
     }
 
     /// Makes each bit true where its byte isn't 0.
@@ -302,7 +310,7 @@ impl<'a> BitsMut<'a> {
     #[track_caller]
     pub fn copy_from_truthy(&mut self, truthy: &[u8]) {
         alike(self.len, truthy.len());
-        kernels::pack_truthy(self, truthy);
+        kernels::pack_truthy(&mut self.written(), truthy);
     }
 
     /// Copies the bits, by words wherever the two windows lie.
@@ -314,14 +322,14 @@ impl<'a> BitsMut<'a> {
     #[track_caller]
     pub fn copy_from(&mut self, source: Bits<'_>) {
         alike(self.len, source.len());
-        kernels::copy(self, source);
+        kernels::copy(&mut self.written(), source);
     }
 
     #[inline]
     #[track_caller]
     pub(crate) fn combine(&mut self, right: Bits<'_>, operator: Operator) {
         alike(self.len, right.len());
-        kernels::combine(self, right, operator);
+        kernels::combine(&mut self.written(), right, operator);
     }
 
     #[inline]
@@ -329,7 +337,7 @@ impl<'a> BitsMut<'a> {
     pub(crate) fn combine_into(&mut self, left: Bits<'_>, right: Bits<'_>, operator: Operator) {
         alike(self.len, left.len());
         alike(self.len, right.len());
-        kernels::combine_into(self, left, right, operator);
+        kernels::combine_into(&mut self.written(), left, right, operator);
     }
 }
 

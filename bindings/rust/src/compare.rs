@@ -137,7 +137,7 @@ pub(crate) mod sealed {
 #[track_caller]
 pub fn compare_into<T: Compare>(values: &[T], op: Comparison, number: T, mut out: BitsMut<'_>) {
     alike(out.len(), values.len());
-    kernels::compare(&mut out, values, op, number);
+    kernels::compare(&mut out.written(), values, op, number);
 }
 
 /// Writes to `out` which of the values compare so with the one of `others` at the same place.
@@ -164,7 +164,7 @@ pub fn compare_with_into<T: Compare>(
 ) {
     alike(others.len(), values.len());
     alike(out.len(), values.len());
-    kernels::compare_with(&mut out, values, op, others);
+    kernels::compare_with(&mut out.written(), values, op, others);
 }
 
 /// Which of the values compare so with `number`. With a validity, nulls are false:

@@ -26,7 +26,7 @@ impl Bits<'_> {
     pub fn deposit_into(self, mask: Bits<'_>, mut out: BitsMut<'_>) {
         alike(out.len(), mask.len());
         alike(mask.count_ones(), self.len());
-        kernels::deposit(&mut out, self, mask);
+        kernels::deposit(&mut out.written(), self, mask);
     }
 
     /// The bits at the places that are true in `mask`, as

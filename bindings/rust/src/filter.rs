@@ -28,7 +28,7 @@ impl Bits<'_> {
             return out.copy_from(self);
         };
         alike(out.len(), mask.count_ones());
-        kernels::filter(&mut out, self, mask);
+        kernels::filter(&mut out.written(), self, mask);
     }
 
     /// Writes the values whose bit is true, in their order, to the front of `out`, and answers how

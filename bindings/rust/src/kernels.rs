@@ -17,7 +17,8 @@ pub use kleene::{Column, Logic, combine_truths};
 pub use values::take_values;
 pub use walk::{set_indices, set_slices};
 
-use crate::{Bits, BitsMut, blocks, portable};
+use crate::written::Written;
+use crate::{Bits, blocks, portable};
 
 #[cfg(vortex_bits_native)]
 use crate::level::kernels;
@@ -170,7 +171,7 @@ pub fn equal(left: Bits<'_>, right: Bits<'_>) -> bool {
 }
 
 #[inline]
-pub fn fill(out: &mut BitsMut<'_>, value: bool) {
+pub fn fill(out: &mut Written<'_>, value: bool) {
     if !is_word(out.as_bits()) {
         native!(fill_bits: start_mut out, value out.offset() + out.len(), value value);
     }
@@ -178,7 +179,7 @@ pub fn fill(out: &mut BitsMut<'_>, value: bool) {
 }
 
 #[inline]
-pub fn negate(out: &mut BitsMut<'_>) {
+pub fn negate(out: &mut Written<'_>) {
     if !is_word(out.as_bits()) {
         native!(negate_bits: start_mut out, value out.len());
     }
@@ -187,7 +188,7 @@ pub fn negate(out: &mut BitsMut<'_>) {
 
 /// Of windows of one length.
 #[inline]
-pub fn copy(out: &mut BitsMut<'_>, source: Bits<'_>) {
+pub fn copy(out: &mut Written<'_>, source: Bits<'_>) {
     debug_assert_eq!(out.len(), source.len());
     if !is_word(source) {
         native!(copy_bits: start_mut out, window source);
@@ -197,7 +198,7 @@ pub fn copy(out: &mut BitsMut<'_>, source: Bits<'_>) {
 
 /// Of windows of one length.
 #[inline]
-pub fn combine(out: &mut BitsMut<'_>, right: Bits<'_>, operator: Operator) {
+pub fn combine(out: &mut Written<'_>, right: Bits<'_>, operator: Operator) {
     debug_assert_eq!(out.len(), right.len());
     if !is_word(right) {
         #[cfg(vortex_bits_native)]
@@ -210,7 +211,7 @@ pub fn combine(out: &mut BitsMut<'_>, right: Bits<'_>, operator: Operator) {
 
 /// Of windows of one length.
 #[inline]
-pub fn combine_into(out: &mut BitsMut<'_>, left: Bits<'_>, right: Bits<'_>, operator: Operator) {
+pub fn combine_into(out: &mut Written<'_>, left: Bits<'_>, right: Bits<'_>, operator: Operator) {
     debug_assert!(out.len() == left.len() && out.len() == right.len());
     if !is_word(right) {
         #[cfg(vortex_bits_native)]
@@ -256,7 +257,7 @@ pub fn is_subset(left: Bits<'_>, right: Bits<'_>) -> bool {
 
 /// Of as many bits as the mask has true ones, and an `out` as long as the mask.
 #[inline]
-pub fn deposit(out: &mut BitsMut<'_>, bits: Bits<'_>, mask: Bits<'_>) {
+pub fn deposit(out: &mut Written<'_>, bits: Bits<'_>, mask: Bits<'_>) {
     debug_assert_eq!(out.len(), mask.len());
     debug_assert_eq!(bits.len(), portable::count_ones(mask));
     if !is_word(mask) {

@@ -180,7 +180,8 @@ fn combine_into(
 ) {
     alike(trues.len(), a.0.len());
     alike(valid.len(), a.0.len());
-    kernels::combine_truths(&mut trues, &mut valid, a, b, logic);
+    let (trues, valid) = (&mut trues.written(), &mut valid.written());
+    kernels::combine_truths(trues, valid, a, b, logic);
 }
 
 /// Which are true, and which are valid, of columns that are as long.

@@ -94,6 +94,7 @@ mod take;
 mod validity;
 mod value;
 pub mod values;
+mod written;
 
 #[cfg(feature = "alloc")]
 pub use bitmap::{Bitmap, BitmapMut};

@@ -176,7 +176,7 @@ fn take<I: BitIndex>(
         });
     }
     one_each(indices, validity)?;
-    match kernels::take(&mut out, bits, indices, validity.mask()) {
+    match kernels::take(&mut out.written(), bits, indices, validity.mask()) {
         Some(position) => Err(refused(indices, position, bits.len())),
         None => Ok(()),
     }

@@ -152,7 +152,7 @@ impl<B: Grow> Bitmap<B> {
     /// assert_eq!(format!("{rows:?}"), "Bits(00010)");
     /// ```
     pub fn append_bools(&mut self, bools: &[bool]) {
-        kernels::pack_bools(&mut self.grow(bools.len()), bools);
+        kernels::pack_bools(&mut self.grow(bools.len()).written(), bools);
     }
 
     /// Leaves the first `len` bits; all where there are no more.

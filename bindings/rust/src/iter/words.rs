@@ -36,7 +36,7 @@ impl<'a> Words<'a> {
         self.next = 0;
         self.filled = len.div_ceil(64);
         let filled = 64 * self.filled;
-        kernels::copy(&mut BitsMut::new(&mut self.bytes, 0, len), block);
+        kernels::copy(&mut BitsMut::new(&mut self.bytes, 0, len).written(), block);
         BitsMut::new(&mut self.bytes, len, filled - len).fill(false);
         len > 0
     }

@@ -5,15 +5,17 @@
 ///
 /// - `window bits`, the bytes, their number, the offset and the length;
 /// - `start bits`, the same without the length, since the other window is as long;
-/// - `slice items`, the items, of a type that is laid out as that of the function, and their number;
-/// - `value n`, the number itself;
-/// - and `start_mut` and `slice_mut`, which are written, and `cast_mut`, items of another type that
-///   is laid out alike.
+/// - `start_mut written`, the same of a window that is written: the function sees the bytes in which
+///   a bit of it lies, and no others;
+/// - `slice items`, the items, of a type that is laid out as that of the function, and their
+///   number; `slice_mut` of those that are written, and `cast_mut` of another type that is laid out
+///   alike;
+/// - `value n`, the number itself.
 ///
-/// What the function wants ([`crate::native`]) is so: a [`Bits`] and a [`BitsMut`] lie in their
+/// What the function wants ([`crate::native`]) is so: a [`Bits`] and a [`Written`] lie in their
 /// bytes and end at a `usize`, references may be read and written, a `&mut` overlaps nothing, and
-/// only a level that the processor has is current. What else a function wants, its callers here have
-/// tested, as is said before each, and asserted where the crate is tested.
+/// only a level that the processor has is current. What else a function wants, its callers here
+/// have tested, as is said before each, and asserted where the crate is tested.
 #[cfg(vortex_bits_native)]
 macro_rules! native {
     ($name:ident: $($args:tt)*) => {
@@ -31,10 +33,11 @@ macro_rules! native {
         native!(@call $function, [$($done,)* $bits.bytes().as_ptr(), $bits.bytes().len(),
             $bits.offset(),] $($($rest)*)?)
     };
-    (@call $function:expr, [$($done:expr,)*] start_mut $bits:expr $(, $($rest:tt)*)?) => {
-        native!(@call $function, [$($done,)* $bits.bytes_mut().as_mut_ptr(), $bits.size(),
-            $bits.offset(),] $($($rest)*)?)
-    };
+    (@call $function:expr, [$($done:expr,)*] start_mut $written:expr $(, $($rest:tt)*)?) => {{
+        let (offset, bytes) = ($written.offset(), $written.bytes_mut());
+        native!(@call $function, [$($done,)* bytes.as_mut_ptr(), bytes.len(), offset,]
+            $($($rest)*)?)
+    }};
     (@call $function:expr, [$($done:expr,)*] slice $items:expr $(, $($rest:tt)*)?) => {
         native!(@call $function, [$($done,)* $items.as_ptr().cast(), $items.len(),]
             $($($rest)*)?)

@@ -1,14 +1,15 @@
 //! Values compared, into bits.
 
 use crate::compare::{Compare, Comparison};
-use crate::{BitsMut, portable};
+use crate::portable;
+use crate::written::Written;
 
 #[cfg(vortex_bits_native)]
 use crate::level::kernels;
 
 /// Of as many values as bits.
 #[inline]
-pub fn compare<T: Compare>(out: &mut BitsMut<'_>, values: &[T], op: Comparison, number: T) {
+pub fn compare<T: Compare>(out: &mut Written<'_>, values: &[T], op: Comparison, number: T) {
     debug_assert_eq!(out.len(), values.len());
     #[cfg(vortex_bits_native)]
     if let Some((function, number)) = kernels().and_then(|kernels| number.with_number(kernels)) {
@@ -20,7 +21,7 @@ pub fn compare<T: Compare>(out: &mut BitsMut<'_>, values: &[T], op: Comparison, 
 
 /// Of as many values and others as bits.
 #[inline]
-pub fn compare_with<T: Compare>(out: &mut BitsMut<'_>, values: &[T], op: Comparison, others: &[T]) {
+pub fn compare_with<T: Compare>(out: &mut Written<'_>, values: &[T], op: Comparison, others: &[T]) {
     debug_assert!(out.len() == values.len() && others.len() == values.len());
     #[cfg(vortex_bits_native)]
     if let Some(function) = kernels().and_then(T::with_others) {

@@ -1,6 +1,7 @@
 //! Bits and values that a mask keeps.
 
-use crate::{Bits, BitsMut, Value, portable};
+use crate::written::Written;
+use crate::{Bits, Value, portable};
 
 #[cfg(vortex_bits_native)]
 use super::is_word;
@@ -11,7 +12,7 @@ use crate::value::Laid;
 
 /// Of a mask as long as the bits, and as many bits of `out` as are true in it.
 #[inline]
-pub fn filter(out: &mut BitsMut<'_>, bits: Bits<'_>, mask: Bits<'_>) {
+pub fn filter(out: &mut Written<'_>, bits: Bits<'_>, mask: Bits<'_>) {
     debug_assert_eq!(bits.len(), mask.len());
     debug_assert_eq!(out.len(), portable::count_ones(mask));
     #[cfg(vortex_bits_native)]

@@ -1,7 +1,8 @@
 //! Truth values packed into bits, and bits taken at indices.
 
 use crate::take::BitIndex;
-use crate::{Bits, BitsMut, portable};
+use crate::written::Written;
+use crate::{Bits, portable};
 
 #[cfg(vortex_bits_native)]
 use crate::level::kernels;
@@ -12,7 +13,7 @@ use crate::value::Laid;
 
 /// Of as many values as bits. A `bool` is a byte 0 or 1.
 #[inline]
-pub fn pack_bools(out: &mut BitsMut<'_>, bools: &[bool]) {
+pub fn pack_bools(out: &mut Written<'_>, bools: &[bool]) {
     debug_assert_eq!(out.len(), bools.len());
     native!(pack_truthy_at: start_mut out, slice bools);
     portable::pack(out, bools, |value| value);
@@ -20,7 +21,7 @@ pub fn pack_bools(out: &mut BitsMut<'_>, bools: &[bool]) {
 
 /// Of as many bytes as bits.
 #[inline]
-pub fn pack_truthy(out: &mut BitsMut<'_>, truthy: &[u8]) {
+pub fn pack_truthy(out: &mut Written<'_>, truthy: &[u8]) {
     debug_assert_eq!(out.len(), truthy.len());
     native!(pack_truthy_at: start_mut out, slice truthy);
     portable::pack(out, truthy, |value| value != 0);
@@ -30,7 +31,7 @@ pub fn pack_truthy(out: &mut BitsMut<'_>, truthy: &[u8]) {
 /// or answers the first position that counts and whose index isn't a place.
 #[inline]
 pub fn take<I: BitIndex>(
-    out: &mut BitsMut<'_>,
+    out: &mut Written<'_>,
     bits: Bits<'_>,
     indices: &[I],
     validity: Option<Bits<'_>>,
@@ -51,7 +52,7 @@ pub fn take<I: BitIndex>(
 fn take_by_width<I: BitIndex>(
     kernels: &Kernels,
     width: Laid,
-    out: &mut BitsMut<'_>,
+    out: &mut Written<'_>,
     bits: Bits<'_>,
     indices: &[I],
     validity: Option<Bits<'_>>,

@@ -1,6 +1,7 @@
 //! Truth values that may be null, combined by three-valued logic.
 
-use crate::{Bits, BitsMut, portable};
+use crate::written::Written;
+use crate::{Bits, portable};
 
 #[cfg(vortex_bits_native)]
 use crate::level::kernels;
@@ -19,8 +20,8 @@ pub enum Logic {
 /// windows are as long.
 #[inline]
 pub fn combine_truths(
-    trues: &mut BitsMut<'_>,
-    valid: &mut BitsMut<'_>,
+    trues: &mut Written<'_>,
+    valid: &mut Written<'_>,
     left: Column<'_>,
     right: Column<'_>,
     logic: Logic,

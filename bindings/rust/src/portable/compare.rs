@@ -3,12 +3,12 @@
 use core::array;
 
 use super::write::pack;
-use crate::BitsMut;
 use crate::compare::Comparison;
+use crate::written::Written;
 
 /// Writes which of the values compare so with the number; there are as many as bits.
 pub fn compare<T: PartialOrd + Copy>(
-    out: &mut BitsMut<'_>,
+    out: &mut Written<'_>,
     values: &[T],
     op: Comparison,
     number: T,
@@ -25,7 +25,7 @@ pub fn compare<T: PartialOrd + Copy>(
 
 /// Writes which of the values compare so with the others, of which there are as many.
 pub fn compare_with<T: PartialOrd + Copy>(
-    out: &mut BitsMut<'_>,
+    out: &mut Written<'_>,
     values: &[T],
     op: Comparison,
     others: &[T],
@@ -41,7 +41,7 @@ pub fn compare_with<T: PartialOrd + Copy>(
 }
 
 fn pack_pairs<T: Copy>(
-    out: &mut BitsMut<'_>,
+    out: &mut Written<'_>,
     values: &[T],
     others: &[T],
     hold: impl Fn(T, T) -> bool,

@@ -1,11 +1,12 @@
 //! The bits and values that a mask keeps, and bits that go back to where it kept them.
 
 use super::word::{only_word, words};
-use crate::{Bits, BitsMut};
+use crate::Bits;
+use crate::written::Written;
 
 /// Writes the bits of `source` at the places that are true in `mask`, which is as long, to the
 /// front of `out`, which has room for them.
-pub fn filter(out: &mut BitsMut<'_>, source: Bits<'_>, mask: Bits<'_>) {
+pub fn filter(out: &mut Written<'_>, source: Bits<'_>, mask: Bits<'_>) {
     let mut at = 0;
     for (word, mask) in words(source).zip(words(mask)) {
         let kept = mask.count_ones() as usize;
@@ -97,7 +98,7 @@ fn compress(word: u64, mask: u64) -> u64 {
 
 /// Writes the bits of `source`, one for each true bit of `mask`, to the places where these are, and
 /// false to the others. `out` is as long as `mask`.
-pub fn deposit(out: &mut BitsMut<'_>, source: Bits<'_>, mask: Bits<'_>) {
+pub fn deposit(out: &mut Written<'_>, source: Bits<'_>, mask: Bits<'_>) {
     let mut at = 0;
     for (i, mask) in words(mask).enumerate() {
         let kept = mask.count_ones() as usize;

@@ -3,13 +3,14 @@
 
 use super::word::{low, only_word};
 use super::{combine, combine_into, copy, fill, negate};
+use crate::Bits;
 use crate::kernels::{Column, Logic, Operator};
-use crate::{Bits, BitsMut};
+use crate::written::Written;
 
 /// Writes which are true, and which aren't null.
 pub fn combine_truths(
-    trues: &mut BitsMut<'_>,
-    valid: &mut BitsMut<'_>,
+    trues: &mut Written<'_>,
+    valid: &mut Written<'_>,
     left: Column<'_>,
     right: Column<'_>,
     logic: Logic,
@@ -32,7 +33,7 @@ pub fn combine_truths(
 }
 
 /// Writes which are valid and `which`.
-fn write_where(out: &mut BitsMut<'_>, (bits, valid): Column<'_>, which: bool) {
+fn write_where(out: &mut Written<'_>, (bits, valid): Column<'_>, which: bool) {
     match (valid, which) {
         (Some(valid), true) => combine_into(out, valid, bits, Operator::And),
         (Some(valid), false) => combine_into(out, valid, bits, Operator::AndNot),
@@ -47,8 +48,8 @@ fn write_where(out: &mut BitsMut<'_>, (bits, valid): Column<'_>, which: bool) {
 /// The same of at most 64.
 #[inline]
 pub fn combine_truth_word(
-    trues: &mut BitsMut<'_>,
-    valid: &mut BitsMut<'_>,
+    trues: &mut Written<'_>,
+    valid: &mut Written<'_>,
     left: Column<'_>,
     right: Column<'_>,
     logic: Logic,

@@ -2,12 +2,13 @@
 
 use super::word::word_at;
 use crate::take::BitIndex;
-use crate::{Bits, BitsMut, Value};
+use crate::written::Written;
+use crate::{Bits, Value};
 
 /// Writes the bits at the indices, of which there are as many as bits of `out` and of `validity`;
 /// or answers the first position that counts and whose index isn't a place.
 pub fn take<I: BitIndex>(
-    out: &mut BitsMut<'_>,
+    out: &mut Written<'_>,
     bits: Bits<'_>,
     indices: &[I],
     validity: Option<Bits<'_>>,
@@ -82,7 +83,7 @@ pub fn take_values<T: Value, I: BitIndex>(
 
 /// Makes the bits at the indices true; or answers the first position whose index isn't a place.
 #[cfg(feature = "alloc")]
-pub fn set_all<I: BitIndex>(out: &mut BitsMut<'_>, indices: &[I]) -> Option<usize> {
+pub fn set_all<I: BitIndex>(out: &mut Written<'_>, indices: &[I]) -> Option<usize> {
     let (offset, len) = (out.offset(), out.len());
     let bytes = out.bytes_mut();
     for (position, index) in indices.iter().enumerate() {

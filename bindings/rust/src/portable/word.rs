@@ -11,13 +11,45 @@ pub fn low(len: usize) -> u64 {
 /// The first eight bytes as a number, lowest first; those that are missing are 0.
 #[inline]
 pub fn first_eight(bytes: &[u8]) -> u64 {
-    if let Some(eight) = bytes.first_chunk() {
-        return u64::from_le_bytes(*eight);
+    match bytes.first_chunk() {
+        Some(eight) => u64::from_le_bytes(*eight),
+        None => few(bytes),
     }
-    bytes
-        .iter()
-        .rev()
-        .fold(0, |word, &byte| word << 8 | u64::from(byte))
+}
+
+/// Less than eight bytes as a number; where there are four, by two halves that may overlap.
+#[inline]
+fn few(bytes: &[u8]) -> u64 {
+    if let (Some(low), Some(high)) = (bytes.first_chunk(), bytes.last_chunk()) {
+        let [low, high] = [low, high].map(|half| u64::from(u32::from_le_bytes(*half)));
+        return low | high << (8 * (bytes.len() - 4));
+    }
+    let digits = bytes.iter().rev();
+    digits.fold(0, |word, &byte| word << 8 | u64::from(byte))
+}
+
+/// Makes less than eight bytes the lowest ones of a number.
+#[inline]
+fn store_few(bytes: &mut [u8], word: u64) {
+    let behind = bytes.len().saturating_sub(4);
+    if let Some(low) = bytes.first_chunk_mut::<4>() {
+        *low = lowest_four(word);
+    } else {
+        bytes
+            .iter_mut()
+            .zip(word.to_le_bytes())
+            .for_each(|(byte, new)| *byte = new);
+        return;
+    }
+    if let Some(high) = bytes.last_chunk_mut() {
+        *high = lowest_four(word >> (8 * behind));
+    }
+}
+
+#[inline]
+fn lowest_four(word: u64) -> [u8; 4] {
+    let [a, b, c, d, ..] = word.to_le_bytes();
+    [a, b, c, d]
 }
 
 /// The bits from place `64 * i` on, at most 64 of them, as the lowest digits of a word.
@@ -67,7 +99,8 @@ pub fn words(bits: Bits<'_>) -> impl DoubleEndedIterator<Item = u64> + ExactSize
     (0..bits.len().div_ceil(64)).map(move |i| word_at(bits, i))
 }
 
-/// Makes the `len` bits from bit `offset` on, at most 64, the lowest digits of the word.
+/// Makes the `len` bits from bit `offset` on, at most 64, the lowest digits of the word. Bytes behind
+/// them may be stored again as they were: all are the window's.
 #[inline]
 pub fn write(bytes: &mut [u8], offset: usize, len: usize, word: u64) {
     let (first, shift) = (offset / 8, offset % 8);
@@ -78,11 +111,9 @@ pub fn write(bytes: &mut [u8], offset: usize, len: usize, word: u64) {
         return;
     }
     let merged = first_eight(bytes) & !(mask << shift) | word << shift;
-    let eight = merged.to_le_bytes();
-    if let Some(first) = bytes.first_chunk_mut() {
-        *first = eight;
-    } else {
-        bytes.copy_from_slice(&eight[..bytes.len()]);
+    match bytes.first_chunk_mut() {
+        Some(first) => *first = merged.to_le_bytes(),
+        None => store_few(bytes, merged),
     }
     if shift + len > 64 {
         let [mask, word] = [mask, word].map(|it| (it >> (64 - shift)).to_le_bytes()[0]);

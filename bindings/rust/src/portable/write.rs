@@ -1,12 +1,13 @@
 //! Windows filled, negated, copied, combined and packed, by words.
 
 use super::word::{eight_of, only_word, quick_words};
+use crate::Bits;
 use crate::kernels::Operator;
-use crate::{Bits, BitsMut};
+use crate::written::Written;
 
 /// It goes by whole bytes between the first one that the window begins and the last one that it
 /// ends.
-pub fn fill(out: &mut BitsMut<'_>, value: bool) {
+pub fn fill(out: &mut Written<'_>, value: bool) {
     let word = if value { u64::MAX } else { 0 };
     let head = out.len().min(out.offset().wrapping_neg() % 8);
     let whole = (out.len() - head) / 8;
@@ -21,7 +22,7 @@ pub fn fill(out: &mut BitsMut<'_>, value: bool) {
 /// the same length. It goes by whole words of bytes behind the first byte that the window begins.
 #[inline]
 fn each_word(
-    out: &mut BitsMut<'_>,
+    out: &mut Written<'_>,
     left: Bits<'_>,
     right: Bits<'_>,
     of: impl Fn(u64, u64, u64) -> u64 + Copy,
@@ -55,7 +56,7 @@ fn each_quick(
 
 /// The same from place `start` to `end`.
 fn each_slow(
-    out: &mut BitsMut<'_>,
+    out: &mut Written<'_>,
     left: Bits<'_>,
     right: Bits<'_>,
     start: usize,
@@ -70,7 +71,7 @@ fn each_slow(
     }
 }
 
-pub fn negate(out: &mut BitsMut<'_>) {
+pub fn negate(out: &mut Written<'_>) {
     let head = out.len().min(out.offset().wrapping_neg() % 8);
     let whole = (out.len() - head) / 8;
     let tail = head + 8 * whole;
@@ -84,12 +85,12 @@ pub fn negate(out: &mut BitsMut<'_>) {
 }
 
 /// Of windows of one length.
-pub fn copy(out: &mut BitsMut<'_>, source: Bits<'_>) {
+pub fn copy(out: &mut Written<'_>, source: Bits<'_>) {
     each_word(out, source, source, |_, word, _| word);
 }
 
 /// Of windows of one length. Each operator has a loop of its own.
-pub fn combine(out: &mut BitsMut<'_>, right: Bits<'_>, operator: Operator) {
+pub fn combine(out: &mut Written<'_>, right: Bits<'_>, operator: Operator) {
     match operator {
         Operator::And => each_word(out, right, right, |left, right, _| left & right),
         Operator::Or => each_word(out, right, right, |left, right, _| left | right),
@@ -99,7 +100,7 @@ pub fn combine(out: &mut BitsMut<'_>, right: Bits<'_>, operator: Operator) {
 }
 
 /// Of windows of one length. Each operator has a loop of its own.
-pub fn combine_into(out: &mut BitsMut<'_>, left: Bits<'_>, right: Bits<'_>, operator: Operator) {
+pub fn combine_into(out: &mut Written<'_>, left: Bits<'_>, right: Bits<'_>, operator: Operator) {
     match operator {
         Operator::And => each_word(out, left, right, |_, left, right| left & right),
         Operator::Or => each_word(out, left, right, |_, left, right| left | right),
@@ -109,7 +110,7 @@ pub fn combine_into(out: &mut BitsMut<'_>, left: Bits<'_>, right: Bits<'_>, oper
 }
 
 /// Of as many values as bits.
-pub fn pack<T: Copy>(out: &mut BitsMut<'_>, values: &[T], is_true: impl Fn(T) -> bool) {
+pub fn pack<T: Copy>(out: &mut Written<'_>, values: &[T], is_true: impl Fn(T) -> bool) {
     for (i, values) in values.chunks(64).enumerate() {
         let word = match values.first_chunk() {
             Some(values) => word_of(values, &is_true),
