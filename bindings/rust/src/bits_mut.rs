@@ -198,6 +198,19 @@ impl<'a> BitsMut<'a> {
         }
     }
 
+    /// The bits before place `mid` and those from it on, each over its own bytes; `mid` is one of
+    /// the ends, or a border between two bytes.
+    #[inline]
+    pub(crate) fn split(self, mid: usize) -> (BitsMut<'a>, BitsMut<'a>) {
+        let BitsMut { bytes, offset, len } = self.narrowed();
+        if mid == 0 {
+            return (BitsMut::default(), BitsMut { bytes, offset, len });
+        }
+        let (low, high) = bytes.split_at_mut((offset + mid).div_ceil(8));
+        let part = |bytes, offset, len| BitsMut { bytes, offset, len };
+        (part(low, offset, mid), part(high, 0, len - mid))
+    }
+
     /// What calls that write it may store.
     #[inline]
     pub(crate) fn written(&mut self) -> Written<'_> {

@@ -163,6 +163,43 @@ impl fmt::Display for BadIndex {
 
 impl Error for BadIndex {}
 
+/// Why a window that is written isn't split at a place.
+#[derive(Clone, Copy, Debug, PartialEq, Eq, Hash)]
+#[non_exhaustive]
+pub enum SplitError {
+    /// The place is past the window.
+    Past {
+        /// The place.
+        place: usize,
+        /// How many bits the window has.
+        len: usize,
+    },
+    /// The bits before the place and those from it on have a byte in common.
+    WithinByte {
+        /// The place.
+        place: usize,
+        /// Which bit of the bytes it is: `offset + place`.
+        bit: usize,
+    },
+}
+
+impl fmt::Display for SplitError {
+    fn fmt(&self, f: &mut fmt::Formatter<'_>) -> fmt::Result {
+        match self {
+            SplitError::Past { place, len } => write!(f, "place {place} is past {len} bits"),
+            SplitError::WithinByte { place, bit } => {
+                let byte = bit / 8;
+                write!(
+                    f,
+                    "place {place} is bit {bit} of the bytes, within byte {byte}"
+                )
+            }
+        }
+    }
+}
+
+impl Error for SplitError {}
+
 /// A table of counts that is too short for its window.
 #[derive(Clone, Copy, Debug, PartialEq, Eq, Hash)]
 #[non_exhaustive]

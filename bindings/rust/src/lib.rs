@@ -90,6 +90,7 @@ mod native;
 mod operators;
 mod portable;
 mod rank;
+mod split;
 mod take;
 mod validity;
 mod value;
@@ -103,7 +104,7 @@ pub use bits_mut::BitsMut;
 #[cfg(feature = "alloc")]
 pub use bytes::{AlignedBytes, Grow, SharedBytes};
 pub use compare::{Compare, Comparison};
-pub use error::{BadIndex, OutOfBounds, ShortTable, TakeError, TakeValuesError};
+pub use error::{BadIndex, OutOfBounds, ShortTable, SplitError, TakeError, TakeValuesError};
 pub use level::Level;
 pub use mask::Mask;
 #[cfg(feature = "alloc")]

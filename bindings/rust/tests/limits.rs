@@ -394,7 +394,8 @@ fn errors_print_once() {
 #[test]
 fn windows_and_bitmaps_may_cross_threads() {
     fn crosses<T: Send + Sync>() {}
-    crosses::<(Bits<'_>, BitsMut<'_>, Ranks<'_>, Validity<'_>)>();
+    crosses::<(Bits<'_>, BitsMut<'_>, iter::ChunksMut<'_>)>();
+    crosses::<(Ranks<'_>, Validity<'_>)>();
     crosses::<(Bitmap, BitmapMut, Ranked<Vec<u8>>)>();
 }
 
