@@ -1,21 +1,30 @@
 //! Links the archives of the processor levels, those in `native/` or in the folder that
 //! `VORTEX_BITS_NATIVE` names, and says so by `cfg(vortex_bits_native)`. Without them, for another
 //! machine than x86-64 Linux, and under Miri, nothing is linked; but for Miri that is an error
-//! where the feature `proved` is asked for.
+//! where the feature `proved` is asked for. An archive of other sources than `src/digest.rs` names
+//! is an error in any case.
 use std::env;
+use std::fs;
 use std::path::{Path, PathBuf};
+
+#[macro_use]
+#[path = "src/digest.rs"]
+mod digest;
 
 const LEVELS: [&str; 2] = ["v2", "v3"];
 
 fn main() {
     println!("cargo::rerun-if-env-changed=VORTEX_BITS_NATIVE");
+    println!("cargo::rerun-if-env-changed=VORTEX_BITS_PROVED");
     println!("cargo::rustc-check-cfg=cfg(vortex_bits_native)");
     let folder = folder();
-    let archives = LEVELS.map(|level| archive(&folder, level));
-    for archive in &archives {
-        println!("cargo::rerun-if-changed={}", archive.display());
+    for level in LEVELS {
+        println!(
+            "cargo::rerun-if-changed={}",
+            archive(&folder, level).display()
+        );
     }
-    if env::var_os("CARGO_CFG_MIRI").is_some() {
+    if variable("CARGO_CFG_MIRI").is_some() {
         return;
     }
     if !has_code() {
@@ -24,14 +33,26 @@ fn main() {
         }
         return;
     }
-    if let Some(missing) = archives.iter().find(|archive| !archive.is_file()) {
-        let missing = missing.display();
-        if wants_proved() {
-            println!("cargo::error=feature `proved`: no {missing}, which bindings/run makes");
-        } else {
-            println!("cargo::warning=no {missing}: the portable code stands in for it");
-        }
-        return;
+    let missing = LEVELS.map(|level| archive(&folder, level));
+    if let Some(missing) = missing.iter().find(|archive| !archive.is_file()) {
+        return say_missing(missing);
+    }
+    let faults: Vec<String> = LEVELS
+        .iter()
+        .filter_map(|level| fault(&folder, level))
+        .collect();
+    if faults.is_empty() {
+        return link(&folder);
+    }
+    for fault in faults {
+        println!("cargo::error={fault}");
+    }
+}
+
+fn link(folder: &Path) {
+    if env::var_os("VORTEX_BITS_NATIVE").is_some() {
+        let folder = folder.display();
+        println!("cargo::warning=VORTEX_BITS_NATIVE: the archives are those in {folder}");
     }
     println!("cargo::rustc-cfg=vortex_bits_native");
     println!("cargo::rustc-link-search=native={}", folder.display());
@@ -40,33 +61,78 @@ fn main() {
     }
 }
 
-fn folder() -> PathBuf {
-    env::var_os("VORTEX_BITS_NATIVE").map_or_else(
-        || PathBuf::from(env::var_os("CARGO_MANIFEST_DIR").unwrap_or_default()).join("native"),
-        PathBuf::from,
-    )
+fn say_missing(archive: &Path) {
+    let missing = archive.display();
+    if wants_proved() {
+        println!("cargo::error=feature `proved`: no {missing}, which bindings/build makes");
+    } else {
+        println!("cargo::warning=no {missing}: the portable code stands in for it");
+    }
 }
 
-/// The version is in the name, and in those of the functions, so that a program may have two.
-fn library(level: &str) -> String {
+/// Why the archive of a level isn't linked, if it is one of other sources.
+fn fault(folder: &Path, level: &str) -> Option<String> {
+    let (archive, wanted) = (archive(folder, level), digest!());
+    let is = archive.display();
+    match named(&fs::read(&archive).unwrap_or_default(), level) {
+        Some(named) if named == wanted => None,
+        Some(named) => Some(format!(
+            "{is} is built from the sources of digest {named}, and this crate wants {wanted}: \
+             bindings/build makes one of these"
+        )),
+        None => Some(format!(
+            "{is} doesn't say from which sources it is built, and this crate wants {wanted}: \
+             bindings/build makes one of these"
+        )),
+    }
+}
+
+/// The digest in the name of a symbol of an archive.
+fn named(archive: &[u8], level: &str) -> Option<String> {
+    let name = format!("vb_{}_{level}_digest_", version());
+    let mut places = archive.windows(name.len());
+    let behind = places.position(|it| it == name.as_bytes())? + name.len();
+    let digits = archive[behind..].iter();
+    let digits = digits.take_while(|digit| digit.is_ascii_hexdigit());
+    Some(digits.map(|&digit| char::from(digit)).collect())
+}
+
+fn folder() -> PathBuf {
+    let own = || PathBuf::from(env::var_os("CARGO_MANIFEST_DIR").unwrap_or_default());
+    env::var_os("VORTEX_BITS_NATIVE").map_or_else(|| own().join("native"), PathBuf::from)
+}
+
+/// The version that is in the names of archives and functions, so that a program may have two.
+fn version() -> String {
     let [major, minor] = ["CARGO_PKG_VERSION_MAJOR", "CARGO_PKG_VERSION_MINOR"]
-        .map(|it| env::var(it).unwrap_or_default());
-    format!("vortex_bits_{major}_{minor}_{level}")
+        .map(|name| variable(name).unwrap_or_default());
+    format!("{major}_{minor}")
+}
+
+fn library(level: &str) -> String {
+    format!("vortex_bits_{}_{level}", version())
 }
 
 fn archive(folder: &Path, level: &str) -> PathBuf {
     folder.join(format!("lib{}.a", library(level)))
 }
 
-/// Whether the proved code has to be there.
+/// Whether the proved code has to be there. `VORTEX_BITS_PROVED=optional` is for the tests of the
+/// crate itself: `.cargo/config.toml` beside this file sets it, so that `--all-features` can be
+/// tested in a clone without archives. Cargo doesn't read that file for those who depend on it.
 fn wants_proved() -> bool {
-    env::var_os("CARGO_FEATURE_PROVED").is_some()
+    let is_optional = variable("VORTEX_BITS_PROVED").is_some_and(|it| it == "optional");
+    variable("CARGO_FEATURE_PROVED").is_some() && !is_optional
 }
 
 /// Whether the archives have code for the target.
 fn has_code() -> bool {
-    let is = |name: &str, value: &str| env::var(name).is_ok_and(|it| it == value);
+    let is = |name, value| variable(name).is_some_and(|it| it == value);
     is("CARGO_CFG_TARGET_ARCH", "x86_64")
         && is("CARGO_CFG_TARGET_OS", "linux")
         && is("CARGO_CFG_TARGET_POINTER_WIDTH", "64")
+}
+
+fn variable(name: &str) -> Option<String> {
+    env::var(name).ok()
 }

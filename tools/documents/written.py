@@ -1,11 +1,12 @@
 """Lists that a tool writes from where their names stand first: what vb_pair gives of its files, what
-vb_kernel and the crate to depend on give of vb_pair, what the tests of that crate reach, and the
-table by which the Rust crate calls the C functions.
+vb_kernel and the crate to depend on give of vb_pair, what the tests of that crate reach, the table
+by which the Rust crate calls the C functions, and the digest by which it knows their archives.
 """
 import re
 import textwrap
 
 from documents import signatures
+from documents.digest import DIGEST, written_digest
 from documents.files import Repository
 from documents.lists import NOT_CALLED, OF_THE_LIBRARY, exported, headers, made
 from documents.signatures import Signature
@@ -91,7 +92,10 @@ def reached(repository: Repository) -> str:
     return head + "".join(f"pub use vortex_buffer::{it};\n" for it in names)
 
 
-WRITTEN = {PAIR: pair, KERNEL: kernel, CRATE: facade, REACHED: reached, TABLE: table}
+WRITTEN = {
+    PAIR: pair, KERNEL: kernel, CRATE: facade, REACHED: reached, TABLE: table,
+    DIGEST: written_digest,
+}
 
 
 def not_written(repository: Repository) -> list[str]:

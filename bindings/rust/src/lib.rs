@@ -86,6 +86,9 @@ mod level;
 mod looks;
 mod mask;
 #[cfg(vortex_bits_native)]
+#[macro_use]
+mod digest;
+#[cfg(vortex_bits_native)]
 mod native;
 mod operators;
 mod portable;

@@ -81,14 +81,28 @@ macro_rules! kernels {
                     )]
                     fn $name($($arg: $kind),*) $(-> $result)?;
                 )*
+                #[link_name = concat!(
+                    "vb_",
+                    env!("CARGO_PKG_VERSION_MAJOR"),
+                    "_",
+                    env!("CARGO_PKG_VERSION_MINOR"),
+                    $level,
+                    "digest_",
+                    digest!()
+                )]
+                safe static sources: u8;
             }
-            Kernels { $($name),* }
+            Kernels { $($name,)* sources: &sources }
         };
     };
     ($($name:ident($($arg:ident: $kind:ty),*) $(-> $result:ty)?;)*) => {
         /// The functions of one level.
         pub struct Kernels {
             $(pub $name: unsafe extern "C" fn($($arg: $kind),*) $(-> $result)?,)*
+            /// A symbol that only an archive of the sources has that this crate is for: another
+            /// one isn't linked.
+            #[expect(dead_code, reason = "it is there to be linked")]
+            sources: &'static u8,
         }
 
         kernels!(@level V2 "_v2_" $($name($($arg: $kind),*) $(-> $result)?;)*);

@@ -60,6 +60,9 @@ pub fn two(n: u8) -> u8
     "bindings/c/library/made.h": "bool vb_all(size_t n)\n{\n    return CALL(get)(n);\n}\n",
     "bindings/rust/src/bits.rs": "/// ```\n/// bits.count(1);\n/// ```\npub fn count(n: u8) {}\n",
     "bindings/rust/src/native.rs": "\nkernels! {\n    get(n: usize) -> bool;\n}\n",
+    # The digest of no source.
+    "bindings/build": "crates=(low_of_c)\n",
+    "bindings/rust/src/digest.rs": '"e3b0c44298fc1c149afbf4c8996fb92427ae41e4649b934ca495991b7852b855"\n',
     "crates/vb_pair/src/lib.rt": "mod of;\n\npub use of::{or_count, xor_count};\n",
     "crates/vb_pair/src/of.rt": "pub fn xor_count() {}\nfn own() {}\npub fn or_count() {}\n",
     "crates/vb_kernel/src/lib.rt": "pub use vb_pair::{or_count, xor_count};\n",

@@ -1,0 +1,79 @@
+"""bindings/release in a repository of its own, with changes that no commit has and without."""
+import subprocess
+import tempfile
+import unittest
+from pathlib import Path
+from shutil import copy
+
+RELEASE = Path(__file__).resolve().parent.parent.parent / "bindings" / "release"
+# It ends where the libraries would be built, behind what is tested here.
+BUILD = "#!/bin/sh\necho builds >&2\nexit 3\n"
+
+
+class Release(unittest.TestCase):
+    def setUp(self):
+        folder = tempfile.TemporaryDirectory()
+        self.addCleanup(folder.cleanup)
+        self.top = Path(folder.name)
+        rust = self.top / "bindings" / "rust"
+        rust.mkdir(parents=True)
+        (rust / "Cargo.toml").write_text('version = "0.0.0-r0"\n')
+        (self.top / ".gitignore").write_text("out/\ndist/\n")
+        build = self.top / "bindings" / "build"
+        build.write_text(BUILD)
+        build.chmod(0o755)
+        copy(RELEASE, self.top / "bindings" / "release")
+        self.git("init", "--quiet")
+        self.commit()
+
+    def git(self, *words: str) -> None:
+        who = ("-c", "user.name=a", "-c", "user.email=a@example")
+        subprocess.run(["git", *who, *words], cwd=self.top, check=True)
+
+    def commit(self) -> None:
+        self.git("add", "--all")
+        self.git("commit", "--quiet", "--message", "all")
+
+    def release(self) -> tuple[int, str]:
+        """The status, and what was said on standard error."""
+        command = self.top / "bindings" / "release"
+        ended = subprocess.run([command], capture_output=True, text=True)
+        return ended.returncode, ended.stderr
+
+    def refused(self, change: str) -> None:
+        (self.top / "dist").mkdir()
+        (self.top / "dist" / "kept").touch()
+        said = f"bindings/release: there are changes that no commit has:\n{change}\n"
+        self.assertEqual(self.release(), (1, said))
+        self.assertTrue((self.top / "dist" / "kept").exists())
+
+    def test_all_is_committed(self):
+        self.assertEqual(self.release(), (3, "builds\n"))
+
+    def test_a_file_that_is_ignored(self):
+        (self.top / "out").mkdir()
+        (self.top / "out" / "made").touch()
+        self.assertEqual(self.release(), (3, "builds\n"))
+
+    def test_a_file_that_was_changed(self):
+        (self.top / "bindings/build").write_text(BUILD + "#\n")
+        self.refused(" M bindings/build")
+
+    def test_a_file_that_was_changed_and_added(self):
+        (self.top / "bindings/build").write_text(BUILD + "#\n")
+        self.git("add", "--all")
+        self.refused("M  bindings/build")
+
+    def test_a_file_that_is_new(self):
+        (self.top / "new").touch()
+        self.refused("?? new")
+
+    def test_a_file_that_has_gone(self):
+        (self.top / "bindings/rust/Cargo.toml").unlink()
+        self.commit()
+        (self.top / "bindings/rust/Cargo.toml").write_text('version = "0.0.0-r0"\n')
+        self.refused("?? bindings/rust/")
+
+
+if __name__ == "__main__":
+    unittest.main()
