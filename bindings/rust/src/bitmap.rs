@@ -34,6 +34,7 @@ use crate::{BitIndex, Bits, BitsMut, portable};
 /// let lent = Bitmap::new(vec![0b1110_1000u8, 0b0000_0110], 3, 10);
 /// assert_eq!(lent.select(1), Some(2));
 /// ```
+#[doc(alias("bitset", "BitVec", "BitBuffer", "BooleanBuffer"))]
 #[derive(Clone)]
 pub struct Bitmap<B = SharedBytes> {
     bytes: B,
@@ -43,6 +44,7 @@ pub struct Bitmap<B = SharedBytes> {
 
 /// A [`Bitmap`] with bytes of its own, which grows without a test that no one shares them: for bits
 /// that come one by one. [`Bitmap::growing`] makes one.
+#[doc(alias("BitBufferMut", "BooleanBufferBuilder"))]
 pub type BitmapMut = Bitmap<AlignedBytes>;
 
 impl<B: AsRef<[u8]>> Bitmap<B> {
@@ -140,6 +142,7 @@ impl<B: AsRef<[u8]>> Bitmap<B> {
     }
 
     /// With a table that answers ranks, which takes memory. It counts the bits once.
+    #[doc(alias("rank", "select"))]
     #[must_use]
     pub fn ranked(self) -> Ranked<B> {
         Ranked::new(self)
@@ -225,6 +228,7 @@ impl Bitmap {
     /// # Panics
     ///
     /// Where an index isn't below `len`.
+    #[doc(alias("scatter"))]
     #[must_use]
     #[track_caller]
     pub fn from_indices<I: BitIndex>(len: usize, indices: &[I]) -> Bitmap {

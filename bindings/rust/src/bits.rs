@@ -22,6 +22,7 @@ use crate::kernels;
 /// assert!(valid.set_indices().eq([0, 2, 3, 4, 6, 7]));
 /// assert_eq!(valid.slice(2..5), Bits::new(&[0b111], 0, 3));
 /// ```
+#[doc(alias("bitslice"))]
 #[derive(Clone, Copy, Default)]
 pub struct Bits<'a> {
     /// The window lies in them, and its end is a `usize`.
@@ -143,6 +144,7 @@ impl<'a> Bits<'a> {
     /// # Panics
     ///
     /// Where the range begins behind its end, or ends behind the window.
+    #[doc(alias("view"))]
     #[inline]
     #[must_use]
     #[track_caller]
@@ -187,6 +189,7 @@ impl<'a> Bits<'a> {
     ///
     /// assert_eq!(Bits::new(&[0b1110_1000, 0b0000_0110], 3, 10).count_ones(), 6);
     /// ```
+    #[doc(alias("popcount", "popcnt", "cardinality", "true_count"))]
     #[inline]
     #[must_use]
     pub fn count_ones(self) -> usize {
@@ -194,6 +197,7 @@ impl<'a> Bits<'a> {
     }
 
     /// How many bits are false. It reads the bytes once.
+    #[doc(alias("null_count", "false_count"))]
     #[inline]
     #[must_use]
     pub fn count_zeros(self) -> usize {
@@ -209,6 +213,7 @@ impl<'a> Bits<'a> {
     ///
     /// assert_eq!(Bits::new(&[0b1110_1000], 3, 5).select(1), Some(2));
     /// ```
+    #[doc(alias("select1", "nth_set"))]
     #[inline]
     #[must_use]
     pub fn select(self, n: usize) -> Option<usize> {
@@ -216,6 +221,7 @@ impl<'a> Bits<'a> {
     }
 
     /// The place of the `n`-th false bit, counted from 0; None where there are at most `n`.
+    #[doc(alias("select0", "nth_unset"))]
     #[inline]
     #[must_use]
     pub fn select_unset(self, n: usize) -> Option<usize> {
@@ -231,6 +237,7 @@ impl<'a> Bits<'a> {
     /// assert_eq!((bits.first_set(), bits.first_unset()), (Some(1), Some(0)));
     /// assert_eq!((bits.last_set(), bits.last_unset()), (Some(6), Some(3)));
     /// ```
+    #[doc(alias("ffs", "trailing_zeros"))]
     #[inline]
     #[must_use]
     pub fn first_set(self) -> Option<usize> {
@@ -245,6 +252,7 @@ impl<'a> Bits<'a> {
     }
 
     /// The place of the last true bit; None where all are false. It reads from the end.
+    #[doc(alias("leading_zeros"))]
     #[inline]
     #[must_use]
     pub fn last_set(self) -> Option<usize> {
@@ -269,6 +277,7 @@ impl<'a> Bits<'a> {
     /// assert_eq!((bits.next_set(3), bits.next_unset(4)), (Some(4), None));
     /// assert_eq!((bits.previous_set(4), bits.previous_unset(3)), (Some(2), Some(0)));
     /// ```
+    #[doc(alias("find_next", "successor"))]
     #[inline]
     #[must_use]
     pub fn next_set(self, from: usize) -> Option<usize> {
@@ -284,6 +293,7 @@ impl<'a> Bits<'a> {
 
     /// The place of the last true bit before place `before`; None where there is none. From the end
     /// on each place has all bits before it.
+    #[doc(alias("find_previous", "predecessor"))]
     #[inline]
     #[must_use]
     pub fn previous_set(self, before: usize) -> Option<usize> {
@@ -326,6 +336,7 @@ impl<'a> Bits<'a> {
     /// let bits = Bits::new(&[0b0111_0110], 0, 7);
     /// assert_eq!(bits.set_indices().collect::<Vec<_>>(), [1, 2, 4, 5, 6]);
     /// ```
+    #[doc(alias("positions", "iter_ones"))]
     #[inline]
     #[must_use]
     pub fn set_indices(self) -> SetIndices<'a> {
@@ -340,6 +351,7 @@ impl<'a> Bits<'a> {
     /// let bits = Bits::new(&[0b0111_0110], 0, 7);
     /// assert_eq!(bits.set_slices().collect::<Vec<_>>(), [1..3, 4..7]);
     /// ```
+    #[doc(alias("runs", "ranges"))]
     #[inline]
     #[must_use]
     pub fn set_slices(self) -> SetSlices<'a> {
@@ -354,6 +366,7 @@ impl<'a> Bits<'a> {
     /// let valid = Bits::new(&[0b0111_0110], 0, 7);
     /// assert_eq!(valid.unset_indices().collect::<Vec<_>>(), [0, 3]);
     /// ```
+    #[doc(alias("nulls", "iter_zeros"))]
     #[inline]
     #[must_use]
     pub fn unset_indices(self) -> UnsetIndices<'a> {

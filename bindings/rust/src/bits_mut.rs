@@ -21,6 +21,7 @@ use crate::written::Written;
 /// bits.set(0, true);
 /// assert_eq!(bytes, [0b1000_1111, 0b1111_1101]);
 /// ```
+#[doc(alias("bitslice"))]
 #[derive(Default)]
 pub struct BitsMut<'a> {
     /// The window lies in them, and its end is a `usize`.
@@ -253,6 +254,7 @@ impl<'a> BitsMut<'a> {
     }
 
     /// Makes each bit `value`: of a part, `bits.slice(6..11).fill(true)`.
+    #[doc(alias("set_range"))]
     #[inline]
     pub fn fill(&mut self, value: bool) {
         kernels::fill(&mut self.written(), value);
@@ -267,6 +269,7 @@ impl<'a> BitsMut<'a> {
     /// BitsMut::new(&mut bytes, 2, 4).negate();
     /// assert_eq!(bytes, [0b0011_0011]);
     /// ```
+    #[doc(alias("not", "invert", "complement", "flip"))]
     #[inline]
     pub fn negate(&mut self) {
         kernels::negate(&mut self.written());
@@ -281,6 +284,7 @@ impl<'a> BitsMut<'a> {
     /// BitsMut::new(&mut above, 0, 4).fill_with(|place| values[place] > 4);
     /// assert_eq!(above, [0b1110]);
     /// ```
+    #[doc(alias("pack", "from_fn"))]
     #[inline]
     pub fn fill_with(&mut self, mut bit: impl FnMut(usize) -> bool) {
         let mut made = [false; 512];
@@ -307,6 +311,7 @@ impl<'a> BitsMut<'a> {
     /// # Panics
     ///
     /// Where they aren't as many as the bits.
+    #[doc(alias("pack"))]
     #[inline]
     #[track_caller]
     pub fn copy_from_bools(&mut self, bools: &[bool]) {
@@ -409,6 +414,7 @@ operators! {
     /// BitsMut::new(&mut bits, 0, 4).and(Bits::new(&[0b1010], 0, 4));
     /// assert_eq!(bits, [0b1111_1000]);
     /// ```
+    #[doc(alias = "intersection")]
     and, and_of: And;
     /// Makes the bits true that are true on the right.
     ///
@@ -419,6 +425,7 @@ operators! {
     /// BitsMut::new(&mut bits, 0, 4).or(Bits::new(&[0b1010], 0, 4));
     /// assert_eq!(bits, [0b0000_1110]);
     /// ```
+    #[doc(alias = "union")]
     or, or_of: Or;
     /// Negates the bits that are true on the right.
     ///
@@ -429,6 +436,7 @@ operators! {
     /// BitsMut::new(&mut bits, 0, 4).xor(Bits::new(&[0b1010], 0, 4));
     /// assert_eq!(bits, [0b0000_0110]);
     /// ```
+    #[doc(alias = "symmetric_difference")]
     xor, xor_of: Xor;
     /// Leaves the bits true that are false on the right.
     ///
@@ -439,6 +447,7 @@ operators! {
     /// BitsMut::new(&mut bits, 0, 4).and_not(Bits::new(&[0b1010], 0, 4));
     /// assert_eq!(bits, [0b1111_0100]);
     /// ```
+    #[doc(alias = "difference")]
     and_not, and_not_of: AndNot;
 }
 

@@ -177,6 +177,7 @@ pub fn compare_with_into<T: Compare>(
 /// grown &= valid;
 /// assert_eq!(grown.set_indices().collect::<Vec<_>>(), [0, 1]);
 /// ```
+#[doc(alias("eq", "lt", "gt", "neq", "lt_eq", "gt_eq"))]
 #[cfg(feature = "alloc")]
 #[must_use]
 pub fn compare<T: Compare>(values: &[T], op: Comparison, number: T) -> Bitmap {
@@ -198,6 +199,7 @@ pub fn compare<T: Compare>(values: &[T], op: Comparison, number: T) -> Bitmap {
 /// # Panics
 ///
 /// Where there aren't as many others.
+#[doc(alias("eq", "lt", "gt"))]
 #[cfg(feature = "alloc")]
 #[must_use]
 #[track_caller]

@@ -17,6 +17,7 @@ impl Bits<'_> {
     /// # Panics
     ///
     /// Where the windows aren't of one length, as in all calls below.
+    #[doc(alias("intersection", "popcount"))]
     #[inline]
     #[must_use]
     #[track_caller]
@@ -25,6 +26,7 @@ impl Bits<'_> {
     }
 
     /// How many bits are true here, in `right`, or in both.
+    #[doc(alias("union"))]
     #[inline]
     #[must_use]
     #[track_caller]
@@ -33,6 +35,7 @@ impl Bits<'_> {
     }
 
     /// How many bits are true here or in `right`, and not in both: how many are another than there.
+    #[doc(alias("hamming", "symmetric_difference"))]
     #[inline]
     #[must_use]
     #[track_caller]
@@ -41,6 +44,7 @@ impl Bits<'_> {
     }
 
     /// How many bits are true here and false in `right`.
+    #[doc(alias("difference"))]
     #[inline]
     #[must_use]
     #[track_caller]
@@ -57,6 +61,7 @@ impl Bits<'_> {
     /// assert!(left.is_subset(right) && !right.is_subset(left));
     /// assert!(left.is_disjoint(!right) && !left.is_disjoint(right));
     /// ```
+    #[doc(alias("intersects"))]
     #[inline]
     #[must_use]
     #[track_caller]
@@ -69,6 +74,7 @@ impl Bits<'_> {
 
     /// Whether each bit that is true here is true in `right`. It reads up to the first one that
     /// isn't.
+    #[doc(alias("contains"))]
     #[inline]
     #[must_use]
     #[track_caller]

@@ -22,6 +22,7 @@ impl Bits<'_> {
     /// # Panics
     ///
     /// Where there isn't a bit for each true one of `mask`, or `out` isn't as long as that.
+    #[doc(alias("pdep", "scatter", "expand"))]
     #[track_caller]
     pub fn deposit_into(self, mask: Bits<'_>, mut out: BitsMut<'_>) {
         alike(out.len(), mask.len());
@@ -42,6 +43,7 @@ impl Bits<'_> {
     /// # Panics
     ///
     /// Where there isn't a bit for each true one of `mask`.
+    #[doc(alias("pdep", "scatter", "expand"))]
     #[cfg(feature = "alloc")]
     #[must_use]
     #[track_caller]

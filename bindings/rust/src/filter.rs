@@ -22,6 +22,7 @@ impl Bits<'_> {
     /// bits.filter_into(mask, BitsMut::new(&mut kept, 0, mask.count_ones()));
     /// assert_eq!(kept, [0b1010]);
     /// ```
+    #[doc(alias("pext", "compress"))]
     #[track_caller]
     pub fn filter_into(self, mask: impl Mask, mut out: BitsMut<'_>) {
         let Some(mask) = mask.of_len(self.len()) else {
@@ -46,6 +47,7 @@ impl Bits<'_> {
     /// assert_eq!(mask.keep_into(&[0.5, 1.5, 2.5, 3.5], &mut kept), 3);
     /// assert_eq!(kept, [0.5, 1.5, 3.5, 0.0]);
     /// ```
+    #[doc(alias("compress", "filter_into"))]
     #[track_caller]
     pub fn keep_into<T: Value>(self, values: &[T], out: &mut [T]) -> usize {
         self.of_len(values.len());
@@ -67,6 +69,7 @@ impl Bits<'_> {
 /// # Panics
 ///
 /// Where `mask` isn't as long as the values.
+#[doc(alias("compress", "select"))]
 #[cfg(feature = "alloc")]
 #[must_use]
 #[track_caller]
@@ -90,6 +93,7 @@ pub fn filter<T: Value>(values: &[T], mask: impl Mask) -> Vec<T> {
 /// # Panics
 ///
 /// Where `mask` isn't as long as the values; `kept` is as it was.
+#[doc(alias("compress", "concat"))]
 #[cfg(feature = "alloc")]
 #[track_caller]
 pub fn filter_onto<T: Value>(values: &[T], mask: impl Mask, kept: &mut Vec<T>) {

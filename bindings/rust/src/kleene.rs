@@ -33,6 +33,7 @@ use crate::Bitmap;
 /// # Panics
 ///
 /// Where the windows and masks aren't of one length.
+#[doc(alias("null", "3VL"))]
 #[track_caller]
 pub fn and_kleene_into<'a, 'b>(
     a: impl Into<Bits<'a>>,
@@ -63,6 +64,7 @@ pub fn and_kleene_into<'a, 'b>(
 /// # Panics
 ///
 /// Where the windows and masks aren't of one length.
+#[doc(alias("null", "3VL"))]
 #[track_caller]
 pub fn or_kleene_into<'a, 'b>(
     a: impl Into<Bits<'a>>,
@@ -107,6 +109,7 @@ pub fn or_kleene_into<'a, 'b>(
 /// # Panics
 ///
 /// Where the windows and masks aren't of one length.
+#[doc(alias("null", "3VL"))]
 #[cfg(feature = "alloc")]
 #[must_use]
 #[track_caller]
@@ -143,6 +146,7 @@ pub fn and_kleene<'a, 'b>(
 /// # Panics
 ///
 /// Where the windows and masks aren't of one length.
+#[doc(alias("null", "3VL"))]
 #[cfg(feature = "alloc")]
 #[must_use]
 #[track_caller]

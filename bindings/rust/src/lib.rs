@@ -47,7 +47,8 @@
 //!
 //! - `proved`: the build fails where the archives of the proved functions aren't there, or the
 //!   target isn't x86-64 Linux; Miri, which can't run them, is let pass. Without it cargo warns of
-//!   missing archives for path dependencies alone. What the processor has shows when the program
+//!   missing archives for path dependencies alone. Archives of other sources than this version's
+//!   fail it either way. What the processor has shows when the program
 //!   runs: assert there that [`Level::current`] isn't [`Level::Portable`].
 //! - `std` (default): the processor is tested when the program runs. Without it, what the compiler
 //!   was told counts (`-C target-cpu`).
@@ -57,6 +58,7 @@
 //!   handed on. It is the one part that has `unsafe` beside the calls of proved functions.
 //! - `levels`: `Level::make_current`, to measure and to test.
 #![no_std]
+#![cfg_attr(docsrs, feature(doc_cfg))]
 #![cfg_attr(not(any(vortex_bits_native, feature = "arrow")), forbid(unsafe_code))]
 #![cfg_attr(not(vortex_bits_native), deny(unsafe_code))]
 

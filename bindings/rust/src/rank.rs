@@ -45,6 +45,7 @@ pub const fn blocks(len: usize) -> usize {
 /// // A table that was kept is used again, and no bit is counted.
 /// assert_eq!(Ranks::with_table(bits, &table).select(8), Some(40));
 /// ```
+#[doc(alias("succinct"))]
 #[derive(Clone, Copy, Debug)]
 pub struct Ranks<'a> {
     bits: Bits<'a>,
@@ -163,6 +164,7 @@ impl<'a> Ranks<'a> {
     /// # Panics
     ///
     /// Where `place` is above the length.
+    #[doc(alias("rank1"))]
     #[inline]
     #[must_use]
     #[track_caller]
@@ -179,6 +181,7 @@ impl<'a> Ranks<'a> {
     }
 
     /// The place of the `n`-th true bit, counted from 0; None where there are at most `n`.
+    #[doc(alias("select1"))]
     #[inline]
     #[must_use]
     pub fn select(&self, n: usize) -> Option<usize> {

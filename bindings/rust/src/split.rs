@@ -97,6 +97,7 @@ impl BitsMut<'_> {
     /// # Panics
     ///
     /// Where `bits` is 0 or no multiple of 8.
+    #[doc(alias("parallel", "threads"))]
     #[inline]
     #[must_use]
     #[track_caller]

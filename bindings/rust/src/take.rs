@@ -78,6 +78,7 @@ impl Bits<'_> {
     /// bits.take_into(&[6u32, 3, 1], BitsMut::new(&mut taken, 0, 3));
     /// assert_eq!(taken, [0b101]);
     /// ```
+    #[doc(alias("gather"))]
     #[inline]
     #[track_caller]
     pub fn take_into<I: BitIndex>(self, indices: &[I], out: BitsMut<'_>) {
@@ -124,6 +125,7 @@ impl Bits<'_> {
     /// bits.take_valid_into(&[6i64, -1, 1], valid, BitsMut::new(&mut taken, 0, 3));
     /// assert_eq!(taken, [0b101]);
     /// ```
+    #[doc(alias("gather", "null"))]
     #[inline]
     #[track_caller]
     pub fn take_valid_into<I: BitIndex>(

@@ -32,6 +32,7 @@ use crate::{BitIndex, Bitmap, Grow};
 /// assert_eq!(all, Validity::from(Bits::new(&[0b1111], 0, 4)));
 /// assert_eq!((!some, !all), ([true, false, false, true].into(), [false; 4].into()));
 /// ```
+#[doc(alias("null", "NullBuffer"))]
 #[derive(Clone, Copy, Debug)]
 pub struct Validity<'a> {
     /// As many as there are rows.

@@ -45,6 +45,7 @@ use crate::{BitIndex, Bits, Mask, Value, kernels};
 /// values::take_into(&[0.5, 1.5, 2.5], &[2u32, 0, 2], &mut taken);
 /// assert_eq!(taken, [2.5, 0.5, 2.5]);
 /// ```
+#[doc(alias("gather"))]
 #[inline]
 #[track_caller]
 pub fn take_into<T: Value, I: BitIndex>(values: &[T], indices: &[I], out: &mut [T]) {
@@ -79,6 +80,7 @@ pub fn try_take_into<T: Value, I: BitIndex>(
 /// values::take_valid_into(&[1u8, 2, 3], &[2i64, -1, 0], valid, &mut taken);
 /// assert_eq!(taken, [3, 0, 1]);
 /// ```
+#[doc(alias("gather", "null"))]
 #[inline]
 #[track_caller]
 pub fn take_valid_into<T: Value, I: BitIndex>(
@@ -131,6 +133,7 @@ pub fn try_take_valid_into<T: Value, I: BitIndex>(
 /// # Panics
 ///
 /// Where [`try_take`] answers an error.
+#[doc(alias("gather"))]
 #[cfg(feature = "alloc")]
 #[must_use]
 #[inline]
@@ -158,6 +161,7 @@ pub fn try_take<T: Value, I: BitIndex>(
 /// # Panics
 ///
 /// Where [`try_take_valid`] answers an error.
+#[doc(alias("gather", "null"))]
 #[cfg(feature = "alloc")]
 #[must_use]
 #[inline]

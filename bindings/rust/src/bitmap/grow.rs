@@ -105,6 +105,7 @@ impl<B: Grow> Bitmap<B> {
     /// rows.append(true);
     /// assert_eq!(format!("{rows:?}"), "Bits(1)");
     /// ```
+    #[doc(alias("push"))]
     #[inline]
     pub fn append(&mut self, value: bool) {
         let (bytes, offset, len) = self.owned();
@@ -125,6 +126,7 @@ impl<B: Grow> Bitmap<B> {
     /// rows.append_n(10, false);
     /// assert_eq!((rows.len(), rows.count_ones()), (13, 3));
     /// ```
+    #[doc(alias("resize"))]
     pub fn append_n(&mut self, n: usize, value: bool) {
         self.grow(n).fill(value);
     }
@@ -138,6 +140,7 @@ impl<B: Grow> Bitmap<B> {
     /// rows.append_bits(Bits::new(&[0b1110_1000], 3, 5));
     /// assert_eq!(format!("{rows:?}"), "Bits(00010111)");
     /// ```
+    #[doc(alias("concat", "append_buffer"))]
     pub fn append_bits(&mut self, bits: Bits<'_>) {
         self.grow(bits.len()).copy_from(bits);
     }

@@ -18,6 +18,7 @@ impl Bits<'_> {
     /// # Panics
     ///
     /// Where `mask` isn't as long as the window.
+    #[doc(alias("pext", "compress"))]
     #[must_use]
     #[track_caller]
     pub fn filter(self, mask: impl Mask) -> Bitmap {
@@ -38,6 +39,7 @@ impl Bits<'_> {
     /// # Panics
     ///
     /// Where an index isn't a place of the window.
+    #[doc(alias("gather"))]
     #[must_use]
     #[track_caller]
     pub fn take<I: BitIndex>(self, indices: &[I]) -> Bitmap {
@@ -59,6 +61,7 @@ impl Bits<'_> {
     /// # Panics
     ///
     /// Where [`try_take_valid`](Bits::try_take_valid) answers an error.
+    #[doc(alias("gather", "null"))]
     #[must_use]
     #[track_caller]
     pub fn take_valid<I: BitIndex>(self, indices: &[I], validity: impl Mask) -> Bitmap {

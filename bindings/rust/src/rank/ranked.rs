@@ -18,6 +18,7 @@ use crate::{Bitmap, Bits, SharedBytes};
 /// assert_eq!((ranked.rank(100), ranked.try_rank(7998)), (63, None));
 /// assert_eq!((ranked.select(2), ranked.select_unset(2)), (Some(3), Some(5)));
 /// ```
+#[doc(alias("succinct"))]
 #[derive(Clone)]
 pub struct Ranked<B = SharedBytes> {
     bitmap: Bitmap<B>,
