@@ -28,16 +28,16 @@
 //!
 //! # What is proved
 //!
-//! On x86-64 Linux calls on windows above 64 bits go to C functions that are proved in Rattle to
-//! meet their definitions at every offset and length, for x86-64-v2 or for x86-64-v3, by what the
-//! processor has. The rest is Rust of this crate alone, which is compared with loops over single
-//! bits and isn't proved:
+//! On x86-64 Linux calls over more than 64 bits run C functions that are proved in Rattle to meet
+//! their definitions at every offset and length, for x86-64-v2 or for x86-64-v3, by what the
+//! processor has. Comparisons, packed truth values, bits at indices and ranks run them at any
+//! length, values at indices for more than 16 of these. The rest is Rust of this crate alone, which
+//! is compared with loops over single bits and isn't proved:
 //!
-//! - single bits, windows of at most 64, and values at up to 16 indices, or such as
-//!   [`Value`] and [`BitIndex`] say;
+//! - single bits, other windows of at most 64, values at up to 16 indices, and values and indices
+//!   of which [`Value`], [`Compare`] and [`BitIndex`] say so;
 //! - what puts calls together: `fill_with`, and the blocks in which iterators are filled;
-//! - walks over false bits, how bitmaps are made and grow, [`Validity`], three-valued logic, and
-//!   `arrow`;
+//! - walks over false bits, how bitmaps are made and grow, [`Validity`], and `arrow`;
 //! - everything on other machines, under Miri, and where the archives of those functions aren't
 //!   there when the crate is built.
 //!

@@ -24,7 +24,8 @@ pub const fn blocks(len: usize) -> usize {
 }
 
 /// A window with the table of its true bits before each block of 512, which takes one `usize` for
-/// 64 bytes of bits. Ranks are answered in constant time, their places by halves of the table.
+/// 64 bytes of bits. A rank reads an entry of the table and the bits of at most one block; the
+/// place of a rank is found by halves of the table.
 ///
 /// The bytes are lent for as long, so that the table stays that of the window. `Ranked` has both as
 /// its own.
@@ -152,7 +153,7 @@ impl<'a> Ranks<'a> {
         self.bits.is_empty()
     }
 
-    /// How many bits are true, in constant time.
+    /// How many bits are true, by the table and the bits of the last block.
     #[inline]
     #[must_use]
     pub fn count(&self) -> usize {

@@ -67,14 +67,15 @@ impl<B: AsRef<[u8]>> Ranked<B> {
         self.bitmap.is_empty()
     }
 
-    /// How many bits are true, in constant time.
+    /// How many bits are true, by the table and the bits of the last block.
     #[inline]
     #[must_use]
     pub fn count(&self) -> usize {
         self.ranks().count()
     }
 
-    /// How many of the first `place` bits are true, in constant time.
+    /// How many of the first `place` bits are true, by an entry of the table and the bits of
+    /// one block.
     ///
     /// # Panics
     ///
