@@ -104,12 +104,18 @@ pub fn words(bits: Bits<'_>) -> impl DoubleEndedIterator<Item = u64> + ExactSize
 #[inline]
 pub fn write(bytes: &mut [u8], offset: usize, len: usize, word: u64) {
     let (first, shift) = (offset / 8, offset % 8);
-    let (mask, word) = (low(len), word & low(len));
     let bytes = &mut bytes[first..];
-    if let Some(eight) = bytes.first_chunk_mut().filter(|_| shift == 0 && len == 64) {
-        *eight = word.to_le_bytes();
-        return;
+    match bytes.first_chunk_mut() {
+        Some(eight) if shift == 0 && len == 64 => *eight = word.to_le_bytes(),
+        _ => merge(bytes, shift, len, word),
     }
+}
+
+/// The same from digit `shift` of the first byte on. It is a function of its own, so that loops over
+/// whole words stay small.
+#[inline(never)]
+fn merge(bytes: &mut [u8], shift: usize, len: usize, word: u64) {
+    let (mask, word) = (low(len), word & low(len));
     let merged = first_eight(bytes) & !(mask << shift) | word << shift;
     match bytes.first_chunk_mut() {
         Some(first) => *first = merged.to_le_bytes(),

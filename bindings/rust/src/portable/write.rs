@@ -1,21 +1,33 @@
 //! Windows filled, negated, copied, combined and packed, by words.
 
-use super::word::{eight_of, only_word, quick_words};
+use super::word::{eight_of, low, only_word, quick_words};
 use crate::Bits;
 use crate::kernels::Operator;
 use crate::written::Written;
 
-/// It goes by whole bytes between the first one that the window begins and the last one that it
-/// ends.
 pub fn fill(out: &mut Written<'_>, value: bool) {
     let word = if value { u64::MAX } else { 0 };
-    let head = out.len().min(out.offset().wrapping_neg() % 8);
-    let whole = (out.len() - head) / 8;
-    let tail = head + 8 * whole;
-    let first = (out.offset() + head) / 8;
-    out.write(0, head, word);
-    out.write(tail, out.len() - tail, word);
-    out.bytes_mut()[first..first + whole].fill(word.to_le_bytes()[0]);
+    if out.len() <= 64 {
+        return out.write(0, out.len(), word);
+    }
+    let all = word.to_le_bytes()[0];
+    each_byte(out, |_| all);
+}
+
+/// Makes each byte of a window of more than 64 bits what `of` answers for it; of the first and the
+/// last byte only the bits of the window.
+#[inline]
+fn each_byte(out: &mut Written<'_>, of: impl Fn(u8) -> u8) {
+    let (start, end) = (out.offset(), out.offset() + out.len());
+    let [head, tail] = [!low(start), low((end - 1) % 8 + 1)].map(|mask| mask.to_le_bytes()[0]);
+    let of_some = |byte: &mut u8, mask: u8| *byte = *byte & !mask | of(*byte) & mask;
+    if let [first, whole @ .., last] = out.bytes_mut() {
+        of_some(first, head);
+        for byte in whole {
+            *byte = of(*byte);
+        }
+        of_some(last, tail);
+    }
 }
 
 /// Makes each word what `of` answers for it and for the words at the same places of two windows of
@@ -27,7 +39,10 @@ fn each_word(
     right: Bits<'_>,
     of: impl Fn(u64, u64, u64) -> u64 + Copy,
 ) {
-    let head = out.len().min(out.offset().wrapping_neg() % 8);
+    if out.len() <= 64 {
+        return each_slow(out, left, right, 0, out.len(), of);
+    }
+    let head = out.offset().wrapping_neg() % 8;
     each_slow(out, left, right, 0, head, of);
     let len = out.len() - head;
     let words = [left, right].map(|bits| quick_words(bits.part(head, len)));
@@ -72,16 +87,10 @@ fn each_slow(
 }
 
 pub fn negate(out: &mut Written<'_>) {
-    let head = out.len().min(out.offset().wrapping_neg() % 8);
-    let whole = (out.len() - head) / 8;
-    let tail = head + 8 * whole;
-    let first = (out.offset() + head) / 8;
-    for (start, len) in [(0, head), (tail, out.len() - tail)] {
-        out.write(start, len, !only_word(out.as_bits().part(start, len)));
+    if out.len() <= 64 {
+        return out.write(0, out.len(), !only_word(out.as_bits()));
     }
-    for byte in &mut out.bytes_mut()[first..first + whole] {
-        *byte = !*byte;
-    }
+    each_byte(out, |byte| !byte);
 }
 
 /// Of windows of one length.
