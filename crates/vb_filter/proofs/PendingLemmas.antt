@@ -8,7 +8,11 @@ use Rattle.std.proofs.Math.Pow.{pow_mono, shl_lt, shr_lt}
 use Rattle.std.proofs.lemmas.Nat.{or_lt, shl_whole}
 use Rattle.vb_bits.specs.Bits.{bits, bit_of}
 use Rattle.vb_bits.specs.Digits.{has_bit, digits}
-use Rattle.vb_bits.specs.Writes.{Writes}
+use Rattle.std.proofs.lemmas.Bool.{cases_lt}
+use Rattle.std.proofs.lemmas.List.{length-append, length-drop, length-take-le, get_or-take}
+use Rattle.std.specs.Prelude.{take, drop}
+use Rattle.vb_bits.specs.Writes.{Writes, extension}
+use Rattle.vb_bits.proofs.WindowLemmas.{bits-append, bit_of-append, bit_of-extension}
 use Rattle.vb_bits.proofs.BitsLemmas.{bits-add, same_bits, length-bits}
 use Rattle.vb_bits.proofs.DigitsLemmas.{digits-add, same_digits, has_bit-or, length-digits}
 use Rattle.vb_bits.proofs.ShiftLemmas.{shl_low, shl_high, bit_at_cut, digits_shr}
@@ -150,3 +154,20 @@ Writes_up_to-more b c d m n le one two =
     Writes_up_to b d n (two.same_len ∙ one.same_len)
     (λ i h. two.others i (inr (omega (arith, length-bits d 0 n)))
     ∙ one.others i (inr (omega (arith, length-bits c 0 m))))
+
+-- ---- the bytes in front
+-- what is written in the first e bytes is written in all of them
+pub Writes_in_front : (b c : List ℕ) (o e : ℕ) (m : List Bool) → e ≤ length b
+    → o + length m ≤ 8 * e → Writes (take e b) c o m → Writes b (c ++ drop e b) o m
+Writes_in_front b c o e m inside within w =
+    let long : length c ≡ e = w.same_len ∙ length-take-le e b inside in
+    let same : c ++ drop e b ≡ extension c b = ap (λ k. c ++ drop k b) (sym long) in
+    record {
+      same_len = omega (arith, long, inside, length-append c (drop e b), length-drop e b);
+      window = bits-append c (drop e b) o (length m) (omega (arith, long, within)) ∙ w.window;
+      others = λ i h. elim (cases_lt i (8 * e)) [
+        | inl front ↦ bit_of-append c (drop e b) i (omega (arith, long)) ∙ w.others i h
+            ∙ ap (λ x. has_bit x (i % 8)) (get_or-take e b (i / 8) 0 (omega arith))
+        | inr behind ↦ ap (λ x. bit_of x i) same ∙ bit_of-extension c b i (omega (arith, long))
+      ];
+    }

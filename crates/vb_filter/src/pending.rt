@@ -30,10 +30,12 @@ pub(crate) fn push_digits(out: &mut [u8], pending: u64, len: usize, word: u64, n
     (word >> 1) >> (63 - shift)
 }
 
-/// Writes the digits that are pending after `len` bits.
+/// Writes the digits that are pending after `len` bits, and stores no byte behind that of the last
+/// one: another thread may write there.
 pub(crate) fn write_pending(out: &mut [u8], pending: u64, len: usize)
     requires room { len ≤ 8 * length out.old }
     ensures { Writes out.old out.new (64 * (len / 64)) (digits pending 0 (len % 64)) }
 {
-    copy_bits(out, 64 * (len / 64), &pending.to_le_bytes(), 0, len % 64);
+    let front = &mut out[..len.div_ceil(8)];
+    copy_bits(front, 64 * (len / 64), &pending.to_le_bytes(), 0, len % 64);
 }
