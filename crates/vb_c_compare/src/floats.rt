@@ -19,7 +19,8 @@ pub extern "C" fn vb_compare_f32(out: &mut [u8], o: usize, values: &[f32], op: u
     ensures { Writes out.old out.new o
         (map (λ value. compares_floats (comparison_of op) value number) values.now) }
 {
-    compare_floats_into(out, o, values, comparison_of(op), number);
+    let window = &mut out[o / 8..(o + values.len()).div_ceil(8)];
+    compare_floats_into(window, o % 8, values, comparison_of(op), number);
 }
 
 /// Whether the window lies in the bytes, and `op` is below 6; [`vb_compare_f32`] is then done, else
@@ -60,7 +61,8 @@ pub extern "C" fn vb_compare_with_f32(
     ensures { Writes out.old out.new o
         (zip2 (compares_floats (comparison_of op)) values.now others.now) }
 {
-    compare_floats_with_into(out, o, values, comparison_of(op), others);
+    let window = &mut out[o / 8..(o + values.len()).div_ceil(8)];
+    compare_floats_with_into(window, o % 8, values, comparison_of(op), others);
 }
 
 /// Whether there are as many others, the window lies in the bytes, and `op` is below 6;
@@ -96,7 +98,8 @@ pub extern "C" fn vb_compare_f64(out: &mut [u8], o: usize, values: &[f64], op: u
     ensures { Writes out.old out.new o
         (map (λ value. compares_floats (comparison_of op) value number) values.now) }
 {
-    compare_floats_into(out, o, values, comparison_of(op), number);
+    let window = &mut out[o / 8..(o + values.len()).div_ceil(8)];
+    compare_floats_into(window, o % 8, values, comparison_of(op), number);
 }
 
 /// Whether the window lies in the bytes, and `op` is below 6; [`vb_compare_f64`] is then done, else
@@ -137,7 +140,8 @@ pub extern "C" fn vb_compare_with_f64(
     ensures { Writes out.old out.new o
         (zip2 (compares_floats (comparison_of op)) values.now others.now) }
 {
-    compare_floats_with_into(out, o, values, comparison_of(op), others);
+    let window = &mut out[o / 8..(o + values.len()).div_ceil(8)];
+    compare_floats_with_into(window, o % 8, values, comparison_of(op), others);
 }
 
 /// Whether there are as many others, the window lies in the bytes, and `op` is below 6;

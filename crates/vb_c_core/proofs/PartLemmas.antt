@@ -14,7 +14,7 @@ use Rattle.vb_bits.proofs.WritesLemmas.{Writes_by_bits, Writes-at, length-put_mi
 use Rattle.vb_bits.proofs.WritesLemmas.{get_or-put_mid_inside, get_or-put_mid_outside}
 
 -- the bytes from that of bit o up to byte e, e excluded
-abbrev part : List ℕ → ℕ → ℕ → List ℕ
+abbrev pub part : List ℕ → ℕ → ℕ → List ℕ
 part b o e = take (e - o / 8) (drop (o / 8) b)
 
 -- they have the window of n bits from bit o on, where it ends in the last one of them
