@@ -18,7 +18,7 @@ pub extern "C" fn vb_and_bits(dst: &mut [u8], d: usize, src: &[u8], s: usize, le
     requires { BothInBytes dst.old d src.now s len }
     ensures { Combines BitOp.And dst.old dst.new d (bits dst.old d len) (bits src.now s len) }
 {
-    zip_words(dst, d, src, s, len, BitOp::And);
+    combine(dst, d, src, s, len, BitOp::And);
 }
 
 /// Makes each of the `len` bits of `dst` from bit `d` on true exactly where it is true or that of
@@ -28,7 +28,7 @@ pub extern "C" fn vb_or_bits(dst: &mut [u8], d: usize, src: &[u8], s: usize, len
     requires { BothInBytes dst.old d src.now s len }
     ensures { Combines BitOp.Or dst.old dst.new d (bits dst.old d len) (bits src.now s len) }
 {
-    zip_words(dst, d, src, s, len, BitOp::Or);
+    combine(dst, d, src, s, len, BitOp::Or);
 }
 
 /// Makes each of the `len` bits of `dst` from bit `d` on true exactly where it is another than that
@@ -38,7 +38,7 @@ pub extern "C" fn vb_xor_bits(dst: &mut [u8], d: usize, src: &[u8], s: usize, le
     requires { BothInBytes dst.old d src.now s len }
     ensures { Combines BitOp.Xor dst.old dst.new d (bits dst.old d len) (bits src.now s len) }
 {
-    zip_words(dst, d, src, s, len, BitOp::Xor);
+    combine(dst, d, src, s, len, BitOp::Xor);
 }
 
 /// Makes each of the `len` bits of `dst` from bit `d` on true exactly where it is true and that of
@@ -48,7 +48,7 @@ pub extern "C" fn vb_and_not_bits(dst: &mut [u8], d: usize, src: &[u8], s: usize
     requires { BothInBytes dst.old d src.now s len }
     ensures { Combines BitOp.AndNot dst.old dst.new d (bits dst.old d len) (bits src.now s len) }
 {
-    zip_words(dst, d, src, s, len, BitOp::AndNot);
+    combine(dst, d, src, s, len, BitOp::AndNot);
 }
 
 /// Whether both windows lie in their bytes; [`vb_and_bits`] is then done, else nothing.
@@ -141,7 +141,7 @@ pub extern "C" fn vb_and_into(
     requires { AllInBytes out.old o left.now l right.now r len }
     ensures { Combines BitOp.And out.old out.new o (bits left.now l len) (bits right.now r len) }
 {
-    combine_into(out, o, left, l, right, r, len, BitOp::And);
+    combine_within(out, o, left, l, right, r, len, BitOp::And);
 }
 
 /// Makes each of the `len` bits of `out` from bit `o` on true exactly where that of `left` from bit
@@ -160,7 +160,7 @@ pub extern "C" fn vb_or_into(
     requires { AllInBytes out.old o left.now l right.now r len }
     ensures { Combines BitOp.Or out.old out.new o (bits left.now l len) (bits right.now r len) }
 {
-    combine_into(out, o, left, l, right, r, len, BitOp::Or);
+    combine_within(out, o, left, l, right, r, len, BitOp::Or);
 }
 
 /// Makes each of the `len` bits of `out` from bit `o` on true exactly where that of `left` from bit
@@ -179,7 +179,7 @@ pub extern "C" fn vb_xor_into(
     requires { AllInBytes out.old o left.now l right.now r len }
     ensures { Combines BitOp.Xor out.old out.new o (bits left.now l len) (bits right.now r len) }
 {
-    combine_into(out, o, left, l, right, r, len, BitOp::Xor);
+    combine_within(out, o, left, l, right, r, len, BitOp::Xor);
 }
 
 /// Makes each of the `len` bits of `out` from bit `o` on true exactly where that of `left` from bit
@@ -198,7 +198,7 @@ pub extern "C" fn vb_and_not_into(
     requires { AllInBytes out.old o left.now l right.now r len }
     ensures { Combines BitOp.AndNot out.old out.new o (bits left.now l len) (bits right.now r len) }
 {
-    combine_into(out, o, left, l, right, r, len, BitOp::AndNot);
+    combine_within(out, o, left, l, right, r, len, BitOp::AndNot);
 }
 
 /// Whether the three windows lie in their bytes; [`vb_and_into`] is then done, else nothing.
@@ -287,6 +287,34 @@ pub extern "C" fn vb_try_and_not_into(
     }
     vb_and_not_into(out, o, left, l, right, r, len);
     true
+}
+
+/// Combines the window of `dst` with that of `src` by `op`, in the bytes of `dst` that have a bit of
+/// it: the kernel can store no other byte.
+fn combine(dst: &mut [u8], d: usize, src: &[u8], s: usize, len: usize, op: BitOp)
+    requires { BothInBytes dst.old d src.now s len }
+    ensures { Combines op dst.old dst.new d (bits dst.old d len) (bits src.now s len) }
+{
+    let end = (d + len).div_ceil(8);
+    zip_words(&mut dst[d / 8..end], d % 8, src, s, len, op);
+}
+
+/// [`combine_into`], in the bytes of `out` that have a bit of its window.
+fn combine_within(
+    out: &mut [u8],
+    o: usize,
+    left: &[u8],
+    l: usize,
+    right: &[u8],
+    r: usize,
+    len: usize,
+    op: BitOp,
+)
+    requires { AllInBytes out.old o left.now l right.now r len }
+    ensures { Combines op out.old out.new o (bits left.now l len) (bits right.now r len) }
+{
+    let end = (o + len).div_ceil(8);
+    combine_into(&mut out[o / 8..end], o % 8, left, l, right, r, len, op);
 }
 
 /// Combines the two windows into that of `out` by `op`, a block at a time.
