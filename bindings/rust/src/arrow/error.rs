@@ -118,7 +118,7 @@ pub enum Fault {
     Released(&'static str),
     /// This pointer is null.
     Null(&'static str),
-    /// This number is negative, or no `usize`.
+    /// This number is negative, or more than there can be.
     OutOfRange(&'static str, i64),
     /// The number of nulls is below -1 or above the length.
     NullCount {
@@ -143,8 +143,9 @@ pub enum Fault {
         /// How many it has.
         got: i64,
     },
-    /// A buffer that is wanted is null: that of the values, the offsets or the views where there
-    /// are items, that of the validity where there are nulls, and that of the bytes of texts.
+    /// A buffer that is wanted is null: that of the values, the offsets, the sizes, the types or the
+    /// views where there are items, that of the validity where there are nulls, and that of the
+    /// bytes of texts.
     NoBuffer(&'static str),
     /// A row of texts or lists begins before the one before it ends, or at a negative place.
     Range {
@@ -155,8 +156,25 @@ pub enum Fault {
         /// Where it ends.
         end: i64,
     },
+    /// Rows of a part of texts or lists end here, and the offsets go back behind them: the last one
+    /// of all, up to which there are bytes or items, is below.
+    Back {
+        /// Where the rows end.
+        end: i64,
+        /// The last offset of all.
+        last: i64,
+    },
     /// This row of texts, which is valid, lies in none of the buffers.
     View(usize),
+    /// The runs end before the rows do, or at a negative place.
+    Runs {
+        /// Where the last run ends.
+        end: i64,
+        /// How many rows there are, from the offset 0 on.
+        wanted: usize,
+    },
+    /// The ends of runs have this format, which isn't that of signed whole numbers of 16 to 64 bits.
+    RunEnds(String),
     /// It ends before the parent's items do.
     Short {
         /// How many items the parent asks for, from its offset 0 on.
@@ -190,7 +208,14 @@ impl fmt::Display for Fault {
             Fault::Number { of, wanted, got } => write!(f, "{of} is {got} in place of {wanted}"),
             Fault::NoBuffer(what) => write!(f, "the buffer of the {what} is null"),
             Fault::Range { row, start, end } => write!(f, "row {row} lies from {start} to {end}"),
+            Fault::Back { end, last } => {
+                write!(f, "rows end at {end}, and the last offset is {last}")
+            }
             Fault::View(row) => write!(f, "row {row} lies in none of the buffers"),
+            Fault::Runs { end, wanted } => {
+                write!(f, "the last run ends at {end}, before {wanted} rows do")
+            }
+            Fault::RunEnds(format) => write!(f, "format {format:?} isn't that of ends of runs"),
             Fault::Short { wanted, got } => {
                 write!(f, "it has {got} items, of which its parent wants {wanted}")
             }

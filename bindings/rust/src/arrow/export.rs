@@ -19,6 +19,7 @@ use super::layout::Layout;
 use super::node::Node;
 use super::primitive::Primitive;
 use crate::Bitmap;
+use crate::error::expect;
 
 /// An array of the Arrow C data interface over values or bits of this program, with its type, to be
 /// handed on to any consumer. No value is copied: the array keeps what has them, until it is
@@ -53,7 +54,7 @@ impl Export {
     ///
     /// # Panics
     ///
-    /// Where there isn't a bit for each value.
+    /// Where there isn't a bit for each value, and where values without a byte are more than 2^63 - 1.
     #[must_use]
     #[track_caller]
     pub fn values<T: Primitive>(
@@ -64,6 +65,7 @@ impl Export {
         let kept = Arc::new(values);
         let values = (*kept).as_ref();
         let (len, pointer) = (values.len(), values.as_ptr().cast());
+        assert!(i64::try_from(len).is_ok(), "{len} values");
         let format = T::format();
         let layout = Layout::of(&format).unwrap_or(Layout::Bits);
         let field = Field::of("", &format, layout);
@@ -176,7 +178,7 @@ impl Export {
             (Layout::Fixed(_, new), Layout::Fixed(_, old)) => new == old,
             (new, old) => new == old,
         };
-        let is_index = self.field.dictionary.is_none() || layout.is_index();
+        let is_index = self.field.dictionary.is_none() || super::layout::is_index(format);
         if !is_same || !is_index {
             return Err(ArrowError::Type {
                 column: self.field.name,
@@ -216,7 +218,7 @@ impl Export {
     ///
     /// Where the values aren't whole numbers of 8 to 64 bits, or have a dictionary.
     pub fn with_dictionary(mut self, items: Export) -> Result<Export, ArrowError> {
-        if !self.field.layout.is_index() || self.field.dictionary.is_some() {
+        if !super::layout::is_index(&self.field.format) || self.field.dictionary.is_some() {
             return Err(Fault::Dictionary.into());
         }
         let array = self.array.as_mut_ptr();
@@ -305,8 +307,19 @@ impl Export {
 /// assert_eq!(last.column("a")?.values::<i64>()?, [2, 3]);
 /// # Ok::<(), vortex_bits::arrow::ArrowError>(())
 /// ```
+///
+/// The array of a slice has the offset of its first row, as the interface lets it have. Some
+/// consumers don't look at offsets, as GDAL's reader for numpy: for these the values of the slice
+/// are to be copied.
+///
+/// # Panics
+///
+/// Where the rows are a part of texts or lists that another part of the program made wrongly: they
+/// end behind the last row of all, so that a consumer would read more than there is.
 impl From<Array> for Export {
+    #[track_caller]
     fn from(array: Array) -> Export {
+        expect(array.ends_with_all());
         Export {
             array: shared(&array.node, array.start, array.len),
             field: array.field().clone(),

@@ -9,7 +9,7 @@ use core::ptr::NonNull;
 
 use super::error::{ArrowError, Fault};
 use super::ffi::ArrowSchema;
-use super::layout::{Layout, Of};
+use super::layout::{self, Layout, Of};
 
 /// How many levels of children and dictionaries are read.
 pub(super) const DEPTH: usize = 64;
@@ -79,7 +79,7 @@ impl Field {
     ///
     /// Where the values aren't whole numbers of 8 to 64 bits, or have a dictionary.
     pub fn with_dictionary(mut self, items: Field) -> Result<Field, ArrowError> {
-        if !self.layout.is_index() || self.dictionary.is_some() {
+        if !layout::is_index(&self.format) || self.dictionary.is_some() {
             return Err(Fault::Dictionary.into());
         }
         self.dictionary = Some(Arc::new(items));
@@ -151,10 +151,14 @@ impl Field {
 
     /// What an error names the child at a place.
     pub(super) fn name_of(&self, child: usize) -> String {
-        match self.children.get(child) {
-            Some(field) if !field.name.is_empty() => field.name.clone(),
-            _ => child.to_string(),
+        name_of(&self.children, child)
+    }
+
+    fn says_where_runs_end(&self) -> Result<(), ArrowError> {
+        if layout::is_run_end(&self.format) && self.dictionary.is_none() {
+            return Ok(());
         }
+        Err(Fault::RunEnds(self.format.clone()).into())
     }
 
     /// What a schema says, `depth` levels below the outermost one.
@@ -177,8 +181,12 @@ impl Field {
         // SAFETY: as of this function.
         let (children, dictionary) =
             unsafe { (children(schema, layout, depth)?, dictionary(schema, depth)?) };
-        if dictionary.is_some() && !layout.is_index() {
+        if dictionary.is_some() && !layout::is_index(&format) {
             return Err(Fault::Dictionary.into());
+        }
+        if let (Layout::Runs, Some(ends)) = (layout, children.first()) {
+            ends.says_where_runs_end()
+                .map_err(|error| error.under(&name_of(&children, 0)))?;
         }
         Ok(Field {
             name,
@@ -189,6 +197,13 @@ impl Field {
             children,
             dictionary,
         })
+    }
+}
+
+fn name_of(children: &[Arc<Field>], child: usize) -> String {
+    match children.get(child) {
+        Some(field) if !field.name.is_empty() => field.name.clone(),
+        _ => child.to_string(),
     }
 }
 

@@ -1,5 +1,7 @@
 //! How the items of a type lie in buffers.
 
+use super::texts::View;
+
 /// What the digits of values mean.
 #[derive(Clone, Copy, Debug, PartialEq, Eq)]
 pub enum Kind {
@@ -30,18 +32,21 @@ pub enum Layout {
     Ranges(usize, Of),
     /// In views, and in buffers whose sizes the last one has.
     Views,
-    /// In another way.
-    Other {
-        buffers: i64,
-        children: i64,
-        has_validity: bool,
-    },
+    /// So many items of the child each.
+    Lists(usize),
+    /// From a place of the child on as many items as the next buffer says, both as numbers of so
+    /// many bytes.
+    ListViews(usize),
+    /// In one of so many children each, which a byte says: at its own place where they are sparse,
+    /// else at one that a number of 32 bits says.
+    Union { children: i64, is_sparse: bool },
+    /// In the second child, each item for as many rows as the first one says.
+    Runs,
+    /// Nowhere: all are null.
+    Nulls,
 }
 
 impl Layout {
-    /// That of values that have no byte.
-    pub const NOTHING: Layout = Layout::Fixed(Kind::Bytes, 0);
-
     /// That of a type; None where no type is written so.
     pub fn of(format: &str) -> Option<Layout> {
         use Kind::{Bytes, Float, Signed, Unsigned};
@@ -61,14 +66,15 @@ impl Layout {
             "tiD" => Layout::Fixed(Bytes, 8),
             "tin" => Layout::Fixed(Bytes, 16),
             "+s" => Layout::Struct,
-            "n" => Layout::without_validity(0, 0),
-            "+r" => Layout::without_validity(0, 2),
+            "n" => Layout::Nulls,
+            "+r" => Layout::Runs,
             "z" | "u" => Layout::Ranges(4, Of::Bytes),
             "Z" | "U" => Layout::Ranges(8, Of::Bytes),
             "+l" | "+m" => Layout::Ranges(4, Of::Items),
             "+L" => Layout::Ranges(8, Of::Items),
             "vz" | "vu" => Layout::Views,
-            "+vl" | "+vL" => Layout::other(3, 1),
+            "+vl" => Layout::ListViews(4),
+            "+vL" => Layout::ListViews(8),
             _ => return Layout::of_parts(format.split_once(':')?),
         })
     }
@@ -77,69 +83,103 @@ impl Layout {
     fn of_parts((name, parameters): (&str, &str)) -> Option<Layout> {
         match name {
             "tss" | "tsm" | "tsu" | "tsn" => Some(Layout::Fixed(Kind::Signed, 8)),
-            "w" => Some(Layout::Fixed(Kind::Bytes, parameters.parse().ok()?)),
+            "w" => Some(Layout::Fixed(Kind::Bytes, digits(parameters)?)),
             "d" => Some(Layout::Fixed(Kind::Signed, decimal(parameters)? / 8)),
-            "+w" => parameters.parse().ok().map(|_: u32| Layout::other(1, 1)),
-            "+ud" => Some(Layout::without_validity(2, ids(parameters)?)),
-            "+us" => Some(Layout::without_validity(1, ids(parameters)?)),
+            "+w" => {
+                let items = digits(parameters)?;
+                i32::try_from(items).is_ok().then_some(Layout::Lists(items))
+            }
+            "+ud" => Layout::union(parameters, false),
+            "+us" => Layout::union(parameters, true),
             _ => None,
         }
     }
 
-    const fn other(buffers: i64, children: i64) -> Layout {
-        Layout::Other {
-            buffers,
+    fn union(ids: &str, is_sparse: bool) -> Option<Layout> {
+        let children = distinct(ids)?;
+        Some(Layout::Union {
             children,
-            has_validity: true,
-        }
-    }
-
-    const fn without_validity(buffers: i64, children: i64) -> Layout {
-        Layout::Other {
-            buffers,
-            children,
-            has_validity: false,
-        }
+            is_sparse,
+        })
     }
 
     /// How many buffers an array has; None where arrays differ, which have three at least.
     pub fn buffers(self) -> Option<i64> {
         match self {
             Layout::Bits | Layout::Fixed(..) | Layout::Ranges(_, Of::Items) => Some(2),
-            Layout::Ranges(_, Of::Bytes) => Some(3),
-            Layout::Struct => Some(1),
+            Layout::Ranges(_, Of::Bytes) | Layout::ListViews(_) => Some(3),
+            Layout::Struct | Layout::Lists(_) => Some(1),
             Layout::Views => None,
-            Layout::Other { buffers, .. } => Some(buffers),
+            Layout::Union { is_sparse, .. } => Some(if is_sparse { 1 } else { 2 }),
+            Layout::Runs | Layout::Nulls => Some(0),
         }
     }
 
     /// How many children the type has; None where types differ.
     pub fn children(self) -> Option<i64> {
         match self {
-            Layout::Bits | Layout::Fixed(..) | Layout::Ranges(_, Of::Bytes) | Layout::Views => {
-                Some(0)
-            }
-            Layout::Ranges(_, Of::Items) => Some(1),
+            Layout::Bits
+            | Layout::Fixed(..)
+            | Layout::Ranges(_, Of::Bytes)
+            | Layout::Views
+            | Layout::Nulls => Some(0),
+            Layout::Ranges(_, Of::Items) | Layout::Lists(_) | Layout::ListViews(_) => Some(1),
             Layout::Struct => None,
-            Layout::Other { children, .. } => Some(children),
+            Layout::Union { children, .. } => Some(children),
+            Layout::Runs => Some(2),
         }
     }
 
     /// Whether the first buffer says which items are valid.
     pub fn has_validity(self) -> bool {
-        !matches!(
-            self,
-            Layout::Other {
-                has_validity: false,
-                ..
-            }
-        )
+        !matches!(self, Layout::Union { .. } | Layout::Runs | Layout::Nulls)
     }
 
-    /// Whether the values are indices of a dictionary.
-    pub fn is_index(self) -> bool {
-        matches!(self, Layout::Fixed(Kind::Signed | Kind::Unsigned, 1..=8))
+    /// The bytes of an item in the widest of the buffers whose size the length gives, and how many
+    /// items more than rows that one has.
+    pub fn widest(self) -> (usize, usize) {
+        match self {
+            Layout::Fixed(_, width) => (width.max(1), 0),
+            Layout::Ranges(width, _) => (width, 1),
+            Layout::ListViews(width) => (width, 0),
+            Layout::Views => (size_of::<View>(), 0),
+            Layout::Union { is_sparse, .. } if !is_sparse => (size_of::<i32>(), 0),
+            _ => (1, 0),
+        }
     }
+
+    /// The buffers that are there wherever there are rows, by their places, with their names.
+    pub fn wanted(self) -> &'static [(usize, &'static str)] {
+        match self {
+            Layout::Bits | Layout::Fixed(_, 1..) => &[(1, "values")],
+            Layout::Ranges(..) => &[(1, "offsets")],
+            Layout::Views => &[(1, "views")],
+            Layout::ListViews(_) => &[(1, "offsets"), (2, "sizes")],
+            Layout::Union { is_sparse, .. } if is_sparse => &[(0, "types")],
+            Layout::Union { .. } => &[(0, "types"), (1, "offsets")],
+            Layout::Fixed(_, 0)
+            | Layout::Struct
+            | Layout::Lists(_)
+            | Layout::Runs
+            | Layout::Nulls => &[],
+        }
+    }
+}
+
+/// Whether the values of a format are whole numbers, as the indices of a dictionary are.
+pub(super) fn is_index(format: &str) -> bool {
+    matches!(format, "c" | "C" | "s" | "S" | "i" | "I" | "l" | "L")
+}
+
+/// Whether the values of a format say where runs end.
+pub(super) fn is_run_end(format: &str) -> bool {
+    matches!(format, "s" | "i" | "l")
+}
+
+/// A number without a sign.
+fn digits(text: &str) -> Option<usize> {
+    let is_number = text.bytes().all(|it| it.is_ascii_digit());
+    text.parse().ok().filter(|_| is_number)
 }
 
 /// The bits of a decimal: 128 where they aren't said.
@@ -152,12 +192,18 @@ fn decimal(parameters: &str) -> Option<usize> {
     (is_known && has_such).then_some(bits)
 }
 
-/// How many ids of types there are.
-fn ids(parameters: &str) -> Option<i64> {
-    if parameters.is_empty() {
+/// How many ids of types there are: each from 0 to 127, and none twice.
+fn distinct(ids: &str) -> Option<i64> {
+    if ids.is_empty() {
         return Some(0);
     }
-    parameters
-        .split(',')
-        .try_fold(0, |ids, id| id.parse::<i8>().ok().map(|_| ids + 1))
+    let mut seen = 0u128;
+    for id in ids.split(',') {
+        let bit = 1 << digits(id).filter(|id| *id < 128)?;
+        if seen & bit != 0 {
+            return None;
+        }
+        seen |= bit;
+    }
+    Some(i64::from(seen.count_ones()))
 }

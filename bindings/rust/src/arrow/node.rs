@@ -9,7 +9,6 @@ use super::error::{ArrowError, Fault};
 use super::ffi::{ArrowArray, Owned};
 use super::field::{Field, child, count};
 use super::layout::Layout;
-use super::texts::View;
 
 /// An array of a tree, and what keeps the tree.
 pub(super) struct Node {
@@ -27,7 +26,8 @@ pub(super) struct Node {
     pub values: *const u8,
     /// All buffers, as they were given.
     pub buffers: Vec<*const c_void>,
-    /// Those of a struct have as many items at least as its own end at.
+    /// Those of a struct and of a sparse union have as many items at least as its own end at, those
+    /// of lists of one length as many for each of them.
     pub children: Vec<Arc<Node>>,
     pub dictionary: Option<Arc<Node>>,
     /// The outermost array, which is released with the last node of the tree.
@@ -91,6 +91,23 @@ impl Node {
     pub fn nulls_of(&self, len: usize) -> Option<usize> {
         self.nulls.filter(|&nulls| nulls == 0 || len == self.len)
     }
+
+    /// One of the values, which are signed numbers of so many bytes, from the buffer's first on.
+    ///
+    /// # Safety
+    ///
+    /// The buffer has it.
+    pub unsafe fn number_at(&self, place: usize, width: usize) -> i64 {
+        // SAFETY: as of this function.
+        unsafe {
+            let number = self.values.add(place * width);
+            match width {
+                2 => i64::from(number.cast::<i16>().read_unaligned()),
+                4 => i64::from(number.cast::<i32>().read_unaligned()),
+                _ => number.cast::<i64>().read_unaligned(),
+            }
+        }
+    }
 }
 
 /// The offset and the length.
@@ -100,12 +117,7 @@ fn window(array: &ArrowArray, layout: Layout) -> Result<(usize, usize), Fault> {
         count("offset", offset, None)?,
         count("length", length, None)?,
     );
-    let (width, more) = match layout {
-        Layout::Fixed(_, width) => (width.max(1), 0),
-        Layout::Ranges(width, _) => (width, 1),
-        Layout::Views => (size_of::<View>(), 0),
-        _ => (1, 0),
-    };
+    let (width, more) = layout.widest();
     let items = start.checked_add(len).and_then(|end| end.checked_add(more));
     let size = items.and_then(|items| items.checked_mul(width));
     match size.map(isize::try_from) {
@@ -124,20 +136,28 @@ fn null_count(array: &ArrowArray) -> Result<Option<usize>, Fault> {
     }
 }
 
+/// How many buffers an array of views may have: a view names one by a number of 32 bits.
+const MOST_BUFFERS: i64 = i32::MAX as i64 + 4;
+
 /// The pointers to the buffers.
 ///
 /// # Safety
 ///
 /// As of [`Node::read`].
 unsafe fn buffers(array: &ArrowArray, layout: Layout) -> Result<Vec<*const c_void>, Fault> {
+    let too_many = Fault::OutOfRange("n_buffers", array.n_buffers);
     let least = layout.buffers().unwrap_or(array.n_buffers.max(3));
     let number = count("n_buffers", array.n_buffers, Some(least))?;
     if number > 0 && array.buffers.is_null() {
         return Err(Fault::Null("buffers"));
     }
+    let mut buffers = Vec::new();
+    if least > MOST_BUFFERS || buffers.try_reserve_exact(number).is_err() {
+        return Err(too_many);
+    }
     // SAFETY: there are as many pointers as it says.
-    let pointer = |place| unsafe { *array.buffers.add(place) };
-    Ok((0..number).map(pointer).collect())
+    buffers.extend((0..number).map(|place| unsafe { *array.buffers.add(place) }));
+    Ok(buffers)
 }
 
 /// The buffers of the validity and of the values: null where the layout has none.
@@ -146,23 +166,15 @@ fn in_use(
     layout: Layout,
     len: usize,
 ) -> Result<(*const u8, *const u8), Fault> {
-    let buffer = |place: usize| buffers.get(place).map_or(ptr::null(), |it| it.cast());
-    let validity = if layout.has_validity() {
-        buffer(0)
-    } else {
-        ptr::null()
-    };
-    let what = match layout {
-        Layout::Bits | Layout::Fixed(..) => "values",
-        Layout::Ranges(..) => "offsets",
-        Layout::Views => "views",
-        Layout::Struct | Layout::Other { .. } => return Ok((validity, ptr::null())),
-    };
-    let values = buffer(1);
-    if values.is_null() && layout != Layout::NOTHING && len > 0 {
+    let buffer = |place: usize| buffers.get(place).map_or(ptr::null(), |it| it.cast::<u8>());
+    let mut wanted = layout.wanted().iter().filter(|_| len > 0);
+    if let Some((_, what)) = wanted.find(|(place, _)| buffer(*place).is_null()) {
         return Err(Fault::NoBuffer(what));
     }
-    Ok((validity, values))
+    if !layout.has_validity() {
+        return Ok((ptr::null(), ptr::null()));
+    }
+    Ok((buffer(0), buffer(1)))
 }
 
 /// # Safety
@@ -175,19 +187,65 @@ unsafe fn children(
 ) -> Result<Vec<Arc<Node>>, ArrowError> {
     let wanted = i64::try_from(field.children.len()).ok();
     count("n_children", array.n_children, wanted)?;
-    let items = match field.layout {
-        Layout::Struct => window(array, field.layout).map(|(offset, len)| offset + len)?,
-        _ => 0,
-    };
+    let (offset, len) = window(array, field.layout)?;
+    let items = items_of_child(array, field.layout, offset + len)?;
     let fields = field.children.iter().enumerate();
-    fields
+    let children = fields
         .map(|(place, of)| {
             // SAFETY: as of this function.
             unsafe { nth_child(array, place, of, owner, items) }
                 .map(Arc::new)
                 .map_err(|error| error.under(&field.name_of(place)))
         })
-        .collect()
+        .collect::<Result<Vec<_>, _>>()?;
+    if field.layout == Layout::Runs && len > 0 {
+        // SAFETY: as of this function.
+        unsafe { runs(&children, offset + len) }.map_err(|fault| {
+            let place = usize::from(matches!(fault, Fault::Short { .. }));
+            ArrowError::from(fault).under(&field.name_of(place))
+        })?;
+    }
+    Ok(children)
+}
+
+/// How many items each child of an array has at least, whose own items end here.
+fn items_of_child(array: &ArrowArray, layout: Layout, end: usize) -> Result<usize, Fault> {
+    let (offset, length) = (array.offset, array.length);
+    match layout {
+        Layout::Struct => Ok(end),
+        Layout::Union { is_sparse, .. } if is_sparse => Ok(end),
+        Layout::Lists(each) => end
+            .checked_mul(each)
+            .filter(|items| isize::try_from(*items).is_ok())
+            .ok_or(Fault::TooLong { offset, length }),
+        Layout::Runs => Ok(usize::from(length > 0)),
+        _ => Ok(0),
+    }
+}
+
+/// Whether there is a value for each run, and the runs reach up to here.
+///
+/// # Safety
+///
+/// These are nodes of runs' ends, of which there is one, and of values.
+unsafe fn runs(children: &[Arc<Node>], wanted: usize) -> Result<(), Fault> {
+    let [ends, values] = children else {
+        return Ok(());
+    };
+    let (number, got) = (ends.len, values.len);
+    if got < number {
+        return Err(Fault::Short {
+            wanted: number,
+            got,
+        });
+    }
+    let (last, width) = (ends.offset + number - 1, ends.field.layout.widest().0);
+    // SAFETY: there is a number for each run.
+    let end = unsafe { ends.number_at(last, width) };
+    match usize::try_from(end) {
+        Ok(end) if end >= wanted => Ok(()),
+        _ => Err(Fault::Runs { end, wanted }),
+    }
 }
 
 /// A child, which has so many items at least.

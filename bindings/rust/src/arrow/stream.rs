@@ -54,6 +54,9 @@ impl Stream {
         // SAFETY: it isn't released, and the schema may be written.
         let errno = unsafe { get_schema(raw.as_mut_ptr(), schema.as_mut_ptr()) };
         answered(&mut raw, "get_schema", errno)?;
+        if raw.is_released() {
+            return Err(Fault::Released("ArrowArrayStream").into());
+        }
         // SAFETY: as of this function.
         let field = unsafe { Field::read(schema.get(), 0)? };
         Ok(Stream {
@@ -70,6 +73,10 @@ impl Stream {
     }
 
     fn get_next(&mut self) -> Result<Option<Array>, ArrowError> {
+        // Its last call may have released it, with the array that it gave.
+        if self.raw.is_released() {
+            return Err(Fault::Released("ArrowArrayStream").into());
+        }
         let get_next = self.raw.get().get_next.ok_or(Fault::Null("get_next"))?;
         let mut array = Owned::<ArrowArray>::empty();
         // SAFETY: it isn't released, and the array may be written.
@@ -94,8 +101,10 @@ fn answered(
     }
     let text = match raw.get().get_last_error {
         // SAFETY: it isn't released, and the call before this one answered an error.
-        Some(get_last_error) => unsafe { text(get_last_error(raw.as_mut_ptr())) },
-        None => String::new(),
+        Some(get_last_error) if !raw.is_released() => unsafe {
+            text(get_last_error(raw.as_mut_ptr()))
+        },
+        _ => String::new(),
     };
     let error = StreamError { errno, text };
     Err(ArrowError::Stream { call, error })

@@ -328,16 +328,19 @@ fn other_types_have_a_length_and_a_validity() {
     for (format, buffers) in lists.into_iter().zip([3, 3, 1, 2, 1, 0]) {
         let count = Count::default();
         let children = if format == "+r" { 2 } else { 1 };
-        let child = |_| raw::Array::values(9, None, &[0; 9], &count);
-        let buffers = (0..buffers).map(|_| None).collect();
+        let child = |_| raw::Array::values(9, None, &[4; 9 * 4], &count);
+        // The validity alone may be missing.
+        let has_none = matches!(format, "+ud:5" | "+us:5" | "+r");
+        let is_missing = |place| place == 0 && !has_none;
+        let buffer = |place| (!is_missing(place)).then(|| Buffer::new(&[0; 32], 0));
+        let buffers = (0..buffers).map(buffer).collect();
         let array = raw::Array::of(4, buffers, (0..children).map(child).collect(), None, &count);
         let fields = (0..children)
-            .map(|_| Schema::new("", "C", &count))
+            .map(|_| Schema::new("", "i", &count))
             .collect();
         let schema = Schema::of("", format, fields, None, &count);
         let array = import(array, schema).unwrap();
         assert_eq!(array.field().fields().len(), children);
-        let has_none = matches!(format, "+ud:5" | "+us:5" | "+r");
         assert_eq!(array.validity().is_err(), has_none);
         assert!(array.columns().is_err() && array.dictionary().is_none());
         assert!(array.ranges().is_err() && array.items().is_err());

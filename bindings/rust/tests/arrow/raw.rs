@@ -57,32 +57,40 @@ impl Count {
     }
 }
 
-/// Bytes that begin `shift` behind a multiple of 16.
+/// Bytes that stay where they are.
 pub struct Buffer {
-    words: Vec<u128>,
-    shift: usize,
+    _words: Vec<u128>,
+    _bytes: Box<[u8]>,
+    pointer: *const c_void,
 }
 
 impl Buffer {
+    /// Bytes that begin `shift` behind a multiple of 16, with others around them.
     pub fn new(bytes: &[u8], shift: usize) -> Buffer {
         let mut all = vec![0; shift];
         all.extend_from_slice(bytes);
         all.resize(all.len().next_multiple_of(16) + 16, 0xA5);
         let words = all.chunks_exact(16);
+        let words: Vec<_> = words
+            .map(|it| u128::from_ne_bytes(it.try_into().unwrap()))
+            .collect();
+        let pointer = words.as_ptr().cast::<u8>().wrapping_add(shift).cast();
         Buffer {
-            words: words
-                .map(|it| u128::from_ne_bytes(it.try_into().unwrap()))
-                .collect(),
-            shift,
+            _words: words,
+            _bytes: Box::default(),
+            pointer,
         }
     }
 
-    fn pointer(&self) -> *const c_void {
-        self.words
-            .as_ptr()
-            .cast::<u8>()
-            .wrapping_add(self.shift)
-            .cast()
+    /// These bytes and none around them, for a tool that sees what is read behind them.
+    pub fn exact(bytes: &[u8]) -> Buffer {
+        let bytes: Box<[u8]> = bytes.into();
+        let pointer = bytes.as_ptr().cast();
+        Buffer {
+            _words: Vec::new(),
+            _bytes: bytes,
+            pointer,
+        }
     }
 }
 
@@ -124,7 +132,7 @@ impl Array {
         count: &Count,
     ) -> Array {
         let boxed = |it| Box::into_raw(Box::new(it));
-        let pointer = |it: &Option<Buffer>| it.as_ref().map_or(ptr::null(), Buffer::pointer);
+        let pointer = |it: &Option<Buffer>| it.as_ref().map_or(ptr::null(), |it| it.pointer);
         let mut held = Box::new(HeldArray {
             pointers: buffers.iter().map(pointer).collect(),
             _buffers: buffers,

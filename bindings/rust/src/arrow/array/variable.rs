@@ -28,7 +28,7 @@ impl Array {
     /// # Errors
     ///
     /// Of another type, where a row isn't behind the one before it, and where the last one ends
-    /// behind the items.
+    /// behind the items, or behind the last row of the array that these are a part of.
     pub fn ranges(&self) -> Result<Ranges<'_>, ArrowError> {
         let ranges = self.offsets()?;
         if let Some(items) = self.node.children.first() {
@@ -52,7 +52,26 @@ impl Array {
         } else {
             Ranges::wide(Unaligned::new(offsets, number))
         };
-        ranges.map_err(|fault| self.malformed(fault))
+        let ranges = ranges.map_err(|fault| self.malformed(fault))?;
+        self.ends_with_all()?;
+        Ok(ranges)
+    }
+
+    /// Whether these are no part of texts or lists that ends behind the last row of all, up to whose
+    /// end there are bytes or items: offsets that go back behind a part would have it read more.
+    pub(in crate::arrow) fn ends_with_all(&self) -> Result<(), ArrowError> {
+        let [own, all] = [self.start + self.len, self.node.offset + self.node.len];
+        match self.node.field.layout {
+            Layout::Ranges(width, _) if self.len > 0 && own != all => {
+                // SAFETY: there is an offset for each item, and one more.
+                let [end, last] = [own, all].map(|row| unsafe { self.node.number_at(row, width) });
+                if end > last {
+                    return Err(self.malformed(Fault::Back { end, last }));
+                }
+                Ok(())
+            }
+            _ => Ok(()),
+        }
     }
 
     /// The bytes of each row of texts, or of binary values, that is valid. It looks at each place
@@ -74,8 +93,10 @@ impl Array {
     /// Of another type, and where a row isn't behind the one before it, or lies in no buffer.
     pub fn texts(&self) -> Result<Texts<'_>, ArrowError> {
         let Some(views) = self.views() else {
-            let bytes = self.bytes()?;
-            return Ok(Texts::joined(self.offsets()?, bytes, self.validity()?));
+            self.has_bytes()?;
+            let ranges = self.offsets()?;
+            let bytes = self.bytes_up_to(ranges.end())?;
+            return Ok(Texts::joined(ranges, bytes, self.validity()?));
         };
         let valid = self.validity()?;
         let texts = self.buffers().and_then(|it| Texts::views(views, it, valid));
@@ -119,10 +140,19 @@ impl Array {
     ///
     /// As of [`ranges`](Array::ranges), and where there are bytes and no buffer.
     pub fn bytes(&self) -> Result<&[u8], ArrowError> {
-        let Layout::Ranges(_, Of::Bytes) = self.node.field.layout else {
-            return Err(self.is_not("that of texts"));
-        };
-        let end = self.offsets()?.end();
+        self.has_bytes()?;
+        self.bytes_up_to(self.offsets()?.end())
+    }
+
+    fn has_bytes(&self) -> Result<(), ArrowError> {
+        match self.node.field.layout {
+            Layout::Ranges(_, Of::Bytes) => Ok(()),
+            _ => Err(self.is_not("that of texts")),
+        }
+    }
+
+    /// The bytes of texts up to where the rows end.
+    fn bytes_up_to(&self, end: usize) -> Result<&[u8], ArrowError> {
         if end == 0 {
             return Ok(&[]);
         }
@@ -130,7 +160,8 @@ impl Array {
         if bytes.is_null() {
             return Err(self.malformed(Fault::NoBuffer("bytes")));
         }
-        // SAFETY: the buffer has as many bytes as its last offset says, at most `isize::MAX`.
+        // SAFETY: the rows end where all do or before, and the buffer has as many bytes as the last
+        // offset of all says, at most `isize::MAX`.
         Ok(unsafe { slice::from_raw_parts(bytes, end) })
     }
 
