@@ -96,7 +96,7 @@ impl Array {
         Ok(Array::whole(&Arc::new(node)))
     }
 
-    fn whole(node: &Arc<Node>) -> Array {
+    pub(super) fn whole(node: &Arc<Node>) -> Array {
         Array {
             start: node.offset,
             len: node.len,

@@ -81,6 +81,17 @@ pub enum ArrowError {
         /// What the call is for.
         wanted: &'static str,
     },
+    /// Values of one format aren't shown to be those of another.
+    Format {
+        /// The name of the column.
+        column: String,
+        /// The format that they have.
+        format: String,
+        /// The other one.
+        wanted: String,
+        /// The first row whose value is none of it, where the values were looked at.
+        row: Option<usize>,
+    },
     /// The buffer of the values doesn't begin at a multiple of their alignment:
     /// [`unaligned`](super::Array::unaligned) reads them.
     Unaligned {
@@ -237,6 +248,19 @@ impl fmt::Display for ArrowError {
                 format,
                 wanted,
             } => write!(f, "{}format {format:?} isn't {wanted}", Of(column)),
+            ArrowError::Format {
+                column,
+                format,
+                wanted,
+                row,
+            } => {
+                let column = Of(column);
+                write!(
+                    f,
+                    "{column}values of format {format:?} aren't those of {wanted:?}"
+                )?;
+                row.map_or(Ok(()), |row| write!(f, ": row {row} isn't"))
+            }
             ArrowError::Unaligned { column, alignment } => {
                 let column = Of(column);
                 write!(f, "{column}values don't begin at a multiple of {alignment}")
@@ -274,6 +298,7 @@ impl ArrowError {
         let column = match &mut self {
             ArrowError::Malformed { column, .. }
             | ArrowError::Type { column, .. }
+            | ArrowError::Format { column, .. }
             | ArrowError::Unaligned { column, .. }
             | ArrowError::Take { column, .. }
             | ArrowError::LongTexts { column, .. } => column,

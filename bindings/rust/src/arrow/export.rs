@@ -1,5 +1,7 @@
 //! Bits and values that are handed on as arrays.
 
+mod dictionary;
+mod format;
 mod texts;
 
 use alloc::boxed::Box;
@@ -12,7 +14,7 @@ use core::fmt;
 use core::ptr;
 
 use super::array::Array;
-use super::error::{ArrowError, Fault};
+use super::error::ArrowError;
 use super::ffi::{ArrowArray, ArrowSchema, Below, Owned};
 use super::field::Field;
 use super::layout::Layout;
@@ -166,72 +168,6 @@ impl Export {
         self
     }
 
-    /// The same values as those of another type, as the interface writes it: `i32` as days `tdD`,
-    /// `i128` as decimals `d:19,2`.
-    ///
-    /// # Errors
-    ///
-    /// Where no type is written so, or its values lie in another way.
-    pub fn with_format(mut self, format: &str) -> Result<Export, ArrowError> {
-        let layout = Layout::of(format).ok_or_else(|| Fault::Format(format.into()))?;
-        let is_same = match (layout, self.field.layout) {
-            (Layout::Fixed(_, new), Layout::Fixed(_, old)) => new == old,
-            (new, old) => new == old,
-        };
-        let is_index = self.field.dictionary.is_none() || super::layout::is_index(format);
-        if !is_same || !is_index {
-            return Err(ArrowError::Type {
-                column: self.field.name,
-                format: format.into(),
-                wanted: "that of values as wide",
-            });
-        }
-        self.field.format = format.into();
-        self.field.layout = layout;
-        Ok(self)
-    }
-
-    /// The items that the values are indices of, as of texts that stand once each: the consumer
-    /// reads the items. No index is tested: [`Array::dictionary_values`] does so where it reads.
-    ///
-    /// ```
-    /// use vortex_bits::arrow::Export;
-    ///
-    /// use vortex_bits::values;
-    ///
-    /// let prices = Export::values(vec![9.5, 12.0], None);
-    /// let valid = [true, true, false, true].into();
-    /// let rows = Export::values(vec![1i8, 1, -7, 0], Some(valid)).with_dictionary(prices)?;
-    ///
-    /// // A null's index may be anything.
-    /// let rows = rows.into_array();
-    /// let (items, indices, valid) = (rows.dictionary().unwrap(), rows.values()?, rows.validity()?);
-    /// let prices = values::take_valid::<f64, i8>(items.values()?, indices, valid);
-    /// assert_eq!(prices, [12.0, 12.0, 0.0, 9.5]);
-    /// // Which are valid counts the items' validity in, and both are one call too.
-    /// assert!(items.validity()?.take_valid(indices, valid) == valid.bits().map(Into::into));
-    /// assert_eq!(rows.dictionary_values::<f64>()?.0, prices);
-    /// # Ok::<(), vortex_bits::arrow::ArrowError>(())
-    /// ```
-    ///
-    /// # Errors
-    ///
-    /// Where the values aren't whole numbers of 8 to 64 bits, or have a dictionary.
-    pub fn with_dictionary(mut self, items: Export) -> Result<Export, ArrowError> {
-        if !super::layout::is_index(&self.field.format) || self.field.dictionary.is_some() {
-            return Err(Fault::Dictionary.into());
-        }
-        let array = self.array.as_mut_ptr();
-        // SAFETY: the array is of `Held::array`, which made what is behind `private_data`.
-        unsafe {
-            let below = &raw mut (*(*array).private_data.cast::<Held>()).below;
-            (*below).set_dictionary(items.array);
-            (*array).dictionary = (*below).dictionary;
-        }
-        self.field.dictionary = Some(Arc::new(items.field));
-        Ok(self)
-    }
-
     /// The name and the type.
     #[must_use]
     pub fn field(&self) -> &Field {
@@ -282,6 +218,14 @@ impl Export {
     /// The array without its type.
     pub(super) fn into_owned(self) -> Owned<ArrowArray> {
         self.array
+    }
+
+    /// What a reader of the array answers, which keeps no part of it.
+    fn look<T>(&self, read: impl FnOnce(&Array) -> Result<T, ArrowError>) -> Result<T, ArrowError> {
+        let (field, no_owner) = (Arc::new(self.field.clone()), Arc::new(Owned::empty()));
+        // SAFETY: the array is as the interface asks for, and stays longer than the node.
+        let node = unsafe { Node::read(self.array.get(), &field, &no_owner)? };
+        read(&Array::whole(&Arc::new(node)))
     }
 
     /// The array as this crate reads those of others.

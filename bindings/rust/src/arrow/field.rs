@@ -14,6 +14,8 @@ use super::layout::{self, Layout, Of};
 /// How many levels of children and dictionaries are read.
 pub(super) const DEPTH: usize = 64;
 const NULLABLE: i64 = 2;
+/// The flag of maps whose keys are sorted.
+pub(super) const SORTED: i64 = 4;
 
 /// The name and the type of a column: what an `ArrowSchema` says, in memory of its own.
 ///

@@ -130,6 +130,17 @@ impl Layout {
         }
     }
 
+    /// Whether arrays of both have the same buffers and numbers of children, and values as wide.
+    pub fn is_like(self, other: Layout) -> bool {
+        match (self, other) {
+            (Layout::Fixed(_, width), Layout::Fixed(_, same)) => width == same,
+            (Layout::Lists(_), Layout::Lists(_)) | (Layout::ListViews(_), Layout::ListViews(_)) => {
+                true
+            }
+            (one, other) => one == other,
+        }
+    }
+
     /// Whether the first buffer says which items are valid.
     pub fn has_validity(self) -> bool {
         !matches!(self, Layout::Union { .. } | Layout::Runs | Layout::Nulls)
@@ -169,6 +180,11 @@ impl Layout {
 /// Whether the values of a format are whole numbers, as the indices of a dictionary are.
 pub(super) fn is_index(format: &str) -> bool {
     matches!(format, "c" | "C" | "s" | "S" | "i" | "I" | "l" | "L")
+}
+
+/// Whether the values of a format are texts, whose bytes are UTF-8.
+pub(super) fn is_text(format: &str) -> bool {
+    matches!(format, "u" | "U" | "vu")
 }
 
 /// Whether the values of a format say where runs end.

@@ -158,8 +158,11 @@ fn texts_of_a_dictionary_are_those_of_its_items() {
         said(&malformed(0b001)),
         "column \"d.dictionary\": format \"C\" isn't that of texts"
     );
+    let lost = Export::values(vec![0u8, 4, 9], None).named("word");
+    // SAFETY: this crate reads it alone, and tests the indices.
+    let lost = unsafe { lost.with_dictionary_unchecked(items()).unwrap() };
     assert_eq!(
-        said(&words(vec![0u8, 4, 9], [true; 3].into(), items())),
+        said(&lost.into_array()),
         "column \"word\": index 4 at position 1 names none of 4 values"
     );
     let unnamed = Export::values([0u8], None).with_dictionary(Export::values([1u8], None));

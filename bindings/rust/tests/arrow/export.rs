@@ -115,7 +115,7 @@ fn goes_out_and_in<T: Primitive + PartialEq + Debug>(values: Vec<T>, format: &st
             .with_format(other)
             .unwrap_err()
             .to_string(),
-        format!("format {other:?} isn't that of values as wide")
+        format!("values of format \"i\" aren't those of {other:?}")
     );
 }
 
@@ -207,10 +207,11 @@ fn what_is_kept_is_dropped_once() {
     assert_eq!(count.get(), 4);
     thread::spawn(move || drop(a)).join().unwrap();
     assert_eq!(count.get(), 6);
+    let items = |name| Export::values(Owner(vec![0; 4], count.clone()), None).named(name);
     let refused = column("a")
-        .with_dictionary(column("b"))
+        .with_dictionary(items("b"))
         .unwrap()
-        .with_dictionary(column("c"));
+        .with_dictionary(items("c"));
     assert!(refused.is_err());
     assert_eq!(count.get(), 9);
     drop(column("a").with_format("g"));

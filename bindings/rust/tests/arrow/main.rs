@@ -1,6 +1,7 @@
 //! Arrays and streams of the Arrow C interfaces: made by hand, beside plain loops over single bits.
 mod dictionary;
 mod export;
+mod formats;
 mod import;
 mod malformed;
 mod nested;

@@ -280,7 +280,7 @@ fn difference(batch: Export, stream: Field) -> String {
 #[test]
 fn exported_streams_name_the_column_of_another_type() {
     let field = |name, format| Field::new(name, format).unwrap();
-    let values = || Export::values([1i8], None).named("a");
+    let values = || Export::values([0i8], None).named("a");
     let coded = || values().with_dictionary(Export::texts(["x"], None));
     for (batch, stream, wanted) in [
         (

@@ -7,7 +7,7 @@ use crate::arrow::error::ArrowError;
 use crate::arrow::export::Export;
 use crate::arrow::layout::{Kind, Layout};
 use crate::arrow::primitive::Primitive;
-use crate::{BitIndex, Bitmap, Value, values};
+use crate::{BitIndex, Bitmap, TakeValuesError, Value, values};
 
 /// Values and their validity.
 type Column<T> = (Vec<T>, Option<Bitmap>);
@@ -92,6 +92,42 @@ impl Array {
         let items = self.items_of_indices()?;
         let texts = by_index!(self.texts_taken::<_>(&items))?;
         Ok(texts.named(&self.node.field.name))
+    }
+
+    /// Whether each index that is valid names one of so many items.
+    pub(in crate::arrow) fn name_items(&self, items: usize) -> Result<(), ArrowError> {
+        match self.first_lost(items)? {
+            None => Ok(()),
+            Some((position, index)) => Err(self.not_taken(TakeValuesError::Index {
+                position,
+                index,
+                values: items,
+            })),
+        }
+    }
+
+    /// The first index that is valid and isn't one below so many, behind its row.
+    pub(in crate::arrow) fn first_lost(
+        &self,
+        items: usize,
+    ) -> Result<Option<(usize, i128)>, ArrowError> {
+        by_index!(self.first_not_below::<_>(items))
+    }
+
+    fn first_not_below<I: Primitive + BitIndex>(
+        &self,
+        items: usize,
+    ) -> Result<Option<(usize, i128)>, ArrowError> {
+        let indices = self.unaligned::<I>()?;
+        let lost = |row| {
+            let index = indices.get(row)?;
+            let is_lost = index.place().is_none_or(|place| place >= items);
+            is_lost.then(|| (row, index.number()))
+        };
+        Ok(match self.validity()?.bits() {
+            Some(valid) => valid.set_indices().find_map(lost),
+            None => (0..self.len).find_map(lost),
+        })
     }
 
     fn items_of_indices(&self) -> Result<Array, ArrowError> {

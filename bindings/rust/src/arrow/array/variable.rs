@@ -3,6 +3,7 @@
 use alloc::vec::Vec;
 use core::ffi::c_void;
 use core::slice;
+use core::str::from_utf8;
 
 use super::Array;
 use crate::arrow::error::{ArrowError, Fault};
@@ -101,6 +102,12 @@ impl Array {
         let valid = self.validity()?;
         let texts = self.buffers().and_then(|it| Texts::views(views, it, valid));
         texts.map_err(|fault| self.malformed(fault))
+    }
+
+    /// The first row that is valid and no UTF-8, of texts or binary values.
+    pub(in crate::arrow) fn first_not_utf8(&self) -> Result<Option<usize>, ArrowError> {
+        let is_wrong = |row: Option<&[u8]>| row.is_some_and(|it| from_utf8(it).is_err());
+        Ok(self.texts()?.iter().position(is_wrong))
     }
 
     /// The views of an array of these; None of another type. Those of null rows are any.
