@@ -127,6 +127,20 @@ impl Array {
     /// Which rows are valid. One that is may still be of a struct's row that isn't: `and` of both
     /// says which rows are there.
     ///
+    /// An array that says that it has no null (`null_count` 0) is believed: its bits aren't looked
+    /// at, and go out with the 0 again. A producer that says so wrongly makes its nulls vanish.
+    ///
+    /// ```
+    /// use vortex_bits::arrow::{Array, Export};
+    ///
+    /// let (mut array, mut schema) = Export::values([1i8, 0], Some([true, false].into())).into_raw();
+    /// array.null_count = 0;
+    /// // SAFETY: they are as the interface asks for, but for the number.
+    /// let wrong = unsafe { Array::from_raw(&raw mut array, &raw mut schema)? };
+    /// assert!(wrong.validity()?.bits().is_none());
+    /// # Ok::<(), vortex_bits::arrow::ArrowError>(())
+    /// ```
+    ///
     /// # Errors
     ///
     /// Of nulls alone, of unions, and of runs, whose arrays have no such bits.
@@ -284,11 +298,22 @@ impl Array {
         if self.node.field.layout != Layout::Struct {
             return Err(self.is_not("that of a struct"));
         }
-        Ok(self.node.children.iter().map(|child| Array {
-            node: Arc::clone(child),
-            start: child.offset + self.start,
-            len: self.len,
-        }))
+        Ok(self.parts())
+    }
+
+    /// The columns of a struct; of other types the children, whole.
+    pub(super) fn parts(&self) -> impl ExactSizeIterator<Item = Array> + '_ {
+        let is_struct = self.node.field.layout == Layout::Struct;
+        self.node.children.iter().map(move |child| {
+            if !is_struct {
+                return Array::whole(child);
+            }
+            Array {
+                node: Arc::clone(child),
+                start: child.offset + self.start,
+                len: self.len,
+            }
+        })
     }
 
     /// The items that the values are indices of; None where they aren't indices. The index of a

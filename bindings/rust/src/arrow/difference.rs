@@ -1,67 +1,124 @@
-//! Where two types are different.
+//! Where rows aren't those of a type.
 
 use alloc::format;
-use alloc::string::{String, ToString};
+use alloc::string::String;
 
-use super::error::Of;
-use super::field::Field;
+use super::array::Array;
+use super::error::{ArrowError, Of};
+use super::export::Export;
+use super::field::{Field, NULLABLE};
+use super::layout::Layout;
 
-/// Where the type of a batch is another than that of its stream first, for people: the columns from
-/// the outermost one on, by the stream's names, and what both have there.
-pub(super) fn difference(batch: &Field, stream: &Field) -> String {
-    match found(batch, stream) {
-        Some((column, what)) => format!("{}{what}", Of(&column)),
-        None => "the batch has the stream's type".to_string(),
+/// What two types are called in what is said of them.
+pub(super) struct Between {
+    pub rows: &'static str,
+    pub wanted: &'static str,
+    /// Whether names count too.
+    pub has_names: bool,
+}
+
+/// Why rows aren't handed on as those of a type, for people: the columns from the outermost one on,
+/// by the wanted names, and what both have there. None where they are.
+///
+/// Metadata may differ. Rows of columns without nulls are those of one that may have some; the
+/// other way round that is so where no row is null. Any other flag of the wanted type is one of the
+/// rows' too.
+pub(super) fn difference(
+    rows: &Export,
+    wanted: &Field,
+    between: &Between,
+) -> Result<Option<String>, ArrowError> {
+    let mut found = between.types(rows.field(), wanted);
+    if found.is_none() && loses_nulls(rows.field(), wanted) {
+        found = rows.look(|rows| Ok(between.nulls(rows, wanted)))?;
+    }
+    Ok(found.map(|(column, what)| format!("{}{what}", Of(&column))))
+}
+
+/// Whether a column may have nulls where the wanted one has none.
+fn loses_nulls(rows: &Field, wanted: &Field) -> bool {
+    let mut below = rows.fields().chain(rows.dictionary());
+    let mut wanted_below = wanted.fields().chain(wanted.dictionary());
+    (rows.is_nullable() && !wanted.is_nullable())
+        || below.any(|rows| {
+            wanted_below
+                .next()
+                .is_some_and(|wanted| loses_nulls(rows, wanted))
+        })
+}
+
+impl Between {
+    /// The column, as it is named, and what is different of its type; None where nothing is.
+    fn types(&self, rows: &Field, wanted: &Field) -> Option<(String, String)> {
+        if let Some(what) = self.own(rows, wanted) {
+            return Some((String::new(), what));
+        }
+        let mut columns = rows.fields().zip(wanted.fields()).enumerate();
+        let in_columns = columns.find_map(|(place, (of_rows, of_wanted))| {
+            let (below, what) = self.types(of_rows, of_wanted)?;
+            Some((under(&wanted.name_of(place), &below), what))
+        });
+        in_columns.or_else(|| {
+            let (below, what) = self.types(rows.dictionary()?, wanted.dictionary()?)?;
+            Some((under("dictionary", &below), what))
+        })
+    }
+
+    /// What is different of the two themselves.
+    fn own(&self, rows: &Field, wanted: &Field) -> Option<String> {
+        let (one, other) = (self.rows, self.wanted);
+        if rows.format != wanted.format {
+            let [rows, wanted] = [&rows.format, &wanted.format];
+            return Some(format!("{one} has {rows:?}, {other} {wanted:?}"));
+        }
+        if self.has_names && rows.name != wanted.name {
+            let [rows, wanted] = [&rows.name, &wanted.name];
+            return Some(format!("{one} has the name {rows:?}, {other} {wanted:?}"));
+        }
+        let [columns, wanted_columns] = [rows, wanted].map(|it| it.children.len());
+        if columns != wanted_columns {
+            return Some(format!(
+                "{one} has the number of columns {columns}, {other} {wanted_columns}"
+            ));
+        }
+        if wanted.flags & !NULLABLE & !rows.flags != 0 {
+            let [rows, wanted] = [rows.flags, wanted.flags];
+            return Some(format!("{one} has the flags {rows}, {other} {wanted}"));
+        }
+        match (rows.dictionary(), wanted.dictionary()) {
+            (Some(_), None) => Some(format!("{one} has a dictionary, {other} none")),
+            (None, Some(_)) => Some(format!("{one} has no dictionary, {other} one")),
+            _ => None,
+        }
+    }
+
+    /// The first column that has nulls where the wanted one has none.
+    fn nulls(&self, rows: &Array, wanted: &Field) -> Option<(String, String)> {
+        let loses_nulls = rows.field().is_nullable() && !wanted.is_nullable();
+        let nulls = if loses_nulls { null_count(rows) } else { 0 };
+        if nulls > 0 {
+            let (one, other) = (self.rows, self.wanted);
+            let what = format!("{one} has the number of nulls {nulls}, {other} none");
+            return Some((String::new(), what));
+        }
+        let mut columns = rows.parts().zip(wanted.fields()).enumerate();
+        let in_columns = columns.find_map(|(place, (of_rows, of_wanted))| {
+            let (below, what) = self.nulls(&of_rows, of_wanted)?;
+            Some((under(&wanted.name_of(place), &below), what))
+        });
+        in_columns.or_else(|| {
+            let (below, what) = self.nulls(&rows.dictionary()?, wanted.dictionary()?)?;
+            Some((under("dictionary", &below), what))
+        })
     }
 }
 
-/// The column, as it is named, and what is different of it; None where nothing is.
-fn found(batch: &Field, stream: &Field) -> Option<(String, String)> {
-    if let Some(what) = own(batch, stream) {
-        return Some((String::new(), what));
+/// How many rows are null; those of unions and runs are so in their children alone.
+fn null_count(rows: &Array) -> usize {
+    match rows.field().layout {
+        Layout::Nulls => rows.len(),
+        _ => rows.null_count().unwrap_or(0),
     }
-    let mut columns = batch.fields().zip(stream.fields()).enumerate();
-    let in_columns = columns.find_map(|(place, (of_batch, of_stream))| {
-        let (below, what) = found(of_batch, of_stream)?;
-        Some((under(&stream.name_of(place), &below), what))
-    });
-    in_columns.or_else(|| {
-        let (below, what) = found(batch.dictionary()?, stream.dictionary()?)?;
-        Some((under("dictionary", &below), what))
-    })
-}
-
-/// What is different of the two themselves.
-fn own(batch: &Field, stream: &Field) -> Option<String> {
-    if batch.format != stream.format {
-        let [batch, stream] = [&batch.format, &stream.format];
-        return Some(format!("the batch has {batch:?}, the stream {stream:?}"));
-    }
-    if batch.name != stream.name {
-        let [batch, stream] = [&batch.name, &stream.name];
-        return Some(format!(
-            "the batch has the name {batch:?}, the stream {stream:?}"
-        ));
-    }
-    let [columns, wanted] = [batch, stream].map(|it| it.children.len());
-    if columns != wanted {
-        return Some(format!(
-            "the batch has the number of columns {columns}, the stream {wanted}"
-        ));
-    }
-    if batch.flags != stream.flags {
-        let [batch, stream] = [batch.flags, stream.flags];
-        return Some(format!(
-            "the batch has the flags {batch}, the stream {stream}"
-        ));
-    }
-    let said = match (batch.dictionary(), stream.dictionary()) {
-        (Some(_), None) => "the batch has a dictionary, the stream none",
-        (None, Some(_)) => "the batch has no dictionary, the stream one",
-        _ if batch.metadata != stream.metadata => "the batch has other metadata than the stream",
-        _ => return None,
-    };
-    Some(said.to_string())
 }
 
 /// The name of a column below another one.

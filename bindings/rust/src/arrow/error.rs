@@ -4,7 +4,7 @@ use alloc::string::{String, ToString};
 use core::error::Error;
 use core::fmt;
 
-use crate::TakeValuesError;
+use crate::{BadIndex, OutOfBounds, TakeError, TakeValuesError};
 
 /// The errno of what isn't as it is asked for.
 pub(super) const EINVAL: i32 = 22;
@@ -53,6 +53,22 @@ impl From<ArrowError> for StreamError {
     }
 }
 
+macro_rules! refusals {
+    ($($error:ty)*) => {$(
+        /// The text with errno 22, EINVAL.
+        impl From<$error> for StreamError {
+            fn from(error: $error) -> StreamError {
+                StreamError {
+                    errno: EINVAL,
+                    text: error.to_string(),
+                }
+            }
+        }
+    )*};
+}
+
+refusals!(TakeValuesError TakeError OutOfBounds BadIndex);
+
 /// Why an array, its values or a stream aren't read.
 #[derive(Clone, Debug, PartialEq, Eq)]
 #[non_exhaustive]
@@ -91,6 +107,13 @@ pub enum ArrowError {
         wanted: String,
         /// The first row whose value is none of it, where the values were looked at.
         row: Option<usize>,
+    },
+    /// The rows aren't those of a field.
+    Field {
+        /// The name of the column.
+        column: String,
+        /// What is different, and of which child.
+        difference: String,
     },
     /// The buffer of the values doesn't begin at a multiple of their alignment:
     /// [`unaligned`](super::Array::unaligned) reads them.
@@ -261,6 +284,7 @@ impl fmt::Display for ArrowError {
                 )?;
                 row.map_or(Ok(()), |row| write!(f, ": row {row} isn't"))
             }
+            ArrowError::Field { column, difference } => write!(f, "{}{difference}", Of(column)),
             ArrowError::Unaligned { column, alignment } => {
                 let column = Of(column);
                 write!(f, "{column}values don't begin at a multiple of {alignment}")
@@ -299,6 +323,7 @@ impl ArrowError {
             ArrowError::Malformed { column, .. }
             | ArrowError::Type { column, .. }
             | ArrowError::Format { column, .. }
+            | ArrowError::Field { column, .. }
             | ArrowError::Unaligned { column, .. }
             | ArrowError::Take { column, .. }
             | ArrowError::LongTexts { column, .. } => column,

@@ -14,6 +14,7 @@ use core::fmt;
 use core::ptr;
 
 use super::array::Array;
+use super::difference::{Between, difference};
 use super::error::ArrowError;
 use super::ffi::{ArrowArray, ArrowSchema, Below, Owned};
 use super::field::Field;
@@ -22,6 +23,13 @@ use super::node::Node;
 use super::primitive::Primitive;
 use crate::Bitmap;
 use crate::error::expect;
+
+/// What a field is compared with, and is called.
+const OF_ARRAY: Between = Between {
+    rows: "the array",
+    wanted: "the field",
+    has_names: false,
+};
 
 /// An array of the Arrow C data interface over values or bits of this program, with its type, to be
 /// handed on to any consumer. No value is copied: the array keeps what has them, until it is
@@ -51,7 +59,8 @@ pub struct Export {
 
 impl Export {
     /// Values, and which of them are valid; all are where that is None. The values are those of a
-    /// [`Vec`], or of another owner, as an `Arc<[T]>`. The bits of the validity are copied where
+    /// [`Vec`], or of another owner, as an `Arc<[T]>`, which is dropped when the array is released:
+    /// one that panics then aborts the program, since C has no panics. The bits of the validity are copied where
     /// the first one is within a byte, and left out where all are true.
     ///
     /// # Panics
@@ -168,6 +177,43 @@ impl Export {
         self
     }
 
+    /// Returns the same rows with the name, the type, the flags and the metadata of a field, as of
+    /// the column that they were made of. The type is that of [`with_format`](Export::with_format).
+    ///
+    /// ```
+    /// use vortex_bits::arrow::{Export, Field};
+    ///
+    /// let day = Field::new("day", "tdD")?.nullable(false).with_metadata([("unit", "days")]);
+    /// let days = Export::values(vec![19_000, 19_002], None).with_field(&day)?;
+    /// assert_eq!(days.field(), &day);
+    ///
+    /// let gap = Export::values(vec![19_000, 0], Some([true, false].into())).with_field(&day);
+    /// assert_eq!(
+    ///     gap.unwrap_err().to_string(),
+    ///     "column \"day\": the array has the number of nulls 1, the field none"
+    /// );
+    /// # Ok::<(), vortex_bits::arrow::ArrowError>(())
+    /// ```
+    ///
+    /// # Errors
+    ///
+    /// Those of `with_format`, and [`ArrowError::Field`] if a child or the dictionary has another
+    /// type, if a row is null and the field says that none is, or if the field has another flag that
+    /// the rows don't have.
+    pub fn with_field(self, field: &Field) -> Result<Export, ArrowError> {
+        let typed = self.with_format(field.format())?;
+        match difference(&typed, field, &OF_ARRAY)? {
+            Some(difference) => Err(ArrowError::Field {
+                column: field.name.clone(),
+                difference,
+            }),
+            None => Ok(Export {
+                field: field.clone(),
+                ..typed
+            }),
+        }
+    }
+
     /// The name and the type.
     #[must_use]
     pub fn field(&self) -> &Field {
@@ -221,21 +267,49 @@ impl Export {
     }
 
     /// What a reader of the array answers, which keeps no part of it.
-    fn look<T>(&self, read: impl FnOnce(&Array) -> Result<T, ArrowError>) -> Result<T, ArrowError> {
+    pub(super) fn look<T>(
+        &self,
+        read: impl FnOnce(&Array) -> Result<T, ArrowError>,
+    ) -> Result<T, ArrowError> {
         let (field, no_owner) = (Arc::new(self.field.clone()), Arc::new(Owned::empty()));
         // SAFETY: the array is as the interface asks for, and stays longer than the node.
         let node = unsafe { Node::read(self.array.get(), &field, &no_owner)? };
         read(&Array::whole(&Arc::new(node)))
     }
 
-    /// The array as this crate reads those of others.
+    /// Returns the array as this crate reads those of others.
+    ///
+    /// # Panics
+    ///
+    /// Where [`try_into_array`](Export::try_into_array) returns an error.
     #[must_use]
+    #[track_caller]
     pub fn into_array(self) -> Array {
+        expect(self.try_into_array())
+    }
+
+    /// Returns the array as this crate reads those of others.
+    ///
+    /// ```
+    /// use vortex_bits::arrow::Export;
+    ///
+    /// let nested = |levels| (1..levels).fold(Export::values([1u8], None), |it, _| Export::batch([it]));
+    /// assert_eq!(nested(64).try_into_array()?.len(), 1);
+    /// assert_eq!(
+    ///     nested(65).try_into_array().unwrap_err().to_string(),
+    ///     "it has 64 levels of children or more"
+    /// );
+    /// # Ok::<(), vortex_bits::arrow::ArrowError>(())
+    /// ```
+    ///
+    /// # Errors
+    ///
+    /// Returns an error if there are more than 64 levels of children and dictionaries, which
+    /// [`into_raw`](Export::into_raw) hands on and this crate doesn't read.
+    pub fn try_into_array(self) -> Result<Array, ArrowError> {
+        self.field.is_shallow()?;
         // SAFETY: the array is as the interface asks for, and this is its only owner.
-        match unsafe { Array::of(self.array, &Arc::new(self.field)) } {
-            Ok(array) => array,
-            Err(wrong) => unreachable!("an export: {wrong}"),
-        }
+        unsafe { Array::of(self.array, &Arc::new(self.field)) }
     }
 }
 

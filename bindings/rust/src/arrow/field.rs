@@ -1,5 +1,7 @@
 //! What the arrays of a column have in common.
 
+mod metadata;
+
 use alloc::borrow::ToOwned;
 use alloc::string::{String, ToString};
 use alloc::sync::Arc;
@@ -13,7 +15,8 @@ use super::layout::{self, Layout, Of};
 
 /// How many levels of children and dictionaries are read.
 pub(super) const DEPTH: usize = 64;
-const NULLABLE: i64 = 2;
+/// The flag of columns that may have nulls.
+pub(super) const NULLABLE: i64 = 2;
 /// The flag of maps whose keys are sorted.
 pub(super) const SORTED: i64 = 4;
 
@@ -42,7 +45,7 @@ pub struct Field {
 impl Field {
     /// A column of values, of truth values or of texts, whose type is written as the interface
     /// does: `i` for `i32`, `tdD` for days, `d:19,2` for decimals, `vu` for views of texts. It may
-    /// have nulls.
+    /// have nulls: [`nullable`](Field::nullable) says otherwise.
     ///
     /// # Errors
     ///
@@ -88,9 +91,19 @@ impl Field {
         Ok(self)
     }
 
-    /// The same where rows may be null.
-    pub(super) fn nullable(mut self) -> Field {
-        self.flags |= NULLABLE;
+    /// Returns the same as a column that may have nulls, or that has none.
+    ///
+    /// ```
+    /// use vortex_bits::arrow::Field;
+    ///
+    /// let number = Field::new("number", "l")?;
+    /// assert!(number.is_nullable() && !number.nullable(false).is_nullable());
+    /// # Ok::<(), vortex_bits::arrow::ArrowError>(())
+    /// ```
+    #[must_use]
+    pub fn nullable(mut self, may_have_nulls: bool) -> Field {
+        self.flags &= !NULLABLE;
+        self.flags |= if may_have_nulls { NULLABLE } else { 0 };
         self
     }
 
@@ -134,15 +147,43 @@ impl Field {
         self.flags & NULLABLE != 0
     }
 
-    /// The keys of the metadata with their values, as of extension types.
-    pub fn metadata(&self) -> impl Iterator<Item = (&[u8], &[u8])> {
-        let (_, mut rest) = self.metadata.split_at(self.metadata.len().min(INT));
-        core::iter::from_fn(move || Some((text_of(&mut rest)?, text_of(&mut rest)?)))
-    }
-
     /// Those of the children, in their order.
     pub fn fields(&self) -> impl ExactSizeIterator<Item = &Field> {
         self.children.iter().map(AsRef::as_ref)
+    }
+
+    /// Returns the child of a name, the first one of several: of the type of a stream that of a
+    /// column, for an operator that hands it on.
+    ///
+    /// ```
+    /// use vortex_bits::arrow::Field;
+    ///
+    /// let rows = Field::batch([Field::new("a", "u")?, Field::new("b", "l")?]);
+    /// assert_eq!(rows.column("b")?.format(), "l");
+    /// assert_eq!(rows.column("c").unwrap_err().to_string(), "no column \"c\"");
+    /// # Ok::<(), vortex_bits::arrow::ArrowError>(())
+    /// ```
+    ///
+    /// # Errors
+    ///
+    /// Returns [`ArrowError::NoColumn`] if no child has the name.
+    pub fn column(&self, name: &str) -> Result<&Field, ArrowError> {
+        let found = self.fields().find(|field| field.name == name);
+        found.ok_or_else(|| ArrowError::NoColumn { name: name.into() })
+    }
+
+    /// How many levels there are: one more than those of the children and the dictionary.
+    fn levels(&self) -> usize {
+        let below = self.fields().chain(self.dictionary());
+        1 + below.map(Field::levels).max().unwrap_or(0)
+    }
+
+    /// Whether arrays of the type are read: they have no more levels than that.
+    pub(super) fn is_shallow(&self) -> Result<(), Fault> {
+        if self.levels() > DEPTH {
+            return Err(Fault::Deep(DEPTH));
+        }
+        Ok(())
     }
 
     /// That of the dictionary.
@@ -178,7 +219,7 @@ impl Field {
         // SAFETY: they are null or texts that end with 0.
         let (format, name) = unsafe { (text(schema.format, "format")?, name(schema.name)?) };
         // SAFETY: it is null or laid out as the interface asks for.
-        let metadata = unsafe { metadata(schema.metadata.cast())? };
+        let metadata = unsafe { metadata::read(schema.metadata.cast())? };
         let layout = Layout::of(&format).ok_or_else(|| Fault::Format(format.clone()))?;
         // SAFETY: as of this function.
         let (children, dictionary) =
@@ -286,41 +327,4 @@ unsafe fn name(pointer: *const c_char) -> Result<String, Fault> {
     }
     // SAFETY: as of this function.
     unsafe { text(pointer, "name") }
-}
-
-/// The bytes of a number in metadata.
-const INT: usize = size_of::<i32>();
-
-/// A text of metadata behind its length, which is cut off the rest; None where there is no more.
-fn text_of<'a>(rest: &mut &'a [u8]) -> Option<&'a [u8]> {
-    let (len, behind) = rest.split_first_chunk::<INT>()?;
-    let len = usize::try_from(i32::from_ne_bytes(*len)).ok()?;
-    let (text, behind) = behind.split_at_checked(len)?;
-    *rest = behind;
-    Some(text)
-}
-
-/// The bytes of metadata.
-///
-/// # Safety
-///
-/// The pointer is null, or to a number of pairs, and so many keys and values, each behind its
-/// length.
-unsafe fn metadata(pointer: *const u8) -> Result<Vec<u8>, Fault> {
-    if pointer.is_null() {
-        return Ok(Vec::new());
-    }
-    // SAFETY: as of this function.
-    let length = |at: usize| unsafe {
-        let number = pointer.add(at).cast::<i32>().read_unaligned();
-        count("a length in metadata", number.into(), None)
-    };
-    let mut size = INT;
-    for _ in 0..length(0)? {
-        for _ in 0..2 {
-            size += INT + length(size)?;
-        }
-    }
-    // SAFETY: so many bytes were gone over.
-    Ok(unsafe { core::slice::from_raw_parts(pointer, size) }.to_vec())
 }

@@ -10,14 +10,14 @@ use core::iter::FusedIterator;
 use core::ptr;
 
 use super::array::Array;
-use super::difference::difference;
+use super::difference::{Between, difference};
 use super::error::{ArrowError, EINVAL, Fault, StreamError};
 use super::export::Export;
 use super::ffi::{ArrowArray, ArrowArrayStream, ArrowSchema, Owned};
 use super::field::Field;
 use super::schema::c_string;
 
-/// The errno where a producer says none.
+/// The errno where a producer says none, or panics.
 const EIO: i32 = 5;
 
 /// The arrays of a stream of the Arrow C stream interface, one after the other: of most producers
@@ -166,10 +166,17 @@ pub struct ExportStream {
 }
 
 impl ExportStream {
-    /// A stream of the batches, which are made as they are asked for, each of this type: another
-    /// one's consumer sees EINVAL, and where its type is another first. What reads arrays of others
-    /// may have a `?` in it: an [`ArrowError`] becomes a [`StreamError`]. The batches of an iterator that panics abort the program, since
-    /// C has no panics.
+    /// Returns a stream of the batches, which are made when the consumer asks for them.
+    ///
+    /// Each batch has the names and the types of `field`. It may say of a column that it has no
+    /// nulls where `field` says that it may have some, and the other way round if no row is null;
+    /// its metadata may be any. The consumer of another batch sees EINVAL, and in which column it
+    /// differs first. What reads arrays of others may have a `?` in it: an [`ArrowError`] becomes a
+    /// [`StreamError`].
+    ///
+    /// If the iterator panics, the consumer sees EIO with the text of the panic, then and in each
+    /// later call. Without the feature `std`, or with `panic = "abort"`, the program aborts; so it
+    /// does if the iterator panics when it is dropped with the stream.
     #[must_use]
     pub fn new<I>(field: Field, batches: I) -> ExportStream
     where
@@ -199,11 +206,12 @@ impl ExportStream {
         self.raw.into_raw()
     }
 
-    /// The stream as this crate reads those of others.
+    /// Returns the stream as this crate reads those of others.
     ///
     /// # Errors
     ///
-    /// As of [`Stream::from_raw`]; there is no export that it refuses.
+    /// Returns an error if the type has more than 64 levels of children and dictionaries, as
+    /// [`Export::try_into_array`] does.
     pub fn into_stream(mut self) -> Result<Stream, ArrowError> {
         // SAFETY: it is as the interface asks for, and this is its only owner.
         unsafe { Stream::from_raw(self.raw.as_mut_ptr()) }
@@ -235,16 +243,67 @@ impl Producer {
         unsafe { &mut *(*stream).private_data.cast::<Producer>() }
     }
 
+    /// The next batch; of an iterator that panics the error of that, from then on.
     fn next(&mut self) -> Result<Owned<ArrowArray>, StreamError> {
-        match self.batches.next().transpose()? {
-            None => Ok(Owned::empty()),
-            Some(batch) if *batch.field() == self.field => Ok(batch.into_owned()),
-            Some(batch) => Err(StreamError {
+        let next = caught(|| self.next_batch());
+        next.unwrap_or_else(|error| {
+            let again = Box::new(core::iter::repeat(error.clone()).map(Err));
+            let broken = core::mem::replace(&mut self.batches, again);
+            // Its own state may be broken, so that this may panic too.
+            drop(caught(|| drop(broken)));
+            Err(error)
+        })
+    }
+
+    fn next_batch(&mut self) -> Result<Owned<ArrowArray>, StreamError> {
+        let Some(batch) = self.batches.next().transpose()? else {
+            return Ok(Owned::empty());
+        };
+        match difference(&batch, &self.field, &OF_BATCH)? {
+            None => Ok(batch.into_owned()),
+            Some(text) => Err(StreamError {
                 errno: EINVAL,
-                text: difference(batch.field(), &self.field),
+                text,
             }),
         }
     }
+}
+
+/// What the type of a stream is compared with, and is called.
+const OF_BATCH: Between = Between {
+    rows: "the batch",
+    wanted: "the stream",
+    has_names: true,
+};
+
+/// What is made, or the error of a panic, which no caller in C can see.
+#[cfg(feature = "std")]
+fn caught<T>(make: impl FnOnce() -> T) -> Result<T, StreamError> {
+    use std::panic::{AssertUnwindSafe, catch_unwind};
+
+    catch_unwind(AssertUnwindSafe(make)).map_err(|panic| {
+        let text = match panic.downcast::<String>() {
+            Ok(text) => *text,
+            Err(panic) => panic.downcast::<&str>().map_or_else(
+                |other| {
+                    // It may panic again when it is dropped.
+                    core::mem::forget(other);
+                    String::new()
+                },
+                |text| String::from(*text),
+            ),
+        };
+        StreamError {
+            errno: EIO,
+            text: alloc::format!("panicked: {text}"),
+        }
+    })
+}
+
+/// What is made: a panic aborts the program.
+#[cfg(not(feature = "std"))]
+fn caught<T>(make: impl FnOnce() -> T) -> Result<T, StreamError> {
+    Ok(make())
 }
 
 unsafe extern "C" fn get_schema(stream: *mut ArrowArrayStream, out: *mut ArrowSchema) -> c_int {

@@ -1,10 +1,13 @@
 //! Arrays and streams of the Arrow C interfaces: made by hand, beside plain loops over single bits.
 mod dictionary;
 mod export;
+mod flags;
 mod formats;
 mod import;
 mod malformed;
 mod nested;
+#[cfg(feature = "std")]
+mod panics;
 mod parts;
 mod plain;
 mod ranges;

@@ -326,19 +326,10 @@ fn exported_streams_name_the_column_of_another_type() {
     ] {
         assert_eq!(difference(batch, stream), wanted);
     }
-    let of = |flags, metadata: &'static [u8]| {
-        let mut schema = Schema::new("a", "C", &Count::default());
-        (schema.flags, schema.metadata) = (flags, metadata.as_ptr().cast());
-        let array = Array::values(1, None, &[1], &Count::default());
-        Export::from(raw::import(array, schema).unwrap())
-    };
+    let gap = Export::values([0i8, 1], Some([true, false].into())).named("a");
     assert_eq!(
-        difference(of(0, &[0; 4]), field("a", "C")),
-        "column \"a\": the batch has the flags 0, the stream 2"
-    );
-    assert_eq!(
-        difference(of(2, &[0; 4]), field("a", "C")),
-        "column \"a\": the batch has other metadata than the stream"
+        difference(gap, field("a", "c").nullable(false)),
+        "column \"a\": the batch has the number of nulls 1, the stream none"
     );
 }
 

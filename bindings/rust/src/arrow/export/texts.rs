@@ -220,7 +220,7 @@ impl Export {
 
     /// The same as a column that may have nulls.
     fn or_null(mut self) -> Export {
-        self.field = self.field.nullable();
+        self.field = self.field.nullable(true);
         self
     }
 }

@@ -1,0 +1,98 @@
+//! Keys and values beside a type.
+
+use alloc::vec::Vec;
+
+use super::{Field, count};
+use crate::arrow::error::Fault;
+
+/// The bytes of a number in metadata.
+const INT: usize = size_of::<i32>();
+
+/// Metadata.
+impl Field {
+    /// Returns the same with these keys and values in place of those that it has, as of extension
+    /// types.
+    ///
+    /// ```
+    /// use vortex_bits::arrow::Field;
+    ///
+    /// let shape = Field::new("shape", "z")?.with_metadata([("ARROW:extension:name", "ogc.wkb")]);
+    /// let pairs: Vec<_> = shape.metadata().collect();
+    /// assert_eq!(pairs, [(&b"ARROW:extension:name"[..], &b"ogc.wkb"[..])]);
+    /// assert_eq!(shape.with_metadata([("", ""); 0]), Field::new("shape", "z")?);
+    /// # Ok::<(), vortex_bits::arrow::ArrowError>(())
+    /// ```
+    ///
+    /// # Panics
+    ///
+    /// If there are 2^31 pairs or more, or a key or a value has 2^31 bytes or more.
+    #[must_use]
+    #[track_caller]
+    pub fn with_metadata<K: AsRef<[u8]>, V: AsRef<[u8]>>(
+        mut self,
+        pairs: impl IntoIterator<Item = (K, V)>,
+    ) -> Field {
+        let (mut number, mut laid) = (0, Vec::new());
+        for (key, value) in pairs {
+            number += 1;
+            for text in [key.as_ref(), value.as_ref()] {
+                laid.extend_from_slice(&int(text.len()));
+                laid.extend_from_slice(text);
+            }
+        }
+        self.metadata = match number {
+            0 => Vec::new(),
+            number => [&int(number)[..], &laid].concat(),
+        };
+        self
+    }
+
+    /// The keys of the metadata with their values, as of extension types.
+    pub fn metadata(&self) -> impl Iterator<Item = (&[u8], &[u8])> {
+        let (_, mut rest) = self.metadata.split_at(self.metadata.len().min(INT));
+        core::iter::from_fn(move || Some((text_of(&mut rest)?, text_of(&mut rest)?)))
+    }
+}
+
+/// A number as metadata has it.
+#[track_caller]
+fn int(number: usize) -> [u8; INT] {
+    let Ok(number) = i32::try_from(number) else {
+        panic!("metadata with a number of {number}");
+    };
+    number.to_ne_bytes()
+}
+
+/// A text of metadata behind its length, which is cut off the rest; None where there is no more.
+fn text_of<'a>(rest: &mut &'a [u8]) -> Option<&'a [u8]> {
+    let (len, behind) = rest.split_first_chunk::<INT>()?;
+    let len = usize::try_from(i32::from_ne_bytes(*len)).ok()?;
+    let (text, behind) = behind.split_at_checked(len)?;
+    *rest = behind;
+    Some(text)
+}
+
+/// The bytes of metadata.
+///
+/// # Safety
+///
+/// The pointer is null, or to a number of pairs, and so many keys and values, each behind its
+/// length.
+pub(super) unsafe fn read(pointer: *const u8) -> Result<Vec<u8>, Fault> {
+    if pointer.is_null() {
+        return Ok(Vec::new());
+    }
+    // SAFETY: as of this function.
+    let length = |at: usize| unsafe {
+        let number = pointer.add(at).cast::<i32>().read_unaligned();
+        count("a length in metadata", number.into(), None)
+    };
+    let mut size = INT;
+    for _ in 0..length(0)? {
+        for _ in 0..2 {
+            size += INT + length(size)?;
+        }
+    }
+    // SAFETY: so many bytes were gone over.
+    Ok(unsafe { core::slice::from_raw_parts(pointer, size) }.to_vec())
+}
