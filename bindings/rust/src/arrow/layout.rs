@@ -198,14 +198,22 @@ fn digits(text: &str) -> Option<usize> {
     text.parse().ok().filter(|_| is_number)
 }
 
-/// The bits of a decimal: 128 where they aren't said.
+/// The bits of a decimal: 128 where they aren't said. It has as many digits at most as its bits
+/// hold.
 fn decimal(parameters: &str) -> Option<usize> {
     let mut numbers = parameters.split(',');
-    let (precision, scale) = (numbers.next()?, numbers.next()?);
+    let (digits, scale) = (numbers.next()?, numbers.next()?);
     let bits = numbers.next().map_or(Some(128), |bits| bits.parse().ok())?;
-    let is_known = precision.parse::<u32>().is_ok() && scale.parse::<i32>().is_ok();
-    let has_such = matches!(bits, 32 | 64 | 128 | 256) && numbers.next().is_none();
-    (is_known && has_such).then_some(bits)
+    let most = match bits {
+        32 => 9,
+        64 => 18,
+        128 => 38,
+        256 => 76,
+        _ => return None,
+    };
+    let has_digits = digits.parse().is_ok_and(|it: u32| (1..=most).contains(&it));
+    let is_known = has_digits && scale.parse::<i32>().is_ok() && numbers.next().is_none();
+    is_known.then_some(bits)
 }
 
 /// How many ids of types there are: each from 0 to 127, and none twice.

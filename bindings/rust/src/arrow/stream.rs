@@ -281,23 +281,27 @@ const OF_BATCH: Between = Between {
 fn caught<T>(make: impl FnOnce() -> T) -> Result<T, StreamError> {
     use std::panic::{AssertUnwindSafe, catch_unwind};
 
-    catch_unwind(AssertUnwindSafe(make)).map_err(|panic| {
-        let text = match panic.downcast::<String>() {
-            Ok(text) => *text,
-            Err(panic) => panic.downcast::<&str>().map_or_else(
-                |other| {
-                    // It may panic again when it is dropped.
-                    core::mem::forget(other);
-                    String::new()
-                },
-                |text| String::from(*text),
-            ),
-        };
-        StreamError {
-            errno: EIO,
-            text: alloc::format!("panicked: {text}"),
-        }
+    catch_unwind(AssertUnwindSafe(make)).map_err(|panic| StreamError {
+        errno: EIO,
+        text: alloc::format!("panicked: {}", text_of(panic)),
     })
+}
+
+/// The text of a panic; empty where it has none.
+#[cfg(feature = "std")]
+fn text_of(panic: Box<dyn core::any::Any + Send>) -> String {
+    let other = match panic.downcast::<String>() {
+        Ok(text) => return *text,
+        Err(other) => other,
+    };
+    match other.downcast::<&str>() {
+        Ok(text) => String::from(*text),
+        Err(other) => {
+            // What it is may panic too when it is dropped.
+            drop(caught(|| drop(other)));
+            String::new()
+        }
+    }
 }
 
 /// What is made: a panic aborts the program.

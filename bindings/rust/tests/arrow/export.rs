@@ -11,17 +11,36 @@ use vortex_bits::{AlignedBytes, Bitmap, Bits};
 
 use crate::plain::{Random, bit};
 use crate::raw::{self, Count};
+use crate::strict::{self, Look};
 
-/// The two structs, as C sees them.
+/// The two structs, as C sees them, whose items are those of the type.
+#[track_caller]
 pub fn raw_of(export: Export) -> (raw::Array, raw::Schema) {
+    looked_at(export, Look::Items)
+}
+
+/// Those of an array that came with items that aren't of its type.
+#[track_caller]
+pub fn as_it_came(export: Export) -> (raw::Array, raw::Schema) {
+    looked_at(export, Look::Numbers)
+}
+
+#[track_caller]
+fn looked_at(export: Export, look: Look) -> (raw::Array, raw::Schema) {
     let (array, schema) = export.into_raw();
     // SAFETY: the types are laid out alike.
-    unsafe {
+    let both = unsafe {
         (
             transmute::<ArrowArray, raw::Array>(array),
             transmute::<ArrowSchema, raw::Schema>(schema),
         )
+    };
+    // SAFETY: they are as the interface asks for.
+    let looked = unsafe { strict::looked_at(&both.0, &both.1, look) };
+    if let Err(wrong) = looked {
+        panic!("{wrong}");
     }
+    both
 }
 
 fn release((mut array, mut schema): (raw::Array, raw::Schema)) {
@@ -344,19 +363,19 @@ fn what_came_in_goes_out_as_it_is() {
     let (array, schema) = raw::rows(&count);
     let (wanted, wanted_types) = (tree(&array), types(&schema));
     let array = raw::import(array, schema).unwrap();
-    let out = raw_of(Export::from(array.clone()));
+    let out = as_it_came(Export::from(array.clone()));
     assert_eq!((tree(&out.0), types(&out.1)), (wanted, wanted_types));
     release(out);
     // Rows of a slice, of which the nulls aren't counted, and a column of it.
     let part = Export::from(array.slice(2..5)).into_array();
-    let list = raw_of(Export::from(part.column("list").unwrap()));
+    let list = as_it_came(Export::from(part.column("list").unwrap()));
     assert_eq!(
         (list.0.length, list.0.offset, list.0.null_count),
         (3, 9, -1)
     );
     let number = part.column("number").unwrap();
     assert_eq!(number.values::<u32>(), Ok(&[0x0909_0909; 3][..]));
-    let slice = raw_of(Export::from(array.column("number").unwrap().slice(1..)));
+    let slice = as_it_came(Export::from(array.column("number").unwrap().slice(1..)));
     assert_eq!((slice.0.length, slice.0.null_count), (5, 0));
     release(slice);
     drop((array, part, number));
@@ -370,7 +389,7 @@ fn nulls_of_a_slice_are_said_where_they_are_known() {
     let nulls = |null_count, len| {
         let array = raw::Array::values(8, Some(&[0x0F]), &[7; 8], &Count::default());
         let array = raw::import_as(array.nulls(null_count), "C").unwrap();
-        let out = raw_of(Export::from(array.slice(..len)));
+        let out = as_it_came(Export::from(array.slice(..len)));
         let said = out.0.null_count;
         release(out);
         said
@@ -405,7 +424,7 @@ fn metadata_and_flags_are_kept() {
     };
     assert_eq!(got(&array), pairs);
     assert!(!array.field().is_nullable());
-    let out = raw_of(Export::from(array));
+    let out = as_it_came(Export::from(array));
     assert_eq!(out.1.flags, 4);
     let again = raw::import(out.0, out.1).unwrap();
     assert_eq!(got(&again), pairs);

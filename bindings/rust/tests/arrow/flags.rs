@@ -45,8 +45,8 @@ fn rows(format: &str, flags: i64, blob: Option<&[u8]>) -> Array {
         .collect();
     let numbers = raw::Array::values(3, None, &numbers, &count);
     let rows = raw::Array::of(3, vec![None], vec![names, numbers], None, &count);
-    let mut fields = ["name", "number"].map(|name| Schema::new(name, format, &count));
-    fields[1] = Schema::new("number", "l", &count);
+    let fields = [("name", format), ("number", "l")];
+    let mut fields = fields.map(|(name, format)| Schema::new(name, format, &count));
     for field in &mut fields {
         field.flags = flags;
         field.metadata = blob.map_or(std::ptr::null(), |blob| blob.as_ptr().cast());

@@ -1,9 +1,13 @@
 //! Arrays and streams of the Arrow C interfaces: made by hand, beside plain loops over single bits.
+mod checker;
 mod dictionary;
 mod export;
 mod flags;
 mod formats;
+mod honest;
+mod hostile;
 mod import;
+mod made;
 mod malformed;
 mod nested;
 #[cfg(feature = "std")]
@@ -15,4 +19,5 @@ mod raw;
 mod released;
 mod sizes;
 mod stream;
+mod strict;
 mod texts;

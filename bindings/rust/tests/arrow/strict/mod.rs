@@ -1,0 +1,49 @@
+//! A reader of the interface that takes nothing on trust, written from Arrow's documents alone: each
+//! number of a struct, each offset, index, size, type and text that the format makes a consumer
+//! follow is compared with what is there, and each byte that it may read is read.
+mod array;
+mod buffers;
+mod format;
+mod schema;
+mod stream;
+
+pub use format::parse;
+pub use stream::batches;
+
+use array::check;
+use schema::Tree;
+
+use crate::raw;
+
+/// How much of an array is looked at.
+#[derive(Clone, Copy, PartialEq)]
+pub enum Look {
+    /// The numbers of structs and which pointers are null, as of an array that is handed on as it
+    /// came. Flags may be any.
+    Numbers,
+    /// The items too.
+    Items,
+}
+
+/// What is wrong, and where: the children from the outermost one on.
+pub type Checked<T> = Result<T, String>;
+
+/// What is wrong of a child.
+pub fn under<T>(answer: Checked<T>, child: impl std::fmt::Display) -> Checked<T> {
+    answer.map_err(|wrong| format!("{child}: {wrong}"))
+}
+
+/// Whether something holds, else what doesn't.
+pub fn holds(is_so: bool, what: impl FnOnce() -> String) -> Checked<()> {
+    if is_so { Ok(()) } else { Err(what()) }
+}
+
+/// Whether an array is one of its type; how many arrays were looked at.
+///
+/// # Safety
+///
+/// The pointers are null or to what the structs say.
+pub unsafe fn looked_at(array: &raw::Array, schema: &raw::Schema, look: Look) -> Checked<usize> {
+    // SAFETY: as of this function.
+    unsafe { check(array, &Tree::read(schema, look)?, look) }
+}
