@@ -78,14 +78,13 @@ impl<W: Write, E: Fn(io::Error) -> Error> Writer<W, E> {
         }
     }
 
-    /// Writes a row of names.
+    /// Writes one row.
     ///
     /// # Errors
     ///
     /// If the output can't be written.
-    pub fn header(&mut self, names: &[String]) -> Result<(), Error> {
-        let names = names.iter().map(String::as_bytes);
-        write_row(&mut self.out, self.dialect, names).map_err(&self.error)
+    pub fn row<'a>(&mut self, fields: impl Iterator<Item = &'a [u8]>) -> Result<(), Error> {
+        write_row(&mut self.out, self.dialect, fields).map_err(&self.error)
     }
 
     /// Writes what is left to write.
@@ -100,9 +99,7 @@ impl<W: Write, E: Fn(io::Error) -> Error> Writer<W, E> {
 
 impl<W: Write, E: Fn(io::Error) -> Error> Output for Writer<W, E> {
     fn take(&mut self, batch: &Batch<'_>, kept: &Bitmap) -> Result<(), Error> {
-        for row in kept.set_indices() {
-            write_row(&mut self.out, self.dialect, batch.rows.row(row)).map_err(&self.error)?;
-        }
-        Ok(())
+        kept.set_indices()
+            .try_for_each(|row| self.row(batch.rows.row(row)))
     }
 }

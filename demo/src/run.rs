@@ -169,14 +169,28 @@ fn histogram_column(options: &Options, table: &Table) -> Result<Option<usize>, E
 
 /// Refuses to write over the CSV file while it is read.
 fn check_outputs(options: &Options) -> Result<(), Error> {
-    let file = fs::canonicalize(&options.file).ok();
+    let file = identity(&options.file);
     for path in [&options.out, &options.svg].into_iter().flatten() {
-        if file.is_some() && fs::canonicalize(path).ok() == file {
-            let wrong = format!("{}: the CSV file would be written over", path.display());
-            return Err(Error::Usage(wrong));
+        if file.is_some() && identity(path) == file {
+            let wrong = "this is the CSV file, which would be written over";
+            return Err(Error::file(path, io::Error::other(wrong)));
         }
     }
     Ok(())
+}
+
+/// What two paths to one file have in common; None if there is no file.
+#[cfg(unix)]
+fn identity(path: &Path) -> Option<(u64, u64)> {
+    use std::os::unix::fs::MetadataExt;
+
+    fs::metadata(path).ok().map(|file| (file.dev(), file.ino()))
+}
+
+/// What two paths to one file have in common, unless it has two names.
+#[cfg(not(unix))]
+fn identity(path: &Path) -> Option<std::path::PathBuf> {
+    fs::canonicalize(path).ok()
 }
 
 /// What a run knows once the file was read for the first time.
@@ -284,8 +298,8 @@ impl Run<'_> {
         error: E,
     ) -> Result<Writer<W, E>, Error> {
         let mut writer = Writer::new(out, self.table.format().dialect, error);
-        if self.table.format().has_header {
-            writer.header(self.table.names())?;
+        if let Some(header) = self.table.header() {
+            writer.row(header)?;
         }
         Ok(writer)
     }

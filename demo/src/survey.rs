@@ -246,6 +246,6 @@ pub(crate) fn wrong_field(
     kind: Kind,
 ) -> Error {
     let (column, field, wanted) = (table.column_of(column), shown(field, 40), kind.wanted());
-    let wrong = format!("{column}: \"{field}\" isn't {wanted}, which is wanted; see --type");
+    let wrong = format!("{column}: \"{field}\" is not {wanted}, the type of this column");
     Error::data(table.path(), line, wrong)
 }

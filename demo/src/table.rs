@@ -1,7 +1,7 @@
 //! A CSV file as a table: the names of its columns, and its rows by batches.
 
 use std::fs::{self, File};
-use std::io::BufReader;
+use std::io::{self, BufReader};
 use std::path::{Path, PathBuf};
 
 use crate::csv::{CsvError, Dialect, Reader};
@@ -47,6 +47,8 @@ pub struct Table {
     path: PathBuf,
     format: Format,
     names: Vec<String>,
+    /// The fields of the first row.
+    first: Vec<Vec<u8>>,
 }
 
 impl Table {
@@ -60,13 +62,14 @@ impl Table {
         let has_header = format.has_header;
         let file = fs::metadata(path).map_err(|error| Error::file(path, error))?;
         if !file.is_file() {
-            let wrong = "not a regular file, which is wanted since it is read twice".to_string();
-            return Err(Error::Usage(format!("{}: {wrong}", path.display())));
+            let wrong = "this is not a regular file, which is wanted since it is read twice";
+            return Err(Error::file(path, io::Error::other(wrong)));
         }
         let mut table = Table {
             path: path.to_path_buf(),
             format,
             names: Vec::new(),
+            first: Vec::new(),
         };
         let mut first = Rows::new(0);
         let mut reader = table.reader()?;
@@ -85,8 +88,9 @@ impl Table {
                 format!("the file is empty; {wanted} is wanted"),
             ));
         }
-        let names = (1..).zip(first.all_fields());
-        table.names = names
+        table.first = first.all_fields().map(<[u8]>::to_vec).collect();
+        table.names = (1..)
+            .zip(&table.first)
             .map(|(place, name)| match String::from_utf8_lossy(name) {
                 name if has_header && !name.is_empty() => name.into_owned(),
                 _ => format!("c{place}"),
@@ -111,6 +115,13 @@ impl Table {
     #[must_use]
     pub fn names(&self) -> &[String] {
         &self.names
+    }
+
+    /// Returns the fields of the header line as they are; None if the file has none.
+    #[must_use]
+    pub fn header(&self) -> Option<impl Iterator<Item = &[u8]>> {
+        let fields = self.first.iter().map(Vec::as_slice);
+        self.format.has_header.then_some(fields)
     }
 
     /// Returns the place of a column, as [`find`] does.

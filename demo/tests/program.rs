@@ -142,6 +142,14 @@ fn rows_are_copied_as_they_are() {
 }
 
 #[test]
+fn a_header_line_is_copied_as_it_is() {
+    let folder = Folder::new("names");
+    let file = folder.file("in.csv", b"a,,\xE4\n1,2,3\n");
+    let output = run(&file, &["--rows", "--where", "c2 = 2"]);
+    assert_eq!(output.stdout, b"a,,\xE4\n1,2,3\n");
+}
+
+#[test]
 fn files_without_a_header_line() {
     let folder = Folder::new("header");
     let file = folder.file("passwd", "root:x:0:\"\nbin:x:2:\n\nsync:x:4:a\"b");
@@ -248,12 +256,12 @@ const BAD_FILES: [(&str, &[&str], &str); 9] = [
     (
         "size,b\n1,\"x\ny\"\n12a,\n",
         &["--type", "size=whole"],
-        ":4: column \"size\": \"12a\" isn't a whole number of 64 bits, which is wanted; see --type",
+        ":4: column \"size\": \"12a\" is not a whole number of 64 bits, the type of this column",
     ),
     (
         "size\n1e999\n",
         &["--type", "size=float"],
-        ":2: column \"size\": \"1e999\" isn't a decimal number, which is wanted; see --type",
+        ":2: column \"size\": \"1e999\" is not a decimal number, the type of this column",
     ),
 ];
 
@@ -367,14 +375,15 @@ fn files_that_cannot_be_used() {
         format!("{}: No such file or directory (os error 2)", none.display())
     );
     let inside = folder.path("");
-    assert!(
-        error(&inside, &[]).contains("not a regular file, which is wanted since it is read twice")
-    );
+    assert!(error(&inside, &[]).contains(": this is not a regular file, which is wanted"));
     let file = folder.file("in.csv", "a\n1\n");
     let own = file.to_str().unwrap();
     for option in ["--out", "--svg"] {
-        assert!(error(&file, &[option, own]).contains("the CSV file would be written over"));
+        assert!(error(&file, &[option, own]).contains("this is the CSV file"));
     }
+    let link = folder.path("link.csv");
+    fs::hard_link(&file, &link).unwrap();
+    assert!(error(&file, &["--out", link.to_str().unwrap()]).contains("this is the CSV file"));
     assert_eq!(fs::read_to_string(&file).unwrap(), "a\n1\n");
     let out = folder.path("none/out.csv");
     assert!(error(&file, &["--out", out.to_str().unwrap()]).contains("out.csv: No such file"));
