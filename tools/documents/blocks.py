@@ -1,4 +1,5 @@
-"""Whether the code of documents stands in the sources: that of README and CALLING in the tests."""
+"""Whether the code of documents stands in the sources: that of README and CALLING in the tests and
+in the crates and programs that show how to use the library."""
 import re
 
 from documents.files import Document, Repository
@@ -78,4 +79,8 @@ class Blocks:
 
 def is_shown(path: str) -> bool:
     crate = path.split("/")[1]
-    return crate.endswith("_tests") or crate.startswith("use_") or path.endswith("tests.rt")
+    return (
+        crate.endswith("_tests")
+        or crate.startswith(("use_", "run_"))
+        or path.endswith("tests.rt")
+    )

@@ -37,16 +37,30 @@ class Readme(unittest.TestCase):
     @unittest.skipUnless(shutil.which("cargo"), "no cargo")
     def test_rust_runs_over_a_clone_as_it_is(self):
         code, lines = block("rs")
-        dependency = 'vortex_bits = { path = "bindings/rust" }'
+        dependency = 'vortex_bits = { path = "/path/to/clone/bindings/rust" }'
         self.assertIn(f"`{dependency}`", README)
+        dependency = dependency.replace("/path/to/clone", str(TOP))
         (self.folder / "src").mkdir()
         (self.folder / "src/main.rs").write_text(code)
-        (self.folder / "bindings").symlink_to(TOP / "bindings")
         package = '[package]\nname = "app"\nedition = "2024"\n[dependencies]\n'
         (self.folder / "Cargo.toml").write_text(f"{package}{dependency}\n")
         env = {**os.environ, "CARGO_TARGET_DIR": str(self.folder / "target")}
         command = ["cargo", "run", "--quiet", "--offline"]
         self.assertEqual(printed(command, cwd=self.folder, env=env), lines)
+
+    @unittest.skipUnless(shutil.which("cargo"), "no cargo")
+    def test_demo_draws_the_file_that_ships(self):
+        (command,) = re.findall(r"`(demo/query demo/\S+ --where .*?)`", README)
+        lines = printed(["sh", "-c", command], cwd=TOP)
+        self.assertRegex(lines[0], r"^demo/parcels\.csv: \d+ rows, \d+ columns; \d+ kept, ")
+        self.assertIn(f'where {re.findall("--where (.*)", command)[0].strip(chr(34))}', lines)
+
+    def test_rattle_is_the_program_of_run_readme(self):
+        (code,) = re.findall(r"^```rust\n(#!.*?)^```", README, re.MULTILINE | re.DOTALL)
+        self.assertEqual(code, (TOP / "crates/run_readme/src/main.rt").read_text())
+
+    def test_it_has_at_most_900_words(self):
+        self.assertLessEqual(len(README.split()), 900)
 
     @unittest.skipUnless(shutil.which("cc"), "no cc")
     @unittest.skipUnless(ARCHIVE.is_file(), f"no {ARCHIVE}: bindings/build makes it")
