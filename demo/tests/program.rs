@@ -83,6 +83,18 @@ fn the_nth_of_the_parcels() {
     );
 }
 
+/// The row is in the second batch of rows.
+#[test]
+fn the_nth_of_many_rows() {
+    let folder = Folder::new("nth");
+    let numbers: Vec<String> = (0..100_000).map(|row: u32| row.to_string()).collect();
+    let file = folder.file("n.csv", format!("n\n{}\n", numbers.join("\n")));
+    let row = printed(&file, &["--where", "n >= 50000", "--nth", "40000"]);
+    assert_eq!(row, "row 90,000, from line 90,001 on\n  n  89999\n");
+    let row = printed(&file, &["--where", "n >= 50000", "--nth", "1"]);
+    assert_eq!(row, "row 50,001, from line 50,002 on\n  n  50000\n");
+}
+
 #[test]
 fn a_report() {
     let report = printed(Path::new(PARCELS), &["--where", "not days <= 5"]);
