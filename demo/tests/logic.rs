@@ -4,6 +4,7 @@ mod support;
 
 use std::cmp::Ordering;
 
+use demo::draw::{Histogram, Strip};
 use demo::engine::{self, Batch, Output};
 use demo::error::Error;
 use demo::query::condition::{Condition, Literal, Operand};
@@ -156,6 +157,64 @@ fn conditions_are_read_as_they_are_written() {
     }
 }
 
+/// How many of some numbers are in each bin, which a label begins, beside a plain loop.
+fn check_bins(bins: &[(String, u64)], numbers: &[f64]) {
+    let edges: Vec<f64> = bins.iter().map(|(edge, _)| edge.parse().unwrap()).collect();
+    let mut counts = vec![0; edges.len()];
+    for number in numbers {
+        let bin = edges.iter().rposition(|edge| edge <= number);
+        counts[bin.unwrap_or_else(|| panic!("{number} is before {edges:?}"))] += 1;
+    }
+    assert_eq!(bins.iter().map(|bin| bin.1).collect::<Vec<_>>(), counts);
+}
+
+/// The shares of kept rows in each cell, beside a plain loop.
+fn check_strip(strip: &Strip, rows: u64, kept: &[u64]) {
+    let shares: Vec<f64> = strip.shares().collect();
+    let cells = shares.len() as u64;
+    let starts: Vec<u64> = (0..=cells).map(|cell| rows * cell / cells).collect();
+    for (place, share) in shares.into_iter().enumerate() {
+        let cell = starts[place]..starts[place + 1];
+        let of_cell = kept.iter().filter(|row| cell.contains(row)).count() as u64;
+        let [of_cell, rows] = [of_cell, cell.end - cell.start].map(|it| u32::try_from(it).unwrap());
+        let wanted = f64::from(of_cell) / f64::from(rows);
+        assert!(
+            (share - wanted).abs() < 1e-12,
+            "cell {place}: {share}, {wanted}"
+        );
+    }
+}
+
+#[test]
+fn pictures_show_the_rows_that_are_kept() {
+    let (folder, mut random) = (Folder::new("pictures"), Random::new(6));
+    for rows in [1, 40, 64, 130, 1000] {
+        let fields = support::table(&mut random, rows);
+        let file = folder.file("table.csv", support::written(&mut random, &fields));
+        let table = Table::open(&file, Format::default()).unwrap();
+        let survey = Survey::of(&table, &[]).unwrap();
+        for column in [0, 2, 3] {
+            let condition = support::condition(&mut random, 2);
+            let filter = Filter::new(&condition, &survey).unwrap();
+            let mut kept = Rows::default();
+            let mut strip = Strip::new(rows as u64, 72);
+            let mut histogram = Histogram::new(column, survey.columns[column].range.unwrap());
+            let outputs: &mut [&mut dyn Output] = &mut [&mut kept, &mut strip, &mut histogram];
+            engine::run(&table, &survey, Some(&filter), outputs).unwrap();
+            let numbers = kept
+                .0
+                .iter()
+                .map(|&row| fields[usize::try_from(row).unwrap()][column]);
+            let numbers = numbers.filter(|field| !field.is_empty());
+            check_bins(
+                &histogram.bins(),
+                &numbers.map(|it| it.parse().unwrap()).collect::<Vec<_>>(),
+            );
+            check_strip(&strip, rows as u64, &kept.0);
+        }
+    }
+}
+
 /// More rows than a batch has, so that rows are counted over several of them.
 #[test]
 fn rows_of_many_batches() {
@@ -165,9 +224,14 @@ fn rows_of_many_batches() {
     let table = Table::open(&file, Format::default()).unwrap();
     let survey = Survey::of(&table, &[]).unwrap();
     let condition = query::condition("n = 999 or n < 1").unwrap();
+    let filter = Filter::new(&condition, &survey).unwrap();
+    let (mut rows, mut strip) = (Rows::default(), Strip::new(150_000, 7));
+    let mut histogram = Histogram::new(0, survey.columns[0].range.unwrap());
+    let outputs: &mut [&mut dyn Output] = &mut [&mut rows, &mut strip, &mut histogram];
+    engine::run(&table, &survey, Some(&filter), outputs).unwrap();
     let wanted = (0..150_000).filter(|row| matches!(row % 1000, 0 | 999));
-    assert_eq!(
-        kept(&table, &survey, &condition),
-        wanted.collect::<Vec<u64>>()
-    );
+    assert_eq!(rows.0, wanted.collect::<Vec<u64>>());
+    check_strip(&strip, 150_000, &rows.0);
+    let bins = histogram.bins();
+    assert_eq!((bins[0].1, bins[bins.len() - 1].1), (150, 150));
 }
