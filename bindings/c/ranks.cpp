@@ -57,12 +57,15 @@ template <class Error, class Call> static bool throws(Call call)
 static bool is_of(const ranks &it, bits window)
 {
     const std::size_t len = window.size();
+    if (it.size() != len) {
+        return false;
+    }
     for (std::size_t place = 0; place <= len; place += 1 + len / 37) {
         if (it.rank(place) != window.slice(0, place).count_ones()) {
             return false;
         }
     }
-    return it.size() == len && it.count() == window.count_ones()
+    return it.count() == window.count_ones()
         && it.select(len / 9) == window.select(len / 9)
         && it.select_unset(len / 9) == window.select_unset(len / 9)
         && it.table().size() == (len + 511) / 512
