@@ -127,13 +127,15 @@ impl Array {
     /// Which rows are valid. One that is may still be of a struct's row that isn't: `and` of both
     /// says which rows are there.
     ///
-    /// An array that says that it has no null (`null_count` 0) is believed: its bits aren't looked
-    /// at, and go out with the 0 again. A producer that says so wrongly makes its nulls vanish.
+    /// If the array says that it has no null (`null_count` is 0), its validity bits are ignored, as
+    /// Arrow allows, and [`Export::from`](super::Export) hands both on unchanged. A producer whose
+    /// 0 is wrong loses its nulls.
     ///
     /// ```
     /// use vortex_bits::arrow::{Array, Export};
     ///
-    /// let (mut array, mut schema) = Export::values([1i8, 0], Some([true, false].into())).into_raw();
+    /// let gap = Export::values([1i8, 0], Some([true, false].into()));
+    /// let (mut array, mut schema) = gap.into_raw();
     /// array.null_count = 0;
     /// // SAFETY: they are as the interface asks for, but for the number.
     /// let wrong = unsafe { Array::from_raw(&raw mut array, &raw mut schema)? };

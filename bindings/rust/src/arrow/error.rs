@@ -177,8 +177,8 @@ pub enum Fault {
         /// How many it has.
         got: i64,
     },
-    /// A buffer that is wanted is null: that of the values, the offsets, the sizes, the types or the
-    /// views where there are items, that of the validity where there are nulls, and that of the
+    /// A buffer that is wanted is null: that of the values, the offsets, the sizes, the types or
+    /// the views where there are items, that of the validity where there are nulls, and that of the
     /// bytes of texts.
     NoBuffer(&'static str),
     /// A row of texts or lists begins before the one before it ends, or at a negative place.
@@ -207,7 +207,8 @@ pub enum Fault {
         /// How many rows there are, from the offset 0 on.
         wanted: usize,
     },
-    /// The ends of runs have this format, which isn't that of signed whole numbers of 16 to 64 bits.
+    /// The ends of runs have this format, which isn't that of signed whole numbers of 16 to 64
+    /// bits.
     RunEnds(String),
     /// It ends before the parent's items do.
     Short {

@@ -59,13 +59,16 @@ pub struct Export {
 
 impl Export {
     /// Values, and which of them are valid; all are where that is None. The values are those of a
-    /// [`Vec`], or of another owner, as an `Arc<[T]>`, which is dropped when the array is released:
-    /// one that panics then aborts the program, since C has no panics. The bits of the validity are copied where
+    /// [`Vec`], or of another owner, as an `Arc<[T]>`. The bits of the validity are copied where
     /// the first one is within a byte, and left out where all are true.
+    ///
+    /// The owner is dropped when the array is released, on any thread. If its `drop` panics, the
+    /// program aborts, since the consumer may be C.
     ///
     /// # Panics
     ///
-    /// Where there isn't a bit for each value, and where values without a byte are more than 2^63 - 1.
+    /// Where there isn't a bit for each value, and where there are 2^63 values or more, as there
+    /// may be of no byte.
     #[must_use]
     #[track_caller]
     pub fn values<T: Primitive>(
@@ -197,9 +200,9 @@ impl Export {
     ///
     /// # Errors
     ///
-    /// Those of `with_format`, and [`ArrowError::Field`] if a child or the dictionary has another
-    /// type, if a row is null and the field says that none is, or if the field has another flag that
-    /// the rows don't have.
+    /// Returns the errors of `with_format`, and [`ArrowError::Field`] if a child or the dictionary
+    /// has another type, if a row is null and the field says that none is, or if the field has any
+    /// other flag that the rows don't have.
     pub fn with_field(self, field: &Field) -> Result<Export, ArrowError> {
         let typed = self.with_format(field.format())?;
         match difference(&typed, field, &OF_ARRAY)? {
@@ -293,7 +296,8 @@ impl Export {
     /// ```
     /// use vortex_bits::arrow::Export;
     ///
-    /// let nested = |levels| (1..levels).fold(Export::values([1u8], None), |it, _| Export::batch([it]));
+    /// let values = || Export::values([1u8], None);
+    /// let nested = |levels| (1..levels).fold(values(), |it, _| Export::batch([it]));
     /// assert_eq!(nested(64).try_into_array()?.len(), 1);
     /// assert_eq!(
     ///     nested(65).try_into_array().unwrap_err().to_string(),

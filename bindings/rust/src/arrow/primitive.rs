@@ -13,8 +13,8 @@ use core::marker::PhantomData;
 /// - `f32` and `f64` of floats of that width;
 /// - `i128` of decimals of 128 bits, whose buffers are often not aligned as it is;
 /// - `[u8; N]` of values of N bytes, whatever these mean;
-/// - `[u64; 2]` and `[i64; 2]` of values of 16 bytes, the lower half first: decimals are filtered as
-///   these ([`values::filter`](crate::values::filter)).
+/// - `[u64; 2]` and `[i64; 2]` of values of 16 bytes, the lower half first: decimals are filtered
+///   as these ([`values::filter`](crate::values::filter)).
 #[diagnostic::on_unimplemented(
     message = "no array has values of `{Self}`",
     label = "whole numbers of 8 to 64 bits, `i128`, floats, `[u8; N]`, `[u64; 2]` and `[i64; 2]`"

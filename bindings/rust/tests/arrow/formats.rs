@@ -127,6 +127,10 @@ fn binary(rows: &[Option<&[u8]>], format: &str) -> Export {
     Export::from(import(array, Schema::new("s", format, &Count::default())).unwrap())
 }
 
+fn not_those(format: &str, wanted: &str) -> String {
+    format!("column \"s\": values of format {format:?} aren't those of {wanted:?}")
+}
+
 #[test]
 fn binary_values_are_texts_where_each_valid_row_is_utf_8() {
     let long = "a text of more than twelve bytes \u{e9}";
@@ -157,9 +161,7 @@ fn binary_values_are_texts_where_each_valid_row_is_utf_8() {
                 rows[row] = Some(wrong);
                 assert_eq!(
                     said(binary(&rows, format), text),
-                    format!(
-                        "column \"s\": values of format {format:?} aren't those of {text:?}: row {row} isn't"
-                    )
+                    format!("{}: row {row} isn't", not_those(format, text))
                 );
             }
         }
@@ -182,8 +184,7 @@ fn binary_values_are_texts_where_each_valid_row_is_utf_8() {
         ("vz", "u"),
         ("Z", "z"),
     ] {
-        let wanted = format!("column \"s\": values of format {from:?} aren't those of {to:?}");
-        assert_eq!(said(binary(&[Some(b"a")], from), to), wanted);
+        assert_eq!(said(binary(&[Some(b"a")], from), to), not_those(from, to));
     }
 }
 

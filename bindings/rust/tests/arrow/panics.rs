@@ -1,5 +1,5 @@
-//! Panics in what makes the batches of a stream: an errno and a text for the consumer, and no end of
-//! the program.
+//! Panics in what makes the batches of a stream: an errno and a text for the consumer, and no end
+//! of the program.
 use std::ffi::CStr;
 use std::panic::{resume_unwind, set_hook, take_hook};
 use std::sync::Mutex;

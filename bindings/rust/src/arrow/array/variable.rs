@@ -58,8 +58,8 @@ impl Array {
         Ok(ranges)
     }
 
-    /// Whether these are no part of texts or lists that ends behind the last row of all, up to whose
-    /// end there are bytes or items: offsets that go back behind a part would have it read more.
+    /// Whether these are no part of texts or lists that ends behind the last row of all. There are
+    /// bytes or items up to that one's end, and offsets that go back would have a part read more.
     pub(in crate::arrow) fn ends_with_all(&self) -> Result<(), ArrowError> {
         let [own, all] = [self.start + self.len, self.node.offset + self.node.len];
         match self.node.field.layout {

@@ -22,7 +22,8 @@ impl Export {
     ///
     /// // A null's index may be anything.
     /// let rows = rows.into_array();
-    /// let (items, indices, valid) = (rows.dictionary().unwrap(), rows.values()?, rows.validity()?);
+    /// let (items, valid) = (rows.dictionary().unwrap(), rows.validity()?);
+    /// let indices = rows.values()?;
     /// let taken = values::take_valid::<f64, i8>(items.values()?, indices, valid);
     /// assert_eq!(taken, [12.0, 12.0, 0.0, 9.5]);
     /// // Which are valid counts the items' validity in, and both are one call too.

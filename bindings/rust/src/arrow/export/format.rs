@@ -19,11 +19,10 @@ impl Export {
     /// ```
     /// use vortex_bits::arrow::Export;
     ///
-    /// let names = || Export::values(vec![*b"ab", *b"\xFFc"], None).into_array();
-    /// assert_eq!(Export::from(names()).with_format("w:2")?.field().format(), "w:2");
+    /// let days = Export::values(vec![19_000i32, 19_002], None).with_format("tdD")?;
     /// assert_eq!(
-    ///     Export::from(names()).with_format("U").unwrap_err().to_string(),
-    ///     "values of format \"w:2\" aren't those of \"U\""
+    ///     days.with_format("l").unwrap_err().to_string(),
+    ///     "values of format \"tdD\" aren't those of \"l\""
     /// );
     ///
     /// let binary = Export::texts(["a", "b\u{e9}"], None).with_format("Z")?;

@@ -41,8 +41,8 @@ impl Export {
     /// ```
     /// use vortex_bits::arrow::Export;
     ///
-    /// let names = Export::texts_or_nulls(["a", "", "bc"].map(|it| Some(it).filter(|it| it != &"")));
-    /// let names = names.into_array();
+    /// let rows = ["a", "", "bc"].map(|row| Some(row).filter(|row| !row.is_empty()));
+    /// let names = Export::texts_or_nulls(rows).into_array();
     /// assert!(names.texts()?.iter().eq([Some(&b"a"[..]), None, Some(b"bc")]));
     /// # Ok::<(), vortex_bits::arrow::ArrowError>(())
     /// ```
@@ -64,7 +64,8 @@ impl Export {
     /// use vortex_bits::Bits;
     /// use vortex_bits::arrow::Export;
     ///
-    /// let names = Export::texts_or_nulls([Some("a"), None, Some("bc")]).named("name").into_array();
+    /// let names = Export::texts_or_nulls([Some("a"), None, Some("bc")]);
+    /// let names = names.named("name").into_array();
     /// let kept = Export::texts_kept(&names, Bits::new(&[0b110], 0, 3))?;
     /// assert_eq!(kept.field(), names.field());
     /// assert!(kept.into_array().texts()?.iter().eq([None, Some(&b"bc"[..])]));

@@ -1,6 +1,6 @@
-//! A reader of the interface that takes nothing on trust, written from Arrow's documents alone: each
-//! number of a struct, each offset, index, size, type and text that the format makes a consumer
-//! follow is compared with what is there, and each byte that it may read is read.
+//! A reader of the interface that takes nothing on trust, written from Arrow's documents alone:
+//! each number of a struct, each offset, index, size, type and text that the format makes a
+//! consumer follow is compared with what is there, and each byte that it may read is read.
 mod array;
 mod buffers;
 mod format;
