@@ -1,0 +1,21 @@
+//! What calls are given.
+use std::alloc::Allocator;
+use vb_bit_buffer::BitBuffer;
+use vb_core::Result;
+use vb_mem::Buffer;
+
+/// So many bits, of which one in so many is true, from the first on.
+#[derive(Clone, Copy)]
+pub(crate) struct Bits(pub(crate) usize, pub(crate) usize);
+
+impl Bits {
+    pub(crate) fn set<A: Allocator + Clone>(&self, alloc: A) -> Result<BitBuffer<A>> {
+        let period = self.1.max(1);
+        BitBuffer::from_iter(alloc, (0..self.0).map(|place| place % period == 0))
+    }
+}
+
+/// The numbers from 0 on.
+pub(crate) fn numbers<A: Allocator + Clone>(alloc: A, len: u32) -> Result<Buffer<u32, A>> {
+    Buffer::from_trusted_len_iter(alloc, 0..len)
+}

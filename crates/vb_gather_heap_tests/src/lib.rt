@@ -1,0 +1,16 @@
+//! Tests of what the calls of `vb_gather` ask of the allocator: how many requests, and for how many
+//! bytes. Bytes are those of what a call makes, however much it is made of.
+#![tactic(auto)]
+
+#[cfg(test)]
+mod buffers;
+#[cfg(test)]
+mod compared;
+#[cfg(test)]
+mod given;
+#[cfg(test)]
+mod kleene;
+#[cfg(test)]
+mod makers;
+#[cfg(test)]
+mod sets;
