@@ -1,3 +1,4 @@
 mod ColumnLemmas
+mod FrontLemmas
 mod KeptBlocks
 mod TakenBlocks

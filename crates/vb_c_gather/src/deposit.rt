@@ -26,9 +26,14 @@ pub extern "C" fn vb_deposit_bits(
     requires { DepositFits out.old o values.now v mask.now m len }
     ensures { Deposits values.now v (bits mask.now m len) out.old out.new o }
 {
+    // Of no bits too, the kernel stores those before `o` again that are in its byte.
+    if len == 0 {
+        return;
+    }
     let mask = BitBufferView::new_with_offset(mask, len, m);
     let values = BitBufferView::new_with_offset(values, mask.true_count(), v);
-    deposit_into(out, o, values, mask);
+    let end = (o + len).div_ceil(8);
+    deposit_into(&mut out[o / 8..end], o % 8, values, mask);
 }
 
 /// Whether all windows lie in their bytes, that of `values` with a bit for each true one of `mask`;

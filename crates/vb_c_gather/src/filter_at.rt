@@ -7,7 +7,8 @@ ghost use Rattle.vb_c_core.specs.Fits.{DoneIf};
 
 use crate::block::BLOCK;
 use crate::filter::vb_filter_bits;
-use vb_bits::{copy_bits, window_fits};
+use vb_bits::window_fits;
+use vb_c_core::copy_to_window;
 use vb_kernel::count_ones;
 
 /// Writes those of the `len` bits of `values` from bit `v` on that `mask` keeps, whose bit of it
@@ -80,7 +81,7 @@ fn filter_by_blocks(
     while done < len {
         let n = (len - done).min(BLOCK);
         let more = vb_filter_bits(&mut made, values, v + done, mask, m + done, n);
-        copy_bits(out, o + kept, &made, 0, more);
+        copy_to_window(out, o + kept, &made, 0, more);
         kept += more;
         done += n;
     }

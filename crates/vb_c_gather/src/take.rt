@@ -207,8 +207,25 @@ pub extern "C" fn vb_try_take_valid_u64(
     true
 }
 
-/// The bits at the indices, as [`vb_take_u32`] and [`vb_take_valid_u32`] write them.
-pub(crate) fn take<I: BitIndex>(
+/// The bits at the indices, as [`vb_take_u32`] and [`vb_take_valid_u32`] write them, by a slice of
+/// the bytes that have one of them.
+fn take<I: BitIndex>(
+    out: &mut [u8],
+    window: BitBufferView<'_>,
+    indices: &[I],
+    validity: Option<BitBufferView<'_>>,
+) -> Place
+    requires room { length indices.now ≤ 8 * length out.old }
+    requires validity { ForSome validity (λ v. length (bits_of v) ≡ length indices.now) }
+    ensures { Takes (bits_of window.entry) (map I.number indices.now)
+        (option_map bits_of validity.entry) out.old out.new result }
+{
+    let end = indices.len().div_ceil(8);
+    take_to_front(&mut out[..end], window, indices, validity)
+}
+
+/// [`take`], which may store any byte of `out`.
+pub(crate) fn take_to_front<I: BitIndex>(
     out: &mut [u8],
     window: BitBufferView<'_>,
     indices: &[I],

@@ -11,7 +11,7 @@ ghost use Rattle.vb_take.specs.Takes.{IsTaken, IsFirstPast};
 ghost use Rattle.vb_view.specs.View.{bits_of};
 
 use crate::block::BLOCK;
-use crate::take::take;
+use crate::take::take_to_front;
 use vb_bits::{copy_bits, window_fits};
 use vb_c_core::Place;
 use vb_core::BitIndex;
@@ -243,8 +243,29 @@ pub extern "C" fn vb_try_take_bits_at_u64(
     true
 }
 
-/// The bits at the indices, as [`vb_take_bits_at_u8`] writes them.
+/// The bits at the indices, as [`vb_take_bits_at_u8`] writes them, by a slice of the bytes that
+/// have one of them.
 fn take_at<I: BitIndex>(
+    out: &mut [u8],
+    o: usize,
+    window: BitBufferView<'_>,
+    indices: &[I],
+    all_valid: bool,
+    validity: &[u8],
+    v: usize,
+) -> Place
+    requires room { InBytes out.old o (length indices.now) }
+    requires validity { HasValidity all_valid validity.now v (length indices.now) }
+    ensures { TakesAt (bits_of window.entry) (map I.number indices.now)
+        (validity_of all_valid validity.now v (length indices.now)) out.old out.new o result }
+{
+    let end = (o + indices.len()).div_ceil(8);
+    let part = &mut out[o / 8..end];
+    take_within(part, o % 8, window, indices, all_valid, validity, v)
+}
+
+/// [`take_at`], which may store any byte of `out`.
+fn take_within<I: BitIndex>(
     out: &mut [u8],
     o: usize,
     window: BitBufferView<'_>,
@@ -260,7 +281,7 @@ fn take_at<I: BitIndex>(
 {
     if o == 0 {
         let valid = valid_part(all_valid, validity, v, 0, indices.len());
-        return take(out, window, indices, valid);
+        return take_to_front(out, window, indices, valid);
     }
     take_by_blocks(out, o, window, indices, all_valid, validity, v)
         .err()

@@ -6,7 +6,7 @@ mod FourLanes
 mod FrontLemmas
 pub mod GatherLemmas
 mod PackedDigits
-mod PendingLemmas
+pub mod PendingLemmas
 mod PackedOnes
 mod PackedSteps
 mod RunsLemmas

@@ -46,8 +46,8 @@ overflow_add-o c =
           (omega (arith, c.min-n.ensures, c.loop-done-test.true)),
     )
 
-pub copy_bits-requires-clause-into : goal.copy_bits-requires-clause-into
-copy_bits-requires-clause-into c =
+pub copy_to_window-requires-clause-into : goal.copy_to_window-requires-clause-into
+copy_to_window-requires-clause-into c =
     let n = c.min-n.result in let done = c.loop-done.done in let inv = c.loop-done.invariant in
     let few = count-begun c.args.mask.now c.args.m done n c.args.len
     (omega (arith, c.min-n.ensures, c.loop-done-test.true)) in
@@ -69,8 +69,8 @@ copy_bits-requires-clause-into c =
       );
     }
 
-pub copy_bits-requires-clause-from : goal.copy_bits-requires-clause-from
-copy_bits-requires-clause-from c =
+pub copy_to_window-requires-clause-from : goal.copy_to_window-requires-clause-from
+copy_to_window-requires-clause-from c =
     let n = c.min-n.result in let inv = c.loop-done.invariant in
     let made = c.vb_filter_bits-more.ensures in
     let few = count-bits-le c.args.mask.now (c.args.m + c.loop-done.done) n in
@@ -100,11 +100,11 @@ loop-done-preserved c =
       room = made.window.same_len ∙ inv.room;
       number = omega (arith, inv.number, made.number, count-bits-add a.mask.now a.m done n);
       written = kept-block a.mask.now a.values.now a.m a.v a.out.now c.loop-done.out
-          c.copy_bits.new.dst c.loop-done.made c.vb_filter_bits-more.new.out a.o done n inv.written
-          made.window
-          (subst (λ k. Writes c.loop-done.out c.copy_bits.new.dst (a.o + k)
+          c.copy_to_window.new.dst c.loop-done.made c.vb_filter_bits-more.new.out a.o done n
+          inv.written made.window
+          (subst (λ k. Writes c.loop-done.out c.copy_to_window.new.dst (a.o + k)
           (bits c.vb_filter_bits-more.new.out 0 (count (bits a.mask.now (a.m + done) n))))
           inv.number
-          (subst (λ k. Writes c.loop-done.out c.copy_bits.new.dst (a.o + c.loop-done.kept)
-          (bits c.vb_filter_bits-more.new.out 0 k)) made.number c.copy_bits.ensures));
+          (subst (λ k. Writes c.loop-done.out c.copy_to_window.new.dst (a.o + c.loop-done.kept)
+          (bits c.vb_filter_bits-more.new.out 0 k)) made.number c.copy_to_window.ensures));
     }
