@@ -289,8 +289,8 @@ pub extern "C" fn vb_try_and_not_into(
     true
 }
 
-/// Combines the window of `dst` with that of `src` by `op`, in the bytes of `dst` that have a bit of
-/// it: the kernel can store no other byte.
+/// Combines the window of `dst` with that of `src` by `op`, in the bytes of `dst` that have a bit
+/// of it: the kernel can store no other byte.
 fn combine(dst: &mut [u8], d: usize, src: &[u8], s: usize, len: usize, op: BitOp)
     requires { BothInBytes dst.old d src.now s len }
     ensures { Combines op dst.old dst.new d (bits dst.old d len) (bits src.now s len) }
