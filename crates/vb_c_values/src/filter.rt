@@ -1,6 +1,6 @@
 //! Values that a mask keeps.
 ghost use Rattle.std.specs.Prelude.{◌≡◌, length};
-ghost use Rattle.vb_bits.specs.Bits.{bits};
+ghost use Rattle.vb_bits.specs.Bits.{bits, count};
 ghost use Rattle.vb_c_core.specs.Fits.{DoneIf, KeptFits};
 ghost use Rattle.vb_c_values.specs.Filtered.{Filters};
 
@@ -157,8 +157,8 @@ fn filter_values<T: Element>(out: &mut [T], values: &[T], mask: &[u8], m: usize)
     requires { KeptFits mask.now m (length values.now) (length out.old) }
     ensures { Filters (bits mask.now m (length values.now)) values.now out.old out.new result }
 {
-    let mask = BitBufferView::new_with_offset(mask, values.len(), m);
-    filter_elements_into(out, values, mask)
+    let kept = count_ones(mask, m, values.len());
+    filter_to_front(out, kept, values, mask, m)
 }
 
 /// Whether the mask has a bit for each value in its bytes, and `out` room for those that it keeps;
@@ -174,9 +174,31 @@ fn try_filter_values<T: Element>(
         (Filters (bits mask.now m (length values.now)) values.now out.old out.new written.new)
         ((out.new ≡ out.old) × (written.new ≡ written.old)) result }
 {
-    if !window_fits(mask, m, values.len()) || out.len() < count_ones(mask, m, values.len()) {
+    if !window_fits(mask, m, values.len()) {
         return false;
     }
-    *written = filter_values(out, values, mask, m);
+    let kept = count_ones(mask, m, values.len());
+    if out.len() < kept {
+        return false;
+    }
+    *written = filter_to_front(out, kept, values, mask, m);
     true
+}
+
+/// [`filter_values`] by a slice of the `kept` items in front, as many as the mask keeps: where its
+/// slice has room for more, the kernel writes over those behind some of four bytes, and puts them
+/// back.
+fn filter_to_front<T: Element>(
+    out: &mut [T],
+    kept: usize,
+    values: &[T],
+    mask: &[u8],
+    m: usize,
+) -> usize
+    requires room { KeptFits mask.now m (length values.now) (length out.old) }
+    requires kept { kept ≡ count (bits mask.now m (length values.now)) }
+    ensures { Filters (bits mask.now m (length values.now)) values.now out.old out.new result }
+{
+    let mask = BitBufferView::new_with_offset(mask, values.len(), m);
+    filter_elements_into(&mut out[..kept], values, mask)
 }
