@@ -21,22 +21,29 @@
  *
  * Bit i of some bytes is digit i % 8 of byte i / 8, least significant first. A window is the `len`
  * bits from bit `offset` on; no answer depends on a bit outside of the windows that a call names,
- * and none is changed, whatever the bytes hold there. A call may load any of the `size` bytes.
- * Lengths, offsets and places are counted in bits, `size` in bytes.
+ * and none is changed, whatever the bytes hold there. Lengths, offsets and places are counted in
+ * bits, `size` in bytes.
+ *
+ * A call may load any of the `size` bytes that it is given to read. Of a window that it writes, it
+ * loads and stores only the bytes that have a bit of the window: the other bits of the first and the
+ * last of these are stored as they were. Of items, such as values, places and runs, it stores only
+ * those that it answers for, whatever room there is. Any thread may call any function. Two threads
+ * may write windows of one bitmap at once where these share no byte, such as the first 1,000 bits
+ * and the next 1,000.
  *
  * What the caller owes of every call: each pointer points to as many items as the number behind it
  * says, and may be null where that is 0; the last pointer of a vb_try_ function, to the answer, is
- * not null; what a function writes overlaps nothing else that is passed, which no function can
- * test, and nothing else touches it during the call; of the `size` bytes that it is given to read
- * none is written during the call.
+ * not null; what a function is given to write overlaps nothing else that is passed, which no
+ * function can test; nothing else touches the bytes that it stores during the call; of the `size`
+ * bytes that it is given to read none is written during the call.
  * Of a call without `try` also: each window ends within its bytes, and its end, offset + len, is at
  * most SIZE_MAX.
  *
  * Of a vb_try_ function the caller owes what is owed of every call, and no more: it tests sizes,
- * offsets, lengths and rooms, and answers false and leaves everything as it was where they aren't
- * good. What indices say is no such number: takes tell of the first bad one by the place that they
- * answer, their vb_try_ forms by `past`. No function takes memory or keeps a pointer, and all may
- * be called on any thread.
+ * offsets, lengths and rooms, and that no pointer is null whose number is not 0, as after a failed
+ * malloc. Where they aren't good, it answers false and leaves everything as it was. What indices say
+ * is no such number: takes tell of the first bad one by the place that they answer, their vb_try_
+ * forms by `past`. No function takes memory or keeps a pointer.
  *
  * Arrow's arrays have bits so: `offset` is the array's, added to those of the structs that it is a
  * column of, and `size` is (offset + len + 7) / 8. A validity that isn't there, a null pointer,
@@ -48,9 +55,10 @@
  *     assert(vb_and_count(WINDOW(a), WINDOW(a), 5) == 4);
  *
  * Proved are the functions of each level. Written by hand, and tested, is what stands before them:
- * a null pointer is made one that they accept; the level is chosen; vb_set_indices, vb_set_slices
- * and their checked forms go by pages of memory, and join runs that reach over their ends; bools
- * are packed as bytes; vb_filter_values and vb_take_values choose by sizes. So are C++'s classes.
+ * a null pointer to no items is made one that they accept, and the checked forms refuse one to some;
+ * the level is chosen; vb_set_indices, vb_set_slices and their checked forms go by pages of memory,
+ * and join runs that reach over their ends; bools are packed as bytes; vb_filter_values and
+ * vb_take_values choose by sizes. So are C++'s classes.
  */
 #ifndef VORTEX_BITS_H
 #define VORTEX_BITS_H

@@ -29,14 +29,14 @@ static bool fits(const uint8_t *bytes, size_t size, size_t offset, size_t len)
     uint8_t *const out = (uint8_t *)&nothing;
     const uint32_t *const indices = (const uint32_t *)&nothing;
     vb_place past;
-    return CALL(try_take_u32)(out, 0, ANY(bytes), size, offset, len, indices, 0, &past);
+    return CALL(try_take_u32)(out, 0, ANY(bytes, size), offset, len, indices, 0, &past);
 }
 
 size_t vb_set_indices(const uint8_t *bytes, size_t size, size_t offset, size_t len, size_t *out,
     size_t room)
 {
     if (room >= len) {
-        return CALL(set_indices)(ANY(bytes), size, offset, len, ANY(out), room);
+        return CALL(set_indices)(ANY(bytes, size), offset, len, ANY(out, room));
     }
     size_t written = 0;
     for (size_t at = 0, n; at < len && written < room; at += n) {
@@ -55,7 +55,7 @@ size_t vb_set_indices(const uint8_t *bytes, size_t size, size_t offset, size_t l
 bool vb_try_set_indices(const uint8_t *bytes, size_t size, size_t offset, size_t len, size_t *out,
     size_t room, size_t *count)
 {
-    if (!fits(bytes, size, offset, len)) {
+    if (!MAY_HAVE(out, room) || !MAY_HAVE(bytes, size) || !fits(bytes, size, offset, len)) {
         return false;
     }
     *count = vb_set_indices(bytes, size, offset, len, out, room);
@@ -81,7 +81,7 @@ size_t vb_set_slices(const uint8_t *bytes, size_t size, size_t offset, size_t le
 {
     /* There are no more runs than that. */
     if (room >= len - len / 2) {
-        return CALL(set_slices)(ANY(bytes), size, offset, len, ANY(out), room);
+        return CALL(set_slices)(ANY(bytes, size), offset, len, ANY(out, room));
     }
     size_t written = 0, at = 0;
     while (at < len && written < room) {
@@ -105,7 +105,7 @@ size_t vb_set_slices(const uint8_t *bytes, size_t size, size_t offset, size_t le
 bool vb_try_set_slices(const uint8_t *bytes, size_t size, size_t offset, size_t len, vb_run *out,
     size_t room, size_t *count)
 {
-    if (!fits(bytes, size, offset, len)) {
+    if (!MAY_HAVE(out, room) || !MAY_HAVE(bytes, size) || !fits(bytes, size, offset, len)) {
         return false;
     }
     *count = vb_set_slices(bytes, size, offset, len, out, room);
@@ -115,12 +115,13 @@ bool vb_try_set_slices(const uint8_t *bytes, size_t size, size_t offset, size_t 
 /* Bools are packed as bytes, so that one that no compiler makes changes no bit beside its own. */
 void vb_pack_bools(uint8_t *out, size_t out_size, const bool *bools, size_t count)
 {
-    CALL(pack_truthy)(ANY(out), out_size, ANY((const uint8_t *)bools), count);
+    CALL(pack_truthy)(ANY(out, out_size), ANY((const uint8_t *)bools, count));
 }
 
 bool vb_try_pack_bools(uint8_t *out, size_t out_size, const bool *bools, size_t count)
 {
-    return CALL(try_pack_truthy)(ANY(out), out_size, ANY((const uint8_t *)bools), count);
+    return MAY_HAVE(out, out_size) && MAY_HAVE(bools, count)
+        && CALL(try_pack_truthy)(ANY(out, out_size), ANY((const uint8_t *)bools, count));
 }
 
 #endif

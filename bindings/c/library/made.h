@@ -1,6 +1,6 @@
 /*
- * The functions of vortex_bits.h that no level has: each takes one of several by the size of a value
- * or of an index, or bools as bytes.
+ * The functions of vortex_bits.h that no level has: each takes one of several by the size of a
+ * value or of an index, or bools as bytes.
  */
 #ifndef VORTEX_BITS_MADE_H
 #define VORTEX_BITS_MADE_H
@@ -9,14 +9,15 @@
 void vb_pack_bools_at(uint8_t *out, size_t out_size, size_t out_offset, const bool *bools,
     size_t count)
 {
-    CALL(pack_truthy_at)(ANY(out), out_size, out_offset, ANY((const uint8_t *)bools), count);
+    CALL(pack_truthy_at)(ANY(out, out_size), out_offset, ANY((const uint8_t *)bools, count));
 }
 
 bool vb_try_pack_bools_at(uint8_t *out, size_t out_size, size_t out_offset, const bool *bools,
     size_t count)
 {
-    return CALL(try_pack_truthy_at)(ANY(out), out_size, out_offset, ANY((const uint8_t *)bools),
-        count);
+    return MAY_HAVE(out, out_size) && MAY_HAVE(bools, count)
+        && CALL(try_pack_truthy_at)(ANY(out, out_size), out_offset,
+            ANY((const uint8_t *)bools, count));
 }
 
 /* Whether there are functions for items of so many bytes, and these are aligned as theirs. */
@@ -28,7 +29,7 @@ static bool is_laid(const void *items, size_t size, size_t most)
 
 /* What one of the functions for values of so many bytes answers. */
 #define OF_VALUES(name, V, ...)                                                                   \
-    CALL(name)(ANY((V *)out), room, ANY((const V *)values), count, __VA_ARGS__)
+    CALL(name)(ANY((V *)out, room), ANY((const V *)values, count), __VA_ARGS__)
 
 size_t vb_filter_values(void *out, size_t room, const void *values, size_t count,
     size_t value_size, const uint8_t *mask, size_t mask_size, size_t mask_offset)
@@ -36,7 +37,7 @@ size_t vb_filter_values(void *out, size_t room, const void *values, size_t count
     switch (value_size) {
 #define WIDTH(size, name, V)                                                                      \
     case size:                                                                                    \
-        return OF_VALUES(filter_##name, V, ANY(mask), mask_size, mask_offset);
+        return OF_VALUES(filter_##name, V, ANY(mask, mask_size), mask_offset);
         WIDTH(1, u8, uint8_t)
         WIDTH(2, u16, uint16_t)
         WIDTH(4, u32, uint32_t)
@@ -51,13 +52,14 @@ size_t vb_filter_values(void *out, size_t room, const void *values, size_t count
 bool vb_try_filter_values(void *out, size_t room, const void *values, size_t count,
     size_t value_size, const uint8_t *mask, size_t mask_size, size_t mask_offset, size_t *written)
 {
-    if (!is_laid(out, value_size, 16) || !is_laid(values, value_size, 16)) {
+    if (!MAY_HAVE(out, room) || !MAY_HAVE(values, count) || !MAY_HAVE(mask, mask_size)
+            || !is_laid(out, value_size, 16) || !is_laid(values, value_size, 16)) {
         return false;
     }
     switch (value_size) {
 #define WIDTH(size, name, V)                                                                      \
     case size:                                                                                    \
-        return OF_VALUES(try_filter_##name, V, ANY(mask), mask_size, mask_offset, written);
+        return OF_VALUES(try_filter_##name, V, ANY(mask, mask_size), mask_offset, written);
         WIDTH(1, u8, uint8_t)
         WIDTH(2, u16, uint16_t)
         WIDTH(4, u32, uint32_t)
@@ -89,8 +91,8 @@ vb_place vb_take_values(void *out, size_t room, const void *values, size_t count
     switch (pair(value_size, index_size)) {
 #define WIDTH(size, name, V, wide, index, I)                                                      \
     case PAIR(size, wide):                                                                        \
-        return OF_VALUES(take_values_##name##_##index, V, ANY((const I *)indices), index_count,   \
-            all_valid, ANY(validity), validity_size, validity_offset);
+        return OF_VALUES(take_values_##name##_##index, V, ANY((const I *)indices, index_count),   \
+            all_valid, ANY(validity, validity_size), validity_offset);
         PAIRS(WIDTH, 1, u8, uint8_t)
         PAIRS(WIDTH, 2, u16, uint16_t)
         PAIRS(WIDTH, 4, u32, uint32_t)
@@ -105,15 +107,17 @@ bool vb_try_take_values(void *out, size_t room, const void *values, size_t count
     size_t value_size, const void *indices, size_t index_count, size_t index_size, bool all_valid,
     const uint8_t *validity, size_t validity_size, size_t validity_offset, vb_place *past)
 {
-    if (!is_laid(out, value_size, 16) || !is_laid(values, value_size, 16)
-            || !is_laid(indices, index_size, 8)) {
+    if (!MAY_HAVE(out, room) || !MAY_HAVE(values, count) || !MAY_HAVE(indices, index_count)
+            || !MAY_HAVE(validity, validity_size) || !is_laid(out, value_size, 16)
+            || !is_laid(values, value_size, 16) || !is_laid(indices, index_size, 8)) {
         return false;
     }
     switch (pair(value_size, index_size)) {
 #define WIDTH(size, name, V, wide, index, I)                                                      \
     case PAIR(size, wide):                                                                        \
-        return OF_VALUES(try_take_values_##name##_##index, V, ANY((const I *)indices),            \
-            index_count, all_valid, ANY(validity), validity_size, validity_offset, past);
+        return OF_VALUES(try_take_values_##name##_##index, V,                                     \
+            ANY((const I *)indices, index_count), all_valid, ANY(validity, validity_size),        \
+            validity_offset, past);
         PAIRS(WIDTH, 1, u8, uint8_t)
         PAIRS(WIDTH, 2, u16, uint16_t)
         PAIRS(WIDTH, 4, u32, uint32_t)

@@ -21,7 +21,7 @@ static void see(int first, ...)
     (void)first;
 }
 
-#define ANY(items) look(items)
+#define ANY(items, number) look(items), number
 #define KNOWN(op) op
 #define SEE(...) see(0, __VA_ARGS__)
 #define F(type, name, parameters, arguments)                                                      \
@@ -37,5 +37,13 @@ static void see(int first, ...)
     void vb_v2_##name parameters                                                                  \
     {                                                                                             \
         SEE arguments;                                                                            \
+    }
+/* A checked form finds all numbers good: what is refused before it isn't for them. */
+#define T(name, parameters, arguments, tests)                                                     \
+    bool vb_v2_##name parameters;                                                                 \
+    bool vb_v2_##name parameters                                                                  \
+    {                                                                                             \
+        SEE arguments;                                                                            \
+        return true;                                                                              \
     }
 FUNCTIONS

@@ -1,7 +1,7 @@
 /*
  * The functions of vortex_bits.h before those of the processor levels, vb_v2_count_ones and the
- * like: a null pointer to no items becomes one that these accept, and one level is chosen. What
- * else some of them do is in by_hand.h.
+ * like: a null pointer to no items becomes one that these accept, a checked form refuses a null
+ * pointer to more, and one level is chosen. What else some of them do is in by_hand.h.
  *
  * With VB_LEVEL, 2, 3 or 4, that level alone is called; without, the higher one of v2 and v3 that
  * the processor has.
@@ -14,9 +14,12 @@
 
 #include <stdatomic.h>
 
-/* What a null pointer becomes; since there are no items, it is neither read nor written. */
+/* What a null pointer to no items becomes; since there are none, it is neither read nor written. */
 static max_align_t nothing;
-#define ANY(items) ((items) != NULL ? (items) : (void *)&nothing)
+/* A pointer that may be null where the number behind it is 0, and that number. */
+#define ANY(items, number) ((items) != NULL || (number) != 0 ? (items) : (void *)&nothing), number
+/* Whether a pointer may point to so many items: a null one points to none. */
+#define MAY_HAVE(items, number) ((items) != NULL || (number) == 0)
 
 /* The functions of the levels. */
 #define F(type, name, parameters, arguments)                                                      \
@@ -24,9 +27,11 @@ static max_align_t nothing;
     type vb_v3_##name parameters;                                                                 \
     type vb_v4_##name parameters;
 #define P(name, parameters, arguments) F(void, name, parameters, arguments)
+#define T(name, parameters, arguments, tests) F(bool, name, parameters, arguments)
 FUNCTIONS
 #undef F
 #undef P
+#undef T
 
 #ifdef VB_LEVEL
 
@@ -56,12 +61,15 @@ struct level {
     const char *text;
 #define F(type, name, parameters, arguments) type(*name) parameters;
 #define P(name, parameters, arguments) F(void, name, parameters, arguments)
+#define T(name, parameters, arguments, tests) F(bool, name, parameters, arguments)
     FUNCTIONS
 #undef F
 #undef P
+#undef T
 };
 
 #define P(name, parameters, arguments) F(void, name, parameters, arguments)
+#define T(name, parameters, arguments, tests) F(bool, name, parameters, arguments)
 #define F(type, name, parameters, arguments) .name = vb_v2_##name,
 static const struct level v2 = {.text = "x86-64-v2", FUNCTIONS};
 #undef F
@@ -69,6 +77,7 @@ static const struct level v2 = {.text = "x86-64-v2", FUNCTIONS};
 static const struct level v3 = {.text = "x86-64-v3", FUNCTIONS};
 #undef F
 #undef P
+#undef T
 
 /*
  * The level that calls use; null before the first one. Each thread that finds it null chooses the
@@ -122,6 +131,11 @@ static inline uint8_t known(uint8_t op)
     void vb_##name parameters                                                                     \
     {                                                                                             \
         CALL(name) arguments;                                                                     \
+    }
+#define T(name, parameters, arguments, tests)                                                     \
+    bool vb_##name parameters                                                                     \
+    {                                                                                             \
+        return (tests) && CALL(name) arguments;                                                   \
     }
 PASSED_ON
 

@@ -1,0 +1,97 @@
+/*
+ * What extents.c and neighbours.c share: where a call writes, and what it reads. The calls
+ * themselves, one of each function that writes, are in calls.h, which bindings/c/functions writes.
+ * It is C and C++ alike.
+ */
+#ifndef VORTEX_BITS_WRITERS_H
+#define VORTEX_BITS_WRITERS_H
+
+#include "tests.h"
+#include "vortex_bits.h"
+
+#include <string.h>
+
+enum { SOURCE = 1 << 20, INDICES = 1 << 17, MASK = 1 << 15, OUTS = 2, NAMED = 200 };
+
+/* A call writes `count` bits of each `out` from bit `offset` on, or as many items. */
+struct job {
+    uint8_t *out[OUTS];
+    size_t size[OUTS];
+    size_t offset, count;
+    /* From bit 3 on, as many of the first kept_of(count) bits are true. */
+    const uint8_t *mask;
+};
+
+/* A function that writes: items of so many bytes, or bits where that is 0. */
+struct writer {
+    const char *name;
+    size_t each;
+    /* How many windows it writes, and whether it is told the first bit of them. */
+    size_t outs;
+    bool is_told;
+    /* Whether it answered as it should. */
+    bool (*call)(const struct job *it);
+};
+
+/* Bits at random, every second bit true, and small numbers of 1, 2, 4 and 8 bytes. */
+static uint64_t random_words[SOURCE / 8], spaced_words[SOURCE / 8], index_words[4][INDICES];
+static const uint8_t *const source = (const uint8_t *)random_words;
+static const uint8_t *const spaced = (const uint8_t *)spaced_words;
+
+static inline const void *indices(size_t each)
+{
+    return index_words[each == 1 ? 0 : each == 2 ? 1 : each == 4 ? 2 : 3];
+}
+
+static inline size_t kept_of(size_t count)
+{
+    return 2 * count + 3;
+}
+
+/* A mask that keeps so many. */
+static inline void make_mask(uint8_t *mask, size_t count)
+{
+    size_t wanted = count;
+    memset(mask, 0, MASK);
+    for (size_t left = kept_of(count); left > 0; left--) {
+        const bool keeps = random_below(left) < wanted;
+        put(mask, 3 + kept_of(count) - left, keeps);
+        wanted -= keeps;
+    }
+}
+
+static inline void make_sources(void)
+{
+    memset(spaced_words, 0xAA, sizeof spaced_words);
+    for (size_t i = 0; i < SOURCE / 8; i++) {
+        random_words[i] = random_below(SIZE_MAX);
+    }
+    for (size_t kind = 0; kind < 4; kind++) {
+        for (size_t i = 0; i < INDICES; i++) {
+            ((uint8_t *)index_words[kind])[i << kind] = (uint8_t)random_below(NAMED);
+        }
+    }
+}
+
+/* How many bytes have a bit of its windows, or its items. */
+static inline size_t bytes_of(const struct writer *it, size_t bit, size_t count)
+{
+    return it->each != 0 ? it->each * count : count == 0 ? 0 : (bit + count + 7) / 8;
+}
+
+/*
+ * The call of `it` on bits from bit `bit` of `first` on, or on items from there, with all bytes up
+ * to `end` to write. Of a function that is told its first bit, `out` is some bytes before.
+ */
+static inline struct job job_of(const struct writer *it, uint8_t *const first[OUTS],
+    uint8_t *const end[OUTS], size_t before, size_t bit, size_t count, const uint8_t *mask)
+{
+    struct job made = {{NULL, NULL}, {0, 0}, 8 * before + bit, count, mask};
+    for (size_t k = 0; k < it->outs; k++) {
+        made.out[k] = first[k] - (it->is_told ? before : 0);
+        made.size[k] = (size_t)(end[k] - made.out[k]) / (it->each != 0 ? it->each : 1);
+    }
+    return made;
+}
+
+#endif
