@@ -61,16 +61,10 @@ pub extern "C" fn vb_and_kleene(
     let right = BitBufferView::new_with_offset(right, len, r);
     let trues_end = (t + len).div_ceil(8);
     let valid_end = (v + len).div_ceil(8);
-    and_kleene_into(
-        &mut trues[t / 8..trues_end],
-        t % 8,
-        &mut valid[v / 8..valid_end],
-        v % 8,
-        left,
-        left_valid,
-        right,
-        right_valid,
-    );
+    let trues = &mut trues[t / 8..trues_end];
+    let valid = &mut valid[v / 8..valid_end];
+    let (t, v) = (t % 8, v % 8);
+    and_kleene_into(trues, t, valid, v, left, left_valid, right, right_valid);
 }
 
 /// Whether all windows lie in their bytes, those of validities that count too; [`vb_and_kleene`] is
@@ -174,16 +168,10 @@ pub extern "C" fn vb_or_kleene(
     let right = BitBufferView::new_with_offset(right, len, r);
     let trues_end = (t + len).div_ceil(8);
     let valid_end = (v + len).div_ceil(8);
-    or_kleene_into(
-        &mut trues[t / 8..trues_end],
-        t % 8,
-        &mut valid[v / 8..valid_end],
-        v % 8,
-        left,
-        left_valid,
-        right,
-        right_valid,
-    );
+    let trues = &mut trues[t / 8..trues_end];
+    let valid = &mut valid[v / 8..valid_end];
+    let (t, v) = (t % 8, v % 8);
+    or_kleene_into(trues, t, valid, v, left, left_valid, right, right_valid);
 }
 
 /// Whether all windows lie in their bytes, those of validities that count too; [`vb_or_kleene`] is
