@@ -1,24 +1,30 @@
 """The picture of the crates: each stands on those below it, as crates.txt says."""
 from dataclasses import dataclass, field
 
+from documents.kinds import kind_of, reached, statics
+
 WIDTH, ROW, BOX, GAP, EDGE = 760, 62, 30, 20, 8
-FACADE = "vortex_buffer"
+LEGEND, SWATCH, LETTER = 40, 16, 7.9
+KINDS = {
+    "facade": "facade", "library": "library", "command": "commands", "c": "for C",
+    "example": "examples, timed jobs",
+}
 STYLE = """
   text { font: 13px ui-monospace, Menlo, Consolas, "DejaVu Sans Mono", monospace; fill: #1d2126; }
   rect { fill: #eef4fb; stroke: #8fb3d9; }
   path { fill: none; stroke: #9aa5b1; stroke-width: 1.3; }
-  .top rect { fill: #cfe3f8; stroke: #0b5cad; stroke-width: 1.6; }
-  .top text { font-weight: 700; }
-  .use rect { fill: #f4f5f6; stroke: #b6bfc8; }
-  .commands rect { fill: #f6effb; stroke: #bb97d4; }
+  .facade rect { fill: #cfe3f8; stroke: #0b5cad; stroke-width: 1.6; }
+  .facade text { font-weight: 700; }
+  .example rect { fill: #f4f5f6; stroke: #b6bfc8; }
+  .command rect { fill: #f6effb; stroke: #bb97d4; }
   .c rect { fill: #edf7f0; stroke: #84bf9c; }
   @media (prefers-color-scheme: dark) {
     text { fill: #dde2e8; }
     rect { fill: #1a2735; stroke: #44688e; }
     path { stroke: #68737f; }
-    .top rect { fill: #17406b; stroke: #7db8ff; }
-    .use rect { fill: #20262c; stroke: #55606b; }
-    .commands rect { fill: #2b2036; stroke: #7d5c96; }
+    .facade rect { fill: #17406b; stroke: #7db8ff; }
+    .example rect { fill: #20262c; stroke: #55606b; }
+    .command rect { fill: #2b2036; stroke: #7d5c96; }
     .c rect { fill: #1a2d22; stroke: #4d8463; }
   }
 """
@@ -40,7 +46,7 @@ class Node:
 
     @property
     def width(self) -> float:
-        return len(self.name) * 7.9 + 22 if self.kind else 8
+        return len(self.name) * LETTER + 22 if self.kind else 8
 
     @property
     def y(self) -> float:
@@ -56,10 +62,6 @@ def dependencies(text: str) -> dict[str, list[str]]:
             found[left.split()[0]] = right.split()
     drawn = [it for it in found if not it.endswith(FOR_TESTS)]
     return {it: [dep for dep in found[it] if dep in drawn] for it in drawn}
-
-
-def reached(name: str, deps: dict[str, list[str]]) -> set[str]:
-    return {it for dep in deps[name] for it in (dep, *reached(dep, deps))}
 
 
 def reduced(deps: dict[str, list[str]]) -> dict[str, list[str]]:
@@ -80,23 +82,13 @@ def levels(deps: dict[str, list[str]]) -> dict[str, int]:
     return found
 
 
-def kind_of(name: str, deps: dict[str, list[str]]) -> str:
-    if name == FACADE:
-        return "top"
-    if name.startswith(("use_", "run_")):
-        return "use"
-    if name.endswith("_c"):
-        return "c"
-    return "library" if name in reached(FACADE, deps) else "commands"
-
-
 def nodes_of(text: str) -> list[list[Node]]:
     """The rows from the lowest one up, with a place in each row that a line passes."""
     every = dependencies(text)
     deps = reduced(every)
     at = levels(deps)
     rows: list[list[Node]] = [[] for _ in range(max(at.values()) + 1)]
-    made = {it: Node(it, at[it], kind_of(it, every)) for it in deps}
+    made = {it: Node(it, at[it], kind_of(it, every, statics(text))) for it in deps}
     for it in made.values():
         rows[it.level].append(it)
     for name, of in deps.items():
@@ -163,10 +155,11 @@ def picture(text: str) -> str:
     width, height = round(fitted(nodes)), len(rows) * ROW - ROW + BOX + 2 * EDGE
     lines = [line(low, high, height) for low in nodes for high in low.above]
     boxes = [box(it, height) for it in nodes if it.kind]
-    size = f'viewBox="0 0 {width} {height}" width="{width}" height="{height}"'
+    signs = legend({it.kind for it in nodes}, height + LEGEND / 2)
+    size = f'viewBox="0 0 {width} {height + LEGEND}" width="{width}" height="{height + LEGEND}"'
     title = "<title>The crates: each stands on those below it that a line leads to</title>"
     head = f'<svg xmlns="http://www.w3.org/2000/svg" {size} role="img">'
-    return "\n".join([head, title, f"<style>{STYLE}</style>", *lines, *boxes, "</svg>", ""])
+    return "\n".join([head, title, f"<style>{STYLE}</style>", *lines, *boxes, *signs, "</svg>", ""])
 
 
 def middle(node: Node, height: float) -> float:
@@ -191,3 +184,21 @@ def box(node: Node, height: float) -> str:
     )
     label = f'<text x="{node.x:.0f}" y="{y + 4.5:.1f}" text-anchor="middle">{node.name}</text>'
     return f'<g class="{node.kind}">{rect}{label}</g>'
+
+
+def legend(kinds: set[str], y: float) -> list[str]:
+    """The colour of each kind that is drawn, with its name, in a row around `y`."""
+    signs, x = [], float(EDGE)
+    for kind, name in KINDS.items():
+        if kind in kinds:
+            signs.append(sign(kind, name, x, y))
+            x += SWATCH + len(name) * LETTER + 2 * GAP
+    return signs
+
+
+def sign(kind: str, name: str, x: float, y: float) -> str:
+    swatch = (
+        f'<rect x="{x:.0f}" y="{y - SWATCH / 2:.0f}" width="{SWATCH}" height="{SWATCH}" rx="4"/>'
+    )
+    label = f'<text x="{x + SWATCH + 8:.0f}" y="{y + 4.5:.1f}">{name}</text>'
+    return f'<g class="{kind}">{swatch}{label}</g>'

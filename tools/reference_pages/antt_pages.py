@@ -1,14 +1,21 @@
 """The pages of definitions and of lemmas, a page for each file."""
+import re
 from html import escape
 
+from documents.kinds import FACADE
 from reference_pages.antt_items import AnttFile, Declaration
 from reference_pages.fragments import Fragments
-from reference_pages.library import FACADE
 from reference_pages.html_text import name_html, tag
 from reference_pages.pages import Page
 from reference_pages.rust_items import Item
 
 SHOWN_AT_ONCE = 6
+VARIABLE = re.compile(r"(?!a\b)[^\W\d_]\d*\b")  # a letter, but for the article
+
+
+def begun(sentence: str) -> str:
+    """A sentence with a capital, unless it begins with a variable or with code."""
+    return sentence if VARIABLE.match(sentence) else sentence[:1].upper() + sentence[1:]
 
 
 class AnttPages:
@@ -60,7 +67,7 @@ class AnttPages:
             where = self.fragments.source_link(page, it.source.path, it.line)
             hidden = "" if it.is_public else tag("span", "of this file alone", class_="from")
             page.add(tag("h3", f"{name} {hidden} {where}"))
-            page.add(tag("p", self.fragments.plain(it.sentence), class_="sentence"))
+            page.add(tag("p", self.fragments.plain(begun(it.sentence)), class_="sentence"))
             if not it.sentence and folder == "specs":
                 self.fragments.errors.append(f"{it.place}: `{it.name}` has no sentence above it")
             page.add(self.fragments.definition(page, self.stated(it, folder), scope))

@@ -5,7 +5,7 @@ from html import unescape
 from pathlib import Path
 from urllib.parse import unquote
 
-from reference_pages.library import FACADE
+from documents.kinds import FACADE
 from reference_pages.rust_items import Item
 from reference_pages.site import Site
 

@@ -1,16 +1,23 @@
 """The page of all crates, and that of one."""
 from html import escape
 
+from documents.kinds import kind_of
 from reference_pages.antt_items import AnttFile
 from reference_pages.docs_html import Lookup, docs_html
 from reference_pages.fragments import Fragments
 from reference_pages.html_text import name_html, tag
 from reference_pages.item_pages import display
-from reference_pages.library import FACADE, FOR_TESTS, Crate, Reach, sentence
+from reference_pages.library import FOR_TESTS, Crate, Reach, sentence
 from reference_pages.pages import Page
 from reference_pages.rust_items import Item
 
 SECTIONS = [("type", "Types"), ("trait", "Traits"), ("call", "Calls"), ("constant", "Constants")]
+GROUPS = [
+    ("The library", ["facade", "library"]),
+    ("Commands", ["command"]),
+    ("Other languages, and tests", ["c"]),
+    ("How to use it", ["example"]),
+]
 
 
 class CratePages:
@@ -22,29 +29,15 @@ class CratePages:
     # ---- all crates
     def groups(self) -> list[tuple[str, list[Crate]]]:
         """The crates in four groups: the library, commands, other languages and tests, examples."""
-        facade = self.library.crates[FACADE]
-        library = [it for it in self.library.shown if it is facade or it.name in self.below(facade)]
-        library.sort(key=lambda it: it is not facade)
-        rest = [it for it in self.library.shown if it not in library]
-        examples = [it for it in rest if it.is_example]
-        other = [it for it in rest if it.is_static or it.name in FOR_TESTS]
-        commands = [it for it in rest if it not in examples and it not in other]
-        return [
-            ("The library", library),
-            ("Commands", commands),
-            ("Other languages, and tests", other),
-            ("How to use it", examples),
-        ]
-
-    def below(self, crate: Crate) -> set[str]:
-        found: set[str] = set()
-        todo = list(crate.deps)
-        while todo:
-            name = todo.pop()
-            if name in self.library.crates and name not in found:
-                found.add(name)
-                todo += self.library.crates[name].deps
-        return found
+        crates = self.library.crates.values()
+        deps = {it.name: it.deps for it in crates}
+        linked = {it.name for it in crates if it.is_static}
+        found: dict[str, list[Crate]] = {}
+        for it in self.library.shown:
+            kind = "c" if it.name in FOR_TESTS else kind_of(it.name, deps, linked)
+            found.setdefault(kind, []).append(it)
+        return [(title, [it for kind in kinds for it in found.get(kind, [])])
+                for title, kinds in GROUPS]
 
     def index(self) -> Page:
         page = Page("index.html", "vortex_buffer reference")

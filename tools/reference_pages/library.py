@@ -4,12 +4,12 @@ from dataclasses import dataclass, field
 from functools import cached_property
 from pathlib import Path
 
+from documents.kinds import FACADE
 from reference_pages.antt_items import AnttFile, Declaration, Use, parse_antt, parse_use
 from reference_pages.rust_heads import base_name, impl_parts, use_names
 from reference_pages.rust_items import File, Item, parse
 from reference_pages.rust_text import Source
 
-FACADE = "vortex_buffer"  # the crate that users name
 FOR_TESTS = ("vb_testing", "vb_plain_machine")  # libraries on which tests alone stand
 NAMED = {"fn", "struct", "enum", "trait", "type", "const", "static"}
 Path_ = tuple[str, ...]

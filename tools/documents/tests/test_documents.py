@@ -6,6 +6,7 @@ from pathlib import Path
 from documents.blocks import Blocks
 from documents.examples import examples
 from documents.files import Repository
+from documents.kinds import kind_of, statics
 from documents.lists import lists
 from documents.picture import dependencies, levels, picture, reduced
 from documents.signatures import of_header
@@ -201,6 +202,41 @@ class Checked(unittest.TestCase):
         self.assertEqual(deps, {"low": [], "middle": ["low"], "vortex_buffer": ["middle"]})
         self.assertEqual(levels(deps), {"low": 0, "middle": 1, "vortex_buffer": 2})
         self.assertEqual(picture(CRATES).count("<path"), 2)
+
+    def test_the_picture_has_the_name_of_each_colour(self):
+        drawn = picture(CRATES)
+        for kind, name in (("facade", "facade"), ("library", "library")):
+            self.assertIn(f'<g class="{kind}"><rect', drawn)
+            self.assertEqual(drawn.count(f">{name}</text>"), 1)
+        self.assertNotIn(">commands</text>", drawn)
+        self.assertIn(">commands</text>", picture(CRATES + "vbits: low\n"))
+
+    def test_the_kind_of_each_crate(self):
+        deps = {
+            "low": [], "floats": ["low"], "vortex_buffer": ["low"],
+            "vb_c_core": [], "vb_c": ["low", "vb_c_core"], "by_hand": ["floats"],
+            "pool": ["low"], "vbits": ["pool"], "use_low": ["low"], "run_low": ["low"],
+        }
+        wanted = {
+            "low": "library", "floats": "library", "vortex_buffer": "facade",
+            "vb_c_core": "c", "vb_c": "c", "by_hand": "c", "vb_core": "library",
+            "pool": "command", "vbits": "command", "use_low": "example", "run_low": "example",
+        }
+        lines = "# it staticlib:\n\nvb_c staticlib: low vb_c_core\nby_hand staticlib: floats\n"
+        linked = statics(lines)
+        self.assertEqual(linked, {"vb_c", "by_hand"})
+        self.assertEqual({it: kind_of(it, deps, linked) for it in wanted}, wanted)
+
+    def test_the_kinds_of_the_crates_of_the_repository(self):
+        """A kernel whose user is C alone is of the library, and what C alone stands on is not."""
+        text = (Path(__file__).resolve().parents[3] / "crates.txt").read_text(encoding="utf-8")
+        deps, linked = dependencies(text), statics(text)
+        kinds = {it: kind_of(it, deps, linked) for it in deps}
+        in_c = {"vb_c_core", "vb_c", "vb_c_gather", "vb_c_values", "vb_c_compare"}
+        self.assertEqual({it for it in kinds if kinds[it] == "c"}, in_c)
+        of_commands = {"vb_command", "vb_pool", "vb_script", "vbits"}
+        self.assertEqual({it for it in kinds if kinds[it] == "command"}, of_commands)
+        self.assertEqual(kinds["vb_float"], "library")
 
     def test_figures_that_go_stale(self):
         for text, what in (("on 3 May", "a date"), ("took 12.5 seconds", "a duration"),

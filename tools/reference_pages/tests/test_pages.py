@@ -4,6 +4,7 @@ import tempfile
 import unittest
 from pathlib import Path
 
+from reference_pages.antt_pages import begun
 from reference_pages.checks import Checks
 from reference_pages.rust_text import SourceError
 from reference_pages.site import Site
@@ -112,6 +113,48 @@ class Pages(unittest.TestCase):
             self.site.write(Path(folder) / "made")
             with self.assertRaisesRegex(SourceError, "has files that aren't pages"):
                 self.site.write(Path(folder))
+
+
+class Sentences(unittest.TestCase):
+    def test_a_sentence_begins_with_a_capital(self):
+        self.assertEqual(begun("the sum of a list"), "The sum of a list")
+        self.assertEqual(begun("a run that begins at n"), "A run that begins at n")
+        self.assertEqual(begun("as many as asked for"), "As many as asked for")
+        self.assertEqual(begun(""), "")
+
+    def test_a_variable_and_code_stay_as_they_are(self):
+        for said in ("r is the place of the n-th", "n bytes stand for", "w0 is read", "b's digits",
+                     "`w & 1` is 0", "P holds of it", "λ is one", "2 to the number of it"):
+            self.assertEqual(begun(said), said)
+
+    def test_the_page_of_definitions_writes_them_so(self):
+        seen = "crates/low/specs/Seen.antt"
+        with Repository((seen, "-- the number is one", "-- n is one")) as root:
+            site = Site(Path(root))
+            html = site.pages["low/specs/Seen.html"].html()
+        self.assertIn('<p class="sentence">n is one</p>', html)
+        self.assertIn('<p class="sentence">The count with more</p>', html)
+        self.assertIn('<p class="sentence">How many were counted</p>', html)
+        style = Path(__file__).resolve().parent.parent / "style.css"
+        self.assertNotIn("text-transform: uppercase", style.read_text(encoding="utf-8"))
+
+
+class Groups(unittest.TestCase):
+    def test_each_crate_is_in_the_group_of_its_kind(self):
+        lines = "use_low: low\nfloats: low\nvb_c_core:\nvb_c staticlib: floats vb_c_core\n"
+        lines += "pool: low\nvbits: pool\nvb_testing:\n"
+        with Repository(("crates.txt", "use_low: low\n", lines)) as root:
+            for name in ("floats", "vb_c_core", "vb_c", "pool", "vb_testing"):
+                folder = Path(root) / "crates" / name / "src"
+                folder.mkdir(parents=True)
+                (folder / "lib.rt").write_text(f"//! What {name} is.\n", encoding="utf-8")
+            groups = Site(Path(root)).crate_pages.groups()
+        self.assertEqual({title: [it.name for it in crates] for title, crates in groups}, {
+            "The library": ["vortex_buffer", "low", "floats"],
+            "Commands": ["pool"],
+            "Other languages, and tests": ["vb_c_core", "vb_c", "vb_testing"],
+            "How to use it": ["use_low"],
+        })
 
 
 class Errors(unittest.TestCase):
