@@ -28,10 +28,10 @@ VB_CHECKED bool vb_try_block_counts(const uint8_t *bytes, size_t size, size_t of
         size_t *table, size_t room, size_t *written);
 
 /*
- * How many of the first `place` bits of the window are true, in constant time; `place` is at most
- * `len`. Here and below the table has exactly ceil(len / 512) entries, which the checked forms
- * test; that they are those of vb_block_counts they cannot test: of other ones the answer says
- * nothing, and does no harm.
+ * How many of the first `place` bits of the window are true; `place` is at most `len`. It reads one
+ * entry of the table, and the bits of one block. Here and below the table has exactly
+ * ceil(len / 512) entries, which the checked forms test; that they are those of vb_block_counts
+ * they cannot test: of other ones the answer says nothing, and does no harm.
  *
  *     uint8_t rows[128];
  *     memset(rows, 0x11, sizeof rows);

@@ -57,7 +57,7 @@ public:
     /* How many bits are true. */
     std::size_t count() const { return rank(bits_.len_); }
 
-    /* How many of the first `place` bits are true, in constant time. */
+    /* How many of the first `place` bits are true, by one entry of the table and one block. */
     std::size_t rank(std::size_t place) const
     {
         detail::expect(place <= bits_.len_, "a place is behind the window");

@@ -49,8 +49,9 @@ pub extern "C" fn vb_try_block_counts(
     true
 }
 
-/// How many of the first `i` bits of the window are true, in constant time, where the table is that
-/// of [`vb_block_counts`]; of any other table with an entry a block the number says nothing.
+/// How many of the first `i` bits of the window are true, where the table is that of
+/// [`vb_block_counts`]; of any other table with an entry a block the number says nothing. It reads
+/// one entry, and the bits of one block.
 #[unsafe(no_mangle)]
 pub extern "C" fn vb_rank(
     bytes: &[u8],

@@ -17,8 +17,8 @@ use vb_rank::LANES;
 use vb_view::BitBufferView;
 
 impl<A: Allocator> Counts<A> {
-    /// How many of the first `i` bits are true, in constant time, where these are the counts of the
-    /// bits. It takes no memory.
+    /// How many of the first `i` bits are true, where these are the counts of the bits. It reads
+    /// one or two counts and the bits of one block, and takes no memory.
     #[inline(always)]
     pub fn rank(&self, bits: BitBufferView<'_>, i: usize) -> usize
         requires counts { AreCounts (bits_of bits) self.now.numbers }

@@ -130,8 +130,8 @@ impl<A: Allocator + Clone> Ranked<A> {
         self.into_inner().freeze()
     }
 
-    /// How many of the first `i` bits are true, in constant time, as `rank_by`
-    /// answers of the set and a table of it. `i` has to be at most the length.
+    /// How many of the first `i` bits are true, as `rank_by` answers of the set and a table of it.
+    /// `i` has to be at most the length. It reads one or two counts and the bits of one block.
     pub fn rank(&self, i: usize) -> usize
         requires { i ≤ length self.now.bits }
         ensures { result ≡ count (take i self.now.bits) }
