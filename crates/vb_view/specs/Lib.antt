@@ -1,4 +1,5 @@
 pub mod MutView
+pub mod Relation
 pub mod View
 pub mod Windows
 pub use Rattle.vb_bits.specs.Bits

@@ -1,21 +1,25 @@
 //! Bits over borrowed bytes.
 ghost use Rattle.std.specs.Prelude.{◌≡◌, ◌+◌, ◌-◌, ◌*◌, ◌/◌, ◌%◌, ◌^◌, ◌<◌, ◌≤◌, ◌==◌, ◌↔◌};
-ghost use Rattle.std.specs.Prelude.{ℕ, length, drop, slice_get, slice_range, Some, All, IsTrue};
+ghost use Rattle.std.specs.Prelude.{◌≢◌, ℕ, length, drop, slice_get, slice_range, Some, All};
+ghost use Rattle.std.specs.Prelude.{IsTrue, IsOk, IsErrOf};
 ghost use Rattle.vb_bits.specs.Bits.{bits, count, complement, places, Selects, InvertsCount};
 ghost use Rattle.vb_bits.specs.InBytes.{InBytes};
 ghost use Rattle.vb_bits.specs.Nearest.{IsNext, IsPrevious};
 ghost use Rattle.vb_bits.specs.Operators.{combined_by};
 ghost use Rattle.vb_bits.specs.Runs.{runs, last_place};
 ghost use Rattle.vb_bits.specs.declared.zip.BitOp.TheVariants.{And, Or, Xor, AndNot};
+ghost use Rattle.vb_view.specs.Relation.{TellsNone};
 ghost use Rattle.vb_view.specs.Windows.{IsWindow};
 ghost use Rattle.vb_walk.specs.Cut.{IsCut};
 
 use crate::meta::BitBufferMeta;
 use std::ops::Range;
 use vb_bits::get_bit;
+use vb_core::{BufferError, Result};
 use vb_kernel::{
     all_set, and_count, andnot_count, any_set, bit_select, bit_select_unset, count_ones,
-    last_set_index, next_set, next_unset, or_count, previous_set, previous_unset, xor_count,
+    is_disjoint, is_subset, last_set_index, next_set, next_unset, or_count, previous_set,
+    previous_unset, xor_count,
 };
 use vb_walk::{BitChunks, BitIndexIterator, BitIterator, BitSliceIterator, UnalignedBitChunk};
 
@@ -243,6 +247,42 @@ impl<'a> BitBufferView<'a> {
         ensures { result ≡ count (combined_by AndNot (bits_of self.now) (bits_of other.now)) }
     {
         andnot_count(self.bytes, self.offset, other.bytes, other.offset, self.len)
+    }
+
+    /// Whether no place is true in both views, as none is of no bits. It reads both by words from
+    /// the front, up to the first word in which a place is; it takes no memory. Refused by
+    /// `LengthMismatch` exactly where the lengths differ.
+    pub fn is_disjoint(&self, other: &BitBufferView<'_>) -> Result<bool>
+        ensures { TellsNone And (bits_of self.now) (bits_of other.now) result }
+    {
+        self.compare_len(other)?;
+        Ok(is_disjoint(self.bytes, self.offset, other.bytes, other.offset, self.len))
+    }
+
+    /// Whether each place that is true in this view is true in the other one, as each is of no
+    /// bits. It reads both by words from the front, up to the first word in which one isn't; it
+    /// takes no memory. Refused by `LengthMismatch` exactly where the lengths differ.
+    pub fn is_subset(&self, other: &BitBufferView<'_>) -> Result<bool>
+        ensures { TellsNone AndNot (bits_of self.now) (bits_of other.now) result }
+    {
+        self.compare_len(other)?;
+        Ok(is_subset(self.bytes, self.offset, other.bytes, other.offset, self.len))
+    }
+
+    /// Nothing where the views are as long. Refused by `LengthMismatch` else.
+    fn compare_len(&self, other: &BitBufferView<'_>) -> Result<()>
+        ensures same_len { length (bits_of self.now) ≡ length (bits_of other.now) → IsOk result }
+        ensures other_len { length (bits_of self.now) ≢ length (bits_of other.now)
+            → IsErrOf result (BufferError.LengthMismatch
+            (length (bits_of self.now)) (length (bits_of other.now))) }
+    {
+        if self.len == other.len {
+            return Ok(());
+        }
+        Err(BufferError::LengthMismatch {
+            left: self.len,
+            right: other.len,
+        })
     }
 
     /// The place of the `n`-th true bit, counted from 0; `None` where at most `n` bits are true. It

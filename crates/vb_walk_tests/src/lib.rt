@@ -6,6 +6,8 @@ mod clones;
 #[cfg(test)]
 mod compared;
 #[cfg(test)]
+mod relation;
+#[cfg(test)]
 mod sample;
 #[cfg(test)]
 mod views;

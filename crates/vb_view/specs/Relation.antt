@@ -1,0 +1,16 @@
+-- How calls answer whether two lists of bits are disjoint, or one is a subset of the other.
+use Rattle.std.specs.Prelude.{◌≡◌, ◌≢◌, ◌↔◌, Bool, List, length}
+use Rattle.std.specs.Prelude.{Result, IfOk, IsOk, IsErrOf, IsTrue}
+use Rattle.vb_bits.specs.Bits.{count}
+use Rattle.vb_bits.specs.Operators.{combined_by}
+use Rattle.vb_bits.specs.declared.zip.BitOp.{BitOp}
+use Rattle.vb_core.specs.declared.error.BufferError.{BufferError}
+use Rattle.vb_core.specs.declared.error.BufferError.TheVariants.{LengthMismatch}
+
+-- of two lists of one length the answer is whether the operator makes nothing true; two lengths are
+-- refused, with both
+pub record TellsNone (op : BitOp) (l r : List Bool)
+    (result : Result Bool BufferError) : Type 0 where
+  pub ok : IfOk result (λ none. IsTrue none ↔ (count (combined_by op l r) ≡ 0))
+  pub same_len : length l ≡ length r → IsOk result
+  pub other_len : length l ≢ length r → IsErrOf result (LengthMismatch (length l) (length r))
