@@ -152,9 +152,10 @@ impl<A: Allocator + Clone> BitBuffer<A> {
 
     /// The bits of a range, which has to be in order and to end within the length. They share the
     /// storage, in constant time: the answer's bytes are this set's from the byte of the first bit
-    /// to that of the last, and its offset is below 8. It takes no memory but what a copy of the
-    /// allocator takes. Refused by `OutOfMemory` alone, where the allocator can't be
-    /// copied, or the storage has as many owners as can be counted.
+    /// to their end, and its offset is below 8. [`shrink_offset`](Self::shrink_offset) leaves those
+    /// of the bits alone. It takes no memory but what a copy of the allocator takes. Refused by
+    /// `OutOfMemory` alone, where the allocator can't be copied, or the storage has as many owners
+    /// as can be counted.
     pub fn slice(&self, range: Range<usize>) -> Result<Self>
         requires order { range.start ≤ range.end }
         requires within { range.end ≤ length self.now.bits }

@@ -18,4 +18,6 @@ mod plain;
 #[cfg(test)]
 mod refused;
 #[cfg(test)]
+mod relation;
+#[cfg(test)]
 mod rows;

@@ -52,6 +52,7 @@ pub use Rattle.vb_set.specs.OpenSet
 pub use Rattle.vb_take.specs.ItemsTaken
 pub use Rattle.vb_take.specs.Takes
 pub use Rattle.vb_view.specs.MutView
+pub use Rattle.vb_view.specs.Relation
 pub use Rattle.vb_view.specs.View
 pub use Rattle.vb_view.specs.Windows
 pub use Rattle.vb_walk.specs.Cut

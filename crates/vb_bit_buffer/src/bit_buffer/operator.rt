@@ -10,6 +10,7 @@ ghost use Rattle.vb_bits.specs.Operators.{combined_by};
 ghost use Rattle.vb_mem.specs.Makes.{Makes};
 ghost use Rattle.vb_mem.specs.OpenBuffer.{HoldsMade};
 ghost use Rattle.vb_bit_buffer.specs.Gives.{GivesCombined, GivesNegated};
+ghost use Rattle.vb_view.specs.Relation.{TellsNone};
 
 use super::BitBuffer;
 use std::alloc::Allocator;
@@ -74,6 +75,24 @@ impl<A: Allocator + Clone> BitBuffer<A> {
         ensures { result ≡ count (combined_by BitOp.AndNot self.now.bits right.now.bits) }
     {
         self.as_view().andnot_count(&right.as_view())
+    }
+
+    /// Whether no place is true here and in `right`, as none is of no bits. Both are read by words
+    /// from the front, up to the first word in which a place is; it takes no memory. Refused by
+    /// `LengthMismatch` exactly where the lengths differ.
+    pub fn is_disjoint(&self, right: &Self) -> Result<bool>
+        ensures { TellsNone BitOp.And self.now.bits right.now.bits result }
+    {
+        self.as_view().is_disjoint(&right.as_view())
+    }
+
+    /// Whether each place that is true here is true in `right`, as each is of no bits. Both are
+    /// read by words from the front, up to the first word in which one isn't; it takes no memory.
+    /// Refused by `LengthMismatch` exactly where the lengths differ.
+    pub fn is_subset(&self, right: &Self) -> Result<bool>
+        ensures { TellsNone BitOp.AndNot self.now.bits right.now.bits result }
+    {
+        self.as_view().is_subset(&right.as_view())
     }
 
     /// The bits combined with those of another set, in bytes of their own.

@@ -1,0 +1,111 @@
+//! Whether sets are disjoint, or one is a subset of the other: beside plain loops over their bits,
+//! refused for their lengths alone, and without memory.
+use crate::compared::equal;
+use crate::made::{LONGEST, front, list, ones, set};
+use std::alloc::{Allocator, Global};
+use std::process::Abort;
+use vb_bit_buffer::BitBuffer;
+use vb_core::{BufferError, Result};
+use vb_testing::Refusing;
+
+/// What two sets answer: whether they are disjoint, and whether the first is a subset.
+type Answers = (Result<bool>, Result<bool>);
+
+fn answers<A: Allocator + Clone>(
+    rt: &impl Abort,
+    left: Result<BitBuffer<A>>,
+    right: Result<BitBuffer<A>>,
+) -> Answers {
+    let (left, right) = (left.expect(rt, "a set"), right.expect(rt, "a set"));
+    let given = (left.is_disjoint(&right), left.is_subset(&right));
+    drop((left, right));
+    given
+}
+
+/// What a loop over the bits answers.
+fn plain(left: &[bool], right: &[bool]) -> Answers {
+    let (mut disjoint, mut within) = (true, true);
+    for (l, r) in left.iter().zip(right) {
+        disjoint &= !(*l & *r);
+        within &= !*l | *r;
+    }
+    (Ok(disjoint), Ok(within))
+}
+
+/// The right bits, of the left ones and noise: any, those apart from the left ones, and those
+/// around them.
+fn rights(left: &[bool], seed: usize) -> [[bool; LONGEST]; 3] {
+    let mut lists = [list(seed); 3];
+    for (i, bit) in left.iter().enumerate().take(LONGEST) {
+        lists[1][i] &= !*bit;
+        lists[2][i] |= *bit;
+    }
+    lists
+}
+
+/// Each length, and each two offsets within a byte at some of them.
+#[test]
+fn relations_are_plain(rt: HostRuntime) {
+    let lefts = list(21);
+    for len in 0..=LONGEST {
+        for l in 0..8 {
+            let (left, r) = (front(&lefts, len), len.wrapping_add(l) % 8);
+            for right in rights(left, 22 + l) {
+                let right = front(&right, len);
+                let given = answers(&rt, set(rt.alloc(), left, l), set(rt.alloc(), right, r));
+                equal(&rt, given, plain(left, right));
+            }
+        }
+    }
+}
+
+/// True bits and one less, which is the last or the first, of so many.
+fn long_sets(rt: &impl Abort, alloc: Global, len: usize) {
+    let all = BitBuffer::new_set(alloc, len).expect(rt, "a set");
+    let none = BitBuffer::new_unset(alloc, len).expect(rt, "a set");
+    for place in [0, len / 2, len.saturating_sub(1)] {
+        let one = BitBuffer::from_indices(alloc, len, [place]).expect(rt, "a set");
+        equal(
+            rt,
+            (one.is_subset(&all), all.is_subset(&one)),
+            (Ok(true), Ok(false)),
+        );
+        equal(
+            rt,
+            (one.is_disjoint(&none), one.is_disjoint(&all)),
+            (Ok(true), Ok(false)),
+        );
+        drop(one);
+    }
+    drop((all, none));
+}
+
+#[test]
+fn one_bit_of_many_tells(rt: HostRuntime) {
+    for len in [201, 512, 4097, 100_000] {
+        long_sets(&rt, rt.alloc(), len);
+    }
+}
+
+/// The lengths of two sets that differ, and what both calls are refused by.
+#[test]
+fn lengths_that_differ_are_refused_without_memory(rt: HostRuntime) {
+    let heap = Refusing::new(rt.alloc(), 0);
+    for (left, right) in [(69, 70), (70, 69), (0, 1), (64, 0)] {
+        heap.refuse(0);
+        let (one, other) = (ones(&heap, 3, left), ones(&heap, 5, right));
+        heap.refuse(1);
+        let refused = Err(BufferError::LengthMismatch { left, right });
+        equal(&rt, answers(&rt, one, other), (refused, refused));
+        equal(&rt, heap.asked(), 0);
+    }
+}
+
+#[test]
+fn answers_take_no_memory(rt: HostRuntime) {
+    let heap = Refusing::new(rt.alloc(), 0);
+    let (one, other) = (ones(&heap, 3, 200), ones(&heap, 4, 200));
+    heap.refuse(1);
+    equal(&rt, answers(&rt, one, other), (Ok(false), Ok(true)));
+    equal(&rt, heap.asked(), 0);
+}
