@@ -55,22 +55,22 @@ impl Growing {
     }
 }
 
-/// The calls, and how many bytes each asks for: at least, and at most. An owner takes less than 256
-/// bytes.
-const GROWING: &[(Growing, usize, usize)] = &[
+/// The calls, how many requests each makes, and for how many bytes: at least, and at most. An owner
+/// takes less than 256 bytes.
+const GROWING: &[(Growing, u64, usize, usize)] = &[
     // A body that copies the items fails here.
-    (Growing::Freeze, 1, 256),
-    (Growing::Take, 0, 0),
-    (Growing::AlignedWithin, 0, 0),
+    (Growing::Freeze, 1, 1, 256),
+    (Growing::Take, 0, 0, 0),
+    (Growing::AlignedWithin, 0, 0, 0),
     // A body that raises the declared alignment and moves no item fails here.
-    (Growing::AlignedBeyond, 4000, 8000),
-    (Growing::Clone, 4000, 8000),
+    (Growing::AlignedBeyond, 1, 4000, 8000),
+    (Growing::Clone, 1, 4000, 8000),
     // A body that asks for four times the room fails here.
-    (Growing::Reserve, 8000, 16000),
+    (Growing::Reserve, 1, 8000, 16000),
     // A body that doubles the room fails here.
-    (Growing::ReserveExact, 6000, 6000),
-    (Growing::Push, 4004, 8008),
-    (Growing::Within, 0, 0),
+    (Growing::ReserveExact, 1, 6000, 6000),
+    (Growing::Push, 1, 4004, 8008),
+    (Growing::Within, 0, 0, 0),
 ];
 
 /// Makes a call on a buffer of a thousand sevens. What it makes is sevens.
@@ -87,11 +87,12 @@ fn grow_sevens<A: Allocator + Clone>(
 #[test]
 fn growing_buffers_ask_for_what_they_need(rt: HostRuntime) {
     let heap = Refusing::new(rt.alloc(), 0);
-    for (call, least, most) in GROWING {
+    for (call, requests, least, most) in GROWING {
         heap.refuse(0);
         let made = BufferMut::full(&heap, 7, 1000);
         equal(&rt, heap.asks_within(4000, 4000), true);
         grow_sevens(&rt, made, call);
+        equal(&rt, heap.asked(), *requests);
         equal(&rt, heap.asks_within(*least, *most), true);
     }
 }
@@ -176,22 +177,23 @@ fn written<A: Allocator + Clone>(
     Ok(buffer)
 }
 
-/// The calls, and how many bytes each asks for: at least, and at most. `freeze` asks for an owner.
-const SHARED: &[(Shared, usize, usize)] = &[
+/// The calls, how many requests each makes, and for how many bytes: at least, and at most. `freeze`
+/// asks for an owner.
+const SHARED: &[(Shared, u64, usize, usize)] = &[
     // A body that copies the items fails here.
-    (Shared::Twin(Twin::Clone), 0, 0),
-    (Shared::Twin(SLICE), 0, 0),
-    (Shared::TwinOfSlice, 0, 0),
-    (Shared::AlignedWithin, 0, 0),
-    (Shared::AlignedBeyond, 4000, 8256),
-    (Shared::EnsureAligned, 0, 0),
-    (Shared::IntoMut, 1, 256),
-    (Shared::IntoMutOfSlice, 1, 256),
-    (Shared::IntoMutOfTwo, 4000, 8256),
+    (Shared::Twin(Twin::Clone), 0, 0, 0),
+    (Shared::Twin(SLICE), 0, 0, 0),
+    (Shared::TwinOfSlice, 0, 0, 0),
+    (Shared::AlignedWithin, 0, 0, 0),
+    (Shared::AlignedBeyond, 2, 4000, 8256),
+    (Shared::EnsureAligned, 0, 0, 0),
+    (Shared::IntoMut, 1, 1, 256),
+    (Shared::IntoMutOfSlice, 1, 1, 256),
+    (Shared::IntoMutOfTwo, 2, 4000, 8256),
     // A body that copies the items fails here.
-    (Shared::ItemsMut, 0, 0),
-    (Shared::ItemsMutOfSlice, 0, 0),
-    (Shared::ItemsMutOfTwo, 4000, 8256),
+    (Shared::ItemsMut, 0, 0, 0),
+    (Shared::ItemsMutOfSlice, 0, 0, 0),
+    (Shared::ItemsMutOfTwo, 2, 4000, 8256),
 ];
 
 /// Makes a call on a buffer of a thousand sevens. What it makes is sevens.
@@ -208,11 +210,12 @@ fn share_sevens<A: Allocator + Clone>(
 #[test]
 fn shared_buffers_ask_for_what_they_need(rt: HostRuntime) {
     let heap = Refusing::new(rt.alloc(), 0);
-    for (call, least, most) in SHARED {
+    for (call, requests, least, most) in SHARED {
         heap.refuse(0);
         let made = Buffer::full(&heap, 7, 1000);
         equal(&rt, heap.asks_within(4000, 4256), true);
         share_sevens(&rt, made, call);
+        equal(&rt, heap.asked(), *requests);
         equal(&rt, heap.asks_within(*least, *most), true);
     }
 }

@@ -67,20 +67,20 @@ fn negated_twice<A: Allocator + Clone>(made: Result<BitBufferMut<A>>) -> Result<
     Ok(!!made?)
 }
 
-/// The calls, and how many bytes each asks for: at least, and at most. An owner takes less than 256
-/// bytes.
-const OPEN: &[(Open, usize, usize)] = &[
+/// The calls, how many requests each makes, and for how many bytes: at least, and at most. An owner
+/// takes less than 256 bytes.
+const OPEN: &[(Open, u64, usize, usize)] = &[
     // A body that copies the bytes fails here.
-    (Open::Freeze, 1, 256),
-    (Open::Take, 0, 0),
-    (Open::Clone, 1000, 2000),
-    (Open::CopyFrom, 1001, 2256),
+    (Open::Freeze, 1, 1, 256),
+    (Open::Take, 0, 0, 0),
+    (Open::Clone, 1, 1000, 2000),
+    (Open::CopyFrom, 2, 1001, 2256),
     // A body that asks for four times the room fails here.
-    (Open::Reserve, 2000, 4000),
+    (Open::Reserve, 1, 2000, 4000),
     // A body that doubles the room fails here.
-    (Open::ReserveExact, 1500, 1500),
-    (Open::Within, 0, 0),
-    (Open::Not, 0, 0),
+    (Open::ReserveExact, 1, 1500, 1500),
+    (Open::Within, 0, 0, 0),
+    (Open::Not, 0, 0, 0),
 ];
 
 /// What a call made are eight thousand true bits.
@@ -94,11 +94,12 @@ fn are_ones<A: Allocator + Clone>(rt: &impl Abort, made: Result<BitBufferMut<A>>
 #[test]
 fn sets_to_edit_ask_for_what_they_need(rt: HostRuntime) {
     let heap = Refusing::new(rt.alloc(), 0);
-    for (call, least, most) in OPEN {
+    for (call, requests, least, most) in OPEN {
         heap.refuse(0);
         let set = ones(&heap, 8000);
         equal(&rt, heap.asks_within(1000, 2000), true);
         are_ones(&rt, call.make(set, &heap));
+        equal(&rt, heap.asked(), *requests);
         equal(&rt, heap.asks_within(*least, *most), true);
     }
 }
