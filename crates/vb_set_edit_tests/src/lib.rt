@@ -13,4 +13,6 @@ mod edits;
 #[cfg(test)]
 mod made;
 #[cfg(test)]
+mod room;
+#[cfg(test)]
 mod rows;

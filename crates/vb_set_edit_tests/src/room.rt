@@ -1,0 +1,169 @@
+//! Bits added within the room of a set, for which no memory is asked and the room stays; and bits
+//! added a few at a time, for which it is asked seldom. No clause counts requests, and of more than
+//! 512 bits none says that the room stays.
+use crate::compared::equal;
+use crate::made::window;
+use std::alloc::{Allocator, Global};
+use std::process::Abort;
+use vb_set::{BitBuffer, BitBufferMut, Result};
+use vb_testing::{Handle, Refusing};
+
+/// A call that adds bits.
+enum Call {
+    View,
+    Buffer,
+    Bytes,
+    Bools,
+    Copies,
+    Resize,
+    Iterator,
+    Trusted,
+}
+
+const CALLS: &[Call] = &[
+    Call::View,
+    Call::Buffer,
+    Call::Bytes,
+    Call::Bools,
+    Call::Copies,
+    Call::Resize,
+    Call::Iterator,
+    Call::Trusted,
+];
+
+impl Call {
+    /// Adds as many bits as a set has, which are those of the set, the list, or all true.
+    fn add<A: Allocator + Clone>(
+        &self,
+        set: &mut BitBufferMut<A>,
+        added: &BitBuffer<A>,
+        list: &[bool],
+    ) -> Result<()> {
+        let bits = added.as_view();
+        match self {
+            Call::View => set.append_view(bits),
+            Call::Buffer => set.append_buffer(added),
+            Call::Bytes => set.append_bits(bits.inner(), bits.offset(), bits.len()),
+            Call::Bools => set.append_bools(list),
+            Call::Copies => set.append_n(true, bits.len()),
+            Call::Resize => set.resize(set.len().saturating_add(bits.len()), true),
+            Call::Iterator => set.extend(bits.iter()),
+            Call::Trusted => set.extend_trusted(bits.iter()),
+        }
+    }
+}
+
+/// True values, of which a call may add as many as it adds bits.
+const TRUES: [bool; 5000] = [true; 5000];
+
+/// So many true bits, the first at this bit of their bytes.
+fn trues<A: Allocator + Clone>(alloc: A, offset: usize, len: usize) -> Result<BitBuffer<A>> {
+    window(
+        alloc,
+        (0xFF, len.div_ceil(8).saturating_add(1)),
+        offset,
+        len,
+    )?
+    .freeze()
+}
+
+/// A set of two bits, the first at this bit of its bytes, with room for so many more.
+fn roomy<A: Allocator + Clone>(alloc: A, offset: usize, len: usize) -> Result<BitBufferMut<A>> {
+    let mut set = window(alloc, (0xFF, 1), offset, 2)?;
+    match set.reserve_exact(len) {
+        Ok(()) => Ok(set),
+        Err(error) => {
+            drop(set);
+            Err(error)
+        }
+    }
+}
+
+/// Bits are added within the room, which is asked for once more before, with no request.
+fn stays(
+    rt: &impl Abort,
+    heap: &Refusing<Global>,
+    call: &Call,
+    (offset, from, len): (usize, usize, usize),
+) {
+    let added = trues(Handle { inner: heap }, from, len).expect(rt, "a set");
+    let mut set = roomy(Handle { inner: heap }, offset, len).expect(rt, "room");
+    let room = set.capacity();
+    heap.refuse(1);
+    let answers = (
+        set.reserve(len),
+        call.add(&mut set, &added, &TRUES[..len.min(5000)]),
+    );
+    equal(rt, answers, (Ok(()), Ok(())));
+    equal(rt, (set.capacity(), heap.asked()), (room, 0));
+    let count = len.saturating_add(2);
+    equal(rt, (set.len(), set.as_view().true_count()), (count, count));
+    heap.refuse(0);
+    drop((added, set));
+}
+
+/// The bits begin at one place of their byte on both sides, or at two. A body that makes room for
+/// more than 512 bits, whether there is room or not, fails here.
+#[test]
+fn long_appends_within_the_room_ask_for_nothing(rt: HostRuntime) {
+    let heap = Refusing::new(rt.alloc(), 0);
+    for call in CALLS {
+        for len in [1, 511, 512, 513, 600, 5000] {
+            for offset in [0, 3] {
+                for from in [0, 2, 5] {
+                    stays(&rt, &heap, call, (offset, from, len));
+                }
+            }
+        }
+    }
+}
+
+/// Adds bits to none, so many times.
+fn grow<A: Allocator + Clone>(
+    rt: &impl Abort,
+    alloc: A,
+    call: &Call,
+    added: &BitBuffer<A>,
+    times: usize,
+) {
+    let mut set = BitBufferMut::empty(alloc);
+    let list = &TRUES[..added.len().min(5000)];
+    for _ in 0..times {
+        call.add(&mut set, added, list).expect(rt, "room");
+    }
+    equal(rt, set.len(), added.len().saturating_mul(times));
+    drop(set);
+}
+
+/// How many requests there were, and for how many bytes in all.
+type Asked = (u64, usize);
+
+/// How many bits are added at a time, how many times, what is asked where they are added at once,
+/// and what where 64 of them are at most, as those of an iterator.
+const GROWN: &[(usize, usize, Asked, Asked)] = &[
+    (1, 8, (1, 8), (1, 8)),
+    (1, 65, (2, 24), (2, 24)),
+    (1, 100_000, (12, 32_760), (12, 32_760)),
+    (64, 1600, (12, 32_760), (12, 32_760)),
+    (100, 1000, (11, 26_611), (12, 32_760)),
+    (1000, 100, (8, 31_875), (12, 32_760)),
+];
+
+/// The room doubles. Bodies that grow to the least fail here.
+#[test]
+fn bits_added_a_few_at_a_time_ask_seldom(rt: HostRuntime) {
+    let heap = Refusing::new(rt.alloc(), 0);
+    for call in CALLS {
+        for (count, times, at_once, by_words) in GROWN {
+            let added = trues(&heap, 0, *count).expect(&rt, "a set");
+            heap.refuse(0);
+            grow(&rt, &heap, call, &added, *times);
+            let wanted = match call {
+                Call::Iterator => *by_words,
+                _ => *at_once,
+            };
+            equal(&rt, (heap.asked(), heap.asked_bytes()), wanted);
+            drop(added);
+        }
+    }
+}
