@@ -6,7 +6,9 @@ from pathlib import Path
 
 NAMED = ["README.md", "CONTRIBUTING.md", "CHANGELOG.md"]
 FOLDERS = ["docs", "crates", "bindings", "demo"]
-SOURCES = {".rt", ".antt", ".rs", ".h", ".c", ".py", ".txt", ".toml", ".in", ".edit", ""}
+SOURCES = {
+    ".rt", ".antt", ".rs", ".h", ".hpp", ".c", ".cpp", ".py", ".txt", ".toml", ".in", ".edit", "",
+}
 PROSE = {"LICENSE", "NOTICE", "HANDLES"}
 # What was measured, and of which code, which may be gone.
 MEASURED = "docs/PERF.md"

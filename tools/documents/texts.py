@@ -1,6 +1,7 @@
 """What documents say: names that exist, links that lead somewhere, no figure that goes stale."""
 import re
 import unicodedata
+from itertools import product
 from pathlib import Path
 
 from documents.files import Document, Repository
@@ -16,6 +17,8 @@ STALE = {
     "a duration": re.compile(r"\b\d[\d,.:]* (?:s|seconds?|minutes?|hours?|CPU-\w+)\b"),
     "a count of edits": re.compile(r"\b\d[\d,]* (?:edits|wrong bodies|public clauses|passed)\b"),
 }
+# A row that says what a word in capitals may be in a name: | `OP` | `and`, `or` |
+OF_WORD = re.compile(r"^\| `([A-Z]+)` \| ((?:`\w+`(?:, )?)+)", re.MULTILINE)
 OUTSIDE = set("rustc cargo rt git errno".split())
 
 
@@ -23,11 +26,24 @@ def names(repository: Repository) -> list[str]:
     """The names in backquotes that no source has."""
     found = []
     for document in repository.standing:
+        words = alphabet(document.text)
         for n, line in document.lines():
-            for it in NAME.findall(ours(document, line)):
+            quoted = NAME.findall(ours(document, line))
+            for it in (name for text in quoted for name in expanded(text, words)):
                 for word in missing(it, repository.words):
                     found.append(f"{document.path}:{n}: `{word}` isn't in the sources")
     return found
+
+
+def alphabet(text: str) -> dict[str, list[str]]:
+    """What each word in capitals may be in a name of a page, by the rows that say so."""
+    return {word: re.findall(r"`(\w+)`", listed) for word, listed in OF_WORD.findall(text)}
+
+
+def expanded(name: str, words: dict[str, list[str]]) -> list[str]:
+    """The names that one with words in capitals means: `and_count` and `or_count` of `OP_count`."""
+    parts = re.split(r"([A-Z]+)", name)
+    return ["".join(it) for it in product(*(words.get(part, [part]) for part in parts))]
 
 
 def ours(document: Document, line: str) -> str:

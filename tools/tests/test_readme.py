@@ -13,10 +13,10 @@ ARCHIVE = TOP / "bindings/out/libvortex_bits.a"
 VBITS = TOP / "crates/vbits/out/vbits"
 
 
-def block(language: str) -> tuple[str, list[str]]:
+def block(language: str, document: str = README) -> tuple[str, list[str]]:
     """The one block of a language, and the lines that it prints, as is said behind it."""
     found = re.findall(
-        rf"^```{language}\n(.*?)^```\n\nIt prints (.*?)[.:] ", README, re.MULTILINE | re.DOTALL
+        rf"^```{language}\n(.*?)^```\n\nIt prints (.*?)[.:] ", document, re.MULTILINE | re.DOTALL
     )
     assert len(found) == 1, f"{len(found)} blocks of {language}"
     return found[0][0], re.findall(r"`([^`]+)`", found[0][1])
