@@ -1,0 +1,69 @@
+"""Whether the table of calls in bindings/c/README.md names each C function, and no other one, and
+in its other columns names that C++, Rust and Rattle have.
+"""
+import re
+
+from documents.files import Repository
+from documents.lists import OF_THE_LIBRARY, differ
+from documents.texts import NAME, alphabet, expanded, missing
+
+PAGE = "bindings/c/README.md"
+HEADERS = "bindings/c/vortex_bits*.h"
+HEAD = ["Calls", "C", "C++", "Rust", "Rattle"]
+# Where the names of the columns behind that of C are.
+SOURCES = {
+    "C++": re.compile(r"bindings/c/\w+\.hpp"),
+    "Rust": re.compile(r"bindings/rust/src/.*\.rs"),
+    "Rattle": re.compile(r"crates/(vb_|vortex_buffer/).*\.rt"),
+}
+DECLARED = re.compile(r"^\w[\w *]*?\b(vb_\w+)\(", re.MULTILINE)
+
+
+def cells(line: str) -> list[str]:
+    """The cells of a row, in which a bar that is text has a backslash."""
+    return [it.strip() for it in re.split(r"(?<!\\)\|", line)[1:-1]]
+
+
+def columns(text: str) -> dict[str, set[str]]:
+    """The names in each column of the table of calls, those with words in capitals expanded."""
+    lines = text.split("\n")
+    words = alphabet(text)
+    found: dict[str, set[str]] = {it: set() for it in HEAD}
+    starts = [n for n, line in enumerate(lines) if cells(line) == HEAD]
+    for line in lines[starts[0] + 2:] if starts else []:
+        if not line.startswith("|"):
+            break
+        for column, cell in zip(HEAD, cells(line)):
+            for name in NAME.findall(cell):
+                found[column].update(expanded(name, words))
+    return found
+
+
+def checked(name: str) -> str:
+    """The name of the form that tests what its caller passes."""
+    return name.replace("vb_", "vb_try_", 1)
+
+
+def of_c(repository: Repository, named: set[str]) -> list[str]:
+    """The functions that the headers or the table have and the other hasn't."""
+    headers = sorted(repository.root.glob(HEADERS))
+    texts = [it.read_text(encoding="utf-8") for it in headers]
+    declared = {it for text in texts for it in DECLARED.findall(text)}
+    with_forms = named | {checked(it) for it in named - OF_THE_LIBRARY}
+    return differ(PAGE, with_forms, HEADERS, declared)
+
+
+def of_column(repository: Repository, column: str, named: set[str]) -> list[str]:
+    """The names of a column that its language hasn't."""
+    paths = [it for it in repository.paths if SOURCES[column].fullmatch(it)]
+    words = {word for it in paths for word in re.findall(r"\w+", repository.read(it))}
+    gone = sorted({word for it in named for word in missing(it, words)})
+    return [f"{PAGE}: `{it}` of the column {column} isn't in its sources" for it in gone]
+
+
+def calls(repository: Repository) -> list[str]:
+    found = columns(repository.read(PAGE))
+    wrong = of_c(repository, found["C"])
+    for column in SOURCES:
+        wrong += of_column(repository, column, found[column])
+    return wrong
