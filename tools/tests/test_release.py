@@ -1,13 +1,15 @@
 """bindings/release in a repository of its own, with changes that no commit has and without."""
+import os
 import subprocess
 import tempfile
 import unittest
 from pathlib import Path
 from shutil import copy
 
-RELEASE = Path(__file__).resolve().parent.parent.parent / "bindings" / "release"
+TOP = Path(__file__).resolve().parent.parent.parent
 # It ends where the libraries would be built, behind what is tested here.
 BUILD = "#!/bin/sh\necho builds >&2\nexit 3\n"
+BUILDS = "failed: libraries\n    builds\n"
 
 
 class Release(unittest.TestCase):
@@ -22,7 +24,13 @@ class Release(unittest.TestCase):
         build = self.top / "bindings" / "build"
         build.write_text(BUILD)
         build.chmod(0o755)
-        copy(RELEASE, self.top / "bindings" / "release")
+        copy(TOP / "bindings" / "release", self.top / "bindings")
+        tools = self.top / "tools"
+        tools.mkdir()
+        copy(TOP / "tools" / "parts.sh", tools)
+        (self.top / "crates.txt").touch()
+        # It is never called.
+        (tools / "rt").touch(0o755)
         self.git("init", "--quiet")
         self.commit()
 
@@ -34,26 +42,33 @@ class Release(unittest.TestCase):
         self.git("add", "--all")
         self.git("commit", "--quiet", "--message", "all")
 
-    def release(self) -> tuple[int, str]:
-        """The status, and what was said on standard error."""
+    def release(self) -> subprocess.CompletedProcess:
+        env = {it: os.environ[it] for it in os.environ if it != "PARTS_LOG"}
+        env["PATH"] = f"{self.top / 'tools'}:{env['PATH']}"
         command = self.top / "bindings" / "release"
-        ended = subprocess.run([command], capture_output=True, text=True)
-        return ended.returncode, ended.stderr
+        return subprocess.run([command], capture_output=True, text=True, env=env)
+
+    def builds(self) -> None:
+        ended = self.release()
+        self.assertEqual((ended.returncode, ended.stderr), (1, ""))
+        self.assertIn(BUILDS, ended.stdout)
+        self.assertEqual(ended.stdout.splitlines()[-1], "0 passed, 1 failed")
 
     def refused(self, change: str) -> None:
         (self.top / "dist").mkdir()
         (self.top / "dist" / "kept").touch()
+        ended = self.release()
         said = f"bindings/release: there are changes that no commit has:\n{change}\n"
-        self.assertEqual(self.release(), (1, said))
+        self.assertEqual((ended.returncode, ended.stderr), (1, said))
         self.assertTrue((self.top / "dist" / "kept").exists())
 
     def test_all_is_committed(self):
-        self.assertEqual(self.release(), (3, "builds\n"))
+        self.builds()
 
     def test_a_file_that_is_ignored(self):
         (self.top / "out").mkdir()
         (self.top / "out" / "made").touch()
-        self.assertEqual(self.release(), (3, "builds\n"))
+        self.builds()
 
     def test_a_file_that_was_changed(self):
         (self.top / "bindings/build").write_text(BUILD + "#\n")
