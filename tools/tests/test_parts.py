@@ -53,6 +53,7 @@ class Folder(unittest.TestCase):
         self.addCleanup(folder.cleanup)
         self.top = Path(folder.name).resolve()
         self.copy("tools/parts.sh")
+        self.command("tools/digest", "echo 0")
         self.write("crates.txt", "low:\nhigh: low\nvb_c staticlib: low high\n")
         for crate in ("low", "high", "vb_c"):
             self.write(f"crates/{crate}/src/lib.rt", "")
@@ -359,10 +360,18 @@ class Bindings(Folder):
         self.write("bindings/rust/Cargo.toml", 'version = "0.1.0"\n')
         self.command("bindings/c/functions", "exit 0")
 
+    def commit(self):
+        """Commits all files but those that commands make."""
+        self.write(".gitignore", "out/\ndist/\n")
+        who = ("-c", "user.name=a", "-c", "user.email=a@example")
+        for words in (["init"], ["add", "--all"], [*who, "commit", "--message", "all"]):
+            subprocess.run(["git", *words], cwd=self.top, check=True, capture_output=True)
+
     def test_it_stops_where_the_libraries_fail(self):
         for crate in ("vb_c_gather", "vb_c_values", "vb_c_compare"):
             self.write(f"crates/{crate}/src/lib.rt", "")
         self.command("bin/rt", STOPS)
+        self.commit()
         for name in ("run", "release"):
             with self.subTest(name):
                 status, lines = self.run_it(f"bindings/{name}")
