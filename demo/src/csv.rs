@@ -8,8 +8,10 @@ use std::io::{self, BufRead, Chain, Cursor, Read};
 
 use crate::rows::Rows;
 
-/// The most bytes and fields of one row: a longer one is an error, so that memory stays bounded.
+/// The most bytes of one row: a longer one is an error, so that memory stays bounded.
 pub const LONGEST_ROW: usize = 16 << 20;
+/// The most fields of one row.
+pub const MOST_FIELDS: usize = 1 << 20;
 
 const BYTE_ORDER_MARK: &[u8] = &[0xEF, 0xBB, 0xBF];
 /// How files in UTF-16 begin.
@@ -49,7 +51,7 @@ pub enum Malformed {
     AfterQuote(u8),
     /// A carriage return without a line feed is outside of quotes.
     CarriageReturn,
-    /// A row is longer than [`LONGEST_ROW`].
+    /// A row is longer than [`LONGEST_ROW`], or has more than [`MOST_FIELDS`].
     TooLong,
     /// The file is encoded as UTF-16.
     Utf16,
@@ -71,7 +73,7 @@ impl fmt::Display for Malformed {
             ),
             Malformed::TooLong => write!(
                 f,
-                "the row has more than {} MiB or as many fields; is a quote missing?",
+                "the row has more than {} MiB or {MOST_FIELDS} fields; is a quote missing?",
                 LONGEST_ROW >> 20
             ),
             Malformed::Utf16 => write!(f, "the file is UTF-16; UTF-8 is wanted"),
@@ -148,7 +150,7 @@ impl<R: BufRead> Reader<R> {
             if end == End::Row {
                 return Ok(true);
             }
-            if field >= LONGEST_ROW {
+            if field >= MOST_FIELDS {
                 return Err(malformed(self.line, field, Malformed::TooLong));
             }
         }

@@ -226,7 +226,7 @@ impl Run<'_> {
         outputs.extend(histogram.as_mut().map(|it| it as &mut dyn Output));
         outputs.extend(values.as_mut().map(|it| it as &mut dyn Output));
         outputs.extend(out.as_mut().map(|it| it as &mut dyn Output));
-        engine::run(self.table, self.survey, self.filter.as_ref(), &mut outputs)?;
+        self.read(&mut outputs)?;
         if let Some(mut out) = out {
             out.finish()?;
         }
@@ -239,6 +239,10 @@ impl Run<'_> {
             self.draw(path, &kept, &strip)?;
         }
         Ok(kept)
+    }
+
+    fn read(&self, outputs: &mut [&mut dyn Output]) -> Result<(), Error> {
+        engine::run(self.table, self.survey, self.filter.as_ref(), outputs)
     }
 
     /// The histogram of the column that the user wants, else of the first one with numbers; None if
@@ -273,12 +277,7 @@ impl Run<'_> {
             return Ok(histogram);
         };
         let mut close = Histogram::new(wide.column(), range);
-        engine::run(
-            self.table,
-            self.survey,
-            self.filter.as_ref(),
-            &mut [&mut close],
-        )?;
+        self.read(&mut [&mut close])?;
         Ok(Some(close))
     }
 

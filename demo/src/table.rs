@@ -11,8 +11,9 @@ use crate::rows::Rows;
 
 /// The most rows of a batch.
 pub const BATCH: usize = 65_536;
-/// The number of bytes with which a batch ends, though it may have more rows.
+/// A batch ends with the row that brings it to so many bytes or fields.
 const BATCH_BYTES: usize = 8 << 20;
+const BATCH_FIELDS: usize = 1 << 20;
 /// How much of the file is read at once.
 const BUFFER: usize = 256 << 10;
 
@@ -59,7 +60,6 @@ impl Table {
     ///
     /// If the file isn't a regular one, can't be read, is empty, or begins with no row of CSV.
     pub fn open(path: &Path, format: Format) -> Result<Table, Error> {
-        let has_header = format.has_header;
         let file = fs::metadata(path).map_err(|error| Error::file(path, error))?;
         if !file.is_file() {
             let wrong = "this is not a regular file, which is wanted since it is read twice";
@@ -72,30 +72,18 @@ impl Table {
             first: Vec::new(),
         };
         let mut first = Rows::new(0);
-        let mut reader = table.reader()?;
-        if !reader
-            .read_row(&mut first)
-            .map_err(|error| table.error(error))?
-        {
-            let wanted = if has_header {
-                "a row with the names of the columns"
+        let has_row = table.reader()?.read_row(&mut first);
+        if !has_row.map_err(|error| table.error(error))? {
+            let names = if format.has_header {
+                " with the names of the columns"
             } else {
-                "a row"
+                ""
             };
-            return Err(Error::data(
-                path,
-                1,
-                format!("the file is empty; {wanted} is wanted"),
-            ));
+            let wrong = format!("the file is empty; a row{names} is wanted");
+            return Err(Error::data(path, 1, wrong));
         }
         table.first = first.all_fields().map(<[u8]>::to_vec).collect();
-        table.names = (1..)
-            .zip(&table.first)
-            .map(|(place, name)| match String::from_utf8_lossy(name) {
-                name if has_header && !name.is_empty() => name.into_owned(),
-                _ => format!("c{place}"),
-            })
-            .collect();
+        table.names = names(&table.first, format.has_header);
         Ok(table)
     }
 
@@ -200,14 +188,15 @@ impl Batches<'_> {
     /// one.
     pub fn next_batch(&mut self) -> Result<Option<&Rows>, Error> {
         self.rows.clear();
-        while self.rows.len() < BATCH && self.rows.bytes() < BATCH_BYTES {
-            if !self.next_row()? {
-                break;
-            }
-        }
+        while !self.is_full() && self.next_row()? {}
         self.read += self.rows.len() as u64;
         self.progress.tell(self.read, self.reader.read());
         Ok((!self.rows.is_empty()).then_some(&self.rows))
+    }
+
+    fn is_full(&self) -> bool {
+        let rows = &self.rows;
+        rows.len() >= BATCH || rows.bytes() >= BATCH_BYTES || rows.fields() >= BATCH_FIELDS
     }
 
     fn next_row(&mut self) -> Result<bool, Error> {
@@ -242,6 +231,15 @@ impl Batches<'_> {
     }
 }
 
+/// The names of the columns, by the fields of the first row.
+fn names(first: &[Vec<u8>], has_header: bool) -> Vec<String> {
+    let name = |(place, field): (usize, &Vec<u8>)| match String::from_utf8_lossy(field) {
+        name if has_header && !name.is_empty() => name.into_owned(),
+        _ => format!("c{place}"),
+    };
+    (1..).zip(first).map(name).collect()
+}
+
 /// Returns the place of a name. Names are compared as they are; if none is equal, without regard to
 /// the case of ASCII letters, as in SQL.
 ///
@@ -262,7 +260,10 @@ pub fn find<'a>(names: impl Iterator<Item = &'a str> + Clone, name: &str) -> Res
             "there is no column \"{shown}\"; the columns are {}",
             listed(names)
         )),
-        _ => Err(format!("{} columns are called \"{shown}\"", found.len())),
+        _ => Err(format!(
+            "{} columns are called \"{shown}\"; with --no-header they are c1, c2 and so on",
+            found.len()
+        )),
     }
 }
 
@@ -281,4 +282,37 @@ fn listed<'a>(names: impl Iterator<Item = &'a str>) -> String {
         list[12] = "..".to_string();
     }
     list.join(", ")
+}
+
+#[cfg(test)]
+mod tests {
+    use super::*;
+
+    /// The number of rows, fields and bytes of each batch of a file.
+    fn batches(name: &str, text: &str) -> Vec<(usize, usize, usize)> {
+        let path = std::env::temp_dir().join(format!("demo_{name}_{}", std::process::id()));
+        fs::write(&path, text).unwrap();
+        let table = Table::open(&path, Format::default()).unwrap();
+        let mut batches = table.batches("testing").unwrap();
+        let mut sizes = Vec::new();
+        while let Some(rows) = batches.next_batch().unwrap() {
+            sizes.push((rows.len(), rows.fields(), rows.bytes()));
+        }
+        fs::remove_file(path).unwrap();
+        sizes
+    }
+
+    #[test]
+    fn batches_are_bounded() {
+        let short = batches("short", &format!("a\n{}", "1\n".repeat(100_000)));
+        assert_eq!(short, [(BATCH, BATCH, BATCH), (34_464, 34_464, 34_464)]);
+
+        let row = "x".repeat(1 << 20) + "\n";
+        let long = batches("long", &format!("a\n{}", row.repeat(10)));
+        assert_eq!(long, [(8, 8, 8 << 20), (2, 2, 2 << 20)]);
+
+        let row = ",".repeat(4095) + "\n";
+        let wide = batches("wide", &row.repeat(301));
+        assert_eq!(wide, [(256, 1 << 20, 0), (44, 44 << 12, 0)]);
+    }
 }

@@ -162,6 +162,16 @@ fn a_header_line_is_copied_as_it_is() {
 }
 
 #[test]
+fn columns_of_one_name() {
+    let folder = Folder::new("twice");
+    let file = folder.file("in.csv", "a,b,A,b\n1,2,3,4\n");
+    let select = ["--select", "sum(a),sum(A)"];
+    assert_eq!(printed(&file, &select), "sum(a),sum(A)\n1,3\n");
+    let wanted = "2 columns are called \"B\"; with --no-header they are c1, c2 and so on";
+    assert!(error(&file, &["--where", "B = 2"]).contains(wanted));
+}
+
+#[test]
 fn files_without_a_header_line() {
     let folder = Folder::new("header");
     let file = folder.file("passwd", "root:x:0:\"\nbin:x:2:\n\nsync:x:4:a\"b");

@@ -2,7 +2,7 @@
 
 use std::io::BufReader;
 
-use super::{CsvError, Dialect, LONGEST_ROW, Malformed, Reader};
+use super::{CsvError, Dialect, LONGEST_ROW, MOST_FIELDS, Malformed, Reader};
 use crate::rows::{Rows, write_row};
 
 const COMMAS: Dialect = Dialect {
@@ -112,10 +112,10 @@ fn rows_are_bounded() {
         read(&long, COMMAS, 1 << 16).1,
         Some((1, 0, Malformed::TooLong))
     );
-    let fields = vec![b','; LONGEST_ROW + 1];
+    let fields = vec![b','; MOST_FIELDS + 1];
     assert_eq!(
         read(&fields, COMMAS, 1 << 16).1,
-        Some((1, LONGEST_ROW, Malformed::TooLong))
+        Some((1, MOST_FIELDS, Malformed::TooLong))
     );
 }
 
