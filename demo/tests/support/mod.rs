@@ -63,6 +63,35 @@ pub fn program(file: &Path) -> process::Command {
     command
 }
 
+/// What a run of the program ended with.
+pub fn run(file: &Path, args: &[&str]) -> process::Output {
+    program(file).args(args).output().unwrap()
+}
+
+/// What is printed by a run that succeeds.
+pub fn printed(file: &Path, args: &[&str]) -> String {
+    let output = run(file, args);
+    let errors = String::from_utf8(output.stderr).unwrap();
+    assert_eq!(output.status.code(), Some(0), "{args:?}: {errors}");
+    String::from_utf8(output.stdout).unwrap()
+}
+
+/// What a run that fails tells, without the line on the code that runs.
+pub fn error(file: &Path, args: &[&str]) -> String {
+    let output = run(file, args);
+    assert_eq!(
+        (output.status.code(), output.stdout.len()),
+        (Some(2), 0),
+        "{args:?}"
+    );
+    let errors = String::from_utf8(output.stderr).unwrap();
+    errors
+        .lines()
+        .filter(|line| !line.starts_with("the bit functions"))
+        .collect::<Vec<_>>()
+        .join("\n")
+}
+
 /// The columns of random tables: two of whole numbers, two of floats, two of texts.
 pub const COLUMNS: [&str; 6] = ["a", "B", "x", "y z", "t", "u\"v"];
 

@@ -1,0 +1,226 @@
+//! The errors of the program, and its statuses.
+
+mod support;
+
+use std::fs;
+use std::io::Read;
+use std::path::Path;
+use std::process::Stdio;
+
+use support::{Folder, error, program, run};
+
+const PARCELS: &str = concat!(env!("CARGO_MANIFEST_DIR"), "/parcels.csv");
+
+/// Files that are wrong, with the options of a run, and what is told behind their names.
+const BAD_FILES: [(&str, &[&str], &str); 9] = [
+    (
+        "",
+        &[],
+        ":1: the file is empty; a row with the names of the columns is wanted",
+    ),
+    (
+        "",
+        &["--no-header"],
+        ":1: the file is empty; a row is wanted",
+    ),
+    (
+        "a,b\n1,2\n3\n",
+        &[],
+        ":3: 1 field; 2 are wanted: a, b; --short-rows allows for missing ones",
+    ),
+    ("a,b\n\n1,2,3\n", &[], ":3: 3 fields; 2 are wanted: a, b"),
+    (
+        "a,b\n1,\"x\n",
+        &[],
+        ":2: column \"b\": the quote that begins this field is never closed",
+    ),
+    (
+        "a,b\n\"1\"2,x\n",
+        &[],
+        ":2: column \"a\": \"2\" follows the closing quote; a delimiter or the end of the line is wanted",
+    ),
+    (
+        "a,b\n1,x\r2\n",
+        &[],
+        ":2: column \"b\": a carriage return without a line feed; lines end in LF or CRLF, and \
+             other carriage returns are quoted",
+    ),
+    (
+        "size,b\n1,\"x\ny\"\n12a,\n",
+        &["--type", "size=whole"],
+        ":4: column \"size\": \"12a\" is not a whole number of 64 bits, the type of this column",
+    ),
+    (
+        "size\n1e999\n",
+        &["--type", "size=float"],
+        ":2: column \"size\": \"1e999\" is not a decimal number, the type of this column",
+    ),
+];
+
+#[test]
+fn errors_of_the_file_name_the_line_and_the_column() {
+    let folder = Folder::new("errors");
+    for (text, args, wanted) in BAD_FILES {
+        let file = folder.file("data.csv", text);
+        assert_eq!(error(&file, args), format!("{}{wanted}", file.display()));
+    }
+}
+
+/// Options that don't fit the parcels, and what is told.
+const BAD_QUERIES: [(&[&str], &str); 8] = [
+    (
+        &["--where", "weight > 1 and size = 2"],
+        "--where: there is no column \"size\"; the columns are parcel, city, weight, cents, \
+             days, note\n  weight > 1 and size = 2\n                 ^",
+    ),
+    (
+        &["--where", "city = 4"],
+        "--where: column \"city\" is text; a text is wanted, as '4'\n  city = 4\n         ^",
+    ),
+    (
+        &["--where", "cents = '4'"],
+        "--where: column \"cents\" has numbers; a number without quotes is wanted\n  \
+             cents = '4'\n          ^",
+    ),
+    (
+        &["--where", "cents = city"],
+        "--where: column \"city\" is text and column \"cents\" is whole; numbers compare with \
+             numbers, and texts with texts\n  cents = city\n          ^",
+    ),
+    (
+        &["--where", "1 = 2"],
+        "--where: a column is wanted on one side of a comparison\n  1 = 2\n      ^",
+    ),
+    (
+        &["--select", "count(*), sum(x)"],
+        "--select: there is no column \"x\"; the columns are parcel, city, weight, cents, \
+             days, note\n  count(*), sum(x)\n                ^",
+    ),
+    (
+        &["--histogram", "city"],
+        "--histogram: this column is text; one of numbers is wanted\n  city\n  ^",
+    ),
+    (
+        &["--where", "cents >"],
+        "--where: a column, a number or a text is wanted here\n  cents >\n         ^",
+    ),
+];
+
+#[test]
+fn errors_of_a_query_point_at_their_place() {
+    let file = Path::new(PARCELS);
+    for (args, wanted) in BAD_QUERIES {
+        assert_eq!(error(file, args), wanted);
+    }
+}
+
+/// Options that fit no file, and what is told.
+const BAD_OPTIONS: [(&[&str], &str); 11] = [
+    (&["--size"], "there is no option --size"),
+    (&["-x"], "there is no option -x"),
+    (&["--where"], "--where wants a value"),
+    (&["--rows=1"], "--rows has no value"),
+    (
+        &["--nth", "0"],
+        "--nth \"0\": a whole number from 1 on is wanted",
+    ),
+    (
+        &["--nth", "x"],
+        "--nth \"x\": a whole number from 1 on is wanted",
+    ),
+    (
+        &["--delimiter", "ab"],
+        "--delimiter \"ab\": one ASCII character is wanted, or tab",
+    ),
+    (
+        &["--delimiter", "\""],
+        "--delimiter \"\\\"\": one ASCII character is wanted, or tab",
+    ),
+    (
+        &["--type", "a=b"],
+        "--type \"a=b\": COLUMN=whole, =float or =text is wanted",
+    ),
+    (&["other.csv"], "one CSV file is wanted, 2 are given"),
+    (
+        &["--rows", "--nth=1"],
+        "one of --select, --rows and --nth is wanted at most",
+    ),
+];
+
+#[test]
+fn errors_of_the_command_line() {
+    let file = Path::new(PARCELS);
+    for (args, wanted) in BAD_OPTIONS {
+        assert_eq!(
+            error(file, args),
+            format!("{wanted}; --help lists the options")
+        );
+    }
+}
+
+#[test]
+fn files_that_cannot_be_used() {
+    let folder = Folder::new("unusable");
+    let none = folder.path("none.csv");
+    assert_eq!(
+        error(&none, &[]),
+        format!("{}: No such file or directory (os error 2)", none.display())
+    );
+    let inside = folder.path("");
+    assert!(error(&inside, &[]).contains(": this is not a regular file, which is wanted"));
+    let file = folder.file("in.csv", "a\n1\n");
+    let own = file.to_str().unwrap();
+    for option in ["--out", "--svg"] {
+        assert!(error(&file, &[option, own]).contains("this is the CSV file"));
+    }
+    let link = folder.path("link.csv");
+    fs::hard_link(&file, &link).unwrap();
+    assert!(error(&file, &["--out", link.to_str().unwrap()]).contains("this is the CSV file"));
+    assert_eq!(fs::read_to_string(&file).unwrap(), "a\n1\n");
+    let out = folder.path("none/out.csv");
+    assert!(error(&file, &["--out", out.to_str().unwrap()]).contains("out.csv: No such file"));
+}
+
+#[test]
+fn a_row_that_is_not_there_has_its_status() {
+    let output = run(
+        Path::new(PARCELS),
+        &["--where", "days is null", "--nth", "8"],
+    );
+    assert_eq!((output.status.code(), output.stdout.len()), (Some(1), 0));
+    assert!(
+        String::from_utf8(output.stderr)
+            .unwrap()
+            .ends_with("there is no such row: 7 are kept\n")
+    );
+}
+
+#[test]
+fn a_reader_that_goes_away_is_no_error() {
+    let folder = Folder::new("pipe");
+    let rows = "some text that fills a pipe,1\n".repeat(50_000);
+    let file = folder.file("long.csv", rows);
+    let mut command = program(&file);
+    command
+        .args(["--rows", "--no-header"])
+        .stdout(Stdio::piped())
+        .stderr(Stdio::null());
+    let mut child = command.spawn().unwrap();
+    let mut start = [0; 4];
+    child.stdout.take().unwrap().read_exact(&mut start).unwrap();
+    assert_eq!((&start, child.wait().unwrap().code()), (b"some", Some(0)));
+}
+
+#[test]
+#[cfg(target_os = "linux")]
+fn a_full_disk_is_an_error() {
+    let full = fs::File::options().write(true).open("/dev/full").unwrap();
+    let mut command = program(Path::new(PARCELS));
+    let output = command.arg("--rows").stdout(full).output().unwrap();
+    assert_eq!(output.status.code(), Some(2));
+    let errors = String::from_utf8(output.stderr).unwrap();
+    assert!(
+        errors.ends_with("standard output: No space left on device (os error 28)\n"),
+        "{errors}"
+    );
+}
