@@ -135,6 +135,13 @@ pub enum ArrowError {
         /// Why they aren't.
         error: TakeValuesError,
     },
+    /// There is no memory for the bytes of texts.
+    Memory {
+        /// The name of the column.
+        column: String,
+        /// How many bytes the texts have together; `usize::MAX` where they are more.
+        bytes: usize,
+    },
     /// Texts are longer together than their offsets of 32 bits can say, which is 2^31 - 1 bytes.
     LongTexts {
         /// The name of the column.
@@ -292,6 +299,9 @@ impl fmt::Display for ArrowError {
             }
             ArrowError::NoColumn { name } => write!(f, "no column {name:?}"),
             ArrowError::Take { column, error } => write!(f, "{}{error}", Of(column)),
+            ArrowError::Memory { column, bytes } => {
+                write!(f, "{}no memory for texts of {bytes} bytes", Of(column))
+            }
             ArrowError::LongTexts { column, bytes } => {
                 let (column, most) = (Of(column), i32::MAX);
                 write!(
@@ -327,6 +337,7 @@ impl ArrowError {
             | ArrowError::Field { column, .. }
             | ArrowError::Unaligned { column, .. }
             | ArrowError::Take { column, .. }
+            | ArrowError::Memory { column, .. }
             | ArrowError::LongTexts { column, .. } => column,
             ArrowError::Stream { .. } | ArrowError::NoColumn { .. } => return self,
         };

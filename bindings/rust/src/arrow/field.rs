@@ -15,6 +15,8 @@ use super::layout::{self, Layout, Of};
 
 /// How many levels of children and dictionaries are read.
 pub(super) const DEPTH: usize = 64;
+/// How many children a type may have, which other readers count by 32 bits.
+const MOST_CHILDREN: usize = i32::MAX as usize;
 /// The flag of columns that may have nulls.
 pub(super) const NULLABLE: i64 = 2;
 /// The flag of maps whose keys are sorted.
@@ -259,18 +261,22 @@ unsafe fn children(
     depth: usize,
 ) -> Result<Vec<Arc<Field>>, ArrowError> {
     let number = count("n_children", schema.n_children, layout.children())?;
-    (0..number)
-        .map(|place| {
-            // SAFETY: there are as many children as it says.
-            let read = match unsafe { child(schema.children, place) } {
-                // SAFETY: it is the parent's, which isn't released.
-                Ok(child) => unsafe { Field::read(child.as_ref(), depth + 1) },
-                Err(fault) => Err(fault.into()),
-            };
-            read.map(Arc::new)
-                .map_err(|error| error.under(&place.to_string()))
-        })
-        .collect()
+    let mut children = Vec::new();
+    if number > MOST_CHILDREN || children.try_reserve_exact(number).is_err() {
+        return Err(Fault::OutOfRange("n_children", schema.n_children).into());
+    }
+    for place in 0..number {
+        // SAFETY: there are as many children as it says.
+        let read = match unsafe { child(schema.children, place) } {
+            // SAFETY: it is the parent's, which isn't released.
+            Ok(child) => unsafe { Field::read(child.as_ref(), depth + 1) },
+            Err(fault) => Err(fault.into()),
+        };
+        children.push(Arc::new(
+            read.map_err(|error| error.under(&place.to_string()))?,
+        ));
+    }
+    Ok(children)
 }
 
 /// # Safety

@@ -82,7 +82,10 @@ impl Layout {
     /// That of a type with parameters.
     fn of_parts((name, parameters): (&str, &str)) -> Option<Layout> {
         match name {
-            "tss" | "tsm" | "tsu" | "tsn" => Some(Layout::Fixed(Kind::Signed, 8)),
+            // The interface has formats that end with 0.
+            "tss" | "tsm" | "tsu" | "tsn" if !parameters.contains('\0') => {
+                Some(Layout::Fixed(Kind::Signed, 8))
+            }
             "w" => Some(Layout::Fixed(Kind::Bytes, digits(parameters)?)),
             "d" => Some(Layout::Fixed(Kind::Signed, decimal(parameters)? / 8)),
             "+w" => {

@@ -1,6 +1,7 @@
 //! Numbers that no memory can hold: each is refused by name, and nothing is read by it.
 use vortex_bits::arrow::Export;
 
+use crate::ranges::offsets;
 use crate::raw::{self, Array, Buffer, Count, Schema, import};
 
 /// What is said of an array of four items that is spoiled, of a format; how many they are, where it
@@ -131,6 +132,43 @@ fn numbers_of_children_are_those_of_the_type() {
     }
 }
 
+#[test]
+fn children_of_a_schema_are_as_many_as_some_memory_has() {
+    let none = Count::default();
+    for number in [i64::MAX, 1 << 61, 1 << 60, 1 << 50, 1 << 40, 1 << 31] {
+        let fields = vec![Schema::new("a", "l", &none)];
+        let mut schema = Schema::of("", "+s", fields, None, &none);
+        schema.n_children = number;
+        let refused = import(Array::new(0, vec![None], &none), schema).unwrap_err();
+        assert_eq!(refused.to_string(), format!("n_children is {number}"));
+    }
+}
+
+/// Few items of a dictionary may be those of many rows.
+#[test]
+#[cfg(all(target_pointer_width = "64", not(miri)))]
+fn texts_that_no_memory_holds_are_refused() {
+    // No byte of it is looked at, so that it takes no memory.
+    let bytes = vec![0u8; 1 << 31];
+    let long = || {
+        let buffers = vec![None, Some(offsets(&[0, 1 << 31], true, 0)), None];
+        let array = Array::new(1, buffers, &Count::default());
+        // SAFETY: there are three buffers; the bytes stay longer than the array.
+        unsafe { *array.buffers.add(2) = bytes.as_ptr().cast() };
+        import(array, Schema::new("s", "U", &Count::default())).unwrap()
+    };
+    let rows = vec![0u8; 1 << 18];
+    let wanted = format!("column \"s\": no memory for texts of {} bytes", 1u64 << 49);
+    let taken = Export::texts_taken(&long(), &rows).map(drop);
+    assert_eq!(taken.unwrap_err().to_string(), wanted);
+    let coded = Export::values(rows, None).with_dictionary(Export::from(long()));
+    let texts = coded.unwrap().named("d").into_array().dictionary_texts();
+    assert_eq!(
+        texts.map(drop).unwrap_err().to_string(),
+        wanted.replace("\"s\"", "\"d.dictionary.s\"")
+    );
+}
+
 /// A vector of values without a byte may have more of them than the interface can say.
 #[test]
 #[should_panic(expected = "18446744073709551615 values")]
@@ -172,6 +210,10 @@ fn formats_have_numbers_that_the_interface_has() {
             format!("no type has the format {format:?}")
         );
     }
+    // It would go out as the format up to the 0.
+    let cut = "tss:a\0b";
+    let days = Export::values([1i64], None).with_format(cut).unwrap_err();
+    assert_eq!(days.to_string(), format!("no type has the format {cut:?}"));
     let all: Vec<String> = (0..128).map(|it: u8| it.to_string()).collect();
     let format = format!("+us:{}", all.join(","));
     let array = raw::Array::new(0, vec![None], &Count::default());

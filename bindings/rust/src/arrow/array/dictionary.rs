@@ -87,7 +87,7 @@ impl Array {
     /// Of a column without a dictionary, where the buffer of the indices isn't aligned as these
     /// are, as of [`Array::texts`] of the items, at the first index that is valid and names no
     /// item, and where the texts are longer together than 2^31 - 1 bytes and their offsets have 32
-    /// bits.
+    /// bits, or than memory can hold: few items may be those of many rows.
     pub fn dictionary_texts(&self) -> Result<Export, ArrowError> {
         let items = self.items_of_indices()?;
         let texts = by_index!(self.texts_taken::<_>(&items))?;

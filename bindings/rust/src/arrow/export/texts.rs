@@ -118,7 +118,7 @@ impl Export {
     /// # Errors
     ///
     /// As of [`Array::texts`], at the first index that isn't one of a row, and where the texts are
-    /// longer together than 2^31 - 1 bytes and their offsets have 32 bits.
+    /// longer together than 2^31 - 1 bytes and their offsets have 32 bits, or than memory can hold.
     pub fn texts_taken<I: BitIndex>(texts: &Array, indices: &[I]) -> Result<Export, ArrowError> {
         Export::texts_taken_valid(texts, indices, None::<Bits<'_>>)
     }
@@ -141,7 +141,7 @@ impl Export {
     ///
     /// As of [`Array::texts`], where `validity` isn't as long as the indices, at the first index
     /// that is valid and isn't one of a row, and where the texts are longer together than 2^31 - 1
-    /// bytes and their offsets have 32 bits.
+    /// bytes and their offsets have 32 bits, or than memory can hold.
     pub fn texts_taken_valid<I: BitIndex>(
         texts: &Array,
         indices: &[I],
@@ -301,7 +301,13 @@ fn joined<'a>(
         end
     });
     let ends = Ends::new(is_narrow, ends).map_err(|bytes| long(of, bytes))?;
-    let mut bytes = Vec::with_capacity(end);
+    let mut bytes = Vec::new();
+    if bytes.try_reserve_exact(end).is_err() {
+        return Err(ArrowError::Memory {
+            column: field.name.clone(),
+            bytes: end,
+        });
+    }
     texts.for_each(|text| bytes.extend_from_slice(text));
     let buffers = [ends.pointer(), bytes.as_ptr().cast()];
     Ok(Export::column(
