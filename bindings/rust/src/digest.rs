@@ -4,6 +4,6 @@
 /// What tools/digest prints; tools/write-lists writes it here.
 macro_rules! digest {
     () => {
-        "eb9fd987ee56e60b76098553019ee0da9e70a5f6b82f9b5a01929c1083705f0d"
+        "4b38d3d848930071f591acaf5f96decfeea03d4e738619f6ead5f909a065b129"
     };
 }
