@@ -4,6 +4,6 @@
 /// What tools/digest prints; tools/write-lists writes it here.
 macro_rules! digest {
     () => {
-        "4b38d3d848930071f591acaf5f96decfeea03d4e738619f6ead5f909a065b129"
+        "706cc59ac3ea15348844091e5f077cbdcb9d596e9b689b9d58f767ab566f0b45"
     };
 }
