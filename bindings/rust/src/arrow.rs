@@ -32,8 +32,8 @@
 //! ```
 //!
 //! The structs come from outside, so their numbers are tested: lengths, offsets, numbers of nulls,
-//! of buffers and of children, which buffers are there, formats, and that columns are as long as
-//! their struct. What can't be tested is the caller's promise, by `unsafe`: that pointers lead to
+//! of buffers and of children, which buffers are there, formats, and that children are as long as
+//! their parent needs. What can't be tested is the caller's promise, by `unsafe`: that pointers lead to
 //! as much as the numbers say. Lists of one length or of views, unions and runs may stand in a
 //! batch, and have a length and a validity here, no more. An [`Array`] goes out again as it came,
 //! of whatever type, by [`Export::from`](Export).

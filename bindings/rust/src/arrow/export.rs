@@ -330,14 +330,13 @@ impl Export {
 /// # Ok::<(), vortex_bits::arrow::ArrowError>(())
 /// ```
 ///
-/// The array of a slice has the offset of its first row, as the interface lets it have. Some
-/// consumers don't look at offsets, as GDAL's reader for numpy: for these the values of the slice
-/// are to be copied.
+/// The array of a slice has the offset of its first row, as the interface allows. Some readers
+/// ignore offsets, such as GDAL's for numpy: copy the values of a slice for them.
 ///
 /// # Panics
 ///
-/// Where the rows are a part of texts or lists that another part of the program made wrongly: they
-/// end behind the last row of all, so that a consumer would read more than there is.
+/// If the rows are part of texts or lists that another part of the program made wrongly: the part
+/// ends behind the last row of the whole array, so that a consumer would read more than there is.
 impl From<Array> for Export {
     #[track_caller]
     fn from(array: Array) -> Export {
