@@ -65,7 +65,7 @@ pub struct Options {
     pub kinds: Vec<(String, Kind)>,
 }
 
-/// Returns the options of a command line without the program's name; None if it asks for help.
+/// Returns the options of a command line without the program's name; None for `--help`.
 ///
 /// # Errors
 ///
@@ -104,7 +104,7 @@ fn usage<T>(wrong: String) -> Result<T, Error> {
     Err(Error::Usage(wrong))
 }
 
-/// Sets an option, whose value may stand behind `=` or be the next argument.
+/// Sets an option. Its value follows `=` or is the next argument.
 fn option_of(
     options: &mut Options,
     arg: &str,

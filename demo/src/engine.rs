@@ -48,7 +48,7 @@ pub trait Output {
     fn take(&mut self, batch: &Batch<'_>, kept: &Bitmap) -> Result<(), Error>;
 }
 
-/// Reads the file once, and hands each batch to each output.
+/// Reads the file once, and passes each batch to each output.
 ///
 /// # Errors
 ///

@@ -1,4 +1,4 @@
-//! What can go wrong, as it is told to the user.
+//! Errors, and the texts in which the user reads them.
 
 use std::fmt;
 use std::io;
@@ -16,7 +16,7 @@ pub enum Error {
         /// What the system says.
         error: io::Error,
     },
-    /// A place of the file isn't what is wanted there.
+    /// A line of the file isn't what it has to be.
     Data {
         /// The file.
         path: PathBuf,
@@ -31,7 +31,7 @@ pub enum Error {
     Closed,
 }
 
-/// A place of a condition or of a list of answers that can't be understood.
+/// An error at one position of a condition or of a list of answers.
 #[derive(Clone, Debug, PartialEq, Eq)]
 pub struct QueryError {
     /// The byte of the text where it begins.
@@ -100,7 +100,7 @@ impl From<QueryError> for Error {
 }
 
 impl fmt::Display for QueryError {
-    /// The message, and the line of the text with a caret below the place.
+    /// The message, and the line of the text with a caret below the position.
     fn fmt(&self, f: &mut fmt::Formatter<'_>) -> fmt::Result {
         let Some((option, text)) = &self.of else {
             return f.write_str(&self.wrong);
@@ -128,12 +128,14 @@ impl fmt::Display for Error {
 
 impl std::error::Error for Error {}
 
-/// Returns a character as one that moves no cursor: control characters become `?`.
-fn visible(character: char) -> char {
-    if character.is_control() {
-        '?'
-    } else {
-        character
+/// Returns a character as one that moves no cursor: control characters become their pictures.
+#[must_use]
+pub fn visible(character: char) -> char {
+    match u32::from(character) {
+        code @ ..0x20 => char::from_u32(0x2400 + code).unwrap_or('?'),
+        0x7F => '\u{2421}',
+        _ if character.is_control() => '\u{FFFD}',
+        _ => character,
     }
 }
 
@@ -148,4 +150,24 @@ pub fn shown(bytes: &[u8], most: usize) -> String {
         cut.push('…');
     }
     cut
+}
+
+#[cfg(test)]
+mod tests {
+    use super::*;
+
+    #[test]
+    fn texts_move_no_cursor() {
+        assert_eq!(shown(b"a\x1B[31m\n\x7F", 20), "a␛[31m␊␡");
+        assert_eq!(shown("\u{9B}é".as_bytes(), 20), "\u{FFFD}é");
+        assert_eq!(shown(b"\xE4", 20), "\u{FFFD}");
+    }
+
+    #[test]
+    fn long_texts_are_cut() {
+        assert_eq!(shown(b"abcde", 5), "abcde");
+        assert_eq!(shown(b"abcdef", 5), "abcd…");
+        assert_eq!(shown("\u{1F600}".repeat(9).as_bytes(), 2), "\u{1F600}…");
+        assert_eq!(shown(&[b'x'; 1000], 3), "xx…");
+    }
 }

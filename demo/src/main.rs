@@ -28,7 +28,7 @@ fn main() -> ExitCode {
         Ok(Outcome::Done) | Err(Error::Closed) => ExitCode::SUCCESS,
         Ok(Outcome::NoRow) => ExitCode::from(NO_ROW),
         Err(error) => {
-            // Without standard error there is nobody to tell.
+            // Nobody reads it if standard error is closed.
             let _ = writeln!(io::stderr(), "{error}");
             ExitCode::from(FAILED)
         }

@@ -1,9 +1,9 @@
-//! How far a long run is, told on standard error.
+//! The progress of a long run, on standard error.
 
 use std::io::{self, IsTerminal, Write};
 use std::time::{Duration, Instant};
 
-/// A run shorter than this tells nothing.
+/// A shorter run reports nothing.
 const SHORT: Duration = Duration::from_secs(1);
 
 /// The progress of one pass over a file.
@@ -11,8 +11,8 @@ pub struct Progress {
     doing: &'static str,
     size: u64,
     start: Instant,
-    /// When it was told last.
-    told: Option<Instant>,
+    /// When it was reported last.
+    reported: Option<Instant>,
     is_terminal: bool,
 }
 
@@ -25,27 +25,27 @@ impl Progress {
             doing,
             size,
             start: Instant::now(),
-            told: None,
+            reported: None,
             is_terminal,
         }
     }
 
-    /// Tells how many rows and bytes are read, if it is time to: in one line of a terminal five
-    /// times a second, elsewhere in a line of its own every five seconds.
-    pub fn tell(&mut self, rows: u64, bytes: u64) {
+    /// Reports how many rows and bytes are read, if a report is due: a terminal has one line that
+    /// changes five times a second, other outputs get a line every five seconds.
+    pub fn report(&mut self, rows: u64, bytes: u64) {
         let pause = Duration::from_millis(if self.is_terminal { 200 } else { 5000 });
-        let is_due = self.told.is_none_or(|told| told.elapsed() >= pause);
+        let is_due = self.reported.is_none_or(|last| last.elapsed() >= pause);
         if self.start.elapsed() < SHORT || !is_due {
             return;
         }
-        self.told = Some(Instant::now());
+        self.reported = Some(Instant::now());
         let line = line(self.doing, rows, (bytes, self.size), self.start.elapsed());
         let (start, end) = if self.is_terminal {
             ("\r\x1b[K", "")
         } else {
             ("", "\n")
         };
-        // Without standard error there is nobody to tell.
+        // Nobody reads it if standard error is closed.
         let _ = write!(io::stderr(), "{start}{line}{end}");
     }
 }
@@ -53,7 +53,7 @@ impl Progress {
 impl Drop for Progress {
     /// Clears the line of the terminal.
     fn drop(&mut self) {
-        if self.told.is_some() && self.is_terminal {
+        if self.reported.is_some() && self.is_terminal {
             let _ = write!(io::stderr(), "\r\x1b[K");
         }
     }

@@ -36,7 +36,7 @@ pub enum Outcome {
     NoRow,
 }
 
-/// Reads the file and prints what the options ask for. Which code runs is told on standard error.
+/// Reads the file and prints what the options select. A line on standard error says which code runs.
 ///
 /// # Errors
 ///
@@ -48,7 +48,7 @@ pub fn run(options: &Options) -> Result<Outcome, Error> {
     let kinds = kinds(options, &table)?;
     let (list, histogram) = (query.list(&table)?, histogram_column(options, &table)?);
     query.check_names(&table)?;
-    // Without standard error there is nobody to tell.
+    // Nobody reads it if standard error is closed.
     let _ = writeln!(io::stderr(), "{}", code());
 
     let survey = Survey::of(&table, &kinds)?;
@@ -130,7 +130,7 @@ impl<'a> Query<'a> {
         filter.transpose().map_err(|error| self.wrong(error))
     }
 
-    /// The answers by the places of their columns.
+    /// The answers by the indices of their columns.
     fn list(&self, table: &Table) -> Result<Vec<Answer<usize>>, Error> {
         let Print::Answers(text) = &self.options.print else {
             return Ok(Vec::new());
@@ -199,7 +199,7 @@ struct Run<'a> {
     table: &'a Table,
     survey: &'a Survey,
     filter: Option<Filter>,
-    /// The column that the user wants the histogram of.
+    /// The column of `--histogram`.
     histogram: Option<usize>,
 }
 
@@ -245,8 +245,8 @@ impl Run<'_> {
         engine::run(self.table, self.survey, self.filter.as_ref(), outputs)
     }
 
-    /// The histogram of the column that the user wants, else of the first one with numbers; None if
-    /// it isn't shown, or has no number.
+    /// The histogram of the column of `--histogram`, or of the first one with numbers; None if it
+    /// isn't shown or the column has no number.
     fn histogram(&self) -> Result<Option<Histogram>, Error> {
         if self.options.print != Print::Report && self.options.svg.is_none() {
             return Ok(None);
@@ -377,7 +377,7 @@ impl Run<'_> {
         let kept = self.pass(vec![&mut nth])?;
         let Some(row) = nth.found else {
             let kept = grouped(kept.rows);
-            // Without standard error there is nobody to tell.
+            // Nobody reads it if standard error is closed.
             let _ = writeln!(io::stderr(), "there is no such row: {kept} are kept");
             return Ok(Outcome::NoRow);
         };

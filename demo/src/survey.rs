@@ -119,7 +119,7 @@ impl Survey {
         Ok(Survey { rows, columns })
     }
 
-    /// Returns the place of a column, as [`find`] does.
+    /// Returns the index of a column, as [`find`] does.
     ///
     /// # Errors
     ///

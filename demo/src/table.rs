@@ -112,7 +112,7 @@ impl Table {
         self.format.has_header.then_some(fields)
     }
 
-    /// Returns the place of a column, as [`find`] does.
+    /// Returns the index of a column, as [`find`] does.
     ///
     /// # Errors
     ///
@@ -190,7 +190,7 @@ impl Batches<'_> {
         self.rows.clear();
         while !self.is_full() && self.next_row()? {}
         self.read += self.rows.len() as u64;
-        self.progress.tell(self.read, self.reader.read());
+        self.progress.report(self.read, self.reader.read());
         Ok((!self.rows.is_empty()).then_some(&self.rows))
     }
 
@@ -240,7 +240,7 @@ fn names(first: &[Vec<u8>], has_header: bool) -> Vec<String> {
     (1..).zip(first).map(name).collect()
 }
 
-/// Returns the place of a name. Names are compared as they are; if none is equal, without regard to
+/// Returns the index of a name. Names are compared as they are; if none is equal, without regard to
 /// the case of ASCII letters, as in SQL.
 ///
 /// # Errors

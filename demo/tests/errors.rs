@@ -11,7 +11,7 @@ use support::{Folder, error, program, run};
 
 const PARCELS: &str = concat!(env!("CARGO_MANIFEST_DIR"), "/parcels.csv");
 
-/// Files that are wrong, with the options of a run, and what is told behind their names.
+/// Files that are wrong, with the options of a run, and the error behind their names.
 const BAD_FILES: [(&str, &[&str], &str); 9] = [
     (
         "",
@@ -66,7 +66,7 @@ fn errors_of_the_file_name_the_line_and_the_column() {
     }
 }
 
-/// Options that don't fit the parcels, and what is told.
+/// Options that don't fit the parcels, and the error.
 const BAD_QUERIES: [(&[&str], &str); 8] = [
     (
         &["--where", "weight > 1 and size = 2"],
@@ -114,7 +114,7 @@ fn errors_of_a_query_point_at_their_place() {
     }
 }
 
-/// Options that fit no file, and what is told.
+/// Options that fit no file, and the error.
 const BAD_OPTIONS: [(&[&str], &str); 11] = [
     (&["--size"], "there is no option --size"),
     (&["-x"], "there is no option -x"),

@@ -1,4 +1,4 @@
-//! Conditions beside their evaluation row by row, by the truth tables of SQL.
+//! Conditions compared with their evaluation row by row, by the truth tables of SQL.
 
 mod support;
 
@@ -14,7 +14,7 @@ use demo::table::{Format, Table};
 use support::{COLUMNS, Folder, Random};
 use vortex_bits::{Bitmap, Comparison};
 
-/// The rows that are kept, by their places in the file.
+/// The rows that are kept, by their positions in the file.
 #[derive(Default)]
 struct Rows(Vec<u64>);
 
@@ -157,7 +157,7 @@ fn conditions_are_read_as_they_are_written() {
     }
 }
 
-/// How many of some numbers are in each bin, which a label begins, beside a plain loop.
+/// Compares the number of values in each bin with a plain loop.
 fn check_bins(bins: &[(String, u64)], numbers: &[f64]) {
     let edges: Vec<f64> = bins.iter().map(|(edge, _)| edge.parse().unwrap()).collect();
     let mut counts = vec![0; edges.len()];
@@ -168,7 +168,7 @@ fn check_bins(bins: &[(String, u64)], numbers: &[f64]) {
     assert_eq!(bins.iter().map(|bin| bin.1).collect::<Vec<_>>(), counts);
 }
 
-/// The shares of kept rows in each cell, beside a plain loop.
+/// Compares the share of kept rows in each cell with a plain loop.
 fn check_strip(strip: &Strip, rows: u64, kept: &[u64]) {
     let shares: Vec<f64> = strip.shares().collect();
     let cells = shares.len() as u64;

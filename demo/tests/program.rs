@@ -3,7 +3,9 @@
 mod support;
 
 use std::fs;
+use std::io::{self, Write};
 use std::path::Path;
+use std::process::Command;
 
 use support::{Folder, error, printed, program, run};
 
@@ -256,7 +258,7 @@ fn help() {
     assert!(output.status.success() && text.starts_with("Answers a query over a CSV file"));
 }
 
-/// The example of the README prints what it says.
+/// The example of the README prints what it says, and draws its picture.
 #[test]
 fn the_readme() {
     let folder = Path::new(env!("CARGO_MANIFEST_DIR"));
@@ -270,13 +272,34 @@ fn the_readme() {
         .strip_prefix("demo/query demo/parcels.csv --where \"")
         .unwrap();
     let condition = condition.strip_suffix("\"\n").unwrap();
+    let drawn = Folder::new("readme");
     let mut program = program(Path::new("demo/parcels.csv"));
-    let output = program
-        .args(["--where", condition])
-        .current_dir(folder.join(".."))
+    program
+        .args(["--where", condition, "--svg"])
+        .arg(drawn.path("parcels.svg"));
+    let output = program.current_dir(folder.join("..")).output().unwrap();
+    assert_eq!(String::from_utf8(output.stdout).unwrap(), block("text"));
+    let [drawn, shown] = [&drawn.path("parcels.svg"), &folder.join("parcels.svg")]
+        .map(|path| fs::read_to_string(path).unwrap());
+    assert!(
+        drawn == shown,
+        "demo/parcels.svg isn't what the program draws"
+    );
+}
+
+/// The file of parcels is what its script writes.
+#[test]
+fn the_parcels() {
+    let folder = Path::new(env!("CARGO_MANIFEST_DIR"));
+    let script = Command::new("python3")
+        .arg(folder.join("make_parcels.py"))
         .output();
-    assert_eq!(
-        String::from_utf8(output.unwrap().stdout).unwrap(),
-        block("text")
+    let Ok(output) = script else {
+        io::stderr().write_all(b"skipped: no python3\n").unwrap();
+        return;
+    };
+    assert!(
+        output.stdout == fs::read(PARCELS).unwrap(),
+        "make_parcels.py writes another file"
     );
 }

@@ -1,4 +1,5 @@
-//! The reader on known texts, beside a plain one on random texts, and on what is written.
+//! The reader on known texts, on random texts compared with a plain reader, and on what the writer
+//! writes.
 
 use std::io::BufReader;
 

@@ -3,6 +3,7 @@
 use std::fmt::{self, Write};
 
 use super::Strip;
+use crate::error::visible;
 use crate::progress::grouped;
 
 const WIDTH: f64 = 760.0;
@@ -151,7 +152,7 @@ fn text(out: &mut String, (x, y): (f64, f64), anchor: &str, more: &str, text: &s
     )
 }
 
-/// A text between tags. Characters that XML can't have become `?`.
+/// A text between tags. Characters that XML can't have become others.
 fn escaped(text: &str) -> String {
     let mut escaped = String::with_capacity(text.len());
     for character in text.chars() {
@@ -161,8 +162,7 @@ fn escaped(text: &str) -> String {
             '>' => escaped.push_str("&gt;"),
             '"' => escaped.push_str("&quot;"),
             '\u{FFFE}' | '\u{FFFF}' => escaped.push('?'),
-            _ if character.is_control() => escaped.push('?'),
-            _ => escaped.push(character),
+            _ => escaped.push(visible(character)),
         }
     }
     escaped
@@ -208,6 +208,6 @@ mod tests {
         let strip = Strip::new(0, 10);
         let svg = svg(&picture(&strip));
         assert!(svg.contains("<title>a&lt;b&gt;.csv</title>"));
-        assert!(svg.contains(">x = '?&amp;'</text>"));
+        assert!(svg.contains(">x = '␁&amp;'</text>"));
     }
 }

@@ -11,7 +11,7 @@ use crate::error::QueryError;
 use crate::number;
 use crate::survey::{Kind, Survey};
 
-/// A condition whose columns are known by their places.
+/// A condition whose columns are known by their indices.
 #[derive(Clone, Debug, PartialEq)]
 pub enum Filter {
     /// A column of whole numbers and a number.

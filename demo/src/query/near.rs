@@ -1,4 +1,4 @@
-//! A number of one type beside the values of another, compared exactly.
+//! A number of one type among the values of another, compared exactly.
 
 use std::cmp::Ordering;
 

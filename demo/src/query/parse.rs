@@ -26,7 +26,7 @@ pub fn condition(text: &str) -> Result<Condition, QueryError> {
     Ok(condition)
 }
 
-/// Returns the answers that a list asks for, as `count(*), sum(size)`.
+/// Returns the answers of a list, such as `count(*), sum(size)`.
 ///
 /// # Errors
 ///

@@ -14,7 +14,7 @@ pub enum Answer<C> {
 }
 
 impl Answer<usize> {
-    /// Returns the column that the answer is about, by its place.
+    /// Returns the index of the column that the answer is about.
     #[must_use]
     pub fn column(&self) -> Option<usize> {
         match self {

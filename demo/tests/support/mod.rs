@@ -76,7 +76,7 @@ pub fn printed(file: &Path, args: &[&str]) -> String {
     String::from_utf8(output.stdout).unwrap()
 }
 
-/// What a run that fails tells, without the line on the code that runs.
+/// The error of a run that fails, without the line on the code that runs.
 pub fn error(file: &Path, args: &[&str]) -> String {
     let output = run(file, args);
     assert_eq!(
