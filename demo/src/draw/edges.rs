@@ -194,6 +194,16 @@ mod tests {
         assert_eq!(of_wholes(0, 5000, 20.0).last().unwrap(), "5000");
     }
 
+    /// Bins grow only if most numbers would be in the first one.
+    #[test]
+    fn wide_ranges() {
+        assert_eq!(of_wholes(0, 1_000_000, 500_000.0)[..2], ["0", "100000"]);
+        assert_eq!(of_wholes(0, 1_000_000, 5000.0)[..2], ["0", "1"]);
+        assert_eq!(of_floats(1.0, 1e6, 5e5)[..2], ["0", "100000"]);
+        assert_eq!(of_floats(1.0, 1e6, 5e3)[..2], ["1", "2"]);
+        assert_eq!(of_wholes(-1, 1_000_000, 5000.0)[..2], ["-100000", "0"]);
+    }
+
     #[test]
     fn whole_numbers_at_the_ends() {
         let edges = of_wholes(i64::MIN, i64::MAX, 0.0);
