@@ -62,7 +62,7 @@ impl Table {
     pub fn open(path: &Path, format: Format) -> Result<Table, Error> {
         let file = fs::metadata(path).map_err(|error| Error::file(path, error))?;
         if !file.is_file() {
-            let wrong = "this is not a regular file, which is wanted since it is read twice";
+            let wrong = "not a regular file; it is read twice, so save the data to a file first";
             return Err(Error::file(path, io::Error::other(wrong)));
         }
         let mut table = Table {

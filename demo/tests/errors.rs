@@ -167,7 +167,7 @@ fn files_that_cannot_be_used() {
         format!("{}: No such file or directory (os error 2)", none.display())
     );
     let inside = folder.path("");
-    assert!(error(&inside, &[]).contains(": this is not a regular file, which is wanted"));
+    assert!(error(&inside, &[]).contains(": not a regular file; it is read twice"));
     let file = folder.file("in.csv", "a\n1\n");
     let own = file.to_str().unwrap();
     for option in ["--out", "--svg"] {
