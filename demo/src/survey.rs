@@ -148,15 +148,13 @@ struct Seen {
 
 impl Seen {
     fn add(&mut self, table: &Table, rows: &Rows, column: usize) -> Result<(), Error> {
-        for (row, field) in rows.column(column).enumerate() {
-            if field.is_empty() {
-                continue;
-            }
+        if self.texts {
+            return Ok(());
+        }
+        let fields = rows.column(column).enumerate();
+        for (row, field) in fields.filter(|(_, field)| !field.is_empty()) {
             if let Some(kind) = self.given.filter(|kind| !kind.has(field)) {
                 return Err(wrong_field(table, rows.line(row), column, field, kind));
-            }
-            if self.texts {
-                continue;
             }
             self.add_field(field);
         }
