@@ -306,6 +306,7 @@ fn text_of(panic: Box<dyn core::any::Any + Send>) -> String {
 
 /// What is made: a panic aborts the program.
 #[cfg(not(feature = "std"))]
+#[allow(clippy::unnecessary_wraps, reason = "as with `std`")]
 fn caught<T>(make: impl FnOnce() -> T) -> Result<T, StreamError> {
     Ok(make())
 }

@@ -2,6 +2,7 @@
 use vortex_bits::arrow::{Array, Export, ExportStream, Field, Primitive};
 use vortex_bits::{BitIndex, Bitmap, Validity};
 
+use crate::export::ReadBack;
 use crate::raw::{self, Buffer, Count, Schema, import};
 
 /// Items, of which every fifth one is null.
@@ -29,7 +30,7 @@ where
     let indices: Vec<I> = rows.iter().map(|row| row.map_or(lost, &of)).collect();
     let valid: Bitmap = rows.iter().map(Option::is_some).collect();
     let array = Export::values(indices, Some(valid)).with_dictionary(exported(&items));
-    let array = array.unwrap().into_array();
+    let array = array.unwrap().read_back();
     for part in [0..250, 0..0, 13..200] {
         let (values, valid) = array
             .slice(part.clone())
@@ -64,7 +65,7 @@ fn a_validity_is_there_where_one_was() {
         let rows = Export::values(vec![1u16, 0, 1], valid)
             .with_dictionary(items)
             .unwrap();
-        rows.into_array().dictionary_values::<[u8; 3]>().unwrap()
+        rows.read_back().dictionary_values::<[u8; 3]>().unwrap()
     };
     let all = vec![[4, 5, 6], [1, 2, 3], [4, 5, 6]];
     assert_eq!(column(None, None), (all.clone(), None));
@@ -108,7 +109,7 @@ fn indices_that_name_no_item_are_refused_where_they_are_valid() {
         array.dictionary_values::<i8>().unwrap_err().to_string(),
         "column \"d.dictionary\": format \"C\" isn't that of values of i8"
     );
-    let plain = Export::values([1u8], None).named("p").into_array();
+    let plain = Export::values([1u8], None).named("p").read_back();
     assert_eq!(
         said(&plain),
         "column \"p\": format \"C\" isn't that of a column with a dictionary"
@@ -117,7 +118,7 @@ fn indices_that_name_no_item_are_refused_where_they_are_valid() {
 
 fn words<I: Primitive>(indices: Vec<I>, valid: Bitmap, items: Export) -> Array {
     let rows = Export::values(indices, Some(valid)).with_dictionary(items);
-    rows.unwrap().named("word").into_array()
+    rows.unwrap().named("word").read_back()
 }
 
 #[test]
@@ -144,7 +145,7 @@ fn texts_of_a_dictionary_are_those_of_its_items() {
             ("word", format)
         );
         let wanted = rows[1..].iter().map(|row| all[usize::from((*row)?)]);
-        let texts = texts.into_array();
+        let texts = texts.read_back();
         assert!(
             texts
                 .texts()
@@ -167,11 +168,11 @@ fn texts_of_a_dictionary_are_those_of_its_items() {
     );
     let unnamed = Export::values([0u8], None).with_dictionary(Export::values([1u8], None));
     assert_eq!(
-        said(&unnamed.unwrap().into_array()),
+        said(&unnamed.unwrap().read_back()),
         "column \"dictionary\": format \"C\" isn't that of texts"
     );
     assert_eq!(
-        said(&Export::texts(["a"], None).into_array()),
+        said(&Export::texts(["a"], None).read_back()),
         "format \"U\" isn't that of a column with a dictionary"
     );
 }

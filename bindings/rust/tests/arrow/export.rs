@@ -25,6 +25,19 @@ pub fn as_it_came(export: Export) -> (raw::Array, raw::Schema) {
     looked_at(export, Look::Numbers)
 }
 
+/// An export as the crate reads it, whose structs are looked at before.
+pub trait ReadBack {
+    fn read_back(self) -> Array;
+}
+
+impl ReadBack for Export {
+    #[track_caller]
+    fn read_back(self) -> Array {
+        let (array, schema) = raw_of(self);
+        raw::import(array, schema).unwrap()
+    }
+}
+
 #[track_caller]
 fn looked_at(export: Export, look: Look) -> (raw::Array, raw::Schema) {
     let (array, schema) = export.into_raw();
@@ -164,7 +177,7 @@ fn formats_are_those_of_values_that_lie_alike() {
     let price = Export::values(vec![5i128], None)
         .with_format("d:19,2")
         .unwrap();
-    let price = price.into_array();
+    let price = price.read_back();
     assert_eq!((price.field().format(), price.len()), ("d:19,2", 1));
     let month = Export::values(vec![[0u8; 16]], None)
         .with_format("tin")
@@ -185,16 +198,16 @@ fn formats_are_those_of_values_that_lie_alike() {
 #[test]
 fn other_owners_keep_their_values() {
     let shared: Arc<[i64]> = Arc::from([1, 2, 3]);
-    let array = Export::values(Arc::clone(&shared), None).into_array();
+    let array = Export::values(Arc::clone(&shared), None).read_back();
     assert_eq!(array.values::<i64>().unwrap().as_ptr(), shared.as_ptr());
     assert_eq!(Arc::strong_count(&shared), 2);
     drop(array);
     assert_eq!(Arc::strong_count(&shared), 1);
     // Values within the owner itself.
-    let array = Export::values([7u16, 8], None).into_array();
+    let array = Export::values([7u16, 8], None).read_back();
     assert_eq!(array.values::<u16>(), Ok(&[7, 8][..]));
     let own = Bitmap::new(AlignedBytes::zeroed(4), 9, 20);
-    let array = Export::bits(own, None).into_array();
+    let array = Export::bits(own, None).read_back();
     assert!(!array.bits().unwrap().any() && array.len() == 20);
 }
 
@@ -222,7 +235,7 @@ fn what_is_kept_is_dropped_once() {
     assert_eq!(count.get(), 2);
     release(raw_of(rows()));
     assert_eq!(count.get(), 4);
-    let a = rows().into_array().column("a").unwrap();
+    let a = rows().read_back().column("a").unwrap();
     assert_eq!(count.get(), 4);
     thread::spawn(move || drop(a)).join().unwrap();
     assert_eq!(count.get(), 6);
@@ -308,7 +321,7 @@ fn texts_go_out_one_behind_the_other() {
     let rows: Vec<_> = ranges.iter().map(|row| &bytes[row]).collect();
     assert_eq!(rows, [b"a", &b""[..], "b\u{e9}".as_bytes()]);
     assert_eq!(names.validity().unwrap().get(0), Some(false));
-    let none = Export::texts([""; 0], None).into_array();
+    let none = Export::texts([""; 0], None).read_back();
     assert!(none.is_empty() && none.ranges().unwrap().is_empty());
 }
 
@@ -429,7 +442,7 @@ fn metadata_and_flags_are_kept() {
     let again = raw::import(out.0, out.1).unwrap();
     assert_eq!(got(&again), pairs);
     assert_eq!(import(&[0; 4]).unwrap().field().metadata().count(), 0);
-    let none = Export::values([1u8], None).into_array();
+    let none = Export::values([1u8], None).read_back();
     assert_eq!(none.field().metadata().count(), 0);
     for at in [0, 4, 28] {
         let mut blob = blob.clone();

@@ -3,7 +3,7 @@
 use vortex_bits::arrow::{Array, ArrowError, Export, ExportStream, Field, Stream};
 use vortex_bits::{Bitmap, Comparison, values};
 
-use crate::export::raw_of;
+use crate::export::{ReadBack, raw_of};
 use crate::ranges::{offsets, view};
 use crate::raw::{self, Buffer, Count, Schema, import};
 
@@ -155,7 +155,7 @@ fn nulls_are_refused_where_a_stream_has_none() {
     assert_eq!(said(column(gap), strict()), nulls(1));
     assert_eq!(said(column(gaps), strict()), nulls(2));
     let part = |valid, range: std::ops::Range<usize>| {
-        let rows = Export::batch([column(valid)]).into_array();
+        let rows = Export::batch([column(valid)]).read_back();
         Export::from(rows.slice(range))
     };
     let rows = |column| Field::batch([column]);

@@ -3,6 +3,7 @@
 use vortex_bits::arrow::{Array, Export, Primitive};
 use vortex_bits::{BitIndex, Bitmap};
 
+use crate::export::ReadBack;
 use crate::ranges::view;
 use crate::raw::{self, Buffer, Count, Schema, import};
 
@@ -154,7 +155,7 @@ fn binary_values_are_texts_where_each_valid_row_is_utf_8() {
         ];
         let texts = binary(&fine, format).with_format(text).unwrap();
         assert_eq!(texts.field().format(), text);
-        assert!(texts.into_array().texts().unwrap().iter().eq(fine));
+        assert!(texts.read_back().texts().unwrap().iter().eq(fine));
         for wrong in no_utf8 {
             for row in 0..5 {
                 let mut rows = fine;
@@ -206,7 +207,7 @@ fn formats_without_a_test_are_those_of_such_arrays() {
     let list = || Export::from(nested("+w:2", 1, 1));
     // SAFETY: there are six items.
     let other = unsafe { list().with_format_unchecked("+w:3") };
-    assert_eq!(other.unwrap().into_array().field().format(), "+w:3");
+    assert_eq!(other.unwrap().read_back().field().format(), "+w:3");
     let views = || Export::from(nested("+vl", 3, 1));
     // SAFETY: all offsets and sizes are 0.
     assert!(unsafe { views().with_format_unchecked("+vL") }.is_ok());
@@ -253,7 +254,7 @@ where
             let wanted = format!("index {number} at position {place} names none of {items} values");
             assert_eq!(refused, format!("column \"d\": {wanted}"));
             // A part without it has a dictionary.
-            let rows = Export::values(indices.clone(), None).into_array();
+            let rows = Export::values(indices.clone(), None).read_back();
             let part = Export::from(rows.slice(place + 1..));
             assert!(part.with_dictionary(dictionary()).is_ok());
         }

@@ -59,6 +59,20 @@ const FORMATS: [&str; 48] = [
     "+ud:127,5,0",
 ];
 
+/// Formats of which a consumer reads the same bytes in other ways.
+const ALIKE: [&[&str]; 10] = [
+    &["c", "C", "w:1"],
+    &["s", "S", "e", "w:2"],
+    &["i", "I", "f", "tdD", "w:4"],
+    &["l", "L", "g", "tDn", "tiD", "w:8"],
+    &["u", "z"],
+    &["U", "Z"],
+    &["vu", "vz"],
+    &["+l", "+m"],
+    &["+w:0", "+w:1", "+w:2", "+w:5", "+w:1000"],
+    &["+us:0,5,127", "+us:0,5,126", "+ud:0,5,127"],
+];
+
 /// What makes exports, and how often it was refused.
 struct Asker {
     maker: Maker,
@@ -69,6 +83,28 @@ struct Asker {
 impl Asker {
     fn len(&mut self) -> usize {
         self.maker.one_of(&[0, 1, 2, 7, 8, 9, 20, 65])
+    }
+
+    /// A format, as often as not one of items that lie alike.
+    fn format(&mut self, format: &str) -> &'static str {
+        let alike = ALIKE.iter().find(|group| group.contains(&format));
+        match alike {
+            Some(group) if self.maker.below(2) == 0 => self.maker.one_of(group),
+            _ => self.maker.one_of(&FORMATS),
+        }
+    }
+
+    /// Indices of so many items that most of them name one.
+    fn coded(&mut self) -> Export {
+        let items = self.maker.one_of(&[1, 9, 128, 129, 200]);
+        let len = self.len();
+        let index = |byte: u8| u8::try_from(usize::from(byte) % (items + 1)).unwrap();
+        let indices: Vec<u8> = self.maker.bytes(len).into_iter().map(index).collect();
+        let of = || Export::values(vec![7i64; items], None);
+        self.calls += 1;
+        let coded = Export::values(indices, self.valid(len)).with_dictionary(of());
+        self.refused += usize::from(coded.is_err());
+        coded.unwrap_or_else(|_| of())
     }
 
     fn valid(&mut self, len: usize) -> Option<Bitmap> {
@@ -89,8 +125,8 @@ impl Asker {
     /// Values of this program, or an array of another part of it.
     fn first(&mut self) -> Export {
         let len = self.len();
-        match self.maker.below(12) {
-            0 => self.values(|it| it),
+        match self.maker.below(14) {
+            0 => self.values(|it| it % 10),
             1 => self.values(|it| i8::from_ne_bytes([it])),
             2 => self.values(u16::from),
             3 => self.values(|it| i32::from(it) - 3),
@@ -102,7 +138,8 @@ impl Asker {
                 let bits = self.maker.bytes(len.div_ceil(8));
                 Export::bits(Bitmap::from(Bits::new(&bits, 0, len)), valid)
             }
-            8 => Export::texts_or_nulls((0..len).map(|row| (row % 3 > 0).then_some("a\u{e9}"))),
+            8 | 9 => self.coded(),
+            10 => Export::texts_or_nulls((0..len).map(|row| (row % 3 > 0).then_some("a\u{e9}"))),
             _ => {
                 let tree = self.maker.tree(len, 2);
                 // SAFETY: it is as the interface asks for.
@@ -118,7 +155,10 @@ impl Asker {
         self.calls += 1;
         let made = match self.maker.below(11) {
             0 => Ok(export.named(self.maker.one_of(&["", "a", "x\0y"]))),
-            1 | 2 => export.with_format(self.maker.one_of(&FORMATS)),
+            1 | 2 => {
+                let format = self.format(export.field().format());
+                export.with_format(format)
+            }
             3 => {
                 let items = self.first();
                 export.with_dictionary(items)

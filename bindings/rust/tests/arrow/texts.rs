@@ -2,7 +2,7 @@
 use vortex_bits::arrow::{Array, Export};
 use vortex_bits::{BitIndex, Bitmap, Bits, Mask};
 
-use crate::export::raw_of;
+use crate::export::{ReadBack, raw_of};
 use crate::ranges::{offsets, view};
 use crate::raw::{self, Buffer, Count, Schema, import};
 
@@ -201,7 +201,7 @@ fn views_share_their_buffers() {
 
 #[test]
 fn what_has_no_texts_is_refused() {
-    let numbers = Export::values(vec![1i32], None).named("n").into_array();
+    let numbers = Export::values(vec![1i32], None).named("n").read_back();
     let wanted = "column \"n\": format \"i\" isn't that of texts";
     let kept = Export::texts_kept(&numbers, None::<Bits>).map(drop);
     assert_eq!(kept.unwrap_err().to_string(), wanted);
@@ -266,7 +266,7 @@ fn texts_are_narrowed() {
     assert_eq!(narrow.field(), &field);
     assert_eq!(read(narrow.narrow().unwrap(), "u"), owned(ROWS));
     let none = Export::texts([""; 0], None).narrow().unwrap();
-    assert!(none.into_array().texts().unwrap().is_empty());
+    assert!(none.read_back().texts().unwrap().is_empty());
 }
 
 /// Offsets of 32 bits reach 2^31 - 1, wherever the first row begins.
@@ -307,7 +307,7 @@ fn long_texts_are_not_narrowed() {
 fn texts_that_are_taken_often_may_be_too_long() {
     let long = "x".repeat(1 << 20);
     let array = Export::texts([long], None).named("s").narrow().unwrap();
-    let refused = Export::texts_taken(&array.into_array(), &[0; 2048]);
+    let refused = Export::texts_taken(&array.read_back(), &[0; 2048]);
     assert_eq!(
         refused.unwrap_err().to_string(),
         "column \"s\": texts of 2147483648 bytes, and offsets up to 2147483647"

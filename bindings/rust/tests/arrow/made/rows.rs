@@ -60,9 +60,9 @@ impl Maker {
         self.made("n", &rows, vec![], (vec![], None))
     }
 
-    /// The bytes of an item of texts or of binary values.
+    /// The bytes of an item of texts or of binary values, of which most could be texts.
     fn text(&mut self, is_text: bool) -> Vec<u8> {
-        if is_text {
+        if is_text || self.below(8) > 0 {
             return self.one_of(&TEXTS).as_bytes().to_vec();
         }
         let len = self.below(20);
