@@ -33,7 +33,8 @@ const OF_ARRAY: Between = Between {
 
 /// An array of the Arrow C data interface over values or bits of this program, with its type, to be
 /// handed on to any consumer. No value is copied: the array keeps what has them, until it is
-/// released, by the consumer or, where none took it, when this is dropped.
+/// released, by the consumer or, where none took it, when this is dropped. If what has them panics
+/// when it is dropped then, the program aborts, since C has no panics.
 ///
 /// ```
 /// use vortex_bits::Bitmap;
@@ -61,9 +62,6 @@ impl Export {
     /// Values, and which of them are valid; all are where that is None. The values are those of a
     /// [`Vec`], or of another owner, as an `Arc<[T]>`. The bits of the validity are copied where
     /// the first one is within a byte, and left out where all are true.
-    ///
-    /// The owner is dropped when the array is released, on any thread. If its `drop` panics, the
-    /// program aborts, since the consumer may be C.
     ///
     /// # Panics
     ///
@@ -335,17 +333,37 @@ impl Export {
 ///
 /// # Panics
 ///
-/// If the rows are part of texts or lists that another part of the program made wrongly: the part
-/// ends behind the last row of the whole array, so that a consumer would read more than there is.
+/// Where [`Array::try_into_export`] returns an error.
 impl From<Array> for Export {
     #[track_caller]
     fn from(array: Array) -> Export {
-        expect(array.ends_with_all());
-        Export {
-            array: shared(&array.node, array.start, array.len),
-            field: array.field().clone(),
-            len: array.len,
-        }
+        expect(array.try_into_export())
+    }
+}
+
+impl Array {
+    /// Returns the rows as they are, of any type, to be handed on: `Export::from(array)`.
+    ///
+    /// ```
+    /// use vortex_bits::arrow::Export;
+    ///
+    /// let names = Export::texts(["a", "b"], None).into_array();
+    /// assert_eq!(names.slice(1..).try_into_export()?.len(), 1);
+    /// # Ok::<(), vortex_bits::arrow::ArrowError>(())
+    /// ```
+    ///
+    /// # Errors
+    ///
+    /// Returns an error if the rows are part of texts or lists that another part of the program
+    /// made wrongly: the part ends behind the last row of the whole array, so that a consumer would
+    /// read more than there is.
+    pub fn try_into_export(self) -> Result<Export, ArrowError> {
+        self.ends_with_all()?;
+        Ok(Export {
+            array: shared(&self.node, self.start, self.len),
+            field: self.field().clone(),
+            len: self.len,
+        })
     }
 }
 

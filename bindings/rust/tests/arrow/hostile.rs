@@ -2,7 +2,6 @@
 //! accesses, as `AddressSanitizer`, none is outside of a buffer. What is handed on of them has the
 //! numbers that the interface wants, and each struct is released once.
 use std::hint::black_box;
-use std::panic::{AssertUnwindSafe, catch_unwind};
 
 use vortex_bits::arrow::{Array, Export, Primitive};
 use vortex_bits::{Bitmap, Bits, Validity};
@@ -168,7 +167,7 @@ impl Reader {
                 self.take_over(export);
             }
         }
-        let own = catch_unwind(AssertUnwindSafe(|| Export::from(array.clone())));
+        let own = array.clone().try_into_export();
         self.asked(1, own.is_ok());
         // It is refused where rows end behind the last one of all, by each reader too.
         let Ok(own) = own else {

@@ -134,11 +134,11 @@ fn parts_that_end_behind_all_are_not_handed_on() {
         let all = column(&[0, 0, 100, 3, 5], format, 0, 0);
         let of_struct = column(&[0, 0, 100, 3, 5], format, 0, 2);
         for part in [all.slice(..1), of_struct] {
+            let wanted = "column \"s\": rows end at 100, and the last offset is 5";
+            let error = part.clone().try_into_export().map(drop).unwrap_err();
+            assert_eq!(error.to_string(), wanted);
             let refused = catch_unwind(AssertUnwindSafe(|| Export::from(part))).unwrap_err();
-            assert_eq!(
-                refused.downcast_ref::<String>().unwrap(),
-                "column \"s\": rows end at 100, and the last offset is 5"
-            );
+            assert_eq!(refused.downcast_ref::<String>().unwrap(), wanted);
         }
         // Others go out as they came, and are read as they are.
         for part in [
