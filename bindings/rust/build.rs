@@ -18,12 +18,7 @@ fn main() {
     println!("cargo::rerun-if-env-changed=VORTEX_BITS_PROVED");
     println!("cargo::rustc-check-cfg=cfg(vortex_bits_native)");
     let folder = folder();
-    for level in LEVELS {
-        println!(
-            "cargo::rerun-if-changed={}",
-            archive(&folder, level).display()
-        );
-    }
+    watch(&folder);
     if variable("CARGO_CFG_MIRI").is_some() {
         return;
     }
@@ -46,6 +41,22 @@ fn main() {
     }
     for fault in faults {
         println!("cargo::error={fault}");
+    }
+}
+
+/// Runs this script again when the archives change, or when their folder gets some. Cargo would run
+/// it at each build if it watched a file that is missing.
+fn watch(folder: &Path) {
+    let archives = LEVELS.map(|level| archive(folder, level));
+    let watched: &[PathBuf] = if archives.iter().all(|it| it.is_file()) {
+        &archives
+    } else if folder.is_dir() {
+        &[folder.to_path_buf()]
+    } else {
+        &[PathBuf::from("Cargo.toml")]
+    };
+    for it in watched {
+        println!("cargo::rerun-if-changed={}", it.display());
     }
 }
 

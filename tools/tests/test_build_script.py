@@ -1,0 +1,49 @@
+"""When cargo builds the Rust crate again."""
+import os
+import shutil
+import subprocess
+import tempfile
+import unittest
+from pathlib import Path
+
+CRATE = Path(__file__).resolve().parent.parent.parent / "bindings/rust"
+
+
+@unittest.skipUnless(shutil.which("cargo"), "no cargo")
+class BuildScript(unittest.TestCase):
+    def setUp(self):
+        folder = tempfile.TemporaryDirectory()
+        self.addCleanup(folder.cleanup)
+        self.crate = Path(folder.name) / "crate"
+        left_out = shutil.ignore_patterns("target", "*.a", "Cargo.lock")
+        shutil.copytree(CRATE, self.crate, ignore=left_out)
+        self.target = Path(folder.name) / "target"
+
+    def compiles(self) -> bool:
+        """Whether a build compiles the crate."""
+        kept = {name: it for name, it in os.environ.items() if name != "VORTEX_BITS_NATIVE"}
+        ended = subprocess.run(
+            ["cargo", "build", "--offline"],
+            cwd=self.crate,
+            env={**kept, "CARGO_TARGET_DIR": str(self.target)},
+            capture_output=True,
+            text=True,
+            check=True,
+        )
+        return "Compiling vortex_bits" in ended.stderr
+
+    def test_a_second_build_compiles_nothing_where_there_are_no_archives(self):
+        self.assertEqual((self.compiles(), self.compiles()), (True, False))
+
+    def test_files_that_come_to_the_folder_of_archives_are_seen(self):
+        self.assertTrue(self.compiles())
+        (self.crate / "native/another.txt").touch()
+        self.assertTrue(self.compiles())
+
+    def test_a_package_without_the_folder_is_built_once_too(self):
+        shutil.rmtree(self.crate / "native")
+        self.assertEqual((self.compiles(), self.compiles()), (True, False))
+
+
+if __name__ == "__main__":
+    unittest.main()
