@@ -15,10 +15,7 @@ pub extern "C" fn vb_fill_bits(bytes: &mut [u8], start: usize, end: usize, v: bo
     requires { end ≤ 8 * length bytes.old }
     ensures { Writes bytes.old bytes.new start (replicate (end - start) v) }
 {
-    if start < end {
-        let window = &mut bytes[start / 8..end.div_ceil(8)];
-        vb_bits::fill_bits(window, start % 8, start % 8 + (end - start), v);
-    }
+    vb_bits::fill_bits(bytes, start, end, v);
 }
 
 /// Whether `end` is at most the number of bits; then [`vb_fill_bits`] is done, and else the bytes
