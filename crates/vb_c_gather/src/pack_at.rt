@@ -16,8 +16,7 @@ pub extern "C" fn vb_pack_truthy_at(out: &mut [u8], o: usize, truthy: &[u8])
     requires { InBytes out.old o (length truthy.now) }
     ensures { Writes out.old out.new o (map (λ x. not (x == 0)) truthy.now) }
 {
-    let end = (o + truthy.len()).div_ceil(8);
-    pack_within(&mut out[o / 8..end], o % 8, truthy);
+    compare_into(out, o, truthy, Comparison::NotEqual, 0);
 }
 
 /// Whether the bits of `out` lie in it, one for each byte; [`vb_pack_truthy_at`] is then done, and
@@ -32,12 +31,4 @@ pub extern "C" fn vb_try_pack_truthy_at(out: &mut [u8], o: usize, truthy: &[u8])
     }
     vb_pack_truthy_at(out, o, truthy);
     true
-}
-
-/// [`vb_pack_truthy_at`], which may store any byte of `out`.
-fn pack_within(out: &mut [u8], o: usize, truthy: &[u8])
-    requires { InBytes out.old o (length truthy.now) }
-    ensures { Writes out.old out.new o (map (λ x. not (x == 0)) truthy.now) }
-{
-    compare_into(out, o, truthy, Comparison::NotEqual, 0);
 }
