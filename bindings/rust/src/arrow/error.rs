@@ -285,11 +285,8 @@ impl fmt::Display for ArrowError {
                 wanted,
                 row,
             } => {
-                let column = Of(column);
-                write!(
-                    f,
-                    "{column}values of format {format:?} aren't those of {wanted:?}"
-                )?;
+                write!(f, "{}values of format {format:?} aren't ", Of(column))?;
+                write!(f, "those of {wanted:?}")?;
                 row.map_or(Ok(()), |row| write!(f, ": row {row} isn't"))
             }
             ArrowError::Field { column, difference } => write!(f, "{}{difference}", Of(column)),

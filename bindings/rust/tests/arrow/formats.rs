@@ -4,7 +4,7 @@ use vortex_bits::arrow::{Array, Export, Primitive};
 use vortex_bits::{BitIndex, Bitmap};
 
 use crate::export::ReadBack;
-use crate::ranges::view;
+use crate::ranges::{offsets, view};
 use crate::raw::{self, Buffer, Count, Schema, import};
 
 /// An array of a format over one child of each of these, of two rows.
@@ -81,6 +81,18 @@ fn maps_become_lists_without_the_flag_of_maps() {
     }
 }
 
+/// The view of a row whose bytes begin here; of a null one that of a buffer that isn't there.
+fn shown((row, start): (Option<&[u8]>, &i64)) -> [u8; 16] {
+    let len = row.map_or(99, <[u8]>::len);
+    let mut view = view(&"x".repeat(len), 0, (*start).try_into().unwrap());
+    match row {
+        Some(row) if row.len() <= 12 => view[4..4 + row.len()].copy_from_slice(row),
+        Some(row) => view[4..8].copy_from_slice(&row[..4]),
+        None => view[8] = 77,
+    }
+    view
+}
+
 /// Rows of bytes of these formats, the null ones of which are no UTF-8.
 fn binary(rows: &[Option<&[u8]>], format: &str) -> Export {
     let valid: Bitmap = rows.iter().map(Option::is_some).collect();
@@ -96,33 +108,12 @@ fn binary(rows: &[Option<&[u8]>], format: &str) -> Export {
     let valid = Some(Buffer::new(valid.bits().bytes(), 0));
     let values = Some(Buffer::new(&bytes, 0));
     let buffers = if format == "vz" {
-        let of = |(row, start): (Option<&[u8]>, &i64)| {
-            let mut view = view(
-                &"x".repeat(row.map_or(99, <[u8]>::len)),
-                0,
-                (*start).try_into().unwrap(),
-            );
-            match row {
-                Some(row) if row.len() <= 12 => view[4..4 + row.len()].copy_from_slice(row),
-                Some(row) => view[4..8].copy_from_slice(&row[..4]),
-                None => view[8] = 77,
-            }
-            view
-        };
-        let views: Vec<_> = rows.iter().copied().zip(&ends).map(of).collect();
-        let sizes = i64::try_from(bytes.len()).unwrap().to_ne_bytes();
-        vec![
-            valid,
-            Some(Buffer::new(&views.concat(), 0)),
-            values,
-            Some(Buffer::new(&sizes, 0)),
-        ]
+        let views: Vec<_> = rows.iter().copied().zip(&ends).map(shown).collect();
+        let views = Some(Buffer::new(&views.concat(), 0));
+        let sizes = offsets(&[bytes.len().try_into().unwrap()], true, 0);
+        vec![valid, views, values, Some(sizes)]
     } else {
-        vec![
-            valid,
-            Some(crate::ranges::offsets(&ends, format == "Z", 0)),
-            values,
-        ]
+        vec![valid, Some(offsets(&ends, format == "Z", 0)), values]
     };
     let array = raw::Array::new(rows.len().try_into().unwrap(), buffers, &Count::default());
     Export::from(import(array, Schema::new("s", format, &Count::default())).unwrap())
@@ -166,6 +157,13 @@ fn binary_values_are_texts_where_each_valid_row_is_utf_8() {
                 );
             }
         }
+    }
+}
+
+#[test]
+fn binary_values_keep_their_offsets_and_texts_are_such() {
+    for (format, text) in [("z", "u"), ("Z", "U"), ("vz", "vu")] {
+        let fine = [Some(&b"a"[..]), None, Some(b"a text of eighteen")];
         // Two rows that are UTF-8 together aren't so each.
         let halves = [Some(&b"\xC3"[..]), Some(b"\xA9")];
         assert!(said(binary(&halves, format), text).ends_with("row 0 isn't"));
@@ -194,7 +192,7 @@ fn binary_values_whose_offsets_go_back_become_no_texts() {
     let count = Count::default();
     let buffers = vec![
         None,
-        Some(crate::ranges::offsets(&[0, 3, 1], false, 0)),
+        Some(offsets(&[0, 3, 1], false, 0)),
         Some(Buffer::new(b"abc", 0)),
     ];
     let array = raw::Array::new(2, buffers, &count);

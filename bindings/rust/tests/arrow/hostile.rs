@@ -162,10 +162,7 @@ impl Reader {
             Export::texts_taken(array, &indices),
         ];
         for export in made {
-            self.asked(1, export.is_ok());
-            if let Ok(export) = export {
-                self.take_over(export);
-            }
+            self.asked_for(export);
         }
         let own = array.clone().try_into_export();
         self.asked(1, own.is_ok());
@@ -181,17 +178,16 @@ impl Reader {
         };
         self.take_over(own);
         for format in ["u", "z", "U", "vu", "vz", "+l", "+w:3", "i", "tdD", "w:16"] {
-            let export = Export::from(array.clone()).with_format(format);
-            self.asked(1, export.is_ok());
-            if let Ok(export) = export {
-                self.take_over(export);
-            }
+            self.asked_for(Export::from(array.clone()).with_format(format));
         }
-        let narrow = Export::from(array.clone()).narrow();
-        self.asked(1, narrow.is_ok());
-        let coded = Export::from(array.clone()).with_dictionary(Export::texts(["a"; 9], None));
-        self.asked(1, coded.is_ok());
-        for export in [narrow, coded].into_iter().flatten() {
+        self.asked_for(Export::from(array.clone()).narrow());
+        let items = Export::texts(["a"; 9], None);
+        self.asked_for(Export::from(array.clone()).with_dictionary(items));
+    }
+
+    fn asked_for(&mut self, export: Result<Export, ArrowError>) {
+        self.asked(1, export.is_ok());
+        if let Ok(export) = export {
             self.take_over(export);
         }
     }

@@ -3,6 +3,22 @@ use vortex_bits::arrow::{Array, Export};
 
 use crate::raw::{self, Buffer, Count, Schema, import};
 
+/// Where runs end, as numbers of a format; the first is before the array.
+fn ends(format: &str) -> Vec<u8> {
+    let ends = [-1i16, 2, 5, 6, 9];
+    match format {
+        "s" => ends.iter().flat_map(|it| it.to_ne_bytes()).collect(),
+        "i" => ends
+            .iter()
+            .flat_map(|it| i32::from(*it).to_ne_bytes())
+            .collect(),
+        _ => ends
+            .iter()
+            .flat_map(|it| i64::from(*it).to_ne_bytes())
+            .collect(),
+    }
+}
+
 /// An array of a format at the offset 2, with four rows; its buffers are there but where `missing`
 /// says, and each child has so many items of its format, from its own offset 1 on.
 fn of(format: &str, missing: &[usize], children: &[(&str, i64)]) -> Result<Array, String> {
@@ -15,23 +31,9 @@ fn of(format: &str, missing: &[usize], children: &[(&str, i64)]) -> Result<Array
     };
     let buffer = |place| (!missing.contains(&place)).then(|| Buffer::exact(&[0; 6 * 8]));
     let buffers = (0..buffers).map(buffer).collect();
-    let ends: Vec<u8> = match children[0].0 {
-        "s" => [-1i16, 2, 5, 6, 9]
-            .iter()
-            .flat_map(|it| it.to_ne_bytes())
-            .collect(),
-        "i" => [-1i32, 2, 5, 6, 9]
-            .iter()
-            .flat_map(|it| it.to_ne_bytes())
-            .collect(),
-        _ => [-1i64, 2, 5, 6, 9]
-            .iter()
-            .flat_map(|it| it.to_ne_bytes())
-            .collect(),
-    };
-    let child = |&(_, len): &(&str, i64)| {
+    let child = |&(of, len): &(&str, i64)| {
         let values = if format == "+r" {
-            ends.clone()
+            ends(of)
         } else {
             vec![0; 64]
         };

@@ -47,19 +47,8 @@ pub unsafe fn check(array: &raw::Array, tree: &Tree, look: Look) -> Checked<usiz
         // SAFETY: as of this function.
         unsafe { node.items(array)? };
     }
-    let mut looked = 1;
-    for (place, (child, tree)) in node.children.iter().zip(&tree.children).enumerate() {
-        // SAFETY: as of this function.
-        looked += under(unsafe { check(child, tree, look) }, place)?;
-    }
-    if let Some(tree) = &tree.dictionary {
-        // SAFETY: as of this function.
-        looked += under(
-            unsafe { check(&*array.dictionary, tree, look) },
-            "dictionary",
-        )?;
-    }
-    Ok(looked)
+    // SAFETY: as of this function.
+    unsafe { node.below(array, look) }.map(|below| 1 + below)
 }
 
 fn buffers_are_there(array: &raw::Array, of: &Type, len: usize) -> Checked<()> {
@@ -117,6 +106,21 @@ unsafe fn children<'a>(array: &'a raw::Array, tree: &Tree) -> Checked<Vec<&'a ra
 }
 
 impl Node<'_> {
+    /// How many arrays are below, each of which is one of its type.
+    unsafe fn below(&self, array: &raw::Array, look: Look) -> Checked<usize> {
+        let mut looked = 0;
+        for (place, (child, tree)) in self.children.iter().zip(&self.tree.children).enumerate() {
+            // SAFETY: as of `check`.
+            looked += under(unsafe { check(child, tree, look) }, place)?;
+        }
+        if let Some(tree) = &self.tree.dictionary {
+            // SAFETY: it isn't null, as the type's isn't.
+            let items = unsafe { check(&*array.dictionary, tree, look) };
+            looked += under(items, "dictionary")?;
+        }
+        Ok(looked)
+    }
+
     fn len_of(&self, child: usize) -> usize {
         usize::try_from(self.children[child].length).unwrap_or(0)
     }
