@@ -176,6 +176,35 @@ fn each_error_of_a_writer_is_a_fault(rt: HostRuntime) {
     equal(&rt, ended, Err(DriveError::Write));
 }
 
+/// Takes no byte at its first write, and all at later ones. Where it were called again after that,
+/// no fault would be seen.
+#[derive(Drop)]
+struct Stuck {
+    calls: usize,
+}
+
+impl Write for Stuck {
+    fn write(&mut self, buf: &[u8]) -> io::Result<usize> {
+        if self.calls > 0 {
+            return Ok(buf.len());
+        }
+        self.calls = 1;
+        Ok(0)
+    }
+
+    fn flush(&mut self) -> io::Result<()> {
+        Ok(())
+    }
+}
+
+#[test]
+fn a_write_that_takes_no_byte_is_a_fault(rt: HostRuntime) {
+    let mut sink = ToWrite::new(Stuck { calls: 0 });
+    let ended = end_of(rt.alloc(), FromRead::new(LINES), &mut sink);
+    drop(sink);
+    equal(&rt, ended, Err(DriveError::Write));
+}
+
 /// What was written so far: how many bytes, in how many writes, the widest of these, and a number
 /// that tells how wide each was.
 #[derive(Default, Drop)]

@@ -21,6 +21,7 @@ pub use Rattle.vb_mem.specs.OpenBuffer
 pub use Rattle.vb_mem.specs.SharedBuffer
 pub use Rattle.vb_pack.specs.Asked
 pub use Rattle.vb_view.specs.MutView
+pub use Rattle.vb_view.specs.Relation
 pub use Rattle.vb_view.specs.View
 pub use Rattle.vb_view.specs.Windows
 pub use Rattle.vb_walk.specs.Cut

@@ -14,6 +14,7 @@ ghost use Rattle.vb_set.specs.Lends.{LendsBytes};
 ghost use Rattle.vb_set.specs.OpenSet.{bit_room, HoldsShared, IsEmptySet, IsFreshOpenSet};
 ghost use Rattle.vb_set.specs.OpenSet.{KeepsLayout};
 ghost use Rattle.vb_view.specs.MutView.{store_of, IsSameReference, ShowsWindow};
+ghost use Rattle.vb_view.specs.Relation.{TellsNone};
 ghost use Rattle.vb_view.specs.View.{bits_of, offset_of, bytes_of};
 ghost use Rattle.vb_view.specs.Windows.{IsWindow};
 
@@ -21,7 +22,7 @@ use std::alloc::{Allocator, Global};
 use std::marker::Model;
 use vb_bit_buffer::BitBuffer;
 use vb_bit_bytes::{fill, full, write_bit};
-use vb_bits::get_bit;
+use vb_bits::{BitOp, get_bit};
 use vb_core::Result;
 use vb_mem::{BufferMut, ByteBufferMut};
 use vb_view::{BitBufferMutView, BitBufferView};
@@ -266,6 +267,24 @@ impl<A: Allocator + Clone> BitBufferMut<A> {
         ensures { slice_get self.now.bits i ≡ Some result }
     {
         get_bit(self.buffer.as_slice(), self.offset + i)
+    }
+
+    /// Whether no place is true in both sets, as none is of no bits. Both are read by words from
+    /// the front, up to the first word in which a place is; it takes no memory. Refused by
+    /// `LengthMismatch` exactly where the lengths differ.
+    pub fn is_disjoint(&self, other: &Self) -> Result<bool>
+        ensures { TellsNone BitOp.And self.now.bits other.now.bits result }
+    {
+        self.as_view().is_disjoint(&other.as_view())
+    }
+
+    /// Whether each place that is true in this set is true in the other one, as each is of no bits.
+    /// Both are read by words from the front, up to the first word in which one isn't; it takes no
+    /// memory. Refused by `LengthMismatch` exactly where the lengths differ.
+    pub fn is_subset(&self, other: &Self) -> Result<bool>
+        ensures { TellsNone BitOp.AndNot self.now.bits other.now.bits result }
+    {
+        self.as_view().is_subset(&other.as_view())
     }
 
     /// Makes the bit at place `i` `v`. No other bit of the bytes changes.

@@ -5,7 +5,7 @@ use crate::edits::{LENGTHS, OFFSETS};
 use crate::made::window;
 use std::alloc::{Allocator, Global};
 use std::process::Abort;
-use vb_set::{BitBufferMut, BitBufferView, BufferError, Result, window_fits};
+use vb_set::{BitBuffer, BitBufferMut, BitBufferView, BufferError, Result, window_fits};
 use vb_testing::{Handle, Refusing};
 
 /// Where the bits that are added come from.
@@ -121,18 +121,28 @@ fn long_lists_are_added(rt: HostRuntime) {
     drop((set, list, wanted));
 }
 
+/// The bits that are added to a few.
+const THOUSAND: [bool; 1000] = [true; 1000];
+
 /// Adds a thousand true bits to a few, by an iterator. Where it is refused memory, as many of them
-/// stand as there was room for.
+/// stand as there was room for, at most 64 more are lost, and those behind them are left.
 fn fill<A: Allocator + Clone>(rt: &impl Abort, made: Result<BitBufferMut<A>>) -> Result<()> {
     let mut set = made?;
     let before = set.len();
-    let answer = set.extend([true; 1000].into_iter());
-    let len = if answer.is_ok() {
-        before.saturating_add(1000)
+    let mut bits = THOUSAND.iter().copied();
+    let answer = set.extend(bits.by_ref());
+    let given = THOUSAND.len().saturating_sub(bits.len());
+    let (len, lost) = if answer.is_ok() {
+        (before.saturating_add(1000), 0)
     } else {
-        set.capacity()
+        (set.capacity(), 64)
     };
     equal(rt, (set.len(), set.as_view().true_count()), (len, len));
+    equal(
+        rt,
+        given <= len.saturating_sub(before).saturating_add(lost),
+        true,
+    );
     drop(set);
     answer
 }
@@ -164,6 +174,22 @@ fn stays<A: Allocator + Clone>(
     heap.refuse(0);
 }
 
+/// Nor does it for a shared set that was made.
+fn stays_with_set<A: Allocator + Clone>(
+    rt: &impl Abort,
+    heap: &Refusing<Global>,
+    set: &mut BitBufferMut<A>,
+    made: Result<BitBuffer<A>>,
+) {
+    let added = made.expect(rt, "a set");
+    let room = set.capacity();
+    heap.refuse(1);
+    equal(rt, set.append_buffer(&added), Ok(()));
+    equal(rt, (set.capacity(), heap.asked()), (room, 0));
+    heap.refuse(0);
+    drop(added);
+}
+
 /// The rest of the room is filled bit by bit, with no memory.
 fn fills<A: Allocator + Clone>(
     rt: &impl Abort,
@@ -188,7 +214,9 @@ fn appends_within_the_room_ask_for_nothing(rt: HostRuntime) {
     for source in SOURCES {
         stays(&rt, &heap, &mut set, source);
     }
-    equal(&rt, set.len(), 1000);
+    let shared = BitBuffer::new_set(Handle { inner: &heap }, 90);
+    stays_with_set(&rt, &heap, &mut set, shared);
+    equal(&rt, set.len(), 1090);
     fills(&rt, &heap, &mut set);
     drop(set);
 }

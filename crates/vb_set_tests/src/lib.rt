@@ -19,6 +19,8 @@ mod made;
 #[cfg(test)]
 mod makers;
 #[cfg(test)]
+mod relation;
+#[cfg(test)]
 mod rows;
 #[cfg(test)]
 mod tallies;

@@ -209,6 +209,9 @@ impl<A: Allocator + Clone> BitBufferMut<A> {
     pub fn append_buffer(&mut self, set: &BitBuffer<A>) -> Result<()>
         ensures ok { OnOk result (AddsBits set.now.bits self.old self.new) }
         ensures grows { KeepsStart self.old self.new }
+        ensures stays { length set.now.bits ≤ 512
+            → length self.old.bits + length set.now.bits ≤ self.old.room
+            → self.new.room ≡ self.old.room }
         ensures needs { NeedsBits (length set.now.bits) result self.old self.new }
     {
         self.append_view(set.as_view())
