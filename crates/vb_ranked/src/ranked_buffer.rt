@@ -4,9 +4,10 @@ ghost use Rattle.std.specs.Prelude.{slice_get, Some, IfOk, IsOkUnless};
 ghost use Rattle.std.specs.List.{AllZip};
 ghost use Rattle.vb_bits.specs.Bits.{count, complement, Selects, InvertsCount};
 ghost use Rattle.vb_kernel.specs.Hits.{hits};
+ghost use Rattle.vb_set.specs.Makes.{Makes};
 ghost use Rattle.vb_set.specs.View.{bits_of, offset_of, bytes_of};
 
-use std::alloc::{Allocator, Global};
+use std::alloc::{AllocError, Allocator, Global};
 use std::marker::Model;
 use vb_directory::Counts;
 use vb_set::{BitBuffer, BitBufferView, BufferError, Result};
@@ -43,6 +44,19 @@ impl<A: Allocator + Clone> RankedBuffer<A> {
         ensures refused { IsOkUnless result BufferError.OutOfMemory }
     {
         let counts = Counts::of(alloc, set.as_view(), set.len())?;
+        Ok(RankedBuffer { set, counts })
+    }
+
+    /// Another owner of the same bits, which shares their storage, with a copy of the counts, of
+    /// which none is counted again. It takes memory of the counts' allocator for as many bytes as
+    /// [`new`](Self::new) does, by one request, and none for no bits. Refused by `OutOfMemory`
+    /// alone, also where an allocator can't be copied, or the storage has as many owners as can be
+    /// counted.
+    pub fn clone(&self) -> Result<Self>
+        ensures { Makes (λ s. s ≡ self.now) result }
+    {
+        let set = self.set.clone()?;
+        let counts = self.counts.copy(set.len())?;
         Ok(RankedBuffer { set, counts })
     }
 
@@ -144,5 +158,16 @@ impl<A: Allocator + Clone> RankedBuffer<A> {
         ensures { Selects (hits value self.now.bits) n result }
     {
         self.counts.select(self.as_view(), n, value)
+    }
+}
+
+/// One more owner, as [`RankedBuffer::clone`] makes it, for code over std's trait.
+impl<A: Allocator + Clone> Clone for RankedBuffer<A> {
+    ghost use Rattle.std.specs.Prelude.{◌≡◌};
+
+    ghost is_clone = { λ s copy. copy ≡ s };
+
+    fn clone(&self) -> Result<Self, AllocError> {
+        RankedBuffer::clone(self).or(Err(AllocError))
     }
 }

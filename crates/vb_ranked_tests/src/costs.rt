@@ -6,8 +6,8 @@ use std::alloc::{Allocator, Global};
 use std::process::Abort;
 use vb_kernel::Tally;
 use vb_rank::{TallyTable, rank_by, select_by, select_unset_by, table_of};
-use vb_ranked::Ranked;
-use vb_set::{BitBufferMut, BitBufferView};
+use vb_ranked::{Ranked, RankedBuffer};
+use vb_set::{BitBufferMut, BitBufferView, Result};
 use vb_testing::Refusing;
 
 /// Answers one row over counted readers, by at most 16 looks and so many probes.
@@ -93,6 +93,39 @@ fn counts_are_asked_for_once(rt: HostRuntime) {
         counts.refuse(0);
         make(&rt, (&bits, &counts), len);
         equal(&rt, (counts.asked(), counts.asked_bytes()), (1, bytes));
+    }
+}
+
+/// A directory of true bits, to be shared.
+fn shared<A: Allocator + Clone>((bits, counts): (A, A), len: usize) -> Result<RankedBuffer<A>> {
+    RankedBuffer::new(counts, ones(bits, len)?.freeze()?)
+}
+
+/// Clones the directory that was made, by no request for bits and so many bytes of counts. A body
+/// that copies the bits fails here, and so does one that counts them into more room.
+fn is_shared<A: Allocator + Clone>(
+    rt: &impl Abort,
+    (bits, counts): (&Refusing<Global>, &Refusing<Global>),
+    made: Result<RankedBuffer<A>>,
+    wanted: (u64, usize),
+) {
+    let ranked = made.expect(rt, "counts");
+    bits.refuse(0);
+    counts.refuse(0);
+    let copy = ranked.clone().expect(rt, "counts");
+    equal(rt, bits.asked(), 0);
+    equal(rt, (counts.asked(), counts.asked_bytes()), wanted);
+    drop((ranked, copy));
+}
+
+#[test]
+fn clones_ask_for_counts_alone(rt: HostRuntime) {
+    let bits = Refusing::new(rt.alloc(), 0);
+    let counts = Refusing::new(rt.alloc(), 0);
+    is_shared(&rt, (&bits, &counts), shared((&bits, &counts), 0), (0, 0));
+    for (len, bytes) in TAKEN {
+        let made = shared((&bits, &counts), len);
+        is_shared(&rt, (&bits, &counts), made, (1, bytes));
     }
 }
 

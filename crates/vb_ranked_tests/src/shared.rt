@@ -6,7 +6,7 @@ use std::alloc::{Allocator, Global};
 use std::process::Abort;
 use vb_ranked::{Ranked, RankedBuffer};
 use vb_set::{BitBuffer, BufferError, Result};
-use vb_testing::Refusing;
+use vb_testing::{Handle, Refusing};
 
 /// A directory of a part of the bits, which shares them.
 fn of_part(
@@ -64,6 +64,62 @@ fn shared_parts_answer_as_their_views(rt: HostRuntime) {
         drop(inner);
     }
     drop(set);
+}
+
+/// A clone answers as its view, also once the directory is gone; the bits are the same.
+#[test]
+fn clones_answer_as_their_directories(rt: HostRuntime) {
+    let set = mixed(&rt, rt.alloc(), 5, 131_073)
+        .freeze()
+        .expect(&rt, "an owner");
+    for part in PARTS {
+        let ranked = of_part(&rt, rt.alloc(), &set, part);
+        let copy = ranked.clone().expect(&rt, "counts");
+        equal(&rt, copy.as_view() == ranked.as_view(), true);
+        drop(ranked);
+        for i in PLACES {
+            answers_as_view(&rt, &copy, i);
+        }
+        drop(copy);
+    }
+    drop(set);
+}
+
+/// Clones a directory of true bits, by std's trait or without it. Refused or not, the directory is
+/// as it was.
+fn cloned<A: Allocator + Clone>(
+    rt: &impl Abort,
+    (bits, counts): (A, A),
+    len: usize,
+    by_trait: bool,
+) -> Result<()> {
+    let ranked = RankedBuffer::new(counts, ones(bits, len)?.freeze()?)?;
+    let copy = if by_trait {
+        Clone::clone(&ranked).map_err(BufferError::from)
+    } else {
+        ranked.clone()
+    };
+    answers_as_view(rt, &ranked, len);
+    drop(ranked);
+    let copy = copy?;
+    answers_as_view(rt, &copy, len);
+    drop(copy);
+    Ok(())
+}
+
+#[test]
+fn a_refused_clone_leaves_the_directory(rt: HostRuntime) {
+    let heap = &Refusing::new(rt.alloc(), 0);
+    for (len, by_trait) in [(0, false), (9, false), (512, true), (65_600, false)] {
+        for _ in heap.in_turn() {
+            let allocs = (Handle { inner: heap }, Handle { inner: heap });
+            let answer = cloned(&rt, allocs, len, by_trait);
+            let wanted = heap.wanted(Ok(()), Err(BufferError::OutOfMemory));
+            equal(&rt, answer, wanted);
+        }
+        // Copies of both allocators at least, also of no bits.
+        equal(&rt, heap.has_ended(2), true);
+    }
 }
 
 /// The directory answers as a row says.
