@@ -39,8 +39,7 @@ pub extern "C" fn vb_negate_bits(bytes: &mut [u8], offset: usize, len: usize)
     requires window { InBytes bytes.old offset len }
     ensures { Writes bytes.old bytes.new offset (complement (bits bytes.old offset len)) }
 {
-    let end = (offset + len).div_ceil(8);
-    vb_bits::map_words(&mut bytes[offset / 8..end], offset % 8, len);
+    vb_bits::map_words(bytes, offset, len);
 }
 
 /// Whether the window lies in the bytes; then [`vb_negate_bits`] is done, and else the bytes are as
