@@ -72,7 +72,7 @@ fn make<A: Allocator + Clone>(rt: &impl Abort, (bits, counts): (A, A), len: usiz
 
 /// Numbers of bits, and how many bytes their counts take: 8 for a block, 2 for each block more, and
 /// 6 more for each group more.
-const TAKEN: [(usize, usize); 8] = [
+pub(crate) const TAKEN: [(usize, usize); 8] = [
     (1, 8),
     (512, 8),
     (513, 10),

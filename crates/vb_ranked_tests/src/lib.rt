@@ -18,6 +18,8 @@ mod made;
 #[cfg(test)]
 mod many;
 #[cfg(test)]
+mod memory;
+#[cfg(test)]
 mod refused;
 #[cfg(test)]
 mod rows;
