@@ -4,6 +4,6 @@
 /// What tools/digest prints; tools/write-lists writes it here.
 macro_rules! digest {
     () => {
-        "5ec10ccae9c245c046150aa6b7da762874b49e1b257b7449fa0f8134d1498ba6"
+        "2790efd5d4840d78e3d846e78f8cb2771ffbc7209354965afb0f16361e684d97"
     };
 }
