@@ -78,11 +78,11 @@ pub(crate) fn sliced<A: Allocator + Clone>(
     part
 }
 
-/// The calls, each with the bits that it makes, and how many requests it makes at least.
+/// The calls, each with the bits that it makes, and how many requests it makes.
 const ROWS: &[(Call, &str, u64)] = &[
-    (Call::NewSet, "111111111", 2),
-    (Call::NewUnset, "000000000", 2),
-    (Call::Full, "111", 2),
+    (Call::NewSet, "111111111", 4),
+    (Call::NewUnset, "000000000", 4),
+    (Call::Full, "111", 4),
     (Call::Clone, "111111111", 5),
     (Call::Slice, "11111", 5),
     (Call::SliceOfClone, "11111", 6),
@@ -92,12 +92,12 @@ const ROWS: &[(Call, &str, u64)] = &[
 #[test]
 fn filled_cloned_and_sliced_sets_are_made_or_refused(rt: HostRuntime) {
     let heap = Refusing::new(rt.alloc(), 0);
-    for (call, bits, least) in ROWS {
+    for (call, bits, requests) in ROWS {
         for _ in heap.in_turn() {
             let answer = shows(&rt, call.make(Handle { inner: &heap }), bits);
             let wanted = heap.wanted(Ok(()), Err(BufferError::OutOfMemory));
             equal(&rt, answer, wanted);
         }
-        equal(&rt, heap.has_ended(*least), true);
+        equal(&rt, (heap.has_refused(), heap.asked()), (false, *requests));
     }
 }

@@ -1,10 +1,10 @@
 //! Three-valued logic, which makes two sets.
 use crate::compared::{asked_for, equal};
-use crate::given::Bits;
+use crate::given::{Bits, fits};
 use std::alloc::{Allocator, Global};
 use std::process::Abort;
 use vb_bit_buffer::BitBuffer;
-use vb_core::Result;
+use vb_core::{BufferError, Result};
 use vb_gather::{and_kleene, or_kleene};
 use vb_testing::Refusing;
 use vb_view::BitBufferView;
@@ -25,6 +25,10 @@ fn made<A: Allocator + Clone>(
 ) -> Result<(BitBuffer<A>, BitBuffer<A>)> {
     let left = if left_valid { Some(bits) } else { None };
     let right = if right_valid { Some(bits) } else { None };
+    if !fits(left, bits.len()) || !fits(right, bits.len()) {
+        drop(alloc);
+        return Err(BufferError::NotAligned);
+    }
     match call {
         Call::And => and_kleene(alloc, bits, left, bits, right),
         Call::Or => or_kleene(alloc, bits, left, bits, right),

@@ -1,6 +1,6 @@
 //! Calls that make a set in memory of an allocator that they are given.
 use crate::compared::{asked_for, equal};
-use crate::given::{Bits, numbers};
+use crate::given::{Bits, fits, numbers};
 use std::alloc::{Allocator, Global};
 use std::process::Abort;
 use vb_bit_buffer::BitBuffer;
@@ -19,7 +19,7 @@ enum Call {
 }
 
 impl Call {
-    /// By the values, which are indices too, and where there is a validity, by those that are valid.
+    /// By the values, which are indices too: by those that are valid, where there is a validity.
     fn make<A: Allocator + Clone>(
         self,
         alloc: A,
@@ -27,9 +27,7 @@ impl Call {
         values: &[u32],
         validity: Option<BitBufferView<'_>>,
     ) -> Result<BitBuffer<A>> {
-        if let Some(valid) = validity
-            && valid.len() != values.len()
-        {
+        if !fits(validity, values.len()) {
             drop(alloc);
             return Err(BufferError::NotAligned);
         }

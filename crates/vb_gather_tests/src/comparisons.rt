@@ -88,11 +88,11 @@ fn comparisons_are_answered_or_refused(rt: HostRuntime) {
             let answer = of_all(&rt, &heap, row);
             equal(&rt, answer, heap.wanted(Ok(()), refused));
         }
-        equal(&rt, heap.has_ended(4), true);
+        equal(&rt, (heap.has_refused(), heap.asked()), (false, 4));
         for _ in heap.in_turn() {
             let answer = where_valid(&rt, &heap, row, &[true, false, true, true, false, true]);
             equal(&rt, answer, heap.wanted(Ok(()), refused));
         }
-        equal(&rt, heap.has_ended(6), true);
+        equal(&rt, (heap.has_refused(), heap.asked()), (false, 6));
     }
 }

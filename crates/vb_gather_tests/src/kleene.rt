@@ -149,11 +149,8 @@ fn beside_the_tables(rt: &impl Abort, alloc: Global, left: &Column, right: &Colu
             let answer = shows(rt, made(&heap, and, &a, &b), table, left, right);
             equal(rt, answer, heap.wanted(Ok(()), refused));
         }
-        equal(
-            rt,
-            heap.has_ended(if left.values.0 > 0 { 4 } else { 0 }),
-            true,
-        );
+        let requests = if left.values.0 > 0 { 4 } else { 2 };
+        equal(rt, (heap.has_refused(), heap.asked()), (false, requests));
     }
     drop((a, b));
 }

@@ -199,5 +199,5 @@ fn each_request_is_refused(rt: HostRuntime) {
         let answer = shows(&rt, taken, &[1, 0]);
         equal(&rt, answer, heap.wanted(Ok(()), refused));
     }
-    equal(&rt, heap.has_ended(4), true);
+    equal(&rt, (heap.has_refused(), heap.asked()), (false, 14));
 }

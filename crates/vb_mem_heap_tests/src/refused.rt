@@ -89,7 +89,7 @@ fn a_refused_write_leaves_the_part(rt: HostRuntime) {
         let wanted = heap.wanted(Ok(()), Err(BufferError::OutOfMemory));
         equal(&rt, answer, wanted);
     }
-    // The storage and its owner, and the copy and its own, are asked for, beside copies of the
+    // The storage and its owner, and the copy and its own, are asked for, beside five copies of the
     // allocator.
-    equal(&rt, heap.has_ended(4), true);
+    equal(&rt, (heap.has_refused(), heap.asked()), (false, 9));
 }

@@ -168,78 +168,90 @@ fn of_vector<A: Allocator + Clone>(alloc: A) -> Result<Buffer<u32, A>> {
     }
 }
 
-/// The calls, each with the items of what it makes, and the alignments: the reported and the
-/// declared one.
-const ROWS: &[(Shared, &[u32], (usize, usize))] = &[
-    (Shared::Frozen(Growing::WithCapacity), &[], (4, 256)),
+/// The calls, each with the items of what it makes, the alignments, the reported and the declared
+/// one, and how many requests it makes. A copy of the allocator is a request too.
+const ROWS: &[(Shared, &[u32], (usize, usize), u64)] = &[
+    (Shared::Frozen(Growing::WithCapacity), &[], (4, 256), 4),
     (
         Shared::Frozen(Growing::WithCapacityAligned),
         &[],
         (512, 512),
+        4,
     ),
     (
         Shared::Frozen(Growing::WithCapacityPreferredAligned),
         &[],
         (4, 4),
+        4,
     ),
-    (Shared::Frozen(Growing::Zeroed), &[0, 0], (4, 256)),
-    (Shared::Frozen(Growing::ZeroedAligned), &[0, 0], (512, 512)),
+    (Shared::Frozen(Growing::Zeroed), &[0, 0], (4, 256), 4),
+    (
+        Shared::Frozen(Growing::ZeroedAligned),
+        &[0, 0],
+        (512, 512),
+        4,
+    ),
     (
         Shared::Frozen(Growing::ZeroedPreferredAligned),
         &[0, 0],
         (4, 512),
+        4,
     ),
-    (Shared::Frozen(Growing::Full), &[7, 7, 7], (4, 256)),
-    (Shared::Frozen(Growing::Clone), &[1, 2], (4, 256)),
-    (Shared::Frozen(Growing::Aligned), &[1, 2], (512, 512)),
-    (Shared::Frozen(Growing::CopyFrom), &[1, 2], (4, 256)),
+    (Shared::Frozen(Growing::Full), &[7, 7, 7], (4, 256), 4),
+    (Shared::Frozen(Growing::Clone), &[1, 2], (4, 256), 6),
+    (Shared::Frozen(Growing::Aligned), &[1, 2], (512, 512), 6),
+    (Shared::Frozen(Growing::CopyFrom), &[1, 2], (4, 256), 4),
     (
         Shared::Frozen(Growing::CopyFromAligned),
         &[1, 2],
         (512, 512),
+        4,
     ),
     (
         Shared::Frozen(Growing::CopyFromPreferredAligned),
         &[1, 2],
         (4, 4),
+        4,
     ),
-    (Shared::Frozen(Growing::FromIter), &[3, 4, 5], (4, 256)),
+    (Shared::Frozen(Growing::FromIter), &[3, 4, 5], (4, 256), 4),
     (
         Shared::Frozen(Growing::FromTrustedLenIter),
         &[3, 4, 5],
         (4, 256),
+        4,
     ),
     (
         Shared::Frozen(Growing::TryFromTrustedLenIter),
         &[8],
         (4, 256),
+        4,
     ),
-    (Shared::Frozen(Growing::IntoMut), &[1, 2], (4, 256)),
-    (Shared::Aligned, &[1, 2], (512, 512)),
-    (Shared::CopyFromAligned, &[1, 2], (512, 512)),
-    (Shared::CopyFromPreferredAligned, &[1, 2], (4, 4)),
-    (Shared::Zeroed, &[0, 0], (4, 256)),
-    (Shared::ZeroedAligned, &[0, 0], (512, 512)),
-    (Shared::ZeroedPreferredAligned, &[0, 0], (4, 512)),
-    (Shared::Full, &[7, 7, 7], (4, 256)),
-    (Shared::FromIter, &[3, 4, 5], (4, 256)),
-    (Shared::FromTrustedLenIter, &[3, 4, 5], (4, 256)),
-    (Shared::FromVec, &[1, 2], (4, 4)),
-    (Shared::FromMut, &[1, 2], (4, 256)),
-    (Shared::Twin(Twin::Clone), &[1, 2, 3, 4], (4, 256)),
-    (Shared::Twin(Twin::SliceUnaligned), &[2], (4, 256)),
-    (Shared::Twin(Twin::Slice(2, 4)), &[3, 4], (4, 256)),
-    (Shared::Twin(Twin::SliceWithAlignment), &[4], (4, 256)),
+    (Shared::Frozen(Growing::IntoMut), &[1, 2], (4, 256), 7),
+    (Shared::Aligned, &[1, 2], (512, 512), 9),
+    (Shared::CopyFromAligned, &[1, 2], (512, 512), 4),
+    (Shared::CopyFromPreferredAligned, &[1, 2], (4, 4), 4),
+    (Shared::Zeroed, &[0, 0], (4, 256), 4),
+    (Shared::ZeroedAligned, &[0, 0], (512, 512), 4),
+    (Shared::ZeroedPreferredAligned, &[0, 0], (4, 512), 4),
+    (Shared::Full, &[7, 7, 7], (4, 256), 4),
+    (Shared::FromIter, &[3, 4, 5], (4, 256), 4),
+    (Shared::FromTrustedLenIter, &[3, 4, 5], (4, 256), 4),
+    (Shared::FromVec, &[1, 2], (4, 4), 4),
+    (Shared::FromMut, &[1, 2], (4, 256), 4),
+    (Shared::Twin(Twin::Clone), &[1, 2, 3, 4], (4, 256), 5),
+    (Shared::Twin(Twin::SliceUnaligned), &[2], (4, 256), 5),
+    (Shared::Twin(Twin::Slice(2, 4)), &[3, 4], (4, 256), 5),
+    (Shared::Twin(Twin::SliceWithAlignment), &[4], (4, 256), 5),
 ];
 
 #[test]
 fn made_buffers_show_their_items_or_each_request_is_refused(rt: HostRuntime) {
     let heap = Refusing::new(rt.alloc(), 0);
-    for (call, items, alignments) in ROWS {
+    for (call, items, alignments, requests) in ROWS {
         for _ in heap.in_turn() {
             let made = call.make(Handle { inner: &heap });
             answers(&rt, &heap, shows(&rt, made, items, *alignments));
         }
-        equal(&rt, heap.has_ended(1), true);
+        equal(&rt, (heap.has_refused(), heap.asked()), (false, *requests));
     }
 }

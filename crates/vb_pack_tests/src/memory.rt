@@ -105,18 +105,18 @@ fn unasked<S>(made: Result<S>, asked: u32) -> Result<S> {
     })
 }
 
-/// The calls, each with the bits that it makes, and how many requests it makes at least.
+/// The calls, each with the bits that it makes, and how many requests it makes.
 const ROWS: &[(Call, &str, u64)] = &[
-    (Call::Collect, "0101", 2),
-    (Call::CollectShared, "0101", 2),
-    (Call::FromBools, "01", 2),
-    (Call::FromBoolsShared, "01", 2),
-    (Call::FromBoolVec, "01", 3),
-    (Call::FromBoolVecShared, "01", 3),
-    (Call::FromTruthy, "0111", 2),
-    (Call::FromIter, "010", 2),
-    (Call::FromIterShared, "010", 2),
-    (Call::MapCmp, "1100", 4),
+    (Call::Collect, "0101", 4),
+    (Call::CollectShared, "0101", 4),
+    (Call::FromBools, "01", 4),
+    (Call::FromBoolsShared, "01", 4),
+    (Call::FromBoolVec, "01", 6),
+    (Call::FromBoolVecShared, "01", 6),
+    (Call::FromTruthy, "0111", 4),
+    (Call::FromIter, "010", 4),
+    (Call::FromIterShared, "010", 4),
+    (Call::MapCmp, "1100", 10),
 ];
 
 /// The set that was made has these bits; or the refusal is passed on.
@@ -136,11 +136,11 @@ const REFUSED: Result<()> = Err(BufferError::OutOfMemory);
 #[test]
 fn packed_sets_show_their_bits_or_each_request_is_refused(rt: HostRuntime) {
     let heap = &Refusing::new(rt.alloc(), 0);
-    for (call, bits, least) in ROWS {
+    for (call, bits, requests) in ROWS {
         for _ in heap.in_turn() {
             let answer = makes(&rt, call.make(Handle { inner: heap }), bits);
             equal(&rt, answer, heap.wanted(Ok(()), REFUSED));
         }
-        equal(&rt, heap.has_ended(*least), true);
+        equal(&rt, (heap.has_refused(), heap.asked()), (false, *requests));
     }
 }

@@ -156,7 +156,7 @@ fn a_refused_extend_fills_the_room(rt: HostRuntime) {
         equal(&rt, answer, wanted);
     }
     // The room for the first bits, and more of it some times.
-    equal(&rt, heap.has_ended(4), true);
+    equal(&rt, (heap.has_refused(), heap.asked()), (false, 5));
 }
 
 /// Within its room a set takes no memory, and keeps the room.

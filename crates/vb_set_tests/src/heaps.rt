@@ -112,7 +112,7 @@ fn asks_the_handed_one(
         equal(rt, answer, wanted);
         equal(rt, own.asked(), 0);
     }
-    equal(rt, handed.has_ended(5), true);
+    equal(rt, (handed.has_refused(), handed.asked()), (false, 8));
 }
 
 #[test]
@@ -153,7 +153,7 @@ fn asks_nothing_of_a_vector(
         equal(rt, answer, wanted);
         equal(rt, own.asked(), 0);
     }
-    equal(rt, handed.has_ended(5), true);
+    equal(rt, (handed.has_refused(), handed.asked()), (false, 8));
 }
 
 #[test]
@@ -171,8 +171,13 @@ enum Own {
     Opened,
 }
 
-/// The calls, and how many true bits each makes.
-const OWN: &[(Own, usize)] = &[(Own::Append, 18), (Own::Sliced, 9), (Own::Opened, 9)];
+/// The calls, how many true bits each makes, and how many requests it makes with what is asked of
+/// what it made.
+const OWN: &[(Own, usize, u64)] = &[
+    (Own::Append, 18, 11),
+    (Own::Sliced, 9, 14),
+    (Own::Opened, 9, 11),
+];
 
 impl Own {
     fn make<A: Allocator + Clone>(
@@ -209,14 +214,14 @@ fn a_set_asks_its_own(rt: HostRuntime) {
     let (own, other) = (Refusing::new(rt.alloc(), 0), Refusing::new(rt.alloc(), 0));
     let added = nine(Handle { inner: &other }).expect(&rt, "a set");
     other.refuse(1);
-    for (call, ones) in OWN {
+    for (call, ones, requests) in OWN {
         for _ in own.in_turn() {
             let answer = grown(call.make(nine(Handle { inner: &own }), &added));
             let ample = Ok((ones.saturating_add(1000), *ones));
             let wanted = own.wanted(ample, Err(BufferError::OutOfMemory));
             equal(&rt, answer, wanted);
         }
-        equal(&rt, own.has_ended(5), true);
+        equal(&rt, (own.has_refused(), own.asked()), (false, *requests));
     }
     // The count goes on from run to run.
     equal(&rt, other.asked(), 0);

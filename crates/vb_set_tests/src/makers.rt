@@ -123,37 +123,37 @@ pub(crate) fn edited<A: Allocator + Clone>(
     }
 }
 
-/// The calls, each with the bits that it makes, and how many requests it makes with `freeze` at
-/// least.
+/// The calls, each with the bits that it makes, and how many requests it makes with `freeze`. A
+/// copy of the allocator is a request too.
 const ROWS: &[(Open, &str, u64)] = &[
     (Open::NewSet, "111111111", 4),
     (Open::NewUnset, "000000000", 4),
     (Open::Full, "111", 4),
-    (Open::WithCapacity, "", 1),
-    (Open::Clone, "111111111", 3),
-    (Open::Derived, "111111111", 3),
-    (Open::CopyFrom, "111111111", 3),
-    (Open::Take, "111111111", 2),
+    (Open::WithCapacity, "", 4),
+    (Open::Clone, "111111111", 6),
+    (Open::Derived, "111111111", 6),
+    (Open::CopyFrom, "111111111", 9),
+    (Open::Take, "111111111", 5),
 ];
 
 /// A call with each of its requests refused in turn.
 fn is_made_or_refused(
     rt: &impl Abort,
     heap: &Refusing<Global>,
-    (call, bits, least): (&Open, &str, u64),
+    (call, bits, requests): (&Open, &str, u64),
 ) {
     for _ in heap.in_turn() {
         let answer = shows(rt, frozen(call.make(Handle { inner: heap })), bits);
         let wanted = heap.wanted(Ok(()), Err(BufferError::OutOfMemory));
         equal(rt, answer, wanted);
     }
-    equal(rt, heap.has_ended(least), true);
+    equal(rt, (heap.has_refused(), heap.asked()), (false, requests));
 }
 
 #[test]
 fn open_sets_are_made_or_refused(rt: HostRuntime) {
     let heap = Refusing::new(rt.alloc(), 0);
-    for (call, bits, least) in ROWS {
-        is_made_or_refused(&rt, &heap, (call, bits, *least));
+    for (call, bits, requests) in ROWS {
+        is_made_or_refused(&rt, &heap, (call, bits, *requests));
     }
 }

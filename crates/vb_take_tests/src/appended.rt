@@ -95,7 +95,7 @@ fn a_refused_append_leaves_the_set(rt: HostRuntime) {
         let answer = add_to_full(&rt, Handle { inner: heap });
         equal(&rt, answer, heap.wanted(Ok(()), REFUSED));
     }
-    equal(&rt, heap.has_ended(4), true);
+    equal(&rt, (heap.has_refused(), heap.asked()), (false, 7));
 }
 
 /// Adds a set of true bits to none, 5000 times.

@@ -63,14 +63,14 @@ fn open<A: Allocator + Clone>(alloc: A) -> Result<BitBuffer<A>> {
     BitBufferMut::from_indices(alloc, 4, [1, 3])?.freeze()
 }
 
-/// The calls, each with the bits that it makes, and how many requests it makes at least.
+/// The calls, each with the bits that it makes, and how many requests it makes.
 const ROWS: &[(Call, &str, u64)] = &[
-    (Call::Take, "1010", 4),
-    (Call::TakeValid, "0101", 4),
-    (Call::Taken, "1010", 4),
-    (Call::TakenValid, "0101", 4),
-    (Call::Open, "0101", 2),
-    (Call::Shared, "0101", 2),
+    (Call::Take, "1010", 9),
+    (Call::TakeValid, "0101", 9),
+    (Call::Taken, "1010", 9),
+    (Call::TakenValid, "0101", 9),
+    (Call::Open, "0101", 4),
+    (Call::Shared, "0101", 4),
 ];
 
 /// The set that was made has these bits; or the refusal is passed on.
@@ -88,11 +88,11 @@ fn makes<A: Allocator + Clone>(
 #[test]
 fn sets_at_indices_show_their_bits_or_each_request_is_refused(rt: HostRuntime) {
     let heap = &Refusing::new(rt.alloc(), 0);
-    for (call, bits, least) in ROWS {
+    for (call, bits, requests) in ROWS {
         for _ in heap.in_turn() {
             let answer = makes(&rt, call.make(Handle { inner: heap }), bits);
             equal(&rt, answer, heap.wanted(Ok(()), REFUSED));
         }
-        equal(&rt, heap.has_ended(*least), true);
+        equal(&rt, (heap.has_refused(), heap.asked()), (false, *requests));
     }
 }

@@ -73,12 +73,12 @@ fn error_of<S: Drop>(made: Result<S>) -> Option<BufferError> {
 fn no_number_is_asked_for_in_vain(rt: HostRuntime) {
     let heap = &Refusing::new(rt.alloc(), 0);
     let past = Some(BufferError::IndexOutOfRange { index: 4, len: 4 });
-    for is_shared in [false, true] {
+    for (is_shared, requests) in [(false, 1), (true, 4)] {
         for _ in heap.in_turn() {
             let answer = number_left(Handle { inner: heap }, is_shared);
             let wanted = heap.wanted((past, Some(5)), (Some(BufferError::OutOfMemory), Some(2)));
             equal(&rt, answer, wanted);
         }
-        equal(&rt, heap.has_ended(1), true);
+        equal(&rt, (heap.has_refused(), heap.asked()), (false, requests));
     }
 }
