@@ -15,8 +15,11 @@ pub(crate) struct Bits(pub(crate) usize, pub(crate) usize);
 
 impl Bits {
     pub(crate) fn set<A: Allocator + Clone>(&self, alloc: A) -> Result<BitBuffer<A>> {
-        let period = self.1.max(1);
-        BitBuffer::from_iter(alloc, (0..self.0).map(|place| place % period == 0))
+        BitBuffer::from_iter(alloc, (0..self.0).map(|place| self.has(place)))
+    }
+
+    fn has(&self, place: usize) -> bool {
+        self.1 > 0 && place % self.1 == 0
     }
 }
 
