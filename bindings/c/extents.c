@@ -1,7 +1,8 @@
 /*
  * Each function that writes, on windows whose bytes are the last ones before a page that can be
- * read and not written, or the first ones behind one: a store to any other byte stops the call. The
- * same call in memory that can all be written leaves the same. It is C and C++ alike.
+ * neither read nor written, or the first ones behind one, though it is told that it may write them:
+ * a load or a store of another byte stops the call. The same call in memory that can all be written
+ * leaves the same. It is C and C++ alike.
  */
 #ifndef _DEFAULT_SOURCE
 #define _DEFAULT_SOURCE
@@ -46,15 +47,15 @@ static bool guard(void)
             region[k][i] = (uint8_t)random_below(256);
         }
         memcpy(twin[k], region[k], REGION);
-        if (mprotect(region[k], PAGE, PROT_READ) != 0
-                || mprotect(region[k] + PAGE + OPEN, PAGE, PROT_READ) != 0) {
+        if (mprotect(region[k], PAGE, PROT_NONE) != 0
+                || mprotect(region[k] + PAGE + OPEN, PAGE, PROT_NONE) != 0) {
             return false;
         }
     }
     return sigaction(SIGSEGV, &action, NULL) == 0;
 }
 
-/* Whether the call stores only what it may, and answers as it should. */
+/* Whether the call touches only what it may, and answers as it should. */
 static bool stays(const struct writer *it, const struct job *job)
 {
     return sigsetjmp(fault, 0) == 0 && it->call(job);
@@ -63,8 +64,16 @@ static bool stays(const struct writer *it, const struct job *job)
 /* One call whose windows, or items, begin `at` bytes behind the begin of their regions. */
 static bool holds(const struct writer *it, size_t at, size_t bit, size_t count)
 {
-    const size_t before = random_below(8), from = at - NEAR;
-    const size_t near = bytes_of(it, bit, count) + 2 * NEAR;
+    const size_t before = random_below(8);
+    /* What is compared: these bytes, and those near them that can be read. */
+    size_t from = at - NEAR, to = at + bytes_of(it, bit, count) + NEAR;
+    if (from < PAGE) {
+        from = PAGE;
+    }
+    if (to > PAGE + OPEN) {
+        to = PAGE + OPEN;
+    }
+    const size_t near = from < to ? to - from : 0;
     uint8_t *first[OUTS], *end[OUTS], *twin_first[OUTS], *twin_end[OUTS];
     for (size_t k = 0; k < OUTS; k++) {
         first[k] = region[k] + at;
@@ -87,12 +96,12 @@ static bool holds(const struct writer *it, size_t at, size_t bit, size_t count)
     return true;
 }
 
-/* Its calls for so many bits, or items, at each bit of a byte, at both ends of what may be written. */
+/* Its calls for so many bits, or items, at each bit of a byte, at both ends of what is open. */
 static bool holds_of(const struct writer *it, size_t count)
 {
     for (size_t bit = 0; bit < (it->is_told ? 8 : 1); bit++) {
         const size_t bytes = bytes_of(it, bit, count);
-        /* Of no bits, the byte that they would begin in can't be written either. */
+        /* Of no bits, the byte that they would begin in isn't open either. */
         const size_t first = bytes == 0 ? PAGE + OPEN : PAGE;
         if (!holds(it, first, bit, count) || !holds(it, PAGE + OPEN - bytes, bit, count)) {
             fprintf(stderr, "failed: vb_%s: %zu from bit %zu on\n", it->name, count, bit);
@@ -132,6 +141,6 @@ int main(void)
     for (size_t k = 0; k < sizeof many_items / sizeof *many_items; k++) {
         all_of(is_left, many_items[k], false, true);
     }
-    printf("%llu calls between pages that can't be written\n", calls);
+    printf("%llu calls between pages that can't be touched\n", calls);
     return failures == 0 ? 0 : 1;
 }
