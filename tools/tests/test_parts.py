@@ -217,7 +217,7 @@ try else echo '6 passed, 1 failed (not the gate)'""")
         self.assertNotIn("vb_c proved", self.log())
 
     def test_work_of_another_clone_is_counted_once(self):
-        kept = "begins with what a check kept in /work/other/crates"
+        kept = "begins with what a check kept in /home/other/crates"
         copies = "another copy of the repository is building this library; waiting for it"
         proof = "rt: chose --jobs 4 for high\nlogic=proved functions=1"
         lines = f"rt: low: {kept}/low\nrt: high: {kept}/high\n{proof}\nrt: vb_c: {copies}"
