@@ -25,7 +25,8 @@ pub extern "C" fn vb_block_counts(
     requires window { InBytes bytes.now offset len }
     ensures { Fills (block_counts (bits bytes.now offset len)) table.old table.new result }
 {
-    vb_rank::write_block_counts(bytes, offset, len, table)
+    let blocks = len.div_ceil(512).min(table.len());
+    vb_rank::write_block_counts(bytes, offset, len, &mut table[..blocks])
 }
 
 /// Whether the window lies in the bytes; the table and `written` are then as [`vb_block_counts`]

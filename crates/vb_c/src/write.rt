@@ -15,7 +15,10 @@ pub extern "C" fn vb_fill_bits(bytes: &mut [u8], start: usize, end: usize, v: bo
     requires { end ≤ 8 * length bytes.old }
     ensures { Writes bytes.old bytes.new start (replicate (end - start) v) }
 {
-    vb_bits::fill_bits(bytes, start, end, v);
+    if start < end {
+        let window = &mut bytes[start / 8..end.div_ceil(8)];
+        vb_bits::fill_bits(window, start % 8, start % 8 + (end - start), v);
+    }
 }
 
 /// Whether `end` is at most the number of bits; then [`vb_fill_bits`] is done, and else the bytes
@@ -39,7 +42,8 @@ pub extern "C" fn vb_negate_bits(bytes: &mut [u8], offset: usize, len: usize)
     requires window { InBytes bytes.old offset len }
     ensures { Writes bytes.old bytes.new offset (complement (bits bytes.old offset len)) }
 {
-    vb_bits::map_words(bytes, offset, len);
+    let end = (offset + len).div_ceil(8);
+    vb_bits::map_words(&mut bytes[offset / 8..end], offset % 8, len);
 }
 
 /// Whether the window lies in the bytes; then [`vb_negate_bits`] is done, and else the bytes are as
