@@ -1,12 +1,12 @@
 //! Comparisons as numbers that cross from C.
-ghost use Rattle.std.specs.Prelude.{◌≡◌, ◌↔◌, ◌<◌, IsTrue, length};
+ghost use Rattle.std.specs.Prelude.{◌≡◌, ◌↔◌, ◌<◌, IsTrue, length, map};
 ghost use Rattle.std.specs.Simd.Lanes.{zip2};
 ghost use Rattle.vb_bits.specs.Writes.{Writes};
 ghost use Rattle.vb_c_compare.specs.Codes.{comparison_of, CompareFits};
 ghost use Rattle.vb_compare.specs.Compares.{compares};
 
 use vb_bits::window_fits;
-use vb_compare::{CompareLanes, Comparison, compare_with_into};
+use vb_compare::{CompareLanes, Comparison, compare_into, compare_with_into};
 
 /// The comparison that a number below 6 stands for.
 pub(crate) fn comparison_of(code: u8) -> Comparison
@@ -31,6 +31,17 @@ pub(crate) fn fits(out: &[u8], o: usize, n: usize, code: u8) -> bool
 }
 
 /// Writes to bit `o + k` of `out`, for each `k` below the number of values, whether `values[k]`
+/// compares with `number` as `op` says.
+pub(crate) fn compare<T: CompareLanes>(out: &mut [u8], o: usize, values: &[T], op: u8, number: T)
+    requires { CompareFits out.old o (length values.now) op }
+    ensures { Writes out.old out.new o
+        (map (λ value. compares (comparison_of op) (T.number value) (T.number number)) values.now) }
+{
+    let window = &mut out[o / 8..(o + values.len()).div_ceil(8)];
+    compare_into(window, o % 8, values, comparison_of(op), number);
+}
+
+/// Writes to bit `o + k` of `out`, for each `k` below the number of values, whether `values[k]`
 /// compares with `others[k]` as `op` says.
 pub(crate) fn compare_with<T: CompareLanes>(
     out: &mut [u8],
@@ -45,5 +56,6 @@ pub(crate) fn compare_with<T: CompareLanes>(
         (zip2 (λ left right. compares (comparison_of op) (T.number left) (T.number right))
         values.now others.now) }
 {
-    compare_with_into(out, o, values, comparison_of(op), others);
+    let window = &mut out[o / 8..(o + values.len()).div_ceil(8)];
+    compare_with_into(window, o % 8, values, comparison_of(op), others);
 }

@@ -5,8 +5,7 @@ ghost use Rattle.vb_c_compare.specs.Codes.{comparison_of, CompareFits};
 ghost use Rattle.vb_c_core.specs.Fits.{DoneIf};
 ghost use Rattle.vb_compare.specs.Compares.{compares};
 
-use crate::code::{comparison_of, fits};
-use vb_compare::compare_into;
+use crate::code::{compare, fits};
 
 /// Writes to bit `o + k` of `out`, for each `k` below the number of values, whether `values[k]`
 /// compares with `number` as `op` says. These bits have to lie in `out`, and every other one stays.
@@ -16,7 +15,7 @@ pub extern "C" fn vb_compare_u8(out: &mut [u8], o: usize, values: &[u8], op: u8,
     ensures { Writes out.old out.new o
         (map (λ value. compares (comparison_of op) (pos value) (pos number)) values.now) }
 {
-    compare_into(out, o, values, comparison_of(op), number);
+    compare(out, o, values, op, number);
 }
 
 /// Whether the window lies in the bytes, and `op` is below 6; [`vb_compare_u8`] is then done, else
@@ -49,7 +48,7 @@ pub extern "C" fn vb_compare_u16(out: &mut [u8], o: usize, values: &[u16], op: u
     ensures { Writes out.old out.new o
         (map (λ value. compares (comparison_of op) (pos value) (pos number)) values.now) }
 {
-    compare_into(out, o, values, comparison_of(op), number);
+    compare(out, o, values, op, number);
 }
 
 /// Whether the window lies in the bytes, and `op` is below 6; [`vb_compare_u16`] is then done, else
@@ -82,7 +81,7 @@ pub extern "C" fn vb_compare_u32(out: &mut [u8], o: usize, values: &[u32], op: u
     ensures { Writes out.old out.new o
         (map (λ value. compares (comparison_of op) (pos value) (pos number)) values.now) }
 {
-    compare_into(out, o, values, comparison_of(op), number);
+    compare(out, o, values, op, number);
 }
 
 /// Whether the window lies in the bytes, and `op` is below 6; [`vb_compare_u32`] is then done, else
@@ -115,7 +114,7 @@ pub extern "C" fn vb_compare_u64(out: &mut [u8], o: usize, values: &[u64], op: u
     ensures { Writes out.old out.new o
         (map (λ value. compares (comparison_of op) (pos value) (pos number)) values.now) }
 {
-    compare_into(out, o, values, comparison_of(op), number);
+    compare(out, o, values, op, number);
 }
 
 /// Whether the window lies in the bytes, and `op` is below 6; [`vb_compare_u64`] is then done, else
