@@ -1,19 +1,57 @@
 -- What is written in the bytes of a window alone, in front or from any bit on.
-use Rattle.std.proofs.Common.{◌≡◌, ℕ, ℤ, ◌+◌, ◌-◌, ◌*◌, ◌/◌, ◌%◌, ◌≤◌, Bool, List, ◌++◌}
-use Rattle.std.proofs.Common.{length, take, drop, Option, sym, ap, subst, ◌∙◌, arith}
+use Rattle.std.proofs.Common.{◌≡◌, ℕ, ℤ, ◌+◌, ◌-◌, ◌*◌, ◌/◌, ◌%◌, ◌≤◌, Bool, false, List, ◌++◌}
+use Rattle.std.proofs.Common.{length, take, drop, replicate, Option, sym, ap, subst, ◌∙◌, arith}
 use Rattle.std.specs.Int.{div_ceil}
-use Rattle.std.proofs.lemmas.List.{length-take-le}
+use Rattle.std.proofs.lemmas.List.{length-append, length-replicate, length-take-le}
 use borrow.Rule.Slice.PartMut.{put_mid}
-use Rattle.vb_bits.specs.Bits.{bits}
+use Rattle.vb_bits.specs.Bits.{bits, count}
 use Rattle.vb_bits.specs.InBytes.{InBytes}
+use Rattle.vb_bits.specs.Kept.{kept_by}
 use Rattle.vb_bits.specs.Writes.{Writes}
 use Rattle.vb_bits.proofs.BitsLemmas.{length-bits}
+use Rattle.vb_bits.proofs.KeptLemmas.{length-kept_by}
 use Rattle.vb_bits.proofs.WindowLemmas.{bits-append}
 use Rattle.vb_c_core.proofs.PartLemmas.{part, Writes_in_part}
 use Rattle.vb_c_core.specs.declared.place.Place.{Place}
 use Rattle.vb_filter.proofs.PendingLemmas.{Writes_in_front}
+use Rattle.vb_pack.specs.WordBits.{filled_to}
 use Rattle.vb_take.specs.Takes.{IsTaken}
+use Rattle.vb_c_gather.specs.Filtered.{FiltersBits}
+use Rattle.vb_c_gather.specs.Packed.{Packs}
 use Rattle.vb_c_gather.specs.Taken.{TakesAt, Takes}
+
+-- values that are packed into the first bytes
+pub Packs_in_front : (bools : List Bool) (b c : List ℕ) (n e : ℕ) → length bools ≡ n
+    → e ≡ div_ceil n 8 → n ≤ 8 * length b → bits c 0 n ≡ bools
+    → Writes (take e b) c 0 (filled_to 8 bools) → Packs bools b (c ++ drop e b)
+Packs_in_front bools b c n e size end room packed written =
+    let inside : e ≤ length b = omega (arith, end, room) in
+    let long : length c ≡ e = written.same_len ∙ length-take-le e b inside in
+    let filler : List Bool = replicate ((8 - length bools % 8) % 8) false in
+    record {
+      packed = ap (bits (c ++ drop e b) 0) size
+          ∙ bits-append c (drop e b) 0 n (omega (arith, long, end)) ∙ packed;
+      written = Writes_in_front b c 0 e (filled_to 8 bools) inside
+          (omega (
+            arith,
+            end,
+            size,
+            length-append bools filler,
+            length-replicate ((8 - length bools % 8) % 8) false,
+          ))
+          written;
+    }
+
+-- bits that a mask keeps, written to the first bytes
+pub Filters_in_front : (mask values : List Bool) (b c : List ℕ) (answer kept e : ℕ)
+    → length mask ≡ length values → kept ≡ count mask → e ≡ div_ceil kept 8
+    → count mask ≤ 8 * length b → FiltersBits mask values (take e b) c answer
+    → FiltersBits mask values b (c ++ drop e b) answer
+Filters_in_front mask values b c answer kept e same number end room f = record {
+  number = f.number;
+  window = Writes_in_front b c 0 e (kept_by mask values) (omega (arith, number, end, room))
+      (omega (arith, number, end, length-kept_by false mask values same)) f.window;
+}
 
 -- bits that are taken into the first bytes
 pub Takes_in_front : (l : List Bool) (indices : List ℤ) (validity : Option (List Bool))

@@ -1,6 +1,6 @@
 //! Bits that a mask keeps.
 ghost use Rattle.std.specs.Prelude.{◌≡◌, ◌*◌, length};
-ghost use Rattle.vb_bits.specs.Bits.{bits};
+ghost use Rattle.vb_bits.specs.Bits.{bits, count};
 ghost use Rattle.vb_bits.specs.InBytes.{InBytes};
 ghost use Rattle.vb_c_gather.specs.Filtered.{FiltersBits};
 ghost use Rattle.vb_c_core.specs.Fits.{DoneIf, KeptFits};
@@ -26,11 +26,7 @@ pub extern "C" fn vb_filter_bits(
     requires mask { KeptFits mask.now m len (8 * length out.old) }
     ensures { FiltersBits (bits mask.now m len) (bits values.now v len) out.old out.new result }
 {
-    filter_into(
-        out,
-        BitBufferView::new_with_offset(values, len, v),
-        BitBufferView::new_with_offset(mask, len, m),
-    )
+    filter_within(out, count_ones(mask, m, len), values, v, mask, m, len)
 }
 
 /// Whether both windows lie in their bytes, and `out` has room for the bits that are kept;
@@ -49,12 +45,52 @@ pub extern "C" fn vb_try_filter_bits(
         (FiltersBits (bits mask.now m len) (bits values.now v len) out.old out.new written.new)
         ((out.new ≡ out.old) × (written.new ≡ written.old)) result }
 {
-    if !window_fits(values, v, len)
-        || !window_fits(mask, m, len)
-        || !window_fits(out, 0, count_ones(mask, m, len))
-    {
+    if !window_fits(values, v, len) || !window_fits(mask, m, len) {
         return false;
     }
-    *written = vb_filter_bits(out, values, v, mask, m, len);
+    let kept = count_ones(mask, m, len);
+    if !window_fits(out, 0, kept) {
+        return false;
+    }
+    *written = filter_within(out, kept, values, v, mask, m, len);
     true
+}
+
+/// [`vb_filter_bits`] by a slice of the bytes of the `kept` bits in front, as many as the mask
+/// keeps.
+pub(crate) fn filter_within(
+    out: &mut [u8],
+    kept: usize,
+    values: &[u8],
+    v: usize,
+    mask: &[u8],
+    m: usize,
+    len: usize,
+) -> usize
+    requires values { InBytes values.now v len }
+    requires mask { KeptFits mask.now m len (8 * length out.old) }
+    requires kept { kept ≡ count (bits mask.now m len) }
+    ensures { FiltersBits (bits mask.now m len) (bits values.now v len) out.old out.new result }
+{
+    filter_to_front(&mut out[..kept.div_ceil(8)], values, v, mask, m, len)
+}
+
+/// [`vb_filter_bits`], which may store any byte of `out`.
+pub(crate) fn filter_to_front(
+    out: &mut [u8],
+    values: &[u8],
+    v: usize,
+    mask: &[u8],
+    m: usize,
+    len: usize,
+) -> usize
+    requires values { InBytes values.now v len }
+    requires mask { KeptFits mask.now m len (8 * length out.old) }
+    ensures { FiltersBits (bits mask.now m len) (bits values.now v len) out.old out.new result }
+{
+    filter_into(
+        out,
+        BitBufferView::new_with_offset(values, len, v),
+        BitBufferView::new_with_offset(mask, len, m),
+    )
 }

@@ -6,7 +6,7 @@ ghost use Rattle.vb_c_gather.specs.Filtered.{FiltersBitsAt, KeptFitsAt};
 ghost use Rattle.vb_c_core.specs.Fits.{DoneIf};
 
 use crate::block::BLOCK;
-use crate::filter::vb_filter_bits;
+use crate::filter::{filter_to_front, filter_within, vb_filter_bits};
 use vb_bits::window_fits;
 use vb_c_core::copy_to_window;
 use vb_kernel::count_ones;
@@ -51,13 +51,18 @@ pub extern "C" fn vb_try_filter_bits_at(
         (FiltersBitsAt (bits mask.now m len) (bits values.now v len) out.old out.new o written.new)
         ((out.new ≡ out.old) × (written.new ≡ written.old)) result }
 {
-    if !window_fits(values, v, len)
-        || !window_fits(mask, m, len)
-        || !window_fits(out, o, count_ones(mask, m, len))
-    {
+    if !window_fits(values, v, len) || !window_fits(mask, m, len) {
         return false;
     }
-    *written = vb_filter_bits_at(out, o, values, v, mask, m, len);
+    let kept = count_ones(mask, m, len);
+    if !window_fits(out, o, kept) {
+        return false;
+    }
+    if o == 0 {
+        *written = filter_within(out, kept, values, v, mask, m, len);
+        return true;
+    }
+    *written = filter_by_blocks(out, o, values, v, mask, m, len);
     true
 }
 
@@ -80,7 +85,7 @@ fn filter_by_blocks(
     let mut kept = 0;
     while done < len {
         let n = (len - done).min(BLOCK);
-        let more = vb_filter_bits(&mut made, values, v + done, mask, m + done, n);
+        let more = filter_to_front(&mut made, values, v + done, mask, m + done, n);
         copy_to_window(out, o + kept, &made, 0, more);
         kept += more;
         done += n;

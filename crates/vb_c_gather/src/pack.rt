@@ -10,7 +10,7 @@ pub extern "C" fn vb_pack_bools(out: &mut [u8], bools: &[bool])
     requires { length bools.now ≤ 8 * length out.old }
     ensures { Packs bools.now out.old out.new }
 {
-    vb_pack::pack_bools(out, bools);
+    vb_pack::pack_bools(&mut out[..bools.len().div_ceil(8)], bools);
 }
 
 /// Whether `out` has room for the values; [`vb_pack_bools`] is then done, and else it is as it was.
@@ -33,7 +33,7 @@ pub extern "C" fn vb_pack_truthy(out: &mut [u8], truthy: &[u8])
     requires { length truthy.now ≤ 8 * length out.old }
     ensures { Packs (map (λ x. not (x == 0)) truthy.now) out.old out.new }
 {
-    vb_pack::pack_truthy(out, truthy);
+    vb_pack::pack_truthy(&mut out[..truthy.len().div_ceil(8)], truthy);
 }
 
 /// Whether `out` has room for the values; [`vb_pack_truthy`] is then done, and else it is as it

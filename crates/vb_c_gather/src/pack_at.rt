@@ -16,7 +16,8 @@ pub extern "C" fn vb_pack_truthy_at(out: &mut [u8], o: usize, truthy: &[u8])
     requires { InBytes out.old o (length truthy.now) }
     ensures { Writes out.old out.new o (map (λ x. not (x == 0)) truthy.now) }
 {
-    compare_into(out, o, truthy, Comparison::NotEqual, 0);
+    let end = (o + truthy.len()).div_ceil(8);
+    pack_within(&mut out[o / 8..end], o % 8, truthy);
 }
 
 /// Whether the bits of `out` lie in it, one for each byte; [`vb_pack_truthy_at`] is then done, and
@@ -31,4 +32,12 @@ pub extern "C" fn vb_try_pack_truthy_at(out: &mut [u8], o: usize, truthy: &[u8])
     }
     vb_pack_truthy_at(out, o, truthy);
     true
+}
+
+/// [`vb_pack_truthy_at`], which may store any byte of `out`.
+fn pack_within(out: &mut [u8], o: usize, truthy: &[u8])
+    requires { InBytes out.old o (length truthy.now) }
+    ensures { Writes out.old out.new o (map (λ x. not (x == 0)) truthy.now) }
+{
+    compare_into(out, o, truthy, Comparison::NotEqual, 0);
 }

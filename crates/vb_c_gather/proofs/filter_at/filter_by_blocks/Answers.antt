@@ -19,8 +19,8 @@ loop-done-init c =
           (ap (λ k. length (kept_by k (bits a.values.now a.v 0))) (bits_none a.mask.now a.m));
     }
 
-pub vb_filter_bits-more-requires-clause-mask : goal.vb_filter_bits-more-requires-clause-mask
-vb_filter_bits-more-requires-clause-mask c =
+pub filter_to_front-more-requires-clause-mask : goal.filter_to_front-more-requires-clause-mask
+filter_to_front-more-requires-clause-mask c =
     let n = c.min-n.result in let inv = c.loop-done.invariant in
     record {
       window = record {
@@ -56,14 +56,14 @@ copy_to_window-requires-clause-into c =
         arith,
         inv.number,
         inv.written.same_len,
-        c.vb_filter_bits-more.ensures.number,
+        c.filter_to_front-more.ensures.number,
         c.requires.mask.into.inside,
         few,
       );
       fits = omega (
         arith,
         inv.number,
-        c.vb_filter_bits-more.ensures.number,
+        c.filter_to_front-more.ensures.number,
         c.requires.mask.into.fits,
         few,
       );
@@ -72,7 +72,7 @@ copy_to_window-requires-clause-into c =
 pub copy_to_window-requires-clause-from : goal.copy_to_window-requires-clause-from
 copy_to_window-requires-clause-from c =
     let n = c.min-n.result in let inv = c.loop-done.invariant in
-    let made = c.vb_filter_bits-more.ensures in
+    let made = c.filter_to_front-more.ensures in
     let few = count-bits-le c.args.mask.now (c.args.m + c.loop-done.done) n in
     record {
       inside = omega (arith, inv.room, made.window.same_len, made.number, c.min-n.ensures, few);
@@ -85,7 +85,7 @@ overflow_add-kept c =
     omega (
       arith,
       c.loop-done.invariant.number,
-      c.vb_filter_bits-more.ensures.number,
+      c.filter_to_front-more.ensures.number,
       c.requires.mask.into.fits,
       count-begun c.args.mask.now c.args.m done n c.args.len
           (omega (arith, c.min-n.ensures, c.loop-done-test.true)),
@@ -94,17 +94,17 @@ overflow_add-kept c =
 pub loop-done-preserved : goal.loop-done-preserved
 loop-done-preserved c =
     let a = c.args in let n = c.min-n.result in let done = c.loop-done.done in
-    let inv = c.loop-done.invariant in let made = c.vb_filter_bits-more.ensures in
+    let inv = c.loop-done.invariant in let made = c.filter_to_front-more.ensures in
     record {
       inside = omega (arith, c.min-n.ensures, c.loop-done-test.true);
       room = made.window.same_len ∙ inv.room;
       number = omega (arith, inv.number, made.number, count-bits-add a.mask.now a.m done n);
       written = kept-block a.mask.now a.values.now a.m a.v a.out.now c.loop-done.out
-          c.copy_to_window.new.dst c.loop-done.made c.vb_filter_bits-more.new.out a.o done n
+          c.copy_to_window.new.dst c.loop-done.made c.filter_to_front-more.new.out a.o done n
           inv.written made.window
           (subst (λ k. Writes c.loop-done.out c.copy_to_window.new.dst (a.o + k)
-          (bits c.vb_filter_bits-more.new.out 0 (count (bits a.mask.now (a.m + done) n))))
+          (bits c.filter_to_front-more.new.out 0 (count (bits a.mask.now (a.m + done) n))))
           inv.number
           (subst (λ k. Writes c.loop-done.out c.copy_to_window.new.dst (a.o + c.loop-done.kept)
-          (bits c.vb_filter_bits-more.new.out 0 k)) made.number c.copy_to_window.ensures));
+          (bits c.filter_to_front-more.new.out 0 k)) made.number c.copy_to_window.ensures));
     }
