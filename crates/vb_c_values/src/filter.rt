@@ -1,6 +1,6 @@
 //! Values that a mask keeps.
-ghost use Rattle.std.specs.Prelude.{◌≡◌, ◌≤◌, length};
-ghost use Rattle.vb_bits.specs.Bits.{bits};
+ghost use Rattle.std.specs.Prelude.{◌≡◌, length};
+ghost use Rattle.vb_bits.specs.Bits.{bits, count};
 ghost use Rattle.vb_c_core.specs.Fits.{DoneIf, KeptFits};
 ghost use Rattle.vb_c_values.specs.Filtered.{Filters};
 
@@ -151,21 +151,14 @@ pub extern "C" fn vb_try_filter_u128(
     try_filter_values(out, values, mask, m, written)
 }
 
-/// From so many values on, the kernel moves some of four bytes four at once.
-const WORD: usize = 64;
-
 /// Writes those of the values whose bit of `mask` from bit `m` on is true to the front of `out`,
 /// and answers how many they are.
 fn filter_values<T: Element>(out: &mut [T], values: &[T], mask: &[u8], m: usize) -> usize
     requires { KeptFits mask.now m (length values.now) (length out.old) }
     ensures { Filters (bits mask.now m (length values.now)) values.now out.old out.new result }
 {
-    let end = if T::SIZE == 4 && WORD <= values.len() {
-        count_ones(mask, m, values.len())
-    } else {
-        out.len()
-    };
-    filter_up_to(out, end, values, mask, m)
+    let kept = count_ones(mask, m, values.len());
+    filter_to_front(out, kept, values, mask, m)
 }
 
 /// Whether the mask has a bit for each value in its bytes, and `out` room for those that it keeps;
@@ -188,21 +181,24 @@ fn try_filter_values<T: Element>(
     if out.len() < kept {
         return false;
     }
-    let end = if T::SIZE == 4 { kept } else { out.len() };
-    *written = filter_up_to(out, end, values, mask, m);
+    *written = filter_to_front(out, kept, values, mask, m);
     true
 }
 
-/// [`filter_values`] by a slice of the items before `end`, at least as many as the mask keeps.
-///
-/// The kernel writes over those behind some of four bytes, and puts them back, where its slice has
-/// room for more: another thread may write there. Of other sizes it stores what it answers for, and
-/// a shorter slice would take more time.
-fn filter_up_to<T: Element>(out: &mut [T], end: usize, values: &[T], mask: &[u8], m: usize) -> usize
-    requires room { KeptFits mask.now m (length values.now) end }
-    requires inside { end ≤ length out.old }
+/// [`filter_values`] by a slice of the `kept` items in front, as many as the mask keeps: where its
+/// slice has room for more, the kernel writes over those behind some of four bytes, and puts them
+/// back.
+fn filter_to_front<T: Element>(
+    out: &mut [T],
+    kept: usize,
+    values: &[T],
+    mask: &[u8],
+    m: usize,
+) -> usize
+    requires room { KeptFits mask.now m (length values.now) (length out.old) }
+    requires kept { kept ≡ count (bits mask.now m (length values.now)) }
     ensures { Filters (bits mask.now m (length values.now)) values.now out.old out.new result }
 {
     let mask = BitBufferView::new_with_offset(mask, values.len(), m);
-    filter_elements_into(&mut out[..end], values, mask)
+    filter_elements_into(&mut out[..kept], values, mask)
 }

@@ -35,6 +35,7 @@ fn take_values<T: Element, I: BitIndex>(
     } else {
         Some(BitBufferView::new_with_offset(validity, indices.len(), v))
     };
+    let out = &mut out[..indices.len()];
     take_values_into(out, values, indices, valid).err().into()
 }
 
