@@ -67,6 +67,10 @@ class Repository:
     def read(self, path: str) -> str:
         return (self.root / path).read_text(encoding="utf-8", errors="replace")
 
+    def present(self, path: str) -> str:
+        """The text of a file, which is none where there is no such file."""
+        return self.read(path) if (self.root / path).exists() else ""
+
     def files(self) -> list[Path]:
         """The files that aren't made, by a walk that leaves out what is."""
         made = {"out", "target", "native", ".git", "reference", "__pycache__"}

@@ -64,6 +64,9 @@ KERNEL = [
         (rf"{LIBRARY}/proofs/(.*/)?NAME/[A-Z]\w+\.antt$", ""),
     ]),
     Task("Tests, and the plain loop", [(r"crates/\w+_tests/src/(?!reached)", r"\bNAME\b")]),
+    Task("The template of what goes by type, which tools/write-lists fills", [
+        (r"tools/by_type/\w+\.txt$", r"\bfn vb_NAME"),
+    ]),
     Task("C: the call and its form `vb_try_`; the header, in C++ too, and its tests", [
         (r"crates/vb_c(_\w+)?/src/", r"\bvb_NAME\(|::NAME\("),
         (r"bindings/c/\w+\.hp?p?$", r"\bvb_NAME\b"),

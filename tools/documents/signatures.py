@@ -5,12 +5,10 @@ two others, and these have the same names and types.
 import re
 from dataclasses import dataclass
 
-TYPES = {
-    "uint8_t": "u8", "uint16_t": "u16", "uint32_t": "u32", "uint64_t": "u64", "size_t": "usize",
-    "int8_t": "i8", "int16_t": "i16", "int32_t": "i32", "int64_t": "i64",
-    "float": "f32", "double": "f64", "vb_place": "Place", "vb_run": "Run", "vb_u128": "Wide",
-    "void": "()",
-}
+from by_type.types import FLOATS, SIGNED, UNSIGNED
+
+OF_NUMBERS = {it.c: it.crossing for it in [*UNSIGNED, *SIGNED, *FLOATS] if it.c}
+TYPES = OF_NUMBERS | {"vb_place": "Place", "vb_run": "Run", "void": "()"}
 # What the number of items behind a pointer is called, beside NAME_size: of those that are read, and
 # of those that are written.
 SIZES = {"*const": {"count", "index_count", "entries"}, "*mut": {"room"}}

@@ -10,13 +10,17 @@ CODE = {".rt", ".antt", ".rs", ".c", ".h", ".cpp", ".hpp", ".py"}
 FOLDERS = {"src", "specs", "proofs"}
 
 
+def is_of_crate(path: str) -> bool:
+    """Whether a source lies in src/, specs/ or proofs/ of a crate."""
+    parts = path.split("/")
+    return parts[0] == "crates" and len(parts) > 3 and parts[2] in FOLDERS
+
+
 def widths(repository: Repository) -> list[str]:
     """The lines of src/, specs/ and proofs/ of the crates that have more than 100 columns."""
     found = []
     for path, text in sorted(repository.code.items()):
-        top, _, below = path.partition("/")
-        folder = below.split("/")[1] if below.count("/") > 1 else ""
-        if top == "crates" and folder in FOLDERS:
+        if is_of_crate(path):
             found += [
                 f"{path}:{n}: {len(line)} columns, where {WIDEST} are the most"
                 for n, line in enumerate(text.split("\n"), 1)

@@ -1,10 +1,13 @@
-"""Lists that a tool writes from where their names stand first: what vb_pair gives of its files, what
-vb_kernel and the crate to depend on give of vb_pair, what the tests of that crate reach, the table
-by which the Rust crate calls the C functions, and the digest by which it knows their archives.
+"""What a tool writes: what goes by type, from its templates; and lists, from where their names stand
+first: what vb_pair gives of its files, what vb_kernel and the crate to depend on give of vb_pair,
+what the tests of that crate reach, the table by which the Rust crate calls the C functions, and the
+digest by which it knows their archives.
 """
 import re
 import textwrap
+from collections.abc import Iterator
 
+from by_type.written import by_type
 from documents import signatures
 from documents.digest import DIGEST, written_digest
 from documents.files import Repository
@@ -92,15 +95,23 @@ def reached(repository: Repository) -> str:
     return head + "".join(f"pub use vortex_buffer::{it};\n" for it in names)
 
 
-WRITTEN = {
+LISTS = {
     PAIR: pair, KERNEL: kernel, CRATE: facade, REACHED: reached, TABLE: table,
     DIGEST: written_digest,
 }
+
+
+def written(repository: Repository) -> Iterator[tuple[str, str]]:
+    """The path and the text of each file; those behind it may be made of it as it stands then."""
+    for path, file in by_type(repository):
+        yield path, file.text
+    for path, text in LISTS.items():
+        yield path, text(repository)
 
 
 def not_written(repository: Repository) -> list[str]:
     """The files that the tool would write anew."""
     return [
         f"{path}: isn't what tools/write-lists makes of its list: run it"
-        for path, written in WRITTEN.items() if written(repository) != repository.read(path)
+        for path, text in written(repository) if text != repository.present(path)
     ]

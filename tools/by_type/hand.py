@@ -1,0 +1,20 @@
+"""How many lines of the crates are written by hand."""
+from by_type.written import by_type, templates
+from documents.files import Repository
+from documents.widths import is_of_crate
+from documents.written import REACHED
+
+
+def hand(repository: Repository) -> str:
+    """How many lines of src/, specs/ and proofs/ no tool writes, and how many templates have."""
+    lines = {
+        path: text.count("\n") for path, text in repository.code.items() if is_of_crate(path)
+    }
+    by_tools = {path: file.lines for path, file in by_type(repository) if path in lines}
+    by_tools[REACHED] = repository.read(REACHED).count("pub use ")
+    every, written = sum(lines.values()), sum(by_tools.values())
+    filling = sum(text.count("\n") for text in templates(repository).values())
+    return (
+        f"{every - written} of {every} lines of src/, specs/ and proofs/ by hand; "
+        f"{written} in {len(by_tools)} files by tools/write-lists, whose templates have {filling}"
+    )

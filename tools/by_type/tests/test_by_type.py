@@ -1,0 +1,192 @@
+"""How templates are filled and laid out, and where in a file what they give is written."""
+import tempfile
+import unittest
+from pathlib import Path
+from unittest.mock import patch
+
+from by_type import written
+from by_type.fill import laid_out, of_template
+from by_type.hand import hand
+from by_type.types import COMPARED, SIGNED, UNSIGNED, VALUES
+from by_type.written import by_type
+from documents.files import Repository
+from documents.written import REACHED, not_written
+
+TEMPLATE = """Sums.
+
+% items crates/low/src/sum.rt pub extern "C" fn vb_
+% for T in [U8, U16]
+/// The sum of the values, of «T.each» each.
+pub extern "C" fn vb_sum_«T»(
+    values: &[«T»],
+) -> «T»
+{
+    sum(values)
+}
+
+% end
+% end
+
+% region bindings/c/low.h
+% for T in [U8, U16]
+«T.c» vb_sum_«T»(const «T.c» *values, size_t count);
+% end
+% end
+
+% for T in [U8, I8]
+% file crates/low/proofs/sum/«T.camel»/Answers.antt
+% if T.is_signed
+use lib.{signed}
+% end
+use lib.{«T»}
+% end
+% end
+"""
+MARK = "/* Written by tools/write-lists from tools/by_type/sum.txt. */"
+SUM = '''//! Sums.
+use low::sum;
+
+/// The sum of the values, of one byte each.
+pub extern "C" fn vb_sum_u8(values: &[u8]) -> u8
+{
+    sum(values)
+}
+
+/// The sum of the values, of two bytes each.
+pub extern "C" fn vb_sum_u16(values: &[u16]) -> u16
+{
+    sum(values)
+}
+
+/// By hand.
+fn own() {}
+'''
+FILES = {
+    "tools/by_type/sum.txt": TEMPLATE,
+    "crates/low/src/sum.rt": SUM,
+    "bindings/c/low.h": f"/* Sums. */\n{MARK}\n"
+    "uint8_t vb_sum_u8(const uint8_t *values, size_t count);\n"
+    "uint16_t vb_sum_u16(const uint16_t *values, size_t count);\n"
+    "/* To here. */\nvoid by_hand();\n",
+    "crates/low/proofs/sum/U8/Answers.antt": "use lib.{u8}\n",
+    "crates/low/proofs/sum/I8/Answers.antt": "use lib.{signed}\nuse lib.{i8}\n",
+    REACHED: "//! All.\npub use low::one;\npub use low::two;\n",
+}
+
+
+class Templates(unittest.TestCase):
+    def test_what_stands_by_type(self):
+        first, *others = of_template(TEMPLATE)
+        self.assertEqual((first.kind, first.path), ("items", "crates/low/src/sum.rt"))
+        self.assertEqual(first.pattern, 'pub extern "C" fn vb_')
+        self.assertEqual(first.text.count("\n\n"), 1)
+        self.assertEqual([it.path for it in others], list(FILES)[2:-1])
+        self.assertEqual([it.text for it in others[1:]], list(FILES.values())[3:-1])
+
+    def test_a_docstring_is_filled_and_broken_where_it_says(self):
+        words = " ".join(["word"] * 22)
+        text = laid_out(f"/// One\n/// {words}\n/// two.\n///\n/// Three¦\n/// four.\n")
+        lines = text.splitlines()
+        self.assertEqual(lines[0], "/// One" + " word" * 18)
+        wanted = ["/// word word word word two.", "///", "/// Three", "/// four."]
+        self.assertEqual(lines[1:], wanted)
+
+    def test_a_head_stands_in_one_line_where_that_has_room(self):
+        kept = 'pub extern "C" fn vb_{}(\n    out: &mut [u8],\n    n: usize,\n) -> usize\n'
+        self.assertEqual(laid_out(kept.format("it")),
+                         'pub extern "C" fn vb_it(out: &mut [u8], n: usize) -> usize\n')
+        self.assertEqual(len(laid_out(kept.format("i" * 44)).splitlines()[0]), 100)
+        self.assertEqual(laid_out(kept.format("i" * 45)), kept.format("i" * 45))
+
+    def test_a_prototype_is_wrapped_between_parameters(self):
+        first = "void vb_move(const uint8_t *" + "first" * 12 + ","
+        self.assertEqual(laid_out(f"{first} size_t\n        count, bool *is);\n"),
+                         f"{first}\n        size_t count, bool *is);\n")
+
+    def test_a_line_that_is_too_wide_is_broken_where_it_may_be(self):
+        self.assertEqual(laid_out("    a¦b\n"), "    a b\n")
+        wide = "a" * 95
+        self.assertEqual(laid_out(f"    {wide}¦b\n"), f"    {wide}\n    b\n")
+
+    def test_the_backslashes_of_a_macro_stand_below_each_other(self):
+        self.assertEqual(laid_out("#define A \\\n    B\n"), "#define A".ljust(98) + "\\\n    B\n")
+
+
+class Types(unittest.TestCase):
+    def test_what_is_said_of_a_type(self):
+        self.assertEqual([it.size for it in VALUES], [1, 2, 4, 8, 16])
+        self.assertEqual([it.exponent for it in VALUES], [0, 1, 2, 3, 4])
+        signed, unsigned = SIGNED[0], UNSIGNED[0]
+        self.assertEqual((unsigned.end, signed.end), ("1 << 8", "1 << 7"))
+        self.assertEqual((unsigned.number("n"), signed.number("n")), ("(pos n)", "n"))
+        self.assertEqual((COMPARED[0].cpp, COMPARED[-1].cpp), ("std::uint8_t", "double"))
+
+
+class Places(unittest.TestCase):
+    def repository(self, path: str = REACHED, old: str = "", new: str = "") -> Repository:
+        folder = tempfile.TemporaryDirectory()
+        self.addCleanup(folder.cleanup)
+        root = Path(folder.name)
+        for name, text in (FILES | {path: FILES[path].replace(old, new, 1)}).items():
+            (root / name).parent.mkdir(parents=True, exist_ok=True)
+            (root / name).write_text(text, encoding="utf-8")
+        return Repository(root)
+
+    def differing(self, repository: Repository) -> list[str]:
+        return [path for path, it in by_type(repository) if it.text != repository.present(path)]
+
+    def test_files_that_stand_as_they_are_written(self):
+        self.assertEqual(self.differing(self.repository()), [])
+
+    def test_what_was_changed_by_hand_is_written_anew(self):
+        for path, old in {
+            "crates/low/src/sum.rt": "one byte", "bindings/c/low.h": "size_t count);\nuint16_t",
+            "crates/low/proofs/sum/U8/Answers.antt": "u8",
+        }.items():
+            repository = self.repository(path, old, "other")
+            self.assertEqual(self.differing(repository), [path])
+            self.assertEqual(dict(by_type(repository))[path].text, FILES[path])
+
+    def test_it_is_an_error_of_the_documents(self):
+        with patch("documents.written.LISTS", {}):
+            found = not_written(self.repository("bindings/c/low.h", "uint16_t", "int"))
+        wanted = "bindings/c/low.h: isn't what tools/write-lists makes of its list: run it"
+        self.assertEqual(found, [wanted])
+
+    def test_what_stands_beside_is_left(self):
+        for path, old in {"crates/low/src/sum.rt": "fn own", "bindings/c/low.h": "by_hand"}.items():
+            self.assertEqual(self.differing(self.repository(path, old, "fn other")), [])
+
+    def test_a_type_that_is_new(self):
+        repository = self.repository("tools/by_type/sum.txt", "[U8, U16]", "[U8, U16, U32]")
+        text = dict(by_type(repository))["crates/low/src/sum.rt"].text
+        self.assertIn("fn vb_sum_u32", text)
+        self.assertTrue(text.endswith("\n}\n\n/// By hand.\nfn own() {}\n"))
+
+    def test_a_file_without_a_place_for_it(self):
+        for path, old in {"crates/low/src/sum.rt": SUM, "bindings/c/low.h": MARK}.items():
+            with self.assertRaisesRegex(LookupError, path):
+                self.differing(self.repository(path, old, ""))
+
+    def test_a_file_says_that_it_is_written_where_it_may(self):
+        repository = self.repository()
+        with patch.object(written, "SAYS_SO", True):
+            texts = {path: it.text for path, it in by_type(repository)}
+            for path, text in texts.items():
+                (repository.root / path).write_text(text, encoding="utf-8")
+            self.assertEqual(self.differing(repository), [])
+        by = "by tools/write-lists from tools/by_type/sum.txt.\n"
+        proof = texts["crates/low/proofs/sum/U8/Answers.antt"]
+        self.assertEqual(texts["crates/low/src/sum.rt"], f"// Written in part {by}{SUM}")
+        self.assertEqual(proof, f"-- Written {by}use lib.{{u8}}\n")
+        self.assertEqual(texts["bindings/c/low.h"], FILES["bindings/c/low.h"])
+
+    def test_the_lines_that_are_written_by_hand(self):
+        self.assertEqual(hand(self.repository()), (
+            "7 of 23 lines of src/, specs/ and proofs/ by hand; 16 in 4 files by "
+            "tools/write-lists, whose templates have 29"
+        ))
+
+
+if __name__ == "__main__":
+    unittest.main()

@@ -1,0 +1,123 @@
+"""The table of types: what the families of functions, lanes and tables by type go by.
+
+A template (tools/by_type/*.txt) uses these names. A type that is added here, or to one of the
+groups below, gets its functions in each language by tools/write-lists.
+"""
+from dataclasses import dataclass
+
+# How many bytes there are, as docstrings say it, and what bindings/rust calls such a layout.
+COUNTS = {1: "one byte", 2: "two bytes", 4: "four bytes", 8: "eight bytes", 16: "16 bytes"}
+LAYOUTS = {1: "One", 2: "Two", 4: "Four", 8: "Eight", 16: "Sixteen"}
+
+
+@dataclass(frozen=True)
+class Number:
+    """A type of numbers, by its name in Rust."""
+
+    name: str
+    bits: int
+    c: str
+    # The `usize` that it is as an index, in Rattle; floats are none.
+    place: str = ""
+
+    def __str__(self) -> str:
+        return self.name
+
+    @property
+    def is_float(self) -> bool:
+        return self.name.startswith("f")
+
+    @property
+    def is_signed(self) -> bool:
+        return self.name.startswith("i")
+
+    @property
+    def sign(self) -> str:
+        return "signed" if self.is_signed else "unsigned"
+
+    @property
+    def size(self) -> int:
+        return self.bits // 8
+
+    @property
+    def exponent(self) -> int:
+        """Of which power of two the size is."""
+        return self.size.bit_length() - 1
+
+    @property
+    def each(self) -> str:
+        return COUNTS[self.size]
+
+    @property
+    def layout(self) -> str:
+        return LAYOUTS[self.size]
+
+    @property
+    def camel(self) -> str:
+        return self.name.title()
+
+    @property
+    def cpp(self) -> str:
+        return self.c if self.is_float else f"std::{self.c}"
+
+    @property
+    def crossing(self) -> str:
+        """The type by which a value of it crosses to C."""
+        return "Wide" if self.bits == 128 else self.name
+
+    @property
+    def zero(self) -> str:
+        """The value 0 of `crossing`, in contracts."""
+        return "wide_zero" if self.bits == 128 else "0"
+
+    @property
+    def laid(self) -> str:
+        """The type of fixed width that is laid out as it is."""
+        return self.name.replace("size", "64")
+
+    @property
+    def end(self) -> str:
+        """What the indices that name a place are below, where they are of so many bits."""
+        if self.bits == 128 or not self.is_signed and self.bits == 64:
+            return "usize::MAX"
+        return f"1 << {self.bits - self.is_signed}"
+
+    def widened(self, value: str) -> str:
+        """A value as one of 64 bits, in Rattle."""
+        if self.name.endswith("size"):
+            return f"{value} as {self.laid}"
+        return value if self.bits == 64 else f"{value}.into()"
+
+    def number(self, value: str) -> str:
+        """A value, as an integer of contracts."""
+        return value if self.is_signed else f"(pos {value})"
+
+
+U8 = Number("u8", 8, "uint8_t", "usize::from(self).place()")
+U16 = Number("u16", 16, "uint16_t", "usize::from(self).place()")
+U32 = Number("u32", 32, "uint32_t", "u64::from(self).place()")
+U64 = Number("u64", 64, "uint64_t", "(self as usize).place()")
+U128 = Number("u128", 128, "vb_u128", "u64::try_from(self).ok()?.place()")
+USIZE = Number("usize", 64, "size_t", "Some(self)")
+I8 = Number("i8", 8, "int8_t", "i64::from(self).place()")
+I16 = Number("i16", 16, "int16_t", "i64::from(self).place()")
+I32 = Number("i32", 32, "int32_t", "i64::from(self).place()")
+I64 = Number("i64", 64, "int64_t", "usize::try_from(self).ok()")
+I128 = Number("i128", 128, "", "u128::try_from(self).ok()?.place()")
+ISIZE = Number("isize", 64, "", "(self as i64).place()")
+F32 = Number("f32", 32, "float")
+F64 = Number("f64", 64, "double")
+
+UNSIGNED = [U8, U16, U32, U64, U128, USIZE]
+SIGNED = [I8, I16, I32, I64, I128, ISIZE]
+FLOATS = [F32, F64]
+# Whole numbers, by the name of the file that has them.
+WHOLE = {"unsigned": UNSIGNED, "signed": SIGNED}
+# What C and C++ have: types of values that are moved, those of indices, and those compared.
+VALUES = [U8, U16, U32, U64, U128]
+INDICES = [U8, U16, U32, U64]
+COMPARED = [*INDICES, I8, I16, I32, I64, *FLOATS]
+# What processors have vectors of.
+LANES = {name: [it for it in numbers if it.bits < 128] for name, numbers in WHOLE.items()}
+# How floats compare, by the name of the call and by that of IEEE 754.
+FLOAT_TESTS = {"equal": "eq", "not_equal": "ne", "less": "lt", "less_or_equal": "le"}

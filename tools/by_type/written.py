@@ -1,0 +1,79 @@
+"""The files that have what goes by type, as the templates write them."""
+import re
+from collections.abc import Iterator
+from dataclasses import dataclass
+from pathlib import Path
+
+from by_type.fill import Target, of_template
+from documents.files import Repository
+
+FOLDER = "tools/by_type"
+# Whether a file of a crate says in its first line that it is written. To say so changes the file,
+# and a crate that is changed is proved again.
+SAYS_SO = False
+COMMENTS = {".rt": "//", ".antt": "--"}
+REGION = re.compile(
+    r"^ *(?:/\*|//) Written by tools/write-lists from (\S+\.txt)\.(?: \*/)?\n"
+    r"(.*?)(?=^ *(?:/\*|//) To here\.(?: \*/)?\n)",
+    re.MULTILINE | re.DOTALL,
+)
+
+
+@dataclass
+class Written:
+    """A file as it is written, and how many of its lines are."""
+
+    text: str
+    lines: int = 0
+
+
+def templates(repository: Repository) -> dict[str, str]:
+    paths = sorted((repository.root / FOLDER).glob("*.txt"))
+    return {f"{FOLDER}/{it.name}": it.read_text(encoding="utf-8") for it in paths}
+
+
+def by_type(repository: Repository) -> Iterator[tuple[str, Written]]:
+    """Each file that has something by type, with its path."""
+    found: dict[str, list[tuple[str, Target]]] = {}
+    for template, text in templates(repository).items():
+        for it in of_template(text):
+            found.setdefault(it.path, []).append((template, it))
+    for path, parts in found.items():
+        file = Written(repository.present(path))
+        for nth, (template, part) in enumerate(parts):
+            before = sum(template == it for it, _ in parts[:nth])
+            put(file, template, part, before)
+        yield path, file
+
+
+def put(file: Written, template: str, part: Target, before: int) -> None:
+    """Writes a part, before which the file has so many others of the template."""
+    if part.kind == "file":
+        where = slice(0, len(file.text))
+    elif part.kind == "items":
+        where = items(file.text, part)
+    else:
+        where = region(file.text, part, template, before)
+    file.text = file.text[: where.start] + part.text + file.text[where.stop :]
+    file.lines += part.text.count("\n")
+    mark = COMMENTS.get(Path(part.path).suffix)
+    if SAYS_SO and mark:
+        how = "Written" if part.kind == "file" else "Written in part"
+        line = f"{mark} {how} by tools/write-lists from {template}.\n"
+        file.text = line + file.text.removeprefix(line)
+
+
+def items(text: str, part: Target) -> slice:
+    """From the first item with such a head, and its docstring, to the end of the last one."""
+    heads = list(re.finditer(rf"^{re.escape(part.pattern)}", text, re.MULTILINE))
+    if not heads:
+        raise LookupError(f"{part.path}: nothing in it begins with `{part.pattern}`")
+    start = text.rindex("\n\n", 0, heads[0].start()) + 2
+    return slice(start, text.index("\n}\n", heads[-1].end()) + 3)
+
+
+def region(text: str, part: Target, template: str, before: int) -> slice:
+    found = [it for it in REGION.finditer(text) if it[1] == template]
+    if len(found) <= before:
+        raise LookupError(f"{part.path}: has no place for what {template} writes")
+    return slice(found[before].start(2), found[before].end(2))
