@@ -105,11 +105,13 @@ struct by {
     static constexpr auto keep = Keep;
 };
 template <std::size_t Size> struct laid { using type = void; };
+/* Written by tools/write-lists from tools/by_type/filter.txt. */
 template <> struct laid<1> : by<std::uint8_t, vb_filter_u8> {};
 template <> struct laid<2> : by<std::uint16_t, vb_filter_u16> {};
 template <> struct laid<4> : by<std::uint32_t, vb_filter_u32> {};
 template <> struct laid<8> : by<std::uint64_t, vb_filter_u64> {};
 template <> struct laid<16> : by<vb_u128, vb_filter_u128> {};
+/* To here. */
 
 /* Whether items of the type may be copied as such a type's are. */
 template <class Item> constexpr bool is_value()

@@ -29,26 +29,28 @@ typedef struct {
  *     const uint8_t mask[] = {0x05};
  *     assert(vb_filter_u32(kept, 2, values, 3, mask, 1, 0) == 2 && kept[1] == 7);
  */
+/* Written by tools/write-lists from tools/by_type/filter.txt. */
 size_t vb_filter_u8(uint8_t *out, size_t room, const uint8_t *values, size_t count,
         const uint8_t *mask, size_t mask_size, size_t mask_offset);
-VB_CHECKED bool vb_try_filter_u8(uint8_t *out, size_t room, const uint8_t *values,
-        size_t count, const uint8_t *mask, size_t mask_size, size_t mask_offset, size_t *written);
+VB_CHECKED bool vb_try_filter_u8(uint8_t *out, size_t room, const uint8_t *values, size_t count,
+        const uint8_t *mask, size_t mask_size, size_t mask_offset, size_t *written);
 size_t vb_filter_u16(uint16_t *out, size_t room, const uint16_t *values, size_t count,
         const uint8_t *mask, size_t mask_size, size_t mask_offset);
-VB_CHECKED bool vb_try_filter_u16(uint16_t *out, size_t room, const uint16_t *values,
-        size_t count, const uint8_t *mask, size_t mask_size, size_t mask_offset, size_t *written);
+VB_CHECKED bool vb_try_filter_u16(uint16_t *out, size_t room, const uint16_t *values, size_t count,
+        const uint8_t *mask, size_t mask_size, size_t mask_offset, size_t *written);
 size_t vb_filter_u32(uint32_t *out, size_t room, const uint32_t *values, size_t count,
         const uint8_t *mask, size_t mask_size, size_t mask_offset);
-VB_CHECKED bool vb_try_filter_u32(uint32_t *out, size_t room, const uint32_t *values,
-        size_t count, const uint8_t *mask, size_t mask_size, size_t mask_offset, size_t *written);
+VB_CHECKED bool vb_try_filter_u32(uint32_t *out, size_t room, const uint32_t *values, size_t count,
+        const uint8_t *mask, size_t mask_size, size_t mask_offset, size_t *written);
 size_t vb_filter_u64(uint64_t *out, size_t room, const uint64_t *values, size_t count,
         const uint8_t *mask, size_t mask_size, size_t mask_offset);
-VB_CHECKED bool vb_try_filter_u64(uint64_t *out, size_t room, const uint64_t *values,
-        size_t count, const uint8_t *mask, size_t mask_size, size_t mask_offset, size_t *written);
+VB_CHECKED bool vb_try_filter_u64(uint64_t *out, size_t room, const uint64_t *values, size_t count,
+        const uint8_t *mask, size_t mask_size, size_t mask_offset, size_t *written);
 size_t vb_filter_u128(vb_u128 *out, size_t room, const vb_u128 *values, size_t count,
         const uint8_t *mask, size_t mask_size, size_t mask_offset);
-VB_CHECKED bool vb_try_filter_u128(vb_u128 *out, size_t room, const vb_u128 *values,
-        size_t count, const uint8_t *mask, size_t mask_size, size_t mask_offset, size_t *written);
+VB_CHECKED bool vb_try_filter_u128(vb_u128 *out, size_t room, const vb_u128 *values, size_t count,
+        const uint8_t *mask, size_t mask_size, size_t mask_offset, size_t *written);
+/* To here. */
 
 /*
  * The same of values of whatever type, signed ones, floats and structs too, by their size: 1, 2, 4,
@@ -88,126 +90,128 @@ VB_CHECKED bool vb_try_filter_values(void *out, size_t room, const void *values,
  *     vb_place past = vb_take_values_u64_u32(taken, 2, values, 3, indices, 2, true, NULL, 0, 0);
  *     assert(!past.found && taken[0] == 7 && taken[1] == 5);
  */
+/* Written by tools/write-lists from tools/by_type/take_values.txt. */
 VB_CHECKED vb_place vb_take_values_u8_u8(uint8_t *out, size_t room, const uint8_t *values,
         size_t count, const uint8_t *indices, size_t index_count, bool all_valid,
         const uint8_t *validity, size_t validity_size, size_t validity_offset);
-VB_CHECKED bool vb_try_take_values_u8_u8(uint8_t *out, size_t room, const uint8_t *values, size_t
-        count, const uint8_t *indices, size_t index_count, bool all_valid, const uint8_t
-        *validity, size_t validity_size, size_t validity_offset, vb_place *past);
+VB_CHECKED bool vb_try_take_values_u8_u8(uint8_t *out, size_t room, const uint8_t *values,
+        size_t count, const uint8_t *indices, size_t index_count, bool all_valid,
+        const uint8_t *validity, size_t validity_size, size_t validity_offset, vb_place *past);
 VB_CHECKED vb_place vb_take_values_u16_u8(uint16_t *out, size_t room, const uint16_t *values,
         size_t count, const uint8_t *indices, size_t index_count, bool all_valid,
         const uint8_t *validity, size_t validity_size, size_t validity_offset);
 VB_CHECKED bool vb_try_take_values_u16_u8(uint16_t *out, size_t room, const uint16_t *values,
-        size_t count, const uint8_t *indices, size_t index_count, bool all_valid, const uint8_t
-        *validity, size_t validity_size, size_t validity_offset, vb_place *past);
+        size_t count, const uint8_t *indices, size_t index_count, bool all_valid,
+        const uint8_t *validity, size_t validity_size, size_t validity_offset, vb_place *past);
 VB_CHECKED vb_place vb_take_values_u32_u8(uint32_t *out, size_t room, const uint32_t *values,
         size_t count, const uint8_t *indices, size_t index_count, bool all_valid,
         const uint8_t *validity, size_t validity_size, size_t validity_offset);
 VB_CHECKED bool vb_try_take_values_u32_u8(uint32_t *out, size_t room, const uint32_t *values,
-        size_t count, const uint8_t *indices, size_t index_count, bool all_valid, const uint8_t
-        *validity, size_t validity_size, size_t validity_offset, vb_place *past);
+        size_t count, const uint8_t *indices, size_t index_count, bool all_valid,
+        const uint8_t *validity, size_t validity_size, size_t validity_offset, vb_place *past);
 VB_CHECKED vb_place vb_take_values_u64_u8(uint64_t *out, size_t room, const uint64_t *values,
         size_t count, const uint8_t *indices, size_t index_count, bool all_valid,
         const uint8_t *validity, size_t validity_size, size_t validity_offset);
 VB_CHECKED bool vb_try_take_values_u64_u8(uint64_t *out, size_t room, const uint64_t *values,
-        size_t count, const uint8_t *indices, size_t index_count, bool all_valid, const uint8_t
-        *validity, size_t validity_size, size_t validity_offset, vb_place *past);
+        size_t count, const uint8_t *indices, size_t index_count, bool all_valid,
+        const uint8_t *validity, size_t validity_size, size_t validity_offset, vb_place *past);
 VB_CHECKED vb_place vb_take_values_u128_u8(vb_u128 *out, size_t room, const vb_u128 *values,
         size_t count, const uint8_t *indices, size_t index_count, bool all_valid,
         const uint8_t *validity, size_t validity_size, size_t validity_offset);
 VB_CHECKED bool vb_try_take_values_u128_u8(vb_u128 *out, size_t room, const vb_u128 *values,
-        size_t count, const uint8_t *indices, size_t index_count, bool all_valid, const uint8_t
-        *validity, size_t validity_size, size_t validity_offset, vb_place *past);
+        size_t count, const uint8_t *indices, size_t index_count, bool all_valid,
+        const uint8_t *validity, size_t validity_size, size_t validity_offset, vb_place *past);
 VB_CHECKED vb_place vb_take_values_u8_u16(uint8_t *out, size_t room, const uint8_t *values,
         size_t count, const uint16_t *indices, size_t index_count, bool all_valid,
         const uint8_t *validity, size_t validity_size, size_t validity_offset);
-VB_CHECKED bool vb_try_take_values_u8_u16(uint8_t *out, size_t room, const uint8_t *values, size_t
-        count, const uint16_t *indices, size_t index_count, bool all_valid, const uint8_t
-        *validity, size_t validity_size, size_t validity_offset, vb_place *past);
+VB_CHECKED bool vb_try_take_values_u8_u16(uint8_t *out, size_t room, const uint8_t *values,
+        size_t count, const uint16_t *indices, size_t index_count, bool all_valid,
+        const uint8_t *validity, size_t validity_size, size_t validity_offset, vb_place *past);
 VB_CHECKED vb_place vb_take_values_u16_u16(uint16_t *out, size_t room, const uint16_t *values,
         size_t count, const uint16_t *indices, size_t index_count, bool all_valid,
         const uint8_t *validity, size_t validity_size, size_t validity_offset);
 VB_CHECKED bool vb_try_take_values_u16_u16(uint16_t *out, size_t room, const uint16_t *values,
-        size_t count, const uint16_t *indices, size_t index_count, bool all_valid, const uint8_t
-        *validity, size_t validity_size, size_t validity_offset, vb_place *past);
+        size_t count, const uint16_t *indices, size_t index_count, bool all_valid,
+        const uint8_t *validity, size_t validity_size, size_t validity_offset, vb_place *past);
 VB_CHECKED vb_place vb_take_values_u32_u16(uint32_t *out, size_t room, const uint32_t *values,
         size_t count, const uint16_t *indices, size_t index_count, bool all_valid,
         const uint8_t *validity, size_t validity_size, size_t validity_offset);
 VB_CHECKED bool vb_try_take_values_u32_u16(uint32_t *out, size_t room, const uint32_t *values,
-        size_t count, const uint16_t *indices, size_t index_count, bool all_valid, const uint8_t
-        *validity, size_t validity_size, size_t validity_offset, vb_place *past);
+        size_t count, const uint16_t *indices, size_t index_count, bool all_valid,
+        const uint8_t *validity, size_t validity_size, size_t validity_offset, vb_place *past);
 VB_CHECKED vb_place vb_take_values_u64_u16(uint64_t *out, size_t room, const uint64_t *values,
         size_t count, const uint16_t *indices, size_t index_count, bool all_valid,
         const uint8_t *validity, size_t validity_size, size_t validity_offset);
 VB_CHECKED bool vb_try_take_values_u64_u16(uint64_t *out, size_t room, const uint64_t *values,
-        size_t count, const uint16_t *indices, size_t index_count, bool all_valid, const uint8_t
-        *validity, size_t validity_size, size_t validity_offset, vb_place *past);
+        size_t count, const uint16_t *indices, size_t index_count, bool all_valid,
+        const uint8_t *validity, size_t validity_size, size_t validity_offset, vb_place *past);
 VB_CHECKED vb_place vb_take_values_u128_u16(vb_u128 *out, size_t room, const vb_u128 *values,
         size_t count, const uint16_t *indices, size_t index_count, bool all_valid,
         const uint8_t *validity, size_t validity_size, size_t validity_offset);
 VB_CHECKED bool vb_try_take_values_u128_u16(vb_u128 *out, size_t room, const vb_u128 *values,
-        size_t count, const uint16_t *indices, size_t index_count, bool all_valid, const uint8_t
-        *validity, size_t validity_size, size_t validity_offset, vb_place *past);
+        size_t count, const uint16_t *indices, size_t index_count, bool all_valid,
+        const uint8_t *validity, size_t validity_size, size_t validity_offset, vb_place *past);
 VB_CHECKED vb_place vb_take_values_u8_u32(uint8_t *out, size_t room, const uint8_t *values,
         size_t count, const uint32_t *indices, size_t index_count, bool all_valid,
         const uint8_t *validity, size_t validity_size, size_t validity_offset);
-VB_CHECKED bool vb_try_take_values_u8_u32(uint8_t *out, size_t room, const uint8_t *values, size_t
-        count, const uint32_t *indices, size_t index_count, bool all_valid, const uint8_t
-        *validity, size_t validity_size, size_t validity_offset, vb_place *past);
+VB_CHECKED bool vb_try_take_values_u8_u32(uint8_t *out, size_t room, const uint8_t *values,
+        size_t count, const uint32_t *indices, size_t index_count, bool all_valid,
+        const uint8_t *validity, size_t validity_size, size_t validity_offset, vb_place *past);
 VB_CHECKED vb_place vb_take_values_u16_u32(uint16_t *out, size_t room, const uint16_t *values,
         size_t count, const uint32_t *indices, size_t index_count, bool all_valid,
         const uint8_t *validity, size_t validity_size, size_t validity_offset);
 VB_CHECKED bool vb_try_take_values_u16_u32(uint16_t *out, size_t room, const uint16_t *values,
-        size_t count, const uint32_t *indices, size_t index_count, bool all_valid, const uint8_t
-        *validity, size_t validity_size, size_t validity_offset, vb_place *past);
+        size_t count, const uint32_t *indices, size_t index_count, bool all_valid,
+        const uint8_t *validity, size_t validity_size, size_t validity_offset, vb_place *past);
 VB_CHECKED vb_place vb_take_values_u32_u32(uint32_t *out, size_t room, const uint32_t *values,
         size_t count, const uint32_t *indices, size_t index_count, bool all_valid,
         const uint8_t *validity, size_t validity_size, size_t validity_offset);
 VB_CHECKED bool vb_try_take_values_u32_u32(uint32_t *out, size_t room, const uint32_t *values,
-        size_t count, const uint32_t *indices, size_t index_count, bool all_valid, const uint8_t
-        *validity, size_t validity_size, size_t validity_offset, vb_place *past);
+        size_t count, const uint32_t *indices, size_t index_count, bool all_valid,
+        const uint8_t *validity, size_t validity_size, size_t validity_offset, vb_place *past);
 VB_CHECKED vb_place vb_take_values_u64_u32(uint64_t *out, size_t room, const uint64_t *values,
         size_t count, const uint32_t *indices, size_t index_count, bool all_valid,
         const uint8_t *validity, size_t validity_size, size_t validity_offset);
 VB_CHECKED bool vb_try_take_values_u64_u32(uint64_t *out, size_t room, const uint64_t *values,
-        size_t count, const uint32_t *indices, size_t index_count, bool all_valid, const uint8_t
-        *validity, size_t validity_size, size_t validity_offset, vb_place *past);
+        size_t count, const uint32_t *indices, size_t index_count, bool all_valid,
+        const uint8_t *validity, size_t validity_size, size_t validity_offset, vb_place *past);
 VB_CHECKED vb_place vb_take_values_u128_u32(vb_u128 *out, size_t room, const vb_u128 *values,
         size_t count, const uint32_t *indices, size_t index_count, bool all_valid,
         const uint8_t *validity, size_t validity_size, size_t validity_offset);
 VB_CHECKED bool vb_try_take_values_u128_u32(vb_u128 *out, size_t room, const vb_u128 *values,
-        size_t count, const uint32_t *indices, size_t index_count, bool all_valid, const uint8_t
-        *validity, size_t validity_size, size_t validity_offset, vb_place *past);
+        size_t count, const uint32_t *indices, size_t index_count, bool all_valid,
+        const uint8_t *validity, size_t validity_size, size_t validity_offset, vb_place *past);
 VB_CHECKED vb_place vb_take_values_u8_u64(uint8_t *out, size_t room, const uint8_t *values,
         size_t count, const uint64_t *indices, size_t index_count, bool all_valid,
         const uint8_t *validity, size_t validity_size, size_t validity_offset);
-VB_CHECKED bool vb_try_take_values_u8_u64(uint8_t *out, size_t room, const uint8_t *values, size_t
-        count, const uint64_t *indices, size_t index_count, bool all_valid, const uint8_t
-        *validity, size_t validity_size, size_t validity_offset, vb_place *past);
+VB_CHECKED bool vb_try_take_values_u8_u64(uint8_t *out, size_t room, const uint8_t *values,
+        size_t count, const uint64_t *indices, size_t index_count, bool all_valid,
+        const uint8_t *validity, size_t validity_size, size_t validity_offset, vb_place *past);
 VB_CHECKED vb_place vb_take_values_u16_u64(uint16_t *out, size_t room, const uint16_t *values,
         size_t count, const uint64_t *indices, size_t index_count, bool all_valid,
         const uint8_t *validity, size_t validity_size, size_t validity_offset);
 VB_CHECKED bool vb_try_take_values_u16_u64(uint16_t *out, size_t room, const uint16_t *values,
-        size_t count, const uint64_t *indices, size_t index_count, bool all_valid, const uint8_t
-        *validity, size_t validity_size, size_t validity_offset, vb_place *past);
+        size_t count, const uint64_t *indices, size_t index_count, bool all_valid,
+        const uint8_t *validity, size_t validity_size, size_t validity_offset, vb_place *past);
 VB_CHECKED vb_place vb_take_values_u32_u64(uint32_t *out, size_t room, const uint32_t *values,
         size_t count, const uint64_t *indices, size_t index_count, bool all_valid,
         const uint8_t *validity, size_t validity_size, size_t validity_offset);
 VB_CHECKED bool vb_try_take_values_u32_u64(uint32_t *out, size_t room, const uint32_t *values,
-        size_t count, const uint64_t *indices, size_t index_count, bool all_valid, const uint8_t
-        *validity, size_t validity_size, size_t validity_offset, vb_place *past);
+        size_t count, const uint64_t *indices, size_t index_count, bool all_valid,
+        const uint8_t *validity, size_t validity_size, size_t validity_offset, vb_place *past);
 VB_CHECKED vb_place vb_take_values_u64_u64(uint64_t *out, size_t room, const uint64_t *values,
         size_t count, const uint64_t *indices, size_t index_count, bool all_valid,
         const uint8_t *validity, size_t validity_size, size_t validity_offset);
 VB_CHECKED bool vb_try_take_values_u64_u64(uint64_t *out, size_t room, const uint64_t *values,
-        size_t count, const uint64_t *indices, size_t index_count, bool all_valid, const uint8_t
-        *validity, size_t validity_size, size_t validity_offset, vb_place *past);
+        size_t count, const uint64_t *indices, size_t index_count, bool all_valid,
+        const uint8_t *validity, size_t validity_size, size_t validity_offset, vb_place *past);
 VB_CHECKED vb_place vb_take_values_u128_u64(vb_u128 *out, size_t room, const vb_u128 *values,
         size_t count, const uint64_t *indices, size_t index_count, bool all_valid,
         const uint8_t *validity, size_t validity_size, size_t validity_offset);
 VB_CHECKED bool vb_try_take_values_u128_u64(vb_u128 *out, size_t room, const vb_u128 *values,
-        size_t count, const uint64_t *indices, size_t index_count, bool all_valid, const uint8_t
-        *validity, size_t validity_size, size_t validity_offset, vb_place *past);
+        size_t count, const uint64_t *indices, size_t index_count, bool all_valid,
+        const uint8_t *validity, size_t validity_size, size_t validity_offset, vb_place *past);
+/* To here. */
 
 /*
  * The same of values of whatever type, by their size, as of vb_filter_values, and that of an index:

@@ -21,6 +21,7 @@ template <std::size_t Value, std::size_t Index> struct taken_by;
     template <> struct taken_by<value, index> {                                                   \
         static constexpr auto take = vb_take_values_##name;                                       \
     };
+/* Written by tools/write-lists from tools/by_type/take_values.txt. */
 VB_TAKEN_BY(1, 1, u8_u8)
 VB_TAKEN_BY(2, 1, u16_u8)
 VB_TAKEN_BY(4, 1, u32_u8)
@@ -41,6 +42,7 @@ VB_TAKEN_BY(2, 8, u16_u64)
 VB_TAKEN_BY(4, 8, u32_u64)
 VB_TAKEN_BY(8, 8, u64_u64)
 VB_TAKEN_BY(16, 8, u128_u64)
+/* To here. */
 #undef VB_TAKEN_BY
 
 } // namespace detail

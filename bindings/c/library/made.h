@@ -27,6 +27,16 @@ static bool is_laid(const void *items, size_t size, size_t most)
     return known && size <= most && (uintptr_t)items % (size < 8 ? size : 8) == 0;
 }
 
+/* Written by tools/write-lists from tools/by_type/filter.txt. */
+/* Each size of values, with the name and the type of these. */
+#define EACH_VALUE(WIDTH)                                                                         \
+    WIDTH(1, u8, uint8_t)                                                                         \
+    WIDTH(2, u16, uint16_t)                                                                       \
+    WIDTH(4, u32, uint32_t)                                                                       \
+    WIDTH(8, u64, uint64_t)                                                                       \
+    WIDTH(16, u128, vb_u128)
+/* To here. */
+
 /* What one of the functions for values of so many bytes answers. */
 #define OF_VALUES(name, V, ...)                                                                   \
     CALL(name)(ANY((V *)out, room), ANY((const V *)values, count), __VA_ARGS__)
@@ -38,11 +48,7 @@ size_t vb_filter_values(void *out, size_t room, const void *values, size_t count
 #define WIDTH(size, name, V)                                                                      \
     case size:                                                                                    \
         return OF_VALUES(filter_##name, V, ANY(mask, mask_size), mask_offset);
-        WIDTH(1, u8, uint8_t)
-        WIDTH(2, u16, uint16_t)
-        WIDTH(4, u32, uint32_t)
-        WIDTH(8, u64, uint64_t)
-        WIDTH(16, u128, vb_u128)
+        EACH_VALUE(WIDTH)
 #undef WIDTH
     default:
         __builtin_trap();
@@ -60,11 +66,7 @@ bool vb_try_filter_values(void *out, size_t room, const void *values, size_t cou
 #define WIDTH(size, name, V)                                                                      \
     case size:                                                                                    \
         return OF_VALUES(try_filter_##name, V, ANY(mask, mask_size), mask_offset, written);
-        WIDTH(1, u8, uint8_t)
-        WIDTH(2, u16, uint16_t)
-        WIDTH(4, u32, uint32_t)
-        WIDTH(8, u64, uint64_t)
-        WIDTH(16, u128, vb_u128)
+        EACH_VALUE(WIDTH)
 #undef WIDTH
     default:
         return false;
@@ -77,12 +79,31 @@ static size_t pair(size_t value_size, size_t index_size)
 {
     return value_size <= 16 && index_size <= 8 ? PAIR(value_size, index_size) : 0;
 }
-#define PAIRS(WIDTH, size, index, I)                                                              \
-    WIDTH(1, u8, uint8_t, size, index, I)                                                         \
-    WIDTH(2, u16, uint16_t, size, index, I)                                                       \
-    WIDTH(4, u32, uint32_t, size, index, I)                                                       \
-    WIDTH(8, u64, uint64_t, size, index, I)                                                       \
-    WIDTH(16, u128, vb_u128, size, index, I)
+
+/* Written by tools/write-lists from tools/by_type/take_values.txt. */
+/* Each size of values, and of indices, with their names and types. */
+#define EACH_PAIR(WIDTH)                                                                          \
+    WIDTH(1, u8, uint8_t, 1, u8, uint8_t)                                                         \
+    WIDTH(2, u16, uint16_t, 1, u8, uint8_t)                                                       \
+    WIDTH(4, u32, uint32_t, 1, u8, uint8_t)                                                       \
+    WIDTH(8, u64, uint64_t, 1, u8, uint8_t)                                                       \
+    WIDTH(16, u128, vb_u128, 1, u8, uint8_t)                                                      \
+    WIDTH(1, u8, uint8_t, 2, u16, uint16_t)                                                       \
+    WIDTH(2, u16, uint16_t, 2, u16, uint16_t)                                                     \
+    WIDTH(4, u32, uint32_t, 2, u16, uint16_t)                                                     \
+    WIDTH(8, u64, uint64_t, 2, u16, uint16_t)                                                     \
+    WIDTH(16, u128, vb_u128, 2, u16, uint16_t)                                                    \
+    WIDTH(1, u8, uint8_t, 4, u32, uint32_t)                                                       \
+    WIDTH(2, u16, uint16_t, 4, u32, uint32_t)                                                     \
+    WIDTH(4, u32, uint32_t, 4, u32, uint32_t)                                                     \
+    WIDTH(8, u64, uint64_t, 4, u32, uint32_t)                                                     \
+    WIDTH(16, u128, vb_u128, 4, u32, uint32_t)                                                    \
+    WIDTH(1, u8, uint8_t, 8, u64, uint64_t)                                                       \
+    WIDTH(2, u16, uint16_t, 8, u64, uint64_t)                                                     \
+    WIDTH(4, u32, uint32_t, 8, u64, uint64_t)                                                     \
+    WIDTH(8, u64, uint64_t, 8, u64, uint64_t)                                                     \
+    WIDTH(16, u128, vb_u128, 8, u64, uint64_t)
+/* To here. */
 
 vb_place vb_take_values(void *out, size_t room, const void *values, size_t count,
     size_t value_size, const void *indices, size_t index_count, size_t index_size, bool all_valid,
@@ -93,10 +114,7 @@ vb_place vb_take_values(void *out, size_t room, const void *values, size_t count
     case PAIR(size, wide):                                                                        \
         return OF_VALUES(take_values_##name##_##index, V, ANY((const I *)indices, index_count),   \
             all_valid, ANY(validity, validity_size), validity_offset);
-        PAIRS(WIDTH, 1, u8, uint8_t)
-        PAIRS(WIDTH, 2, u16, uint16_t)
-        PAIRS(WIDTH, 4, u32, uint32_t)
-        PAIRS(WIDTH, 8, u64, uint64_t)
+        EACH_PAIR(WIDTH)
 #undef WIDTH
     default:
         return (vb_place){true, 0};
@@ -118,10 +136,7 @@ bool vb_try_take_values(void *out, size_t room, const void *values, size_t count
         return OF_VALUES(try_take_values_##name##_##index, V,                                     \
             ANY((const I *)indices, index_count), all_valid, ANY(validity, validity_size),        \
             validity_offset, past);
-        PAIRS(WIDTH, 1, u8, uint8_t)
-        PAIRS(WIDTH, 2, u16, uint16_t)
-        PAIRS(WIDTH, 4, u32, uint32_t)
-        PAIRS(WIDTH, 8, u64, uint64_t)
+        EACH_PAIR(WIDTH)
 #undef WIDTH
     default:
         return false;

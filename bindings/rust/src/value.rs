@@ -30,6 +30,7 @@ macro_rules! values {
 }
 
 values! {
+    // Written by tools/write-lists from tools/by_type/filter.txt.
     u8, 0;
     u16, 0;
     u32, 0;
@@ -44,6 +45,7 @@ values! {
     isize, 0;
     f32, 0.0;
     f64, 0.0;
+    // To here.
     bool, false;
     char, '\0';
 }

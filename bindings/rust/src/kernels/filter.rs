@@ -32,22 +32,19 @@ pub fn keep<T: Value>(out: &mut [T], values: &[T], mask: Bits<'_>) -> usize {
     debug_assert_eq!(out.len(), portable::count_ones(mask));
     #[cfg(vortex_bits_native)]
     if let (Some(kernels), Some(laid)) = (kernels().filter(|_| !is_word(mask)), Laid::of::<T>()) {
+        macro_rules! by {
+            ($name:ident) => {
+                native!(@call kernels.$name, [] cast_mut out, slice values, start mask)
+            };
+        }
         return match laid {
-            Laid::One => {
-                native!(@call kernels.filter_u8, [] cast_mut out, slice values, start mask)
-            }
-            Laid::Two => {
-                native!(@call kernels.filter_u16, [] cast_mut out, slice values, start mask)
-            }
-            Laid::Four => {
-                native!(@call kernels.filter_u32, [] cast_mut out, slice values, start mask)
-            }
-            Laid::Eight => {
-                native!(@call kernels.filter_u64, [] cast_mut out, slice values, start mask)
-            }
-            Laid::Sixteen => {
-                native!(@call kernels.filter_u128, [] cast_mut out, slice values, start mask)
-            }
+            // Written by tools/write-lists from tools/by_type/filter.txt.
+            Laid::One => by!(filter_u8),
+            Laid::Two => by!(filter_u16),
+            Laid::Four => by!(filter_u32),
+            Laid::Eight => by!(filter_u64),
+            Laid::Sixteen => by!(filter_u128),
+            // To here.
         };
     }
     portable::keep(out, values, mask)

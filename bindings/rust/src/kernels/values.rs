@@ -60,6 +60,7 @@ fn by_kind<T: Value, I: BitIndex>(
         };
     }
     kinds! {
+        // Written by tools/write-lists from tools/by_type/take_values.txt.
         One One => take_values_u8_u8;
         One Two => take_values_u8_u16;
         One Four => take_values_u8_u32;
@@ -80,5 +81,6 @@ fn by_kind<T: Value, I: BitIndex>(
         Sixteen Two => take_values_u128_u16;
         Sixteen Four => take_values_u128_u32;
         Sixteen Eight => take_values_u128_u64;
+        // To here.
     }
 }
