@@ -70,6 +70,7 @@ VB_CHECKED bool vb_try_pack_truthy_at(uint8_t *out, size_t out_size, size_t out_
  *     assert(!vb_take_u32(out, 1, bits, 1, 0, 5, indices, 3).found && out[0] == 0x05);
  *     assert(vb_take_u32(out, 1, bits, 1, 0, 4, indices, 3).found);    // index 4 at position 0
  */
+/* Written by tools/write-lists from tools/by_type/take_bits.txt. */
 VB_CHECKED vb_place vb_take_u32(uint8_t *out, size_t out_size, const uint8_t *bytes, size_t size,
         size_t offset, size_t len, const uint32_t *indices, size_t index_count);
 VB_CHECKED bool vb_try_take_u32(uint8_t *out, size_t out_size, const uint8_t *bytes, size_t size,
@@ -78,6 +79,7 @@ VB_CHECKED vb_place vb_take_u64(uint8_t *out, size_t out_size, const uint8_t *by
         size_t offset, size_t len, const uint64_t *indices, size_t index_count);
 VB_CHECKED bool vb_try_take_u64(uint8_t *out, size_t out_size, const uint8_t *bytes, size_t size,
         size_t offset, size_t len, const uint64_t *indices, size_t index_count, vb_place *past);
+/* To here. */
 
 /*
  * The same where a position counts only if the bit of `validity` from bit `validity_offset` on is
@@ -89,6 +91,7 @@ VB_CHECKED bool vb_try_take_u64(uint8_t *out, size_t out_size, const uint8_t *by
  *     assert(!vb_take_valid_u64(out, 1, bits, 1, 0, 5, indices, 3, valid, 1, 0).found);
  *     assert(out[0] == 0x04);
  */
+/* Written by tools/write-lists from tools/by_type/take_bits.txt. */
 VB_CHECKED vb_place vb_take_valid_u32(uint8_t *out, size_t out_size, const uint8_t *bytes,
         size_t size, size_t offset, size_t len, const uint32_t *indices, size_t index_count,
         const uint8_t *validity, size_t validity_size, size_t validity_offset);
@@ -101,6 +104,7 @@ VB_CHECKED vb_place vb_take_valid_u64(uint8_t *out, size_t out_size, const uint8
 VB_CHECKED bool vb_try_take_valid_u64(uint8_t *out, size_t out_size, const uint8_t *bytes,
         size_t size, size_t offset, size_t len, const uint64_t *indices, size_t index_count,
         const uint8_t *validity, size_t validity_size, size_t validity_offset, vb_place *past);
+/* To here. */
 
 /*
  * The same by indices of 8 to 64 bits, to the bits of `out` from bit `out_offset` on, one for each
@@ -113,6 +117,7 @@ VB_CHECKED bool vb_try_take_valid_u64(uint8_t *out, size_t out_size, const uint8
  *     vb_place past = vb_take_bits_at_u8(out, 1, 4, bits, 1, 0, 5, indices, 3, true, NULL, 0, 0);
  *     assert(!past.found && out[0] == 0xDF);
  */
+/* Written by tools/write-lists from tools/by_type/take_bits.txt. */
 VB_CHECKED vb_place vb_take_bits_at_u8(uint8_t *out, size_t out_size, size_t out_offset,
         const uint8_t *bytes, size_t size, size_t offset, size_t len, const uint8_t *indices,
         size_t index_count, bool all_valid, const uint8_t *validity, size_t validity_size,
@@ -145,6 +150,7 @@ VB_CHECKED bool vb_try_take_bits_at_u64(uint8_t *out, size_t out_size, size_t ou
         const uint8_t *bytes, size_t size, size_t offset, size_t len, const uint64_t *indices,
         size_t index_count, bool all_valid, const uint8_t *validity, size_t validity_size,
         size_t validity_offset, vb_place *past);
+/* To here. */
 
 /*
  * Writes those of the `len` bits of `values` from bit `values_offset` on whose bit of `mask` from

@@ -48,6 +48,7 @@ pub(crate) mod sealed {
     }
 
     indices! {
+        // Written by tools/write-lists from tools/by_type/take_bits.txt.
         u8, 1 << 8;
         i8, 1 << 7;
         u16, 1 << 16;
@@ -56,10 +57,11 @@ pub(crate) mod sealed {
         i32, 1 << 31;
         u64, usize::MAX;
         i64, 1 << 63;
-        usize, usize::MAX;
-        isize, 1 << 63;
         u128, usize::MAX;
         i128, usize::MAX;
+        usize, usize::MAX;
+        isize, 1 << 63;
+        // To here.
     }
 }
 
