@@ -41,38 +41,39 @@ enum {
  *     vb_compare_f64(cheap, 1, 0, prices, 3, VB_LESS, 2.0);
  *     assert(cheap[0] == 0x05);
  */
-void vb_compare_u8(uint8_t *out, size_t out_size, size_t out_offset, const uint8_t *values, size_t
-        values_size, uint8_t op, uint8_t number);
-VB_CHECKED bool vb_try_compare_u8(uint8_t *out, size_t out_size, size_t out_offset, const uint8_t
-        *values, size_t values_size, uint8_t op, uint8_t number);
+/* Written by tools/write-lists from tools/by_type/compare.txt. */
+void vb_compare_u8(uint8_t *out, size_t out_size, size_t out_offset, const uint8_t *values,
+        size_t values_size, uint8_t op, uint8_t number);
+VB_CHECKED bool vb_try_compare_u8(uint8_t *out, size_t out_size, size_t out_offset,
+        const uint8_t *values, size_t values_size, uint8_t op, uint8_t number);
 void vb_compare_u16(uint8_t *out, size_t out_size, size_t out_offset, const uint16_t *values,
         size_t values_size, uint8_t op, uint16_t number);
-VB_CHECKED bool vb_try_compare_u16(uint8_t *out, size_t out_size, size_t out_offset, const
-        uint16_t *values, size_t values_size, uint8_t op, uint16_t number);
+VB_CHECKED bool vb_try_compare_u16(uint8_t *out, size_t out_size, size_t out_offset,
+        const uint16_t *values, size_t values_size, uint8_t op, uint16_t number);
 void vb_compare_u32(uint8_t *out, size_t out_size, size_t out_offset, const uint32_t *values,
         size_t values_size, uint8_t op, uint32_t number);
-VB_CHECKED bool vb_try_compare_u32(uint8_t *out, size_t out_size, size_t out_offset, const
-        uint32_t *values, size_t values_size, uint8_t op, uint32_t number);
+VB_CHECKED bool vb_try_compare_u32(uint8_t *out, size_t out_size, size_t out_offset,
+        const uint32_t *values, size_t values_size, uint8_t op, uint32_t number);
 void vb_compare_u64(uint8_t *out, size_t out_size, size_t out_offset, const uint64_t *values,
         size_t values_size, uint8_t op, uint64_t number);
-VB_CHECKED bool vb_try_compare_u64(uint8_t *out, size_t out_size, size_t out_offset, const
-        uint64_t *values, size_t values_size, uint8_t op, uint64_t number);
-void vb_compare_i8(uint8_t *out, size_t out_size, size_t out_offset, const int8_t *values, size_t
-        values_size, uint8_t op, int8_t number);
-VB_CHECKED bool vb_try_compare_i8(uint8_t *out, size_t out_size, size_t out_offset, const int8_t
-        *values, size_t values_size, uint8_t op, int8_t number);
+VB_CHECKED bool vb_try_compare_u64(uint8_t *out, size_t out_size, size_t out_offset,
+        const uint64_t *values, size_t values_size, uint8_t op, uint64_t number);
+void vb_compare_i8(uint8_t *out, size_t out_size, size_t out_offset, const int8_t *values,
+        size_t values_size, uint8_t op, int8_t number);
+VB_CHECKED bool vb_try_compare_i8(uint8_t *out, size_t out_size, size_t out_offset,
+        const int8_t *values, size_t values_size, uint8_t op, int8_t number);
 void vb_compare_i16(uint8_t *out, size_t out_size, size_t out_offset, const int16_t *values,
         size_t values_size, uint8_t op, int16_t number);
-VB_CHECKED bool vb_try_compare_i16(uint8_t *out, size_t out_size, size_t out_offset, const int16_t
-        *values, size_t values_size, uint8_t op, int16_t number);
+VB_CHECKED bool vb_try_compare_i16(uint8_t *out, size_t out_size, size_t out_offset,
+        const int16_t *values, size_t values_size, uint8_t op, int16_t number);
 void vb_compare_i32(uint8_t *out, size_t out_size, size_t out_offset, const int32_t *values,
         size_t values_size, uint8_t op, int32_t number);
-VB_CHECKED bool vb_try_compare_i32(uint8_t *out, size_t out_size, size_t out_offset, const int32_t
-        *values, size_t values_size, uint8_t op, int32_t number);
+VB_CHECKED bool vb_try_compare_i32(uint8_t *out, size_t out_size, size_t out_offset,
+        const int32_t *values, size_t values_size, uint8_t op, int32_t number);
 void vb_compare_i64(uint8_t *out, size_t out_size, size_t out_offset, const int64_t *values,
         size_t values_size, uint8_t op, int64_t number);
-VB_CHECKED bool vb_try_compare_i64(uint8_t *out, size_t out_size, size_t out_offset, const int64_t
-        *values, size_t values_size, uint8_t op, int64_t number);
+VB_CHECKED bool vb_try_compare_i64(uint8_t *out, size_t out_size, size_t out_offset,
+        const int64_t *values, size_t values_size, uint8_t op, int64_t number);
 void vb_compare_f32(uint8_t *out, size_t out_size, size_t out_offset, const float *values,
         size_t values_size, uint8_t op, float number);
 VB_CHECKED bool vb_try_compare_f32(uint8_t *out, size_t out_size, size_t out_offset,
@@ -81,6 +82,7 @@ void vb_compare_f64(uint8_t *out, size_t out_size, size_t out_offset, const doub
         size_t values_size, uint8_t op, double number);
 VB_CHECKED bool vb_try_compare_f64(uint8_t *out, size_t out_size, size_t out_offset,
         const double *values, size_t values_size, uint8_t op, double number);
+/* To here. */
 
 /*
  * The same with other values, of which there are as many.
@@ -90,45 +92,47 @@ VB_CHECKED bool vb_try_compare_f64(uint8_t *out, size_t out_size, size_t out_off
  *     vb_compare_with_i32(below, 1, 0, ages, 3, VB_LESS, limits, 3);
  *     assert(below[0] == 0x01);
  */
+/* Written by tools/write-lists from tools/by_type/compare.txt. */
 void vb_compare_with_u8(uint8_t *out, size_t out_size, size_t out_offset, const uint8_t *values,
         size_t values_size, uint8_t op, const uint8_t *others, size_t others_size);
-VB_CHECKED bool vb_try_compare_with_u8(uint8_t *out, size_t out_size, size_t out_offset, const
-        uint8_t *values, size_t values_size, uint8_t op, const uint8_t *others, size_t
-        others_size);
+VB_CHECKED bool vb_try_compare_with_u8(uint8_t *out, size_t out_size, size_t out_offset,
+        const uint8_t *values, size_t values_size, uint8_t op, const uint8_t *others,
+        size_t others_size);
 void vb_compare_with_u16(uint8_t *out, size_t out_size, size_t out_offset, const uint16_t *values,
         size_t values_size, uint8_t op, const uint16_t *others, size_t others_size);
-VB_CHECKED bool vb_try_compare_with_u16(uint8_t *out, size_t out_size, size_t out_offset, const
-        uint16_t *values, size_t values_size, uint8_t op, const uint16_t *others, size_t
-        others_size);
+VB_CHECKED bool vb_try_compare_with_u16(uint8_t *out, size_t out_size, size_t out_offset,
+        const uint16_t *values, size_t values_size, uint8_t op, const uint16_t *others,
+        size_t others_size);
 void vb_compare_with_u32(uint8_t *out, size_t out_size, size_t out_offset, const uint32_t *values,
         size_t values_size, uint8_t op, const uint32_t *others, size_t others_size);
-VB_CHECKED bool vb_try_compare_with_u32(uint8_t *out, size_t out_size, size_t out_offset, const
-        uint32_t *values, size_t values_size, uint8_t op, const uint32_t *others, size_t
-        others_size);
+VB_CHECKED bool vb_try_compare_with_u32(uint8_t *out, size_t out_size, size_t out_offset,
+        const uint32_t *values, size_t values_size, uint8_t op, const uint32_t *others,
+        size_t others_size);
 void vb_compare_with_u64(uint8_t *out, size_t out_size, size_t out_offset, const uint64_t *values,
         size_t values_size, uint8_t op, const uint64_t *others, size_t others_size);
-VB_CHECKED bool vb_try_compare_with_u64(uint8_t *out, size_t out_size, size_t out_offset, const
-        uint64_t *values, size_t values_size, uint8_t op, const uint64_t *others, size_t
-        others_size);
+VB_CHECKED bool vb_try_compare_with_u64(uint8_t *out, size_t out_size, size_t out_offset,
+        const uint64_t *values, size_t values_size, uint8_t op, const uint64_t *others,
+        size_t others_size);
 void vb_compare_with_i8(uint8_t *out, size_t out_size, size_t out_offset, const int8_t *values,
         size_t values_size, uint8_t op, const int8_t *others, size_t others_size);
-VB_CHECKED bool vb_try_compare_with_i8(uint8_t *out, size_t out_size, size_t out_offset, const
-        int8_t *values, size_t values_size, uint8_t op, const int8_t *others, size_t others_size);
+VB_CHECKED bool vb_try_compare_with_i8(uint8_t *out, size_t out_size, size_t out_offset,
+        const int8_t *values, size_t values_size, uint8_t op, const int8_t *others,
+        size_t others_size);
 void vb_compare_with_i16(uint8_t *out, size_t out_size, size_t out_offset, const int16_t *values,
         size_t values_size, uint8_t op, const int16_t *others, size_t others_size);
-VB_CHECKED bool vb_try_compare_with_i16(uint8_t *out, size_t out_size, size_t out_offset, const
-        int16_t *values, size_t values_size, uint8_t op, const int16_t *others, size_t
-        others_size);
+VB_CHECKED bool vb_try_compare_with_i16(uint8_t *out, size_t out_size, size_t out_offset,
+        const int16_t *values, size_t values_size, uint8_t op, const int16_t *others,
+        size_t others_size);
 void vb_compare_with_i32(uint8_t *out, size_t out_size, size_t out_offset, const int32_t *values,
         size_t values_size, uint8_t op, const int32_t *others, size_t others_size);
-VB_CHECKED bool vb_try_compare_with_i32(uint8_t *out, size_t out_size, size_t out_offset, const
-        int32_t *values, size_t values_size, uint8_t op, const int32_t *others, size_t
-        others_size);
+VB_CHECKED bool vb_try_compare_with_i32(uint8_t *out, size_t out_size, size_t out_offset,
+        const int32_t *values, size_t values_size, uint8_t op, const int32_t *others,
+        size_t others_size);
 void vb_compare_with_i64(uint8_t *out, size_t out_size, size_t out_offset, const int64_t *values,
         size_t values_size, uint8_t op, const int64_t *others, size_t others_size);
-VB_CHECKED bool vb_try_compare_with_i64(uint8_t *out, size_t out_size, size_t out_offset, const
-        int64_t *values, size_t values_size, uint8_t op, const int64_t *others, size_t
-        others_size);
+VB_CHECKED bool vb_try_compare_with_i64(uint8_t *out, size_t out_size, size_t out_offset,
+        const int64_t *values, size_t values_size, uint8_t op, const int64_t *others,
+        size_t others_size);
 void vb_compare_with_f32(uint8_t *out, size_t out_size, size_t out_offset, const float *values,
         size_t values_size, uint8_t op, const float *others, size_t others_size);
 VB_CHECKED bool vb_try_compare_with_f32(uint8_t *out, size_t out_size, size_t out_offset,
@@ -139,6 +143,7 @@ void vb_compare_with_f64(uint8_t *out, size_t out_size, size_t out_offset, const
 VB_CHECKED bool vb_try_compare_with_f64(uint8_t *out, size_t out_size, size_t out_offset,
         const double *values, size_t values_size, uint8_t op, const double *others,
         size_t others_size);
+/* To here. */
 
 #ifdef __cplusplus
 }

@@ -24,6 +24,7 @@ template <std::size_t Size, bool Float, bool Signed> struct compared_by;
         static constexpr auto number = vb_compare_##name;                                         \
         static constexpr auto others = vb_compare_with_##name;                                    \
     };
+/* Written by tools/write-lists from tools/by_type/compare.txt. */
 VB_COMPARED_BY(1, false, false, u8, std::uint8_t)
 VB_COMPARED_BY(2, false, false, u16, std::uint16_t)
 VB_COMPARED_BY(4, false, false, u32, std::uint32_t)
@@ -34,6 +35,7 @@ VB_COMPARED_BY(4, false, true, i32, std::int32_t)
 VB_COMPARED_BY(8, false, true, i64, std::int64_t)
 VB_COMPARED_BY(4, true, true, f32, float)
 VB_COMPARED_BY(8, true, true, f64, double)
+/* To here. */
 #undef VB_COMPARED_BY
 
 template <class Value>

@@ -103,6 +103,7 @@ pub(crate) mod sealed {
     }
 
     compared! {
+        // Written by tools/write-lists from tools/by_type/compare.txt.
         u8 as u8, compare_u8, compare_with_u8;
         u16 as u16, compare_u16, compare_with_u16;
         u32 as u32, compare_u32, compare_with_u32;
@@ -115,6 +116,7 @@ pub(crate) mod sealed {
         isize as i64, compare_i64, compare_with_i64;
         f32 as f32, compare_f32, compare_with_f32;
         f64 as f64, compare_f64, compare_with_f64;
+        // To here.
     }
 
     one_by_one! { u128 i128 }
