@@ -1,1 +1,1 @@
-"""The checks of documents, the picture of the crates, and the places of a name."""
+"""The checks of documents, the lists that are written, and the places of a name."""

@@ -1,12 +1,10 @@
 """Whether what is said in several places agrees: the C functions in header, Rust table and crate,
-with their parameters and types; the commands, their table and their tests; the version; the picture
-of the crates.
+with their parameters and types; the commands, their table and their tests; the version.
 """
 import re
 
 from documents import signatures
 from documents.files import Repository
-from documents.picture import picture
 
 EXPORT = re.compile(r"^pub use [\w:]+?::(?:\{([^}]*)\}|(\w+));", re.MULTILINE)
 # The sources of the crates that have C functions.
@@ -92,17 +90,5 @@ def versions(repository: Repository) -> list[str]:
     return found
 
 
-def drawn(repository: Repository) -> list[str]:
-    """The picture of the crates is that of crates.txt."""
-    if repository.read("docs/crates.svg") == picture(repository.read("crates.txt")):
-        return []
-    return ["docs/crates.svg: isn't that of crates.txt: run tools/draw-crates"]
-
-
 def lists(repository: Repository) -> list[str]:
-    return [
-        *c_functions(repository),
-        *commands(repository),
-        *versions(repository),
-        *drawn(repository),
-    ]
+    return [*c_functions(repository), *commands(repository), *versions(repository)]

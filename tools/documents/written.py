@@ -1,7 +1,7 @@
 """What a tool writes: what goes by type, from its templates; and lists, from where their names stand
 first: what vb_pair gives of its files, what vb_kernel and the crate to depend on give of vb_pair,
-what the tests of that crate reach, the table by which the Rust crate calls the C functions, and the
-digest by which it knows their archives.
+what the tests of that crate reach, the table by which the Rust crate calls the C functions, the
+diagram of the crates, and the digest by which the Rust crate knows its archives.
 """
 import re
 import textwrap
@@ -11,6 +11,7 @@ from by_type.written import by_type
 from documents import signatures
 from documents.digest import DIGEST, written_digest
 from documents.files import Repository
+from documents.layers import LAYERS, layers
 from documents.lists import NOT_CALLED, OF_THE_LIBRARY, exported, headers, made
 from documents.signatures import Signature
 
@@ -96,7 +97,7 @@ def reached(repository: Repository) -> str:
 
 
 LISTS = {
-    PAIR: pair, KERNEL: kernel, CRATE: facade, REACHED: reached, TABLE: table,
+    PAIR: pair, KERNEL: kernel, CRATE: facade, REACHED: reached, TABLE: table, LAYERS: layers,
     DIGEST: written_digest,
 }
 

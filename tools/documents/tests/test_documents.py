@@ -8,7 +8,7 @@ from documents.examples import examples
 from documents.files import Repository
 from documents.kinds import kind_of, statics
 from documents.lists import lists
-from documents.picture import dependencies, levels, picture, reduced
+from documents.layers import LAYERS, dependencies, diagram, layers, reduced
 from documents.signatures import of_header
 from documents.texts import links, names, stale
 from documents.widths import lengths, widths
@@ -21,7 +21,7 @@ FILES = {
     "CHANGELOG.md": "# Changes\n\n## 1.2.3-r4\n",
     "bindings/rust/Cargo.toml": 'version = "1.2.3-r4"\n',
     "crates.txt": CRATES,
-    "docs/crates.svg": picture(CRATES),
+    LAYERS: f"# Layers\n\n```mermaid\n{diagram(CRATES)}```\n",
     "README.md": """# Top
 1.2.3-r4
 Call `one` of [low](docs/LOW.md#a-part-of-it), see [upstream](https://example.org).
@@ -192,24 +192,26 @@ class Checked(unittest.TestCase):
         found = lists(self.repository(README_dot_md=("-r4", "-r3")))
         self.assertEqual(found, ["README.md: its version isn't 1.2.3-r4, that of CHANGELOG.md"])
 
-    def test_a_picture_that_is_not_current(self):
-        found = lists(self.repository(crates_dot_txt=("middle: low", "middle:")))
-        wanted = "docs/crates.svg: isn't that of crates.txt: run tools/draw-crates"
-        self.assertEqual(found, [wanted])
+    def test_a_diagram_that_is_not_current(self):
+        repository = self.repository(crates_dot_txt=("middle: low", "middle:"))
+        wanted = f"{LAYERS}: isn't what tools/write-lists makes of its list: run it"
+        self.assertEqual(not_written(repository), [wanted])
+        self.assertIn("    middle\n", layers(repository))
+        self.assertTrue(layers(repository).endswith("stroke-width:4px\n```\n"))
 
-    def test_the_picture_has_each_crate_above_those_that_it_stands_on(self):
+    def test_the_diagram_has_a_line_to_each_crate_that_one_stands_on(self):
         deps = reduced(dependencies(CRATES))
         self.assertEqual(deps, {"low": [], "middle": ["low"], "vortex_buffer": ["middle"]})
-        self.assertEqual(levels(deps), {"low": 0, "middle": 1, "vortex_buffer": 2})
-        self.assertEqual(picture(CRATES).count("<path"), 2)
+        self.assertEqual(diagram(CRATES).splitlines()[:4], [
+            "flowchart TD", "    vortex_buffer --> middle", "    middle --> low", "    low",
+        ])
+        self.assertIn("    top --> vortex_buffer & by\n",
+                      diagram(CRATES + "by:\ntop: vortex_buffer by low\n"))
 
-    def test_the_picture_has_the_name_of_each_colour(self):
-        drawn = picture(CRATES)
-        for kind, name in (("facade", "facade"), ("library", "library")):
-            self.assertIn(f'<g class="{kind}"><rect', drawn)
-            self.assertEqual(drawn.count(f">{name}</text>"), 1)
-        self.assertNotIn(">commands</text>", drawn)
-        self.assertIn(">commands</text>", picture(CRATES + "vbits: low\n"))
+    def test_the_diagram_has_a_box_for_each_kind(self):
+        self.assertNotIn("subgraph", diagram(CRATES))
+        box = '    subgraph command["commands"]\n        vbits\n    end\n'
+        self.assertIn(box, diagram(CRATES + "vbits: low\n"))
 
     def test_the_kind_of_each_crate(self):
         deps = {
