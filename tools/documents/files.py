@@ -5,7 +5,7 @@ from functools import cached_property
 from pathlib import Path
 
 NAMED = ["README.md", "CONTRIBUTING.md", "CHANGELOG.md"]
-FOLDERS = ["docs", "crates", "bindings", "demo"]
+FOLDERS = ["docs", "crates", "bindings", "demo", "reference"]
 SOURCES = {
     ".rt", ".antt", ".rs", ".h", ".hpp", ".c", ".cpp", ".py", ".txt", ".toml", ".in", ".edit", "",
 }
@@ -73,7 +73,7 @@ class Repository:
 
     def files(self) -> list[Path]:
         """The files that aren't made, by a walk that leaves out what is."""
-        made = {"out", "target", "native", ".git", "reference", "__pycache__"}
+        made = {"out", "target", "native", ".git", "__pycache__"}
         found, todo = [], [self.root]
         while todo:
             for it in sorted(todo.pop().iterdir()):

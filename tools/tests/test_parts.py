@@ -300,8 +300,9 @@ class Check(Folder):
     def setUp(self):
         super().setUp()
         self.copy("tools/check")
-        for name in ("check-documents", "reference", "edits", "untested"):
+        for name in ("check-documents", "edits", "untested"):
             self.command(f"tools/{name}", f"echo {name} is well")
+        self.command("reference/make", "echo the reference is well")
         for name in ("try-tests", "check-program"):
             self.command(f"tools/{name}", "echo '10 passed, 0 failed'")
         self.command("bin/python3", "echo OK")
@@ -310,10 +311,10 @@ class Check(Folder):
 
     def test_all_parts_are_counted(self):
         status, lines = self.run_it("tools/check")
-        self.assertEqual((status, lines[-1]), (0, "126 passed, 0 failed"))
+        self.assertEqual((status, lines[-1]), (0, "127 passed, 0 failed"))
         begun = [it.split(":")[0] for it in lines if it.startswith("part ")]
-        self.assertEqual(begun, [f"part {it} of 9" for it in range(1, 10)])
-        self.assertIn("part 8 of 9: rt ci, about 50 minutes on four processors", "\n".join(lines))
+        self.assertEqual(begun, [f"part {it} of 10" for it in range(1, 11)])
+        self.assertIn("part 9 of 10: rt ci, about 50 minutes on four processors", "\n".join(lines))
         self.assertIn("  crate 1 of 3: low proved", "\n".join(lines))
         self.assertIn("        untested is well", lines)
 
@@ -321,7 +322,7 @@ class Check(Folder):
         self.command("tools/check-documents", "echo README.md is wrong; exit 1")
         self.command("tools/edits", "echo an edit is wrong; exit 1")
         status, lines = self.run_it("tools/check")
-        self.assertEqual((status, lines[-1]), (1, "4 passed, 2 failed"))
+        self.assertEqual((status, lines[-1]), (1, "5 passed, 2 failed"))
         for name in ("tools/try-tests", "rt ci", "tools/check-program"):
             self.assertIn(f"not run, after a failure: {name}", lines)
         summary = lines[lines.index("failed: tools/check-documents") :]
@@ -330,25 +331,25 @@ class Check(Folder):
     def test_the_layout_is_a_part(self):
         self.command("bin/rattle", "echo src/lib.rt is in another layout; exit 1")
         status, lines = self.run_it("tools/check")
-        self.assertEqual((status, lines[-1]), (1, "5 passed, 1 failed"))
+        self.assertEqual((status, lines[-1]), (1, "6 passed, 1 failed"))
         self.assertIn("failed: layout", lines)
 
     def test_what_rt_ci_counts_is_counted(self):
         self.command("bin/rt", HALF_PROVED)
         status, lines = self.run_it("tools/check")
-        self.assertEqual((status, lines[-1]), (1, "21 passed, 1 failed"))
+        self.assertEqual((status, lines[-1]), (1, "22 passed, 1 failed"))
         self.assertIn("not run, after a failure: tools/check-program", lines)
 
     def test_an_interrupt_ends_it_with_counts(self):
         self.command("bin/rt", NEVER_ENDS)
         status, lines = self.interrupt(signal.SIGINT, "out/check.log", "tools/check")
-        self.assertEqual((status, lines[-1]), (130, "16 passed, 1 failed"))
+        self.assertEqual((status, lines[-1]), (130, "17 passed, 1 failed"))
         self.assertEqual(lines[-2], "all output is in out/check.log")
         self.assert_gone("child")
 
     def test_ci_runs_it_and_nothing_else(self):
         self.copy(".ci/run")
-        self.assertEqual(self.run_it(".ci/run")[1][-1], "126 passed, 0 failed")
+        self.assertEqual(self.run_it(".ci/run")[1][-1], "127 passed, 0 failed")
         self.assertEqual((TOP / ".ci/run").read_text().splitlines()[-1], "exec tools/check")
 
 

@@ -2,7 +2,7 @@
 import re
 from dataclasses import dataclass, field
 
-from reference_pages.rust_text import Source, SourceError, dedented
+from reference.rust_text import Source, SourceError, dedented
 
 NAMES = re.compile(r"(?:(?:pub|abbrev|unfoldable)\s+)*(?:(record|data|ruleset)\s+)?(\S+)")
 DECLARES = re.compile(r"(?:abbrev|unfoldable|pub|record|data|ruleset|infix[lr]?)\b|\S+\s*:(?:\s|$)")

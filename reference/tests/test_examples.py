@@ -2,8 +2,8 @@
 import unittest
 from pathlib import Path
 
-from reference_pages.site import Site
-from reference_pages.tests.fixture import Repository
+from reference.site import Site
+from reference.tests.fixture import Repository
 
 COUNTER, USER = "crates/low/src/counter.rt", "crates/use_low/src/lib.rt"
 MODEL = "use std::marker::Model;\n"

@@ -4,11 +4,11 @@ from dataclasses import dataclass, field
 from functools import cached_property
 from pathlib import Path
 
-from documents.kinds import FACADE
-from reference_pages.antt_items import AnttFile, Declaration, Use, parse_antt, parse_use
-from reference_pages.rust_heads import base_name, impl_parts, use_names
-from reference_pages.rust_items import File, Item, parse
-from reference_pages.rust_text import Source
+from tools.documents.kinds import FACADE
+from reference.antt_items import AnttFile, Declaration, Use, parse_antt, parse_use
+from reference.rust_heads import base_name, impl_parts, use_names
+from reference.rust_items import File, Item, parse
+from reference.rust_text import Source
 
 FOR_TESTS = ("vb_testing", "vb_plain_machine")  # libraries on which tests alone stand
 NAMED = {"fn", "struct", "enum", "trait", "type", "const", "static"}

@@ -1,12 +1,12 @@
 """What the words of a clause or of a definition may stand for, by where they are written."""
 from dataclasses import dataclass, field
 
-from reference_pages.antt_items import AnttFile, Declaration, Use, parse_use
-from reference_pages.antt_text import parts_of
-from reference_pages.library import Library
-from reference_pages.rust_heads import WORD, base_name, generics_of, impl_parts, signature_of
-from reference_pages.rust_items import Item
-from reference_pages.urls import Urls
+from reference.antt_items import AnttFile, Declaration, Use, parse_use
+from reference.antt_text import parts_of
+from reference.library import Library
+from reference.rust_heads import WORD, base_name, generics_of, impl_parts, signature_of
+from reference.rust_items import Item
+from reference.urls import Urls
 
 
 @dataclass(frozen=True)

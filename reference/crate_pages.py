@@ -1,15 +1,15 @@
 """The page of all crates, and that of one."""
 from html import escape
 
-from documents.kinds import kind_of
-from reference_pages.antt_items import AnttFile
-from reference_pages.docs_html import Lookup, docs_html
-from reference_pages.fragments import Fragments
-from reference_pages.html_text import name_html, tag
-from reference_pages.item_pages import display
-from reference_pages.library import FOR_TESTS, Crate, Reach, sentence
-from reference_pages.pages import Page
-from reference_pages.rust_items import Item
+from tools.documents.kinds import kind_of
+from reference.antt_items import AnttFile
+from reference.docs_html import Lookup, docs_html
+from reference.fragments import Fragments
+from reference.html_text import name_html, tag
+from reference.item_pages import display
+from reference.library import FOR_TESTS, Crate, Reach, sentence
+from reference.pages import Page
+from reference.rust_items import Item
 
 SECTIONS = [("type", "Types"), ("trait", "Traits"), ("call", "Calls"), ("constant", "Constants")]
 GROUPS = [

@@ -2,7 +2,7 @@
 from dataclasses import dataclass, field
 from typing import Callable, Iterator
 
-from reference_pages.rust_text import Source, SourceError, Token, dedented, skip_group
+from reference.rust_text import Source, SourceError, Token, dedented, skip_group
 
 MODIFIERS = {"unsafe", "extern", "async", "const", "default"}
 CLAUSES = {"requires", "ensures"}

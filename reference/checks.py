@@ -5,9 +5,9 @@ from html import unescape
 from pathlib import Path
 from urllib.parse import unquote
 
-from documents.kinds import FACADE
-from reference_pages.rust_items import Item
-from reference_pages.site import Site
+from tools.documents.kinds import FACADE
+from reference.rust_items import Item
+from reference.site import Site
 
 DECLARES = re.compile(
     r'^\s*pub (?:unsafe |const (?=fn)|extern "C" )*(?:fn|struct|enum|trait|type|const|static) (\w+)'

@@ -2,9 +2,9 @@
 from html import escape
 from typing import Callable, Iterable
 
-from reference_pages.antt_text import KEYWORDS
-from reference_pages.links import Linked
-from reference_pages.rust_text import Source, Token
+from reference.antt_text import KEYWORDS
+from reference.links import Linked
+from reference.rust_text import Source, Token
 
 RUST_KEYWORDS = set(
     "as async await break const continue crate dyn else enum extern fn for if impl in let loop "

@@ -4,7 +4,7 @@ from dataclasses import dataclass, field
 from pathlib import Path
 from string import Template
 
-from reference_pages.html_text import tag
+from reference.html_text import tag
 
 HERE = Path(__file__).resolve().parent
 TEMPLATE = Template((HERE / "page.html").read_text(encoding="utf-8"))

@@ -1,9 +1,9 @@
 """Calls in tests and in the crates that show how to use the library: each is an example, proved."""
 from dataclasses import dataclass
 
-from reference_pages.library import Library
-from reference_pages.rust_heads import base_name, generics_of, group_end, signature_of, split_top
-from reference_pages.rust_items import Item
+from reference.library import Library
+from reference.rust_heads import base_name, generics_of, group_end, signature_of, split_top
+from reference.rust_items import Item
 
 UNWRAPS = {"expect", "unwrap", "unwrap_or", "ok_or", "ok", "map_err"}
 MOST_LINES = 32

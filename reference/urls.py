@@ -1,10 +1,10 @@
 """Where each thing stands in the pages."""
 from urllib.parse import quote
 
-from reference_pages.antt_items import AnttFile, Declaration
-from reference_pages.library import Library
-from reference_pages.rust_heads import base_name, impl_parts
-from reference_pages.rust_items import Item
+from reference.antt_items import AnttFile, Declaration
+from reference.library import Library
+from reference.rust_heads import base_name, impl_parts
+from reference.rust_items import Item
 
 
 def source_page(path: str) -> str:

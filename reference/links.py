@@ -2,10 +2,10 @@
 from dataclasses import dataclass
 from typing import Iterator
 
-from reference_pages.antt_items import Declaration
-from reference_pages.antt_text import Word, words_of
-from reference_pages.library import Library
-from reference_pages.scopes import BUILTINS, LOCAL, PRELUDE, Scope, Scopes, Shape, Target
+from reference.antt_items import Declaration
+from reference.antt_text import Word, words_of
+from reference.library import Library
+from reference.scopes import BUILTINS, LOCAL, PRELUDE, Scope, Scopes, Shape, Target
 
 PASSED = {"now", "old", "new", "entry", "exit"}  # of what a reference lends, and of a parameter
 

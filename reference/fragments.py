@@ -2,16 +2,16 @@
 from html import escape
 from typing import Callable, Iterable
 
-from reference_pages.antt_items import Declaration
-from reference_pages.docs_html import DocLinks, Lookup, docs_html, inline_html
-from reference_pages.examples import MOST_LINES, Call, Examples
-from reference_pages.html_text import linked_html, rust_html, tag
-from reference_pages.library import Library, sentence
-from reference_pages.links import Linked, Linker
-from reference_pages.pages import Page
-from reference_pages.rust_items import Clause, Item
-from reference_pages.scopes import Scope, Scopes
-from reference_pages.urls import Urls, source_page
+from reference.antt_items import Declaration
+from reference.docs_html import DocLinks, Lookup, docs_html, inline_html
+from reference.examples import MOST_LINES, Call, Examples
+from reference.html_text import linked_html, rust_html, tag
+from reference.library import Library, sentence
+from reference.links import Linked, Linker
+from reference.pages import Page
+from reference.rust_items import Clause, Item
+from reference.scopes import Scope, Scopes
+from reference.urls import Urls, source_page
 
 
 def clause_text(item: Item, clause: Clause) -> str:

@@ -1,12 +1,12 @@
 """How sources are read: items of Rust, and definitions."""
 import unittest
 
-from reference_pages.antt_items import parse_antt, parse_use
-from reference_pages.antt_text import parts_of, words_of
-from reference_pages.library import sentence
-from reference_pages.rust_heads import generics_of, impl_parts, signature_of, use_names
-from reference_pages.rust_items import parse
-from reference_pages.rust_text import Source, SourceError
+from reference.antt_items import parse_antt, parse_use
+from reference.antt_text import parts_of, words_of
+from reference.library import sentence
+from reference.rust_heads import generics_of, impl_parts, signature_of, use_names
+from reference.rust_items import parse
+from reference.rust_text import Source, SourceError
 
 
 def items_of(text: str):

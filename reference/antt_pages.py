@@ -2,12 +2,12 @@
 import re
 from html import escape
 
-from documents.kinds import FACADE
-from reference_pages.antt_items import AnttFile, Declaration
-from reference_pages.fragments import Fragments
-from reference_pages.html_text import name_html, tag
-from reference_pages.pages import Page
-from reference_pages.rust_items import Item
+from tools.documents.kinds import FACADE
+from reference.antt_items import AnttFile, Declaration
+from reference.fragments import Fragments
+from reference.html_text import name_html, tag
+from reference.pages import Page
+from reference.rust_items import Item
 
 SHOWN_AT_ONCE = 6
 VARIABLE = re.compile(r"(?!a\b)[^\W\d_]\d*\b")  # a letter, but for the article

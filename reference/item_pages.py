@@ -1,12 +1,12 @@
 """The pages of calls, types and traits."""
 from html import escape
 
-from reference_pages.fragments import Fragments
-from reference_pages.html_text import name_html, rust_html, tag
-from reference_pages.library import sentence
-from reference_pages.pages import Page
-from reference_pages.rust_items import Item
-from reference_pages.sight import Sight
+from reference.fragments import Fragments
+from reference.html_text import name_html, rust_html, tag
+from reference.library import sentence
+from reference.pages import Page
+from reference.rust_items import Item
+from reference.sight import Sight
 
 KINDS = {
     "fn": "call", "struct": "type", "enum": "type", "type": "type", "trait": "trait",

@@ -4,11 +4,11 @@ import tempfile
 import unittest
 from pathlib import Path
 
-from reference_pages.antt_pages import begun
-from reference_pages.checks import Checks
-from reference_pages.rust_text import SourceError
-from reference_pages.site import Site
-from reference_pages.tests.fixture import Repository
+from reference.antt_pages import begun
+from reference.checks import Checks
+from reference.rust_text import SourceError
+from reference.site import Site
+from reference.tests.fixture import Repository
 
 COUNTER = "crates/low/src/counter.rt"
 

@@ -1,14 +1,14 @@
 """What a clause sees of a type: its model, the definitions that ask it, or its own parts."""
 from html import escape
 
-from reference_pages.antt_items import AnttFile, Declaration
-from reference_pages.antt_text import words_of
-from reference_pages.fragments import Fragments
-from reference_pages.html_text import linked_html, rust_html, tag
-from reference_pages.links import Linked
-from reference_pages.pages import Page
-from reference_pages.rust_items import Item
-from reference_pages.scopes import Scope
+from reference.antt_items import AnttFile, Declaration
+from reference.antt_text import words_of
+from reference.fragments import Fragments
+from reference.html_text import linked_html, rust_html, tag
+from reference.links import Linked
+from reference.pages import Page
+from reference.rust_items import Item
+from reference.scopes import Scope
 
 SAYS = {
     "Value": "its value is a",

@@ -5,19 +5,19 @@ import shutil
 from html import escape
 from pathlib import Path
 
-from reference_pages.antt_items import AnttFile
-from reference_pages.antt_pages import AnttPages
-from reference_pages.crate_pages import CratePages
-from reference_pages.examples import Examples
-from reference_pages.fragments import Fragments
-from reference_pages.html_text import rust_lines, tag
-from reference_pages.item_pages import ItemPages, display, public_members
-from reference_pages.library import Library, sentence
-from reference_pages.pages import HERE, Page
-from reference_pages.rust_heads import impl_parts
-from reference_pages.rust_items import Item
-from reference_pages.rust_text import Source, SourceError
-from reference_pages.urls import Urls, source_page
+from reference.antt_items import AnttFile
+from reference.antt_pages import AnttPages
+from reference.crate_pages import CratePages
+from reference.examples import Examples
+from reference.fragments import Fragments
+from reference.html_text import rust_lines, tag
+from reference.item_pages import ItemPages, display, public_members
+from reference.library import Library, sentence
+from reference.pages import HERE, Page
+from reference.rust_heads import impl_parts
+from reference.rust_items import Item
+from reference.rust_text import Source, SourceError
+from reference.urls import Urls, source_page
 
 
 class Site:

@@ -3,8 +3,8 @@ import re
 from html import escape
 from typing import Callable
 
-from reference_pages.library import Library
-from reference_pages.rust_items import Item
+from reference.library import Library
+from reference.rust_items import Item
 
 INLINE = re.compile(
     r"\[(?P<text>`[^`\]]+`|[^`\]\[]+)\](?:\((?P<path>[^)]+)\))?|(?P<code>`[^`]+`)"
