@@ -140,22 +140,24 @@ VB_CHECKED bool vb_try_count_ones(const uint8_t *bytes, size_t size, size_t offs
  *     assert(vb_xor_count(left, 1, 0, right, 1, 0, 4) == 2);
  *     assert(vb_and_not_count(left, 1, 0, right, 1, 0, 4) == 1);
  */
-size_t vb_and_count(const uint8_t *left, size_t left_size, size_t left_offset,
-        const uint8_t *right, size_t right_size, size_t right_offset, size_t len);
+/* Written by tools/write-lists from tools/families/operators.txt. */
+size_t vb_and_count(const uint8_t *left, size_t left_size, size_t left_offset, const uint8_t *right,
+        size_t right_size, size_t right_offset, size_t len);
 VB_CHECKED bool vb_try_and_count(const uint8_t *left, size_t left_size, size_t left_offset,
         const uint8_t *right, size_t right_size, size_t right_offset, size_t len, size_t *ones);
-size_t vb_or_count(const uint8_t *left, size_t left_size, size_t left_offset,
-        const uint8_t *right, size_t right_size, size_t right_offset, size_t len);
+size_t vb_or_count(const uint8_t *left, size_t left_size, size_t left_offset, const uint8_t *right,
+        size_t right_size, size_t right_offset, size_t len);
 VB_CHECKED bool vb_try_or_count(const uint8_t *left, size_t left_size, size_t left_offset,
         const uint8_t *right, size_t right_size, size_t right_offset, size_t len, size_t *ones);
-size_t vb_xor_count(const uint8_t *left, size_t left_size, size_t left_offset,
-        const uint8_t *right, size_t right_size, size_t right_offset, size_t len);
+size_t vb_xor_count(const uint8_t *left, size_t left_size, size_t left_offset, const uint8_t *right,
+        size_t right_size, size_t right_offset, size_t len);
 VB_CHECKED bool vb_try_xor_count(const uint8_t *left, size_t left_size, size_t left_offset,
         const uint8_t *right, size_t right_size, size_t right_offset, size_t len, size_t *ones);
 size_t vb_and_not_count(const uint8_t *left, size_t left_size, size_t left_offset,
         const uint8_t *right, size_t right_size, size_t right_offset, size_t len);
 VB_CHECKED bool vb_try_and_not_count(const uint8_t *left, size_t left_size, size_t left_offset,
         const uint8_t *right, size_t right_size, size_t right_offset, size_t len, size_t *ones);
+/* To here. */
 
 /*
  * The place within the window of its n-th true bit, counted from 0; none where there are at most

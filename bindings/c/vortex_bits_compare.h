@@ -41,7 +41,7 @@ enum {
  *     vb_compare_f64(cheap, 1, 0, prices, 3, VB_LESS, 2.0);
  *     assert(cheap[0] == 0x05);
  */
-/* Written by tools/write-lists from tools/by_type/compare.txt. */
+/* Written by tools/write-lists from tools/families/compare.txt. */
 void vb_compare_u8(uint8_t *out, size_t out_size, size_t out_offset, const uint8_t *values,
         size_t values_size, uint8_t op, uint8_t number);
 VB_CHECKED bool vb_try_compare_u8(uint8_t *out, size_t out_size, size_t out_offset,
@@ -92,7 +92,7 @@ VB_CHECKED bool vb_try_compare_f64(uint8_t *out, size_t out_size, size_t out_off
  *     vb_compare_with_i32(below, 1, 0, ages, 3, VB_LESS, limits, 3);
  *     assert(below[0] == 0x01);
  */
-/* Written by tools/write-lists from tools/by_type/compare.txt. */
+/* Written by tools/write-lists from tools/families/compare.txt. */
 void vb_compare_with_u8(uint8_t *out, size_t out_size, size_t out_offset, const uint8_t *values,
         size_t values_size, uint8_t op, const uint8_t *others, size_t others_size);
 VB_CHECKED bool vb_try_compare_with_u8(uint8_t *out, size_t out_size, size_t out_offset,

@@ -24,7 +24,7 @@ template <std::size_t Size, bool Float, bool Signed> struct compared_by;
         static constexpr auto number = vb_compare_##name;                                         \
         static constexpr auto others = vb_compare_with_##name;                                    \
     };
-/* Written by tools/write-lists from tools/by_type/compare.txt. */
+/* Written by tools/write-lists from tools/families/compare.txt. */
 VB_COMPARED_BY(1, false, false, u8, std::uint8_t)
 VB_COMPARED_BY(2, false, false, u16, std::uint16_t)
 VB_COMPARED_BY(4, false, false, u32, std::uint32_t)

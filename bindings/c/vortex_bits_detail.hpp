@@ -105,7 +105,7 @@ struct by {
     static constexpr auto keep = Keep;
 };
 template <std::size_t Size> struct laid { using type = void; };
-/* Written by tools/write-lists from tools/by_type/filter.txt. */
+/* Written by tools/write-lists from tools/families/filter.txt. */
 template <> struct laid<1> : by<std::uint8_t, vb_filter_u8> {};
 template <> struct laid<2> : by<std::uint16_t, vb_filter_u16> {};
 template <> struct laid<4> : by<std::uint32_t, vb_filter_u32> {};

@@ -70,7 +70,7 @@ VB_CHECKED bool vb_try_pack_truthy_at(uint8_t *out, size_t out_size, size_t out_
  *     assert(!vb_take_u32(out, 1, bits, 1, 0, 5, indices, 3).found && out[0] == 0x05);
  *     assert(vb_take_u32(out, 1, bits, 1, 0, 4, indices, 3).found);    // index 4 at position 0
  */
-/* Written by tools/write-lists from tools/by_type/take_bits.txt. */
+/* Written by tools/write-lists from tools/families/take_bits.txt. */
 VB_CHECKED vb_place vb_take_u32(uint8_t *out, size_t out_size, const uint8_t *bytes, size_t size,
         size_t offset, size_t len, const uint32_t *indices, size_t index_count);
 VB_CHECKED bool vb_try_take_u32(uint8_t *out, size_t out_size, const uint8_t *bytes, size_t size,
@@ -91,7 +91,7 @@ VB_CHECKED bool vb_try_take_u64(uint8_t *out, size_t out_size, const uint8_t *by
  *     assert(!vb_take_valid_u64(out, 1, bits, 1, 0, 5, indices, 3, valid, 1, 0).found);
  *     assert(out[0] == 0x04);
  */
-/* Written by tools/write-lists from tools/by_type/take_bits.txt. */
+/* Written by tools/write-lists from tools/families/take_bits.txt. */
 VB_CHECKED vb_place vb_take_valid_u32(uint8_t *out, size_t out_size, const uint8_t *bytes,
         size_t size, size_t offset, size_t len, const uint32_t *indices, size_t index_count,
         const uint8_t *validity, size_t validity_size, size_t validity_offset);
@@ -117,7 +117,7 @@ VB_CHECKED bool vb_try_take_valid_u64(uint8_t *out, size_t out_size, const uint8
  *     vb_place past = vb_take_bits_at_u8(out, 1, 4, bits, 1, 0, 5, indices, 3, true, NULL, 0, 0);
  *     assert(!past.found && out[0] == 0xDF);
  */
-/* Written by tools/write-lists from tools/by_type/take_bits.txt. */
+/* Written by tools/write-lists from tools/families/take_bits.txt. */
 VB_CHECKED vb_place vb_take_bits_at_u8(uint8_t *out, size_t out_size, size_t out_offset,
         const uint8_t *bytes, size_t size, size_t offset, size_t len, const uint8_t *indices,
         size_t index_count, bool all_valid, const uint8_t *validity, size_t validity_size,
@@ -224,13 +224,13 @@ VB_CHECKED bool vb_try_deposit_bits(uint8_t *out, size_t out_size, size_t out_of
  *         true, NULL, 0, 0, 4);
  *     assert(trues[0] == 0x07 && valid[0] == 0x07);
  */
+/* Written by tools/write-lists from tools/families/kleene.txt. */
 void vb_and_kleene(uint8_t *trues, size_t trues_size, size_t trues_offset, uint8_t *valid,
         size_t valid_size, size_t valid_offset, const uint8_t *left, size_t left_size,
         size_t left_offset, bool left_all_valid, const uint8_t *left_validity,
         size_t left_validity_size, size_t left_validity_offset, const uint8_t *right,
-        size_t right_size, size_t right_offset, bool right_all_valid,
-        const uint8_t *right_validity, size_t right_validity_size, size_t right_validity_offset,
-        size_t len);
+        size_t right_size, size_t right_offset, bool right_all_valid, const uint8_t *right_validity,
+        size_t right_validity_size, size_t right_validity_offset, size_t len);
 VB_CHECKED bool vb_try_and_kleene(uint8_t *trues, size_t trues_size, size_t trues_offset,
         uint8_t *valid, size_t valid_size, size_t valid_offset, const uint8_t *left,
         size_t left_size, size_t left_offset, bool left_all_valid, const uint8_t *left_validity,
@@ -241,15 +241,15 @@ void vb_or_kleene(uint8_t *trues, size_t trues_size, size_t trues_offset, uint8_
         size_t valid_size, size_t valid_offset, const uint8_t *left, size_t left_size,
         size_t left_offset, bool left_all_valid, const uint8_t *left_validity,
         size_t left_validity_size, size_t left_validity_offset, const uint8_t *right,
-        size_t right_size, size_t right_offset, bool right_all_valid,
-        const uint8_t *right_validity, size_t right_validity_size, size_t right_validity_offset,
-        size_t len);
+        size_t right_size, size_t right_offset, bool right_all_valid, const uint8_t *right_validity,
+        size_t right_validity_size, size_t right_validity_offset, size_t len);
 VB_CHECKED bool vb_try_or_kleene(uint8_t *trues, size_t trues_size, size_t trues_offset,
         uint8_t *valid, size_t valid_size, size_t valid_offset, const uint8_t *left,
         size_t left_size, size_t left_offset, bool left_all_valid, const uint8_t *left_validity,
         size_t left_validity_size, size_t left_validity_offset, const uint8_t *right,
         size_t right_size, size_t right_offset, bool right_all_valid, const uint8_t *right_validity,
         size_t right_validity_size, size_t right_validity_offset, size_t len);
+/* To here. */
 
 #ifdef __cplusplus
 }

@@ -25,7 +25,7 @@ template <std::size_t Index> struct bits_taken_by;
         using type = integer;                                                                     \
         static constexpr auto take = vb_take_bits_at_##name;                                      \
     };
-/* Written by tools/write-lists from tools/by_type/take_bits.txt. */
+/* Written by tools/write-lists from tools/families/take_bits.txt. */
 VB_TAKEN_BY(1, u8, std::uint8_t)
 VB_TAKEN_BY(2, u16, std::uint16_t)
 VB_TAKEN_BY(4, u32, std::uint32_t)

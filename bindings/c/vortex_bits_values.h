@@ -29,7 +29,7 @@ typedef struct {
  *     const uint8_t mask[] = {0x05};
  *     assert(vb_filter_u32(kept, 2, values, 3, mask, 1, 0) == 2 && kept[1] == 7);
  */
-/* Written by tools/write-lists from tools/by_type/filter.txt. */
+/* Written by tools/write-lists from tools/families/filter.txt. */
 size_t vb_filter_u8(uint8_t *out, size_t room, const uint8_t *values, size_t count,
         const uint8_t *mask, size_t mask_size, size_t mask_offset);
 VB_CHECKED bool vb_try_filter_u8(uint8_t *out, size_t room, const uint8_t *values, size_t count,
@@ -90,7 +90,7 @@ VB_CHECKED bool vb_try_filter_values(void *out, size_t room, const void *values,
  *     vb_place past = vb_take_values_u64_u32(taken, 2, values, 3, indices, 2, true, NULL, 0, 0);
  *     assert(!past.found && taken[0] == 7 && taken[1] == 5);
  */
-/* Written by tools/write-lists from tools/by_type/take_values.txt. */
+/* Written by tools/write-lists from tools/families/take_values.txt. */
 VB_CHECKED vb_place vb_take_values_u8_u8(uint8_t *out, size_t room, const uint8_t *values,
         size_t count, const uint8_t *indices, size_t index_count, bool all_valid,
         const uint8_t *validity, size_t validity_size, size_t validity_offset);

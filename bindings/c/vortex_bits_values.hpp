@@ -21,7 +21,7 @@ template <std::size_t Value, std::size_t Index> struct taken_by;
     template <> struct taken_by<value, index> {                                                   \
         static constexpr auto take = vb_take_values_##name;                                       \
     };
-/* Written by tools/write-lists from tools/by_type/take_values.txt. */
+/* Written by tools/write-lists from tools/families/take_values.txt. */
 VB_TAKEN_BY(1, 1, u8_u8)
 VB_TAKEN_BY(2, 1, u16_u8)
 VB_TAKEN_BY(4, 1, u32_u8)

@@ -3,6 +3,8 @@ import re
 from dataclasses import dataclass
 
 from documents.files import Repository
+from families.fill import of_template
+from families.written import templates
 
 LIBRARY = (
     r"crates/(?!\w+_tests/|vb_c(?:_\w+)?/|vb_command/|vb_pool/|vb_script/|vb_plain_|use_|run_)\w+"
@@ -17,7 +19,8 @@ IMPORT = re.compile(r"\s*(?:ghost )?use ")
 class Task:
     """What there is to do, in which files, and at which lines: each a path and a text, as patterns.
 
-    NAME stands for the name in any of its forms. A place without a text is the file itself.
+    NAME stands for the name in any of its forms. A place without a text is the file itself; so is
+    one of a template, whose text is what it writes.
     """
 
     text: str
@@ -64,8 +67,8 @@ KERNEL = [
         (rf"{LIBRARY}/proofs/(.*/)?NAME/[A-Z]\w+\.antt$", ""),
     ]),
     Task("Tests, and the plain loop", [(r"crates/\w+_tests/src/(?!reached)", r"\bNAME\b")]),
-    Task("The template of what goes by type, which tools/write-lists fills", [
-        (r"tools/by_type/\w+\.txt$", r"\bfn vb_NAME"),
+    Task("The template that tools/write-lists fills, for all of its family", [
+        (r"tools/families/\w+\.txt$", r"\bfn (?:vb_NAME|NAME)"),
     ]),
     Task("C: the call and its form `vb_try_`; the header, in C++ too, and its tests", [
         (r"crates/vb_c(_\w+)?/src/", r"\bvb_NAME\(|::NAME\("),
@@ -162,6 +165,8 @@ def found_in(repository: Repository, name: Name, path: str, what: str) -> list[s
     if path.endswith(".antt") and is_of_std(name, text):
         return []
     pattern, lines = name.pattern(what), text.split("\n")
+    if path in templates(repository):
+        return [path] if any(pattern.search(it.text) for it in of_template(text)) else []
     return [
         f"{path}:{n}: {' '.join(lines[n - 1].split())[:100]}"
         for n, it in enumerate(code_of(path, text), 1)

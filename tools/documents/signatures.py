@@ -5,7 +5,7 @@ two others, and these have the same names and types.
 import re
 from dataclasses import dataclass
 
-from by_type.types import FLOATS, SIGNED, UNSIGNED
+from families.types import FLOATS, SIGNED, UNSIGNED
 
 OF_NUMBERS = {it.c: it.crossing for it in [*UNSIGNED, *SIGNED, *FLOATS] if it.c}
 TYPES = OF_NUMBERS | {"vb_place": "Place", "vb_run": "Run", "void": "()"}

@@ -1,4 +1,4 @@
-"""What a tool writes: what goes by type, from its templates; and lists, from where their names stand
+"""What a tool writes: families, from their templates; and lists, from where their names stand
 first: what vb_pair gives of its files, what vb_kernel and the crate to depend on give of vb_pair,
 what the tests of that crate reach, the table by which the Rust crate calls the C functions, the
 diagram of the crates, and the digest by which the Rust crate knows its archives.
@@ -7,13 +7,13 @@ import re
 import textwrap
 from collections.abc import Iterator
 
-from by_type.written import by_type
 from documents import signatures
 from documents.digest import DIGEST, written_digest
 from documents.files import Repository
 from documents.layers import LAYERS, layers
 from documents.lists import NOT_CALLED, OF_THE_LIBRARY, exported, headers, made
 from documents.signatures import Signature
+from families.written import files
 
 TABLE = "bindings/rust/src/native.rs"
 PAIR = "crates/vb_pair/src/lib.rt"
@@ -104,7 +104,7 @@ LISTS = {
 
 def written(repository: Repository) -> Iterator[tuple[str, str]]:
     """The path and the text of each file; those behind it may be made of it as it stands then."""
-    for path, file in by_type(repository):
+    for path, file in files(repository):
         yield path, file.text
     for path, text in LISTS.items():
         yield path, text(repository)

@@ -27,7 +27,7 @@ static bool is_laid(const void *items, size_t size, size_t most)
     return known && size <= most && (uintptr_t)items % (size < 8 ? size : 8) == 0;
 }
 
-/* Written by tools/write-lists from tools/by_type/filter.txt. */
+/* Written by tools/write-lists from tools/families/filter.txt. */
 /* Each size of values, with the name and the type of these. */
 #define EACH_VALUE(WIDTH)                                                                         \
     WIDTH(1, u8, uint8_t)                                                                         \
@@ -80,7 +80,7 @@ static size_t pair(size_t value_size, size_t index_size)
     return value_size <= 16 && index_size <= 8 ? PAIR(value_size, index_size) : 0;
 }
 
-/* Written by tools/write-lists from tools/by_type/take_values.txt. */
+/* Written by tools/write-lists from tools/families/take_values.txt. */
 /* Each size of values, and of indices, with their names and types. */
 #define EACH_PAIR(WIDTH)                                                                          \
     WIDTH(1, u8, uint8_t, 1, u8, uint8_t)                                                         \

@@ -103,7 +103,7 @@ pub(crate) mod sealed {
     }
 
     compared! {
-        // Written by tools/write-lists from tools/by_type/compare.txt.
+        // Written by tools/write-lists from tools/families/compare.txt.
         u8 as u8, compare_u8, compare_with_u8;
         u16 as u16, compare_u16, compare_with_u16;
         u32 as u32, compare_u32, compare_with_u32;

@@ -48,7 +48,7 @@ pub(crate) mod sealed {
     }
 
     indices! {
-        // Written by tools/write-lists from tools/by_type/take_bits.txt.
+        // Written by tools/write-lists from tools/families/take_bits.txt.
         u8, 1 << 8;
         i8, 1 << 7;
         u16, 1 << 16;

@@ -30,7 +30,7 @@ macro_rules! values {
 }
 
 values! {
-    // Written by tools/write-lists from tools/by_type/filter.txt.
+    // Written by tools/write-lists from tools/families/filter.txt.
     u8, 0;
     u16, 0;
     u32, 0;

@@ -25,7 +25,8 @@ FILES = {
     "crates/vb_kernel/edits/other-is_wrong.edit": "old: ones(n)\nnew: ones(0)\n",
     "crates/vb_kernel/proofs/count/ones/Answers.antt": "ones = refl\n",
     "crates/vb_kernel_tests/src/ones.rt": "use vb_kernel::ones;\nequal(ones(1), plain::ones(1));\n",
-    "tools/by_type/ones.txt": "/// [`vb_ones_«T»`]\npub fn vb_ones_«T»(\n    n: u8,\n)\n",
+    "tools/families/sums.txt": "% items a.rt fn\n% for it in [\"on\", \"two\"]\nfn vb_«it»es(\n"
+    "% end\n% end\n",
     "crates/vb_c/src/count.rt": 'pub extern "C" fn vb_try_ones(\n    *n = vb_ones(b);\n',
     "bindings/c/vortex_bits.h": "/* vb_ones counts.\n * vb_ones(b) */\nsize_t vb_ones(int b);\n",
     "bindings/c/test.c": 'check(!vb_try_ones(b), "");\n',
@@ -69,7 +70,7 @@ class Shown(unittest.TestCase):
             "crates/vb_kernel/src/lib.rt:2", "crates/vb_kernel/src/count.rt:2",
             "crates/vb_view/src/view.rt:3", "crates/vb_kernel/edits/ones-forgets_one.edit",
             "crates/vb_kernel/proofs/count/ones/Answers.antt",
-            "crates/vb_kernel_tests/src/ones.rt:2", "tools/by_type/ones.txt:2",
+            "crates/vb_kernel_tests/src/ones.rt:2", "tools/families/sums.txt",
             "crates/vb_c/src/count.rt:1", "crates/vb_c/src/count.rt:2",
             "bindings/c/vortex_bits.h:3", "bindings/c/test.c:1",
             "bindings/rust/src/native.rs:1", "bindings/rust/src/bits.rs:2",

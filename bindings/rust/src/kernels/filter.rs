@@ -38,7 +38,7 @@ pub fn keep<T: Value>(out: &mut [T], values: &[T], mask: Bits<'_>) -> usize {
             };
         }
         return match laid {
-            // Written by tools/write-lists from tools/by_type/filter.txt.
+            // Written by tools/write-lists from tools/families/filter.txt.
             Laid::One => by!(filter_u8),
             Laid::Two => by!(filter_u16),
             Laid::Four => by!(filter_u32),

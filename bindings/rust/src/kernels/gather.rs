@@ -65,7 +65,7 @@ fn take_by_width<I: BitIndex>(
         };
     }
     match width {
-        // Written by tools/write-lists from tools/by_type/take_bits.txt.
+        // Written by tools/write-lists from tools/families/take_bits.txt.
         Laid::One => by!(take_bits_at_u8),
         Laid::Two => by!(take_bits_at_u16),
         Laid::Four => by!(take_bits_at_u32),

@@ -60,7 +60,7 @@ fn by_kind<T: Value, I: BitIndex>(
         };
     }
     kinds! {
-        // Written by tools/write-lists from tools/by_type/take_values.txt.
+        // Written by tools/write-lists from tools/families/take_values.txt.
         One One => take_values_u8_u8;
         One Two => take_values_u8_u16;
         One Four => take_values_u8_u32;

@@ -1,13 +1,13 @@
-"""The files that have what goes by type, as the templates write them."""
+"""The files that have a family's functions, rows or proofs, as the templates write them."""
 import re
 from collections.abc import Iterator
 from dataclasses import dataclass
 from pathlib import Path
 
-from by_type.fill import Target, of_template
 from documents.files import Repository
+from families.fill import Target, of_template
 
-FOLDER = "tools/by_type"
+FOLDER = "tools/families"
 # Whether a file of a crate says in its first line that it is written. To say so changes the file,
 # and a crate that is changed is proved again.
 SAYS_SO = False
@@ -32,8 +32,8 @@ def templates(repository: Repository) -> dict[str, str]:
     return {f"{FOLDER}/{it.name}": it.read_text(encoding="utf-8") for it in paths}
 
 
-def by_type(repository: Repository) -> Iterator[tuple[str, Written]]:
-    """Each file that has something by type, with its path."""
+def files(repository: Repository) -> Iterator[tuple[str, Written]]:
+    """Each file that has something of a template, with its path."""
     found: dict[str, list[tuple[str, Target]]] = {}
     for template, text in templates(repository).items():
         for it in of_template(text):
@@ -65,9 +65,9 @@ def put(file: Written, template: str, part: Target, before: int) -> None:
 
 def items(text: str, part: Target) -> slice:
     """From the first item with such a head, and its docstring, to the end of the last one."""
-    heads = list(re.finditer(rf"^{re.escape(part.pattern)}", text, re.MULTILINE))
+    heads = list(re.finditer(rf"^{part.pattern}", text, re.MULTILINE))
     if not heads:
-        raise LookupError(f"{part.path}: nothing in it begins with `{part.pattern}`")
+        raise LookupError(f"{part.path}: nothing in it begins as `{part.pattern}`")
     start = text.rindex("\n\n", 0, heads[0].start()) + 2
     return slice(start, text.index("\n}\n", heads[-1].end()) + 3)
 

@@ -4,13 +4,13 @@ import unittest
 from pathlib import Path
 from unittest.mock import patch
 
-from by_type import written
-from by_type.fill import laid_out, of_template
-from by_type.hand import hand
-from by_type.types import COMPARED, SIGNED, UNSIGNED, VALUES
-from by_type.written import by_type
 from documents.files import Repository
 from documents.written import REACHED, not_written
+from families import written
+from families.fill import laid_out, of_template
+from families.hand import hand
+from families.types import AND, COMPARED, OPERATORS, SIGNED, UNSIGNED, VALUES
+from families.written import files
 
 TEMPLATE = """Sums.
 
@@ -42,7 +42,7 @@ use lib.{«T»}
 % end
 % end
 """
-MARK = "/* Written by tools/write-lists from tools/by_type/sum.txt. */"
+MARK = "/* Written by tools/write-lists from tools/families/sum.txt. */"
 SUM = '''//! Sums.
 use low::sum;
 
@@ -62,7 +62,7 @@ pub extern "C" fn vb_sum_u16(values: &[u16]) -> u16
 fn own() {}
 '''
 FILES = {
-    "tools/by_type/sum.txt": TEMPLATE,
+    "tools/families/sum.txt": TEMPLATE,
     "crates/low/src/sum.rt": SUM,
     "bindings/c/low.h": f"/* Sums. */\n{MARK}\n"
     "uint8_t vb_sum_u8(const uint8_t *values, size_t count);\n"
@@ -75,7 +75,7 @@ FILES = {
 
 
 class Templates(unittest.TestCase):
-    def test_what_stands_by_type(self):
+    def test_what_a_template_writes(self):
         first, *others = of_template(TEMPLATE)
         self.assertEqual((first.kind, first.path), ("items", "crates/low/src/sum.rt"))
         self.assertEqual(first.pattern, 'pub extern "C" fn vb_')
@@ -122,6 +122,14 @@ class Types(unittest.TestCase):
         self.assertEqual((COMPARED[0].cpp, COMPARED[-1].cpp), ("std::uint8_t", "double"))
 
 
+    def test_what_is_said_of_an_operator(self):
+        self.assertEqual(AND.of_both("this", "that"), "this and that are true")
+        self.assertEqual([it.of_one("it", "that") for it in OPERATORS], [
+            "it is true and that is", "it is true or that is", "it is another than that",
+            "it is true and that isn't",
+        ])
+
+
 class Places(unittest.TestCase):
     def repository(self, path: str = REACHED, old: str = "", new: str = "") -> Repository:
         folder = tempfile.TemporaryDirectory()
@@ -133,7 +141,7 @@ class Places(unittest.TestCase):
         return Repository(root)
 
     def differing(self, repository: Repository) -> list[str]:
-        return [path for path, it in by_type(repository) if it.text != repository.present(path)]
+        return [path for path, it in files(repository) if it.text != repository.present(path)]
 
     def test_files_that_stand_as_they_are_written(self):
         self.assertEqual(self.differing(self.repository()), [])
@@ -145,7 +153,7 @@ class Places(unittest.TestCase):
         }.items():
             repository = self.repository(path, old, "other")
             self.assertEqual(self.differing(repository), [path])
-            self.assertEqual(dict(by_type(repository))[path].text, FILES[path])
+            self.assertEqual(dict(files(repository))[path].text, FILES[path])
 
     def test_it_is_an_error_of_the_documents(self):
         with patch("documents.written.LISTS", {}):
@@ -158,8 +166,8 @@ class Places(unittest.TestCase):
             self.assertEqual(self.differing(self.repository(path, old, "fn other")), [])
 
     def test_a_type_that_is_new(self):
-        repository = self.repository("tools/by_type/sum.txt", "[U8, U16]", "[U8, U16, U32]")
-        text = dict(by_type(repository))["crates/low/src/sum.rt"].text
+        repository = self.repository("tools/families/sum.txt", "[U8, U16]", "[U8, U16, U32]")
+        text = dict(files(repository))["crates/low/src/sum.rt"].text
         self.assertIn("fn vb_sum_u32", text)
         self.assertTrue(text.endswith("\n}\n\n/// By hand.\nfn own() {}\n"))
 
@@ -171,11 +179,11 @@ class Places(unittest.TestCase):
     def test_a_file_says_that_it_is_written_where_it_may(self):
         repository = self.repository()
         with patch.object(written, "SAYS_SO", True):
-            texts = {path: it.text for path, it in by_type(repository)}
+            texts = {path: it.text for path, it in files(repository)}
             for path, text in texts.items():
                 (repository.root / path).write_text(text, encoding="utf-8")
             self.assertEqual(self.differing(repository), [])
-        by = "by tools/write-lists from tools/by_type/sum.txt.\n"
+        by = "by tools/write-lists from tools/families/sum.txt.\n"
         proof = texts["crates/low/proofs/sum/U8/Answers.antt"]
         self.assertEqual(texts["crates/low/src/sum.rt"], f"// Written in part {by}{SUM}")
         self.assertEqual(proof, f"-- Written {by}use lib.{{u8}}\n")

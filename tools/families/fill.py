@@ -1,16 +1,16 @@
-"""Fills the templates of what goes by type.
+"""Fills the templates of families: of what goes by type, or by operator.
 
-A template, tools/by_type/FAMILY.txt, has the text of a family in each language. Its lines that
+A template, tools/families/FAMILY.txt, has the text of a family in each language. Its lines that
 begin with `% ` are:
 
     % file PATH           a file that the text to `% end` is all of
-    % items PATH PATTERN  a file of which the items with such a head are the text: all from the
+    % items PATH PATTERN  a file of which the items whose head begins so are the text: all from the
                           first one, with its docstring, to the last one
     % region PATH         a file with two lines of comments that the text stands between
     % for NAME in VALUES  what stands to `% end`, for each of the values
     % if CONDITION        what stands to `% end`, where it holds
 
-Values, conditions and what stands in «» are Python, over the names of tools/by_type/types.py.
+Values, conditions and what stands in «» are Python, over the names of tools/families/types.py.
 
 The text is laid out as its languages are: docstrings are filled, the head of a function stands in
 one line where that has room, a prototype of C is wrapped between parameters, and the backslashes
@@ -22,7 +22,7 @@ import textwrap
 from collections.abc import Iterator
 from dataclasses import dataclass
 
-from by_type import types
+from families import types
 
 WIDEST = 100
 HOLE = re.compile(r"«(.+?)»")

@@ -1,6 +1,6 @@
-"""The table of types: what the families of functions, lanes and tables by type go by.
+"""The tables of types and of operators: what families of functions, lanes and rows go by.
 
-A template (tools/by_type/*.txt) uses these names. A type that is added here, or to one of the
+A template (tools/families/*.txt) uses these names. A type that is added here, or to one of the
 groups below, gets its functions in each language by tools/write-lists.
 """
 from dataclasses import dataclass
@@ -121,3 +121,42 @@ COMPARED = [*INDICES, I8, I16, I32, I64, *FLOATS]
 LANES = {name: [it for it in numbers if it.bits < 128] for name, numbers in WHOLE.items()}
 # How floats compare, by the name of the call and by that of IEEE 754.
 FLOAT_TESTS = {"equal": "eq", "not_equal": "ne", "less": "lt", "less_or_equal": "le"}
+
+
+@dataclass(frozen=True)
+class Operator:
+    """An operator on two bits, by its name in C."""
+
+    name: str
+    variant: str
+    # What vb_pair calls it in its calls, and as a type.
+    kernel: str
+    merged: str
+    # Of which two bits it makes true, as docstrings say it: of one and another one, and of both.
+    one: str
+    both: str
+
+    def __str__(self) -> str:
+        return self.name
+
+    def of_one(self, bit: str, other: str) -> str:
+        return self.one.format(bit=bit, other=other)
+
+    def of_both(self, bit: str, other: str) -> str:
+        return self.both.format(bit=bit, other=other)
+
+
+AND = Operator(
+    "and", "And", "and", "Both", "{bit} is true and {other} is", "{bit} and {other} are true",
+)
+OR = Operator(
+    "or", "Or", "or", "Either", "{bit} is true or {other} is", "{bit} or {other} is true",
+)
+XOR = Operator(
+    "xor", "Xor", "xor", "OneAlone", "{bit} is another than {other}", "{bit} differs from {other}",
+)
+AND_NOT = Operator(
+    "and_not", "AndNot", "andnot", "LeftAlone", "{bit} is true and {other} isn't",
+    "{bit} is true and {other} isn't",
+)
+OPERATORS = [AND, OR, XOR, AND_NOT]

@@ -1,8 +1,8 @@
 """How many lines of the crates are written by hand."""
-from by_type.written import by_type, templates
 from documents.files import Repository
 from documents.widths import is_of_crate
 from documents.written import REACHED
+from families.written import files, templates
 
 
 def hand(repository: Repository) -> str:
@@ -10,7 +10,7 @@ def hand(repository: Repository) -> str:
     lines = {
         path: text.count("\n") for path, text in repository.code.items() if is_of_crate(path)
     }
-    by_tools = {path: file.lines for path, file in by_type(repository) if path in lines}
+    by_tools = {path: file.lines for path, file in files(repository) if path in lines}
     by_tools[REACHED] = repository.read(REACHED).count("pub use ")
     every, written = sum(lines.values()), sum(by_tools.values())
     filling = sum(text.count("\n") for text in templates(repository).values())
