@@ -13,7 +13,7 @@ from documents.files import Repository
 from documents.layers import LAYERS, layers
 from documents.lists import NOT_CALLED, OF_THE_LIBRARY, exported, headers, made
 from documents.signatures import Signature
-from families.written import files
+from families.written import NoPlace, files
 
 TABLE = "bindings/rust/src/native.rs"
 PAIR = "crates/vb_pair/src/lib.rt"
@@ -112,7 +112,10 @@ def written(repository: Repository) -> Iterator[tuple[str, str]]:
 
 def not_written(repository: Repository) -> list[str]:
     """The files that the tool would write anew."""
-    return [
-        f"{path}: isn't what tools/write-lists makes of its list: run it"
-        for path, text in written(repository) if text != repository.present(path)
-    ]
+    try:
+        return [
+            f"{path}: isn't what tools/write-lists makes of its list: run it"
+            for path, text in written(repository) if text != repository.present(path)
+        ]
+    except NoPlace as error:
+        return [str(error)]

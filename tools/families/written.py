@@ -19,6 +19,10 @@ REGION = re.compile(
 )
 
 
+class NoPlace(Exception):
+    """A file has no place for what a template writes, or one that none writes."""
+
+
 @dataclass
 class Written:
     """A file as it is written, and how many of its lines are."""
@@ -43,6 +47,9 @@ def files(repository: Repository) -> Iterator[tuple[str, Written]]:
         for nth, (template, part) in enumerate(parts):
             before = sum(template == it for it, _ in parts[:nth])
             put(file, template, part, before)
+        regions = sum(part.kind == "region" for _, part in parts)
+        if len(REGION.findall(file.text)) != regions:
+            raise NoPlace(f"{path}: has a place that no template writes")
         yield path, file
 
 
@@ -67,7 +74,7 @@ def items(text: str, part: Target) -> slice:
     """From the first item with such a head, and its docstring, to the end of the last one."""
     heads = list(re.finditer(rf"^{part.pattern}", text, re.MULTILINE))
     if not heads:
-        raise LookupError(f"{part.path}: nothing in it begins as `{part.pattern}`")
+        raise NoPlace(f"{part.path}: nothing in it begins as `{part.pattern}`")
     start = text.rindex("\n\n", 0, heads[0].start()) + 2
     return slice(start, text.index("\n}\n", heads[-1].end()) + 3)
 
@@ -75,5 +82,5 @@ def items(text: str, part: Target) -> slice:
 def region(text: str, part: Target, template: str, before: int) -> slice:
     found = [it for it in REGION.finditer(text) if it[1] == template]
     if len(found) <= before:
-        raise LookupError(f"{part.path}: has no place for what {template} writes")
+        raise NoPlace(f"{part.path}: has no place for what {template} writes")
     return slice(found[before].start(2), found[before].end(2))

@@ -10,7 +10,7 @@ from families import written
 from families.fill import laid_out, of_template
 from families.hand import hand
 from families.types import AND, COMPARED, OPERATORS, SIGNED, UNSIGNED, VALUES
-from families.written import files
+from families.written import NoPlace, files
 
 TEMPLATE = """Sums.
 
@@ -160,6 +160,9 @@ class Places(unittest.TestCase):
             found = not_written(self.repository("bindings/c/low.h", "uint16_t", "int"))
         wanted = "bindings/c/low.h: isn't what tools/write-lists makes of its list: run it"
         self.assertEqual(found, [wanted])
+        found = not_written(self.repository("bindings/c/low.h", MARK, ""))
+        wanted = "bindings/c/low.h: has no place for what tools/families/sum.txt writes"
+        self.assertEqual(found, [wanted])
 
     def test_what_stands_beside_is_left(self):
         for path, old in {"crates/low/src/sum.rt": "fn own", "bindings/c/low.h": "by_hand"}.items():
@@ -173,8 +176,13 @@ class Places(unittest.TestCase):
 
     def test_a_file_without_a_place_for_it(self):
         for path, old in {"crates/low/src/sum.rt": SUM, "bindings/c/low.h": MARK}.items():
-            with self.assertRaisesRegex(LookupError, path):
+            with self.assertRaisesRegex(NoPlace, path):
                 self.differing(self.repository(path, old, ""))
+
+    def test_a_place_that_no_template_writes(self):
+        repository = self.repository("bindings/c/low.h", "void", f"{MARK}\n/* To here. */\nvoid")
+        with self.assertRaisesRegex(NoPlace, "no template writes"):
+            self.differing(repository)
 
     def test_a_file_says_that_it_is_written_where_it_may(self):
         repository = self.repository()
