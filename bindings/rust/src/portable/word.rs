@@ -73,16 +73,17 @@ pub fn only_word(bits: Bits<'_>) -> u64 {
     word & low(bits.len())
 }
 
-/// The first words of a window, those that lie in nine bytes each: all whole ones but perhaps the
-/// last. Each is put together from the two words of bytes that have it.
+/// The whole words of a window. Each is put together from the two words of bytes that have it, the
+/// second of which begins at the next byte; where one has it, that one stands for both.
 #[inline]
 pub fn quick_words(bits: Bits<'_>) -> impl ExactSizeIterator<Item = u64> {
     let (first, shift) = (bits.offset() / 8, bits.offset() % 8);
-    let bytes = &bits.bytes()[first..];
-    let n = (bits.len() / 64).min(bytes.len().saturating_sub(1) / 8);
-    let high = bytes.get(1..=8 * n).unwrap_or_default();
-    let words = bytes[..8 * n].chunks_exact(8).zip(high.chunks_exact(8));
-    words.map(move |(low, high)| eight_of(low) >> shift | eight_of(high) << (8 - shift))
+    let (bytes, size) = (&bits.bytes()[first..], bits.len() / 64 * 8);
+    let next = usize::from(shift > 0);
+    let words = bytes[..size].chunks_exact(8);
+    let words = words.zip(bytes[next..][..size].chunks_exact(8));
+    let back = (8 - shift) % 8;
+    words.map(move |(low, high)| eight_of(low) >> shift | eight_of(high) << back)
 }
 
 /// Eight bytes as a number, lowest first, with no way for fewer: so that a loop becomes vectors.

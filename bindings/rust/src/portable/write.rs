@@ -14,12 +14,19 @@ pub fn fill(out: &mut Written<'_>, value: bool) {
     each_byte(out, |_| all);
 }
 
+/// The bits of the window in the first byte of one that isn't empty, and in the last one.
+#[inline]
+fn ends(out: &Written<'_>) -> (u8, u8) {
+    let end = out.offset() + out.len();
+    let (head, tail) = (!low(out.offset()), low((end - 1) % 8 + 1));
+    (head.to_le_bytes()[0], tail.to_le_bytes()[0])
+}
+
 /// Makes each byte of a window of more than 64 bits what `of` answers for it; of the first and the
 /// last byte only the bits of the window.
 #[inline]
 fn each_byte(out: &mut Written<'_>, of: impl Fn(u8) -> u8) {
-    let (start, end) = (out.offset(), out.offset() + out.len());
-    let [head, tail] = [!low(start), low((end - 1) % 8 + 1)].map(|mask| mask.to_le_bytes()[0]);
+    let (head, tail) = ends(out);
     let of_some = |byte: &mut u8, mask: u8| *byte = *byte & !mask | of(*byte) & mask;
     if let [first, whole @ .., last] = out.bytes_mut() {
         of_some(first, head);
@@ -30,60 +37,170 @@ fn each_byte(out: &mut Written<'_>, of: impl Fn(u8) -> u8) {
     }
 }
 
-/// Makes each word what `of` answers for it and for the words at the same places of two windows of
-/// the same length. It goes by whole words of bytes behind the first byte that the window begins.
-#[inline]
-fn each_word(
-    out: &mut Written<'_>,
-    left: Bits<'_>,
-    right: Bits<'_>,
-    of: impl Fn(u64, u64, u64) -> u64 + Copy,
-) {
-    if out.len() <= 64 {
-        return each_slow(out, left, right, 0, out.len(), of);
-    }
-    let head = out.offset().wrapping_neg() % 8;
-    each_slow(out, left, right, 0, head, of);
-    let len = out.len() - head;
-    let words = [left, right].map(|bits| quick_words(bits.part(head, len)));
-    let [left_words, right_words] = words;
-    let words = left_words.zip(right_words);
-    let (first, whole) = ((out.offset() + head) / 8, words.len());
-    each_quick(&mut out.bytes_mut()[first..first + 8 * whole], words, of);
-    let end = out.len();
-    each_slow(out, left, right, head + 64 * whole, end, of);
+/// Bits that are written, or combined with those that are there, read by words.
+trait Source: Copy {
+    /// Whether the first bit is this digit of its byte.
+    fn is_at(self, digit: usize) -> bool;
+
+    /// The `len` bits from place `start` on.
+    fn part(self, start: usize, len: usize) -> Self;
+
+    /// At most 64 bits, as the lowest digits of a word.
+    fn only_word(self) -> u64;
+
+    /// The whole words, of a first bit that begins a byte.
+    fn byte_words(self) -> impl ExactSizeIterator<Item = u64>;
+
+    /// The whole words, wherever the first bit is.
+    fn quick_words(self) -> impl ExactSizeIterator<Item = u64>;
 }
 
-/// The same of whole words, in a function of its own, where the compiler sees that what is written
-/// overlaps nothing that is read.
-#[inline(never)]
-fn each_quick(
-    bytes: &mut [u8],
-    words: impl Iterator<Item = (u64, u64)>,
-    of: impl Fn(u64, u64, u64) -> u64,
-) {
-    for (eight, (left, right)) in bytes.chunks_exact_mut(8).zip(words) {
-        if let Some(eight) = eight.first_chunk_mut() {
-            *eight = of(u64::from_le_bytes(*eight), left, right).to_le_bytes();
+impl Source for Bits<'_> {
+    #[inline]
+    fn is_at(self, digit: usize) -> bool {
+        self.offset() % 8 == digit
+    }
+
+    #[inline]
+    fn part(self, start: usize, len: usize) -> Self {
+        Bits::part(self, start, len)
+    }
+
+    #[inline]
+    fn only_word(self) -> u64 {
+        only_word(self)
+    }
+
+    #[inline]
+    fn byte_words(self) -> impl ExactSizeIterator<Item = u64> {
+        let bytes = &self.bytes()[self.offset() / 8..];
+        bytes[..self.len() / 64 * 8].chunks_exact(8).map(eight_of)
+    }
+
+    #[inline]
+    fn quick_words(self) -> impl ExactSizeIterator<Item = u64> {
+        quick_words(self)
+    }
+}
+
+/// What an operator makes of two windows of one length.
+#[derive(Clone, Copy)]
+struct Both<'a, F> {
+    left: Bits<'a>,
+    right: Bits<'a>,
+    of: F,
+}
+
+impl<F: Fn(u64, u64) -> u64 + Copy> Source for Both<'_, F> {
+    #[inline]
+    fn is_at(self, digit: usize) -> bool {
+        self.left.is_at(digit) && self.right.is_at(digit)
+    }
+
+    #[inline]
+    fn part(self, start: usize, len: usize) -> Self {
+        let (left, right) = (self.left.part(start, len), self.right.part(start, len));
+        Both {
+            left,
+            right,
+            ..self
+        }
+    }
+
+    #[inline]
+    fn only_word(self) -> u64 {
+        (self.of)(only_word(self.left), only_word(self.right))
+    }
+
+    #[inline]
+    fn byte_words(self) -> impl ExactSizeIterator<Item = u64> {
+        let words = self.left.byte_words().zip(self.right.byte_words());
+        words.map(move |(left, right)| (self.of)(left, right))
+    }
+
+    #[inline]
+    fn quick_words(self) -> impl ExactSizeIterator<Item = u64> {
+        let words = quick_words(self.left).zip(quick_words(self.right));
+        words.map(move |(left, right)| (self.of)(left, right))
+    }
+}
+
+/// Makes each bit what `of` answers for it and for the bit at the same place of a source of the
+/// same length.
+#[inline]
+fn each(out: &mut Written<'_>, source: impl Source, of: impl Fn(u64, u64) -> u64 + Copy) {
+    if out.len() > 64 {
+        return each_of_many(out, source, of);
+    }
+    let (digit, len, right) = (out.offset(), out.len(), source.only_word());
+    match out.bytes_mut().first_chunk_mut() {
+        Some(eight) if digit + len <= 64 => merge(eight, low(len) << digit, right << digit, of),
+        _ => {
+            let made = of(only_word(out.as_bits()), right);
+            out.write(0, len, made);
         }
     }
 }
 
-/// The same from place `start` to `end`.
-fn each_slow(
+/// Makes the bits of eight bytes that are true in `mask` what `of` answers for them.
+#[inline]
+fn merge(eight: &mut [u8; 8], mask: u64, right: u64, of: impl Fn(u64, u64) -> u64) {
+    let own = u64::from_le_bytes(*eight);
+    *eight = (own & !mask | of(own, right) & mask).to_le_bytes();
+}
+
+/// The same as [`each`] of more than 64 bits: the rest of the first byte, whole words of bytes, and
+/// the bits behind them, which are among the last eight bytes.
+#[inline]
+fn each_of_many(out: &mut Written<'_>, source: impl Source, of: impl Fn(u64, u64) -> u64 + Copy) {
+    let (digit, len) = (out.offset(), out.len());
+    let (head, bytes) = (digit.wrapping_neg() % 8, out.bytes_mut());
+    let (first, whole) = bytes.split_at_mut(usize::from(head > 0));
+    if let [first] = first {
+        let right = source.part(0, head).only_word() << digit;
+        let mut eight = u64::from(*first).to_le_bytes();
+        merge(&mut eight, !low(digit), right, of);
+        *first = eight[0];
+    }
+    let rest = source.part(head, len - head);
+    if rest.is_at(0) {
+        each_whole(whole, || rest.byte_words(), of);
+    } else {
+        each_whole(whole, || rest.quick_words(), of);
+    }
+    let tail = (len - head) % 64;
+    if let (1.., Some(eight)) = (tail, whole.last_chunk_mut()) {
+        let behind = (digit + len).wrapping_neg() % 8;
+        let right = source.part(len - tail, tail).only_word();
+        let up = 64 - behind - tail;
+        merge(eight, low(tail) << up, right << up, of);
+    }
+}
+
+/// The same of the whole words of some bytes, in a function of its own, where the compiler sees that
+/// what is written overlaps nothing that is read, and how many bytes a word has.
+#[inline(never)]
+fn each_whole<W: Iterator<Item = u64>>(
+    bytes: &mut [u8],
+    words: impl FnOnce() -> W,
+    of: impl Fn(u64, u64) -> u64,
+) {
+    for (eight, right) in bytes.chunks_exact_mut(8).zip(words()) {
+        let word = of(eight_of(eight), right);
+        eight.copy_from_slice(&word.to_le_bytes());
+    }
+}
+
+/// Makes each bit what `of` answers for the bits at the same place of two windows of the same
+/// length.
+#[inline]
+fn each_of(
     out: &mut Written<'_>,
     left: Bits<'_>,
     right: Bits<'_>,
-    start: usize,
-    end: usize,
-    of: impl Fn(u64, u64, u64) -> u64,
+    of: impl Fn(u64, u64) -> u64 + Copy,
 ) {
-    for start in (start..end).step_by(64) {
-        let len = (end - start).min(64);
-        let [left, right] = [left, right].map(|bits| only_word(bits.part(start, len)));
-        let made = of(only_word(out.as_bits().part(start, len)), left, right);
-        out.write(start, len, made);
-    }
+    each(out, Both { left, right, of }, |_, made| made);
 }
 
 pub fn negate(out: &mut Written<'_>) {
@@ -95,26 +212,26 @@ pub fn negate(out: &mut Written<'_>) {
 
 /// Of windows of one length.
 pub fn copy(out: &mut Written<'_>, source: Bits<'_>) {
-    each_word(out, source, source, |_, word, _| word);
+    each(out, source, |_, word| word);
 }
 
 /// Of windows of one length. Each operator has a loop of its own.
 pub fn combine(out: &mut Written<'_>, right: Bits<'_>, operator: Operator) {
     match operator {
-        Operator::And => each_word(out, right, right, |left, right, _| left & right),
-        Operator::Or => each_word(out, right, right, |left, right, _| left | right),
-        Operator::Xor => each_word(out, right, right, |left, right, _| left ^ right),
-        Operator::AndNot => each_word(out, right, right, |left, right, _| left & !right),
+        Operator::And => each(out, right, |left, right| left & right),
+        Operator::Or => each(out, right, |left, right| left | right),
+        Operator::Xor => each(out, right, |left, right| left ^ right),
+        Operator::AndNot => each(out, right, |left, right| left & !right),
     }
 }
 
 /// Of windows of one length. Each operator has a loop of its own.
 pub fn combine_into(out: &mut Written<'_>, left: Bits<'_>, right: Bits<'_>, operator: Operator) {
     match operator {
-        Operator::And => each_word(out, left, right, |_, left, right| left & right),
-        Operator::Or => each_word(out, left, right, |_, left, right| left | right),
-        Operator::Xor => each_word(out, left, right, |_, left, right| left ^ right),
-        Operator::AndNot => each_word(out, left, right, |_, left, right| left & !right),
+        Operator::And => each_of(out, left, right, |left, right| left & right),
+        Operator::Or => each_of(out, left, right, |left, right| left | right),
+        Operator::Xor => each_of(out, left, right, |left, right| left ^ right),
+        Operator::AndNot => each_of(out, left, right, |left, right| left & !right),
     }
 }
 

@@ -94,9 +94,7 @@ impl Array {
     /// Of another type, and where a row isn't behind the one before it, or lies in no buffer.
     pub fn texts(&self) -> Result<Texts<'_>, ArrowError> {
         let Some(views) = self.views() else {
-            self.has_bytes()?;
-            let ranges = self.offsets()?;
-            let bytes = self.bytes_up_to(ranges.end())?;
+            let (ranges, bytes) = self.joined()?;
             return Ok(Texts::joined(ranges, bytes, self.validity()?));
         };
         let valid = self.validity()?;
@@ -147,8 +145,15 @@ impl Array {
     ///
     /// As of [`ranges`](Array::ranges), and where there are bytes and no buffer.
     pub fn bytes(&self) -> Result<&[u8], ArrowError> {
+        Ok(self.joined()?.1)
+    }
+
+    /// Where the rows of texts, or of binary values, lie, and the bytes, by one pass over the
+    /// offsets.
+    pub(in crate::arrow) fn joined(&self) -> Result<(Ranges<'_>, &[u8]), ArrowError> {
         self.has_bytes()?;
-        self.bytes_up_to(self.offsets()?.end())
+        let ranges = self.offsets()?;
+        Ok((ranges, self.bytes_up_to(ranges.end())?))
     }
 
     fn has_bytes(&self) -> Result<(), ArrowError> {

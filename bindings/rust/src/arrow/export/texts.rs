@@ -202,7 +202,7 @@ impl Export {
             ..self.field.clone()
         };
         let texts = self.into_array();
-        let (ranges, bytes) = (texts.ranges()?, texts.bytes()?);
+        let (ranges, bytes) = texts.joined()?;
         let start = ranges.get(0).map_or(0, |first| first.start);
         let ends = ranges.iter().map(|row| row.end - start);
         let ends = Ends::new(true, ends).map_err(|bytes| long(&texts, bytes))?;
