@@ -4,7 +4,8 @@
 //! [`Stream`] reads the batches of another part of the program; the columns of an [`Array`] give
 //! slices of values, [`Bits`](crate::Bits) and a [`Validity`](crate::Validity). [`Export`] hands a
 //! [`Bitmap`](crate::Bitmap) and values on, to any consumer. No value is copied either way, but
-//! texts that are handed on.
+//! texts that are handed on. [`Array::filter`], [`Array::take`] and [`Export::concat`] copy rows of
+//! every type.
 //!
 //! ```
 //! use vortex_bits::arrow::{Export, ExportStream, Field, Stream};
@@ -35,8 +36,8 @@
 //! of buffers and of children, which buffers are there, formats, and that children are as long as
 //! their parent needs. What can't be tested is the caller's promise, by `unsafe`: that pointers lead to
 //! as much as the numbers say. Lists of one length or of views, unions and runs may stand in a
-//! batch, and have a length and a validity here, no more. An [`Array`] goes out again as it came,
-//! of whatever type, by [`Export::from`](Export).
+//! batch: no call reads their rows. An [`Array`] goes out again as it came, of whatever type, by
+//! [`Export::from`](Export).
 //!
 //! [Arrow C data interface]: https://arrow.apache.org/docs/format/CDataInterface.html
 

@@ -58,6 +58,18 @@ impl AlignedBytes {
         AlignedBytes::cut(vec![0; bytes.saturating_add(ALIGNMENT - 1)], bytes)
     }
 
+    /// So many bytes, all 0; None where memory runs out.
+    #[cfg(feature = "arrow")]
+    pub(crate) fn try_zeroed(bytes: usize) -> Option<AlignedBytes> {
+        if bytes == 0 {
+            return Some(AlignedBytes::default());
+        }
+        let mut all = Vec::new();
+        all.try_reserve_exact(bytes.checked_add(ALIGNMENT - 1)?)
+            .ok()?;
+        Some(AlignedBytes::cut(all, bytes))
+    }
+
     /// The first `len` aligned bytes of some memory, which has room for 63 more.
     fn cut(mut all: Vec<u8>, len: usize) -> AlignedBytes {
         let start = all.as_ptr().align_offset(ALIGNMENT).min(ALIGNMENT - 1);

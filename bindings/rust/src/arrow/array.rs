@@ -16,6 +16,7 @@ use super::field::Field;
 use super::layout::Layout;
 use super::node::Node;
 use super::primitive::{Primitive, Unaligned};
+use super::texts::View;
 use crate::bits::within;
 use crate::error::{OutOfBounds, TakeValuesError, expect};
 use crate::{Bits, Validity};
@@ -272,6 +273,17 @@ impl Array {
         unsafe { slice::from_raw_parts(self.node.values.add(self.start * width), size) }
     }
 
+    /// The bytes of values of one width, and of views.
+    pub(super) fn value_bytes(&self) -> &[u8] {
+        let width = match self.node.field.layout {
+            Layout::Fixed(_, width) => width,
+            Layout::Views => size_of::<View>(),
+            _ => return &[],
+        };
+        // SAFETY: there is a value or a view for each item.
+        unsafe { self.bytes_of(self.len, width) }
+    }
+
     #[inline]
     fn has_values<T: Primitive>(&self) -> Result<(), ArrowError> {
         if T::is_in(self.node.field.layout) {
@@ -357,7 +369,7 @@ impl Array {
     }
 
     #[cold]
-    fn malformed(&self, fault: Fault) -> ArrowError {
+    pub(super) fn malformed(&self, fault: Fault) -> ArrowError {
         ArrowError::Malformed {
             column: self.name(),
             fault,

@@ -35,6 +35,15 @@ pub(super) fn difference(
     Ok(found.map(|(column, what)| format!("{}{what}", Of(&column))))
 }
 
+/// [`difference`] of rows that are read.
+pub(super) fn difference_of(rows: &Array, wanted: &Field, between: &Between) -> Option<String> {
+    let mut found = between.types(rows.field(), wanted);
+    if found.is_none() && loses_nulls(rows.field(), wanted) {
+        found = between.nulls(rows, wanted);
+    }
+    found.map(|(column, what)| format!("{}{what}", Of(&column)))
+}
+
 /// Whether a column may have nulls where the wanted one has none.
 fn loses_nulls(rows: &Field, wanted: &Field) -> bool {
     let mut below = rows.fields().chain(rows.dictionary());

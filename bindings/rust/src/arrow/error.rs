@@ -135,12 +135,32 @@ pub enum ArrowError {
         /// Why they aren't.
         error: TakeValuesError,
     },
-    /// There is no memory for the bytes of texts.
+    /// There is no memory for the bytes of texts, or for rows that are copied.
     Memory {
         /// The name of the column.
         column: String,
-        /// How many bytes the texts have together; `usize::MAX` where they are more.
+        /// How many bytes they have together; `usize::MAX` where they are more.
         bytes: usize,
+    },
+    /// A mask has another number of bits than the rows.
+    Mask {
+        /// The name of the column.
+        column: String,
+        /// How many bits the mask has.
+        bits: usize,
+        /// How many rows there are.
+        rows: usize,
+    },
+    /// There are more of these than the numbers of the type can tell.
+    TooLong {
+        /// The name of the column.
+        column: String,
+        /// What they are: items of lists or of a dictionary, rows of runs or buffers of views.
+        what: &'static str,
+        /// How many there are; of offsets up to the first row that ends too far, with it.
+        number: usize,
+        /// The greatest of the numbers.
+        most: i64,
     },
     /// Texts are longer together than their offsets of 32 bits can say, which is 2^31 - 1 bytes.
     LongTexts {
@@ -297,7 +317,19 @@ impl fmt::Display for ArrowError {
             ArrowError::NoColumn { name } => write!(f, "no column {name:?}"),
             ArrowError::Take { column, error } => write!(f, "{}{error}", Of(column)),
             ArrowError::Memory { column, bytes } => {
-                write!(f, "{}no memory for texts of {bytes} bytes", Of(column))
+                write!(f, "{}no memory for rows of {bytes} bytes", Of(column))
+            }
+            ArrowError::Mask { column, bits, rows } => {
+                write!(f, "{}a mask of {bits} bits for {rows} rows", Of(column))
+            }
+            ArrowError::TooLong {
+                column,
+                what,
+                number,
+                most,
+            } => {
+                let column = Of(column);
+                write!(f, "{column}{number} {what}, and numbers up to {most}")
             }
             ArrowError::LongTexts { column, bytes } => {
                 let (column, most) = (Of(column), i32::MAX);
@@ -335,6 +367,8 @@ impl ArrowError {
             | ArrowError::Unaligned { column, .. }
             | ArrowError::Take { column, .. }
             | ArrowError::Memory { column, .. }
+            | ArrowError::Mask { column, .. }
+            | ArrowError::TooLong { column, .. }
             | ArrowError::LongTexts { column, .. } => column,
             ArrowError::Stream { .. } | ArrowError::NoColumn { .. } => return self,
         };

@@ -2,6 +2,7 @@
 
 mod dictionary;
 mod format;
+mod select;
 mod texts;
 
 use alloc::boxed::Box;

@@ -109,6 +109,19 @@ impl Field {
         self
     }
 
+    /// Returns the same as a column that may have nulls, which those of runs are in their values.
+    pub(super) fn or_null(mut self) -> Field {
+        let values = match self.layout {
+            Layout::Runs => self.children.get_mut(1),
+            _ => None,
+        };
+        let Some(values) = values else {
+            return self.nullable(true);
+        };
+        *values = Arc::new(Field::clone(values).or_null());
+        self
+    }
+
     pub(super) fn of(name: &str, format: &str, layout: Layout) -> Field {
         Field {
             name: name.to_owned(),

@@ -153,7 +153,7 @@ impl Asker {
     /// What one more call makes of it; None where that is refused.
     fn next(&mut self, export: Export) -> Option<Export> {
         self.calls += 1;
-        let made = match self.maker.below(11) {
+        let made = match self.maker.below(13) {
             0 => Ok(export.named(self.maker.one_of(&["", "a", "x\0y"]))),
             1 | 2 => {
                 let format = self.format(export.field().format());
@@ -173,7 +173,8 @@ impl Asker {
                 .and_then(|it| self.column(&it))
                 .map(Export::from),
             8 => export.try_into_array().and_then(|it| self.texts(&it)),
-            9 => {
+            9 => export.try_into_array().and_then(|it| self.rows(&it)),
+            10 | 11 => {
                 let field = self.field(export.field());
                 export.with_field(&field)
             }
@@ -196,6 +197,17 @@ impl Asker {
         } else {
             columns.swap_remove(place)
         })
+    }
+
+    fn rows(&mut self, array: &Array) -> Result<Export, vortex_bits::arrow::ArrowError> {
+        let len = array.len();
+        let mask: Bitmap = (0..len).map(|_| self.maker.below(2) == 0).collect();
+        let indices: Vec<usize> = (0..9).map(|_| self.maker.below(len + 1)).collect();
+        match self.maker.below(3) {
+            0 => array.filter(&mask),
+            1 => array.take_valid(&indices, self.valid(9)),
+            _ => Export::concat(array.field(), &[array.slice(len / 2..), array.clone()]),
+        }
     }
 
     fn texts(&mut self, array: &Array) -> Result<Export, vortex_bits::arrow::ArrowError> {

@@ -160,6 +160,10 @@ impl Reader {
             Export::texts_kept(array, &mask),
             Export::texts_kept(array, None::<Bits>),
             Export::texts_taken(array, &indices),
+            array.filter(&mask),
+            array.take(&indices),
+            array.take_valid(&indices, Bits::new(&[0b0101_1010, 1], 0, 9)),
+            Export::concat(array.field(), &[array.clone(), array.slice(number / 2..)]),
         ];
         for export in made {
             self.asked_for(export);

@@ -1,4 +1,5 @@
 //! Arrays and streams of the Arrow C interfaces: made by hand, beside plain loops over single bits.
+mod cells;
 mod checker;
 mod dictionary;
 mod export;
@@ -16,7 +17,9 @@ mod parts;
 mod plain;
 mod ranges;
 mod raw;
+mod refused;
 mod released;
+mod select;
 mod sizes;
 mod stream;
 mod strict;

@@ -158,7 +158,7 @@ fn texts_that_no_memory_holds_are_refused() {
         import(array, Schema::new("s", "U", &Count::default())).unwrap()
     };
     let rows = vec![0u8; 1 << 18];
-    let wanted = format!("column \"s\": no memory for texts of {} bytes", 1u64 << 49);
+    let wanted = format!("column \"s\": no memory for rows of {} bytes", 1u64 << 49);
     let taken = Export::texts_taken(&long(), &rows).map(drop);
     assert_eq!(taken.unwrap_err().to_string(), wanted);
     let coded = Export::values(rows, None).with_dictionary(Export::from(long()));

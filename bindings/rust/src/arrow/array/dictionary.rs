@@ -94,15 +94,58 @@ impl Array {
         Ok(texts.named(&self.node.field.name))
     }
 
+    /// Returns the index of each row of a column with a dictionary, of whichever type the indices
+    /// are; 0 of a null row. Each index that is valid names an item then.
+    ///
+    /// ```
+    /// use vortex_bits::arrow::Export;
+    ///
+    /// let words = Export::texts(["no", "yes"], None);
+    /// let rows = Export::values(vec![1i8, -7, 0], Some([true, false, true].into()));
+    /// let rows = rows.with_dictionary(words)?.into_array();
+    /// assert_eq!(rows.dictionary_indices()?, [1, 0, 0]);
+    /// # Ok::<(), vortex_bits::arrow::ArrowError>(())
+    /// ```
+    ///
+    /// # Errors
+    ///
+    /// Returns [`ArrowError::Type`] of a column without a dictionary, and [`ArrowError::Take`] with
+    /// the first index that is valid and names no item.
+    pub fn dictionary_indices(&self) -> Result<Vec<usize>, ArrowError> {
+        let items = self.items_of_indices()?;
+        by_index!(self.places_among::<_>(items.len))
+    }
+
+    fn places_among<I: Primitive + BitIndex>(
+        &self,
+        items: usize,
+    ) -> Result<Vec<usize>, ArrowError> {
+        let (indices, valid) = (self.unaligned::<I>()?, self.validity()?);
+        let place = |(position, index): (usize, I)| {
+            if valid.get(position) == Some(false) {
+                return Ok(0);
+            }
+            let place = index.place().filter(|place| *place < items);
+            place.ok_or_else(|| self.lost(position, index.number(), items))
+        };
+        indices.iter().enumerate().map(place).collect()
+    }
+
+    /// An index names none of so many items.
+    #[cold]
+    pub(in crate::arrow) fn lost(&self, position: usize, index: i128, values: usize) -> ArrowError {
+        self.not_taken(TakeValuesError::Index {
+            position,
+            index,
+            values,
+        })
+    }
+
     /// Whether each index that is valid names one of so many items.
     pub(in crate::arrow) fn name_items(&self, items: usize) -> Result<(), ArrowError> {
         match self.first_lost(items)? {
             None => Ok(()),
-            Some((position, index)) => Err(self.not_taken(TakeValuesError::Index {
-                position,
-                index,
-                values: items,
-            })),
+            Some((position, index)) => Err(self.lost(position, index, items)),
         }
     }
 

@@ -98,7 +98,9 @@ impl Array {
             return Ok(Texts::joined(ranges, bytes, self.validity()?));
         };
         let valid = self.validity()?;
-        let texts = self.buffers().and_then(|it| Texts::views(views, it, valid));
+        let texts = self
+            .view_buffers()
+            .and_then(|it| Texts::views(views, it, valid));
         texts.map_err(|fault| self.malformed(fault))
     }
 
@@ -116,7 +118,7 @@ impl Array {
     }
 
     /// The buffers of views, whose sizes the last one has.
-    fn buffers(&self) -> Result<Vec<&[u8]>, Fault> {
+    pub(in crate::arrow) fn view_buffers(&self) -> Result<Vec<&[u8]>, Fault> {
         let [_, _, buffers @ .., sizes] = &self.node.buffers[..] else {
             return Ok(Vec::new());
         };
@@ -137,6 +139,21 @@ impl Array {
             }
         };
         buffers.iter().enumerate().map(buffer).collect()
+    }
+
+    /// Where the rows of list views begin and how many items they have, both as numbers of so many
+    /// bytes.
+    pub(in crate::arrow) fn list_view_numbers(&self, width: usize) -> [&[u8]; 2] {
+        let is_wide = self.node.field.layout == Layout::ListViews(width);
+        let size = if is_wide { self.len * width } else { 0 };
+        [1, 2].map(|place| {
+            if size == 0 {
+                return &[][..];
+            }
+            let numbers = self.node.buffers[place].cast::<u8>();
+            // SAFETY: there are two numbers for each item, in two buffers.
+            unsafe { slice::from_raw_parts(numbers.add(self.start * width), size) }
+        })
     }
 
     /// The bytes of texts, or of binary values, those of the rows before these too.

@@ -350,7 +350,7 @@ fn valid_at<I: BitIndex>(
 }
 
 /// What is said of values in place of bits.
-fn values_error(error: TakeError) -> TakeValuesError {
+pub(super) fn values_error(error: TakeError) -> TakeValuesError {
     match error {
         TakeError::Room { bits, indices } => TakeValuesError::Room {
             room: bits,

@@ -7,7 +7,7 @@ mod format;
 mod schema;
 mod stream;
 
-pub use format::parse;
+pub use format::{Sign, Type, parse};
 pub use stream::batches;
 
 use array::check;

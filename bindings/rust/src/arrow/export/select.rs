@@ -1,0 +1,322 @@
+//! Rows of any type that are handed on: those that a mask keeps, those at indices, and those of
+//! several arrays.
+
+mod fixed;
+mod made;
+mod nested;
+mod rows;
+mod runs;
+mod variable;
+
+use alloc::vec::Vec;
+use core::slice;
+
+use super::texts::values_error;
+use super::{Export, OF_ARRAY};
+use crate::arrow::array::Array;
+use crate::arrow::difference::difference_of;
+use crate::arrow::error::ArrowError;
+use crate::arrow::ffi::{ArrowArray, Owned};
+use crate::arrow::field::Field;
+use crate::arrow::layout::{Layout, Of};
+use crate::bytes::AlignedBytes;
+use crate::{BitIndex, Bits, Mask};
+use made::{Made, Nulls};
+use rows::{Rows, Runs};
+
+/// Rows of any type.
+impl Array {
+    /// Returns the rows that a mask keeps, in their order, with the name, the type, the flags and
+    /// the metadata that they have: of a batch the rows of each column, so that `select * where` is
+    /// one call.
+    ///
+    /// What is kept is copied into new memory: numbers, truth values and texts, the columns of
+    /// structs, the items of lists, and a value for each run that has a row. The buffers of views,
+    /// the items of list views and the dictionary are shared. A batch without columns keeps its
+    /// number of rows.
+    ///
+    /// ```
+    /// use vortex_bits::arrow::Export;
+    /// use vortex_bits::{Bitmap, Comparison, values};
+    ///
+    /// let names = Export::texts_or_nulls([Some("a"), None, Some("bc")]).named("name");
+    /// let rows = Export::values(vec![7i64, 1, 9], None).named("number");
+    /// let rows = Export::batch([names, rows]).into_array();
+    ///
+    /// // select * where number > 5
+    /// let numbers = rows.column("number")?;
+    /// let mask = values::compare(numbers.values::<i64>()?, Comparison::Greater, 5);
+    /// let kept = rows.filter(&mask)?.into_array();
+    ///
+    /// assert_eq!(kept.column("number")?.values::<i64>()?, [7, 9]);
+    /// assert!(kept.column("name")?.texts()?.iter().eq([&b"a"[..], b"bc"].map(Some)));
+    /// assert_eq!(
+    ///     rows.filter(Bitmap::new_set(2)).unwrap_err().to_string(),
+    ///     "a mask of 2 bits for 3 rows"
+    /// );
+    /// # Ok::<(), vortex_bits::arrow::ArrowError>(())
+    /// ```
+    ///
+    /// # Errors
+    ///
+    /// Returns [`ArrowError::Mask`] if the mask has another number of bits than there are rows,
+    /// [`ArrowError::Type`] of a union or a column of one, [`ArrowError::Malformed`] if rows of
+    /// texts or lists go back or runs end before the rows, and [`ArrowError::Memory`] if there is
+    /// no memory for what is kept.
+    #[doc(alias("where", "compress", "select"))]
+    pub fn filter(&self, mask: impl Mask) -> Result<Export, ArrowError> {
+        let (rows, bits) = (self.len, mask.mask_len().unwrap_or(self.len));
+        if bits != rows {
+            let column = self.node.field.name.clone();
+            return Err(ArrowError::Mask { column, bits, rows });
+        }
+        let of = slice::from_ref(self);
+        match mask.mask() {
+            Some(mask) => {
+                let rows = Rows::Mask(mask, mask.count_ones());
+                export(self.field().clone(), of, rows)
+            }
+            None => Export::concat(self.field(), of),
+        }
+    }
+
+    /// Returns the rows at indices, in their order, as [`filter`](Array::filter) returns those that
+    /// a mask keeps: an index may be there more than once.
+    ///
+    /// ```
+    /// use vortex_bits::arrow::Export;
+    ///
+    /// let names = Export::texts(["a", "bc"], None).named("name");
+    /// let rows = Export::batch([names]).into_array();
+    /// let taken = rows.take(&[1u32, 1, 0])?.into_array();
+    /// assert!(taken.column("name")?.texts()?.iter().eq([&b"bc"[..], b"bc", b"a"].map(Some)));
+    /// assert_eq!(
+    ///     rows.take(&[0, -1]).unwrap_err().to_string(),
+    ///     "index -1 at position 1 names none of 2 values"
+    /// );
+    /// # Ok::<(), vortex_bits::arrow::ArrowError>(())
+    /// ```
+    ///
+    /// # Errors
+    ///
+    /// Returns [`ArrowError::Take`] with the first index that isn't one of a row,
+    /// [`ArrowError::LongTexts`] and [`ArrowError::TooLong`] if offsets of 32 bits or the ends of
+    /// runs can't tell where the rows end, and the errors of `filter`.
+    #[doc(alias = "gather")]
+    pub fn take<I: BitIndex>(&self, indices: &[I]) -> Result<Export, ArrowError> {
+        self.take_valid(indices, None::<Bits<'_>>)
+    }
+
+    /// Returns the rows at the indices that are valid, and null rows for the others, whatever these
+    /// are: as of [`take`](Array::take), of a column that may have nulls if some are.
+    ///
+    /// What a null row of a struct or of a list of one length has in its children is null too where
+    /// these may have nulls, else 0, false, an empty text or list.
+    ///
+    /// ```
+    /// use vortex_bits::Bits;
+    /// use vortex_bits::arrow::Export;
+    ///
+    /// let rows = Export::values([7i64, 9], None).into_array();
+    /// let valid = Bits::new(&[0b101], 0, 3);
+    /// let taken = rows.take_valid(&[1i8, -7, 0], valid)?.into_array();
+    /// assert_eq!(taken.values::<i64>()?, [9, 0, 7]);
+    /// assert_eq!(taken.validity()?.bits(), Some(valid));
+    /// # Ok::<(), vortex_bits::arrow::ArrowError>(())
+    /// ```
+    ///
+    /// # Errors
+    ///
+    /// Returns [`ArrowError::Take`] if the validity isn't as long as the indices, with the first
+    /// index that is valid and isn't one of a row, and if a null row would have to name an item of
+    /// a dictionary without items; and the errors of `take`.
+    pub fn take_valid<I: BitIndex>(
+        &self,
+        indices: &[I],
+        validity: impl Mask,
+    ) -> Result<Export, ArrowError> {
+        let valid = validity.mask();
+        let places = self.places(indices, &validity)?;
+        let rows = Rows::Places(&places, valid);
+        let field = self.field().clone();
+        let field = if rows.has_nulls() {
+            field.or_null()
+        } else {
+            field
+        };
+        export(field, slice::from_ref(self), rows)
+    }
+
+    /// The rows at indices: 0 where an index isn't valid.
+    fn places<I: BitIndex>(
+        &self,
+        indices: &[I],
+        validity: &impl Mask,
+    ) -> Result<Vec<usize>, ArrowError> {
+        crate::take::one_each(indices, validity)
+            .map_err(|error| self.not_taken(values_error(error)))?;
+        let valid = validity.mask();
+        let place = |(position, index): (usize, &I)| {
+            if valid.is_some_and(|valid| !valid[position]) {
+                return Ok(0);
+            }
+            index
+                .place()
+                .filter(|row| *row < self.len)
+                .ok_or_else(|| self.lost(position, index.number(), self.len))
+        };
+        indices.iter().enumerate().map(place).collect()
+    }
+}
+
+/// Rows of several arrays.
+impl Export {
+    /// Returns the rows of arrays, one behind the other, with the name, the type, the flags and the
+    /// metadata of a field, as of the stream whose batches they are: no rows where there is no
+    /// array.
+    ///
+    /// The rows are copied as by [`Array::filter`]. Arrays that share a dictionary go on sharing
+    /// it; of others the items are put one behind the other too, and the indices follow.
+    ///
+    /// ```
+    /// use vortex_bits::arrow::{Export, Field};
+    ///
+    /// let batch = |names| {
+    ///     Export::batch([Export::texts(names, None).named("name")]).into_array()
+    /// };
+    /// let batches = [batch(vec!["a", "bc"]), batch(vec![]), batch(vec!["d"])];
+    /// let field = batches[0].field();
+    /// let rows = Export::concat(field, &batches)?.into_array();
+    /// assert!(rows.column("name")?.texts()?.iter().eq([&b"a"[..], b"bc", b"d"].map(Some)));
+    /// assert_eq!(Export::concat(field, &[])?.len(), 0);
+    ///
+    /// let other = Export::concat(&Field::batch([]), &batches).unwrap_err();
+    /// assert_eq!(other.to_string(), "the array has the number of columns 1, the field 0");
+    /// # Ok::<(), vortex_bits::arrow::ArrowError>(())
+    /// ```
+    ///
+    /// # Errors
+    ///
+    /// Returns [`ArrowError::Field`] if an array isn't of the type of the field, or has a null
+    /// where the field has none; [`ArrowError::LongTexts`] and [`ArrowError::TooLong`] if offsets
+    /// of 32 bits, the ends of runs or the indices of a dictionary can't tell all rows; and the
+    /// errors of `filter`.
+    pub fn concat(field: &Field, arrays: &[Array]) -> Result<Export, ArrowError> {
+        for array in arrays {
+            if let Some(difference) = difference_of(array, field, &OF_ARRAY) {
+                let column = field.name.clone();
+                return Err(ArrowError::Field { column, difference });
+            }
+        }
+        let all = Runs::whole(arrays.iter().map(Array::len));
+        let all = all.ok_or_else(|| ArrowError::Memory {
+            column: field.name.clone(),
+            bytes: usize::MAX,
+        })?;
+        export(field.clone(), arrays, all.rows())
+    }
+}
+
+fn export(field: Field, of: &[Array], rows: Rows<'_>) -> Result<Export, ArrowError> {
+    Ok(Export {
+        array: selected(&field, of, rows)?,
+        field,
+        len: rows.len(),
+    })
+}
+
+/// Rows of arrays of a type.
+fn selected(field: &Field, of: &[Array], rows: Rows<'_>) -> Result<Owned<ArrowArray>, ArrowError> {
+    let made = match (field.layout, &field.dictionary) {
+        (Layout::Bits, _) => Made::of([fixed::bits(field, of, rows)?]),
+        (Layout::Fixed(..), Some(items)) => nested::coded(field, items, of, rows)?,
+        (Layout::Fixed(_, width), None) => {
+            let bytes: Vec<&[u8]> = of.iter().map(Array::value_bytes).collect();
+            Made::of([fixed::values(field, width, &bytes, rows)?])
+        }
+        (Layout::Ranges(width, Of::Bytes), _) => variable::texts(field, width, of, rows)?,
+        (Layout::Ranges(width, Of::Items), _) => variable::lists(field, width, of, rows)?,
+        (Layout::Views, _) => variable::views(field, of, rows)?,
+        (Layout::Struct, _) => nested::structs(field, of, rows)?,
+        (Layout::Lists(each), _) => nested::fixed_lists(field, each, of, rows)?,
+        (Layout::ListViews(width), _) => nested::list_views(field, width, of, rows)?,
+        (Layout::Runs, _) => runs::runs(field, of, rows)?,
+        (Layout::Nulls, _) => {
+            let nulls = Nulls::Unmarked(rows.len());
+            return Ok(Made::default().array(rows.len(), nulls));
+        }
+        (Layout::Union { .. }, _) => {
+            return Err(ArrowError::Type {
+                column: field.name.clone(),
+                format: field.format.clone(),
+                wanted: "that of rows that are copied",
+            });
+        }
+    };
+    let nulls = if field.layout.has_validity() {
+        Nulls::Marked(fixed::validity(field, of, rows)?)
+    } else {
+        Nulls::Unmarked(0)
+    };
+    Ok(made.array(rows.len(), nulls))
+}
+
+/// An error of a child, as one of the column.
+#[cold]
+fn below(field: &Field, place: usize, error: ArrowError) -> ArrowError {
+    let error = match &field.children[place].name {
+        name if name.is_empty() => error.under(&field.name_of(place)),
+        _ => error,
+    };
+    match &field.name {
+        name if name.is_empty() => error,
+        name => error.under(name),
+    }
+}
+
+/// The child at a place of each array, whole.
+fn whole(of: &[Array], place: usize) -> Vec<Array> {
+    of.iter()
+        .map(|it| Array::whole(&it.node.children[place]))
+        .collect()
+}
+
+/// So many values of a width, all 0.
+fn zeroed(field: &Field, len: usize, width: usize) -> Result<AlignedBytes, ArrowError> {
+    let bytes = len.checked_mul(width);
+    bytes
+        .and_then(AlignedBytes::try_zeroed)
+        .ok_or_else(|| ArrowError::Memory {
+            column: field.name.clone(),
+            bytes: bytes.unwrap_or(usize::MAX),
+        })
+}
+
+/// Writes a number, which has so many bytes.
+fn put(bytes: &mut [u8], place: usize, width: usize, number: usize) {
+    let number = u64::try_from(number).unwrap_or(u64::MAX);
+    let low = number.to_le_bytes();
+    let out = &mut bytes[place * width..][..width];
+    out.copy_from_slice(&low[..width]);
+    if cfg!(target_endian = "big") {
+        out.reverse();
+    }
+}
+
+#[cold]
+fn too_many(field: &Field) -> ArrowError {
+    ArrowError::Memory {
+        column: field.name.clone(),
+        bytes: usize::MAX,
+    }
+}
+
+#[cold]
+fn too_long(field: &Field, what: &'static str, number: usize, most: i64) -> ArrowError {
+    ArrowError::TooLong {
+        column: field.name.clone(),
+        what,
+        number,
+        most,
+    }
+}

@@ -1,0 +1,124 @@
+//! Rows of bits and of values of one width.
+
+use alloc::vec::Vec;
+
+use super::rows::{Rows, Run};
+use super::zeroed;
+use crate::arrow::array::Array;
+use crate::arrow::error::ArrowError;
+use crate::arrow::field::Field;
+use crate::arrow::primitive::Primitive;
+use crate::bytes::AlignedBytes;
+use crate::{Bits, BitsMut, Validity, Value, values};
+
+/// Which of the rows are valid, and how many aren't; None where all are.
+pub(super) fn validity(
+    field: &Field,
+    of: &[Array],
+    rows: Rows<'_>,
+) -> Result<Option<(AlignedBytes, usize)>, ArrowError> {
+    let bits = of.iter().map(|it| it.validity().map(Validity::bits));
+    let bits = bits.collect::<Result<Vec<_>, _>>()?;
+    // Null rows of a column without nulls are below a row that is null, and may be anything.
+    let has_nulls = rows.has_nulls() && field.is_nullable();
+    if !has_nulls && bits.iter().all(Option::is_none) {
+        return Ok(None);
+    }
+    let kept = kept_bits(field, &bits, rows, !has_nulls)?;
+    let nulls = Bits::new(&kept, 0, rows.len()).count_zeros();
+    Ok((nulls > 0).then_some((kept, nulls)))
+}
+
+/// The truth values of the rows.
+pub(super) fn bits(
+    field: &Field,
+    of: &[Array],
+    rows: Rows<'_>,
+) -> Result<AlignedBytes, ArrowError> {
+    let bits = of.iter().map(|it| it.bits().map(Some));
+    kept_bits(field, &bits.collect::<Result<Vec<_>, _>>()?, rows, false)
+}
+
+/// The rows' bits, which are true where an array has none, and `of_null` where a row is of no array.
+fn kept_bits(
+    field: &Field,
+    of: &[Option<Bits<'_>>],
+    rows: Rows<'_>,
+    of_null: bool,
+) -> Result<AlignedBytes, ArrowError> {
+    let len = rows.len();
+    let mut bytes = zeroed(field, len.div_ceil(8), 1)?;
+    let mut out = BitsMut::new(&mut bytes, 0, len);
+    match (rows, of) {
+        (Rows::Mask(mask, _), [Some(bits)]) => bits.filter_into(mask, out),
+        (Rows::Places(places, valid), [Some(bits)]) if !of_null => {
+            bits.take_valid_into(places, valid, out);
+        }
+        _ => rows.for_each(
+            |before,
+             Run {
+                 of: one,
+                 start,
+                 len,
+             }| {
+                let mut out = out.slice(before..before + len);
+                match one.map(|one| of[one]) {
+                    Some(Some(bits)) => out.copy_from(bits.slice(start..start + len)),
+                    Some(None) => out.fill(true),
+                    None => out.fill(of_null),
+                }
+            },
+        ),
+    }
+    Ok(bytes)
+}
+
+/// The rows' values of so many bytes each; those that are of no array are 0.
+pub(super) fn values(
+    field: &Field,
+    width: usize,
+    of: &[&[u8]],
+    rows: Rows<'_>,
+) -> Result<AlignedBytes, ArrowError> {
+    let mut out = zeroed(field, rows.len(), width)?;
+    let is_written = match (width, of) {
+        (1, [one]) => by_kernel::<u8>(one, rows, &mut out),
+        (2, [one]) => by_kernel::<u16>(one, rows, &mut out),
+        (4, [one]) => by_kernel::<u32>(one, rows, &mut out),
+        (8, [one]) => by_kernel::<u64>(one, rows, &mut out),
+        (16, [one]) => by_kernel::<[u64; 2]>(one, rows, &mut out),
+        _ => false,
+    };
+    if !is_written {
+        rows.for_each(
+            |before,
+             Run {
+                 of: one,
+                 start,
+                 len,
+             }| {
+                if let Some(one) = one {
+                    let values = &of[one][start * width..][..len * width];
+                    out[before * width..][..len * width].copy_from_slice(values);
+                }
+            },
+        );
+    }
+    Ok(out)
+}
+
+/// Writes the values of one array where a call of this crate does it and they are aligned: whether
+/// it did.
+fn by_kernel<T: Primitive + Value>(bytes: &[u8], rows: Rows<'_>, out: &mut [u8]) -> bool {
+    // SAFETY: each arrangement of bytes is a value of such a type.
+    let (aligned, written) = unsafe { (bytes.align_to::<T>(), out.align_to_mut::<T>()) };
+    let (([], of, []), ([], out, [])) = (aligned, written) else {
+        return false;
+    };
+    match rows {
+        Rows::Mask(mask, _) => drop(mask.keep_into(of, out)),
+        Rows::Places(places, valid) => values::take_valid_into(of, places, valid, out),
+        Rows::Runs(..) => return false,
+    }
+    true
+}

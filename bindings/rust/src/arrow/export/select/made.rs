@@ -1,0 +1,91 @@
+//! New rows, before they are an array.
+
+use alloc::sync::Arc;
+use alloc::vec::Vec;
+use core::ffi::c_void;
+use core::ptr;
+
+use super::rows::Rows;
+use super::{below, selected};
+use crate::arrow::array::Array;
+use crate::arrow::error::ArrowError;
+use crate::arrow::export::Held;
+use crate::arrow::ffi::{ArrowArray, Below, Owned};
+use crate::arrow::field::Field;
+use crate::arrow::node::Node;
+use crate::bytes::AlignedBytes;
+
+/// Which rows are null.
+pub(super) enum Nulls {
+    /// So many, of a type whose arrays have no bits of validity.
+    Unmarked(usize),
+    /// Those whose bit is false, which are so many: none where there are no bits.
+    Marked(Option<(AlignedBytes, usize)>),
+}
+
+/// What new rows have beside their validity.
+#[derive(Default)]
+pub(super) struct Made {
+    /// New buffers, in their order.
+    pub buffers: Vec<AlignedBytes>,
+    /// Those behind them, of what is kept.
+    pub shared: Vec<*const c_void>,
+    pub kept: Vec<AlignedBytes>,
+    nodes: Vec<Arc<Node>>,
+    pub below: Vec<Owned<ArrowArray>>,
+    pub dictionary: Option<Owned<ArrowArray>>,
+}
+
+impl Made {
+    pub(super) fn of(buffers: impl IntoIterator<Item = AlignedBytes>) -> Made {
+        Made {
+            buffers: buffers.into_iter().collect(),
+            ..Made::default()
+        }
+    }
+
+    pub(super) fn keep(&mut self, of: &[Array]) {
+        self.nodes.extend(of.iter().map(|it| Arc::clone(&it.node)));
+    }
+
+    /// Adds the rows of each child.
+    pub(super) fn children<'a>(
+        &mut self,
+        field: &Field,
+        of: impl Fn(usize) -> Vec<Array>,
+        rows: impl Fn(usize) -> Rows<'a>,
+    ) -> Result<(), ArrowError> {
+        for (place, child) in field.children.iter().enumerate() {
+            let made = selected(child, &of(place), rows(place));
+            self.below
+                .push(made.map_err(|error| below(field, place, error))?);
+        }
+        Ok(())
+    }
+
+    /// An array of so many rows.
+    pub(super) fn array(self, len: usize, nulls: Nulls) -> Owned<ArrowArray> {
+        let mut buffers: Vec<*const c_void> = Vec::new();
+        let (number, valid) = match nulls {
+            Nulls::Unmarked(number) => (number, None),
+            Nulls::Marked(valid) => {
+                let (valid, number) = valid.map_or((None, 0), |(it, number)| (Some(it), number));
+                buffers.push(valid.as_ref().map_or(ptr::null(), |it| it.as_ptr().cast()));
+                (number, valid)
+            }
+        };
+        buffers.extend(self.buffers.iter().map(|it| it.as_ptr().cast::<c_void>()));
+        buffers.extend(self.shared);
+        let mut below = Below::new(self.below);
+        if let Some(dictionary) = self.dictionary {
+            below.set_dictionary(dictionary);
+        }
+        let kept = (valid, self.buffers, self.kept, self.nodes);
+        let held = Held {
+            buffers,
+            below,
+            _kept: (Some(Arc::new(kept)), None),
+        };
+        held.array(len, Some(number), 0)
+    }
+}

@@ -1,0 +1,185 @@
+//! Rows of types whose items are in children, and of columns with a dictionary.
+
+use alloc::sync::Arc;
+use alloc::vec::Vec;
+
+use super::made::Made;
+use super::rows::{Rows, Run, Runs};
+use super::{fixed, put, selected, too_long, too_many, whole};
+use crate::arrow::array::Array;
+use crate::arrow::error::{ArrowError, Fault};
+use crate::arrow::export::shared;
+use crate::arrow::field::Field;
+use crate::arrow::layout::{Kind, Layout};
+use crate::arrow::node::Node;
+
+/// Structs: the same rows of each column.
+pub(super) fn structs(field: &Field, of: &[Array], rows: Rows<'_>) -> Result<Made, ArrowError> {
+    let mut made = Made::default();
+    let columns: Vec<Vec<Array>> = of.iter().map(|it| it.parts().collect()).collect();
+    let column = |place: usize| columns.iter().map(|it| it[place].clone()).collect();
+    made.children(field, column, |_| rows)?;
+    Ok(made)
+}
+
+/// Lists of one length.
+pub(super) fn fixed_lists(
+    field: &Field,
+    each: usize,
+    of: &[Array],
+    rows: Rows<'_>,
+) -> Result<Made, ArrowError> {
+    let mut items = Runs::default();
+    rows.each(
+        |_,
+         Run {
+             of: one,
+             start,
+             len,
+         }| {
+            let before = one.map_or(0, |one| of[one].start);
+            let run = len.checked_mul(each).map(|len| Run {
+                of: one,
+                start: (before + start) * each,
+                len,
+            });
+            let added = run.and_then(|run| items.push(run));
+            added.ok_or_else(|| too_many(field))
+        },
+    )?;
+    let mut made = Made::default();
+    made.children(field, |place| whole(of, place), |_| items.rows())?;
+    Ok(made)
+}
+
+/// List views: where the rows lie among the items of all arrays.
+pub(super) fn list_views(
+    field: &Field,
+    width: usize,
+    of: &[Array],
+    rows: Rows<'_>,
+) -> Result<Made, ArrowError> {
+    let numbers: Vec<[&[u8]; 2]> = of.iter().map(|it| it.list_view_numbers(width)).collect();
+    let sizes: Vec<&[u8]> = numbers.iter().map(|it| it[1]).collect();
+    let items = whole(of, 0);
+    let mut moved = Vec::new();
+    let mut before = 0;
+    for (one, items) in of.iter().zip(&items).filter(|_| of.len() > 1) {
+        moved.push(moved_offsets(one, width, items.len(), before)?);
+        before += items.len();
+    }
+    let offsets: Vec<&[u8]> = if let [[offsets, _]] = numbers[..] {
+        [offsets].into()
+    } else {
+        moved.iter().map(Vec::as_slice).collect()
+    };
+    if width == 4 && i32::try_from(before).is_err() {
+        return Err(too_long(field, "items of lists", before, i32::MAX.into()));
+    }
+    let offsets = fixed::values(field, width, &offsets, rows)?;
+    let mut made = Made::of([offsets, fixed::values(field, width, &sizes, rows)?]);
+    if let [one] = &items[..] {
+        made.below
+            .push(shared(&one.node, one.node.offset, one.node.len));
+        return Ok(made);
+    }
+    let all = all_rows(field, &items)?;
+    made.children(field, |place| whole(of, place), |_| all.rows())?;
+    Ok(made)
+}
+
+/// Where list views begin whose items are behind so many others.
+fn moved_offsets(
+    of: &Array,
+    width: usize,
+    items: usize,
+    before: usize,
+) -> Result<Vec<u8>, ArrowError> {
+    let [offsets, sizes] = of.list_view_numbers(width);
+    let mut moved = offsets.to_vec();
+    for row in 0..of.len() {
+        let (start, size) = (signed(offsets, row, width), signed(sizes, row, width));
+        let end = start.saturating_add(size);
+        let is_right = start >= 0 && size >= 0 && usize::try_from(end).is_ok_and(|it| it <= items);
+        if !is_right {
+            return Err(of.malformed(Fault::Range { row, start, end }));
+        }
+        let start = usize::try_from(start).unwrap_or(usize::MAX);
+        put(&mut moved, row, width, start + before);
+    }
+    Ok(moved)
+}
+
+/// A signed number of four or eight bytes.
+fn signed(bytes: &[u8], place: usize, width: usize) -> i64 {
+    let bytes = &bytes[place * width..][..width];
+    match (bytes.first_chunk(), bytes.first_chunk()) {
+        (Some(eight), _) => i64::from_ne_bytes(*eight),
+        (_, Some(four)) => i32::from_ne_bytes(*four).into(),
+        _ => 0,
+    }
+}
+
+/// A column with a dictionary: its indices, and the items of all arrays.
+pub(super) fn coded(
+    field: &Field,
+    items: &Field,
+    of: &[Array],
+    rows: Rows<'_>,
+) -> Result<Made, ArrowError> {
+    let width = field.layout.widest().0;
+    let dictionaries: Vec<Array> = of.iter().filter_map(Array::dictionary).collect();
+    let is_same = |pair: &[Array]| Arc::ptr_eq(&pair[0].node, &pair[1].node);
+    let one = dictionaries
+        .first()
+        .filter(|_| dictionaries.windows(2).all(is_same));
+    if let Some(one) = one {
+        let bytes: Vec<&[u8]> = of.iter().map(Array::value_bytes).collect();
+        let mut made = Made::of([fixed::values(field, width, &bytes, rows)?]);
+        let Node { offset, len, .. } = *one.node;
+        made.dictionary = Some(shared(&one.node, offset, len));
+        // No row may name an item where there is none.
+        if one.is_empty() && rows.has_nulls() && !field.is_nullable() {
+            return Err(of[0].lost(0, 0, 0));
+        }
+        return Ok(made);
+    }
+    let mut moved = Vec::new();
+    let mut before = 0;
+    for (one, items) in of.iter().zip(&dictionaries) {
+        moved.push(moved_indices(field, one, before)?);
+        before += items.len();
+    }
+    let bytes: Vec<&[u8]> = moved.iter().map(Vec::as_slice).collect();
+    let mut made = Made::of([fixed::values(field, width, &bytes, rows)?]);
+    let all = all_rows(field, &dictionaries)?;
+    let items = selected(items, &dictionaries, all.rows());
+    made.dictionary = Some(items.map_err(|error| error.under("dictionary"))?);
+    Ok(made)
+}
+
+/// The indices of an array whose items are behind so many others: 0 in null rows.
+fn moved_indices(field: &Field, of: &Array, before: usize) -> Result<Vec<u8>, ArrowError> {
+    let (width, valid) = (field.layout.widest().0, of.validity()?);
+    let is_signed = matches!(field.layout, Layout::Fixed(Kind::Signed, _));
+    let most = u64::MAX >> (64 - 8 * width + usize::from(is_signed));
+    let mut moved = alloc::vec![0; of.len() * width];
+    for (row, index) in of.dictionary_indices()?.into_iter().enumerate() {
+        let index = if valid.get(row) == Some(true) {
+            index.saturating_add(before)
+        } else {
+            0
+        };
+        if u64::try_from(index).is_ok_and(|it| it > most) {
+            let most = i64::try_from(most).unwrap_or(i64::MAX);
+            return Err(too_long(field, "items of a dictionary", index + 1, most));
+        }
+        put(&mut moved, row, width, index);
+    }
+    Ok(moved)
+}
+
+/// All rows of some arrays.
+fn all_rows(field: &Field, of: &[Array]) -> Result<Runs, ArrowError> {
+    Runs::whole(of.iter().map(Array::len)).ok_or_else(|| too_many(field))
+}

@@ -1,0 +1,132 @@
+//! Which rows are kept.
+
+use alloc::vec::Vec;
+
+use crate::Bits;
+
+/// Rows of one of several arrays, one behind the other; None where they are null.
+#[derive(Clone, Copy)]
+pub(super) struct Run {
+    pub of: Option<usize>,
+    pub start: usize,
+    pub len: usize,
+}
+
+/// The rows that are kept, in their order.
+#[derive(Clone, Copy)]
+pub(super) enum Rows<'a> {
+    /// Those of one array that are true in a mask, which are so many.
+    Mask(Bits<'a>, usize),
+    /// Those of one array at indices that are valid; the others are null.
+    Places(&'a [usize], Option<Bits<'a>>),
+    /// Those of runs, which are so many.
+    Runs(&'a [Run], usize),
+}
+
+impl Rows<'_> {
+    pub(super) fn len(self) -> usize {
+        match self {
+            Rows::Mask(_, len) | Rows::Runs(_, len) => len,
+            Rows::Places(places, _) => places.len(),
+        }
+    }
+
+    /// Whether some are null that are of no array.
+    pub(super) fn has_nulls(self) -> bool {
+        match self {
+            Rows::Mask(..) => false,
+            Rows::Places(_, valid) => valid.is_some_and(|valid| !valid.all()),
+            Rows::Runs(runs, _) => runs.iter().any(|run| run.of.is_none()),
+        }
+    }
+
+    /// Hands each run on, behind the number of rows before it.
+    pub(super) fn each<E>(
+        self,
+        mut take: impl FnMut(usize, Run) -> Result<(), E>,
+    ) -> Result<(), E> {
+        let mut before = 0;
+        let mut next = |run: Run| {
+            before += run.len;
+            take(before - run.len, run)
+        };
+        match self {
+            Rows::Mask(mask, _) => mask.set_slices().try_for_each(|rows| {
+                next(Run {
+                    of: Some(0),
+                    start: rows.start,
+                    len: rows.len(),
+                })
+            }),
+            Rows::Places(places, valid) => {
+                places.iter().enumerate().try_for_each(|(row, &start)| {
+                    let is_valid = valid.is_none_or(|valid| valid[row]);
+                    next(Run {
+                        of: is_valid.then_some(0),
+                        start,
+                        len: 1,
+                    })
+                })
+            }
+            Rows::Runs(runs, _) => runs.iter().copied().try_for_each(next),
+        }
+    }
+
+    /// [`Rows::each`] of what can't fail.
+    pub(super) fn for_each(self, mut take: impl FnMut(usize, Run)) {
+        let taken: Result<(), core::convert::Infallible> = self.each(|before, run| {
+            take(before, run);
+            Ok(())
+        });
+        let Ok(()) = taken;
+    }
+}
+
+/// Runs that are added one by one; what is one behind the other becomes one.
+#[derive(Default)]
+pub(super) struct Runs {
+    runs: Vec<Run>,
+    len: usize,
+}
+
+impl Runs {
+    /// All rows of arrays of these lengths.
+    pub(super) fn whole(lens: impl IntoIterator<Item = usize>) -> Option<Runs> {
+        let mut runs = Runs::default();
+        for (of, len) in lens.into_iter().enumerate() {
+            runs.push(Run {
+                of: Some(of),
+                start: 0,
+                len,
+            })?;
+        }
+        Some(runs)
+    }
+
+    pub(super) fn len(&self) -> usize {
+        self.len
+    }
+
+    pub(super) fn rows(&self) -> Rows<'_> {
+        Rows::Runs(&self.runs, self.len)
+    }
+
+    /// None where they are more rows than a `usize` can tell.
+    pub(super) fn push(&mut self, run: Run) -> Option<()> {
+        self.len = self.len.checked_add(run.len)?;
+        match self.runs.last_mut() {
+            _ if run.len == 0 => (),
+            Some(last) if last.is_before(run) => last.len += run.len,
+            _ => self.runs.push(run),
+        }
+        Some(())
+    }
+}
+
+impl Run {
+    /// Whether the other one begins where this one ends.
+    fn is_before(self, other: Run) -> bool {
+        let is_next = self.of.is_none() || self.start + self.len == other.start;
+        self.of == other.of && is_next
+    }
+}

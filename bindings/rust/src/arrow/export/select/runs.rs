@@ -1,0 +1,107 @@
+//! Rows of runs.
+
+use alloc::vec::Vec;
+
+use super::made::{Made, Nulls};
+use super::rows::{Rows, Run, Runs};
+use super::{below, put, selected, too_long, too_many, whole, zeroed};
+use crate::arrow::array::Array;
+use crate::arrow::error::{ArrowError, Fault};
+use crate::arrow::field::Field;
+use crate::arrow::layout::{Kind, Layout};
+
+/// A value of one of the arrays; None where it is null.
+type Value = Option<(usize, usize)>;
+
+/// Runs that are put together, of which no two neighbours have one value.
+#[derive(Default)]
+struct Kept {
+    values: Runs,
+    /// How many rows there are up to the end of each.
+    ends: Vec<usize>,
+    last: Option<Value>,
+}
+
+/// Runs: new ends, and a value for each run that has a row.
+pub(super) fn runs(field: &Field, of: &[Array], rows: Rows<'_>) -> Result<Made, ArrowError> {
+    let Layout::Fixed(Kind::Signed, width) = field.children[0].layout else {
+        return Err(Fault::RunEnds(field.children[0].format.clone()).into());
+    };
+    let most = i64::MAX >> (64 - 8 * width);
+    if i64::try_from(rows.len()).is_ok_and(|len| len > most) {
+        return Err(too_long(field, "rows of runs", rows.len(), most));
+    }
+    let (ends, mut kept) = (whole(of, 0), Kept::default());
+    rows.each(|before, run| match run.of {
+        Some(one) => kept.add_rows(field, (one, &of[one], &ends[one]), before, run),
+        None => kept.add(field, None, before + run.len),
+    })?;
+    let mut numbers = zeroed(field, kept.ends.len(), width)?;
+    for (place, end) in kept.ends.iter().enumerate() {
+        put(&mut numbers, place, width, *end);
+    }
+    let ends = Made::of([numbers]).array(kept.ends.len(), Nulls::Marked(None));
+    let values = selected(&field.children[1], &whole(of, 1), kept.values.rows());
+    let mut made = Made::default();
+    made.below = [ends, values.map_err(|error| below(field, 1, error))?].into();
+    Ok(made)
+}
+
+impl Kept {
+    /// Adds rows of an array, behind so many others.
+    fn add_rows(
+        &mut self,
+        field: &Field,
+        (one, of, ends): (usize, &Array, &Array),
+        before: usize,
+        run: Run,
+    ) -> Result<(), ArrowError> {
+        let mut done = 0;
+        while done < run.len {
+            let (value, left) = run_at(of, ends, of.start + run.start + done)?;
+            done += left.min(run.len - done);
+            self.add(field, Some((one, value)), before + done)?;
+        }
+        Ok(())
+    }
+
+    /// Adds rows of one value up to this one.
+    fn add(&mut self, field: &Field, value: Value, end: usize) -> Result<(), ArrowError> {
+        if self.last == Some(value) {
+            self.ends.pop();
+        } else {
+            let (of, start) = (value.map(|it| it.0), value.map_or(0, |it| it.1));
+            let added = self.values.push(Run { of, start, len: 1 });
+            added.ok_or_else(|| too_many(field))?;
+        }
+        self.ends.push(end);
+        self.last = Some(value);
+        Ok(())
+    }
+}
+
+/// The run of an item of an array, which counts those before its own too, and how many more rows of
+/// the run there are from it on.
+fn run_at(of: &Array, ends: &Array, item: usize) -> Result<(usize, usize), ArrowError> {
+    let width = ends.node.field.layout.widest().0;
+    // SAFETY: there is an end for each run.
+    let end = |run: usize| unsafe { ends.node.number_at(ends.start + run, width) };
+    let is_behind = |run: usize| usize::try_from(end(run)).is_ok_and(|it| it > item);
+    let (mut low, mut high) = (0, ends.len());
+    while low < high {
+        let middle = low.midpoint(high);
+        if is_behind(middle) {
+            high = middle;
+        } else {
+            low = middle + 1;
+        }
+    }
+    let last = if low < ends.len() { end(low) } else { 0 };
+    match usize::try_from(last) {
+        Ok(last) if last > item => Ok((low, last - item)),
+        _ => Err(of.malformed(Fault::Runs {
+            end: last,
+            wanted: item + 1,
+        })),
+    }
+}

@@ -1,0 +1,162 @@
+//! Rows of texts and lists, and those of views.
+
+use alloc::vec::Vec;
+use core::ffi::c_void;
+
+use super::made::Made;
+use super::rows::{Rows, Run, Runs};
+use super::{fixed, put, too_long, whole, zeroed};
+use crate::arrow::array::Array;
+use crate::arrow::error::ArrowError;
+use crate::arrow::field::Field;
+use crate::arrow::layout::{Layout, Of};
+use crate::arrow::ranges::Ranges;
+use crate::arrow::texts::View;
+use crate::bytes::AlignedBytes;
+
+/// Texts: new offsets, and the bytes of the rows, those of null ones too.
+pub(super) fn texts(
+    field: &Field,
+    width: usize,
+    of: &[Array],
+    rows: Rows<'_>,
+) -> Result<Made, ArrowError> {
+    let joined = of.iter().map(Array::joined);
+    let (ranges, bytes): (Vec<_>, Vec<_>) =
+        joined.collect::<Result<Vec<_>, _>>()?.into_iter().unzip();
+    let (offsets, parts) = offsets(field, width, &ranges, rows)?;
+    let bytes = fixed::values(field, 1, &bytes, parts.rows())?;
+    Ok(Made::of([offsets, bytes]))
+}
+
+/// Lists: new offsets, and the items of the rows, those of null ones too.
+pub(super) fn lists(
+    field: &Field,
+    width: usize,
+    of: &[Array],
+    rows: Rows<'_>,
+) -> Result<Made, ArrowError> {
+    let ranges = of
+        .iter()
+        .map(Array::ranges)
+        .collect::<Result<Vec<_>, _>>()?;
+    let (offsets, parts) = offsets(field, width, &ranges, rows)?;
+    let mut made = Made::of([offsets]);
+    made.children(field, |place| whole(of, place), |_| parts.rows())?;
+    Ok(made)
+}
+
+/// Where the rows lie behind one another, and which parts they are of the bytes or the items of
+/// arrays whose rows lie so.
+fn offsets(
+    field: &Field,
+    width: usize,
+    of: &[Ranges<'_>],
+    rows: Rows<'_>,
+) -> Result<(AlignedBytes, Runs), ArrowError> {
+    let mut offsets = zeroed(field, rows.len().saturating_add(1), width)?;
+    let mut parts = Runs::default();
+    rows.each(|before, run| {
+        let end = parts.len();
+        let Run {
+            of: one,
+            start,
+            len,
+        } = run;
+        let Some(ranges) = one.map(|one| of[one]).filter(|_| len > 0) else {
+            (before + 1..=before + len).for_each(|row| put(&mut offsets, row, width, end));
+            return Ok(());
+        };
+        let end_of = |row: usize| ranges.get(row).map_or(0, |it| it.end);
+        let (first, last) = (
+            ranges.get(start).map_or(0, |it| it.start),
+            end_of(start + len - 1),
+        );
+        let part = Run {
+            of: one,
+            start: first,
+            len: last - first,
+        };
+        let is_told =
+            parts.push(part).is_some() && (width > 4 || i32::try_from(parts.len()).is_ok());
+        if !is_told {
+            let ends = (start..start + len).map(|row| end.saturating_add(end_of(row) - first));
+            return Err(long(field, ends));
+        }
+        for (place, row) in (before + 1..).zip(start..start + len) {
+            put(&mut offsets, place, width, end + (end_of(row) - first));
+        }
+        Ok(())
+    })?;
+    Ok((offsets, parts))
+}
+
+/// What is said of rows that end at these places, of which one is too far for an offset.
+#[cold]
+fn long(field: &Field, mut ends: impl Iterator<Item = usize>) -> ArrowError {
+    let column = field.name.clone();
+    let is_too_far = |end: &usize| i32::try_from(*end).is_err();
+    let number = ends.find(is_too_far).unwrap_or(usize::MAX);
+    match field.layout {
+        Layout::Ranges(_, Of::Items) => too_long(field, "items of lists", number, i32::MAX.into()),
+        _ => ArrowError::LongTexts {
+            column,
+            bytes: number,
+        },
+    }
+}
+
+/// Views: those of the rows, and the buffers of all arrays.
+pub(super) fn views(field: &Field, of: &[Array], rows: Rows<'_>) -> Result<Made, ArrowError> {
+    let width = size_of::<View>();
+    let bytes: Vec<&[u8]> = of.iter().map(Array::value_bytes).collect();
+    if let [one] = of {
+        let mut made = Made::of([fixed::values(field, width, &bytes, rows)?]);
+        made.shared.extend_from_slice(&one.node.buffers[2..]);
+        made.keep(of);
+        return Ok(made);
+    }
+    let mut made = Made::default();
+    let (mut moved, mut sizes) = (Vec::new(), Vec::new());
+    for one in of {
+        let before = sizes.len();
+        moved.push(moved_views(field, one, before)?);
+        for buffer in one.view_buffers()? {
+            made.shared.push(buffer.as_ptr().cast());
+            sizes.push(buffer.len());
+        }
+    }
+    let moved: Vec<&[u8]> = moved.iter().map(Vec::as_slice).collect();
+    made.buffers
+        .push(fixed::values(field, width, &moved, rows)?);
+    let mut numbers = zeroed(field, sizes.len(), size_of::<i64>())?;
+    for (place, size) in sizes.into_iter().enumerate() {
+        put(&mut numbers, place, size_of::<i64>(), size);
+    }
+    made.shared.push(numbers.as_ptr().cast::<c_void>());
+    made.kept.push(numbers);
+    made.keep(of);
+    Ok(made)
+}
+
+/// The views of an array whose buffers are behind so many others: of null rows they are empty.
+fn moved_views(field: &Field, of: &Array, before: usize) -> Result<Vec<u8>, ArrowError> {
+    let texts = of.texts()?;
+    let mut views = of.value_bytes().to_vec();
+    for (row, view) in views.chunks_exact_mut(size_of::<View>()).enumerate() {
+        let Some(text) = texts.get(row) else {
+            view.fill(0);
+            continue;
+        };
+        if text.len() > 12 {
+            let buffer = u32::from_ne_bytes([view[8], view[9], view[10], view[11]]);
+            let moved = usize::try_from(buffer)
+                .unwrap_or(usize::MAX)
+                .saturating_add(before);
+            let moved = i32::try_from(moved)
+                .map_err(|_| too_long(field, "buffers of views", moved, i32::MAX.into()))?;
+            view[8..12].copy_from_slice(&moved.to_ne_bytes());
+        }
+    }
+    Ok(views)
+}

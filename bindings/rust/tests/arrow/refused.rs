@@ -1,0 +1,191 @@
+//! Rows that aren't handed on, and why.
+use vortex_bits::arrow::{Array, ArrowError, Export, Field};
+use vortex_bits::{Bitmap, Bits, TakeValuesError};
+
+use crate::export::{ReadBack, raw_of};
+use crate::ranges::offsets;
+use crate::raw::{self, Buffer, Count, Schema, import};
+
+fn of(
+    format: &str,
+    len: i64,
+    buffers: Vec<Option<Buffer>>,
+    children: Vec<(raw::Array, Schema)>,
+) -> (raw::Array, Schema) {
+    let none = Count::default();
+    let (arrays, fields) = children.into_iter().unzip();
+    let array = raw::Array::of(len, buffers, arrays, None, &none).nulls(0);
+    (array, Schema::of("a", format, fields, None, &none))
+}
+
+fn imported((array, schema): (raw::Array, Schema)) -> Array {
+    import(array, schema).unwrap()
+}
+
+fn told(answer: Result<Export, ArrowError>) -> String {
+    answer.unwrap_err().to_string()
+}
+
+fn batch_without_columns(len: i64) -> Array {
+    imported(of("+s", len, vec![None], vec![]))
+}
+
+#[test]
+fn a_batch_without_columns_keeps_its_number_of_rows() {
+    let rows = batch_without_columns(9);
+    let mask = Bits::new(&[0b0101_1010, 1], 0, 9);
+    assert_eq!(rows.filter(mask).unwrap().read_back().len(), 5);
+    assert_eq!(rows.take(&[8u8, 8, 0]).unwrap().read_back().len(), 3);
+    let both = [rows.clone(), rows.slice(2..)];
+    let joined = Export::concat(rows.field(), &both).unwrap();
+    assert_eq!(joined.read_back().len(), 16);
+}
+
+#[test]
+fn masks_and_validities_of_another_length_are_refused() {
+    let rows = imported(of("n", 3, vec![], vec![]));
+    let mask = Bitmap::new_set(4);
+    assert_eq!(
+        told(rows.filter(&mask)),
+        "column \"a\": a mask of 4 bits for 3 rows"
+    );
+    let error = rows.filter(Some(&mask)).unwrap_err();
+    let column = "a".into();
+    assert_eq!(
+        error,
+        ArrowError::Mask {
+            column,
+            bits: 4,
+            rows: 3
+        }
+    );
+    let refused = rows.take_valid(&[0u8, 1], &mask).unwrap_err();
+    let error = TakeValuesError::Validity {
+        bits: 4,
+        indices: 2,
+    };
+    assert_eq!(
+        refused,
+        ArrowError::Take {
+            column: "a".into(),
+            error
+        }
+    );
+}
+
+#[test]
+fn the_first_index_that_is_valid_and_of_no_row_is_named() {
+    let rows = imported(of("n", 3, vec![], vec![])).slice(1..);
+    let refused = "column \"a\": index 2 at position 2 names none of 2 values";
+    assert_eq!(told(rows.take(&[0i8, 1, 2, -1])), refused);
+    let valid = Bits::new(&[0b1011], 0, 4);
+    let refused = "column \"a\": index -1 at position 3 names none of 2 values";
+    assert_eq!(told(rows.take_valid(&[0i8, 1, 2, -1], valid)), refused);
+}
+
+#[test]
+fn unions_are_refused_by_name() {
+    let types = || vec![Some(Buffer::exact(&[0, 0]))];
+    let union = || of("+us:0", 2, types(), vec![of("n", 2, vec![], vec![])]);
+    let refused = "format \"+us:0\" isn't that of rows that are copied";
+    let rows = imported(union());
+    assert_eq!(told(rows.take(&[0u8])), format!("column \"a\": {refused}"));
+    let batch = imported(of("+s", 2, vec![None], vec![union()]));
+    assert_eq!(
+        told(batch.filter(None::<Bits>)),
+        format!("column \"a.a\": {refused}")
+    );
+}
+
+#[test]
+fn texts_and_items_behind_what_offsets_tell_are_refused() {
+    let ends = || vec![None, Some(offsets(&[0, 3, 1 << 20], false, 0))];
+    let lists = of("+l", 2, ends(), vec![of("n", 1 << 20, vec![], vec![])]);
+    let mut rows = vec![1u16; 5000];
+    let refused = "column \"a\": 2148526077 items of lists, and numbers up to 2147483647";
+    assert_eq!(told(imported(lists).take(&rows)), refused);
+    let mut buffers = ends();
+    buffers.push(Some(Buffer::exact(&vec![b'x'; 1 << 20])));
+    let texts = imported(of("u", 2, buffers, vec![]));
+    rows[0] = 0;
+    let error = texts.take(&rows).unwrap_err();
+    let column = "a".into();
+    let bytes = 3 + 2049 * ((1 << 20) - 3);
+    assert_eq!(error, ArrowError::LongTexts { column, bytes });
+}
+
+#[test]
+fn rows_of_runs_behind_what_their_ends_tell_are_refused() {
+    let ends = Some(Buffer::exact(&20_000i16.to_ne_bytes()));
+    let ends = of("s", 1, vec![None, ends], vec![]);
+    let runs = imported(of(
+        "+r",
+        20_000,
+        vec![],
+        vec![ends, of("n", 1, vec![], vec![])],
+    ));
+    let one = Export::concat(runs.field(), &[runs.clone(), runs.slice(..12_767)]).unwrap();
+    assert_eq!(raw_of(one).0.length, 32_767);
+    let refused = "column \"a\": 32768 rows of runs, and numbers up to 32767";
+    let both = [runs.clone(), runs.slice(..12_768)];
+    assert_eq!(told(Export::concat(runs.field(), &both)), refused);
+}
+
+#[test]
+fn items_behind_what_indices_tell_are_refused() {
+    let coded = |index: u8, items: usize| {
+        let items = Export::values(vec![7u8; items], None);
+        let index = Export::values([index], None)
+            .with_dictionary(items)
+            .unwrap();
+        index.named("a").into_array()
+    };
+    let [one, other] = [coded(0, 200), coded(55, 56)];
+    let joined = Export::concat(one.field(), &[one.clone(), other.clone()]).unwrap();
+    assert_eq!(joined.read_back().dictionary_indices().unwrap(), [0, 255]);
+    let refused = "column \"a\": 256 items of a dictionary, and numbers up to 255";
+    let both = [one.clone(), coded(55, 56), coded(0, 1)];
+    assert_eq!(
+        told(Export::concat(one.field(), &both)),
+        refused.replace("256", "257")
+    );
+}
+
+#[test]
+fn arrays_of_another_type_and_nulls_of_a_column_without_are_refused() {
+    let number = Field::new("a", "l").unwrap();
+    let other = Export::values([1i32], None).into_array();
+    let refused = "column \"a\": the array has \"i\", the field \"l\"";
+    assert_eq!(told(Export::concat(&number, &[other])), refused);
+    let gap = Export::values([1i64, 0], Some([true, false].into())).into_array();
+    let refused = "column \"a\": the array has the number of nulls 1, the field none";
+    let field = number.nullable(false);
+    assert_eq!(
+        told(Export::concat(&field, std::slice::from_ref(&gap))),
+        refused
+    );
+    let valid = Export::concat(&field, &[gap.slice(..1)]).unwrap();
+    assert_eq!(valid.field(), &field);
+    assert_eq!(raw_of(valid).0.null_count, 0);
+}
+
+/// A null row can't name an item where there is none.
+#[test]
+fn null_rows_above_a_dictionary_without_items_are_refused() {
+    let none = Export::values(Vec::<i8>::new(), None);
+    let coded = none
+        .with_dictionary(Export::values(Vec::<i64>::new(), None))
+        .unwrap();
+    let rows = Export::batch([coded.named("a")]).into_array();
+    let nulls = rows.take_valid(&[0u8], Bits::new(&[0], 0, 1)).unwrap();
+    assert_eq!(raw_of(nulls).0.length, 1);
+    let of = rows.field().column("a").unwrap().clone().nullable(false);
+    let rows = Export::from(rows)
+        .with_field(&Field::batch([of]))
+        .unwrap()
+        .into_array();
+    assert_eq!(
+        told(rows.take_valid(&[0u8], Bits::new(&[0], 0, 1))),
+        "column \"a\": index 0 at position 0 names none of 0 values"
+    );
+}

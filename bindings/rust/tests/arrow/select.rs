@@ -1,0 +1,202 @@
+//! Rows of each type by masks, at indices and of several arrays, compared with the rows that a
+//! plain reader finds one by one in what came and in what is handed on.
+use vortex_bits::arrow::{Array, ArrowError, Export, Field};
+use vortex_bits::{Bitmap, Bits};
+
+use crate::cells::{Cell, cells};
+use crate::export::{as_it_came, raw_of};
+use crate::made::{Maker, rounds};
+use crate::raw::{self, Count, import};
+
+fn read((mut array, mut schema): (raw::Array, raw::Schema)) -> Vec<Cell> {
+    // SAFETY: they are as the interface asks for, and aren't released.
+    unsafe {
+        let read = cells(&array, &schema);
+        array.release.unwrap()(&raw mut array);
+        schema.release.unwrap()(&raw mut schema);
+        read
+    }
+}
+
+/// The rows of what is handed on, which is as the interface asks for, by C's structs, and by an array
+/// that this crate reads and hands on again.
+#[track_caller]
+fn rows_of(export: Export) -> Vec<Cell> {
+    let (field, len) = (export.field().clone(), export.len());
+    let (array, schema) = raw_of(export);
+    // SAFETY: they are as the interface asks for.
+    let rows = unsafe { cells(&array, &schema) };
+    let again = import(array, schema).unwrap();
+    assert_eq!((again.field(), again.len(), rows.len()), (&field, len, len));
+    let start = len / 3;
+    assert_eq!(rows_as_they_came(&again.slice(start..)), rows[start..]);
+    rows
+}
+
+fn rows_as_they_came(array: &Array) -> Vec<Cell> {
+    read(as_it_came(Export::from(array.clone())))
+}
+
+fn has_union(field: &Field) -> bool {
+    field.format().starts_with("+u") || field.fields().chain(field.dictionary()).any(has_union)
+}
+
+/// Rows by chance, of a type without unions, and what they are.
+fn some(maker: &mut Maker, levels: usize) -> (Array, Vec<Cell>) {
+    loop {
+        let len = maker.one_of(&[0, 1, 5, 9, 40, 200]);
+        let (array, schema) = maker.tree(len, levels);
+        let array = import(array, schema).unwrap();
+        if !has_union(array.field()) {
+            let part = part(maker, &array);
+            let rows = rows_as_they_came(&part);
+            return (part, rows);
+        }
+    }
+}
+
+fn part(maker: &mut Maker, array: &Array) -> Array {
+    let start = maker.below(array.len().min(20) + 1);
+    let len = maker.below(array.len() - start + 1);
+    array.slice(start..start + len)
+}
+
+/// A mask by chance, from some bit of its bytes on, of single rows and of runs.
+fn mask(maker: &mut Maker, len: usize) -> Bitmap {
+    let offset = maker.below(20);
+    let each = maker.one_of(&[1, 3, 30]);
+    let all = (offset + len).div_ceil(each);
+    let runs: Vec<bool> = (0..all).map(|_| maker.below(2) == 0).collect();
+    let bits: Bitmap = (0..offset + len).map(|at| runs[at / each]).collect();
+    bits.slice(offset..)
+}
+
+#[test]
+fn rows_that_a_mask_keeps_are_those_of_a_plain_reader() {
+    let mut maker = Maker::new(11, false);
+    for _ in 0..rounds(1500) {
+        maker.count = Count::default();
+        let (array, rows) = some(&mut maker, 2);
+        let mask = mask(&mut maker, array.len());
+        let kept = array.filter(&mask).unwrap();
+        assert_eq!(kept.field(), array.field());
+        let wanted: Vec<Cell> = mask.set_indices().map(|row| rows[row].clone()).collect();
+        assert_eq!(rows_of(kept), wanted, "{array:?}");
+        assert_eq!(
+            rows_of(array.filter(None::<Bits>).unwrap()),
+            rows,
+            "{array:?}"
+        );
+    }
+}
+
+#[test]
+fn rows_at_indices_are_those_of_a_plain_reader() {
+    let mut maker = Maker::new(12, false);
+    for _ in 0..rounds(1500) {
+        maker.count = Count::default();
+        let (array, rows) = some(&mut maker, 2);
+        let len = if rows.is_empty() { 0 } else { maker.below(50) };
+        let indices: Vec<u16> = (0..len)
+            .map(|_| maker.below(rows.len()).try_into().unwrap())
+            .collect();
+        let taken = array.take(&indices).unwrap();
+        assert_eq!(taken.field(), array.field());
+        let wanted = indices.iter().map(|row| rows[usize::from(*row)].clone());
+        assert_eq!(rows_of(taken), wanted.collect::<Vec<_>>(), "{array:?}");
+    }
+}
+
+#[test]
+fn rows_at_indices_that_may_be_null_are_those_of_a_plain_reader() {
+    let mut maker = Maker::new(13, false);
+    let mut without_items = 0;
+    for _ in 0..rounds(1500) {
+        maker.count = Count::default();
+        let (array, rows) = some(&mut maker, 2);
+        let len = maker.below(50);
+        let valid = mask(&mut maker, len);
+        let valid = if rows.is_empty() {
+            Bitmap::new_unset(len)
+        } else {
+            valid
+        };
+        let of = |maker: &mut Maker| i64::try_from(maker.below(rows.len())).unwrap();
+        let indices: Vec<i64> = (0..len)
+            .map(|row| {
+                if valid[row] {
+                    of(&mut maker)
+                } else {
+                    maker.one_of(&[-1, 0, i64::MAX])
+                }
+            })
+            .collect();
+        let taken = match array.take_valid(&indices, &valid) {
+            Err(ArrowError::Take { .. }) => {
+                without_items += 1;
+                continue;
+            }
+            taken => taken.unwrap(),
+        };
+        let field = array.field();
+        assert!(!valid.all() || taken.field() == field);
+        assert_eq!(taken.field().name(), field.name());
+        assert!(taken.field().metadata().eq(field.metadata()));
+        let wanted = indices.iter().enumerate().map(|(at, row)| {
+            let row = usize::try_from(*row).ok().filter(|_| valid[at]);
+            row.map_or(Cell::Null, |row| rows[row].clone())
+        });
+        assert_eq!(rows_of(taken), wanted.collect::<Vec<_>>(), "{array:?}");
+    }
+    assert!(without_items < rounds(1500) / 100);
+}
+
+#[test]
+fn rows_of_several_arrays_are_those_of_a_plain_reader() {
+    let mut maker = Maker::new(14, false);
+    for _ in 0..rounds(1000) {
+        maker.count = Count::default();
+        let (array, _) = some(&mut maker, 2);
+        let arrays: Vec<Array> = (0..maker.below(4))
+            .map(|_| part(&mut maker, &array))
+            .collect();
+        let rows: Vec<Cell> = arrays.iter().flat_map(rows_as_they_came).collect();
+        let joined = Export::concat(array.field(), &arrays).unwrap();
+        assert_eq!(joined.field(), array.field());
+        assert_eq!(rows_of(joined), rows, "{array:?}");
+    }
+}
+
+/// Arrays of one type that share nothing: their dictionaries and buffers are put together.
+#[test]
+fn rows_of_other_arrays_are_those_of_a_plain_reader() {
+    let (mut maker, mut joined) = (Maker::new(15, false), 0);
+    let mut refused = 0;
+    let mut found: Vec<Array> = Vec::new();
+    for _ in 0..rounds(1500) {
+        let (array, rows) = some(&mut maker, 1);
+        let field = array.field().clone().nullable(true);
+        let alike = |other: &&Array| other.field().format() == field.format();
+        let others = found.iter().filter(alike).find_map(|other| {
+            let both = [other.clone(), array.clone()];
+            Some((Export::concat(&field, &both), rows_as_they_came(other)))
+                .filter(|(joined, _)| !matches!(joined, Err(ArrowError::Field { .. })))
+        });
+        match others {
+            Some((Ok(both), mut before)) => {
+                before.extend(rows);
+                assert_eq!(rows_of(both), before, "{array:?}");
+                joined += 1;
+            }
+            Some((Err(error), _)) => {
+                assert!(matches!(error, ArrowError::TooLong { .. }), "{error}");
+                refused += 1;
+            }
+            None => (),
+        }
+        found.insert(0, array);
+        found.truncate(40);
+    }
+    println!("{joined} joined, {refused} refused");
+    assert!(joined > rounds(1500) / 4 && refused < joined / 10);
+}
