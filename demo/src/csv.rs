@@ -179,7 +179,7 @@ impl<R: BufRead> Reader<R> {
             if let Some(byte) = byte {
                 return self.read_end(byte, field);
             }
-            self.check_length(rows, field, start)?;
+            check_length(rows, start, self.line, field)?;
         }
     }
 
@@ -189,7 +189,7 @@ impl<R: BufRead> Reader<R> {
         loop {
             self.consume(1);
             while self.read_to_quote(rows)? {
-                self.check_length(rows, field, start)?;
+                check_length(rows, start, opened, field)?;
             }
             if self.peek()?.is_none() {
                 return Err(malformed(opened, field, Malformed::Unclosed));
@@ -234,13 +234,6 @@ impl<R: BufRead> Reader<R> {
         Ok(End::Row)
     }
 
-    fn check_length(&self, rows: &Rows, field: usize, start: usize) -> Result<(), CsvError> {
-        if rows.bytes() - start > LONGEST_ROW {
-            return Err(malformed(self.line, field, Malformed::TooLong));
-        }
-        Ok(())
-    }
-
     fn is_end(&self, byte: u8) -> bool {
         ends(byte, self.dialect.delimiter)
     }
@@ -253,6 +246,14 @@ impl<R: BufRead> Reader<R> {
         self.input.consume(bytes);
         self.read += bytes as u64;
     }
+}
+
+/// Tests the length of the row that begins at byte `start` of `rows`; an error names this field.
+fn check_length(rows: &Rows, start: usize, line: u64, field: usize) -> Result<(), CsvError> {
+    if rows.bytes() - start > LONGEST_ROW {
+        return Err(malformed(line, field, Malformed::TooLong));
+    }
+    Ok(())
 }
 
 fn ends(byte: u8, delimiter: u8) -> bool {

@@ -118,6 +118,12 @@ fn rows_are_bounded() {
         read(&fields, COMMAS, 1 << 16).1,
         Some((1, MOST_FIELDS, Malformed::TooLong))
     );
+    // A quote that is never closed is named by the line that opens it.
+    let open = [&b"a\n\""[..], &vec![b'\n'; LONGEST_ROW + 1][..]].concat();
+    assert_eq!(
+        read(&open, COMMAS, 4096).1,
+        Some((2, 0, Malformed::TooLong))
+    );
 }
 
 #[test]

@@ -152,8 +152,16 @@ fn number(text: &str, at: usize) -> Result<(Word, usize), QueryError> {
         Some(word) if !after.is_some_and(is_of_name) => Ok((word, length)),
         _ => {
             let end = text.find(char::is_whitespace).unwrap_or(text.len());
-            let wrong = format!("{:?} isn't a number", &text[..end]);
-            Err(QueryError::new(at, wrong))
+            let wrong = &text[..end];
+            let named = wrong.starts_with('-') && wrong[1..].starts_with(is_of_name);
+            let hint = match named {
+                true => "; a name with such characters is between double quotes",
+                false => "",
+            };
+            Err(QueryError::new(
+                at,
+                format!("{wrong:?} isn't a number{hint}"),
+            ))
         }
     }
 }

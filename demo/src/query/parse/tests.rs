@@ -55,6 +55,11 @@ fn wrong_conditions() {
         ("a = 'b", 4, "the quote ' is never closed"),
         ("a = \"b", 4, "the quote \" is never closed"),
         ("a = 4b", 4, "\"4b\" isn't a number"),
+        (
+            "eol-esm is null",
+            3,
+            "\"-esm\" isn't a number; a name with such characters is between double quotes",
+        ),
         ("a = 1.2.3", 4, "\"1.2.3\" isn't a number"),
         ("a = 1e999", 4, "\"1e999\" isn't a number"),
         ("a = -", 4, "\"-\" isn't a number"),
