@@ -1,8 +1,8 @@
 /*
  * Comparisons of vortex_bits.h beside a loop over values: each function and each comparison over
  * random values near the ends of their type, of floats with what isn't a number, both infinities
- * and both zeros, into random windows, and each checked form with numbers past every limit. It is C
- * and C++ alike.
+ * and both zeros, into random windows, and each checked form with numbers past every limit; and of
+ * floats by their bits. It is C and C++ alike.
  */
 #include "tests.h"
 #include "vortex_bits.h"
@@ -78,6 +78,52 @@ enum { VALUES = 300, BYTES = VALUES / 8 + 3, ROUNDS = 200, COMPARISONS = 6 };
             "what stands after a refusal");                                                       \
     }
 
+/*
+ * Comparisons of floats beside those that are written out by their bits: each of some floats with
+ * each, among them both zeros, subnormals, and NaNs, signalling, quiet and with a payload, of both
+ * signs. Loads alone make them, so that no operation quiets a NaN. What is called by value may.
+ */
+#define BY_BITS(T, value, form, SIGN, INFINITE, UNIT)                                             \
+    static bool holds_by_bits_##T(uint8_t op, form a, form b)                                     \
+    {                                                                                             \
+        const int64_t left = (int64_t)(a & (SIGN - 1)), right = (int64_t)(b & (SIGN - 1));        \
+        if (left > (int64_t)INFINITE || right > (int64_t)INFINITE) {                              \
+            return op == VB_NOT_EQUAL;                                                            \
+        }                                                                                         \
+        return holds_i64(op, a & SIGN ? -left : left, b & SIGN ? -right : right);                 \
+    }                                                                                             \
+                                                                                                  \
+    static void compares_bits_##T(void)                                                           \
+    {                                                                                             \
+        static const form bits[] = {0, 1, UNIT - 1, UNIT, SIGN / 4, SIGN / 4 + 1, INFINITE - 1,   \
+            INFINITE, INFINITE + 1, INFINITE + UNIT / 2 - 1, INFINITE + UNIT / 2,                 \
+            INFINITE + UNIT / 2 + 5, SIGN - 1};                                                   \
+        enum { HALF = sizeof bits / sizeof *bits, KINDS = 2 * HALF, PAIRS = KINDS * KINDS };      \
+        static form left[PAIRS], right[PAIRS];                                                    \
+        static value values[PAIRS], others[PAIRS];                                                \
+        uint8_t wanted[PAIRS / 8 + 2], got[PAIRS / 8 + 2];                                        \
+        for (size_t i = 0; i < PAIRS; i++) {                                                      \
+            left[i] = bits[i % HALF] + (i / HALF % 2 == 0 ? 0 : SIGN);                            \
+            right[i] = bits[i / KINDS % HALF] + (i / KINDS < HALF ? 0 : SIGN);                    \
+        }                                                                                         \
+        memcpy(values, left, sizeof values);                                                      \
+        memcpy(others, right, sizeof others);                                                     \
+        for (uint8_t op = 0; op < COMPARISONS; op++) {                                            \
+            memset(wanted, 0x5A, sizeof wanted);                                                  \
+            memset(got, 0x5A, sizeof got);                                                        \
+            for (size_t i = 0; i < PAIRS; i++) {                                                  \
+                put(wanted, 3 + i, holds_by_bits_##T(op, left[i], right[i]));                     \
+            }                                                                                     \
+            vb_compare_with_##T(got, sizeof got, 3, values, PAIRS, op, others, PAIRS);            \
+            check(memcmp(got, wanted, sizeof got) == 0, "floats of any bits, " #T);               \
+            for (size_t k = 0; k < KINDS; k++) {                                                  \
+                vb_compare_##T(got, sizeof got, 3 + k * KINDS, values, KINDS, op,                 \
+                    others[k * KINDS]);                                                           \
+            }                                                                                     \
+            check(memcmp(got, wanted, sizeof got) == 0, "a float of any bits, " #T);              \
+        }                                                                                         \
+    }
+
 #define NUMBERS(X)                                                                                \
     X(u8, uint8_t) X(u16, uint16_t) X(u32, uint32_t) X(u64, uint64_t) X(i8, int8_t)               \
     X(i16, int16_t) X(i32, int32_t) X(i64, int64_t)
@@ -87,6 +133,8 @@ enum { VALUES = 300, BYTES = VALUES / 8 + 3, ROUNDS = 200, COMPARISONS = 6 };
 NUMBERS(WHOLE)
 FLOATS(FLOAT)
 ALL(COMPARES)
+BY_BITS(f32, float, uint32_t, 0x80000000u, 0x7F800000u, 0x00800000u)
+BY_BITS(f64, double, uint64_t, 0x8000000000000000u, 0x7FF0000000000000u, 0x0010000000000000u)
 
 #define RUN(T, value) compares_##T();
 
@@ -95,5 +143,7 @@ int main(void)
     for (int round = 0; round < ROUNDS; round++) {
         ALL(RUN)
     }
+    compares_bits_f32();
+    compares_bits_f64();
     return failures == 0 ? 0 : 1;
 }
