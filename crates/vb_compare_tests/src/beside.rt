@@ -1,30 +1,10 @@
-//! Comparisons beside a plain loop.
-ghost use Rattle.std.specs.Prelude.{IsTrue};
-
+//! Comparisons of whole numbers beside a plain loop.
 use crate::values::{value, values};
+use crate::written::{ALL, Pairs, ROOM, STALE, are_written, holds};
 use std::alloc::Global;
 use std::process::Abort;
-use vb_bits::{get_bit, window_fits};
+use vb_bits::window_fits;
 use vb_compare::{CompareLanes, Comparison, compare_into, compare_with_into};
-
-/// The condition holds.
-fn holds(rt: &impl Abort, condition: bool)
-    ensures { IsTrue condition }
-{
-    assert!(rt; condition);
-}
-
-const ALL: [Comparison; 6] = [
-    Comparison::Equal,
-    Comparison::NotEqual,
-    Comparison::Less,
-    Comparison::LessOrEqual,
-    Comparison::Greater,
-    Comparison::GreaterOrEqual,
-];
-
-/// As many bytes as hold the longest one from any offset on.
-const ROOM: usize = 150;
 
 /// Longer ones.
 const LONG: [usize; 4] = [256, 511, 1000, 1027];
@@ -41,30 +21,21 @@ fn answer<T: Ord>(left: &T, op: Comparison, right: &T) -> bool {
     }
 }
 
-/// The bits from bit `offset` on are those answers, and those before and behind them those of
-/// `0x5A`.
-fn are_written<T: Ord + Copy>(
-    rt: &impl Abort,
-    out: &[u8],
-    offset: usize,
-    left: &[T],
+/// Values and others, and how they are compared.
+#[derive(Drop)]
+struct Values<'a, T> {
+    left: &'a [T],
     op: Comparison,
-    right: &[T],
-) {
-    let end = offset.saturating_add(left.len()).saturating_add(16);
-    for i in 0..end.min(8 * out.len().min(ROOM)) {
-        let stale = (0x5A_u8 >> (i % 8)) & 1 == 1;
-        let inside = offset <= i && i - offset < left.len() && i - offset < right.len();
-        let wanted = if inside {
-            answer(&left[i - offset], op, &right[i - offset])
-        } else {
-            stale
-        };
-        assert!(rt; get_bit(out, i) == wanted);
+    right: &'a [T],
+}
+
+impl<T: Ord> Pairs for Values<'_, T> {
+    fn answer(&self, k: usize) -> Option<bool> {
+        Some(answer(self.left.get(k)?, self.op, self.right.get(k)?))
     }
 }
 
-/// Compares the first `len` values with the first others, and with one number.
+/// Compares the values with the others, and with one number.
 fn at_offset<T: CompareLanes + Ord>(
     rt: &impl Abort,
     alloc: Global,
@@ -78,15 +49,20 @@ fn at_offset<T: CompareLanes + Ord>(
         same.push(number).expect(rt, "room");
     }
     for op in ALL {
-        let mut out = [0x5A; ROOM];
+        let mut out = [STALE; ROOM];
         holds(rt, window_fits(&out, offset, left.len()));
         compare_into(&mut out, offset, left, op, number);
-        are_written(rt, &out, offset, left, op, &same);
-        let mut out = [0x5A; ROOM];
+        let pairs = Values {
+            left,
+            op,
+            right: &same,
+        };
+        are_written(rt, &out, (offset, left.len()), &pairs);
+        let mut out = [STALE; ROOM];
         holds(rt, window_fits(&out, offset, left.len()));
         holds(rt, left.len() == right.len());
         compare_with_into(&mut out, offset, left, op, right);
-        are_written(rt, &out, offset, left, op, right);
+        are_written(rt, &out, (offset, left.len()), &Values { left, op, right });
     }
     drop(same);
 }
