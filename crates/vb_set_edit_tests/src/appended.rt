@@ -125,24 +125,22 @@ fn long_lists_are_added(rt: HostRuntime) {
 const THOUSAND: [bool; 1000] = [true; 1000];
 
 /// Adds a thousand true bits to a few, by an iterator. Where it is refused memory, as many of them
-/// stand as there was room for, at most 64 more are lost, and those behind them are left.
+/// stand as there was room for. They are polled by 64: the last ones are the 64 of which some found
+/// no room, and those behind them are left.
 fn fill<A: Allocator + Clone>(rt: &impl Abort, made: Result<BitBufferMut<A>>) -> Result<()> {
     let mut set = made?;
     let before = set.len();
     let mut bits = THOUSAND.iter().copied();
     let answer = set.extend(bits.by_ref());
-    let given = THOUSAND.len().saturating_sub(bits.len());
-    let (len, lost) = if answer.is_ok() {
-        (before.saturating_add(1000), 0)
+    let polled = THOUSAND.len().saturating_sub(bits.len());
+    let words = set.len().saturating_sub(before) / 64;
+    let (len, wanted) = if answer.is_ok() {
+        (before.saturating_add(1000), 1000)
     } else {
-        (set.capacity(), 64)
+        (set.capacity(), words.saturating_add(1).saturating_mul(64))
     };
     equal(rt, (set.len(), set.as_view().true_count()), (len, len));
-    equal(
-        rt,
-        given <= len.saturating_sub(before).saturating_add(lost),
-        true,
-    );
+    equal(rt, polled, wanted.min(1000));
     drop(set);
     answer
 }
