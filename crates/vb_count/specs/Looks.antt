@@ -1,6 +1,8 @@
 -- Looks at a source of bytes. A look is one read of a chunk of 64 bytes, of a word of eight, or of
 -- a byte.
-use Rattle.std.specs.Prelude.{◌≡◌, ℕ, List, ◌+◌, ◌-◌, ◌/◌, ◌%◌, ◌≤◌, min}
+use Rattle.std.specs.Prelude.{◌≡◌, ◌⊎◌, ℕ, List, ◌+◌, ◌-◌, ◌/◌, ◌%◌, ◌<◌, ◌≤◌, min}
+use Rattle.std.specs.Prelude.{Bool, IsTrue}
+use Rattle.vb_bits.specs.Bits.{at}
 
 -- bytes, and how many looks they have had
 pub record CountedBytes : Type 0 where
@@ -29,3 +31,29 @@ looks o n =
 -- the looks that n bits from a whole byte on take without chunks: words, bytes and a part of a byte
 abbrev pub rest_looks : ℕ → ℕ
 rest_looks n = n / 64 + n % 64 / 8 + min (n % 8) 1
+
+-- n bits from bit a on that one look reads: the 512 of a chunk, the 64 of a word, or at most eight
+-- of one byte
+pub record IsLook (a n : ℕ) : Type 0 where
+  pub some : 0 < n
+  pub unit : 8 < n → (n ≡ 64) ⊎ (n ≡ 512)
+  pub whole : 8 < n → a % 8 ≡ 0
+  pub in_byte : n ≤ 8 → a % 8 + n ≤ 8
+
+-- n of m bits at a whole byte that one look reads: as many as a chunk, a word or a byte has, or all
+pub record IsWholeLook (m n : ℕ) : Type 0 where
+  pub chunk : 512 ≤ m → n ≡ 512
+  pub word : m < 512 → 64 ≤ m → n ≡ 64
+  pub byte : m < 64 → n ≡ min m 8
+
+-- a search of the values l, which begin at bit o, from place a to the back: if one of them is true,
+-- the looks are at most those of a count of the bits from place a up to it, with it
+abbrev pub StopsAtNext : List Bool → ℕ → ℕ → CountedBytes → CountedBytes → Type 0
+StopsAtNext l o a before after =
+    (p : ℕ) → a ≤ p → IsTrue (at l p) → LooksAtMost (looks (o + a) (p + 1 - a)) before after
+
+-- a search of them to the front, of those before place e: if one of them is true, the looks are at
+-- most those of a count of the bits from it on, with it, up to place e
+abbrev pub StopsAtPrevious : List Bool → ℕ → ℕ → CountedBytes → CountedBytes → Type 0
+StopsAtPrevious l o e before after =
+    (p : ℕ) → p < e → IsTrue (at l p) → LooksAtMost (looks (o + p) (e - p)) before after

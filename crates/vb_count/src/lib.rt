@@ -22,5 +22,5 @@ pub use chunk::chunk_ones;
 pub use count::{add_chunks, count_ones, count_ones_by};
 pub use glance::{Glance, Plain, Tally};
 pub use lane_sum::LaneSum;
-pub use looks::most_looks;
+pub use looks::{first_look, last_look, most_looks};
 pub use word::{byte_part, digit_ones, matching_word};

@@ -1,6 +1,6 @@
-//! A bound on the looks that a window takes.
-ghost use Rattle.std.specs.Prelude.{◌≡◌, ℕ, ◌+◌, ◌/◌, ◌≤◌};
-ghost use Rattle.vb_count.specs.Looks.{looks};
+//! The looks that a window takes: a bound on them, and which bits each of them reads.
+ghost use Rattle.std.specs.Prelude.{◌≡◌, ℕ, ◌+◌, ◌-◌, ◌/◌, ◌%◌, ◌^◌, ◌<◌, ◌≤◌, min};
+ghost use Rattle.vb_count.specs.Looks.{looks, IsLook, IsWholeLook};
 
 /// `len / 512 + 16`: an upper bound on the looks that [`count_ones_by`](crate::count_ones_by),
 /// `bit_select_by` or `bit_select_unset_by` takes over `len` bits, at any offset. A look is one
@@ -14,4 +14,58 @@ pub fn most_looks(len: usize) -> usize
     ensures short { len ≤ 512 → (offset : ℕ) → looks offset len ≤ 16 }
 {
     len / 512 + 16
+}
+
+/// Returns how many of the `len` bits from bit `at` on the first look reads, if they are read from
+/// front to back: those of a partial first byte, else the bits of a chunk, a word or a byte,
+/// whichever is the largest that they fill, else all of them.
+///
+/// A count that looks so at one part after the other takes the looks of
+/// [`count_ones_by`](crate::count_ones_by).
+pub fn first_look(at: usize, len: usize) -> usize
+    requires some { 0 < len }
+    ensures look { IsLook at result }
+    ensures within { result ≤ len }
+    ensures head { 0 < at % 8 → result ≡ min len (8 - at % 8) }
+    ensures whole { at % 8 ≡ 0 → IsWholeLook len result }
+    ensures one { (n : ℕ) → result ≤ n → n ≤ len
+        → looks at n ≡ 1 + looks (at + result) (n - result) }
+{
+    let head = (8 - at % 8) % 8;
+    if head > 0 {
+        len.min(head)
+    } else {
+        whole_look(len)
+    }
+}
+
+/// Returns how many of the `len` bits from bit `offset` on the first look reads, if they are read
+/// from back to front: those of a partial last byte, and else as [`first_look`] does.
+pub fn last_look(offset: usize, len: usize) -> usize
+    requires some { 0 < len }
+    requires fits { offset + len < 2 ^ 64 }
+    ensures look { IsLook (offset + (len - result)) result }
+    ensures within { result ≤ len }
+    ensures one { (p : ℕ) → p + result ≤ len
+        → looks (offset + p) (len - p) ≡ 1 + looks (offset + p) (len - result - p) }
+{
+    let tail = (offset + len) % 8;
+    if tail > 0 {
+        len.min(tail)
+    } else {
+        whole_look(len)
+    }
+}
+
+/// How many of `len` bits at a whole byte one look reads.
+fn whole_look(len: usize) -> usize
+    ensures { IsWholeLook len result }
+{
+    if len >= 512 {
+        512
+    } else if len >= 64 {
+        64
+    } else {
+        len.min(8)
+    }
 }
