@@ -1,2 +1,3 @@
 pub mod MergedLemmas
 pub mod BesideLemmas
+pub mod StopsLemmas

@@ -1,5 +1,8 @@
 -- Looks at a window that is read beside another one.
 use Rattle.std.specs.Prelude.{◌≡◌, ℕ, ◌+◌, ◌-◌, ◌*◌, ◌/◌, ◌%◌, ◌<◌, List, get_or, min}
+use Rattle.std.specs.Prelude.{Bool, IsTrue}
+use Rattle.vb_bits.specs.Bits.{at}
+use Rattle.vb_count.specs.Looks.{looks, LooksAtMost, CountedBytes}
 
 -- how many bits from bit p on are in the byte that is held: none if bit p is the first of its byte
 abbrev pub bits_held : ℕ → ℕ
@@ -23,3 +26,9 @@ looks_beside o p n =
     let t = (n - h) % 8 in
     min (min n (p % 8)) 1 + part_looks p h + m / 64 + m % 64 / 8 + m % 8
     + part_looks (p + h + 8 * m) t
+
+-- a search of the values l, which begin at bit o of the other source, to the back: if one of them
+-- is true, the looks are at most one more than those of a count of the bits up to it, with it
+abbrev pub StopsBeside : List Bool → ℕ → CountedBytes → CountedBytes → Type 0
+StopsBeside l o before after =
+    (p : ℕ) → IsTrue (at l p) → LooksAtMost (looks o (p + 1) + 1) before after

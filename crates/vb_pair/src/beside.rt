@@ -7,7 +7,7 @@
 ghost use Rattle.std.specs.Prelude.{◌≡◌, ◌+◌, ◌-◌, ◌*◌, ◌/◌, ◌%◌, ◌^◌, ◌<◌, ◌≤◌, [], ◌∷◌, length};
 ghost use Rattle.std.specs.Prelude.{min, slice_index};
 ghost use Rattle.vb_bits.specs.InBytes.{InBytes};
-ghost use Rattle.vb_count.specs.Looks.{looks, LooksExactly};
+ghost use Rattle.vb_count.specs.Looks.{looks, LooksExactly, IsLook};
 ghost use Rattle.vb_pair.specs.Beside.{IsHeld, looks_beside, part_looks};
 ghost use Rattle.vb_pair.specs.Merged.{merged_ones};
 
@@ -230,8 +230,36 @@ fn count_part<M: Merge, L: Glance, R: Glance>(
     unit_ones::<M>(&unit, l % 8, held, r % 8, &other, len)
 }
 
+/// Counts `n` bits from bit `l` and bit `r` on, which one look at `left` reads.
+pub(crate) fn count_look<M: Merge, L: Glance, R: Glance>(
+    left: &mut L,
+    l: usize,
+    right: &mut R,
+    r: usize,
+    held: &mut u8,
+    n: usize,
+) -> usize
+    requires look { IsLook l n }
+    requires left { l + n ≤ 8 * length (L.seen left.old).bytes }
+    requires right { InBytes (R.seen right.old).bytes r n }
+    requires held { IsHeld (R.seen right.old).bytes r held.old }
+    ensures value { result ≡ merged_ones (M.bit)
+        (L.seen left.old).bytes l (R.seen right.old).bytes r n }
+    ensures looks { LooksExactly 1 (L.seen left.old) (L.seen left.new) }
+    ensures beside { LooksExactly (part_looks r n) (R.seen right.old) (R.seen right.new) }
+    ensures held { IsHeld (R.seen right.old).bytes (r + n) held.new }
+{
+    if n <= 8 {
+        count_part::<M, L, R>(left, l, right, r, held, n)
+    } else if n == 64 {
+        count_word::<M, L, R>(left, l / 8, right, r, held)
+    } else {
+        count_chunk::<M, L, R>(left, l / 8, right, r, held)
+    }
+}
+
 /// Returns byte `at` if `bits` of it are needed, else `held` without a look.
-fn next_byte<G: Glance>(src: &mut G, at: usize, bits: usize, held: u8) -> u8
+pub(crate) fn next_byte<G: Glance>(src: &mut G, at: usize, bits: usize, held: u8) -> u8
     requires { 0 < bits → at < length (G.seen src.old).bytes }
     ensures value { 0 < bits → result ≡ slice_index (G.seen src.old).bytes at }
     ensures stays { bits ≡ 0 → result ≡ held }

@@ -15,4 +15,4 @@ pub use operator::{
     and_count, and_count_by, andnot_count, andnot_count_by, or_count, or_count_by, xor_count,
     xor_count_by,
 };
-pub use relation::{is_disjoint, is_subset};
+pub use relation::{is_disjoint, is_disjoint_by, is_subset, is_subset_by};
