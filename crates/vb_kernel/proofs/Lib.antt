@@ -1,4 +1,5 @@
 pub mod SearchesLemmas
+pub mod StopsLemmas
 pub mod UnitsLemmas
 pub mod NearestLemmas
 pub mod LastLemmas

@@ -1,7 +1,10 @@
 -- A search that goes from list to list with what is left of a rank.
-use Rattle.std.specs.Prelude.{◌≡◌, ℕ, ◌+◌, ◌*◌, ◌^◌, ◌<◌, ◌≤◌, Bool, List, Some, length}
+use Rattle.std.specs.Prelude.{◌≡◌, ℕ, ◌+◌, ◌-◌, ◌*◌, ◌^◌, ◌<◌, ◌≤◌, Bool, List, Option, Some}
+use Rattle.std.specs.Prelude.{length}
 use Rattle.std.below.core.specs.declared.ops.ControlFlow.{ControlFlow}
 use Rattle.std.below.core.specs.declared.ops.ControlFlow.TheVariants.{Continue, Break}
+use Rattle.vb_kernel.specs.declared.nearest.Nearest.{Nearest}
+use Rattle.vb_kernel.specs.declared.nearest.Nearest.TheVariants.{First, Last}
 use Rattle.vb_kernel.specs.declared.search.Search.{Search}
 use Rattle.vb_bits.specs.Bits.{bits, count, Selects}
 use Rattle.vb_count.specs.Hits.{hits}
@@ -23,3 +26,12 @@ SearchAnswers bytes s n r = Searched
     (hits s.value (bits bytes s.offset (s.from + n)))
     (s.n + count (hits s.value (bits bytes s.offset s.from)))
     r
+
+-- the rank of the nearest of n values that are sought
+abbrev pub rank_of : Nearest → ℕ → ℕ
+rank_of First n = 0
+rank_of Last n = n - 1
+
+-- the place of the nearest true value of the list, or None where there is none
+abbrev pub SelectsNearest : Nearest → List Bool → Option ℕ → Type 0
+SelectsNearest which l r = Selects l (rank_of which (count l)) r

@@ -1,13 +1,16 @@
 //! The last bit that is sought, and the last one before a place.
-ghost use Rattle.std.specs.Prelude.{ℕ, ◌≡◌, ◌+◌, ◌*◌, ◌%◌, ◌^◌, ◌<◌, ◌≤◌, not, length};
+ghost use Rattle.std.specs.Prelude.{ℕ, ◌≡◌, ◌+◌, ◌*◌, ◌%◌, ◌^◌, ◌<◌, ◌≤◌, not, length, min};
 ghost use Rattle.vb_bits.specs.Bits.{bit_of, bits, complement};
 ghost use Rattle.vb_bits.specs.InBytes.{InBytes};
 ghost use Rattle.vb_bits.specs.Nearest.{IsPrevious};
 ghost use Rattle.vb_bits.specs.Runs.{last_place};
 ghost use Rattle.vb_count.specs.Hits.{hits};
+ghost use Rattle.vb_count.specs.Looks.{looks, LooksAtMost, StopsAtPrevious};
 
+use crate::nearest::{Nearest, nearest_in_look};
 use crate::next::read_matches;
 use vb_bits::word_at;
+use vb_count::{Glance, last_look};
 use vb_walk::others;
 
 /// How many words are looked at together, so that one test serves all of them.
@@ -44,6 +47,90 @@ pub fn previous_unset(bytes: &[u8], offset: usize, len: usize, before: usize) ->
     ensures { IsPrevious (complement (bits bytes.now offset len)) before result }
 {
     last_match(bytes, offset, len.min(before), false)
+}
+
+/// [`last_set_index`] of a counted source: the place of the last true bit of the window; `None` if
+/// it has none.
+///
+/// It takes at most the looks of [`count_ones_by`](crate::count_ones_by) over the bits from its
+/// answer on, with it, up to the end (clause `stops`); if there is none, over all of them (clause
+/// `looks`). [`most_looks`](crate::most_looks) bounds both. Does not allocate. The window must fit
+/// in the source, and end below 2^64.
+pub fn last_set_index_by<G: Glance>(src: &mut G, offset: usize, len: usize) -> Option<usize>
+    requires window { InBytes (G.seen src.old).bytes offset len }
+    ensures value { result ≡ last_place (bits (G.seen src.old).bytes offset len) }
+    ensures looks { LooksAtMost (looks offset len) (G.seen src.old) (G.seen src.new) }
+    ensures stops { StopsAtPrevious (bits (G.seen src.old).bytes offset len) offset len
+        (G.seen src.old) (G.seen src.new) }
+{
+    last_match_by(src, offset, len, true)
+}
+
+/// [`previous_set`] of a counted source: the last true bit before place `before`, as its place in
+/// the window; `None` if there is none.
+///
+/// It takes at most the looks of [`count_ones_by`](crate::count_ones_by) over the bits from its
+/// answer on, with it, up to place `before` (clause `stops`); if there is none, over all before it
+/// (clause `looks`). [`most_looks`](crate::most_looks) bounds both. Does not allocate. The window
+/// must fit in the source, and end below 2^64.
+pub fn previous_set_by<G: Glance>(
+    src: &mut G,
+    offset: usize,
+    len: usize,
+    before: usize,
+) -> Option<usize>
+    requires window { InBytes (G.seen src.old).bytes offset len }
+    ensures value { IsPrevious (bits (G.seen src.old).bytes offset len) before result }
+    ensures looks { LooksAtMost (looks offset (min len before)) (G.seen src.old) (G.seen src.new) }
+    ensures stops { StopsAtPrevious (bits (G.seen src.old).bytes offset len) offset (min len before)
+        (G.seen src.old) (G.seen src.new) }
+{
+    last_match_by(src, offset, len.min(before), true)
+}
+
+/// [`previous_unset`] of a counted source: the last false bit before place `before`, as its place
+/// in the window; `None` if there is none.
+///
+/// It takes at most the looks of [`count_ones_by`](crate::count_ones_by) over the bits from its
+/// answer on, with it, up to place `before` (clause `stops`); if there is none, over all before it
+/// (clause `looks`). [`most_looks`](crate::most_looks) bounds both. Does not allocate. The window
+/// must fit in the source, and end below 2^64.
+pub fn previous_unset_by<G: Glance>(
+    src: &mut G,
+    offset: usize,
+    len: usize,
+    before: usize,
+) -> Option<usize>
+    requires window { InBytes (G.seen src.old).bytes offset len }
+    ensures value { IsPrevious (complement (bits (G.seen src.old).bytes offset len)) before result }
+    ensures looks { LooksAtMost (looks offset (min len before)) (G.seen src.old) (G.seen src.new) }
+    ensures stops { StopsAtPrevious (complement (bits (G.seen src.old).bytes offset len)) offset
+        (min len before) (G.seen src.old) (G.seen src.new) }
+{
+    last_match_by(src, offset, len.min(before), false)
+}
+
+/// The place of the last bit that is `value`.
+///
+/// Inlined, so that the search for true bits and that for false bits have loops of their own.
+#[inline(always)]
+fn last_match_by<G: Glance>(src: &mut G, offset: usize, len: usize, value: bool) -> Option<usize>
+    requires window { InBytes (G.seen src.old).bytes offset len }
+    ensures value { IsPrevious (hits value (bits (G.seen src.old).bytes offset len)) len result }
+    ensures looks { LooksAtMost (looks offset len) (G.seen src.old) (G.seen src.new) }
+    ensures stops { StopsAtPrevious (hits value (bits (G.seen src.old).bytes offset len)) offset len
+        (G.seen src.old) (G.seen src.new) }
+{
+    let mut left = len;
+    while left > 0 {
+        let bits = last_look(offset, left);
+        let from = left - bits;
+        match nearest_in_look(src, offset + from, bits, value, Nearest::Last) {
+            Some(place) => return Some(from + place),
+            None => left = from,
+        }
+    }
+    None
 }
 
 /// The place of the last bit that is `value`.

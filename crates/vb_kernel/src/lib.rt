@@ -4,21 +4,28 @@
 //! bytes, and its end has to be a `usize`; [`window_fits`] is the test. Places and counts are of
 //! bits, relative to the window.
 //!
-//! Counting and selecting read a [`Glance`], a source of bytes that counts its reads: see
-//! [`count_ones_by`] for the exact number, and [`most_looks`] for a bound on it. The calls of
-//! `vb_bits` and `vb_pack` are given on.
+//! The calls that end in `_by` read a [`Glance`], a source of bytes that counts its reads: see
+//! [`count_ones_by`] for the exact number, and [`most_looks`] for a bound on it. Those that search
+//! stop at what they find: they take at most the looks of a count of the bits up to it. The calls
+//! of `vb_bits` and `vb_pack` are given on.
 #![tactic(auto)]
 
 mod chunk;
 mod last;
+mod nearest;
 mod next;
 mod parts;
 mod search;
 mod select;
 mod unit;
 
-pub use last::{last_set_index, previous_set, previous_unset};
-pub use next::{all_set, any_set, next_set, next_unset};
+pub use last::{
+    last_set_index, last_set_index_by, previous_set, previous_set_by, previous_unset,
+    previous_unset_by,
+};
+pub use next::{
+    all_set, all_set_by, any_set, any_set_by, next_set, next_set_by, next_unset, next_unset_by,
+};
 pub use select::{bit_select, bit_select_by, bit_select_unset, bit_select_unset_by};
 pub use vb_bits::{
     BitOp, copy_bits, equal_bits, fill_bits, full_word, get_bit, get_bit_unchecked, map_words,
@@ -32,6 +39,6 @@ pub use vb_pack::{
     pack_bools_into_words, splice_word_at_bit,
 };
 pub use vb_pair::{
-    and_count, and_count_by, andnot_count, andnot_count_by, is_disjoint, is_subset, or_count,
-    or_count_by, xor_count, xor_count_by,
+    and_count, and_count_by, andnot_count, andnot_count_by, is_disjoint, is_disjoint_by, is_subset,
+    is_subset_by, or_count, or_count_by, xor_count, xor_count_by,
 };

@@ -5,8 +5,11 @@ ghost use Rattle.vb_bits.specs.Digits.{digits};
 ghost use Rattle.vb_bits.specs.InBytes.{InBytes};
 ghost use Rattle.vb_bits.specs.Nearest.{IsNext};
 ghost use Rattle.vb_count.specs.Hits.{hits};
+ghost use Rattle.vb_count.specs.Looks.{looks, LooksAtMost, StopsAtNext};
 
+use crate::nearest::{Nearest, nearest_in_look};
 use vb_bits::{low_digits, read_bits, word_at};
+use vb_count::{Glance, first_look};
 use vb_walk::{first_other, others};
 
 /// The first true bit from place `from` on, as its place in the window; `None` where there is
@@ -47,6 +50,108 @@ pub fn all_set(bytes: &[u8], offset: usize, len: usize) -> bool
     ensures { IsTrue result ↔ (count (bits bytes.now offset len) ≡ len) }
 {
     next_unset(bytes, offset, len, 0).is_none()
+}
+
+/// [`next_set`] of a counted source: the first true bit from place `from` on, as its place in the
+/// window; `None` if there is none.
+///
+/// It takes at most the looks of [`count_ones_by`](crate::count_ones_by) over the bits from place
+/// `from` up to its answer, with it (clause `stops`); if there is none, over all from place `from`
+/// on (clause `looks`). [`most_looks`](crate::most_looks) bounds both. Does not allocate. The
+/// window must fit in the source, and end below 2^64.
+pub fn next_set_by<G: Glance>(src: &mut G, offset: usize, len: usize, from: usize) -> Option<usize>
+    requires window { InBytes (G.seen src.old).bytes offset len }
+    ensures value { IsNext (bits (G.seen src.old).bytes offset len) from result }
+    ensures looks { LooksAtMost (looks (offset + from) (len - from))
+        (G.seen src.old) (G.seen src.new) }
+    ensures stops { StopsAtNext (bits (G.seen src.old).bytes offset len) offset from
+        (G.seen src.old) (G.seen src.new) }
+{
+    next_match_by(src, offset, len, from, true)
+}
+
+/// [`next_unset`] of a counted source: the first false bit from place `from` on, as its place in
+/// the window; `None` if there is none.
+///
+/// It takes at most the looks of [`count_ones_by`](crate::count_ones_by) over the bits from place
+/// `from` up to its answer, with it (clause `stops`); if there is none, over all from place `from`
+/// on (clause `looks`). [`most_looks`](crate::most_looks) bounds both. Does not allocate. The
+/// window must fit in the source, and end below 2^64.
+pub fn next_unset_by<G: Glance>(
+    src: &mut G,
+    offset: usize,
+    len: usize,
+    from: usize,
+) -> Option<usize>
+    requires window { InBytes (G.seen src.old).bytes offset len }
+    ensures value { IsNext (complement (bits (G.seen src.old).bytes offset len)) from result }
+    ensures looks { LooksAtMost (looks (offset + from) (len - from))
+        (G.seen src.old) (G.seen src.new) }
+    ensures stops { StopsAtNext (complement (bits (G.seen src.old).bytes offset len)) offset from
+        (G.seen src.old) (G.seen src.new) }
+{
+    next_match_by(src, offset, len, from, false)
+}
+
+/// [`any_set`] of a counted source: whether a bit of the window is true.
+///
+/// It takes at most the looks of [`count_ones_by`](crate::count_ones_by) over the bits up to the
+/// first true one, with it (clause `stops`); if there is none, over all (clause `looks`).
+/// [`most_looks`](crate::most_looks) bounds both. Does not allocate. The window must fit in the
+/// source, and end below 2^64.
+pub fn any_set_by<G: Glance>(src: &mut G, offset: usize, len: usize) -> bool
+    requires window { InBytes (G.seen src.old).bytes offset len }
+    ensures value { IsTrue result ↔ (0 < count (bits (G.seen src.old).bytes offset len)) }
+    ensures looks { LooksAtMost (looks offset len) (G.seen src.old) (G.seen src.new) }
+    ensures stops { StopsAtNext (bits (G.seen src.old).bytes offset len) offset 0
+        (G.seen src.old) (G.seen src.new) }
+{
+    next_set_by(src, offset, len, 0).is_some()
+}
+
+/// [`all_set`] of a counted source: whether each bit of the window is true.
+///
+/// It takes at most the looks of [`count_ones_by`](crate::count_ones_by) over the bits up to the
+/// first false one, with it (clause `stops`); if there is none, over all (clause `looks`).
+/// [`most_looks`](crate::most_looks) bounds both. Does not allocate. The window must fit in the
+/// source, and end below 2^64.
+pub fn all_set_by<G: Glance>(src: &mut G, offset: usize, len: usize) -> bool
+    requires window { InBytes (G.seen src.old).bytes offset len }
+    ensures value { IsTrue result ↔ (count (bits (G.seen src.old).bytes offset len) ≡ len) }
+    ensures looks { LooksAtMost (looks offset len) (G.seen src.old) (G.seen src.new) }
+    ensures stops { StopsAtNext (complement (bits (G.seen src.old).bytes offset len)) offset 0
+        (G.seen src.old) (G.seen src.new) }
+{
+    next_unset_by(src, offset, len, 0).is_none()
+}
+
+/// The first bit from place `from` on that is `value`.
+///
+/// Inlined, so that the search for true bits and that for false bits have code of their own.
+#[inline(always)]
+fn next_match_by<G: Glance>(
+    src: &mut G,
+    offset: usize,
+    len: usize,
+    from: usize,
+    value: bool,
+) -> Option<usize>
+    requires window { InBytes (G.seen src.old).bytes offset len }
+    ensures value { IsNext (hits value (bits (G.seen src.old).bytes offset len)) from result }
+    ensures looks { LooksAtMost (looks (offset + from) (len - from))
+        (G.seen src.old) (G.seen src.new) }
+    ensures stops { StopsAtNext (hits value (bits (G.seen src.old).bytes offset len)) offset from
+        (G.seen src.old) (G.seen src.new) }
+{
+    let mut at = from;
+    while at < len {
+        let bits = first_look(offset + at, len - at);
+        match nearest_in_look(src, offset + at, bits, value, Nearest::First) {
+            Some(place) => return Some(at + place),
+            None => at += bits,
+        }
+    }
+    None
 }
 
 /// The first bit from place `from` on that is `value`.

@@ -23,3 +23,5 @@ mod plain;
 mod sample;
 #[cfg(test)]
 mod selects;
+#[cfg(test)]
+mod stops;
