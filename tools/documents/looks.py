@@ -19,6 +19,8 @@ KIND = re.compile(r"(\w+): (?:\w+ \+ )*Glance\b")
 PARAMETER = re.compile(r"(\w+): &mut (?:impl )?(\w+)")
 NAME = re.compile(r"`(\w+)`")
 MOST = "most_looks"
+# The looks of a window, or of a part of it: at most as many bits as `len`.
+OF_PART = re.compile(r"looks (?:\w+|\(\w+ \+ \w+\)) (?:len|\(len - \w+\)|\(min len \w+\))")
 # What a clause says that bounds a number of looks, where it is of the call, and of `most_looks`.
 BOUNDS = {"most": "{} ≤ len / 512 + 16", "short": "len ≤ 512 → {} ≤ 16"}
 OF_MOST = {
@@ -73,10 +75,10 @@ def unbounded(row: Row, contract: str, most: dict[str, str]) -> str | None:
     counted = re.fullmatch(said, own.get(row.clause, ""))
     if counted is None:
         return f"has no clause `{row.clause}` with the looks at `{row.source}`"
-    number, of_most = counted[1].strip("()"), f"`{MOST}`" in row.bound
+    number, of_most = re.sub(r"^\((.*)\)$", r"\1", counted[1]), f"`{MOST}`" in row.bound
     if number.isdigit():
         return None if int(number) <= 16 and row.bound == "16" else f"takes {number} looks"
-    if of_most and re.fullmatch(r"looks \w+ len", number) is None:
+    if of_most and OF_PART.fullmatch(number) is None:
         return f"takes `{number}` looks, of which `{MOST}` says nothing"
     wanted = OF_MOST if of_most else {name: it.format(number) for name, it in BOUNDS.items()}
     named = {*NAME.findall(row.bound)} - {MOST}
