@@ -1,5 +1,6 @@
--- How calls answer whether two lists of bits are disjoint, or one is a subset of the other.
-use Rattle.std.specs.Prelude.{◌≡◌, ◌≢◌, ◌↔◌, Bool, List, length}
+-- How calls answer whether two lists of bits are disjoint, or one is a subset of the other, and how
+-- many values an operator makes true of them.
+use Rattle.std.specs.Prelude.{◌≡◌, ◌≢◌, ◌↔◌, ℕ, Bool, List, length}
 use Rattle.std.specs.Prelude.{Result, IfOk, IsOk, IsErrOf, IsTrue}
 use Rattle.vb_bits.specs.Bits.{count}
 use Rattle.vb_bits.specs.Operators.{combined_by}
@@ -12,5 +13,13 @@ use Rattle.vb_core.specs.declared.error.BufferError.TheVariants.{LengthMismatch}
 pub record TellsNone (op : BitOp) (l r : List Bool)
     (result : Result Bool BufferError) : Type 0 where
   pub ok : IfOk result (λ none. IsTrue none ↔ (count (combined_by op l r) ≡ 0))
+  pub same_len : length l ≡ length r → IsOk result
+  pub other_len : length l ≢ length r → IsErrOf result (LengthMismatch (length l) (length r))
+
+-- of two lists of one length the answer is how many values the operator makes true; two lengths are
+-- refused, with both
+pub record CountsCombined (op : BitOp) (l r : List Bool)
+    (result : Result ℕ BufferError) : Type 0 where
+  pub ok : IfOk result (λ n. n ≡ count (combined_by op l r))
   pub same_len : length l ≡ length r → IsOk result
   pub other_len : length l ≢ length r → IsErrOf result (LengthMismatch (length l) (length r))

@@ -8,7 +8,7 @@ ghost use Rattle.vb_bits.specs.Nearest.{IsNext, IsPrevious};
 ghost use Rattle.vb_bits.specs.Operators.{combined_by};
 ghost use Rattle.vb_bits.specs.Runs.{runs, last_place};
 ghost use Rattle.vb_bits.specs.declared.zip.BitOp.TheVariants.{And, Or, Xor, AndNot};
-ghost use Rattle.vb_view.specs.Relation.{TellsNone};
+ghost use Rattle.vb_view.specs.Relation.{CountsCombined, TellsNone};
 ghost use Rattle.vb_view.specs.Windows.{IsWindow};
 ghost use Rattle.vb_walk.specs.Cut.{IsCut};
 
@@ -247,6 +247,46 @@ impl<'a> BitBufferView<'a> {
         ensures { result ≡ count (combined_by AndNot (bits_of self.now) (bits_of other.now)) }
     {
         andnot_count(self.bytes, self.offset, other.bytes, other.offset, self.len)
+    }
+
+    /// Returns the number of places that are true in both views. Returns `LengthMismatch`, with the
+    /// length of this view as `left`, exactly where the lengths differ. Does not allocate, and
+    /// costs what [`and_count`](Self::and_count) does.
+    pub fn try_and_count(&self, other: &BitBufferView<'_>) -> Result<usize>
+        ensures { CountsCombined And (bits_of self.now) (bits_of other.now) result }
+    {
+        self.compare_len(other)?;
+        Ok(self.and_count(other))
+    }
+
+    /// Returns the number of places that are true in one of the views or in both. Returns
+    /// `LengthMismatch`, with the length of this view as `left`, exactly where the lengths differ.
+    /// Does not allocate, and costs what [`or_count`](Self::or_count) does.
+    pub fn try_or_count(&self, other: &BitBufferView<'_>) -> Result<usize>
+        ensures { CountsCombined Or (bits_of self.now) (bits_of other.now) result }
+    {
+        self.compare_len(other)?;
+        Ok(self.or_count(other))
+    }
+
+    /// Returns the number of places at which the views differ. Returns `LengthMismatch`, with the
+    /// length of this view as `left`, exactly where the lengths differ. Does not allocate, and
+    /// costs what [`xor_count`](Self::xor_count) does.
+    pub fn try_xor_count(&self, other: &BitBufferView<'_>) -> Result<usize>
+        ensures { CountsCombined Xor (bits_of self.now) (bits_of other.now) result }
+    {
+        self.compare_len(other)?;
+        Ok(self.xor_count(other))
+    }
+
+    /// Returns the number of places that are true in this view and not in the other one. Returns
+    /// `LengthMismatch`, with the length of this view as `left`, exactly where the lengths differ.
+    /// Does not allocate, and costs what [`andnot_count`](Self::andnot_count) does.
+    pub fn try_andnot_count(&self, other: &BitBufferView<'_>) -> Result<usize>
+        ensures { CountsCombined AndNot (bits_of self.now) (bits_of other.now) result }
+    {
+        self.compare_len(other)?;
+        Ok(self.andnot_count(other))
     }
 
     /// Whether no place is true in both views, as none is of no bits. It reads both by words from

@@ -1,8 +1,9 @@
-//! Whether views are disjoint, or one is a subset of the other, beside plain loops over their bits.
+//! Whether views are disjoint, or one is a subset of the other, and how many places an operator
+//! makes true of them: beside plain loops over their bits.
 use crate::compared::{equal, equal_at};
 use crate::sample::{mix, view};
 use std::process::Abort;
-use vb_core::BufferError;
+use vb_core::{BufferError, Result};
 use vb_kernel::set_bit_to;
 use vb_view::BitBufferView;
 
@@ -60,6 +61,38 @@ fn plain(left: &BitBufferView<'_>, right: &BitBufferView<'_>) -> (bool, bool) {
     (disjoint, within)
 }
 
+/// How many places `and`, `or`, `xor` and `and not` make true, by the calls that compare lengths.
+type Counts = (Result<usize>, Result<usize>, Result<usize>, Result<usize>);
+
+fn counts(left: &BitBufferView<'_>, right: &BitBufferView<'_>) -> Counts {
+    (
+        left.try_and_count(right),
+        left.try_or_count(right),
+        left.try_xor_count(right),
+        left.try_andnot_count(right),
+    )
+}
+
+/// The same by a loop over the bits.
+fn plain_counts(left: &BitBufferView<'_>, right: &BitBufferView<'_>) -> Counts {
+    let (mut both, mut first, mut second) = (0usize, 0usize, 0usize);
+    for i in 0..left.len().min(right.len()) {
+        match (left.value(i), right.value(i)) {
+            (true, true) => both = both.saturating_add(1),
+            (true, false) => first = first.saturating_add(1),
+            (false, true) => second = second.saturating_add(1),
+            (false, false) => {},
+        }
+    }
+    let apart = first.saturating_add(second);
+    (
+        Ok(both),
+        Ok(both.saturating_add(apart)),
+        Ok(apart),
+        Ok(first),
+    )
+}
+
 /// Views that begin at these places, and are as long.
 fn is_plain(rt: &impl Abort, left: &[u8], right: &[u8], case: (usize, usize, usize)) {
     let (l, r, len) = case;
@@ -67,6 +100,7 @@ fn is_plain(rt: &impl Abort, left: &[u8], right: &[u8], case: (usize, usize, usi
     let (disjoint, within) = plain(one, other);
     equal_at(rt, one.is_disjoint(other), Ok(disjoint), case);
     equal_at(rt, one.is_subset(other), Ok(within), case);
+    equal_at(rt, counts(one, other), plain_counts(one, other), case);
 }
 
 /// Right bits of each kind, and with one of them turned: the first, one in the middle, the last.
@@ -129,5 +163,11 @@ fn views_of_two_lengths_are_refused(rt: HostRuntime) {
         let refused = Err(BufferError::LengthMismatch { left, right });
         equal(&rt, one.is_disjoint(other), refused);
         equal(&rt, one.is_subset(other), refused);
+        let refused = Err(BufferError::LengthMismatch { left, right });
+        equal(
+            &rt,
+            counts(one, other),
+            (refused, refused, refused, refused),
+        );
     }
 }
