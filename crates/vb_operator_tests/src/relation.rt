@@ -1,5 +1,6 @@
-//! Whether sets are disjoint, or one is a subset of the other: beside plain loops over their bits,
-//! refused for their lengths alone, and without memory.
+//! Whether sets are disjoint, or one is a subset of the other, and how many places an operator
+//! makes true of them: beside plain loops over their bits, refused for their lengths alone, and
+//! without memory.
 use crate::compared::equal;
 use crate::made::{LONGEST, front, list, ones, set};
 use std::alloc::{Allocator, Global};
@@ -8,8 +9,11 @@ use vb_bit_buffer::BitBuffer;
 use vb_core::{BufferError, Result};
 use vb_testing::Refusing;
 
-/// What two sets answer: whether they are disjoint, and whether the first is a subset.
-type Answers = (Result<bool>, Result<bool>);
+/// What two sets answer: whether they are disjoint, and whether the first is a subset; and how many
+/// places `and`, `or`, `xor` and `and not` make true.
+type Answers = (Result<bool>, Result<bool>, Counts);
+
+type Counts = (Result<usize>, Result<usize>, Result<usize>, Result<usize>);
 
 fn answers<A: Allocator + Clone>(
     rt: &impl Abort,
@@ -17,19 +21,33 @@ fn answers<A: Allocator + Clone>(
     right: Result<BitBuffer<A>>,
 ) -> Answers {
     let (left, right) = (left.expect(rt, "a set"), right.expect(rt, "a set"));
-    let given = (left.is_disjoint(&right), left.is_subset(&right));
+    let counts = (
+        left.try_and_count(&right),
+        left.try_or_count(&right),
+        left.try_xor_count(&right),
+        left.try_andnot_count(&right),
+    );
+    let given = (left.is_disjoint(&right), left.is_subset(&right), counts);
     drop((left, right));
     given
 }
 
 /// What a loop over the bits answers.
 fn plain(left: &[bool], right: &[bool]) -> Answers {
-    let (mut disjoint, mut within) = (true, true);
+    let (mut both, mut first, mut second) = (0usize, 0usize, 0usize);
     for (l, r) in left.iter().zip(right) {
-        disjoint &= !(*l & *r);
-        within &= !*l | *r;
+        both = both.saturating_add((*l & *r) as usize);
+        first = first.saturating_add((*l & !*r) as usize);
+        second = second.saturating_add((!*l & *r) as usize);
     }
-    (Ok(disjoint), Ok(within))
+    let apart = first.saturating_add(second);
+    let counts = (
+        Ok(both),
+        Ok(both.saturating_add(apart)),
+        Ok(apart),
+        Ok(first),
+    );
+    (Ok(both == 0), Ok(first == 0), counts)
 }
 
 /// The right bits, of the left ones and noise: any, those apart from the left ones, and those
@@ -87,7 +105,14 @@ fn one_bit_of_many_tells(rt: HostRuntime) {
     }
 }
 
-/// The lengths of two sets that differ, and what both calls are refused by.
+/// What each call answers of two lengths.
+fn refused(left: usize, right: usize) -> Answers {
+    let told = Err(BufferError::LengthMismatch { left, right });
+    let count = Err(BufferError::LengthMismatch { left, right });
+    (told, told, (count, count, count, count))
+}
+
+/// The lengths of two sets that differ, and what the calls are refused by.
 #[test]
 fn lengths_that_differ_are_refused_without_memory(rt: HostRuntime) {
     let heap = Refusing::new(rt.alloc(), 0);
@@ -95,8 +120,7 @@ fn lengths_that_differ_are_refused_without_memory(rt: HostRuntime) {
         heap.refuse(0);
         let (one, other) = (ones(&heap, 3, left), ones(&heap, 5, right));
         heap.refuse(1);
-        let refused = Err(BufferError::LengthMismatch { left, right });
-        equal(&rt, answers(&rt, one, other), (refused, refused));
+        equal(&rt, answers(&rt, one, other), refused(left, right));
         equal(&rt, heap.asked(), 0);
     }
 }
@@ -106,6 +130,7 @@ fn answers_take_no_memory(rt: HostRuntime) {
     let heap = Refusing::new(rt.alloc(), 0);
     let (one, other) = (ones(&heap, 3, 200), ones(&heap, 4, 200));
     heap.refuse(1);
-    equal(&rt, answers(&rt, one, other), (Ok(false), Ok(true)));
+    let counts = (Ok(200), Ok(200), Ok(0), Ok(0));
+    equal(&rt, answers(&rt, one, other), (Ok(false), Ok(true), counts));
     equal(&rt, heap.asked(), 0);
 }

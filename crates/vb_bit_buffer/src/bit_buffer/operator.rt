@@ -10,7 +10,7 @@ ghost use Rattle.vb_bits.specs.Operators.{combined_by};
 ghost use Rattle.vb_mem.specs.Makes.{Makes};
 ghost use Rattle.vb_mem.specs.OpenBuffer.{HoldsMade};
 ghost use Rattle.vb_bit_buffer.specs.Gives.{GivesCombined, GivesNegated};
-ghost use Rattle.vb_view.specs.Relation.{TellsNone};
+ghost use Rattle.vb_view.specs.Relation.{CountsCombined, TellsNone};
 
 use super::BitBuffer;
 use std::alloc::Allocator;
@@ -75,6 +75,42 @@ impl<A: Allocator + Clone> BitBuffer<A> {
         ensures { result ≡ count (combined_by BitOp.AndNot self.now.bits right.now.bits) }
     {
         self.as_view().andnot_count(&right.as_view())
+    }
+
+    /// Returns the number of places that are true here and in `right`. Returns `LengthMismatch`,
+    /// with the length of this set as `left`, exactly where the lengths differ. Does not allocate,
+    /// and costs what [`and_count`](Self::and_count) does.
+    pub fn try_and_count(&self, right: &Self) -> Result<usize>
+        ensures { CountsCombined BitOp.And self.now.bits right.now.bits result }
+    {
+        self.as_view().try_and_count(&right.as_view())
+    }
+
+    /// Returns the number of places that are true here or in `right` or in both. Returns
+    /// `LengthMismatch`, with the length of this set as `left`, exactly where the lengths differ.
+    /// Does not allocate, and costs what [`or_count`](Self::or_count) does.
+    pub fn try_or_count(&self, right: &Self) -> Result<usize>
+        ensures { CountsCombined BitOp.Or self.now.bits right.now.bits result }
+    {
+        self.as_view().try_or_count(&right.as_view())
+    }
+
+    /// Returns the number of places at which the sets differ. Returns `LengthMismatch`, with the
+    /// length of this set as `left`, exactly where the lengths differ. Does not allocate, and costs
+    /// what [`xor_count`](Self::xor_count) does.
+    pub fn try_xor_count(&self, right: &Self) -> Result<usize>
+        ensures { CountsCombined BitOp.Xor self.now.bits right.now.bits result }
+    {
+        self.as_view().try_xor_count(&right.as_view())
+    }
+
+    /// Returns the number of places that are true here and not in `right`. Returns
+    /// `LengthMismatch`, with the length of this set as `left`, exactly where the lengths differ.
+    /// Does not allocate, and costs what [`andnot_count`](Self::andnot_count) does.
+    pub fn try_andnot_count(&self, right: &Self) -> Result<usize>
+        ensures { CountsCombined BitOp.AndNot self.now.bits right.now.bits result }
+    {
+        self.as_view().try_andnot_count(&right.as_view())
     }
 
     /// Whether no place is true here and in `right`, as none is of no bits. Both are read by words
