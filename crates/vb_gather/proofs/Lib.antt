@@ -1,3 +1,4 @@
 mod ComparedLemmas
 mod KleeneLemmas
+mod LengthsLemmas
 mod WrittenOver

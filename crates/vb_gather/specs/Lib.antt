@@ -2,6 +2,7 @@ pub mod Columns
 pub mod Compared
 pub mod Deposited
 pub mod Filtered
+pub mod OneLength
 pub mod TakenBits
 pub mod TakenItems
 pub use Rattle.vb_bit_buffer.specs.SharedSet

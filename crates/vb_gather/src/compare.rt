@@ -1,20 +1,22 @@
 //! Sets of what comparisons answer.
-ghost use Rattle.std.specs.Prelude.{◌≡◌, ◌*◌, ◌≤◌, length, map};
+ghost use Rattle.std.specs.Prelude.{◌≡◌, ◌*◌, ◌≤◌, [], ◌∷◌, length, map};
 ghost use Rattle.std.specs.Option.{ForSome, option_map};
 ghost use Rattle.std.specs.Simd.Lanes.{zip2};
 ghost use Rattle.vb_bit_buffer.specs.SharedSet.{IsFreshSet};
 ghost use Rattle.vb_bits.specs.Bits.{bits};
 ghost use Rattle.vb_compare.specs.Compares.{compares};
 ghost use Rattle.vb_gather.specs.Compared.{Shows, where_valid};
+ghost use Rattle.vb_gather.specs.OneLength.{GivesOfLength, length_or};
 ghost use Rattle.vb_mem.specs.Makes.{Makes};
 ghost use Rattle.vb_view.specs.View.{bits_of};
 
+use crate::lengths::{len_or, other_len};
 use std::alloc::Allocator;
 use vb_bit_buffer::BitBuffer;
 use vb_bit_bytes::full;
 use vb_bits::{BitOp, zip_words};
 use vb_compare::{CompareLanes, Comparison, compare_into, compare_with_into};
-use vb_core::Result;
+use vb_core::{BufferError, Result};
 use vb_view::BitBufferView;
 
 /// Whether `value op number` holds: a bit for each value, true where it does, as a set of offset 0
@@ -64,6 +66,58 @@ pub fn compared_with<T: CompareLanes, A: Allocator + Clone>(
     let mut bytes = full(alloc, false, values.len())?;
     write_compared_with(bytes.as_mut_slice(), values, op, others, validity);
     Ok(BitBuffer::new(bytes.freeze()?, values.len()))
+}
+
+/// Returns the set that [`compared`] makes, of a validity of any length. Returns `LengthMismatch`,
+/// with the number of values as `left` and the length of the validity as `right`, exactly where
+/// they differ, before it allocates; else `OutOfMemory` alone.
+pub fn try_compared<T: CompareLanes, A: Allocator + Clone>(
+    alloc: A,
+    values: &[T],
+    op: Comparison,
+    number: T,
+    validity: Option<BitBufferView<'_>>,
+) -> Result<BitBuffer<A>>
+    ensures { GivesOfLength (length values.now)
+        (length_or (length values.now) (option_map bits_of validity.entry) ∷ [])
+        (IsFreshSet (where_valid (option_map bits_of validity.entry)
+        (map (λ value. compares op (T.number value) (T.number number)) values.now))) result }
+{
+    let left = values.len();
+    match other_len(left, &[len_or(left, validity)]) {
+        Some(right) => {
+            drop(alloc);
+            Err(BufferError::LengthMismatch { left, right })
+        }
+        None => compared(alloc, values, op, number, validity),
+    }
+}
+
+/// Returns the set that [`compared_with`] makes, of others and a validity of any lengths. Returns
+/// `LengthMismatch`, with the number of values as `left`, exactly where another length differs from
+/// it, before it allocates; else `OutOfMemory` alone. As `right` it has the number of the others
+/// where that differs, else the length of the validity.
+pub fn try_compared_with<T: CompareLanes, A: Allocator + Clone>(
+    alloc: A,
+    values: &[T],
+    op: Comparison,
+    others: &[T],
+    validity: Option<BitBufferView<'_>>,
+) -> Result<BitBuffer<A>>
+    ensures { GivesOfLength (length values.now) (length others.now
+        ∷ length_or (length values.now) (option_map bits_of validity.entry) ∷ [])
+        (IsFreshSet (where_valid (option_map bits_of validity.entry)
+        (zip2 (λ left right. compares op (T.number left) (T.number right))
+        values.now others.now))) result }
+{
+    let left = values.len();
+    match other_len(left, &[others.len(), len_or(left, validity)]) {
+        Some(right) => {
+            drop(alloc);
+            Err(BufferError::LengthMismatch { left, right })
+        }
+        None => compared_with(alloc, values, op, others, validity),
+    }
 }
 
 /// Writes the bits of [`compared`] to the front of `out`.

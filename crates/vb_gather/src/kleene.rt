@@ -1,5 +1,5 @@
 //! Truth values that may be null, combined by three-valued logic.
-ghost use Rattle.std.specs.Prelude.{◌≡◌, length};
+ghost use Rattle.std.specs.Prelude.{◌≡◌, [], ◌∷◌, length};
 ghost use Rattle.std.specs.Option.{ForSome, option_map};
 ghost use Rattle.std.specs.Int.{div_ceil};
 ghost use Rattle.std.specs.Simd.Lanes.{zip2};
@@ -7,9 +7,11 @@ ghost use Rattle.vb_bit_buffer.specs.SharedSet.{IsFreshSet};
 ghost use Rattle.vb_bits.specs.Bits.{bits};
 ghost use Rattle.vb_gather.specs.Columns.{IsColumn};
 ghost use Rattle.vb_gather.specs.Kleene.{truths, and_truths, or_truths};
+ghost use Rattle.vb_gather.specs.OneLength.{GivesOfLength, length_or};
 ghost use Rattle.vb_mem.specs.Makes.{Makes};
 ghost use Rattle.vb_view.specs.View.{bits_of};
 
+use crate::lengths::{len_or, other_len};
 use std::alloc::Allocator;
 use vb_bit_buffer::BitBuffer;
 use vb_bit_bytes::full;
@@ -78,6 +80,70 @@ pub fn or_kleene<A: Allocator + Clone>(
     let (to, known) = (trues.as_mut_slice(), valid.as_mut_slice());
     or_kleene_into(to, 0, known, 0, left, left_validity, right, right_validity);
     two_sets(trues, valid, len)
+}
+
+/// Returns the two sets that [`and_kleene`] makes, of values and validities of any lengths. Returns
+/// `LengthMismatch`, with the length of `left` as `left`, exactly where another length differs from
+/// it, before it allocates; else `OutOfMemory` alone. As `right` it has the first that differs of
+/// the lengths of `right`, `left_validity` and `right_validity`.
+pub fn try_and_kleene<A: Allocator + Clone>(
+    alloc: A,
+    left: BitBufferView<'_>,
+    left_validity: Option<BitBufferView<'_>>,
+    right: BitBufferView<'_>,
+    right_validity: Option<BitBufferView<'_>>,
+) -> Result<(BitBuffer<A>, BitBuffer<A>)>
+    ensures { GivesOfLength (length (bits_of left.entry)) (length (bits_of right.entry)
+        ∷ length_or (length (bits_of left.entry)) (option_map bits_of left_validity.entry)
+        ∷ length_or (length (bits_of left.entry)) (option_map bits_of right_validity.entry) ∷ [])
+        (λ made. IsColumn (zip2 and_truths
+        (truths (bits_of left.entry) (option_map bits_of left_validity.entry))
+        (truths (bits_of right.entry) (option_map bits_of right_validity.entry)))
+        made.0 made.1) result }
+{
+    let len = left.len();
+    let validities = (len_or(len, left_validity), len_or(len, right_validity));
+    match other_len(len, &[right.len(), validities.0, validities.1]) {
+        Some(other) => {
+            drop(alloc);
+            Err(BufferError::LengthMismatch {
+                left: len,
+                right: other,
+            })
+        }
+        None => and_kleene(alloc, left, left_validity, right, right_validity),
+    }
+}
+
+/// Returns the two sets that [`or_kleene`] makes, of values and validities of any lengths. Fails as
+/// [`try_and_kleene`] does.
+pub fn try_or_kleene<A: Allocator + Clone>(
+    alloc: A,
+    left: BitBufferView<'_>,
+    left_validity: Option<BitBufferView<'_>>,
+    right: BitBufferView<'_>,
+    right_validity: Option<BitBufferView<'_>>,
+) -> Result<(BitBuffer<A>, BitBuffer<A>)>
+    ensures { GivesOfLength (length (bits_of left.entry)) (length (bits_of right.entry)
+        ∷ length_or (length (bits_of left.entry)) (option_map bits_of left_validity.entry)
+        ∷ length_or (length (bits_of left.entry)) (option_map bits_of right_validity.entry) ∷ [])
+        (λ made. IsColumn (zip2 or_truths
+        (truths (bits_of left.entry) (option_map bits_of left_validity.entry))
+        (truths (bits_of right.entry) (option_map bits_of right_validity.entry)))
+        made.0 made.1) result }
+{
+    let len = left.len();
+    let validities = (len_or(len, left_validity), len_or(len, right_validity));
+    match other_len(len, &[right.len(), validities.0, validities.1]) {
+        Some(other) => {
+            drop(alloc);
+            Err(BufferError::LengthMismatch {
+                left: len,
+                right: other,
+            })
+        }
+        None => or_kleene(alloc, left, left_validity, right, right_validity),
+    }
 }
 
 /// Two buffers of as few bytes as hold `len` bits, all false.

@@ -13,10 +13,11 @@ mod compare;
 mod deposit;
 mod filter;
 mod kleene;
+mod lengths;
 mod take;
 
-pub use compare::{compared, compared_with};
+pub use compare::{compared, compared_with, try_compared, try_compared_with};
 pub use deposit::Deposit;
 pub use filter::Filter;
-pub use kleene::{and_kleene, or_kleene};
+pub use kleene::{and_kleene, or_kleene, try_and_kleene, try_or_kleene};
 pub use take::{Take, take_bits};

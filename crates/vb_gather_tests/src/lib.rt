@@ -20,6 +20,8 @@ mod kleene;
 #[cfg(test)]
 mod kleene_windows;
 #[cfg(test)]
+mod lengths;
+#[cfg(test)]
 mod masks;
 #[cfg(test)]
 mod takes;

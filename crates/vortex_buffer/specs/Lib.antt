@@ -32,6 +32,7 @@ pub use Rattle.vb_gather.specs.Columns
 pub use Rattle.vb_gather.specs.Compared
 pub use Rattle.vb_gather.specs.Deposited
 pub use Rattle.vb_gather.specs.Filtered
+pub use Rattle.vb_gather.specs.OneLength
 pub use Rattle.vb_gather.specs.TakenBits
 pub use Rattle.vb_gather.specs.TakenItems
 pub use Rattle.vb_kernel.specs.Beside

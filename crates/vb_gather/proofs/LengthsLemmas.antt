@@ -1,0 +1,55 @@
+-- Lists whose lengths were compared.
+use Rattle.std.proofs.Common.{◌≡◌, ℕ, Bool, true, false, not, eqb, cond, List, [], ◌∷◌, length}
+use Rattle.std.proofs.Common.{Option, Some, None, refl, sym, ap, ◌∙◌, tt}
+use Rattle.std.specs.Prelude.{Result, Err}
+use Rattle.std.specs.Option.{ForSome, option_map}
+use Rattle.std.proofs.lemmas.Bool.{eqb-true}
+use Rattle.std.proofs.lemmas.Option.{none-some, same_Some}
+use Rattle.vb_core.specs.declared.error.BufferError.{BufferError}
+use Rattle.vb_core.specs.declared.error.BufferError.TheVariants.{LengthMismatch}
+use Rattle.vb_gather.specs.OneLength.{GivesOfLength, first_other, length_or}
+use Rattle.vb_mem.specs.Makes.{Makes}
+
+first_is : (b : Bool) (m : ℕ) (rest : Option ℕ) → cond (not b) (Some m) rest ≡ None → b ≡ true
+first_is true m rest none = refl
+first_is false m rest none = absurd (none-some m (sym none))
+
+rest_is : (b : Bool) (m : ℕ) (rest : Option ℕ) → cond (not b) (Some m) rest ≡ None
+    → rest ≡ None
+rest_is true m rest none = none
+rest_is false m rest none = absurd (none-some m (sym none))
+
+-- where no length is another than n, the first one is n
+pub first_len : (n m : ℕ) (rest : List ℕ) → first_other n (m ∷ rest) ≡ None → m ≡ n
+first_len n m rest none = eqb-true m n (first_is (eqb m n) m (first_other n rest) none)
+
+-- and no later one is another
+pub rest_lens : (n m : ℕ) (rest : List ℕ) → first_other n (m ∷ rest) ≡ None
+    → first_other n rest ≡ None
+rest_lens n m rest none = rest_is (eqb m n) m (first_other n rest) none
+
+-- a list, if there is one, is as long
+pub as_long : {V : Type 0} (bits : V → List Bool) (n : ℕ) (v : Option V)
+    → length_or n (option_map bits v) ≡ n → ForSome v (λ x. length (bits x) ≡ n)
+as_long bits n None same = λ x is. absurd (none-some x is)
+as_long bits n (Some l) same = λ x is.
+    ap (λ k. length (bits k)) (sym (same_Some l x is)) ∙ same
+
+-- what is made of lists of one length
+pub gives_made : {S : Type 0} (n : ℕ) (lengths : List ℕ) (P : S → Type 0)
+    (result : Result S BufferError) → first_other n lengths ≡ None → Makes P result
+    → GivesOfLength n lengths P result
+gives_made n lengths P result none made = record {
+  ok = made.ok;
+  same_len = λ _. made.refused;
+  other_len = λ m found. absurd (none-some m (sym none ∙ found));
+}
+
+-- another length is refused
+pub gives_refused : {S : Type 0} (n : ℕ) (lengths : List ℕ) (P : S → Type 0) (m : ℕ)
+    → first_other n lengths ≡ Some m → GivesOfLength n lengths P (Err (LengthMismatch n m))
+gives_refused n lengths P m found = record {
+  ok = tt;
+  same_len = λ none. absurd (none-some m (sym none ∙ found));
+  other_len = λ k there. ap (LengthMismatch n) (same_Some m k (sym found ∙ there));
+}
