@@ -1,4 +1,5 @@
 pub mod Counted
+pub mod Many
 pub use Rattle.vb_bits.specs.Bits
 pub use Rattle.vb_bits.specs.Writes
 pub use Rattle.vb_directory.specs.Counts

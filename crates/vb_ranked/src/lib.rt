@@ -5,6 +5,7 @@
 //! [`RankedBuffer`] answers the same of a shared set, which is read alone.
 #![tactic(auto)]
 
+mod many;
 mod parts;
 mod ranked;
 mod ranked_buffer;

@@ -4,9 +4,11 @@ ghost use Rattle.std.specs.Prelude.{slice_get, Some, IfOk, IsOkUnless};
 ghost use Rattle.std.specs.List.{AllZip};
 ghost use Rattle.vb_bits.specs.Bits.{count, complement, Selects, InvertsCount};
 ghost use Rattle.vb_kernel.specs.Hits.{hits};
+ghost use Rattle.vb_ranked.specs.Many.{FindsMany};
 ghost use Rattle.vb_set.specs.Makes.{Makes};
 ghost use Rattle.vb_set.specs.View.{bits_of, offset_of, bytes_of};
 
+use crate::many::compare_len;
 use std::alloc::{AllocError, Allocator, Global};
 use std::marker::Model;
 use vb_directory::Counts;
@@ -151,6 +153,30 @@ impl<A: Allocator + Clone> RankedBuffer<A> {
     {
         self.counts
             .select_many(self.as_view(), ranks, places, false);
+    }
+
+    /// Makes `places[k]` the place of the true bit of rank `ranks[k]`, as
+    /// [`select_many`](Self::select_many) does. Returns `LengthMismatch`, with the number of ranks
+    /// as `left` and that of places as `right`, exactly where they differ; no place changes then.
+    /// Does not allocate.
+    pub fn try_select_many(&self, ranks: &[usize], places: &mut [Option<usize>]) -> Result<()>
+        ensures { FindsMany self.now.bits ranks.now places.old places.new result }
+    {
+        compare_len(ranks, places)?;
+        self.select_many(ranks, places);
+        Ok(())
+    }
+
+    /// Makes `places[k]` the place of the false bit of rank `ranks[k]`, as
+    /// [`select_unset_many`](Self::select_unset_many) does. Returns `LengthMismatch`, with the
+    /// number of ranks as `left` and that of places as `right`, exactly where they differ; no place
+    /// changes then. Does not allocate.
+    pub fn try_select_unset_many(&self, ranks: &[usize], places: &mut [Option<usize>]) -> Result<()>
+        ensures { FindsMany (complement self.now.bits) ranks.now places.old places.new result }
+    {
+        compare_len(ranks, places)?;
+        self.select_unset_many(ranks, places);
+        Ok(())
     }
 
     /// The place of the `n`-th bit that is `value`.

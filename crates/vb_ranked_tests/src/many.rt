@@ -4,6 +4,7 @@ use crate::made::mixed;
 use std::alloc::{Allocator, Global};
 use std::process::Abort;
 use vb_ranked::{Ranked, RankedBuffer};
+use vb_set::BufferError;
 
 /// Ranks up to past the last bit, in no order, some of them twice.
 fn ranks(rt: &impl Abort, alloc: Global, len: usize, many: usize) -> Vec<usize, Global> {
@@ -32,6 +33,16 @@ fn answers_each<A: Allocator + Clone>(
     for (n, place) in ranks.iter().zip(places.as_slice()) {
         equal(rt, *place, ranked.select_unset(*n));
     }
+    let done = ranked.try_select_many(ranks, places.as_mut_slice());
+    equal(rt, done, Ok(()));
+    for (n, place) in ranks.iter().zip(places.as_slice()) {
+        equal(rt, *place, ranked.select(*n));
+    }
+    let done = ranked.try_select_unset_many(ranks, places.as_mut_slice());
+    equal(rt, done, Ok(()));
+    for (n, place) in ranks.iter().zip(places.as_slice()) {
+        equal(rt, *place, ranked.select_unset(*n));
+    }
     drop(places);
 }
 
@@ -49,6 +60,16 @@ fn shared_answers_each(
     }
     holds(rt, places.len() == ranks.len());
     ranked.select_unset_many(ranks, places.as_mut_slice());
+    for (n, place) in ranks.iter().zip(places.as_slice()) {
+        equal(rt, *place, ranked.select_unset(*n));
+    }
+    let done = ranked.try_select_many(ranks, places.as_mut_slice());
+    equal(rt, done, Ok(()));
+    for (n, place) in ranks.iter().zip(places.as_slice()) {
+        equal(rt, *place, ranked.select(*n));
+    }
+    let done = ranked.try_select_unset_many(ranks, places.as_mut_slice());
+    equal(rt, done, Ok(()));
     for (n, place) in ranks.iter().zip(places.as_slice()) {
         equal(rt, *place, ranked.select_unset(*n));
     }
@@ -99,4 +120,49 @@ fn many_ranks_of_shared_sets_are_answered_as_each(rt: HostRuntime) {
         }
         drop(ranked);
     }
+}
+
+/// Numbers of ranks and places that differ.
+const UNEQUAL: [(usize, usize); 5] = [(0, 1), (1, 0), (8, 7), (8, 9), (64, 16)];
+
+/// The places hold what they did.
+fn are_untouched(rt: &impl Abort, places: &[Option<usize>]) {
+    for place in places {
+        equal(rt, *place, Some(7));
+    }
+}
+
+#[test]
+fn unequal_numbers_are_refused(rt: HostRuntime) {
+    let set = mixed(&rt, rt.alloc(), 3, 70_000);
+    let ranked = Ranked::new(rt.alloc(), set).expect(&rt, "counts");
+    for (left, right) in UNEQUAL {
+        let ranks = ranks(&rt, rt.alloc(), 70_000, left);
+        let mut places = Vec::from_elem(rt.alloc(), Some(7), right).expect(&rt, "room");
+        let refused = Err(BufferError::LengthMismatch { left, right });
+        let (asked, to) = (ranks.as_slice(), places.as_mut_slice());
+        equal(&rt, ranked.try_select_many(asked, to), refused);
+        equal(&rt, ranked.try_select_unset_many(asked, to), refused);
+        are_untouched(&rt, places.as_slice());
+        drop((ranks, places));
+    }
+    drop(ranked);
+}
+
+#[test]
+fn unequal_numbers_are_refused_of_shared_sets(rt: HostRuntime) {
+    let set = mixed(&rt, rt.alloc(), 3, 70_000);
+    let set = set.freeze().expect(&rt, "an owner");
+    let ranked = RankedBuffer::new(rt.alloc(), set).expect(&rt, "counts");
+    for (left, right) in UNEQUAL {
+        let ranks = ranks(&rt, rt.alloc(), 70_000, left);
+        let mut places = Vec::from_elem(rt.alloc(), Some(7), right).expect(&rt, "room");
+        let refused = Err(BufferError::LengthMismatch { left, right });
+        let (asked, to) = (ranks.as_slice(), places.as_mut_slice());
+        equal(&rt, ranked.try_select_many(asked, to), refused);
+        equal(&rt, ranked.try_select_unset_many(asked, to), refused);
+        are_untouched(&rt, places.as_slice());
+        drop((ranks, places));
+    }
+    drop(ranked);
 }

@@ -1,0 +1,18 @@
+-- How calls answer that find the places of many ranks.
+use Rattle.std.specs.Prelude.{◌≡◌, ◌≢◌, ℕ, Bool, List, length, Option, Unit}
+use Rattle.std.specs.Prelude.{Result, IfOk, IsOk, IsErrOf, OnErr}
+use Rattle.std.specs.List.{AllZip}
+use Rattle.vb_bits.specs.Bits.{Selects, InvertsCount}
+use Rattle.vb_core.specs.declared.error.BufferError.{BufferError}
+use Rattle.vb_core.specs.declared.error.BufferError.TheVariants.{LengthMismatch}
+
+-- where there are as many places as ranks, each is that of the true value of its rank; other
+-- lengths are refused, with both, and the places stay
+pub record FindsMany (l : List Bool) (ranks : List ℕ) (old new : List (Option ℕ))
+    (result : Result (Unit {0}) BufferError) : Type 0 where
+  pub places : IfOk result (λ _. AllZip (Selects l) ranks new)
+  pub each : IfOk result (λ _. AllZip (InvertsCount l) ranks new)
+  pub same_len : length ranks ≡ length old → IsOk result
+  pub other_len : length ranks ≢ length old
+      → IsErrOf result (LengthMismatch (length ranks) (length old))
+  pub kept : OnErr result (new ≡ old)
