@@ -9,7 +9,7 @@ use vb_bits::{BitOp, copy_bits, window_fits, zip_words};
 
 /// How many bits are combined before the next ones are copied: few enough that the bytes of a
 /// block stay near the processor in between.
-const BLOCK: usize = 32_768;
+const COPIED_BITS: usize = 32_768;
 
 /// Makes each of the `len` bits of `dst` from bit `d` on true exactly where it is true and that of
 /// `src` from bit `s` on is, and leaves every other bit of `dst`. The two may not overlap.
@@ -333,7 +333,7 @@ fn combine_into(
 {
     let mut done = 0;
     while done < len {
-        let block = (len - done).min(BLOCK);
+        let block = (len - done).min(COPIED_BITS);
         copy_bits(out, o + done, left, l + done, block);
         zip_words(out, o + done, right, r + done, block, op);
         done += block;

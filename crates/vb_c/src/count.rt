@@ -16,7 +16,7 @@ pub extern "C" fn vb_count_ones(bytes: &[u8], offset: usize, len: usize) -> usiz
     requires window { InBytes bytes.now offset len }
     ensures { result ≡ count (bits bytes.now offset len) }
 {
-    vb_kernel::count_ones(bytes, offset, len)
+    vb_count::count_ones(bytes, offset, len)
 }
 
 /// Whether the window lies in the bytes; `ones` is then [`vb_count_ones`], and else as it was.

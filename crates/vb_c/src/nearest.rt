@@ -17,7 +17,7 @@ pub extern "C" fn vb_next_set(bytes: &[u8], offset: usize, len: usize, from: usi
     requires window { InBytes bytes.now offset len }
     ensures { IsNext (bits bytes.now offset len) from (answered_place result) }
 {
-    vb_kernel::next_set(bytes, offset, len, from).into()
+    vb_select::next_set(bytes, offset, len, from).into()
 }
 
 /// Whether the window lies in the bytes; `place` is then [`vb_next_set`], and else as it was.
@@ -47,7 +47,7 @@ pub extern "C" fn vb_next_unset(bytes: &[u8], offset: usize, len: usize, from: u
     requires window { InBytes bytes.now offset len }
     ensures { IsNext (complement (bits bytes.now offset len)) from (answered_place result) }
 {
-    vb_kernel::next_unset(bytes, offset, len, from).into()
+    vb_select::next_unset(bytes, offset, len, from).into()
 }
 
 /// Whether the window lies in the bytes; `place` is then [`vb_next_unset`], and else as it was.
@@ -78,7 +78,7 @@ pub extern "C" fn vb_previous_set(bytes: &[u8], offset: usize, len: usize, befor
     requires window { InBytes bytes.now offset len }
     ensures { IsPrevious (bits bytes.now offset len) before (answered_place result) }
 {
-    vb_kernel::previous_set(bytes, offset, len, before).into()
+    vb_select::previous_set(bytes, offset, len, before).into()
 }
 
 /// Whether the window lies in the bytes; `place` is then [`vb_previous_set`], and else as it was.
@@ -108,7 +108,7 @@ pub extern "C" fn vb_previous_unset(bytes: &[u8], offset: usize, len: usize, bef
     requires window { InBytes bytes.now offset len }
     ensures { IsPrevious (complement (bits bytes.now offset len)) before (answered_place result) }
 {
-    vb_kernel::previous_unset(bytes, offset, len, before).into()
+    vb_select::previous_unset(bytes, offset, len, before).into()
 }
 
 /// Whether the window lies in the bytes; `place` is then [`vb_previous_unset`], and else as it was.
@@ -138,7 +138,7 @@ pub extern "C" fn vb_any_set(bytes: &[u8], offset: usize, len: usize) -> bool
     requires window { InBytes bytes.now offset len }
     ensures { IsTrue result ↔ (0 < count (bits bytes.now offset len)) }
 {
-    vb_kernel::any_set(bytes, offset, len)
+    vb_select::any_set(bytes, offset, len)
 }
 
 /// Whether the window lies in the bytes; `any` is then [`vb_any_set`], and else as it was.
@@ -161,7 +161,7 @@ pub extern "C" fn vb_all_set(bytes: &[u8], offset: usize, len: usize) -> bool
     requires window { InBytes bytes.now offset len }
     ensures { IsTrue result ↔ (count (bits bytes.now offset len) ≡ len) }
 {
-    vb_kernel::all_set(bytes, offset, len)
+    vb_select::all_set(bytes, offset, len)
 }
 
 /// Whether the window lies in the bytes; `all` is then [`vb_all_set`], and else as it was.

@@ -9,7 +9,7 @@ ghost use Rattle.vb_bits.specs.Fills.{Fills};
 ghost use Rattle.vb_rank.specs.Tables.{block_counts};
 
 use vb_c_core::Place;
-use vb_kernel::Plain;
+use vb_count::Plain;
 use vb_rank::PlainTable;
 
 /// Writes, for each block of 512 bits of the `len` bits from bit `offset` on, how many true bits

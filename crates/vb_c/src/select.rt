@@ -17,7 +17,7 @@ pub extern "C" fn vb_bit_select(bytes: &[u8], offset: usize, len: usize, n: usiz
     ensures place { Selects (bits bytes.now offset len) n (answered_place result) }
     ensures each { InvertsCount (bits bytes.now offset len) n (answered_place result) }
 {
-    vb_kernel::bit_select(bytes, offset, len, n).into()
+    vb_select::bit_select(bytes, offset, len, n).into()
 }
 
 /// The place, relative to the window of `len` bits from bit `offset` on, of its `n`-th false bit,
@@ -28,7 +28,7 @@ pub extern "C" fn vb_bit_select_unset(bytes: &[u8], offset: usize, len: usize, n
     ensures place { Selects (complement (bits bytes.now offset len)) n (answered_place result) }
     ensures each { InvertsCount (complement (bits bytes.now offset len)) n (answered_place result) }
 {
-    vb_kernel::bit_select_unset(bytes, offset, len, n).into()
+    vb_select::bit_select_unset(bytes, offset, len, n).into()
 }
 
 /// The place, relative to the window of `len` bits from bit `offset` on, of its last true bit; none
@@ -38,7 +38,7 @@ pub extern "C" fn vb_last_set_index(bytes: &[u8], offset: usize, len: usize) -> 
     requires window { InBytes bytes.now offset len }
     ensures { answered_place result ≡ last_place (bits bytes.now offset len) }
 {
-    vb_kernel::last_set_index(bytes, offset, len).into()
+    vb_select::last_set_index(bytes, offset, len).into()
 }
 
 /// Whether the window lies in the bytes; `place` is then [`vb_bit_select`], and else as it was.

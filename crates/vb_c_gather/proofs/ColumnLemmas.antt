@@ -13,12 +13,12 @@ use Rattle.vb_bits.proofs.BitsLemmas.{length-bits}
 use Rattle.vb_c_core.proofs.PartLemmas.{part, Writes_in_part}
 use Rattle.vb_c_core.specs.Validity.{validity_of}
 use Rattle.vb_kleene.specs.Kleene.{truths, truth, is_truth}
-use Rattle.vb_c_gather.specs.Columns.{WritesColumn, column}
+use Rattle.vb_c_gather.specs.Columns.{WritesColumn, column_at}
 
 -- one of a view and its validity that were made of what crossed
 pub column_of : (b : List ℕ) (o : ℕ) (all : Bool) (w : List ℕ) (v n : ℕ) (l : List Bool)
     (m : Option (List Bool)) → l ≡ bits b o n → m ≡ validity_of all w (v + 0) n
-    → truths l m ≡ column b o all w v n
+    → truths l m ≡ column_at b o all w v n
 column_of b o all w v n l m values valid =
     let here : v + 0 ≡ v = omega arith in
     ap (λ k. truths k m) values ∙ ap (truths (bits b o n)) (valid
@@ -38,7 +38,7 @@ columns_combined {l} {r} {x} {y} {b} {c} {d} {e} {t} {v} op left right trues val
 
 -- as many truth values as a column has
 length-column : (b : List ℕ) (o : ℕ) (all : Bool) (w : List ℕ) (v n : ℕ)
-    → length (column b o all w v n) ≡ n
+    → length (column_at b o all w v n) ≡ n
 length-column b o true w v n =
     length-zip2 truth (bits b o n) _ (sym (length-replicate (length (bits b o n)) true))
     ∙ length-bits b o n
@@ -49,7 +49,7 @@ length-column b o false w v n =
 -- and as two of them that are combined
 pub length-combined : (op : Option Bool → Option Bool → Option Bool) (b : List ℕ) (o : ℕ)
     → (all : Bool) (w : List ℕ) (v : ℕ) (c : List ℕ) (p : ℕ) (each : Bool) (x : List ℕ) (u n : ℕ)
-    → length (zip2 op (column b o all w v n) (column c p each x u n)) ≡ n
+    → length (zip2 op (column_at b o all w v n) (column_at c p each x u n)) ≡ n
 length-combined op b o all w v c p each x u n =
     let left = length-column b o all w v n in
     length-zip2 op _ _ (left ∙ sym (length-column c p each x u n)) ∙ left

@@ -12,8 +12,8 @@ ColumnFits bytes o all_valid validity v n =
     InBytes bytes o n × HasValidity all_valid validity v n
 
 -- these truth values
-abbrev pub column : List ℕ → ℕ → Bool → List ℕ → ℕ → ℕ → List (Option Bool)
-column bytes o all_valid validity v n =
+abbrev pub column_at : List ℕ → ℕ → Bool → List ℕ → ℕ → ℕ → List (Option Bool)
+column_at bytes o all_valid validity v n =
     truths (bits bytes o n) (validity_of all_valid validity v n)
 
 -- the window from bit t on says which of the truth values are true, and that from bit v on which

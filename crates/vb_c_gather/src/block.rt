@@ -3,4 +3,4 @@
 
 /// How many bits a block has: so many that what a call and a copy take by themselves is little
 /// beside them, and few enough that clearing the bytes is nothing beside a short call.
-pub(crate) const BLOCK: usize = 4096;
+pub(crate) const COPIED_BITS: usize = 4096;

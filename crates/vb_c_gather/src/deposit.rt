@@ -6,8 +6,8 @@ ghost use Rattle.vb_c_gather.specs.Deposited.{Deposits, DepositFits};
 ghost use Rattle.vb_c_core.specs.Fits.{DoneIf};
 
 use vb_bits::window_fits;
+use vb_count::count_ones;
 use vb_filter::deposit_into;
-use vb_kernel::count_ones;
 use vb_view::BitBufferView;
 
 /// Writes `len` bits to `out` from bit `o` on: where that of `mask` from bit `m` on is true, the

@@ -6,8 +6,8 @@ ghost use Rattle.vb_c_gather.specs.Filtered.{FiltersBits};
 ghost use Rattle.vb_c_core.specs.Fits.{DoneIf, KeptFits};
 
 use vb_bits::window_fits;
+use vb_count::count_ones;
 use vb_filter::filter_into;
-use vb_kernel::count_ones;
 use vb_view::BitBufferView;
 
 /// Writes those of the `len` bits of `values` from bit `v` on that `mask` keeps, whose bit of it

@@ -5,11 +5,11 @@ ghost use Rattle.vb_bits.specs.InBytes.{InBytes};
 ghost use Rattle.vb_c_gather.specs.Filtered.{FiltersBitsAt, KeptFitsAt};
 ghost use Rattle.vb_c_core.specs.Fits.{DoneIf};
 
-use crate::block::BLOCK;
+use crate::block::COPIED_BITS;
 use crate::filter::{filter_to_front, filter_within, vb_filter_bits};
 use vb_bits::window_fits;
 use vb_c_core::copy_to_window;
-use vb_kernel::count_ones;
+use vb_count::count_ones;
 
 /// Writes those of the `len` bits of `values` from bit `v` on that `mask` keeps, whose bit of it
 /// from bit `m` on is true, in order, to the bits of `out` from bit `o` on, which has to have room
@@ -80,11 +80,11 @@ fn filter_by_blocks(
     requires mask { KeptFitsAt out.old o mask.now m len }
     ensures { FiltersBitsAt (bits mask.now m len) (bits values.now v len) out.old out.new o result }
 {
-    let mut made = [0u8; BLOCK / 8];
+    let mut made = [0u8; COPIED_BITS / 8];
     let mut done = 0;
     let mut kept = 0;
     while done < len {
-        let n = (len - done).min(BLOCK);
+        let n = (len - done).min(COPIED_BITS);
         let more = filter_to_front(&mut made, values, v + done, mask, m + done, n);
         copy_to_window(out, o + kept, &made, 0, more);
         kept += more;

@@ -3,7 +3,7 @@ ghost use Rattle.std.specs.Prelude.{◌≡◌};
 ghost use Rattle.std.specs.Simd.Lanes.{zip2};
 ghost use Rattle.vb_bits.specs.InBytes.{InBytes};
 ghost use Rattle.vb_c_core.specs.Fits.{DoneIf};
-ghost use Rattle.vb_c_gather.specs.Columns.{ColumnFits, WritesColumn, column};
+ghost use Rattle.vb_c_gather.specs.Columns.{ColumnFits, WritesColumn, column_at};
 ghost use Rattle.vb_kleene.specs.Kleene.{and_truths, or_truths};
 
 use crate::take_at::valid_part;
@@ -45,8 +45,8 @@ pub extern "C" fn vb_and_kleene(
     requires right { ColumnFits right.now r
         right_all_valid right_validity.now right_validity_offset len }
     ensures { WritesColumn (zip2 and_truths
-        (column left.now l left_all_valid left_validity.now left_validity_offset len)
-        (column right.now r right_all_valid right_validity.now right_validity_offset len))
+        (column_at left.now l left_all_valid left_validity.now left_validity_offset len)
+        (column_at right.now r right_all_valid right_validity.now right_validity_offset len))
         trues.old trues.new t valid.old valid.new v }
 {
     let left_valid = valid_part(left_all_valid, left_validity, left_validity_offset, 0, len);
@@ -91,8 +91,8 @@ pub extern "C" fn vb_try_and_kleene(
         × ColumnFits left.now l left_all_valid left_validity.now left_validity_offset len
         × ColumnFits right.now r right_all_valid right_validity.now right_validity_offset len)
         (WritesColumn (zip2 and_truths
-        (column left.now l left_all_valid left_validity.now left_validity_offset len)
-        (column right.now r right_all_valid right_validity.now right_validity_offset len))
+        (column_at left.now l left_all_valid left_validity.now left_validity_offset len)
+        (column_at right.now r right_all_valid right_validity.now right_validity_offset len))
         trues.old trues.new t valid.old valid.new v)
         ((trues.new ≡ trues.old) × (valid.new ≡ valid.old)) result }
 {
@@ -152,8 +152,8 @@ pub extern "C" fn vb_or_kleene(
     requires right { ColumnFits right.now r
         right_all_valid right_validity.now right_validity_offset len }
     ensures { WritesColumn (zip2 or_truths
-        (column left.now l left_all_valid left_validity.now left_validity_offset len)
-        (column right.now r right_all_valid right_validity.now right_validity_offset len))
+        (column_at left.now l left_all_valid left_validity.now left_validity_offset len)
+        (column_at right.now r right_all_valid right_validity.now right_validity_offset len))
         trues.old trues.new t valid.old valid.new v }
 {
     let left_valid = valid_part(left_all_valid, left_validity, left_validity_offset, 0, len);
@@ -198,8 +198,8 @@ pub extern "C" fn vb_try_or_kleene(
         × ColumnFits left.now l left_all_valid left_validity.now left_validity_offset len
         × ColumnFits right.now r right_all_valid right_validity.now right_validity_offset len)
         (WritesColumn (zip2 or_truths
-        (column left.now l left_all_valid left_validity.now left_validity_offset len)
-        (column right.now r right_all_valid right_validity.now right_validity_offset len))
+        (column_at left.now l left_all_valid left_validity.now left_validity_offset len)
+        (column_at right.now r right_all_valid right_validity.now right_validity_offset len))
         trues.old trues.new t valid.old valid.new v)
         ((trues.new ≡ trues.old) × (valid.new ≡ valid.old)) result }
 {

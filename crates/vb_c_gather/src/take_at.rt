@@ -10,7 +10,7 @@ ghost use Rattle.vb_c_gather.specs.Taken.{TakesAt};
 ghost use Rattle.vb_take.specs.Takes.{IsTaken, IsFirstPast};
 ghost use Rattle.vb_view.specs.View.{bits_of};
 
-use crate::block::BLOCK;
+use crate::block::COPIED_BITS;
 use crate::take::take_to_front;
 use vb_bits::{copy_bits, window_fits};
 use vb_c_core::Place;
@@ -328,10 +328,10 @@ fn take_by_blocks<I: BitIndex>(
         (validity_of all_valid validity.now v (length indices.now)) p) }
     ensures others { Writes out.old out.new o (bits out.new o (length indices.now)) }
 {
-    let mut made = [0u8; BLOCK / 8];
+    let mut made = [0u8; COPIED_BITS / 8];
     let mut done = 0;
     while done < indices.len() {
-        let n = (indices.len() - done).min(BLOCK);
+        let n = (indices.len() - done).min(COPIED_BITS);
         let valid = valid_part(all_valid, validity, v, done, n);
         if let Err(position) = take_into(&mut made, window, &indices[done..done + n], valid) {
             return Err(done + position);

@@ -7,8 +7,8 @@ ghost use Rattle.vb_c_values.specs.Filtered.{Filters};
 use crate::wide::Wide;
 use vb_bits::window_fits;
 use vb_core::Element;
+use vb_count::count_ones;
 use vb_filter::filter_elements_into;
-use vb_kernel::count_ones;
 use vb_view::BitBufferView;
 
 /// Writes those of the values whose bit of `mask` from bit `m` on is true, in order, to the front

@@ -4,11 +4,11 @@
 #![tactic(auto)]
 
 #[cfg(test)]
-mod beside;
-#[cfg(test)]
 mod float_values;
 #[cfg(test)]
 mod floats;
+#[cfg(test)]
+mod plain_loop;
 #[cfg(test)]
 mod values;
 #[cfg(test)]

@@ -8,7 +8,7 @@ use Rattle.std.proofs.lemmas.List.{length-set, length-append, length-take, take-
 use Rattle.std.proofs.lemmas.List.{take-take, get_or_append_left, get_or-append-add}
 use Rattle.std.specs.Int.{div_ceil}
 use Rattle.vb_bits.specs.Bits.{at, count}
-use Rattle.vb_kernel.proofs.BitsLemmas.{count-le, count-take-le, count-take_more, count-take-mono}
+use Rattle.vb_bits.proofs.BitsLemmas.{count-le, count-take-le, count-take_more, count-take-mono}
 use Rattle.vb_directory.specs.Counts.{AreCounts, numbers_for, count_before_group, count_in_group}
 use Rattle.vb_directory.proofs.CountsLemmas.{at-count_in_group, before-of_group}
 use Rattle.vb_rank.proofs.EditsLemmas.{bump, count-take_range, count-take-set_before}

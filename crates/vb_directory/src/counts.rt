@@ -20,7 +20,7 @@ use std::marker::Model;
 #[cfg(test)]
 pub(crate) use tally::TallyGroups;
 use vb_core::{BufferError, Result};
-use vb_kernel::count_ones;
+use vb_count::count_ones;
 use vb_rank::BLOCK_BITS;
 use vb_view::BitBufferView;
 

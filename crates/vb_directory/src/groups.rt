@@ -5,14 +5,14 @@ ghost use Rattle.std.specs.Int.{div_ceil};
 ghost use Rattle.vb_bits.specs.Bits.{bits, count, Selects};
 ghost use Rattle.vb_bits.specs.InBytes.{InBytes};
 ghost use Rattle.vb_directory.specs.Counts.{AreCounts, numbers_for, counts_before};
-ghost use Rattle.vb_kernel.specs.Looks.{LooksAtMost};
-ghost use Rattle.vb_kernel.specs.Hits.{hits};
+ghost use Rattle.vb_count.specs.Looks.{LooksAtMost};
+ghost use Rattle.vb_count.specs.Hits.{hits};
 ghost use Rattle.vb_rank.specs.Tables.{blocks, block_counts, binary_digits, BeginsBefore, Rises};
 ghost use Rattle.vb_rank.specs.Tables.{ProbesExactly, ProbesAtMost};
 
 use crate::probe_groups::{Befores, ProbeGroups, Withins};
 use crate::size::{GROUP_BITS, GROUP_BLOCKS};
-use vb_kernel::Glance;
+use vb_count::Glance;
 use vb_rank::{BLOCK_BITS, find_block, rank_from, select_from};
 
 /// How many of the first `i` of the `len` bits from bit `offset` on are true, as

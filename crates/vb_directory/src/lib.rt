@@ -9,12 +9,12 @@
 //! in bits.
 #![tactic(auto)]
 
-mod added;
-mod ask;
+mod count_added;
 mod counts;
-mod eight;
 mod groups;
 mod probe_groups;
+mod questions;
+mod select_each;
 mod size;
 #[cfg(test)]
 mod tests;

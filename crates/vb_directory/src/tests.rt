@@ -6,7 +6,7 @@ use crate::groups::{rank_in_groups, select_in_groups};
 use std::alloc::Global;
 use std::fmt::Debug;
 use std::process::Abort;
-use vb_kernel::Plain;
+use vb_count::Plain;
 use vb_view::BitBufferView;
 
 /// The two values are equal.

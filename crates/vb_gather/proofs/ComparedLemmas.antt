@@ -7,11 +7,11 @@ use Rattle.vb_bits.specs.declared.zip.BitOp.TheVariants.{And}
 use Rattle.vb_bits.proofs.BitsLemmas.{length-bits}
 use Rattle.vb_bits.proofs.OperatorsLemmas.{length-merged_bits}
 use Rattle.vb_bit_bytes.proofs.BytesLemmas.{bits-combined_by}
-use Rattle.vb_gather.specs.Compared.{Shows, where_valid}
+use Rattle.vb_gather.specs.Compared.{HoldsBits, where_valid}
 
 -- no validity, and nothing to be cleared
 pub none_cleared : (b : List ℕ) (n : ℕ) (v : Option (List Bool)) → v ≡ None
-    → Shows n (where_valid v (bits b 0 n)) b b
+    → HoldsBits n (where_valid v (bits b 0 n)) b b
 none_cleared b n v e = record {
   same_len = refl;
   bits_are = ap (λ u. where_valid u (bits b 0 n)) (sym e);
@@ -22,7 +22,7 @@ none_cleared b n v e = record {
 pub some_cleared : (b d src : List ℕ) (o n : ℕ) (l : List Bool) (v : Option (List Bool))
     → v ≡ Some l → bits src o n ≡ l
     → Writes b d 0 (combined_by And (bits b 0 n) (bits src o n))
-    → Shows n (where_valid v (bits b 0 n)) b d
+    → HoldsBits n (where_valid v (bits b 0 n)) b d
 some_cleared b d src o n l v e seen w =
     let same : combined_by And (bits b 0 n) (bits src o n) ≡ where_valid v (bits b 0 n) =
     ap (combined_by And (bits b 0 n)) seen ∙ ap (λ u. where_valid u (bits b 0 n)) (sym e) in
@@ -34,8 +34,8 @@ some_cleared b d src o n l v e seen w =
 
 -- answers that were written, and then cleared
 pub cleared : (n : ℕ) (v : Option (List Bool)) (l : List Bool) (b c d : List ℕ)
-    → length l ≡ n → Writes b c 0 l → Shows n (where_valid v (bits c 0 n)) c d
-    → Shows n (where_valid v l) b d
+    → length l ≡ n → Writes b c 0 l → HoldsBits n (where_valid v (bits c 0 n)) c d
+    → HoldsBits n (where_valid v l) b d
 cleared n v l b c d long written shown =
     let is : bits c 0 n ≡ l = ap (bits c 0) (sym long) ∙ written.window in
     record {

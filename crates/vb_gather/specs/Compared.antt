@@ -10,7 +10,7 @@ where_valid None answers = answers
 where_valid (Some validity) answers = combined_by And answers validity
 
 -- the first n bits of the new bytes, of which there are as many as of the old, are the list
-pub record Shows (n : ℕ) (l : List Bool) (old new : List ℕ) : Type 0 where
+pub record HoldsBits (n : ℕ) (l : List Bool) (old new : List ℕ) : Type 0 where
   pub same_len : length new ≡ length old
   pub bits_are : bits new 0 n ≡ l
   pub len : length l ≡ n

@@ -5,7 +5,7 @@ ghost use Rattle.std.specs.Simd.Lanes.{zip2};
 ghost use Rattle.vb_bit_buffer.specs.SharedSet.{IsFreshSet};
 ghost use Rattle.vb_bits.specs.Bits.{bits};
 ghost use Rattle.vb_compare.specs.Compares.{compares};
-ghost use Rattle.vb_gather.specs.Compared.{Shows, where_valid};
+ghost use Rattle.vb_gather.specs.Compared.{HoldsBits, where_valid};
 ghost use Rattle.vb_gather.specs.OneLength.{GivesOfLength, length_or};
 ghost use Rattle.vb_mem.specs.Makes.{Makes};
 ghost use Rattle.vb_view.specs.View.{bits_of};
@@ -130,7 +130,7 @@ fn write_compared<T: CompareLanes>(
 )
     requires room { length values.now ≤ 8 * length out.old }
     requires validity { ForSome validity (λ v. length (bits_of v) ≡ length values.now) }
-    ensures { Shows (length values.now) (where_valid (option_map bits_of validity.entry)
+    ensures { HoldsBits (length values.now) (where_valid (option_map bits_of validity.entry)
         (map (λ value. compares op (T.number value) (T.number number)) values.now))
         out.old out.new }
 {
@@ -150,7 +150,7 @@ fn write_compared_with<T: CompareLanes>(
     requires room { length values.now ≤ 8 * length out.old }
     requires others { length others.now ≡ length values.now }
     requires validity { ForSome validity (λ v. length (bits_of v) ≡ length values.now) }
-    ensures { Shows (length values.now) (where_valid (option_map bits_of validity.entry)
+    ensures { HoldsBits (length values.now) (where_valid (option_map bits_of validity.entry)
         (zip2 (λ left right. compares op (T.number left) (T.number right))
         values.now others.now)) out.old out.new }
 {
@@ -162,7 +162,7 @@ fn write_compared_with<T: CompareLanes>(
 fn clear_nulls(out: &mut [u8], len: usize, validity: Option<BitBufferView<'_>>)
     requires room { len ≤ 8 * length out.old }
     requires validity { ForSome validity (λ v. length (bits_of v) ≡ len) }
-    ensures { Shows len (where_valid (option_map bits_of validity.entry) (bits out.old 0 len))
+    ensures { HoldsBits len (where_valid (option_map bits_of validity.entry) (bits out.old 0 len))
         out.old out.new }
 {
     if let Some(valid) = validity {

@@ -1,4 +1,5 @@
-//! Counts and selects of the bits of a window, by looks that are counted.
+//! The calls of `vb_bits`, `vb_pack`, `vb_count`, `vb_pair` and `vb_select` under one name: the
+//! kernels over the bits of a slice.
 //!
 //! A window is the `len` bits from bit `offset` on, least significant first. It has to lie in the
 //! bytes, and its end has to be a `usize`; [`window_fits`] is the test. Places and counts are of
@@ -6,27 +7,9 @@
 //!
 //! The calls that end in `_by` read a [`Glance`], a source of bytes that counts its reads: see
 //! [`count_ones_by`] for the exact number, and [`most_looks`] for a bound on it. Those that search
-//! stop at what they find: they take at most the looks of a count of the bits up to it. The calls
-//! of `vb_bits` and `vb_pack` are given on.
+//! stop at what they find.
 #![tactic(auto)]
 
-mod chunk;
-mod last;
-mod nearest;
-mod next;
-mod parts;
-mod search;
-mod select;
-mod unit;
-
-pub use last::{
-    last_set_index, last_set_index_by, previous_set, previous_set_by, previous_unset,
-    previous_unset_by,
-};
-pub use next::{
-    all_set, all_set_by, any_set, any_set_by, next_set, next_set_by, next_unset, next_unset_by,
-};
-pub use select::{bit_select, bit_select_by, bit_select_unset, bit_select_unset_by};
 pub use vb_bits::{
     BitOp, copy_bits, equal_bits, fill_bits, full_word, get_bit, get_bit_unchecked, map_words,
     read_bits, read_u64_le, set_bit_to, set_bit_unchecked, unset_bit_unchecked, window_fits,
@@ -41,4 +24,9 @@ pub use vb_pack::{
 pub use vb_pair::{
     and_count, and_count_by, andnot_count, andnot_count_by, is_disjoint, is_disjoint_by, is_subset,
     is_subset_by, or_count, or_count_by, xor_count, xor_count_by,
+};
+pub use vb_select::{
+    all_set, all_set_by, any_set, any_set_by, bit_select, bit_select_by, bit_select_unset,
+    bit_select_unset_by, last_set_index, last_set_index_by, next_set, next_set_by, next_unset,
+    next_unset_by, previous_set, previous_set_by, previous_unset, previous_unset_by,
 };

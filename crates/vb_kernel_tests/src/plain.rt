@@ -1,7 +1,7 @@
 //! Counting, selecting and combining bit by bit, as the definitions say it.
 ghost use Rattle.std.specs.Prelude.{◌≡◌, ◌+◌, ◌*◌, ◌^◌, ◌<◌, ◌≤◌, length};
 ghost use Rattle.vb_bits.specs.InBytes.{InBytes};
-ghost use Rattle.vb_kernel.specs.Bits.{bits, count, complement, Selects};
+ghost use Rattle.vb_bits.specs.Bits.{bits, count, complement, Selects};
 
 use vb_kernel::{BitOp, get_bit};
 

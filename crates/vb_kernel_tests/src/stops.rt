@@ -5,8 +5,7 @@ use crate::plain::{next_match, previous_match};
 use std::process::Abort;
 use vb_kernel::{
     Tally, all_set_by, any_set_by, is_disjoint, is_disjoint_by, is_subset, is_subset_by,
-    last_set_index_by, next_set_by, next_unset_by, previous_set_by, previous_unset_by,
-    window_fits,
+    last_set_index_by, next_set_by, next_unset_by, previous_set_by, previous_unset_by, window_fits,
 };
 
 /// A window: its bytes, the bit at which it begins, and how many bits it has.
@@ -57,7 +56,12 @@ fn next_is_exact(rt: &impl Abort, (bytes, offset, len): Window<'_>, from: usize,
     let wanted = next_match(bytes, offset, len, from, value);
     let (at, left) = (offset.saturating_add(from), len.saturating_sub(from));
     let looks = looks_to(at, left, wanted.map(|place| place.saturating_sub(from)));
-    equal_at(rt, (found, src.looks()), (wanted, looks), (offset, len, from));
+    equal_at(
+        rt,
+        (found, src.looks()),
+        (wanted, looks),
+        (offset, len, from),
+    );
 }
 
 /// A search from place `before` to the front.
@@ -76,7 +80,12 @@ fn previous_is_exact(
     };
     let wanted = previous_match(bytes, offset, len, before, value);
     let looks = looks_back(offset, len.min(before), wanted);
-    equal_at(rt, (found, src.looks()), (wanted, looks), (offset, len, before));
+    equal_at(
+        rt,
+        (found, src.looks()),
+        (wanted, looks),
+        (offset, len, before),
+    );
 }
 
 /// The searches of the whole window.
@@ -95,7 +104,12 @@ fn whole_is_exact(rt: &impl Abort, (bytes, offset, len): Window<'_>) {
     let set = next_match(bytes, offset, len, 0, true);
     let unset = next_match(bytes, offset, len, 0, false);
     let end = previous_match(bytes, offset, len, len, true);
-    equal_at(rt, found, (set.is_some(), unset.is_none(), end), (offset, len));
+    equal_at(
+        rt,
+        found,
+        (set.is_some(), unset.is_none(), end),
+        (offset, len),
+    );
     let wanted = (
         looks_to(offset, len, set),
         looks_to(offset, len, unset),

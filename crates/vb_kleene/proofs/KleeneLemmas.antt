@@ -10,7 +10,7 @@ use Rattle.std.proofs.lemmas.Simd.{length-zip2}
 use Rattle.vb_bits.specs.Bits.{complement}
 use Rattle.vb_bits.specs.Operators.{merged_by}
 use Rattle.vb_kleene.specs.Combined.{trues_by, valid_by}
-use Rattle.vb_kleene.specs.Kleene.{and_truths, or_truths, truth, truths, validity_of, is_truth}
+use Rattle.vb_kleene.specs.Kleene.{and_truths, or_truths, truth, truths, valid_list, is_truth}
 
 -- ---- columns
 -- which are valid and true
@@ -46,7 +46,7 @@ all_false (x ∷ values) = ap (λ l. not x ∷ l) (all_false values)
 
 -- a validity is as long as its values
 long_validity : {X : Type 0} (f : X → List Bool) (o : Option X) (n : ℕ)
-    → ForSome o (λ x. length (f x) ≡ n) → length (validity_of n (option_map f o)) ≡ n
+    → ForSome o (λ x. length (f x) ≡ n) → length (valid_list n (option_map f o)) ≡ n
 long_validity f None n h = length-replicate n true
 long_validity f (Some x) n h = h x refl
 
@@ -54,7 +54,7 @@ long_validity f (Some x) n h = h x refl
 pub length-truths : {X : Type 0} (f : X → List Bool) (l : List Bool) (v : Option X)
     → ForSome v (λ x. length (f x) ≡ length l) → length (truths l (option_map f v)) ≡ length l
 length-truths f l v h =
-    length-zip2 truth l (validity_of (length l) (option_map f v))
+    length-zip2 truth l (valid_list (length l) (option_map f v))
     (sym (long_validity f v (length l) h))
 
 -- ---- `and` and `or`

@@ -25,13 +25,13 @@ abbrev pub truth : Bool → Bool → Option Bool
 truth value valid = cond valid (Some value) None
 
 -- which of n values are valid: all, where there is no validity
-abbrev pub validity_of : ℕ → Option (List Bool) → List Bool
-validity_of n None = replicate n true
-validity_of n (Some validity) = validity
+abbrev pub valid_list : ℕ → Option (List Bool) → List Bool
+valid_list n None = replicate n true
+valid_list n (Some validity) = validity
 
 -- the truth values of a column
 abbrev pub truths : List Bool → Option (List Bool) → List (Option Bool)
-truths values validity = zip2 truth values (validity_of (length values) validity)
+truths values validity = zip2 truth values (valid_list (length values) validity)
 
 -- whether a truth value is known to be this one
 abbrev pub is_truth : Bool → Option Bool → Bool

@@ -6,8 +6,8 @@
 //! test. No call takes memory or writes.
 #![tactic(auto)]
 
-mod beside;
-mod merged;
+mod count_beside;
+mod count_merged;
 mod operator;
 mod relation;
 

@@ -7,8 +7,8 @@ ghost use Rattle.vb_count.specs.Looks.{looks, LooksExactly};
 ghost use Rattle.vb_pair.specs.Beside.{looks_beside};
 ghost use Rattle.vb_bits.specs.declared.zip.BitOp.TheVariants.{And, Or, Xor, AndNot};
 
-use crate::beside::count_beside;
-use crate::merged::count_merged;
+use crate::count_beside::count_beside;
+use crate::count_merged::count_merged;
 use vb_bits::{And as Both, AndNot as LeftAlone, Or as Either, Xor as OneAlone};
 use vb_count::Glance;
 

@@ -8,8 +8,8 @@ ghost use Rattle.vb_count.specs.Looks.{looks, LooksAtMost, StopsAtNext};
 ghost use Rattle.vb_pair.specs.Beside.{looks_beside, StopsBeside};
 ghost use Rattle.vb_pair.specs.Merged.{merged_ones};
 
-use crate::beside::{count_look, next_byte};
-use crate::merged::{few_ones, merged_word_ones};
+use crate::count_beside::{count_look, next_byte};
+use crate::count_merged::{few_ones, merged_word_ones};
 use vb_bits::{And as Both, AndNot as LeftAlone, Merge};
 use vb_count::{Glance, first_look};
 

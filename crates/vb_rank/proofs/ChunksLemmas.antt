@@ -5,10 +5,10 @@ use Rattle.std.specs.Prelude.{slice_range}
 use Rattle.std.proofs.lemmas.List.{get_or_append_left, take-append-le}
 use Rattle.std.proofs.Math.Seq.{take-append_seam}
 use Rattle.vb_bits.specs.Bits.{bits, count, Selects}
-use Rattle.vb_kernel.specs.Hits.{hits}
-use Rattle.vb_kernel.proofs.BitsLemmas.{length-bits, count-take-mono, count-append}
-use Rattle.vb_kernel.proofs.BytesLemmas.{bits_of_read}
-use Rattle.vb_kernel.proofs.HitsLemmas.{length-hits, hits-bits-add}
+use Rattle.vb_count.specs.Hits.{hits}
+use Rattle.vb_bits.proofs.BitsLemmas.{length-bits, count-take-mono, count-append}
+use Rattle.vb_bits.proofs.BytesLemmas.{bits_of_read}
+use Rattle.vb_count.proofs.HitsLemmas.{length-hits, hits-bits-add}
 
 -- ---- a list and a front of it
 -- what is found in the list, and lies in the front, is found there

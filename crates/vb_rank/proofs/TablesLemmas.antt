@@ -9,11 +9,11 @@ use Rattle.std.proofs.lemmas.List.FromFn.{length-map-range_with_len, get_or-map-
 use Rattle.std.proofs.lemmas.Bool.{cases_lt}
 use Rattle.std.proofs.lemmas.Int.Digits.{length-digits_of_step, length-digits_of-le}
 use Rattle.vb_bits.specs.Bits.{bits, count, Selects}
-use Rattle.vb_kernel.specs.Looks.{looks}
-use Rattle.vb_kernel.specs.Hits.{hits}
-use Rattle.vb_kernel.proofs.BitsLemmas.{length-bits, take-bits, count-bits-le}
-use Rattle.vb_kernel.proofs.HitsLemmas.{count-hits-bits_split, count-hits-bits_false}
-use Rattle.vb_kernel.proofs.SearchesLemmas.{Searched_after, Searched_longer}
+use Rattle.vb_count.specs.Looks.{looks}
+use Rattle.vb_count.specs.Hits.{hits}
+use Rattle.vb_bits.proofs.BitsLemmas.{length-bits, take-bits, count-bits-le}
+use Rattle.vb_count.proofs.HitsLemmas.{count-hits-bits_split, count-hits-bits_false}
+use Rattle.vb_select.proofs.SearchesLemmas.{Searched_after, Searched_longer}
 use Rattle.vb_rank.specs.Tables.{CountedEntries, ProbesExactly, ProbesAtMost, blocks}
 use Rattle.vb_rank.specs.Tables.{block_counts, binary_digits}
 use Rattle.vb_rank.specs.Tables.{count_before, BeginsBefore, Narrows, Rises}

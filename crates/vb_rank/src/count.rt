@@ -3,11 +3,11 @@ ghost use Rattle.std.specs.Prelude.{◌≡◌, ◌+◌, ◌-◌, ◌*◌, ◌^�
 ghost use Rattle.vb_bits.specs.Bits.{bits, count};
 ghost use Rattle.vb_bits.specs.Digits.{digits};
 ghost use Rattle.vb_bits.specs.InBytes.{InBytes};
-ghost use Rattle.vb_kernel.specs.Looks.{LooksAtMost};
+ghost use Rattle.vb_count.specs.Looks.{LooksAtMost};
 
-use crate::front::front_mask;
+use crate::front_mask::front_mask;
 use vb_bits::full_word;
-use vb_kernel::{Glance, count_ones_by};
+use vb_count::{Glance, count_ones_by};
 
 /// How many of the `len` bits from bit `at` on are true, which are no more than a block.
 ///

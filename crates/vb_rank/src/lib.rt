@@ -12,20 +12,20 @@
 
 mod block;
 mod count;
-mod eight;
-mod front;
+mod front_mask;
 mod level;
 mod probe;
 mod rank;
 mod select;
+mod side_by_side;
 mod size;
 mod table;
 
 pub use block::find_block;
-pub use eight::{LANES, find_blocks, select_each_from};
 pub use level::Level;
 pub use probe::{PlainTable, Probe, TallyTable};
 pub use rank::{rank_by, rank_from};
 pub use select::{select_by, select_from, select_unset_by};
+pub use side_by_side::{LANES, find_blocks, select_each_from};
 pub use size::BLOCK_BITS;
 pub use table::{table_of, write_block_counts};

@@ -2,13 +2,13 @@
 ghost use Rattle.std.specs.Prelude.{◌≡◌, ◌+◌, ◌*◌, ◌^◌, ◌<◌, ◌≤◌, length, take};
 ghost use Rattle.vb_bits.specs.Bits.{bits, count};
 ghost use Rattle.vb_bits.specs.InBytes.{InBytes};
-ghost use Rattle.vb_kernel.specs.Looks.{LooksAtMost};
+ghost use Rattle.vb_count.specs.Looks.{LooksAtMost};
 ghost use Rattle.vb_rank.specs.Tables.{blocks, ProbesAtMost, IsTableOf};
 
 use crate::count::count_in_block;
 use crate::probe::Probe;
 use crate::size::BLOCK_BITS;
-use vb_kernel::Glance;
+use vb_count::Glance;
 
 /// How many of the first `i` of the `len` bits from bit `offset` on are true.
 ///

@@ -3,8 +3,8 @@ ghost use Rattle.std.specs.Prelude.{◌≡◌, ℕ, List, ◌+◌, ◌*◌, ◌^
 ghost use Rattle.vb_bits.specs.Bits.{bits, complement, count, Selects, InvertsCount};
 ghost use Rattle.vb_bits.specs.Digits.{digits};
 ghost use Rattle.vb_bits.specs.InBytes.{InBytes};
-ghost use Rattle.vb_kernel.specs.Looks.{LooksAtMost};
-ghost use Rattle.vb_kernel.specs.Hits.{hits};
+ghost use Rattle.vb_count.specs.Looks.{LooksAtMost};
+ghost use Rattle.vb_count.specs.Hits.{hits};
 ghost use Rattle.vb_rank.specs.Tables.{blocks, binary_digits, block_counts, BeginsBefore};
 ghost use Rattle.vb_rank.specs.Tables.{ProbesAtMost, IsTableOf};
 
@@ -13,8 +13,8 @@ use crate::level::Entries;
 use crate::probe::Probe;
 use crate::size::BLOCK_BITS;
 use vb_bits::{full_word, select_in_word};
-use vb_count::{digit_ones, matching_word};
-use vb_kernel::{Glance, bit_select_by, bit_select_unset_by};
+use vb_count::{Glance, digit_ones, matching_word};
+use vb_select::{bit_select_by, bit_select_unset_by};
 
 /// The place, counted from bit `offset`, of the `n`-th true bit among the `len` bits from there on,
 /// with `n` counted from 0; `None` where at most `n` of these bits are true.

@@ -9,7 +9,7 @@ ghost use Rattle.vb_view.specs.View.{bits_of};
 use crate::size::BLOCK_BITS;
 use std::alloc::Allocator;
 use vb_core::{BufferError, Result};
-use vb_kernel::count_ones;
+use vb_count::count_ones;
 use vb_view::BitBufferView;
 
 /// For each block of 512 bits, how many true bits are before it.

@@ -3,7 +3,7 @@ pub mod Many
 pub use Rattle.vb_bits.specs.Bits
 pub use Rattle.vb_bits.specs.Writes
 pub use Rattle.vb_directory.specs.Counts
-pub use Rattle.vb_kernel.specs.Hits
+pub use Rattle.vb_count.specs.Hits
 pub use Rattle.vb_set.specs.Makes
 pub use Rattle.vb_set.specs.OpenSet
 pub use Rattle.vb_set.specs.SharedSet

@@ -5,11 +5,11 @@
 //! [`RankedBuffer`] answers the same of a shared set, which is read alone.
 #![tactic(auto)]
 
+mod append_parts;
+mod make_ready;
 mod many;
-mod parts;
 mod ranked;
 mod ranked_buffer;
-mod ready;
 mod room;
 
 pub use ranked::Ranked;

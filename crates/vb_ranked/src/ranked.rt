@@ -4,7 +4,7 @@ ghost use Rattle.std.specs.Prelude.{◌==◌, slice_get, slice_set, Some, IfOk, 
 ghost use Rattle.std.specs.List.{AllZip};
 ghost use Rattle.vb_bits.specs.Bits.{count, complement, Selects, InvertsCount};
 ghost use Rattle.vb_bits.specs.Writes.{Writes};
-ghost use Rattle.vb_kernel.specs.Hits.{hits};
+ghost use Rattle.vb_count.specs.Hits.{hits};
 ghost use Rattle.vb_ranked.specs.Many.{FindsMany};
 ghost use Rattle.vb_set.specs.Makes.{Makes};
 ghost use Rattle.vb_set.specs.OpenSet.{KeepsLayout};

@@ -4,7 +4,7 @@ use crate::made::{by_fives, mixed, ones};
 use crate::rows::BY_FIVES;
 use std::alloc::{Allocator, Global};
 use std::process::Abort;
-use vb_kernel::Tally;
+use vb_count::Tally;
 use vb_rank::{TallyTable, rank_by, select_by, select_unset_by, table_of};
 use vb_ranked::{Ranked, RankedBuffer};
 use vb_set::{BitBufferMut, BitBufferView, Result};

@@ -19,7 +19,7 @@ use std::marker::Model;
 use vb_command::{Answer, Printer};
 
 /// How many bytes wait at most.
-const MOST: usize = 65536;
+const LIMIT: usize = 65536;
 
 /// How long the room is at least once it has grown.
 const FIRST_ROOM: usize = 1024;
@@ -33,7 +33,7 @@ const PIECE: usize = 21;
 #[derive(Drop)]
 pub(crate) struct Outbox<A: Allocator> {
     /// The room for bytes, each of which has been written, so that answers are stored there with
-    /// no look at a capacity. It grows up to `MOST`, within the memory that it has.
+    /// no look at a capacity. It grows up to `LIMIT`, within the memory that it has.
     room: Vec<u8, A>,
     /// How many bytes at its front wait.
     end: usize,
@@ -41,14 +41,14 @@ pub(crate) struct Outbox<A: Allocator> {
 
 impl<A: Allocator> Model for Outbox<A> {
     ghost use Rattle.std.specs.Prelude.{ℕ, List, ◌≤◌, length, take, vec_capacity};
-    ghost use Rattle.vb_script.specs.declared.outbox.TheConstants.{MOST};
+    ghost use Rattle.vb_script.specs.declared.outbox.TheConstants.{LIMIT};
 
     ghost Value = { List ℕ };
 
     ghost view = { λ o. take o.end o.room.items };
 
-    ghost invariant = { λ o. (o.end ≤ length o.room.items) × (length o.room.items ≤ MOST)
-        × (MOST ≤ vec_capacity o.room) };
+    ghost invariant = { λ o. (o.end ≤ length o.room.items) × (length o.room.items ≤ LIMIT)
+        × (LIMIT ≤ vec_capacity o.room) };
 }
 
 impl<A: Allocator> Outbox<A> {
@@ -57,7 +57,7 @@ impl<A: Allocator> Outbox<A> {
         ensures { IfOk result (λ out. out ≡ []) }
     {
         Ok(Outbox {
-            room: Vec::with_capacity(alloc, MOST)?,
+            room: Vec::with_capacity(alloc, LIMIT)?,
             end: 0,
         })
     }
@@ -71,16 +71,16 @@ impl<A: Allocator> Outbox<A> {
         answer.print(self, output)
     }
 
-    /// Adds at most `MOST` truth values as binary digits. What waits is written first where both
+    /// Adds at most `LIMIT` truth values as binary digits. What waits is written first where both
     /// would be more than that.
     #[tactic(auto, using(crate::proofs::KnownBytes::known_bytes))]
     fn put_block<W: Sink>(&mut self, bits: &[bool], output: &mut W) -> Result<(), Fault>
-        requires { length bits.now ≤ MOST }
+        requires { length bits.now ≤ LIMIT }
         ensures { Adds (flat_map digit_of bits.now) result
             (W.contents output.old) self.old (W.contents output.new) self.new
             (W.faults output.old) (W.faults output.new) }
     {
-        if bits.len() > MOST - self.end {
+        if bits.len() > LIMIT - self.end {
             self.flush(output)?;
         }
         lengthen(&mut self.room, self.end + bits.len());
@@ -88,17 +88,17 @@ impl<A: Allocator> Outbox<A> {
         Ok(())
     }
 
-    /// Adds bytes. What waits is written first where both would be more than `MOST`.
+    /// Adds bytes. What waits is written first where both would be more than `LIMIT`.
     #[tactic(auto, using(crate::proofs::KnownBytes::known_bytes))]
     fn put<W: Sink>(&mut self, bytes: &[u8], output: &mut W) -> Result<(), Fault>
         ensures { Adds bytes.now result
             (W.contents output.old) self.old (W.contents output.new) self.new
             (W.faults output.old) (W.faults output.new) }
     {
-        if bytes.len() > MOST - self.end {
+        if bytes.len() > LIMIT - self.end {
             self.flush(output)?;
         }
-        if bytes.len() > MOST {
+        if bytes.len() > LIMIT {
             return output.write(bytes);
         }
         lengthen(&mut self.room, self.end + bytes.len());
@@ -192,7 +192,7 @@ impl<A: Allocator, W: Sink> Printer<W> for Outbox<A> {
     fn put_digits(&mut self, bits: &[bool], output: &mut W) -> Result<(), Fault> {
         let mut start = 0;
         while start < bits.len() {
-            let end = start + MOST.min(bits.len() - start);
+            let end = start + LIMIT.min(bits.len() - start);
             self.put_block(&bits[start..end], output)?;
             start = end;
         }
@@ -226,20 +226,20 @@ impl<A: Allocator, W: Sink> Printer<W> for Outbox<A> {
 }
 
 /// Makes the room at least so long, within its memory. Where it grows it gets at least twice as
-/// long, or `MOST` bytes, so that it seldom does.
+/// long, or `LIMIT` bytes, so that it seldom does.
 fn lengthen<A: Allocator>(room: &mut Vec<u8, A>, size: usize)
-    requires size { size ≤ MOST }
-    requires most { length room.old.items ≤ MOST }
-    requires memory { MOST ≤ vec_capacity room.old }
+    requires size { size ≤ LIMIT }
+    requires most { length room.old.items ≤ LIMIT }
+    requires memory { LIMIT ≤ vec_capacity room.old }
     ensures long { size ≤ length room.new.items }
-    ensures most { length room.new.items ≤ MOST }
-    ensures memory { MOST ≤ vec_capacity room.new }
+    ensures most { length room.new.items ≤ LIMIT }
+    ensures memory { LIMIT ≤ vec_capacity room.new }
     ensures kept { (end : ℕ) → end ≤ length room.old.items
         → take end room.new.items ≡ take end room.old.items }
 {
     let len = room.len();
     if len < size {
-        let more = size.max(2 * len).max(FIRST_ROOM).min(MOST);
+        let more = size.max(2 * len).max(FIRST_ROOM).min(LIMIT);
         room.resize(more, 0).unwrap();
     }
 }

@@ -3,7 +3,9 @@ use crate::compared::{equal, holds};
 use crate::made::window;
 use std::alloc::Allocator;
 use std::process::Abort;
-use vb_kernel::{Tally, bit_select_by, bit_select_unset_by, count_ones_by, window_fits};
+use vb_bits::window_fits;
+use vb_count::{Tally, count_ones_by};
+use vb_select::{bit_select_by, bit_select_unset_by};
 use vb_set::{BitBuffer, BitBufferMut, Result};
 
 /// The places of the first bit, and the lengths, at which sets are asked.

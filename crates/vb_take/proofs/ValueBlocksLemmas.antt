@@ -12,7 +12,7 @@ use Rattle.std.specs.Prelude.{Result, Ok, Err, IfOk, IfErr}
 use Rattle.vb_bits.specs.Digits.{has_bit, digits}
 use Rattle.vb_bits.proofs.DigitsLemmas.{at-digits, has_bit-bit_not}
 use Rattle.vb_take.specs.Takes.{is_valid, TakenTo}
-use Rattle.vb_take.specs.ValueBlocks.{PutsOnes, StopsAt, PutsZeros}
+use Rattle.vb_take.specs.ValueBlocks.{PutsOnes, FailsAt, PutsZeros}
 use Rattle.vb_take.specs.ItemsTaken.{item_named, item_or, item_taken, IsFirstUntaken}
 use Rattle.vb_take.proofs.ItemsLemmas.{first_here}
 use Rattle.vb_walk.proofs.OnesLemmas.{lowest_off}
@@ -160,7 +160,7 @@ module _ {T X : Type 0} (f : X → ℤ) (zero : T) (items : List T) (xs : List X
 
     -- what it is stopped at is the first position that takes nothing
     pub stop_first : (p : ℕ) (old new out : List T)
-        → StopsAt zero items (map f xs) a word p old new → a + 64 ≤ length xs
+        → FailsAt zero items (map f xs) a word p old new → a + 64 ≤ length xs
         → TakenTo p (item_taken zero items (map f xs) v) (item_or zero out)
         → IsFirstUntaken zero items (map f xs) v p
     stop_first p old new out stop inside before =
@@ -174,7 +174,7 @@ module _ {T X : Type 0} (f : X → ℤ) (zero : T) (items : List T) (xs : List X
 
 -- where it is stopped, from there on nothing was written
 pub stop_stays : {T : Type 0} (zero : T) (items : List T) (is : List ℤ) (a word p : ℕ)
-    (old new : List T) → StopsAt zero items is a word p old new → drop p new ≡ drop p old
+    (old new : List T) → FailsAt zero items is a word p old new → drop p new ≡ drop p old
 stop_stays zero items is a word p old new stop =
     let place : a + (p - a) ≡ p = omega (arith, stop.from) in
     ap (λ j. drop j new) (sym place) ∙ stop.put.behind ∙ ap (λ j. drop j old) place

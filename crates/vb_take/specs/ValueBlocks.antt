@@ -17,7 +17,7 @@ module _ {T : Type 0} (zero : T) (items : List T) (indices : List ℤ) (a word :
 
   -- position p, one of 64 from a on, is the first whose digit is 1 and whose index names no item,
   -- and those before it got theirs
-  pub record StopsAt (p : ℕ) (old new : List T) : Type 0 where
+  pub record FailsAt (p : ℕ) (old new : List T) : Type 0 where
     pub from : a ≤ p
     pub within : p < a + 64
     pub counts : has_bit word (p - a) ≡ true

@@ -15,7 +15,7 @@ use vb_core::BitIndex;
 use vb_view::BitBufferView;
 
 /// Fewer bits than these have places of 32 bits, also as seen from the byte of the first one.
-const MOST: usize = u32::MAX as usize - 8;
+const NARROW: usize = u32::MAX as usize - 8;
 
 /// Takes one bit of `bits` for each index: bit `k` of `out` becomes the bit of `bits` that
 /// `indices[k]` names. `Err(k)` is the first position whose index is negative or not below the
@@ -42,7 +42,7 @@ pub fn take_into<I: BitIndex>(
         (option_map bits_of validity.entry) p) }
     ensures others { Writes out.old out.new 0 (window out.new 0 (length indices.now)) }
 {
-    let words = if 0 < bits.len() && bits.len() < MOST {
+    let words = if 0 < bits.len() && bits.len() < NARROW {
         indices.len() / 64
     } else {
         0

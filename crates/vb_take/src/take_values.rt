@@ -7,7 +7,7 @@ ghost use Rattle.vb_bits.specs.Digits.{has_bit};
 ghost use Rattle.vb_take.specs.ItemsTaken.{item_named, item_or, item_taken};
 ghost use Rattle.vb_take.specs.ItemsTaken.{AreTaken, IsFirstUntaken};
 ghost use Rattle.vb_take.specs.Takes.{TakenTo};
-ghost use Rattle.vb_take.specs.ValueBlocks.{PutsOnes, StopsAt, PutsZeros};
+ghost use Rattle.vb_take.specs.ValueBlocks.{PutsOnes, FailsAt, PutsZeros};
 ghost use Rattle.vb_view.specs.View.{bits_of};
 
 use crate::valid::{is_valid, valid_word};
@@ -153,7 +153,7 @@ fn put_ones<T: Element, I: BitIndex>(
     requires inside { at + 64 ≤ length indices.now }
     ensures put { IfOk result (λ _. PutsOnes T.zero values.now (map I.number indices.now) at word
         64 out.old out.new) }
-    ensures past { IfErr result (λ p. StopsAt T.zero values.now (map I.number indices.now) at word
+    ensures past { IfErr result (λ p. FailsAt T.zero values.now (map I.number indices.now) at word
         p out.old out.new) }
 {
     let mut left = word;
@@ -180,7 +180,7 @@ fn put_full<T: Element, I: BitIndex>(
     requires inside { at + 64 ≤ length indices.now }
     ensures put { IfOk result (λ _. PutsOnes T.zero values.now (map I.number indices.now) at u64.MAX
         64 out.old out.new) }
-    ensures past { IfErr result (λ p. StopsAt T.zero values.now (map I.number indices.now) at
+    ensures past { IfErr result (λ p. FailsAt T.zero values.now (map I.number indices.now) at
         u64.MAX p out.old out.new) }
 {
     for position in at..at + 64 {

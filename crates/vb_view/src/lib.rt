@@ -1,7 +1,7 @@
 //! Views of bits over borrowed bytes, and the walks over them.
 //!
 //! A window is the `len` bits from bit `offset` on, least significant first. It has to lie in the
-//! bytes, and its end has to be a `usize`; `vb_kernel::window_fits` is the test. Lengths, offsets
+//! bytes, and its end has to be a `usize`; `vb_bits::window_fits` is the test. Lengths, offsets
 //! and places are counted in bits. No call takes memory.
 #![tactic(auto)]
 

@@ -16,10 +16,11 @@ use crate::meta::BitBufferMeta;
 use std::ops::Range;
 use vb_bits::get_bit;
 use vb_core::{BufferError, Result};
-use vb_kernel::{
-    all_set, and_count, andnot_count, any_set, bit_select, bit_select_unset, count_ones,
-    is_disjoint, is_subset, last_set_index, next_set, next_unset, or_count, previous_set,
-    previous_unset, xor_count,
+use vb_count::count_ones;
+use vb_pair::{and_count, andnot_count, is_disjoint, is_subset, or_count, xor_count};
+use vb_select::{
+    all_set, any_set, bit_select, bit_select_unset, last_set_index, next_set, next_unset,
+    previous_set, previous_unset,
 };
 use vb_walk::{BitChunks, BitIndexIterator, BitIterator, BitSliceIterator, UnalignedBitChunk};
 

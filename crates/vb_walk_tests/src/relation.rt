@@ -3,8 +3,8 @@
 use crate::compared::{equal, equal_at};
 use crate::sample::{mix, view};
 use std::process::Abort;
+use vb_bits::set_bit_to;
 use vb_core::{BufferError, Result};
-use vb_kernel::set_bit_to;
 use vb_view::BitBufferView;
 
 /// What the right bits are, by the left ones and noise.

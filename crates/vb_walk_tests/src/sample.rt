@@ -4,7 +4,7 @@ ghost use Rattle.vb_view.specs.View.{bits_of};
 
 use crate::compared::holds;
 use std::process::Abort;
-use vb_kernel::window_fits;
+use vb_bits::window_fits;
 use vb_view::BitBufferView;
 
 /// Fills the bytes without a pattern, by a linear congruence.

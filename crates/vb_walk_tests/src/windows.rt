@@ -4,7 +4,8 @@ use crate::sample::{mix, stretch};
 use crate::walks::{bits_are_plain, ends_are_plain, places_are_plain, runs_are_plain};
 use crate::words::{chunks_are_plain, unaligned_is_plain};
 use std::process::Abort;
-use vb_kernel::{last_set_index, window_fits};
+use vb_bits::window_fits;
+use vb_select::last_set_index;
 use vb_view::BitBufferView;
 use vb_walk::{BitIndexIterator, BitIterator, BitSliceIterator};
 

@@ -35,9 +35,9 @@ pub use Rattle.vb_gather.specs.Filtered
 pub use Rattle.vb_gather.specs.OneLength
 pub use Rattle.vb_gather.specs.TakenBits
 pub use Rattle.vb_gather.specs.TakenItems
-pub use Rattle.vb_kernel.specs.Beside
-pub use Rattle.vb_kernel.specs.Hits
-pub use Rattle.vb_kernel.specs.Looks
+pub use Rattle.vb_pair.specs.Beside
+pub use Rattle.vb_count.specs.Hits
+pub use Rattle.vb_count.specs.Looks
 pub use Rattle.vb_kleene.specs.Kleene
 pub use Rattle.vb_mem.specs.Makes
 pub use Rattle.vb_mem.specs.Collected

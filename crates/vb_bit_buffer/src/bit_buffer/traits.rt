@@ -11,7 +11,7 @@ use vb_bit_bytes::write_bits;
 use vb_walk::BitIterator;
 
 /// How many bits are printed.
-const SHOWN: usize = 16;
+const DEBUG_BITS: usize = 16;
 
 /// One more owner, as [`BitBuffer::clone`] makes it, for code over std's trait.
 impl<A: Allocator + Clone> Clone for BitBuffer<A> {
@@ -61,7 +61,7 @@ impl<A: Allocator + Clone> fmt::Display for BitBuffer<A> {
     fn fmt<W: fmt::Write>(&self, f: &mut fmt::Formatter<W>) -> fmt::Result {
         let len = self.len();
         write!(f, "BitBuffer {{ len: {len}, buffer: [")?;
-        for i in 0..len.min(SHOWN) {
+        for i in 0..len.min(DEBUG_BITS) {
             let gap = gap_before(i);
             let bit = self.value(i);
             write!(f, "{gap}{bit}")?;

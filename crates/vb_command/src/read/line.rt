@@ -8,7 +8,7 @@ ghost use Rattle.vb_command.specs.Machine.{order_of};
 
 use crate::command::Command;
 use crate::read::arguments::arguments;
-use crate::read::spaces::{NEAR, spaces_of_ascii};
+use crate::read::spaces::{SHORT_LINE, spaces_of_ascii};
 use crate::read::words::Words;
 use crate::unread::Unread;
 use std::alloc::Allocator;
@@ -25,7 +25,7 @@ fn words_within(bytes: &[u8], len: usize) -> Option<Words<'_>>
         × (words ≡ line_words (take len bytes.now))) }
 {
     let line = &bytes[..len];
-    if len <= NEAR && NEAR <= bytes.len() {
+    if len <= SHORT_LINE && SHORT_LINE <= bytes.len() {
         if let Some(spaces) = spaces_of_ascii(bytes, len) {
             return Some(Words::between(known_text(line), spaces));
         }

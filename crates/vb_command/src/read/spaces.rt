@@ -8,14 +8,14 @@ ghost use Rattle.vb_command.specs.Words.{is_space};
 use std::simd::prelude::*;
 
 /// How many bytes are looked at at once. Most lines have fewer.
-pub(crate) const NEAR: usize = 32;
+pub(crate) const SHORT_LINE: usize = 32;
 
 /// Where spaces stand among the first `len` bytes, if these are ASCII: the lowest bit is the first
 /// byte's.
 #[inline(always)]
 pub(crate) fn spaces_of_ascii(bytes: &[u8], len: usize) -> Option<u64>
-    requires bytes { NEAR ≤ length bytes.now }
-    requires len { len ≤ NEAR }
+    requires bytes { SHORT_LINE ≤ length bytes.now }
+    requires len { len ≤ SHORT_LINE }
     ensures spaces { IfSome result (AreSpaces (take len bytes.now)) }
     ensures ascii { IfSome result (λ _. IsAscii (take len bytes.now)) }
 {

@@ -6,7 +6,7 @@ use std::simd::prelude::*;
 
 /// How many bytes are looked at at once. Most parts are shorter, and a search that takes any number
 /// of bytes pays for longer ones alone.
-const NEAR: usize = 16;
+const HEAD: usize = 16;
 
 /// What stands before the first separator of a text, and what follows it, if there is one: what
 /// `split_once` gives, found sooner where the part is short.
@@ -20,7 +20,7 @@ pub(crate) fn split_short(text: &str, separator: char) -> Option<(&str, &str)>
         × (rest.now ≡ after_first (λ b. b == separator) text.now)) }
 {
     let at = near(text.as_bytes(), separator as u8);
-    if at >= NEAR {
+    if at >= HEAD {
         return split_far(text, separator);
     }
     if at == text.len() {
@@ -43,13 +43,13 @@ fn split_far(text: &str, separator: char) -> Option<(&str, &str)>
     text.split_once(separator)
 }
 
-/// The place of the first separator, or where the bytes end, where that is before byte `NEAR`; else
-/// `NEAR`.
+/// The place of the first separator, or where the bytes end, where that is before byte `HEAD`; else
+/// `HEAD`.
 fn near(bytes: &[u8], separator: u8) -> usize
-    ensures place { result < NEAR → result ≡ position_or_len (λ b. b == separator) bytes.now }
+    ensures place { result < HEAD → result ≡ position_or_len (λ b. b == separator) bytes.now }
     ensures within { result ≤ length bytes.now }
 {
-    if bytes.len() < NEAR {
+    if bytes.len() < HEAD {
         near_end(bytes, separator)
     } else {
         near_front(bytes, separator)
@@ -69,19 +69,19 @@ fn near_end(bytes: &[u8], separator: u8) -> usize
     at
 }
 
-/// The place of the first separator among the `NEAR` bytes at the front, or `NEAR`. They are
+/// The place of the first separator among the `HEAD` bytes at the front, or `HEAD`. They are
 /// compared at once: a loop would end at a part's length, which no branch predictor foresees in a
 /// list.
 #[inline(always)]
 fn near_front(bytes: &[u8], separator: u8) -> usize
-    requires { NEAR ≤ length bytes.now }
-    ensures { result ≡ position_or_len (λ b. b == separator) (take NEAR bytes.now) }
+    requires { HEAD ≤ length bytes.now }
+    ensures { result ≡ position_or_len (λ b. b == separator) (take HEAD bytes.now) }
 {
     let found = u8x16::from_slice(bytes)
         .simd_eq(u8x16::splat(separator))
         .to_bitmask();
     if found == 0 {
-        NEAR
+        HEAD
     } else {
         found.trailing_zeros() as usize
     }

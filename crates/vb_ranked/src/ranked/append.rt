@@ -6,8 +6,8 @@ ghost use Rattle.vb_set.specs.OpenSet.{AddsBits, KeepsStart};
 ghost use Rattle.vb_set.specs.View.{bits_of};
 
 use super::Ranked;
-use crate::parts::append_parts;
-use crate::ready::make_ready;
+use crate::append_parts::append_parts;
+use crate::make_ready::make_ready;
 use crate::room::make_room_for;
 use std::alloc::Allocator;
 use vb_rank::BLOCK_BITS;

@@ -13,7 +13,7 @@ use vb_core::{BufferError, Result, TrustedLen};
 use vb_pack::pack_bools;
 
 /// How many truth values of a slice are packed at once.
-const BLOCK: usize = 512;
+const PACKED_BITS: usize = 512;
 
 #[tactic(auto, using(vb_bit_bytes::proofs::BytesLemmas::edits))]
 impl<A: Allocator + Clone> BitBufferMut<A> {
@@ -34,9 +34,9 @@ impl<A: Allocator + Clone> BitBufferMut<A> {
         self.reserve(bools.len())?;
         // The bits lie in the bytes.
         let _bytes = self.as_slice();
-        for block in 0..bools.len().div_ceil(BLOCK) {
-            let start = BLOCK * block;
-            let end = (start + BLOCK).min(bools.len());
+        for block in 0..bools.len().div_ceil(PACKED_BITS) {
+            let start = PACKED_BITS * block;
+            let end = (start + PACKED_BITS).min(bools.len());
             self.append_block(&bools[start..end])?;
         }
         Ok(())
@@ -97,14 +97,14 @@ impl<A: Allocator + Clone> BitBufferMut<A> {
 
     /// [`append_bools`](Self::append_bools) of no more than a block.
     fn append_block(&mut self, bools: &[bool]) -> Result<()>
-        requires { length bools.now ≤ BLOCK }
+        requires { length bools.now ≤ PACKED_BITS }
         ensures ok { OnOk result (AddsBits bools.now self.old self.new) }
         ensures grows { KeepsStart self.old self.new }
         ensures stays { length self.old.bits + length bools.now ≤ self.old.room
             → self.new.room ≡ self.old.room }
         ensures needs { NeedsBits (length bools.now) result self.old self.new }
     {
-        let mut bytes = [0; BLOCK / 8];
+        let mut bytes = [0; PACKED_BITS / 8];
         pack_bools(&mut bytes, bools);
         self.append_bits(&bytes, 0, bools.len())
     }

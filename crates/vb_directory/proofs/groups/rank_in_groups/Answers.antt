@@ -1,6 +1,6 @@
 use Rattle.std.proofs.Common.{◌≡◌, ℕ, Bool, List, ◌-◌, ◌*◌, ◌/◌, ◌<◌, refl, sym, ap, ◌∙◌, arith}
 use Rattle.vb_bits.specs.Bits.{bits, count}
-use Rattle.vb_kernel.proofs.BitsLemmas.{length-bits, take-bits}
+use Rattle.vb_bits.proofs.BitsLemmas.{length-bits, take-bits}
 use Rattle.vb_directory.specs.Counts.{numbers_for}
 use Rattle.vb_directory.proofs.groups.rank_in_groups.Goals as goal
 

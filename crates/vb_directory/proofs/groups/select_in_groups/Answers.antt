@@ -1,6 +1,6 @@
 use Rattle.std.proofs.Common.{ℕ, Bool, true, false, List, refl, ap, ◌∙◌}
 use Rattle.vb_bits.specs.Bits.{bits}
-use Rattle.vb_kernel.proofs.BitsLemmas.{length-bits}
+use Rattle.vb_bits.proofs.BitsLemmas.{length-bits}
 use Rattle.vb_rank.specs.Tables.{block_counts}
 use Rattle.vb_rank.proofs.TablesLemmas.{Rises-table}
 use Rattle.vb_directory.specs.Counts.{numbers_for}

@@ -1,5 +1,5 @@
 use Rattle.std.proofs.Common.{◌≡◌, ◌+◌}
-use Rattle.vb_kernel.specs.Bits.{bits, count, complement}
+use Rattle.vb_bits.specs.Bits.{bits, count, complement}
 use Rattle.vb_kernel_tests.proofs.plain.bit_select_unset.Given as goal
 
 abbrev pub invariant-loop-i : goal.invariant-loop-i

@@ -3,8 +3,8 @@ use Rattle.std.proofs.Common.{take, refl, ap, sym, ◌∙◌}
 use Rattle.std.proofs.Common.{arith}
 use Rattle.std.specs.Prelude.{slice_range}
 use Rattle.vb_bits.specs.Bits.{bits, count}
-use Rattle.vb_kernel.proofs.BitsLemmas.{count-bits-add, take-bits}
-use Rattle.vb_kernel.proofs.BytesLemmas.{bits_of_read}
+use Rattle.vb_bits.proofs.BitsLemmas.{count-bits-add, take-bits}
+use Rattle.vb_bits.proofs.BytesLemmas.{bits_of_read}
 use Rattle.vb_rank.proofs.count.count_in_block.Goals as goal
 
 -- a front of a chunk is that of the bytes from its first one on

@@ -1,7 +1,7 @@
 use Rattle.std.proofs.Common.{◌≡◌, ℕ, zero, suc, List, ◌-◌, ◌*◌, ◌+◌, ◌<◌, min, ap, sym, ◌∙◌, arith}
 use Rattle.std.proofs.Common.{zero-add}
 use Rattle.vb_bits.specs.Bits.{bits, count}
-use Rattle.vb_kernel.proofs.BitsLemmas.{count-bits_none, count-bits-add, count-bits-le}
+use Rattle.vb_bits.proofs.BitsLemmas.{count-bits_none, count-bits-add, count-bits-le}
 use Rattle.vb_rank.proofs.count.front_ones.Goals as goal
 
 -- a front with the part that comes after it, which may be none

@@ -5,8 +5,8 @@ use Rattle.std.proofs.lemmas.Nat.{and_mask, mod_below, pow_pos}
 use Rattle.vb_bits.specs.Bits.{bits, count}
 use Rattle.vb_bits.specs.Digits.{digits}
 use Rattle.vb_bits.proofs.ReadLemmas.{digits_cut}
-use Rattle.vb_kernel.proofs.DigitsLemmas.{count-digits_below}
-use Rattle.vb_kernel.proofs.ReadLemmas.{digits-bits, has_bit-bits}
+use Rattle.vb_bits.proofs.DigitsLemmas.{count-digits_below}
+use Rattle.vb_bits.proofs.ReadLemmas.{digits-bits, has_bit-bits}
 use Rattle.vb_rank.proofs.count.front_ones_of_word.Goals as goal
 
 -- the first digits of a word are the first bits of its bytes

@@ -1,6 +1,6 @@
 use Rattle.std.proofs.Common.{◌≡◌, ◌-◌, ◌*◌, ◌/◌, ℕ, List, get_or, sym, ap, ◌∙◌, arith}
 use Rattle.vb_bits.specs.Bits.{bits, count}
-use Rattle.vb_kernel.proofs.BitsLemmas.{take-bits}
+use Rattle.vb_bits.proofs.BitsLemmas.{take-bits}
 use Rattle.vb_rank.proofs.TablesLemmas.{at-block_counts-bits}
 use Rattle.vb_rank.proofs.rank.rank_by.Goals as goal
 

@@ -1,6 +1,6 @@
 use Rattle.std.proofs.Common.{◌≡◌, ◌+◌, ◌-◌, ◌*◌, ℕ, List, ap, arith}
 use Rattle.vb_bits.specs.Bits.{bits, count}
-use Rattle.vb_kernel.proofs.BitsLemmas.{count-bits-add, count-bits-le}
+use Rattle.vb_bits.proofs.BitsLemmas.{count-bits-add, count-bits-le}
 use Rattle.vb_rank.proofs.rank.rank_from.Goals as goal
 
 pub returns-clause-value : goal.returns-clause-value

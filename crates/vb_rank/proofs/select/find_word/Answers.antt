@@ -3,9 +3,9 @@ use Rattle.std.proofs.Common.{◌∙◌, arith, ⊎_elim}
 use Rattle.std.proofs.lemmas.Bool.{cases_lt}
 use Rattle.vb_bits.specs.Bits.{bits, count}
 use Rattle.vb_bits.specs.Digits.{digits}
-use Rattle.vb_kernel.specs.Hits.{hits}
-use Rattle.vb_kernel.proofs.HitsLemmas.{count-hits-bits_none, count-hits-bits-le}
-use Rattle.vb_kernel.proofs.HitsLemmas.{count-hits-bits_split}
+use Rattle.vb_count.specs.Hits.{hits}
+use Rattle.vb_count.proofs.HitsLemmas.{count-hits-bits_none, count-hits-bits-le}
+use Rattle.vb_count.proofs.HitsLemmas.{count-hits-bits_split}
 use Rattle.vb_rank.proofs.select.find_word.Goals as goal
 use Rattle.vb_rank.proofs.select.find_word.Goals.{then-seen-n, else-seen-n}
 

@@ -1,7 +1,7 @@
 use Rattle.std.proofs.Common.{◌≡◌, ◌+◌, ◌*◌, ◌<◌, ◌≤◌}
 use Rattle.vb_bits.specs.Bits.{bits, count}
 use Rattle.vb_bits.specs.Digits.{digits}
-use Rattle.vb_kernel.specs.Hits.{hits}
+use Rattle.vb_count.specs.Hits.{hits}
 use Rattle.vb_rank.proofs.select.find_word.Given as goal
 
 abbrev pub invariant-loop-k : goal.invariant-loop-k

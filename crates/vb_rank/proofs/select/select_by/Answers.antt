@@ -1,5 +1,5 @@
 use Rattle.vb_bits.specs.Bits.{bits}
-use Rattle.vb_kernel.proofs.BitsLemmas.{Selects-InvertsCount}
+use Rattle.vb_bits.proofs.BitsLemmas.{Selects-InvertsCount}
 use Rattle.vb_rank.proofs.select.select_by.Goals as goal
 
 pub returns-clause-each : goal.returns-clause-each

@@ -2,9 +2,9 @@ use Rattle.std.proofs.Common.{◌≡◌, ℕ, Bool, List, ◌+◌, ◌-◌, ◌*
 use Rattle.std.proofs.Common.{sym, ◌∙◌, subst, zero-add, ⊎_elim}
 use Rattle.std.proofs.lemmas.Bool.{cases_lt}
 use Rattle.vb_bits.specs.Bits.{bits, count, Selects}
-use Rattle.vb_kernel.specs.Hits.{hits}
-use Rattle.vb_kernel.proofs.HitsLemmas.{count-hits-bits_split}
-use Rattle.vb_kernel.proofs.SearchesLemmas.{Searched_after, Searched_longer, Searched_inside}
+use Rattle.vb_count.specs.Hits.{hits}
+use Rattle.vb_count.proofs.HitsLemmas.{count-hits-bits_split}
+use Rattle.vb_select.proofs.SearchesLemmas.{Searched_after, Searched_longer, Searched_inside}
 use Rattle.vb_rank.proofs.select.select_by_moves.Goals as goal
 use Rattle.vb_rank.proofs.select.select_by_moves.Goals.{After-select_in_word}
 

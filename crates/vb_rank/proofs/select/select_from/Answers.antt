@@ -1,5 +1,5 @@
 use Rattle.std.proofs.Common.{ℕ, List, arith}
-use Rattle.vb_kernel.proofs.SearchesLemmas.{Searched_inside}
+use Rattle.vb_select.proofs.SearchesLemmas.{Searched_inside}
 use Rattle.vb_rank.proofs.TablesLemmas.{Selects-block_some, Selects-block_none}
 use Rattle.vb_rank.proofs.select.select_from.Goals as goal
 

@@ -1,6 +1,6 @@
 use Rattle.std.proofs.Common.{ℕ, List, subst, sym}
 use Rattle.vb_bits.specs.Bits.{bits, Selects}
-use Rattle.vb_kernel.specs.Hits.{hits}
+use Rattle.vb_count.specs.Hits.{hits}
 use Rattle.vb_rank.proofs.ChunksLemmas.{chunk_some, chunk_past, chunk_none}
 use Rattle.vb_rank.proofs.select.select_in_block.Goals as goal
 use Rattle.vb_rank.proofs.select.select_in_block.Goals.{then-place-len, else-place-len}

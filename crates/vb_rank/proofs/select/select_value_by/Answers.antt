@@ -1,5 +1,5 @@
 use Rattle.std.proofs.Common.{ℕ, List, arith}
-use Rattle.vb_kernel.proofs.HitsLemmas.{count-hits-bits-le}
+use Rattle.vb_count.proofs.HitsLemmas.{count-hits-bits-le}
 use Rattle.vb_rank.proofs.TablesLemmas.{Rises-table, probes-le}
 use Rattle.vb_rank.proofs.select.select_value_by.Goals as goal
 

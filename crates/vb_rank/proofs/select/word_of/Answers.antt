@@ -1,7 +1,7 @@
 use Rattle.std.proofs.Common.{◌≡◌, ◌*◌, ◌+◌, ap, ◌∙◌, arith}
 use Rattle.vb_bits.specs.Bits.{bits}
-use Rattle.vb_kernel.specs.Hits.{hits}
-use Rattle.vb_kernel.proofs.BytesLemmas.{bits-to_le_bytes}
+use Rattle.vb_count.specs.Hits.{hits}
+use Rattle.vb_bits.proofs.BytesLemmas.{bits-to_le_bytes}
 use Rattle.vb_rank.proofs.select.word_of.Goals as goal
 
 pub returns : goal.returns

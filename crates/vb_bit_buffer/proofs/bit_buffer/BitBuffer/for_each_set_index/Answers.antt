@@ -1,6 +1,6 @@
 use Rattle.std.proofs.Common.{◌≡◌, true, ◌+◌, refl, rules, sym, ap, ◌∙◌, subst}
 use Rattle.std.specs.List.{FoldsTo}
-use Rattle.vb_kernel.specs.Bits.{bit_of, bits, places}
+use Rattle.vb_bits.specs.Bits.{bit_of, bits, places}
 use Rattle.vb_pack.specs.Asked.{CanAsk}
 use Rattle.vb_walk.proofs.PlacesLemmas.{places-bits}
 use Rattle.vb_bit_buffer.specs.Called.{places_of}

@@ -1,6 +1,6 @@
 use Rattle.std.proofs.Common.{◌≡◌, false, rules, sym, ap, ◌∙◌, subst}
 use Rattle.std.specs.List.{FoldsTo}
-use Rattle.vb_kernel.specs.Bits.{bits, holes}
+use Rattle.vb_bits.specs.Bits.{bits, holes}
 use Rattle.vb_pack.specs.Asked.{CanAsk}
 use Rattle.vb_bit_buffer.proofs.CalledLemmas.{places_in-holes}
 use Rattle.vb_bit_buffer.specs.Called.{places_of}

@@ -1,8 +1,8 @@
 use Rattle.std.proofs.Common.{◌≡◌, ℕ, Bool, List, ◌+◌, ◌-◌, ◌*◌, ◌<◌, take, length, ap, ◌∙◌, arith}
 use Rattle.std.proofs.lemmas.List.{length-take, take-take}
 use Rattle.vb_bits.specs.Bits.{bits, count}
-use Rattle.vb_kernel.proofs.BitsLemmas.{count-le, count-bits-le, count-bits-add, length-bits}
-use Rattle.vb_kernel.proofs.BitsLemmas.{take-bits}
+use Rattle.vb_bits.proofs.BitsLemmas.{count-le, count-bits-le, count-bits-add, length-bits}
+use Rattle.vb_bits.proofs.BitsLemmas.{take-bits}
 use Rattle.vb_directory.proofs.counts.Counts.count_added.Goals as goal
 
 pub overflow_add-ones : goal.overflow_add-ones

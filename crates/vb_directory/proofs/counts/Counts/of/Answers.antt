@@ -2,8 +2,8 @@ use Rattle.std.proofs.Common.{◌≡◌, ℕ, Bool, List, [], ◌∷◌, ◌++�
 use Rattle.std.proofs.Common.{refl, sym, ap, ◌∙◌, arith, subst}
 use Rattle.std.proofs.lemmas.List.{length-take, take-take}
 use Rattle.vb_bits.specs.Bits.{bits, count}
-use Rattle.vb_kernel.proofs.BitsLemmas.{count-le, count-bits-le, count-bits-add, length-bits}
-use Rattle.vb_kernel.proofs.BitsLemmas.{take-bits}
+use Rattle.vb_bits.proofs.BitsLemmas.{count-le, count-bits-le, count-bits-add, length-bits}
+use Rattle.vb_bits.proofs.BitsLemmas.{take-bits}
 use Rattle.vb_directory.specs.Counts.{AreCounts}
 use Rattle.vb_directory.proofs.CountEditsLemmas.{AreCounts-push_group}
 use Rattle.vb_directory.proofs.counts.Counts.of.Goals as goal

@@ -1,6 +1,6 @@
 use Rattle.std.proofs.Common.{arith}
 use Rattle.vb_bits.specs.Bits.{Selects}
-use Rattle.vb_kernel.specs.Hits.{hits}
+use Rattle.vb_count.specs.Hits.{hits}
 use Rattle.vb_directory.proofs.ManyLemmas.{AllZip-each}
 use Rattle.vb_view.specs.View.{bits_of}
 use Rattle.vb_directory.proofs.counts.Counts.select_many.Goals as goal

@@ -1,6 +1,6 @@
 use Rattle.std.proofs.Common.{◌≡◌, ℕ, Option, ◌<◌, length, slice_index, slice_index_or}
 use Rattle.vb_bits.specs.Bits.{Selects}
-use Rattle.vb_kernel.specs.Hits.{hits}
+use Rattle.vb_count.specs.Hits.{hits}
 use Rattle.vb_view.specs.View.{bits_of}
 use Rattle.vb_directory.proofs.counts.Counts.select_many.Given as goal
 

@@ -1,4 +1,4 @@
-use Rattle.vb_kernel.proofs.BitsLemmas.{Selects-InvertsCount}
+use Rattle.vb_bits.proofs.BitsLemmas.{Selects-InvertsCount}
 use Rattle.vb_ranked.proofs.ranked.Ranked.select.Goals as goal
 
 pub returns-clause-each : goal.returns-clause-each

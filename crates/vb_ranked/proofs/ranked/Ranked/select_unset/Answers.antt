@@ -1,5 +1,5 @@
 use Rattle.vb_bits.specs.Bits.{complement}
-use Rattle.vb_kernel.proofs.BitsLemmas.{Selects-InvertsCount}
+use Rattle.vb_bits.proofs.BitsLemmas.{Selects-InvertsCount}
 use Rattle.vb_ranked.proofs.ranked.Ranked.select_unset.Goals as goal
 
 pub returns-clause-each : goal.returns-clause-each

@@ -4,7 +4,7 @@ use Rattle.std.proofs.lemmas.List.{set-get_or}
 use Rattle.std.proofs.lemmas.Option.{get_or_from_slice_get}
 use Rattle.std.proofs.Math.Bool.{beq}
 use Rattle.vb_bits.specs.Bits.{at}
-use Rattle.vb_kernel.proofs.BitsLemmas.{length-bits}
+use Rattle.vb_bits.proofs.BitsLemmas.{length-bits}
 use Rattle.vb_set.specs.View.{bits_of}
 use Rattle.vb_directory.specs.Counts.{AreCounts}
 use Rattle.vb_ranked.proofs.ranked.Ranked.set_to.Goals as goal

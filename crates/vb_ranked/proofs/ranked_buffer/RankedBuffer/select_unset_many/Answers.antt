@@ -1,6 +1,6 @@
 use Rattle.std.proofs.Common.{Bool, List}
 use Rattle.vb_bits.specs.Bits.{complement, Selects, InvertsCount}
-use Rattle.vb_kernel.proofs.BitsLemmas.{Selects-InvertsCount}
+use Rattle.vb_bits.proofs.BitsLemmas.{Selects-InvertsCount}
 use Rattle.vb_ranked.proofs.ManyLemmas.{AllZip-through}
 use Rattle.vb_ranked.proofs.ranked_buffer.RankedBuffer.select_unset_many.Goals as goal
 

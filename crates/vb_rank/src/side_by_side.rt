@@ -1,0 +1,224 @@
+//! The blocks of eight ranks, and their places in them, side by side.
+ghost use Rattle.std.specs.Prelude.{◌≡◌, ℕ, List, Option, ◌+◌, ◌-◌, ◌*◌, ◌/◌, ◌%◌, ◌^◌, ◌<◌, ◌≤◌};
+ghost use Rattle.std.specs.Prelude.{length, slice_index, slice_index_or, slice_range, true, false};
+ghost use Rattle.vb_bits.specs.Bits.{bits, Selects};
+ghost use Rattle.vb_bits.specs.InBytes.{InBytes};
+ghost use Rattle.vb_count.specs.Looks.{LooksAtMost};
+ghost use Rattle.vb_count.specs.Hits.{hits};
+ghost use Rattle.vb_rank.specs.Tables.{binary_digits, block_counts, BeginsBefore, Narrows, Rises};
+ghost use Rattle.vb_rank.specs.Tables.{IsChunkFrom, ProbesAtMost};
+
+use crate::block::bits_before;
+use crate::level::Level;
+use crate::select::{select_by_moves, select_from};
+use crate::size::BLOCK_BITS;
+use vb_count::Glance;
+
+/// How many ranks are sought side by side: while one search waits for a count, the others go on,
+/// and what eight of them have come to is still at hand.
+pub const LANES: usize = 8;
+
+/// What searches side by side have come to: how many counts are left of each, from which one on,
+/// and how many bits are before that one.
+#[derive(Drop)]
+struct Searches {
+    low: [usize; LANES],
+    before: [usize; LANES],
+    left: [usize; LANES],
+}
+
+/// What [`find_block`](crate::find_block) answers of eight ranks, each among the counts of a level
+/// of its own, of which there are at most `most`: the blocks, and how many bits are before each.
+///
+/// The searches go side by side: each has had one probe before one has its next. A search that has
+/// come to one count stands still.
+#[inline(always)]
+pub fn find_blocks<S, L: Level<S>>(
+    source: &mut S,
+    levels: &[L; LANES],
+    sizes: [usize; LANES],
+    most: usize,
+    width: usize,
+    ns: &[usize; LANES],
+    value: bool,
+) -> ([usize; LANES], [usize; LANES])
+    requires sizes { (k : ℕ) (d : L) → k < LANES → slice_index sizes k
+        ≡ length (L.seen (slice_index_or levels.now k d) source.old).entries }
+    requires some { (k : ℕ) → k < LANES → 0 < slice_index sizes k }
+    requires most { (k : ℕ) → k < LANES → slice_index sizes k ≤ most }
+    requires fits { (j : ℕ) → j < most → width * j < 2 ^ 64 }
+    requires held { (l : L) (s t : S) → L.held s ≡ L.held t
+        → (L.seen l s).entries ≡ (L.seen l t).entries }
+    requires shared { (l m : L) (s : S) → (L.seen l s).probes ≡ (L.seen m s).probes }
+    ensures within { (k : ℕ) → k < LANES → slice_index result.0 k < slice_index sizes k }
+    ensures low { (k : ℕ) → k < LANES → slice_index result.1 k ≤ slice_index ns.now k }
+    ensures block { (k : ℕ) (d : L) → k < LANES
+        → Rises width value (L.seen (slice_index_or levels.now k d) source.old).entries
+        → BeginsBefore width value (L.seen (slice_index_or levels.now k d) source.old).entries
+        (slice_index ns.now k) (slice_index result.0 k) (slice_index result.1 k) }
+    ensures same { L.held source.new ≡ L.held source.old }
+    ensures probes { (l : L) → ProbesAtMost (LANES * binary_digits (most - 1))
+        (L.seen l source.old) (L.seen l source.new) }
+{
+    let mut lanes = Searches {
+        low: [0; LANES],
+        before: [0; LANES],
+        left: sizes,
+    };
+    let mut left = most;
+    while left > 1 {
+        halve_each(source, levels, width, ns, value, &mut lanes);
+        left -= left / 2;
+    }
+    (lanes.low, lanes.before)
+}
+
+/// One turn of each search that has more than one count left, by one probe of it.
+///
+/// It isn't inlined: within the loop over the turns its moves would become branches.
+#[inline(never)]
+fn halve_each<S, L: Level<S>>(
+    source: &mut S,
+    levels: &[L; LANES],
+    width: usize,
+    ns: &[usize; LANES],
+    value: bool,
+    lanes: &mut Searches,
+)
+    requires each { (k : ℕ) (d : L) → k < LANES → Narrows width value
+        (L.seen (slice_index_or levels.now k d) source.old).entries (slice_index ns.now k)
+        (slice_index lanes.old.low k) (slice_index lanes.old.before k)
+        (slice_index lanes.old.left k) }
+    requires long { (k : ℕ) (d : L) → k < LANES
+        → length (L.seen (slice_index_or levels.now k d) source.old).entries < 2 ^ 64 }
+    requires fits { (k j : ℕ) (d : L) → k < LANES
+        → j < length (L.seen (slice_index_or levels.now k d) source.old).entries
+        → width * j < 2 ^ 64 }
+    requires held { (l : L) (s t : S) → L.held s ≡ L.held t
+        → (L.seen l s).entries ≡ (L.seen l t).entries }
+    requires shared { (l m : L) (s : S) → (L.seen l s).probes ≡ (L.seen m s).probes }
+    ensures each { (k : ℕ) (d : L) → k < LANES → Narrows width value
+        (L.seen (slice_index_or levels.now k d) source.old).entries (slice_index ns.now k)
+        (slice_index lanes.new.low k) (slice_index lanes.new.before k)
+        (slice_index lanes.new.left k) }
+    ensures left { (k : ℕ) → k < LANES → slice_index lanes.new.left k
+        ≡ slice_index lanes.old.left k - slice_index lanes.old.left k / 2 }
+    ensures same { L.held source.new ≡ L.held source.old }
+    ensures probes { (l : L) → ProbesAtMost LANES (L.seen l source.old) (L.seen l source.new) }
+{
+    for k in 0..LANES {
+        let half = lanes.left[k] / 2;
+        if half > 0 {
+            let (low, before) = (lanes.low[k], lanes.before[k]);
+            let middle = low + half;
+            let here = bits_before(source, &levels[k], width, middle, value);
+            // Without what is before: so that number is used besides, and stays in hand.
+            let (step, rest) = (here.wrapping_sub(before), ns[k] - before);
+            lanes.low[k] = choose(step, rest, middle, low);
+            lanes.before[k] = choose(step, rest, here, before);
+            lanes.left[k] -= half;
+        }
+    }
+}
+
+/// `upper` where `step` is at most `rest`, else `lower`. By arithmetic: of a test the compiler
+/// makes a branch here, which nobody can foresee.
+#[inline(always)]
+fn choose(step: usize, rest: usize, upper: usize, lower: usize) -> usize
+    ensures upper { step ≤ rest → result ≡ upper }
+    ensures lower { rest < step → result ≡ lower }
+{
+    let more = upper.wrapping_sub(lower);
+    lower.wrapping_add(more.wrapping_mul(usize::from(step <= rest)))
+}
+
+/// What [`select_from`] answers of eight ranks. The chunks of all are loaded before any is
+/// searched, so that they are waited for together.
+pub fn select_each_from<G: Glance>(
+    src: &mut G,
+    offset: usize,
+    len: usize,
+    blocks: &[usize; LANES],
+    befores: &[usize; LANES],
+    ns: &[usize; LANES],
+    value: bool,
+) -> [Option<usize>; LANES]
+    requires window { InBytes (G.seen src.old).bytes offset len }
+    requires begins { (k : ℕ) → k < LANES → BLOCK_BITS * slice_index blocks.now k < len }
+    requires low { (k : ℕ) → k < LANES → slice_index befores.now k ≤ slice_index ns.now k }
+    ensures place { (t : List ℕ) → t ≡ block_counts (bits (G.seen src.old).bytes offset len)
+        → (k : ℕ) (d : Option ℕ) → k < LANES
+        → BeginsBefore BLOCK_BITS value t (slice_index ns.now k) (slice_index blocks.now k)
+        (slice_index befores.now k)
+        → Selects (hits value (bits (G.seen src.old).bytes offset len)) (slice_index ns.now k)
+        (slice_index_or result k d) }
+    ensures looks { LooksAtMost 136 (G.seen src.old) (G.seen src.new) }
+{
+    let chunks = chunks_of(src, offset, blocks);
+    let mut places = [None; LANES];
+    for k in 0..LANES {
+        let found = (blocks[k], befores[k]);
+        places[k] = select_held(src, &chunks[k], offset, len, found, ns[k], value);
+    }
+    places
+}
+
+/// Of each block its chunk; zeros where [`has_chunk`] says that it has none.
+#[inline(always)]
+fn chunks_of<G: Glance>(src: &mut G, offset: usize, blocks: &[usize; LANES]) -> [[u8; 64]; LANES]
+    requires fits { (k : ℕ) → k < LANES
+        → offset + BLOCK_BITS * slice_index blocks.now k < 2 ^ 64 }
+    ensures each { (k : ℕ) (d : List ℕ) → k < LANES → IsChunkFrom (G.seen src.old).bytes
+        (offset + BLOCK_BITS * slice_index blocks.now k) (slice_index_or result k d) }
+    ensures looks { LooksAtMost LANES (G.seen src.old) (G.seen src.new) }
+{
+    let mut chunks = [[0; 64]; LANES];
+    for k in 0..LANES {
+        let place = offset + BLOCK_BITS * blocks[k];
+        if has_chunk(src.size(), place) {
+            chunks[k] = src.chunk(place / 8);
+        }
+    }
+    chunks
+}
+
+/// Whether a bit begins a byte, and so many bytes have a chunk from there on.
+#[inline(always)]
+fn has_chunk(size: usize, place: usize) -> bool
+    ensures has { result ≡ true → (place % 8 ≡ 0) × (place / 8 + 64 ≤ size) }
+    ensures none { result ≡ false → place % 8 ≡ 0 → size < place / 8 + 64 }
+{
+    place % 8 == 0 && place / 8 + 64 <= size
+}
+
+/// What [`select_from`] answers, with the block's chunk in hand where it has one.
+#[inline(never)]
+fn select_held<G: Glance>(
+    src: &mut G,
+    chunk: &[u8; 64],
+    offset: usize,
+    len: usize,
+    found: (usize, usize),
+    n: usize,
+    value: bool,
+) -> Option<usize>
+    requires window { InBytes (G.seen src.old).bytes offset len }
+    requires begins { BLOCK_BITS * found.0 < len }
+    requires low { found.1 ≤ n }
+    requires chunk { IsChunkFrom (G.seen src.old).bytes (offset + BLOCK_BITS * found.0) chunk.now }
+    ensures place { (t : List ℕ) → t ≡ block_counts (bits (G.seen src.old).bytes offset len)
+        → BeginsBefore BLOCK_BITS value t n found.0 found.1
+        → Selects (hits value (bits (G.seen src.old).bytes offset len)) n result }
+    ensures looks { LooksAtMost 16 (G.seen src.old) (G.seen src.new) }
+{
+    let at = BLOCK_BITS * found.0;
+    if !has_chunk(src.size(), offset + at) {
+        return select_from(src, offset, len, found, n, value);
+    }
+    let place = select_by_moves(chunk, n - found.1, value)?;
+    if place < len - at {
+        Some(at + place)
+    } else {
+        None
+    }
+}

@@ -1,0 +1,8 @@
+use Rattle.std.proofs.Common.{true}
+use Rattle.vb_select.proofs.LastLemmas.{IsPrevious_longer}
+use Rattle.vb_select.proofs.last.previous_set.Goals as goal
+
+pub returns : goal.returns
+returns c =
+    IsPrevious_longer true c.args.bytes.now c.args.offset c.args.len c.min.result c.args.before
+    c.last_match.result c.min.ensures c.last_match.ensures

@@ -1,0 +1,14 @@
+use Rattle.std.proofs.Common.{◌≡◌, ◌+◌, ◌*◌}
+use Rattle.vb_bits.specs.Bits.{bits, count}
+use Rattle.vb_count.specs.Hits.{hits}
+use Rattle.vb_count.specs.Looks.{LooksExactly}
+use Rattle.vb_select.proofs.select.find_in_chunks.Given as goal
+
+abbrev pub invariant-loop-k : goal.invariant-loop-k
+invariant-loop-k g l = record {
+  passed : l.search.n + count (hits l.search.value
+      (bits (g.G.Glance.seen l.initial.src).bytes l.search.offset l.search.from))
+      ≡ l.left + count (hits l.search.value
+      (bits (g.G.Glance.seen l.initial.src).bytes l.search.offset (l.search.from + 512 * l.k)));
+  looks : LooksExactly l.k (g.G.Glance.seen l.initial.src) (g.G.Glance.seen l.src);
+}

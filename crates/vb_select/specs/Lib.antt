@@ -1,0 +1,9 @@
+pub mod Parts
+pub mod Searches
+pub use Rattle.vb_bits.specs.Bits
+pub use Rattle.vb_bits.specs.Digits
+pub use Rattle.vb_bits.specs.InBytes
+pub use Rattle.vb_bits.specs.Nearest
+pub use Rattle.vb_bits.specs.Runs
+pub use Rattle.vb_count.specs.Hits
+pub use Rattle.vb_count.specs.Looks

@@ -1,0 +1,61 @@
+//! Selecting within a chunk of 64 bytes.
+ghost use Rattle.std.specs.Prelude.{◌≡◌, ℕ, ◌+◌, ◌*◌, ◌^◌, ◌<◌, ◌≤◌, Some, length};
+ghost use Rattle.vb_bits.specs.Bits.{bits, count, Selects};
+ghost use Rattle.vb_count.specs.Hits.{hits};
+ghost use Rattle.vb_select.specs.Searches.{Searched};
+
+use crate::search::{Search, find_in_units};
+use crate::unit::Unit;
+use std::ops::ControlFlow;
+use std::simd::prelude::*;
+use vb_count::{Glance, Plain, chunk_ones};
+
+/// The place of the `n`-th bit of the chunk that is `value`.
+///
+/// It is called once a search, and takes the chunk as a vector, which is passed in registers: so no
+/// chunk that is only counted is copied to memory.
+#[inline(never)]
+pub(crate) fn select_in_chunk(chunk: u8x64, n: usize, value: bool) -> usize
+    requires { n < count (hits value (bits chunk 0 512)) }
+    ensures { Selects (hits value (bits chunk 0 512)) n (Some result) }
+{
+    find_in_chunk(&chunk.to_array(), n, value)
+        .break_value()
+        .unwrap()
+}
+
+/// Searches the chunk, word by word, for the `n`-th bit that is `value`.
+#[inline(always)]
+pub(crate) fn find_in_chunk(chunk: &[u8; 64], n: usize, value: bool) -> ControlFlow<usize, usize>
+    ensures { Searched (hits value (bits chunk.now 0 512)) n result }
+{
+    let search = Search {
+        offset: 0,
+        from: 0,
+        n,
+        value,
+    };
+    find_in_units::<u64, Plain>(&mut Plain::new(chunk), search, 8)
+}
+
+impl Unit for [u8; 64] {
+    ghost SIZE = { 64 };
+
+    ghost bytes = { λ chunk. chunk };
+
+    const SIZE: usize = 64;
+
+    fn read<G: Glance>(src: &mut G, at: usize) -> [u8; 64] {
+        src.chunk(at)
+    }
+
+    // The words are counted as they are, and not negated one by one.
+    fn count(self, value: bool) -> usize {
+        let ones = chunk_ones(&self);
+        if value { ones } else { 512 - ones }
+    }
+
+    fn select(self, n: usize, value: bool) -> usize {
+        select_in_chunk(u8x64::from_slice(&self), n, value)
+    }
+}
