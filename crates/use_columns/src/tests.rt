@@ -51,7 +51,7 @@ fn columns_are_decoded_or_refused(rt: HostRuntime) {
         let refused = Err(BufferError::OutOfMemory);
         equal(&rt, answer, heap.wanted(Ok(()), refused));
     }
-    equal(&rt, heap.has_ended(4), true);
+    equal(&rt, (heap.has_refused(), heap.asked()), (false, 9));
 }
 
 #[test]
@@ -90,7 +90,7 @@ fn a_page_is_read_or_refused(rt: HostRuntime) {
         let refused = Err(PageError::Buffer(BufferError::OutOfMemory));
         equal(&rt, answer, heap.wanted(Ok(()), refused));
     }
-    equal(&rt, heap.has_ended(2), true);
+    equal(&rt, (heap.has_refused(), heap.asked()), (false, 11));
 }
 
 #[test]

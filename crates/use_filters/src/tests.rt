@@ -16,12 +16,21 @@ fn equal<T: Copy + PartialEq + Debug>(rt: &impl Abort, given: T, wanted: T) {
 /// Five ages, of which the third is null.
 const AGES: &[u32] = &[31, 17, 0, 54, 18];
 
-/// A condition, the valid ages that meet it, and which of all that meet it are of members.
-const ROWS: &[(Condition, &[u32], &[bool])] = &[
-    (Condition::Below(18), &[17], &[false, true]),
-    (Condition::AtLeast(18), &[31, 54, 18], &[true, false, true]),
-    (Condition::Equals(54), &[54], &[false]),
-    (Condition::Equals(0), &[], &[true]),
+/// A condition, the valid ages that meet it, which of all that meet it are of members, and how many
+/// requests are made.
+type Row = (Condition, &'static [u32], &'static [bool], u64);
+
+const ROWS: &[Row] = &[
+    (Condition::Below(18), &[17], &[false, true], 17),
+    (
+        Condition::AtLeast(18),
+        &[31, 54, 18],
+        &[true, false, true],
+        17,
+    ),
+    (Condition::Equals(54), &[54], &[false], 17),
+    // No age is kept: there are no bytes to ask for.
+    (Condition::Equals(0), &[], &[true], 16),
 ];
 
 fn ages<'a>(heap: Heap<'a>, condition: Condition) -> Result<Buffer<u32, Heap<'a>>> {
@@ -43,7 +52,7 @@ fn members<'a>(heap: Heap<'a>, condition: Condition) -> Result<BitBuffer<Heap<'a
     found
 }
 
-fn answers(rt: &impl Abort, heap: Heap<'_>, row: &(Condition, &[u32], &[bool])) -> Result<()> {
+fn answers(rt: &impl Abort, heap: Heap<'_>, row: &Row) -> Result<()> {
     let found = ages(heap, row.0)?;
     assert_eq!(rt; found.as_slice(), row.1);
     drop(found);
@@ -62,7 +71,7 @@ fn filters_are_answered_or_refused(rt: HostRuntime) {
             let refused = Err(BufferError::OutOfMemory);
             equal(&rt, answer, heap.wanted(Ok(()), refused));
         }
-        equal(&rt, heap.has_ended(6), true);
+        equal(&rt, (heap.has_refused(), heap.asked()), (false, row.3));
     }
 }
 
@@ -111,5 +120,5 @@ fn a_null_fails_where_the_other_side_does_or_memory_is_refused(rt: HostRuntime) 
             heap.wanted(Ok(()), refused),
         );
     }
-    equal(&rt, heap.has_ended(12), true);
+    equal(&rt, (heap.has_refused(), heap.asked()), (false, 13));
 }

@@ -70,14 +70,14 @@ impl Call {
     }
 }
 
-/// The calls, and what they make.
-const ROWS: &[(Call, &[u32])] = &[
-    (Call::Halved, &[3, 0, 2_147_483_647]),
-    (Call::RestHalved(0), &[3, 0, 2_147_483_647]),
-    (Call::RestHalved(2), &[2_147_483_647]),
-    (Call::Greater, &[8, 0, u32::MAX]),
-    (Call::ThroughBytes, &[7, 0, u32::MAX]),
-    (Call::ValuesOf, &[513, 16_777_471]),
+/// The calls, what they make, and how many requests each makes.
+const ROWS: &[(Call, &[u32], u64)] = &[
+    (Call::Halved, &[3, 0, 2_147_483_647], 2),
+    (Call::RestHalved(0), &[3, 0, 2_147_483_647], 2),
+    (Call::RestHalved(2), &[2_147_483_647], 2),
+    (Call::Greater, &[8, 0, u32::MAX], 2),
+    (Call::ThroughBytes, &[7, 0, u32::MAX], 6),
+    (Call::ValuesOf, &[513, 16_777_471], 4),
 ];
 
 /// What was made has these values.
@@ -95,13 +95,13 @@ fn shows<A: Allocator>(
 #[test]
 fn columns_are_made_or_refused(rt: HostRuntime) {
     let heap = Refusing::new(rt.alloc(), 0);
-    for (call, wanted) in ROWS {
+    for (call, wanted, requests) in ROWS {
         for _ in heap.in_turn() {
             let answer = shows(&rt, call.make(&heap), wanted);
             let refused = Err(BufferError::OutOfMemory);
             equal(&rt, answer, heap.wanted(Ok(()), refused));
         }
-        equal(&rt, heap.has_ended(2), true);
+        equal(&rt, (heap.has_refused(), heap.asked()), (false, *requests));
     }
     let none = rest_halved(rt.alloc(), &[7, 0, 1], 4);
     equal(&rt, shows(&rt, none, &[]), Ok(()));

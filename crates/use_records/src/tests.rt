@@ -57,7 +57,7 @@ fn names_are_read_or_refused(rt: HostRuntime) {
         let refused = Err(ReadError::Buffer(BufferError::OutOfMemory));
         equal(&rt, answer, heap.wanted(Ok(()), refused));
     }
-    equal(&rt, heap.has_ended(3), true);
+    equal(&rt, (heap.has_refused(), heap.asked()), (false, 9));
 }
 
 #[test]

@@ -208,28 +208,29 @@ fn of_bytes<A: Allocator + Clone>(alloc: A, is_wide: bool) -> Result<Buffer<u32,
     }
 }
 
-/// The ways, each with the alignments of what it makes: the reported and the declared one.
-const WAYS: &[(Way, (usize, usize))] = &[
-    (Way::Buffer(Form::AsBytes), (4, 256)),
-    (Way::Buffer(Form::IntoByteBuffer), (4, 256)),
-    (Way::Buffer(Form::OfGrowing), (4, 256)),
-    (Way::BufferAligned(Form::AsBytes), (512, 512)),
-    (Way::Bytes, (4, 256)),
-    (Way::BytesAligned, (512, 512)),
-    (Way::Slice, (4, 256)),
-    (Way::SliceAligned, (512, 512)),
+/// The ways, each with the alignments of what it makes, the reported and the declared one, and how
+/// many requests it makes with those of what it is given.
+const WAYS: &[(Way, (usize, usize), u64)] = &[
+    (Way::Buffer(Form::AsBytes), (4, 256), 14),
+    (Way::Buffer(Form::IntoByteBuffer), (4, 256), 14),
+    (Way::Buffer(Form::OfGrowing), (4, 256), 11),
+    (Way::BufferAligned(Form::AsBytes), (512, 512), 14),
+    (Way::Bytes, (4, 256), 14),
+    (Way::BytesAligned, (512, 512), 14),
+    (Way::Slice, (4, 256), 5),
+    (Way::SliceAligned, (512, 512), 5),
 ];
 
 #[test]
 fn bytes_are_made_and_read_or_refused(rt: HostRuntime) {
     let heap = Refusing::new(rt.alloc(), 0);
-    for (way, alignments) in WAYS {
+    for (way, alignments, requests) in WAYS {
         for _ in heap.in_turn() {
             let made = way.make(Handle { inner: &heap });
             let answer = shows(&rt, made, ITEMS, *alignments);
             let refused = Err(BufferError::OutOfMemory);
             equal(&rt, answer, heap.wanted(Ok(()), refused));
         }
-        equal(&rt, heap.has_ended(4), true);
+        equal(&rt, (heap.has_refused(), heap.asked()), (false, *requests));
     }
 }

@@ -36,7 +36,7 @@ fn asks_the_left_one(
     rt: &impl Abort,
     (left, right): (&Refusing<Global>, &Refusing<Global>),
     call: Two,
-    least: u64,
+    requests: u64,
 ) {
     for _ in left.in_turn() {
         right.refuse(0);
@@ -47,16 +47,16 @@ fn asks_the_left_one(
         equal(rt, answer, wanted);
         equal(rt, right.asked(), 0);
     }
-    equal(rt, left.has_ended(least), true);
+    equal(rt, (left.has_refused(), left.asked()), (false, requests));
 }
 
 #[test]
 fn operators_ask_the_left_one(rt: HostRuntime) {
     let (left, right) = (Refusing::new(rt.alloc(), 0), Refusing::new(rt.alloc(), 0));
     for call in OWNED {
-        asks_the_left_one(&rt, (&left, &right), *call, 6);
+        asks_the_left_one(&rt, (&left, &right), *call, 9);
     }
     for call in LENT {
-        asks_the_left_one(&rt, (&left, &right), *call, 7);
+        asks_the_left_one(&rt, (&left, &right), *call, 11);
     }
 }

@@ -1,6 +1,6 @@
 //! Calls that are refused: for their lengths, before memory, and for each request of a copy. Those
 //! of the operators are in heaps.rt.
-use crate::calls::{LENT, ONE, OWNED, Two};
+use crate::calls::{LENT, OWNED, One, Two};
 use crate::compared::{equal, len_of};
 use crate::made::ones;
 use std::alloc::Global;
@@ -8,16 +8,24 @@ use std::process::Abort;
 use vb_core::BufferError;
 use vb_testing::{Handle, Refusing};
 
+/// The calls on one set, and how many requests each makes with those of the set, which are four.
+const REQUESTS: &[(One, u64)] = &[
+    (One::Not, 7),
+    (One::NotLent, 9),
+    (One::Sliced, 10),
+    (One::ShrinkOffset, 4),
+];
+
 #[test]
 fn each_request_of_a_copy_is_refused(rt: HostRuntime) {
     let heap = Refusing::new(rt.alloc(), 0);
-    for call in ONE {
+    for (call, requests) in REQUESTS {
         for _ in heap.in_turn() {
             let answer = len_of(call.make(ones(Handle { inner: &heap }, 3, 70)));
             let wanted = heap.wanted(Ok(70), Err(BufferError::OutOfMemory));
             equal(&rt, answer, wanted);
         }
-        equal(&rt, heap.has_ended(2), true);
+        equal(&rt, (heap.has_refused(), heap.asked()), (false, *requests));
     }
 }
 

@@ -107,18 +107,26 @@ fn cloned<A: Allocator + Clone>(
     Ok(())
 }
 
+/// How many bits are cloned, whether by the trait, and how many requests are made: copies of the
+/// allocators, and of bits their bytes, their counts and the owners of both.
+const CLONES: [(usize, bool, u64); 4] = [
+    (0, false, 5),
+    (9, false, 8),
+    (512, true, 8),
+    (65_600, false, 8),
+];
+
 #[test]
 fn a_refused_clone_leaves_the_directory(rt: HostRuntime) {
     let heap = &Refusing::new(rt.alloc(), 0);
-    for (len, by_trait) in [(0, false), (9, false), (512, true), (65_600, false)] {
+    for (len, by_trait, requests) in CLONES {
         for _ in heap.in_turn() {
             let allocs = (Handle { inner: heap }, Handle { inner: heap });
             let answer = cloned(&rt, allocs, len, by_trait);
             let wanted = heap.wanted(Ok(()), Err(BufferError::OutOfMemory));
             equal(&rt, answer, wanted);
         }
-        // Copies of both allocators at least, also of no bits.
-        equal(&rt, heap.has_ended(2), true);
+        equal(&rt, (heap.has_refused(), heap.asked()), (false, requests));
     }
 }
 

@@ -16,11 +16,13 @@ enum Call {
     SharedMultiversioned,
 }
 
-const CALLS: &[Call] = &[
-    Call::Open,
-    Call::OpenMultiversioned,
-    Call::Shared,
-    Call::SharedMultiversioned,
+/// The calls, and how many requests each makes: a set that is shared copies its allocator, and has
+/// an owner.
+const CALLS: &[(Call, u64)] = &[
+    (Call::Open, 1),
+    (Call::OpenMultiversioned, 1),
+    (Call::Shared, 4),
+    (Call::SharedMultiversioned, 4),
 ];
 
 impl Call {
@@ -91,13 +93,13 @@ fn alternating<A: Allocator + Clone>(rt: &impl Abort, call: &Call, alloc: A) -> 
 #[test]
 fn each_place_is_asked_for_once_or_none(rt: HostRuntime) {
     let heap = Refusing::new(rt.alloc(), 0);
-    for call in CALLS {
+    for (call, requests) in CALLS {
         for _ in heap.in_turn() {
             let answer = alternating(&rt, call, Handle { inner: &heap });
             let wanted = heap.wanted(Ok(true), Err(BufferError::OutOfMemory));
             equal(&rt, answer, wanted);
         }
-        equal(&rt, heap.has_ended(1), true);
+        equal(&rt, (heap.has_refused(), heap.asked()), (false, *requests));
     }
 }
 
