@@ -21,27 +21,21 @@ fn drive_is_plain(rt: &impl Abort, global: Global, heap: &Refusing<Global>, line
     drop(written);
 }
 
-/// A session is plain whatever request, copies of the allocator among them, is refused. It makes so
-/// many at least.
-fn each_is_refused(
-    rt: &impl Abort,
-    global: Global,
-    heap: &Refusing<Global>,
-    lines: &str,
-    least: u64,
-) {
+/// A session is plain whatever request, copies of the allocator among them, is refused.
+fn each_is_refused(rt: &impl Abort, global: Global, heap: &Refusing<Global>, lines: &str) {
     for _ in heap.in_turn() {
         drive_is_plain(rt, global, heap, lines);
     }
-    equal(rt, (lines, heap.has_ended(least)), (lines, true));
+    equal(rt, (lines, heap.has_ended(1)), (lines, true));
 }
 
 #[test]
 fn sessions_are_plain_whatever_is_refused(rt: HostRuntime) {
     let heap = Refusing::new(rt.alloc(), 0);
-    for (lines, least) in SESSIONS {
+    for (lines, _, requests) in SESSIONS {
         let lines = with_looks(&rt, rt.alloc(), "", lines);
-        each_is_refused(&rt, rt.alloc(), &heap, lines.as_str(), *least);
+        each_is_refused(&rt, rt.alloc(), &heap, lines.as_str());
+        equal(&rt, heap.asked(), *requests);
         drop(lines);
     }
     drop(heap);
@@ -74,7 +68,7 @@ fn random_sessions_are_plain(
         let lines = random.text.whole().expect(rt, "memory");
         match memory {
             Memory::Ample => drive_is_plain(rt, global, &heap, lines),
-            Memory::Refused => each_is_refused(rt, global, &heap, lines, 1),
+            Memory::Refused => each_is_refused(rt, global, &heap, lines),
         }
     }
     drop((random, heap));

@@ -93,22 +93,23 @@ fn run_is_plain(
     drop(text);
 }
 
-/// A session is plain whatever request is refused. It makes so many at least.
-fn each_is_refused(rt: &impl Abort, global: Global, (whole, lines): (&str, &str), least: u64) {
+/// A session is plain whatever request is refused. It makes so many.
+fn each_is_refused(rt: &impl Abort, global: Global, (whole, lines): (&str, &str), requests: u64) {
     let heap = Refusing::new(global, 0);
     for request in heap.in_turn() {
         run_is_plain(rt, global, &heap, request, (whole, lines));
     }
-    equal(rt, (lines, heap.has_ended(least)), (lines, true));
+    let ended = (lines, heap.has_refused(), heap.asked());
+    equal(rt, ended, (lines, false, requests));
     drop(heap);
 }
 
 #[test]
 fn runs_are_plain_whatever_is_refused(rt: HostRuntime) {
-    for (lines, least) in SESSIONS {
+    for (lines, requests, _) in SESSIONS {
         let whole = with_looks(&rt, rt.alloc(), HELD, lines);
         let lines = with_looks(&rt, rt.alloc(), "", lines);
-        each_is_refused(&rt, rt.alloc(), (whole.as_str(), lines.as_str()), *least);
+        each_is_refused(&rt, rt.alloc(), (whole.as_str(), lines.as_str()), *requests);
         drop((whole, lines));
     }
 }

@@ -2,12 +2,12 @@
 use std::alloc::Global;
 use std::process::Abort;
 
-/// The lines of sessions, and how many requests each makes at least.
-pub(crate) const SESSIONS: &[(&str, u64)] = &[
-    (EDITS, 18),
-    (OPERATORS, 25),
-    (TAKES, 20),
-    (SHARES, 14),
+/// The lines of sessions, and how many requests each makes: by `run` and by `drive`.
+pub(crate) const SESSIONS: &[(&str, u64, u64)] = &[
+    (EDITS, 51, 54),
+    (OPERATORS, 120, 121),
+    (TAKES, 79, 107),
+    (SHARES, 50, 47),
 ];
 
 /// What follows each session: the bits and the kind of every slot, and of one that isn't there.
