@@ -155,6 +155,13 @@ impl From<&[u8]> for AlignedBytes {
     }
 }
 
+/// A copy, since the memory of a [`Vec`] may begin anywhere.
+impl From<Vec<u8>> for AlignedBytes {
+    fn from(bytes: Vec<u8>) -> AlignedBytes {
+        AlignedBytes::from(&bytes[..])
+    }
+}
+
 impl fmt::Debug for AlignedBytes {
     fn fmt(&self, f: &mut fmt::Formatter<'_>) -> fmt::Result {
         self[..].fmt(f)
@@ -207,6 +214,20 @@ impl AsRef<[u8]> for SharedBytes {
 impl From<AlignedBytes> for SharedBytes {
     fn from(bytes: AlignedBytes) -> SharedBytes {
         SharedBytes(Arc::new(bytes))
+    }
+}
+
+/// A copy, since the memory of a [`Vec`] may begin anywhere: a `Bitmap<Vec<u8>>` takes none.
+///
+/// ```
+/// use vortex_bits::{Bitmap, SharedBytes};
+///
+/// let rows = Bitmap::new(SharedBytes::from(vec![0b101]), 0, 3);
+/// assert_eq!(rows.count_ones(), 2);
+/// ```
+impl From<Vec<u8>> for SharedBytes {
+    fn from(bytes: Vec<u8>) -> SharedBytes {
+        SharedBytes::from(AlignedBytes::from(bytes))
     }
 }
 

@@ -135,6 +135,12 @@ pub enum ArrowError {
         /// Why they aren't.
         error: TakeValuesError,
     },
+    /// Bits aren't taken at indices, as of a validity.
+    TakeBits(TakeError),
+    /// An index names no bit, as of a bitmap that is made of indices.
+    BadIndex(BadIndex),
+    /// A window or a slice isn't among the bits or rows that there are.
+    OutOfBounds(OutOfBounds),
     /// There is no memory for the bytes of texts, or for rows that are copied.
     Memory {
         /// The name of the column.
@@ -316,6 +322,9 @@ impl fmt::Display for ArrowError {
             }
             ArrowError::NoColumn { name } => write!(f, "no column {name:?}"),
             ArrowError::Take { column, error } => write!(f, "{}{error}", Of(column)),
+            ArrowError::TakeBits(error) => write!(f, "{error}"),
+            ArrowError::BadIndex(error) => write!(f, "{error}"),
+            ArrowError::OutOfBounds(error) => write!(f, "{error}"),
             ArrowError::Memory { column, bytes } => {
                 write!(f, "{}no memory for rows of {bytes} bytes", Of(column))
             }
@@ -370,7 +379,11 @@ impl ArrowError {
             | ArrowError::Mask { column, .. }
             | ArrowError::TooLong { column, .. }
             | ArrowError::LongTexts { column, .. } => column,
-            ArrowError::Stream { .. } | ArrowError::NoColumn { .. } => return self,
+            ArrowError::Stream { .. }
+            | ArrowError::NoColumn { .. }
+            | ArrowError::TakeBits(_)
+            | ArrowError::BadIndex(_)
+            | ArrowError::OutOfBounds(_) => return self,
         };
         let point = if column.is_empty() { "" } else { "." };
         *column = alloc::format!("{parent}{point}{column}");
@@ -385,5 +398,44 @@ impl From<Fault> for ArrowError {
             column: String::new(),
             fault,
         }
+    }
+}
+
+/// Of values of no column.
+///
+/// ```
+/// use vortex_bits::arrow::ArrowError;
+/// use vortex_bits::values;
+///
+/// fn taken(values: &[i64], indices: &[i32]) -> Result<Vec<i64>, ArrowError> {
+///     Ok(values::try_take(values, indices)?)
+/// }
+/// assert_eq!(taken(&[7, 9], &[1])?, [9]);
+/// let refused = taken(&[7, 9], &[-1]).unwrap_err();
+/// assert_eq!(refused.to_string(), "index -1 at position 0 names none of 2 values");
+/// # Ok::<(), vortex_bits::arrow::ArrowError>(())
+/// ```
+impl From<TakeValuesError> for ArrowError {
+    fn from(error: TakeValuesError) -> ArrowError {
+        let column = String::new();
+        ArrowError::Take { column, error }
+    }
+}
+
+impl From<TakeError> for ArrowError {
+    fn from(error: TakeError) -> ArrowError {
+        ArrowError::TakeBits(error)
+    }
+}
+
+impl From<BadIndex> for ArrowError {
+    fn from(error: BadIndex) -> ArrowError {
+        ArrowError::BadIndex(error)
+    }
+}
+
+impl From<OutOfBounds> for ArrowError {
+    fn from(error: OutOfBounds) -> ArrowError {
+        ArrowError::OutOfBounds(error)
     }
 }

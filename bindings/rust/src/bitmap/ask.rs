@@ -2,7 +2,7 @@
 
 use super::Bitmap;
 use crate::iter::{Iter, SetIndices, SetSlices, UnsetIndices, UnsetSlices, Words};
-use crate::{BitIndex, Mask};
+use crate::{BitIndex, Bits, Mask};
 
 /// Each as of [`Bits`](crate::Bits).
 macro_rules! asks {
@@ -253,6 +253,104 @@ impl<B: AsRef<[u8]>> Bitmap<B> {
         self.bits().and_count(right)
     }
 
+    /// How many bits are true here or in `right`. It takes no memory.
+    ///
+    /// ```
+    /// use vortex_bits::Bitmap;
+    ///
+    /// let (left, right) = (Bitmap::from([true, false]), Bitmap::from([true, true]));
+    /// assert_eq!(left.or_count(&right), 2);
+    /// ```
+    ///
+    /// # Panics
+    ///
+    /// Where these are of another length.
+    #[inline]
+    #[must_use]
+    #[track_caller]
+    pub fn or_count(&self, right: impl Mask) -> usize {
+        self.bits().or_count(right)
+    }
+
+    /// How many bits are true in one of the two. It takes no memory.
+    ///
+    /// ```
+    /// use vortex_bits::Bitmap;
+    ///
+    /// let (left, right) = (Bitmap::from([true, false]), Bitmap::from([true, true]));
+    /// assert_eq!(left.xor_count(&right), 1);
+    /// ```
+    ///
+    /// # Panics
+    ///
+    /// Where these are of another length.
+    #[inline]
+    #[must_use]
+    #[track_caller]
+    pub fn xor_count(&self, right: impl Mask) -> usize {
+        self.bits().xor_count(right)
+    }
+
+    /// How many bits are true here and false in `right`. It takes no memory.
+    ///
+    /// ```
+    /// use vortex_bits::Bitmap;
+    ///
+    /// let (left, right) = (Bitmap::from([true, false]), Bitmap::from([true, true]));
+    /// assert_eq!(left.and_not_count(&right), 0);
+    /// ```
+    ///
+    /// # Panics
+    ///
+    /// Where these are of another length.
+    #[inline]
+    #[must_use]
+    #[track_caller]
+    pub fn and_not_count(&self, right: impl Mask) -> usize {
+        self.bits().and_not_count(right)
+    }
+
+    /// Whether no bit is true both here and in `right`. It reads up to the first one that is.
+    ///
+    /// ```
+    /// use vortex_bits::Bitmap;
+    ///
+    /// let (left, right) = (Bitmap::from([true, false]), Bitmap::from([true, true]));
+    /// assert!(left.is_disjoint(!&left) && !left.is_disjoint(&right));
+    /// ```
+    ///
+    /// # Panics
+    ///
+    /// Where these are of another length.
+    #[doc(alias("intersects"))]
+    #[inline]
+    #[must_use]
+    #[track_caller]
+    pub fn is_disjoint(&self, right: impl Mask) -> bool {
+        self.bits().is_disjoint(right)
+    }
+
+    /// Whether each bit that is true here is true in `right`. It reads up to the first one that
+    /// isn't.
+    ///
+    /// ```
+    /// use vortex_bits::Bitmap;
+    ///
+    /// let (left, right) = (Bitmap::from([true, false]), Bitmap::from([true, true]));
+    /// assert!(left.is_subset(&right) && !right.is_subset(&left));
+    /// ```
+    ///
+    /// # Panics
+    ///
+    /// Where these are of another length.
+    #[doc(alias("contains"))]
+    #[inline]
+    #[must_use]
+    #[track_caller]
+    pub fn is_subset(&self, right: impl Mask) -> bool {
+        self.bits().is_subset(right)
+    }
+
     /// The bits that are true here and false in `right`.
     ///
     /// ```
@@ -306,5 +404,44 @@ impl<B: AsRef<[u8]>> Bitmap<B> {
     #[track_caller]
     pub fn take<I: BitIndex>(&self, indices: &[I]) -> Bitmap {
         self.bits().take(indices)
+    }
+
+    /// The bits at the indices that are valid, and false for the others, whatever they are:
+    /// [`Bits::try_take_valid`](crate::Bits::try_take_valid) answers an error where this panics.
+    ///
+    /// ```
+    /// use vortex_bits::Bitmap;
+    ///
+    /// let (valid, of) = (Bitmap::from([true, false]), Bitmap::from([true, false, true]));
+    /// assert_eq!(valid.take_valid(&[0i8, -7, 1], &of), Bitmap::from([true, false, false]));
+    /// ```
+    ///
+    /// # Panics
+    ///
+    /// Where an index that is valid isn't a place of the bits, or `validity` hasn't a bit for each.
+    #[doc(alias("gather", "null"))]
+    #[must_use]
+    #[track_caller]
+    pub fn take_valid<I: BitIndex>(&self, indices: &[I], validity: impl Mask) -> Bitmap {
+        self.bits().take_valid(indices, validity)
+    }
+
+    /// The bits at the places that are true in `mask`, and false at the others: it undoes a filter.
+    ///
+    /// ```
+    /// use vortex_bits::Bitmap;
+    ///
+    /// let (mask, kept) = (Bitmap::from([true, false, true]), Bitmap::from([false, true]));
+    /// assert_eq!(kept.deposit(mask.bits()), Bitmap::from([false, false, true]));
+    /// ```
+    ///
+    /// # Panics
+    ///
+    /// Where there isn't a bit for each true one of `mask`.
+    #[doc(alias("pdep", "scatter", "expand"))]
+    #[must_use]
+    #[track_caller]
+    pub fn deposit(&self, mask: Bits<'_>) -> Bitmap {
+        self.bits().deposit(mask)
     }
 }
