@@ -61,6 +61,6 @@ pub use export::Export;
 pub use ffi::{ArrowArray, ArrowArrayStream, ArrowSchema};
 pub use field::Field;
 pub use primitive::{Primitive, Unaligned};
-pub use ranges::Ranges;
+pub use ranges::{Ranges, RangesIter};
 pub use stream::{ExportStream, Stream};
-pub use texts::Texts;
+pub use texts::{Texts, TextsIter};

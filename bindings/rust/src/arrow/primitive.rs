@@ -3,6 +3,7 @@
 use core::fmt;
 use core::iter::FusedIterator;
 use core::marker::PhantomData;
+use core::ops::Range;
 
 /// A type of the values of a buffer, which any of its bytes make one of.
 ///
@@ -100,7 +101,7 @@ pub struct Unaligned<'a, T> {
 
 impl<'a, T: Primitive> Unaligned<'a, T> {
     pub(super) fn new(bytes: &'a [u8], len: usize) -> Self {
-        debug_assert_eq!(bytes.len(), len * size_of::<T>());
+        assert_eq!(bytes.len(), len * size_of::<T>());
         Unaligned {
             bytes,
             len,
@@ -126,12 +127,25 @@ impl<'a, T: Primitive> Unaligned<'a, T> {
     #[inline]
     #[must_use]
     pub fn get(&self, place: usize) -> Option<T> {
-        if place >= self.len {
-            return None;
-        }
-        let bytes = &self.bytes[place * size_of::<T>()..][..size_of::<T>()];
-        // SAFETY: these are as many bytes as the type has, and each arrangement of them is a value.
-        Some(unsafe { bytes.as_ptr().cast::<T>().read_unaligned() })
+        // SAFETY: it is one of the values.
+        (place < self.len).then(|| unsafe { self.read(place) })
+    }
+
+    /// A value.
+    ///
+    /// # Safety
+    ///
+    /// There are more values than `place`.
+    #[inline]
+    unsafe fn read(&self, place: usize) -> T {
+        let bytes = self.bytes.as_ptr().cast::<T>();
+        // SAFETY: there are so many bytes of each value, and each arrangement of them is one.
+        unsafe { bytes.add(place).read_unaligned() }
+    }
+
+    /// The bytes of the values of a range.
+    pub(super) fn bytes_of(&self, values: Range<usize>) -> &'a [u8] {
+        &self.bytes[values.start * size_of::<T>()..values.end * size_of::<T>()]
     }
 
     /// The values from front to end.
@@ -139,11 +153,10 @@ impl<'a, T: Primitive> Unaligned<'a, T> {
     #[must_use]
     pub fn iter(
         self,
-    ) -> impl ExactSizeIterator<Item = T> + DoubleEndedIterator + FusedIterator + use<'a, T> {
-        (0..self.len).map(move |place| match self.get(place) {
-            Some(value) => value,
-            None => unreachable!("the place is one of the values"),
-        })
+    ) -> impl ExactSizeIterator<Item = T> + DoubleEndedIterator + FusedIterator + Clone + use<'a, T>
+    {
+        // SAFETY: each place is one of the values.
+        (0..self.len).map(move |place| unsafe { self.read(place) })
     }
 }
 

@@ -1,8 +1,11 @@
 //! The bytes of texts.
 
+mod predicates;
+
 use alloc::vec::Vec;
 use core::fmt;
 use core::iter::FusedIterator;
+use core::ops::Range;
 
 use super::error::Fault;
 use super::ranges::Ranges;
@@ -78,13 +81,83 @@ impl<'a> Texts<'a> {
         }
     }
 
+    /// Which rows are valid: as of [`Array::validity`](super::Array::validity).
+    #[inline]
+    #[must_use]
+    pub fn validity(&self) -> Validity<'a> {
+        self.valid
+    }
+
     /// The rows from front to end; None for those that are null.
     #[inline]
     #[must_use]
-    pub fn iter(
-        &self,
-    ) -> impl ExactSizeIterator<Item = Option<&'a [u8]>> + DoubleEndedIterator + FusedIterator {
-        (0..self.len()).map(|row| self.get(row))
+    pub fn iter(&self) -> TextsIter<'a, '_> {
+        let rows = 0..self.len();
+        TextsIter { texts: self, rows }
+    }
+}
+
+/// Texts, or binary values, from front to end: [`Texts::iter`].
+///
+/// ```
+/// use vortex_bits::arrow::Export;
+///
+/// let names = Export::texts_or_nulls([Some("a"), None, Some("bc")]).into_array();
+/// let mut bytes = 0;
+/// for name in &names.texts()? {
+///     bytes += name.map_or(0, <[u8]>::len);
+/// }
+/// assert_eq!(bytes, 3);
+/// # Ok::<(), vortex_bits::arrow::ArrowError>(())
+/// ```
+#[derive(Clone)]
+pub struct TextsIter<'a, 'b> {
+    texts: &'b Texts<'a>,
+    rows: Range<usize>,
+}
+
+impl<'a> Iterator for TextsIter<'a, '_> {
+    type Item = Option<&'a [u8]>;
+
+    #[inline]
+    fn next(&mut self) -> Option<Option<&'a [u8]>> {
+        self.rows.next().map(|row| self.texts.get(row))
+    }
+
+    #[inline]
+    fn nth(&mut self, n: usize) -> Option<Option<&'a [u8]>> {
+        self.rows.nth(n).map(|row| self.texts.get(row))
+    }
+
+    #[inline]
+    fn size_hint(&self) -> (usize, Option<usize>) {
+        self.rows.size_hint()
+    }
+}
+
+impl<'a> DoubleEndedIterator for TextsIter<'a, '_> {
+    #[inline]
+    fn next_back(&mut self) -> Option<Option<&'a [u8]>> {
+        self.rows.next_back().map(|row| self.texts.get(row))
+    }
+}
+
+impl ExactSizeIterator for TextsIter<'_, '_> {}
+impl FusedIterator for TextsIter<'_, '_> {}
+
+impl<'a, 'b> IntoIterator for &'b Texts<'a> {
+    type Item = Option<&'a [u8]>;
+    type IntoIter = TextsIter<'a, 'b>;
+
+    #[inline]
+    fn into_iter(self) -> TextsIter<'a, 'b> {
+        self.iter()
+    }
+}
+
+impl fmt::Debug for TextsIter<'_, '_> {
+    fn fmt(&self, f: &mut fmt::Formatter<'_>) -> fmt::Result {
+        f.debug_list().entries(self.clone()).finish()
     }
 }
 

@@ -15,6 +15,7 @@ mod nested;
 mod panics;
 mod parts;
 mod plain;
+mod predicates;
 mod ranges;
 mod raw;
 mod refused;

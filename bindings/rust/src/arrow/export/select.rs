@@ -292,14 +292,15 @@ fn zeroed(field: &Field, len: usize, width: usize) -> Result<AlignedBytes, Arrow
         })
 }
 
-/// Writes a number, which has so many bytes.
+/// Writes a number of one of the widths of whole numbers, which holds it.
 fn put(bytes: &mut [u8], place: usize, width: usize, number: usize) {
     let number = u64::try_from(number).unwrap_or(u64::MAX);
-    let low = number.to_le_bytes();
     let out = &mut bytes[place * width..][..width];
-    out.copy_from_slice(&low[..width]);
-    if cfg!(target_endian = "big") {
-        out.reverse();
+    match width {
+        4 => out.copy_from_slice(&u32::try_from(number).unwrap_or(u32::MAX).to_ne_bytes()),
+        8 => out.copy_from_slice(&number.to_ne_bytes()),
+        2 => out.copy_from_slice(&u16::try_from(number).unwrap_or(u16::MAX).to_ne_bytes()),
+        _ => out.fill(u8::try_from(number).unwrap_or(u8::MAX)),
     }
 }
 

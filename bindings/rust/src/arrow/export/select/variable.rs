@@ -67,25 +67,20 @@ fn offsets(
             (before + 1..=before + len).for_each(|row| put(&mut offsets, row, width, end));
             return Ok(());
         };
-        let end_of = |row: usize| ranges.get(row).map_or(0, |it| it.end);
-        let (first, last) = (
-            ranges.get(start).map_or(0, |it| it.start),
-            end_of(start + len - 1),
-        );
+        let span = ranges.span(start..start + len).unwrap_or_default();
         let part = Run {
             of: one,
-            start: first,
-            len: last - first,
+            start: span.start,
+            len: span.len(),
         };
-        let is_told =
-            parts.push(part).is_some() && (width > 4 || i32::try_from(parts.len()).is_ok());
-        if !is_told {
-            let ends = (start..start + len).map(|row| end.saturating_add(end_of(row) - first));
+        let added = parts.push(part);
+        if added.is_none() || (width == 4 && i32::try_from(parts.len()).is_err()) {
+            let ends = (start..start + len).filter_map(|row| ranges.get(row));
+            let ends = ends.map(|it| end.saturating_add(it.end - span.start));
             return Err(long(field, ends));
         }
-        for (place, row) in (before + 1..).zip(start..start + len) {
-            put(&mut offsets, place, width, end + (end_of(row) - first));
-        }
+        let out = &mut offsets[(before + 1) * width..][..len * width];
+        ranges.write_ends(start..start + len, end, out);
         Ok(())
     })?;
     Ok((offsets, parts))

@@ -1,0 +1,147 @@
+//! Which texts pass a test.
+
+use alloc::vec::Vec;
+
+use super::{Rows, Texts, viewed};
+use crate::Bitmap;
+
+/// Which rows pass a test of their bytes.
+///
+/// A null row passes none, so that these masks are those of a `where`.
+/// [`validity`](Texts::validity) says which rows are null, for [`and_kleene`] and a `not`.
+///
+/// [`and_kleene`]: crate::values::and_kleene
+impl Texts<'_> {
+    /// Returns which rows have these bytes.
+    ///
+    /// ```
+    /// use vortex_bits::Bitmap;
+    /// use vortex_bits::arrow::Export;
+    ///
+    /// let names = Export::texts_or_nulls([Some("a"), None, Some("bc")]).into_array();
+    /// let texts = names.texts()?;
+    /// assert_eq!(texts.equals("bc"), Bitmap::from([false, false, true]));
+    ///
+    /// // where name <> 'bc': neither equal nor null.
+    /// let others = !texts.equals("bc") & texts.validity();
+    /// assert_eq!(others, Bitmap::from([true, false, false]));
+    /// # Ok::<(), vortex_bits::arrow::ArrowError>(())
+    /// ```
+    #[must_use]
+    pub fn equals(&self, text: impl AsRef<[u8]>) -> Bitmap {
+        let text = text.as_ref();
+        self.test(|row| row == text)
+    }
+
+    /// Returns which rows come before a text in the order of their bytes, which is that of the
+    /// characters of UTF-8: those that come behind it are neither less nor equal nor null.
+    ///
+    /// ```
+    /// use vortex_bits::Bitmap;
+    /// use vortex_bits::arrow::Export;
+    ///
+    /// let names = Export::texts_or_nulls([Some("a"), None, Some("bc"), Some("c")]).into_array();
+    /// assert_eq!(names.texts()?.less_than("bc"), Bitmap::from([true, false, false, false]));
+    /// # Ok::<(), vortex_bits::arrow::ArrowError>(())
+    /// ```
+    #[must_use]
+    pub fn less_than(&self, text: impl AsRef<[u8]>) -> Bitmap {
+        let text = text.as_ref();
+        self.test(|row| row < text)
+    }
+
+    /// Returns which rows begin with these bytes, as `like 'b%'`.
+    ///
+    /// ```
+    /// use vortex_bits::Bitmap;
+    /// use vortex_bits::arrow::Export;
+    ///
+    /// let names = Export::texts_or_nulls([Some("ab"), None, Some("bc")]).into_array();
+    /// assert_eq!(names.texts()?.starts_with("b"), Bitmap::from([false, false, true]));
+    /// # Ok::<(), vortex_bits::arrow::ArrowError>(())
+    /// ```
+    #[must_use]
+    pub fn starts_with(&self, start: impl AsRef<[u8]>) -> Bitmap {
+        let start = start.as_ref();
+        self.test(|row| row.starts_with(start))
+    }
+
+    /// Returns which rows end with these bytes, as `like '%b'`.
+    ///
+    /// ```
+    /// use vortex_bits::Bitmap;
+    /// use vortex_bits::arrow::Export;
+    ///
+    /// let names = Export::texts_or_nulls([Some("ab"), None, Some("bc")]).into_array();
+    /// assert_eq!(names.texts()?.ends_with("b"), Bitmap::from([true, false, false]));
+    /// # Ok::<(), vortex_bits::arrow::ArrowError>(())
+    /// ```
+    #[must_use]
+    pub fn ends_with(&self, end: impl AsRef<[u8]>) -> Bitmap {
+        let end = end.as_ref();
+        self.test(|row| row.ends_with(end))
+    }
+
+    /// Returns which rows have these bytes in them, as `like '%b%'`. It takes up to the length of
+    /// the row times that of the bytes.
+    ///
+    /// ```
+    /// use vortex_bits::Bitmap;
+    /// use vortex_bits::arrow::Export;
+    ///
+    /// let names = Export::texts_or_nulls([Some("abc"), None, Some("ac")]).into_array();
+    /// assert_eq!(names.texts()?.contains("b"), Bitmap::from([true, false, false]));
+    /// # Ok::<(), vortex_bits::arrow::ArrowError>(())
+    /// ```
+    #[must_use]
+    pub fn contains(&self, part: impl AsRef<[u8]>) -> Bitmap {
+        match part.as_ref() {
+            [] => self.test(|_| true),
+            [first, rest @ ..] => self.test(|row| has(row, *first, rest)),
+        }
+    }
+
+    /// Returns which rows are one of some texts, as `in ('a', 'c')`. Each row is searched in their
+    /// order, which takes a number of comparisons that grows with the logarithm of their number.
+    ///
+    /// ```
+    /// use vortex_bits::Bitmap;
+    /// use vortex_bits::arrow::Export;
+    ///
+    /// let names = Export::texts_or_nulls([Some("a"), None, Some("bc"), Some("c")]).into_array();
+    /// assert_eq!(names.texts()?.is_in(["c", "a"]), Bitmap::from([true, false, false, true]));
+    /// # Ok::<(), vortex_bits::arrow::ArrowError>(())
+    /// ```
+    #[must_use]
+    pub fn is_in(&self, texts: impl IntoIterator<Item = impl AsRef<[u8]>>) -> Bitmap {
+        let mut texts: Vec<_> = texts.into_iter().collect();
+        texts.sort_unstable_by(|one, other| one.as_ref().cmp(other.as_ref()));
+        self.test(|row| texts.binary_search_by(|it| it.as_ref().cmp(row)).is_ok())
+    }
+
+    /// Which rows are valid and pass a test; that of null ones may be called too.
+    #[inline]
+    fn test(&self, mut test: impl FnMut(&[u8]) -> bool) -> Bitmap {
+        let mut passed = match &self.rows {
+            Rows::Joined(ranges, bytes) => ranges.test(|row| bytes.get(row).is_some_and(&mut test)),
+            Rows::Views(views, buffers) => Bitmap::make(views.len(), |mut out| {
+                out.fill_with(|row| viewed(&views[row], buffers).is_some_and(&mut test));
+            }),
+        };
+        if let Some(valid) = self.valid.bits() {
+            passed &= valid;
+        }
+        passed
+    }
+}
+
+/// Whether bytes have a part that begins with one byte and goes on with others.
+fn has(mut bytes: &[u8], first: u8, rest: &[u8]) -> bool {
+    while let Some(place) = bytes.iter().position(|byte| *byte == first) {
+        bytes = &bytes[place + 1..];
+        if bytes.starts_with(rest) {
+            return true;
+        }
+    }
+    false
+}

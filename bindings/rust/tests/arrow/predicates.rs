@@ -1,0 +1,141 @@
+//! Which texts pass a test, compared with plain calls for each row.
+use std::collections::BTreeSet;
+
+use vortex_bits::Bitmap;
+use vortex_bits::arrow::{Array, ArrowError, Export, StreamError, Texts};
+use vortex_bits::{Bits, values};
+
+use crate::made::{Maker, rounds};
+use crate::raw::{Count, import};
+
+/// Texts by chance, of each type, at some offset.
+fn some(maker: &mut Maker) -> Array {
+    loop {
+        let len = maker.one_of(&[0, 1, 7, 64, 65, 200, 600]);
+        let (array, schema) = maker.tree(len, 0);
+        let array = import(array, schema).unwrap();
+        if array.texts().is_ok() {
+            let start = maker.below(array.len().min(20) + 1);
+            return array.slice(start..start + maker.below(array.len() - start + 1));
+        }
+    }
+}
+
+fn rows(texts: &Texts<'_>, test: impl Fn(&[u8]) -> bool) -> Bitmap {
+    texts.iter().map(|row| row.is_some_and(&test)).collect()
+}
+
+const ALL: [&str; 11] = [
+    "",
+    "a",
+    "\u{e9}",
+    "twelve bytes",
+    "thirteen text",
+    "text",
+    "a text of more than twelve bytes",
+    "t",
+    "ee",
+    "elve",
+    "more than twelve bytes and more than that",
+];
+
+#[test]
+fn rows_that_pass_are_those_of_plain_calls() {
+    let mut maker = Maker::new(21, false);
+    let mut passed = 0;
+    for _ in 0..rounds(1500) {
+        maker.count = Count::default();
+        let array = some(&mut maker);
+        let texts = array.texts().unwrap();
+        let text = maker.one_of(&ALL);
+        let of = text.as_bytes();
+        let has = |row: &[u8]| of.is_empty() || row.windows(of.len()).any(|part| part == of);
+        let set: BTreeSet<&[u8]> = ALL[..maker.below(6)]
+            .iter()
+            .map(|it| it.as_bytes())
+            .collect();
+        let equal = texts.equals(text);
+        assert_eq!(equal, rows(&texts, |row| row == of), "{array:?} {text:?}");
+        assert_eq!(texts.less_than(of), rows(&texts, |row| row < of));
+        assert_eq!(
+            texts.starts_with(text),
+            rows(&texts, |row| row.starts_with(of))
+        );
+        assert_eq!(texts.ends_with(text), rows(&texts, |row| row.ends_with(of)));
+        assert_eq!(
+            texts.contains(text),
+            rows(&texts, has),
+            "{array:?} {text:?}"
+        );
+        assert_eq!(
+            texts.is_in(set.iter().rev()),
+            rows(&texts, |row| set.contains(row))
+        );
+        assert_eq!(texts.validity(), array.validity().unwrap());
+        passed += equal.count_ones();
+    }
+    assert!(passed > 1000, "{passed}");
+}
+
+#[test]
+fn rows_of_loops_are_those_of_iterators() {
+    let mut maker = Maker::new(22, false);
+    for _ in 0..rounds(100) {
+        maker.count = Count::default();
+        let array = some(&mut maker);
+        let texts = array.texts().unwrap();
+        let mut found = Vec::new();
+        for row in &texts {
+            found.push(row);
+        }
+        let all: Vec<_> = (0..texts.len()).map(|row| texts.get(row)).collect();
+        assert_eq!(found, all);
+        let back: Vec<_> = texts.iter().rev().collect();
+        assert!(back.iter().rev().eq(&all));
+        assert_eq!(
+            (texts.iter().len(), texts.iter().nth(3)),
+            (all.len(), all.get(3).copied())
+        );
+        let Ok(ranges) = array.ranges() else {
+            continue;
+        };
+        let all: Vec<_> = (0..ranges.len())
+            .map(|row| ranges.get(row).unwrap())
+            .collect();
+        let mut found = Vec::new();
+        for row in ranges {
+            found.push(row);
+        }
+        assert_eq!(found, all);
+        assert!(ranges.iter().rev().eq(all.iter().rev().cloned()));
+        let (third, len) = (ranges.into_iter().nth(3), (&ranges).into_iter().len());
+        assert_eq!((third, len), (all.get(3).cloned(), all.len()));
+    }
+}
+
+/// Of one of the calls of windows and values.
+fn refused(which: usize) -> Result<(), ArrowError> {
+    let bits = Bits::new(&[5], 0, 3);
+    match which {
+        0 => drop(values::try_take(&[7u8], &[1])?),
+        1 => drop(bits.try_take(&[3])?),
+        2 => drop(Bitmap::try_from_indices(3, &[3])?),
+        _ => drop(Export::texts(["a"], None).into_array().try_slice(1..3)?),
+    }
+    Ok(())
+}
+
+#[test]
+fn refusals_of_windows_and_values_are_errors_of_arrays() {
+    let texts = [
+        "index 1 at position 0 names none of 1 values",
+        "index 3 at position 0 is no place of 3 bits",
+        "index 3 at position 0 is no place of 3 bits",
+        "the 2 bits from bit 1 on are not among 1 bits",
+    ];
+    for (which, text) in texts.into_iter().enumerate() {
+        let error = refused(which).unwrap_err();
+        assert_eq!(error.to_string(), text);
+        assert_eq!(StreamError::from(error).text, text);
+    }
+}
