@@ -133,20 +133,26 @@ fn each(out: &mut Written<'_>, source: impl Source, of: impl Fn(u64, u64) -> u64
         return each_of_many(out, source, of);
     }
     let (digit, len, right) = (out.offset(), out.len(), source.only_word());
-    match out.bytes_mut().first_chunk_mut() {
-        Some(eight) if digit + len <= 64 => merge(eight, low(len) << digit, right << digit, of),
-        _ => {
-            let made = of(only_word(out.as_bits()), right);
-            out.write(0, len, made);
-        }
+    let Some((eight, ninth)) = out.bytes_mut().split_first_chunk_mut() else {
+        let made = of(only_word(out.as_bits()), right);
+        return out.write(0, len, made);
+    };
+    *eight = merged(
+        u64::from_le_bytes(*eight),
+        low(len) << digit,
+        right << digit,
+        of,
+    );
+    if let [ninth] = ninth {
+        let (mask, right) = (low(digit + len - 64), right >> (64 - digit));
+        *ninth = merged(u64::from(*ninth), mask, right, of)[0];
     }
 }
 
-/// Makes the bits of eight bytes that are true in `mask` what `of` answers for them.
+/// The bytes of a word, of which the bits that are true in `mask` are what `of` answers for them.
 #[inline]
-fn merge(eight: &mut [u8; 8], mask: u64, right: u64, of: impl Fn(u64, u64) -> u64) {
-    let own = u64::from_le_bytes(*eight);
-    *eight = (own & !mask | of(own, right) & mask).to_le_bytes();
+fn merged(own: u64, mask: u64, right: u64, of: impl Fn(u64, u64) -> u64) -> [u8; 8] {
+    (own & !mask | of(own, right) & mask).to_le_bytes()
 }
 
 /// The same as [`each`] of more than 64 bits: the rest of the first byte, whole words of bytes, and
@@ -158,9 +164,7 @@ fn each_of_many(out: &mut Written<'_>, source: impl Source, of: impl Fn(u64, u64
     let (first, whole) = bytes.split_at_mut(usize::from(head > 0));
     if let [first] = first {
         let right = source.part(0, head).only_word() << digit;
-        let mut eight = u64::from(*first).to_le_bytes();
-        merge(&mut eight, !low(digit), right, of);
-        *first = eight[0];
+        *first = merged(u64::from(*first), !low(digit), right, of)[0];
     }
     let rest = source.part(head, len - head);
     if rest.is_at(0) {
@@ -173,7 +177,7 @@ fn each_of_many(out: &mut Written<'_>, source: impl Source, of: impl Fn(u64, u64
         let behind = (digit + len).wrapping_neg() % 8;
         let right = source.part(len - tail, tail).only_word();
         let up = 64 - behind - tail;
-        merge(eight, low(tail) << up, right << up, of);
+        *eight = merged(u64::from_le_bytes(*eight), low(tail) << up, right << up, of);
     }
 }
 
