@@ -34,7 +34,7 @@ impl Texts<'_> {
     }
 
     /// Returns which rows come before a text in the order of their bytes, which is that of the
-    /// characters of UTF-8: those that come behind it are neither less nor equal nor null.
+    /// characters of UTF-8.
     ///
     /// ```
     /// use vortex_bits::Bitmap;
@@ -101,8 +101,8 @@ impl Texts<'_> {
         }
     }
 
-    /// Returns which rows are one of some texts, as `in ('a', 'c')`. Each row is searched in their
-    /// order, which takes a number of comparisons that grows with the logarithm of their number.
+    /// Returns which rows are one of some texts, as `in ('a', 'c')`. It sorts the texts once, and
+    /// searches each row among them by halves.
     ///
     /// ```
     /// use vortex_bits::Bitmap;
