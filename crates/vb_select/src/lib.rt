@@ -2,12 +2,12 @@
 //! and before one.
 //!
 //! A window is the `len` bits from bit `offset` on, least significant first. It has to lie in the
-//! bytes, and its end has to be a `usize`; `vb_bits::window_fits` is the test. Places and counts are
+//! bytes, and its end has to be a `usize`: `vb_bits::window_fits` tests both. Places and counts are
 //! of bits, relative to the window.
 //!
 //! The calls that end in `_by` read a `Glance`, a source of bytes that counts its reads:
-//! `vb_count::most_looks` is a bound on them. Those that search stop at what they find: they take at
-//! most the looks of a count of the bits up to it.
+//! `vb_count::most_looks` is a bound on them. Those that search stop at what they find: they take
+//! at most the looks of a count of the bits up to it.
 #![tactic(auto)]
 
 mod chunk;
