@@ -4,6 +4,6 @@
 /// What tools/digest prints; tools/write-lists writes it here.
 macro_rules! digest {
     () => {
-        "f95219c43c3c49473310ca382fb7376fdd0aece506d25282e637f4c9753b2db8"
+        "b7b47645ee3358d6f7954dd7c2cd1677e87d55b5ca3fab902635389eb848e5ca"
     };
 }

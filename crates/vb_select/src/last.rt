@@ -52,10 +52,10 @@ pub fn previous_unset(bytes: &[u8], offset: usize, len: usize, before: usize) ->
 /// [`last_set_index`] of a counted source: the place of the last true bit of the window; `None` if
 /// it has none.
 ///
-/// It takes at most the looks of [`count_ones_by`](crate::count_ones_by) over the bits from its
-/// answer on, with it, up to the end (clause `stops`); if there is none, over all of them (clause
-/// `looks`). [`most_looks`](crate::most_looks) bounds both. Does not allocate. The window must fit
-/// in the source, and end below 2^64.
+/// It takes at most the looks of `vb_count::count_ones_by` over the bits from its answer on, with
+/// it, up to the end (clause `stops`); if there is none, over all of them (clause `looks`).
+/// `vb_count::most_looks` bounds both. Does not allocate. The window must fit in the source, and
+/// end below 2^64.
 pub fn last_set_index_by<G: Glance>(src: &mut G, offset: usize, len: usize) -> Option<usize>
     requires window { InBytes (G.seen src.old).bytes offset len }
     ensures value { result ≡ last_place (bits (G.seen src.old).bytes offset len) }
@@ -69,10 +69,10 @@ pub fn last_set_index_by<G: Glance>(src: &mut G, offset: usize, len: usize) -> O
 /// [`previous_set`] of a counted source: the last true bit before place `before`, as its place in
 /// the window; `None` if there is none.
 ///
-/// It takes at most the looks of [`count_ones_by`](crate::count_ones_by) over the bits from its
-/// answer on, with it, up to place `before` (clause `stops`); if there is none, over all before it
-/// (clause `looks`). [`most_looks`](crate::most_looks) bounds both. Does not allocate. The window
-/// must fit in the source, and end below 2^64.
+/// It takes at most the looks of `vb_count::count_ones_by` over the bits from its answer on, with
+/// it, up to place `before` (clause `stops`); if there is none, over all before it (clause
+/// `looks`). `vb_count::most_looks` bounds both. Does not allocate. The window must fit in the
+/// source, and end below 2^64.
 pub fn previous_set_by<G: Glance>(
     src: &mut G,
     offset: usize,
@@ -91,10 +91,10 @@ pub fn previous_set_by<G: Glance>(
 /// [`previous_unset`] of a counted source: the last false bit before place `before`, as its place
 /// in the window; `None` if there is none.
 ///
-/// It takes at most the looks of [`count_ones_by`](crate::count_ones_by) over the bits from its
-/// answer on, with it, up to place `before` (clause `stops`); if there is none, over all before it
-/// (clause `looks`). [`most_looks`](crate::most_looks) bounds both. Does not allocate. The window
-/// must fit in the source, and end below 2^64.
+/// It takes at most the looks of `vb_count::count_ones_by` over the bits from its answer on, with
+/// it, up to place `before` (clause `stops`); if there is none, over all before it (clause
+/// `looks`). `vb_count::most_looks` bounds both. Does not allocate. The window must fit in the
+/// source, and end below 2^64.
 pub fn previous_unset_by<G: Glance>(
     src: &mut G,
     offset: usize,

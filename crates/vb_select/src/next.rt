@@ -55,10 +55,10 @@ pub fn all_set(bytes: &[u8], offset: usize, len: usize) -> bool
 /// [`next_set`] of a counted source: the first true bit from place `from` on, as its place in the
 /// window; `None` if there is none.
 ///
-/// It takes at most the looks of [`count_ones_by`](crate::count_ones_by) over the bits from place
-/// `from` up to its answer, with it (clause `stops`); if there is none, over all from place `from`
-/// on (clause `looks`). [`most_looks`](crate::most_looks) bounds both. Does not allocate. The
-/// window must fit in the source, and end below 2^64.
+/// It takes at most the looks of `vb_count::count_ones_by` over the bits from place `from` up to
+/// its answer, with it (clause `stops`); if there is none, over all from place `from` on (clause
+/// `looks`). `vb_count::most_looks` bounds both. Does not allocate. The window must fit in the
+/// source, and end below 2^64.
 pub fn next_set_by<G: Glance>(src: &mut G, offset: usize, len: usize, from: usize) -> Option<usize>
     requires window { InBytes (G.seen src.old).bytes offset len }
     ensures value { IsNext (bits (G.seen src.old).bytes offset len) from result }
@@ -73,10 +73,10 @@ pub fn next_set_by<G: Glance>(src: &mut G, offset: usize, len: usize, from: usiz
 /// [`next_unset`] of a counted source: the first false bit from place `from` on, as its place in
 /// the window; `None` if there is none.
 ///
-/// It takes at most the looks of [`count_ones_by`](crate::count_ones_by) over the bits from place
-/// `from` up to its answer, with it (clause `stops`); if there is none, over all from place `from`
-/// on (clause `looks`). [`most_looks`](crate::most_looks) bounds both. Does not allocate. The
-/// window must fit in the source, and end below 2^64.
+/// It takes at most the looks of `vb_count::count_ones_by` over the bits from place `from` up to
+/// its answer, with it (clause `stops`); if there is none, over all from place `from` on (clause
+/// `looks`). `vb_count::most_looks` bounds both. Does not allocate. The window must fit in the
+/// source, and end below 2^64.
 pub fn next_unset_by<G: Glance>(
     src: &mut G,
     offset: usize,
@@ -95,10 +95,9 @@ pub fn next_unset_by<G: Glance>(
 
 /// [`any_set`] of a counted source: whether a bit of the window is true.
 ///
-/// It takes at most the looks of [`count_ones_by`](crate::count_ones_by) over the bits up to the
-/// first true one, with it (clause `stops`); if there is none, over all (clause `looks`).
-/// [`most_looks`](crate::most_looks) bounds both. Does not allocate. The window must fit in the
-/// source, and end below 2^64.
+/// It takes at most the looks of `vb_count::count_ones_by` over the bits up to the first true one,
+/// with it (clause `stops`); if there is none, over all (clause `looks`). `vb_count::most_looks`
+/// bounds both. Does not allocate. The window must fit in the source, and end below 2^64.
 pub fn any_set_by<G: Glance>(src: &mut G, offset: usize, len: usize) -> bool
     requires window { InBytes (G.seen src.old).bytes offset len }
     ensures value { IsTrue result ↔ (0 < count (bits (G.seen src.old).bytes offset len)) }
@@ -111,10 +110,9 @@ pub fn any_set_by<G: Glance>(src: &mut G, offset: usize, len: usize) -> bool
 
 /// [`all_set`] of a counted source: whether each bit of the window is true.
 ///
-/// It takes at most the looks of [`count_ones_by`](crate::count_ones_by) over the bits up to the
-/// first false one, with it (clause `stops`); if there is none, over all (clause `looks`).
-/// [`most_looks`](crate::most_looks) bounds both. Does not allocate. The window must fit in the
-/// source, and end below 2^64.
+/// It takes at most the looks of `vb_count::count_ones_by` over the bits up to the first false one,
+/// with it (clause `stops`); if there is none, over all (clause `looks`). `vb_count::most_looks`
+/// bounds both. Does not allocate. The window must fit in the source, and end below 2^64.
 pub fn all_set_by<G: Glance>(src: &mut G, offset: usize, len: usize) -> bool
     requires window { InBytes (G.seen src.old).bytes offset len }
     ensures value { IsTrue result ↔ (count (bits (G.seen src.old).bytes offset len) ≡ len) }

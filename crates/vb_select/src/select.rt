@@ -98,10 +98,10 @@ pub fn bit_select_unset(bytes: &[u8], offset: usize, len: usize, n: usize) -> Op
 /// has to lie in the bytes, and to end below 2^64. Clause `place` says what the answer is, and
 /// `each` that every true bit with `n` true ones before it is the answer.
 ///
-/// The search takes at most the looks of [`count_ones_by`](crate::count_ones_by) of the same bits,
-/// and so at most [`most_looks`](crate::most_looks) of `len`. A look is one read of a chunk of 64
-/// bytes, of a word of eight, or of a byte; `G.seen` of a source is its bytes, which no look
-/// changes, and how many looks they have had.
+/// The search takes at most the looks of `vb_count::count_ones_by` of the same bits, and so at most
+/// `vb_count::most_looks` of `len`. A look is one read of a chunk of 64 bytes, of a word of eight,
+/// or of a byte; `G.seen` of a source is its bytes, which no look changes, and how many looks they
+/// have had.
 pub fn bit_select_by<G: Glance>(src: &mut G, offset: usize, len: usize, n: usize) -> Option<usize>
     requires window { InBytes (G.seen src.old).bytes offset len }
     ensures place { Selects (bits (G.seen src.old).bytes offset len) n result }
@@ -116,10 +116,10 @@ pub fn bit_select_by<G: Glance>(src: &mut G, offset: usize, len: usize, n: usize
 /// window has to lie in the bytes, and to end below 2^64. Clause `place` says what the answer is,
 /// and `each` that every false bit with `n` false ones before it is the answer.
 ///
-/// The search takes at most the looks of [`count_ones_by`](crate::count_ones_by) of the same bits,
-/// and so at most [`most_looks`](crate::most_looks) of `len`. A look is one read of a chunk of 64
-/// bytes, of a word of eight, or of a byte; `G.seen` of a source is its bytes, which no look
-/// changes, and how many looks they have had.
+/// The search takes at most the looks of `vb_count::count_ones_by` of the same bits, and so at most
+/// `vb_count::most_looks` of `len`. A look is one read of a chunk of 64 bytes, of a word of eight,
+/// or of a byte; `G.seen` of a source is its bytes, which no look changes, and how many looks they
+/// have had.
 pub fn bit_select_unset_by<G: Glance>(
     src: &mut G,
     offset: usize,
