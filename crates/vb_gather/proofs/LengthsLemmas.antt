@@ -1,6 +1,6 @@
 -- Lists whose lengths were compared.
 use Rattle.std.proofs.Common.{◌≡◌, ℕ, Bool, true, false, not, eqb, cond, List, [], ◌∷◌, length}
-use Rattle.std.proofs.Common.{Option, Some, None, refl, sym, ap, ◌∙◌, tt}
+use Rattle.std.proofs.Common.{Option, Some, None, refl, sym, ap, ◌∙◌}
 use Rattle.std.specs.Prelude.{Result, Err}
 use Rattle.std.specs.Option.{ForSome, option_map}
 use Rattle.std.proofs.lemmas.Bool.{eqb-true}
@@ -51,5 +51,5 @@ pub gives_refused : {S : Type 0} (n : ℕ) (lengths : List ℕ) (P : S → Type 
 gives_refused n lengths P m found = record {
   ok = tt;
   same_len = λ none. absurd (none-some m (sym none ∙ found));
-  other_len = λ k there. ap (LengthMismatch n) (same_Some m k (sym found ∙ there));
+  other_len = λ k there. ap (λ j. Err (LengthMismatch n j)) (same_Some m k (sym found ∙ there));
 }

@@ -1,5 +1,5 @@
 -- How calls answer that find the places of many ranks.
-use Rattle.std.specs.Prelude.{◌≡◌, ◌≢◌, ℕ, Bool, List, length, Option, Unit}
+use Rattle.std.specs.Prelude.{◌≡◌, ◌≢◌, ℕ, Bool, List, length, Option}
 use Rattle.std.specs.Prelude.{Result, IfOk, IsOk, IsErrOf, OnErr}
 use Rattle.std.specs.List.{AllZip}
 use Rattle.vb_bits.specs.Bits.{Selects, InvertsCount}

@@ -6,13 +6,13 @@ use Rattle.vb_gather.proofs.LengthsLemmas.{gives_refused}
 use Rattle.vb_gather.proofs.kleene.try_and_kleene.Goals as goal
 
 pub and_kleene-requires-clause-right : goal.and_kleene-requires-clause-right
-and_kleene-requires-clause-right c =
+and_kleene-requires-clause-right g c =
     first_len (length (bits_of c.args.left)) (length (bits_of c.args.right))
     (c.len_or-left_validity.result ∷ c.len_or-right_validity.result ∷ [])
     (sym c.other_len.ensures ∙ c.in-None.is)
 
 pub and_kleene-requires-clause-left_valid : goal.and_kleene-requires-clause-left_valid
-and_kleene-requires-clause-left_valid c =
+and_kleene-requires-clause-left_valid g c =
     let n = length (bits_of c.args.left) in let m = length (bits_of c.args.right) in
     let l = c.len_or-left_validity in let r = c.len_or-right_validity.result in
     as_long bits_of n c.args.left_validity (sym l.ensures
@@ -20,7 +20,7 @@ and_kleene-requires-clause-left_valid c =
     (sym c.other_len.ensures ∙ c.in-None.is)))
 
 pub and_kleene-requires-clause-right_valid : goal.and_kleene-requires-clause-right_valid
-and_kleene-requires-clause-right_valid c =
+and_kleene-requires-clause-right_valid g c =
     let n = length (bits_of c.args.left) in let m = length (bits_of c.args.right) in
     let l = c.len_or-left_validity.result in let r = c.len_or-right_validity in
     as_long bits_of n c.args.right_validity (sym r.ensures
@@ -28,7 +28,7 @@ and_kleene-requires-clause-right_valid c =
     (rest_lens n m (l ∷ r.result ∷ []) (sym c.other_len.ensures ∙ c.in-None.is))))
 
 pub returns-in-Some : goal.returns-in-Some
-returns-in-Some c =
+returns-in-Some g c =
     let n = length (bits_of c.args.left) in let m = length (bits_of c.args.right) in
     let l = c.len_or-left_validity in let r = c.len_or-right_validity in
     gives_refused n _ _ _ (subst (λ k. first_other n (m ∷ k ∷ _ ∷ []) ≡ Some c.in-Some.other)
@@ -36,7 +36,7 @@ returns-in-Some c =
     (sym c.other_len.ensures ∙ c.in-Some.is)))
 
 pub returns-in-None : goal.returns-in-None
-returns-in-None c =
+returns-in-None g c =
     let n = length (bits_of c.args.left) in let m = length (bits_of c.args.right) in
     let l = c.len_or-left_validity in let r = c.len_or-right_validity in
     gives_made n _ _ _ (subst (λ k. first_other n (m ∷ k ∷ _ ∷ []) ≡ None) l.ensures
