@@ -8,13 +8,13 @@ use Rattle.vb_gather.proofs.kleene.try_or_kleene.Goals as goal
 pub or_kleene-requires-clause-right : goal.or_kleene-requires-clause-right
 or_kleene-requires-clause-right g c =
     first_len (length (bits_of c.args.left)) (length (bits_of c.args.right))
-    (c.len_or-left_validity.result ∷ c.len_or-right_validity.result ∷ [])
+    (c.len_or.result ∷ c.len_or-2.result ∷ [])
     (sym c.other_len.ensures ∙ c.in-None.is)
 
 pub or_kleene-requires-clause-left_valid : goal.or_kleene-requires-clause-left_valid
 or_kleene-requires-clause-left_valid g c =
     let n = length (bits_of c.args.left) in let m = length (bits_of c.args.right) in
-    let l = c.len_or-left_validity in let r = c.len_or-right_validity.result in
+    let l = c.len_or in let r = c.len_or-2.result in
     as_long bits_of n c.args.left_validity (sym l.ensures
     ∙ first_len n l.result (r ∷ []) (rest_lens n m (l.result ∷ r ∷ [])
     (sym c.other_len.ensures ∙ c.in-None.is)))
@@ -22,7 +22,7 @@ or_kleene-requires-clause-left_valid g c =
 pub or_kleene-requires-clause-right_valid : goal.or_kleene-requires-clause-right_valid
 or_kleene-requires-clause-right_valid g c =
     let n = length (bits_of c.args.left) in let m = length (bits_of c.args.right) in
-    let l = c.len_or-left_validity.result in let r = c.len_or-right_validity in
+    let l = c.len_or.result in let r = c.len_or-2 in
     as_long bits_of n c.args.right_validity (sym r.ensures
     ∙ first_len n r.result [] (rest_lens n l (r.result ∷ [])
     (rest_lens n m (l ∷ r.result ∷ []) (sym c.other_len.ensures ∙ c.in-None.is))))
@@ -30,7 +30,7 @@ or_kleene-requires-clause-right_valid g c =
 pub returns-in-Some : goal.returns-in-Some
 returns-in-Some g c =
     let n = length (bits_of c.args.left) in let m = length (bits_of c.args.right) in
-    let l = c.len_or-left_validity in let r = c.len_or-right_validity in
+    let l = c.len_or in let r = c.len_or-2 in
     gives_refused n _ _ _ (subst (λ k. first_other n (m ∷ k ∷ _ ∷ []) ≡ Some c.in-Some.other)
     l.ensures (subst (λ k. first_other n (m ∷ l.result ∷ k ∷ []) ≡ Some c.in-Some.other) r.ensures
     (sym c.other_len.ensures ∙ c.in-Some.is)))
@@ -38,7 +38,7 @@ returns-in-Some g c =
 pub returns-in-None : goal.returns-in-None
 returns-in-None g c =
     let n = length (bits_of c.args.left) in let m = length (bits_of c.args.right) in
-    let l = c.len_or-left_validity in let r = c.len_or-right_validity in
+    let l = c.len_or in let r = c.len_or-2 in
     gives_made n _ _ _ (subst (λ k. first_other n (m ∷ k ∷ _ ∷ []) ≡ None) l.ensures
     (subst (λ k. first_other n (m ∷ l.result ∷ k ∷ []) ≡ None) r.ensures
     (sym c.other_len.ensures ∙ c.in-None.is))) c.or_kleene.ensures
