@@ -1,6 +1,6 @@
 -- Lists whose lengths were compared.
 use Rattle.std.proofs.Common.{◌≡◌, ℕ, Bool, true, false, not, eqb, cond, List, [], ◌∷◌, length}
-use Rattle.std.proofs.Common.{Option, Some, None, refl, sym, ap, ◌∙◌}
+use Rattle.std.proofs.Common.{Option, Some, None, refl, sym, ap, subst, ◌∙◌}
 use Rattle.std.specs.Prelude.{Result, Err}
 use Rattle.std.specs.Option.{ForSome, option_map}
 use Rattle.std.proofs.lemmas.Bool.{eqb-true}
@@ -53,3 +53,12 @@ gives_refused n lengths P m found = record {
   same_len = λ none. absurd (none-some m (sym none ∙ found));
   other_len = λ k there. ap (λ j. Err (LengthMismatch n j)) (same_Some m k (sym found ∙ there));
 }
+
+-- lengths that were read are those of the lists
+pub gives_read : {S : Type 0} (n k m j : ℕ) (l r : ℕ → ℕ) (P : S → Type 0)
+    (result : Result S BufferError) → n ≡ k → m ≡ j
+    → GivesOfLength n (m ∷ l n ∷ r n ∷ []) P result
+    → GivesOfLength k (j ∷ l k ∷ r k ∷ []) P result
+gives_read n k m j l r P result e f given =
+    subst (λ x. GivesOfLength x (j ∷ l x ∷ r x ∷ []) P result) e
+    (subst (λ x. GivesOfLength n (x ∷ l n ∷ r n ∷ []) P result) f given)
