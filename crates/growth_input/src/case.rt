@@ -1,0 +1,38 @@
+//! What a program is given.
+ghost use Rattle.std.specs.Prelude.{◌≤◌};
+
+use anyhow::{Context, Result, bail};
+
+/// A size of an input, and a number of calls.
+#[derive(Clone, Copy)]
+pub struct Case {
+    /// How many bits or items an input has.
+    pub size: usize,
+    /// How often the call is made.
+    pub calls: usize,
+    ghost bounded: { size ≤ 16777216 },
+}
+
+impl Case {
+    /// The largest size.
+    pub const MOST: usize = 16_777_216;
+
+    /// Reads a size and a number of calls. Returns an error if one of them is no number, or the
+    /// size is above [`MOST`](Self::MOST).
+    pub fn read(size: &str, calls: &str) -> Result<Case> {
+        let size = size.parse::<usize>().context("size")?;
+        let calls = calls.parse::<usize>().context("calls")?;
+        if size > Case::MOST {
+            bail!("size is above 16,777,216");
+        }
+        Ok(Case { size, calls })
+    }
+
+    /// As many calls on an input of at most eight times the size.
+    pub fn eightfold(self) -> Case {
+        Case {
+            size: (8 * self.size).min(Case::MOST),
+            calls: self.calls,
+        }
+    }
+}

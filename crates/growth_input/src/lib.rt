@@ -1,0 +1,11 @@
+//! What the programs that `tools/growth` measures are given, a size and a number of calls, and
+//! inputs of that size.
+#![tactic(auto)]
+
+mod bytes;
+mod case;
+mod windows;
+
+pub use bytes::{bools, filled, mixed, sparse};
+pub use case::Case;
+pub use windows::window;

@@ -1,0 +1,69 @@
+//! Calls whose cost is promised: the program of `tools/growth`, which counts its steps.
+//!
+//! It takes a family, a row, a size and a number of calls, makes the input once and the call so
+//! often, and prints a sum of what the calls returned. `all` in place of a family and a row goes
+//! over all of them.
+#![tactic(auto)]
+
+use anyhow::{Context, Result, bail};
+use growth_input::Case;
+use std::alloc::Global;
+use std::env;
+
+fn main(rt: HostRuntime) -> Result<()> {
+    let words: Vec<String> = env::args(&rt)?.collect(rt.alloc())?;
+    let [_, family, row, size, calls] = words.as_slice() else {
+        bail!("usage: run_growth FAMILY ROW SIZE CALLS");
+    };
+    let case = Case::read(size.as_str(), calls.as_str())?;
+    let sum = match family.as_str() {
+        "all" => measure_all(rt.alloc(), case)?,
+        family => measure(rt.alloc(), family, row.as_str(), case)?,
+    };
+    println!(rt; "{sum}")?;
+    drop(words);
+    Ok(())
+}
+
+/// Makes the calls of all rows.
+fn measure_all(alloc: Global, case: Case) -> Result<usize> {
+    let bits = measure_rows(alloc, growth_bits::ROWS, case)?;
+    let sets = measure_rows(alloc, growth_sets::ROWS, case)?;
+    let values = measure_rows(alloc, growth_values::ROWS, case)?;
+    let directory = measure_rows(alloc, growth_directory::ROWS, case)?;
+    Ok(bits ^ sets.rotate_left(8) ^ values.rotate_left(16) ^ directory.rotate_left(24))
+}
+
+/// Makes the calls of these rows. In the sum their order counts.
+fn measure_rows(alloc: Global, rows: &[&str], case: Case) -> Result<usize> {
+    let mut sum = 0usize;
+    for words in rows {
+        let (family, row) = words.split_once(' ').context("row")?;
+        sum = sum.rotate_left(1) ^ measure(alloc, family, row, case)?;
+    }
+    Ok(sum)
+}
+
+/// Makes the calls of a row.
+fn measure(alloc: Global, family: &str, row: &str, case: Case) -> Result<usize> {
+    match family {
+        "counts" | "near" | "far" | "walks" | "few" | "writes" => growth_bits::measure(
+            alloc, family, row, case,
+        ),
+        "sets" | "far_sets" | "combined" | "grown" | "made" | "open" | "room" | "shared" =>
+            growth_sets::measure(alloc, family, row, case),
+        "filtered"
+        | "filtered_few"
+        | "filtered_all"
+        | "taken"
+        | "compared"
+        | "packed"
+        | "buffers"
+        | "grown_buffers"
+        | "owners" => growth_values::measure(alloc, family, row, case),
+        "ranked" | "ranked_buffer" | "edited" | "counted" | "tables" => growth_directory::measure(
+            alloc, family, row, case,
+        ),
+        _ => bail!("no family of this name"),
+    }
+}
