@@ -303,7 +303,7 @@ class Check(Folder):
         for name in ("check-documents", "edits", "untested"):
             self.command(f"tools/{name}", f"echo {name} is well")
         self.command("reference/make", "echo the reference is well")
-        for name in ("try-tests", "check-program"):
+        for name in ("try-tests", "check-program", "growth"):
             self.command(f"tools/{name}", "echo '10 passed, 0 failed'")
         self.command("bin/python3", "echo OK")
         self.command("bin/rattle", "exit 0")
@@ -311,10 +311,10 @@ class Check(Folder):
 
     def test_all_parts_are_counted(self):
         status, lines = self.run_it("tools/check")
-        self.assertEqual((status, lines[-1]), (0, "127 passed, 0 failed"))
+        self.assertEqual((status, lines[-1]), (0, "137 passed, 0 failed"))
         begun = [it.split(":")[0] for it in lines if it.startswith("part ")]
-        self.assertEqual(begun, [f"part {it} of 10" for it in range(1, 11)])
-        self.assertIn("part 9 of 10: rt ci, about 50 minutes on four processors", "\n".join(lines))
+        self.assertEqual(begun, [f"part {it} of 11" for it in range(1, 12)])
+        self.assertIn("part 9 of 11: rt ci, about 50 minutes on four processors", "\n".join(lines))
         self.assertIn("  crate 1 of 3: low proved", "\n".join(lines))
         self.assertIn("        untested is well", lines)
 
@@ -323,7 +323,7 @@ class Check(Folder):
         self.command("tools/edits", "echo an edit is wrong; exit 1")
         status, lines = self.run_it("tools/check")
         self.assertEqual((status, lines[-1]), (1, "5 passed, 2 failed"))
-        for name in ("tools/try-tests", "rt ci", "tools/check-program"):
+        for name in ("tools/try-tests", "rt ci", "tools/check-program", "tools/growth"):
             self.assertIn(f"not run, after a failure: {name}", lines)
         summary = lines[lines.index("failed: tools/check-documents") :]
         self.assertEqual(summary[1:4:2], ["    README.md is wrong", "    an edit is wrong"])
@@ -349,7 +349,7 @@ class Check(Folder):
 
     def test_ci_runs_it_and_nothing_else(self):
         self.copy(".ci/run")
-        self.assertEqual(self.run_it(".ci/run")[1][-1], "127 passed, 0 failed")
+        self.assertEqual(self.run_it(".ci/run")[1][-1], "137 passed, 0 failed")
         self.assertEqual((TOP / ".ci/run").read_text().splitlines()[-1], "exec tools/check")
 
 

@@ -5,7 +5,7 @@ use crate::asked::{filled_set, ranked};
 use anyhow::{Result, bail};
 use growth_input::{Case, mixed, window};
 use std::alloc::Global;
-use vb_kernel::Plain;
+use vb_count::Plain;
 use vb_rank::{PlainTable, rank_by, select_by, select_unset_by, table_of};
 use vb_ranked::Ranked;
 use vb_view::BitBufferView;

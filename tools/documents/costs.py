@@ -1,0 +1,87 @@
+"""Whether each public call whose docstring promises a cost has a row in the table of docs/COSTS.md,
+which `tools/growth` measures, and whether each call that the table names is there.
+"""
+import re
+from collections.abc import Iterator
+from dataclasses import dataclass
+
+from documents.files import Repository
+from documents.lists import exported
+
+COSTS, FACADE = "docs/COSTS.md", "crates/vortex_buffer/src/lib.rt"
+SOURCE = re.compile(r"crates/(?:vb_\w+?(?<!_tests)|vortex_buffer)/src/.*\.rt")
+PROGRAM = re.compile(r"crates/growth_\w+/src/lib\.rt")
+OWNER = re.compile(r"impl(?:<.*?>)? (?:.* for )?&?(?:'\w+ )?(?:mut )?(\w+)|pub trait (\w+)")
+CALL = re.compile(r"\s*(pub )?fn (\w+)")
+NAME = re.compile(r"`([\w:]+)`")
+ROW = re.compile(r"\| `(\w+)`: (\w+) \| ")
+LISTED = re.compile(r'^ +"(\w+) (\w+)",$', re.MULTILINE)
+# What a docstring says of a cost that grows with the input, or doesn't.
+PROMISE = re.compile(
+    r"\bconstant\b|amortized|\blinear in\b|at the cost of|\bby words\b|packed by 64"
+    r"|\b(?:64|a word|four words|\d+ bytes) at a time|by 64 bits|four words at once"
+    r"|\b[Rr]eads? (?:as|up to|from the end|one or two)\b|\bone pass over\b|halves the groups",
+)
+
+
+@dataclass(frozen=True)
+class Call:
+    """A public call: its type or trait, if it has one, its name, and what its docstring says."""
+
+    owner: str
+    name: str
+    said: str
+
+    @property
+    def path(self) -> str:
+        return f"{self.owner}::{self.name}" if self.owner else self.name
+
+
+def calls(source: str) -> Iterator[Call]:
+    """The public functions and the methods of public traits of a file."""
+    owner, is_trait, said = "", False, []
+    for line in source.split("\n"):
+        text = line.strip()
+        if found := OWNER.match(line):
+            owner, is_trait = found[1] or found[2], bool(found[2])
+        elif line == "}":
+            owner, is_trait = "", False
+        if text.startswith("///"):
+            said.append(text[3:].strip())
+            continue
+        if (found := CALL.match(line)) and (found[1] or is_trait):
+            yield Call(owner, found[2], " ".join(said))
+        if not text.startswith("#["):
+            said = []
+
+
+def public_calls(repository: Repository) -> list[Call]:
+    """The calls that the crate to depend on re-exports, by themselves or with their type."""
+    public = exported(repository.read(FACADE))
+    files = [text for path, text in repository.code.items() if SOURCE.fullmatch(path)]
+    every = [it for text in files for it in calls(text)]
+    return [it for it in every if (it.owner or it.name) in public]
+
+
+def named(text: str) -> set[str]:
+    """The calls that the rows name, in their last cell."""
+    lines = [it for it in text.split("\n") if ROW.match(it)]
+    return {name for it in lines for name in NAME.findall(it.strip("|").rpartition("|")[2])}
+
+
+def costs(repository: Repository) -> list[str]:
+    """What is wrong with the table: calls that it lacks, calls and rows that aren't there."""
+    text = repository.read(COSTS)
+    public, listed = public_calls(repository), named(text)
+    found = [
+        f"{COSTS}: no row has `{it.path}`, whose docstring says '{PROMISE.search(it.said)[0]}'"
+        for it in public if PROMISE.search(it.said) and it.path not in listed
+    ]
+    known = {it.path for it in public}
+    found += [f"{COSTS}: `{it}` is no public call" for it in sorted(listed - known)]
+    programs = [text for path, text in repository.code.items() if PROGRAM.fullmatch(path)]
+    made = {it for program in programs for it in LISTED.findall(program)}
+    said = {it for it in ROW.findall(text) if it[0] != "session"}
+    found += [f"{COSTS}: no row is `{a}`: {b}, which a program has" for a, b in sorted(made - said)]
+    found += [f"{COSTS}: no program has `{a}`: {b}" for a, b in sorted(said - made)]
+    return found
