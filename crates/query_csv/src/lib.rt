@@ -1,0 +1,27 @@
+//! Reading of a CSV file (RFC 4180) in batches of rows, and writing of rows as CSV.
+//!
+//! [`Reader`] splits bytes into the fields of [`Rows`] by a [`Splitter`]; [`write_row`] writes
+//! fields back. Beside them is what a query over the fields needs: numbers of fields, texts as a
+//! terminal may show them, errors at a position of the command line ([`Source`]), and [`Failure`],
+//! the error of every crate of the program.
+#![tactic(auto)]
+
+mod error;
+mod number;
+mod reader;
+mod rows;
+mod source;
+mod splitter;
+#[cfg(test)]
+mod tests;
+mod text;
+mod write;
+
+pub use error::{CsvError, Failure, Malformed, Result, told};
+pub use number::{compare, float, is_digits, ordered, whole};
+pub use reader::Reader;
+pub use rows::Rows;
+pub use source::Source;
+pub use splitter::{Dialect, LONGEST_ROW, MOST_FIELDS, Splitter};
+pub use text::{grouped, shown, visible};
+pub use write::write_row;

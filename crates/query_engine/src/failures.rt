@@ -1,0 +1,25 @@
+//! Failures of the library, as those of the program.
+use query_csv::{Failure, Result, told};
+use std::alloc::Global;
+use vortex_buffer::{BitBuffer, BufferError};
+
+/// Returns what a call of the library made, or its failure.
+pub fn made<T>(alloc: Global, made: vortex_buffer::Result<T>) -> Result<T> {
+    match made {
+        Ok(made) => Ok(made),
+        Err(BufferError::OutOfMemory) => Err(Failure::Memory),
+        Err(error) => Err(told(format!(in alloc; "{error}"))),
+    }
+}
+
+/// Returns the failure of two columns of one batch that aren't as long, which no batch has.
+pub fn uneven(alloc: Global) -> Failure {
+    told(String::from_str(alloc, "columns of a batch differ in their length"))
+}
+
+/// Returns the bitmap of truth values.
+pub fn packed(alloc: Global, bools: Vec<bool>) -> Result<BitBuffer> {
+    let set = BitBuffer::from_bools(alloc, bools.as_slice());
+    drop(bools);
+    made(alloc, set)
+}

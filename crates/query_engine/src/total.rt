@@ -1,0 +1,144 @@
+//! The values of a column, taken together.
+use query_table::Range;
+use std::alloc::{AllocError, Global};
+use std::num::nearest_u64_to_f64;
+
+/// Whole numbers. The sum is exact.
+#[derive(Clone, Copy)]
+pub struct Wholes {
+    /// The least one.
+    pub least: i64,
+    /// The greatest one.
+    pub greatest: i64,
+    /// The sum.
+    pub sum: i128,
+}
+
+impl Wholes {
+    /// Returns the total of one number.
+    pub fn of(number: i64) -> Wholes {
+        Wholes {
+            least: number,
+            greatest: number,
+            sum: i128::from(number),
+        }
+    }
+
+    /// Returns the total with one more number.
+    pub fn plus(self, number: i64) -> Wholes {
+        Wholes {
+            least: self.least.min(number),
+            greatest: self.greatest.max(number),
+            sum: self.sum.wrapping_add(i128::from(number)),
+        }
+    }
+
+    /// Returns the range of `count` numbers.
+    pub fn range(self, alloc: Global, count: u64) -> Result<Range, AllocError> {
+        let sum = format!(in alloc; "{}", self.sum)?;
+        let mean = sum.as_str().parse::<f64>().unwrap_or(0.0) / nearest_u64_to_f64(count);
+        drop(sum);
+        Ok(Range::Whole {
+            least: self.least,
+            greatest: self.greatest,
+            mean,
+        })
+    }
+}
+
+/// Floats.
+#[derive(Clone, Copy)]
+pub struct Floats {
+    /// The least one.
+    pub least: f64,
+    /// The greatest one.
+    pub greatest: f64,
+    /// The sum.
+    pub sum: Sum,
+}
+
+impl Floats {
+    /// Returns the total of one number.
+    pub fn of(number: f64) -> Floats {
+        Floats {
+            least: number,
+            greatest: number,
+            sum: Sum::nothing().plus(number),
+        }
+    }
+
+    /// Returns the total with one more number.
+    pub fn plus(self, number: f64) -> Floats {
+        Floats {
+            least: least(self.least, number),
+            greatest: greatest(self.greatest, number),
+            sum: self.sum.plus(number),
+        }
+    }
+
+    /// Returns both as one.
+    pub fn joined(self, other: Floats) -> Floats {
+        Floats {
+            least: least(self.least, other.least),
+            greatest: greatest(self.greatest, other.greatest),
+            sum: self.sum.plus(other.sum.high).plus(other.sum.low),
+        }
+    }
+
+    /// Returns the range of `count` numbers.
+    pub fn range(self, count: u64) -> Range {
+        Range::Float {
+            least: self.least,
+            greatest: self.greatest,
+            mean: self.sum.value() / nearest_u64_to_f64(count),
+        }
+    }
+}
+
+fn least(before: f64, number: f64) -> f64 {
+    if number < before { number } else { before }
+}
+
+fn greatest(before: f64, number: f64) -> f64 {
+    if number > before { number } else { before }
+}
+
+/// A sum of floats that keeps the digits which each step rounds away (Neumaier's).
+#[derive(Clone, Copy)]
+pub struct Sum {
+    high: f64,
+    low: f64,
+}
+
+impl Sum {
+    /// Returns the sum of no number.
+    pub fn nothing() -> Sum {
+        Sum {
+            high: 0.0,
+            low: 0.0,
+        }
+    }
+
+    /// Returns the sum with one more number.
+    pub fn plus(self, number: f64) -> Sum {
+        let high = self.high + number;
+        let lost = if self.high.abs() >= number.abs() {
+            (self.high - high) + number
+        } else {
+            (number - high) + self.high
+        };
+        Sum {
+            high,
+            low: self.low + lost,
+        }
+    }
+
+    /// Returns the sum, rounded; infinite if it is beyond the range of floats.
+    pub fn value(self) -> f64 {
+        if self.high.is_finite() {
+            self.high + self.low
+        } else {
+            self.high
+        }
+    }
+}

@@ -1,0 +1,222 @@
+//! A CSV file, with the names of its columns.
+use crate::batches::Batches;
+use crate::names::{find, listed, names};
+use query_csv::{CsvError, Dialect, Failure, Reader, Result, Rows, Source, shown, told};
+use std::alloc::{AllocError, Global};
+use std::rt::Files;
+use std::{fs, io};
+
+/// How a file is read.
+#[derive(Clone, Copy)]
+pub struct Format {
+    /// The bytes that separate and quote fields.
+    pub dialect: Dialect,
+    /// Whether the first row has the names of the columns.
+    pub has_header: bool,
+    /// Whether rows may lack fields at their end, which are null then.
+    pub has_short_rows: bool,
+}
+
+impl Format {
+    /// Returns the format of commas, double quotes and a header line.
+    pub fn commas() -> Format {
+        Format {
+            dialect: Dialect {
+                delimiter: b',',
+                quote: Some(b'"'),
+            },
+            has_header: true,
+            has_short_rows: false,
+        }
+    }
+}
+
+/// A CSV file, with the names of its columns.
+#[derive(Drop)]
+pub struct Table {
+    alloc: Global,
+    path: String,
+    format: Format,
+    names: Vec<String>,
+    /// The first row.
+    first: Rows,
+}
+
+impl Table {
+    /// Returns the table of a file, whose first row has the names of the columns. Without a header
+    /// line, and where a name is empty, they are called c1, c2 and so on.
+    ///
+    /// Fails if the file isn't a regular one, can't be read, is empty, or begins with no row of
+    /// CSV.
+    pub fn open<R: Files + AllocGlobal>(rt: &R, path: &str, format: Format) -> Result<Table> {
+        let alloc = rt.alloc();
+        let is_file = match fs::metadata(rt, path) {
+            Ok(file) => file.is_file(),
+            Err(error) => return Err(file_failure(alloc, path, &error)),
+        };
+        if !is_file {
+            return Err(told(format!(in alloc; "{path}: {NOT_REGULAR}")));
+        }
+        let mut table = Table {
+            alloc,
+            path: String::from_str(alloc, path)?,
+            format,
+            names: Vec::new(alloc),
+            first: Rows::new(alloc, 0)?,
+        };
+        table.read_names(rt)?;
+        Ok(table)
+    }
+
+    /// Reads the first row.
+    fn read_names<R: Files + AllocGlobal>(&mut self, rt: &R) -> Result<()> {
+        let mut reader = self.reader(rt)?;
+        let read = reader.read_row(&mut self.first);
+        drop(reader);
+        match read {
+            Ok(true) => {}
+            Ok(false) => return Err(self.empty()),
+            Err(error) => return Err(self.failure(error)),
+        }
+        let names = names(self.alloc, &self.first, self.format.has_header)?;
+        drop(std::mem::replace(&mut self.names, names));
+        Ok(())
+    }
+
+    fn empty(&self) -> Failure {
+        let path = self.path();
+        let names = if self.format.has_header {
+            " with the names of the columns"
+        } else {
+            ""
+        };
+        told(format!(in self.alloc; "{path}:1: the file is empty; a row{names} is wanted"))
+    }
+
+    /// Returns the file.
+    pub fn path(&self) -> &str {
+        self.path.as_str()
+    }
+
+    /// Returns how the file is read.
+    pub fn format(&self) -> Format {
+        self.format
+    }
+
+    /// Returns the number of columns.
+    pub fn width(&self) -> usize {
+        self.names.len()
+    }
+
+    /// Returns the name of a column; no character where there is none.
+    pub fn name(&self, column: usize) -> &str {
+        match self.names.get(column) {
+            Some(name) => name.as_str(),
+            None => "",
+        }
+    }
+
+    /// Returns a field of the header line as it is in the file.
+    pub fn header(&self, column: usize) -> &[u8] {
+        self.first.nth_field(column)
+    }
+
+    /// Returns the index of a column. Names are compared as they are; if none is equal, without
+    /// regard to the case of ASCII letters, as in SQL.
+    ///
+    /// Fails if no column has the name, or several have it; the text, of which the name is at byte
+    /// `at`, is in the error.
+    pub fn find(&self, name: &str, source: Source<'_>, at: usize) -> Result<usize> {
+        find(self.alloc, self.names.as_slice(), name, source, at)
+    }
+
+    /// Returns the names as an error lists them, the first of many.
+    pub fn listed(&self) -> std::result::Result<String, AllocError> {
+        listed(self.alloc, self.names.as_slice())
+    }
+
+    /// Returns the rows of the file, read anew.
+    pub fn batches<R: Files + AllocGlobal>(&self, rt: &R) -> Result<Batches<R::File>> {
+        let mut reader = self.reader(rt)?;
+        let mut rows = Rows::new(self.alloc, self.width())?;
+        if self.format.has_header {
+            let read = reader.read_row(&mut rows);
+            self.checked(read)?;
+            rows.clear();
+        }
+        Ok(Batches::new(reader, rows))
+    }
+
+    fn reader<R: Files + AllocGlobal>(&self, rt: &R) -> Result<Reader<R::File>> {
+        match fs::open(rt, self.path()) {
+            Ok(file) => match Reader::new(self.alloc, file, self.format.dialect) {
+                Ok(reader) => Ok(reader),
+                Err(error) => Err(self.failure(error)),
+            },
+            Err(error) => Err(file_failure(self.alloc, self.path(), &error)),
+        }
+    }
+
+    /// Returns what was read, or the failure that the user is told.
+    pub fn checked(&self, read: std::result::Result<bool, CsvError>) -> Result<bool> {
+        match read {
+            Ok(has_row) => Ok(has_row),
+            Err(error) => Err(self.failure(error)),
+        }
+    }
+
+    fn failure(&self, error: CsvError) -> Failure {
+        match error {
+            CsvError::Io(error) => file_failure(self.alloc, self.path(), &error),
+            CsvError::Memory => Failure::Memory,
+            CsvError::Malformed { line, field, what } => {
+                match what.message(self.alloc) {
+                    Ok(message) => {
+                        let failure = self.wrong_field(line, field, message.as_str());
+                        drop(message);
+                        failure
+                    }
+                    Err(_) => Failure::Memory,
+                }
+            }
+        }
+    }
+
+    /// Returns the error of a field in a line of the file.
+    pub fn wrong_field(&self, line: u64, field: usize, message: &str) -> Failure {
+        told(self.wrong_text(line, field, message))
+    }
+
+    fn wrong_text(
+        &self,
+        line: u64,
+        field: usize,
+        message: &str,
+    ) -> std::result::Result<String, AllocError> {
+        let path = self.path();
+        let column = self.column_of(field)?;
+        let text = format!(in self.alloc; "{path}:{line}: {column}: {message}");
+        drop(column);
+        text
+    }
+
+    /// How an error names the column of a field.
+    fn column_of(&self, field: usize) -> std::result::Result<String, AllocError> {
+        match self.names.get(field) {
+            Some(name) => {
+                let name = shown(self.alloc, name.as_bytes(), 40)?;
+                let column = format!(in self.alloc; "column \"{name}\"");
+                drop(name);
+                column
+            }
+            None => format!(in self.alloc; "column {}", field.saturating_add(1)),
+        }
+    }
+}
+
+const NOT_REGULAR: &str = "not a regular file; it is read twice, so save the data to a file first";
+
+/// Returns the failure of a file, with what the system says.
+pub fn file_failure(alloc: Global, path: &str, error: &io::Error) -> Failure {
+    told(format!(in alloc; "{path}: {error}"))
+}

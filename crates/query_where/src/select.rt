@@ -1,0 +1,111 @@
+//! Answers about the rows that are kept.
+use crate::condition::Name;
+use crate::words::Words;
+use query_csv::{Result, Source};
+use std::alloc::{AllocError, Global};
+
+/// An answer about a column, or about the rows.
+#[derive(Drop)]
+pub enum Answer {
+    /// `count(*)`: the number of rows.
+    Rows,
+    /// An answer about a column.
+    Of(Aggregate, Name),
+}
+
+/// What is answered about a column, of the rows where it isn't null.
+#[derive(Clone, Copy, PartialEq, Eq)]
+pub enum Aggregate {
+    /// The number of values.
+    Count,
+    /// The sum of all values.
+    Sum,
+    /// The least value.
+    Min,
+    /// The greatest value.
+    Max,
+}
+
+const AGGREGATES: &[(&str, Aggregate)] = &[
+    ("count", Aggregate::Count),
+    ("sum", Aggregate::Sum),
+    ("min", Aggregate::Min),
+    ("max", Aggregate::Max),
+];
+
+impl Aggregate {
+    /// Returns the aggregate of a name, in any case of its letters.
+    pub fn named(name: &str) -> Option<Aggregate> {
+        for (own, aggregate) in AGGREGATES {
+            if own.eq_ignore_ascii_case(name) {
+                return Some(*aggregate);
+            }
+        }
+        None
+    }
+
+    /// Returns the name.
+    pub fn name(self) -> &'static str {
+        match self {
+            Aggregate::Count => "count",
+            Aggregate::Sum => "sum",
+            Aggregate::Min => "min",
+            Aggregate::Max => "max",
+        }
+    }
+}
+
+impl Answer {
+    /// Returns the answer as the header of its column.
+    pub fn title(&self, alloc: Global) -> std::result::Result<String, AllocError> {
+        match self {
+            Answer::Rows => String::from_str(alloc, "count(*)"),
+            Answer::Of(aggregate, column) => {
+                format!(in alloc; "{}({})", aggregate.name(), column.name)
+            }
+        }
+    }
+}
+
+/// Returns the answers of a list, such as `count(*), sum(size)`.
+///
+/// Fails at the first word that isn't wanted where it is.
+pub fn selection(alloc: Global, source: Source<'_>) -> Result<Vec<Answer>> {
+    let mut words = Words::new(alloc, source)?;
+    let mut answers = Vec::new(alloc);
+    for _ in 0..u64::MAX {
+        let answer = read_answer(&mut words)?;
+        answers.push(answer)?;
+        if !words.comma() {
+            break;
+        }
+    }
+    if !words.is_end() {
+        return Err(words.next_wanted("a comma or the end"));
+    }
+    drop(words);
+    Ok(answers)
+}
+
+fn read_answer(words: &mut Words<'_>) -> Result<Answer> {
+    let what = "count, sum, min or max";
+    let Name { name, at } = words.name(what)?;
+    let named = Aggregate::named(name.as_str());
+    drop(name);
+    let Some(aggregate) = named else {
+        return Err(words.wanted(at, what));
+    };
+    if !words.open() {
+        return Err(words.next_wanted("\"(\""));
+    }
+    let answer = if aggregate == Aggregate::Count && words.star() {
+        Answer::Rows
+    } else {
+        Answer::Of(aggregate, words.name("a column")?)
+    };
+    if !words.close() {
+        drop(answer);
+        return Err(words.next_wanted("\")\""));
+    }
+    Ok(answer)
+}

@@ -1,0 +1,74 @@
+//! Answers a query over a CSV file by the calls of `vortex_buffer`, and draws it: see `--help`.
+//!
+//! The exit status is 0 where all was answered, 1 where the row of `--nth` isn't there, and 2 after
+//! an error, which standard error tells.
+#![tactic(auto)]
+
+mod args;
+mod outputs;
+mod query;
+mod run;
+mod texts;
+
+use args::{HELP, Options};
+use query_csv::{Failure, Result};
+use run::{Outcome, run_with};
+use std::env;
+use std::process::ExitCode;
+use std::rt::{Env, Files};
+use texts::print;
+
+/// The status when the row that is looked for isn't there.
+const NO_ROW: u8 = 1;
+
+/// The status of an error.
+const FAILED: u8 = 2;
+
+fn main(rt: HostRuntime) -> ExitCode {
+    match answer(&rt) {
+        Ok(Outcome::Done) | Err(Failure::Closed) => ExitCode::SUCCESS,
+        Ok(Outcome::NoRow) => ExitCode::from(NO_ROW),
+        Err(failure) => {
+            tell(&rt, failure);
+            ExitCode::from(FAILED)
+        }
+    }
+}
+
+fn answer<R: Files + Print + Eprint + Env + AllocGlobal + Drop>(rt: &R) -> Result<Outcome> {
+    let words = arguments(rt)?;
+    let options = Options::parse(rt.alloc(), words.as_slice().get(1..).unwrap_or(&[]));
+    drop(words);
+    let Some(options) = options? else {
+        print(rt, HELP.as_bytes())?;
+        return Ok(Outcome::Done);
+    };
+    let outcome = run_with(rt, &options);
+    drop(options);
+    outcome
+}
+
+/// The words of the command line.
+fn arguments<R: Env + AllocGlobal>(rt: &R) -> Result<Vec<String>> {
+    match env::args(rt) {
+        Ok(words) => Ok(words.collect(rt.alloc())?),
+        Err(error) => {
+            let alloc = rt.alloc();
+            Err(query_csv::told(format!(in alloc; "the command line can't be read: {error}")))
+        }
+    }
+}
+
+/// Tells a failure on standard error.
+fn tell<R: Eprint>(rt: &R, failure: Failure) {
+    // Nobody reads it if standard error is closed.
+    let _ = match failure {
+        Failure::Told(text) => {
+            let told = eprintln!(rt; "{text}");
+            drop(text);
+            told
+        }
+        Failure::Memory => eprintln!(rt; "out of memory"),
+        Failure::Closed => Ok(()),
+    };
+}

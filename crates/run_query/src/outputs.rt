@@ -1,0 +1,170 @@
+//! What is made of the rows that are kept.
+use crate::texts::print;
+use query_csv::{Dialect, Result, Rows, write_row};
+use query_draw::{Histogram, Row, Strip};
+use query_engine::{Batch, Summary};
+use query_table::file_failure;
+use std::alloc::{AllocError, Global};
+use std::io::Write;
+use vortex_buffer::BitBuffer;
+
+/// What is made of the rows that are kept, of each batch in turn.
+#[derive(Drop)]
+pub struct Outputs<F: Write + Drop> {
+    /// The number of rows that are kept.
+    pub count: u64,
+    /// Which rows are kept, in the terminal and in a picture.
+    pub strips: Vec<Strip>,
+    /// What is answered about columns.
+    pub summaries: Vec<Summary>,
+    /// How the values of a column are spread.
+    pub histogram: Option<Histogram>,
+    /// How many of the kept rows come before the one that is looked for; None once it is found, and
+    /// if none is looked for.
+    pub before: Option<u64>,
+    /// The row that was looked for.
+    pub found: Option<Row>,
+    /// Whether the rows are printed.
+    pub prints: bool,
+    /// The file to which the rows are written, with its name.
+    pub file: Option<(String, F)>,
+}
+
+impl<F: Write + Drop> Outputs<F> {
+    /// Returns outputs of which none is wanted.
+    pub fn none(alloc: Global) -> Outputs<F> {
+        Outputs {
+            count: 0,
+            strips: Vec::new(alloc),
+            summaries: Vec::new(alloc),
+            histogram: None,
+            before: None,
+            found: None,
+            prints: false,
+            file: None,
+        }
+    }
+
+    /// Marks the columns whose values are used.
+    pub fn mark(&self, uses: &mut [bool]) {
+        for summary in self.summaries.iter() {
+            mark(uses, summary.column());
+        }
+        if let Some(histogram) = &self.histogram {
+            mark(uses, histogram.column());
+        }
+    }
+
+    /// Takes the next batch, with a bit per row that is kept.
+    ///
+    /// Fails if a file or standard output can't be written.
+    pub fn take<R: Print + AllocGlobal>(
+        &mut self,
+        rt: &R,
+        batch: &Batch<'_>,
+        kept: &BitBuffer,
+        dialect: Dialect,
+    ) -> Result<()> {
+        let alloc = rt.alloc();
+        self.count = self.count.saturating_add(kept.true_count() as u64);
+        for strip in self.strips.iter_mut() {
+            strip.take(batch.before, kept);
+        }
+        for summary in self.summaries.iter_mut() {
+            summary.take(alloc, batch, kept)?;
+        }
+        if let Some(histogram) = &mut self.histogram {
+            histogram.take(alloc, batch, kept)?;
+        }
+        self.find(alloc, batch, kept)?;
+        self.write(rt, batch.rows, kept, dialect)
+    }
+
+    /// Looks for the row that so many kept ones come before.
+    fn find(&mut self, alloc: Global, batch: &Batch<'_>, kept: &BitBuffer) -> Result<()> {
+        let Some(before) = self.before else {
+            return Ok(());
+        };
+        match kept.select(before as usize) {
+            Some(row) => {
+                let found = found(alloc, batch, row)?;
+                drop(std::mem::replace(&mut self.found, Some(found)));
+                self.before = None;
+            }
+            None => self.before = Some(before.saturating_sub(kept.true_count() as u64)),
+        }
+        Ok(())
+    }
+
+    /// Prints the rows that are kept, and writes them to the file.
+    fn write<R: Print + AllocGlobal>(
+        &mut self,
+        rt: &R,
+        rows: &Rows,
+        kept: &BitBuffer,
+        dialect: Dialect,
+    ) -> Result<()> {
+        if !self.prints && self.file.is_none() {
+            return Ok(());
+        }
+        let text = rows_text(rt.alloc(), rows, kept, dialect)?;
+        let written = self.write_text(rt, text.as_slice());
+        drop(text);
+        written
+    }
+
+    /// Prints a text, and writes it to the file, as far as these are wanted.
+    pub fn write_text<R: Print + AllocGlobal>(&mut self, rt: &R, text: &[u8]) -> Result<()> {
+        if self.prints {
+            print(rt, text)?;
+        }
+        let Some((path, file)) = &mut self.file else {
+            return Ok(());
+        };
+        match file.write_all(text) {
+            Ok(()) => Ok(()),
+            Err(error) => Err(file_failure(rt.alloc(), path.as_str(), &error)),
+        }
+    }
+}
+
+fn mark(uses: &mut [bool], column: usize) {
+    if let Some(is_used) = uses.get_mut(column) {
+        *is_used = true;
+    }
+}
+
+fn found(alloc: Global, batch: &Batch<'_>, row: usize) -> std::result::Result<Row, AllocError> {
+    let mut fields = Vec::new(alloc);
+    for column in 0..batch.rows.width() {
+        let field = Vec::from_slice(alloc, batch.rows.field(row, column))?;
+        fields.push(field)?;
+    }
+    Ok(Row {
+        number: batch.before.saturating_add(row as u64).saturating_add(1),
+        line: batch.rows.line(row),
+        fields,
+    })
+}
+
+/// The rows that are kept, as CSV.
+fn rows_text(alloc: Global, rows: &Rows, kept: &BitBuffer, dialect: Dialect) -> Result<Vec<u8>> {
+    let mut text = Vec::new(alloc);
+    for row in kept.set_indices() {
+        let mut fields = Vec::with_capacity(alloc, rows.width())?;
+        for column in 0..rows.width() {
+            fields.push(rows.field(row, column))?;
+        }
+        add_row(&mut text, dialect, fields.as_slice())?;
+        drop(fields);
+    }
+    Ok(text)
+}
+
+/// Adds a row of fields as CSV to a text, whose memory alone can fail.
+pub fn add_row(text: &mut Vec<u8>, dialect: Dialect, fields: &[&[u8]]) -> Result<()> {
+    match write_row(text, dialect, fields) {
+        Ok(()) => Ok(()),
+        Err(_) => Err(query_csv::Failure::Memory),
+    }
+}
