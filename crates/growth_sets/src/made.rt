@@ -111,6 +111,7 @@ fn copied(alloc: Global, set: &BitBuffer) -> Result<usize> {
     Ok(len)
 }
 
+#[tactic(auto, using(vb_pack::proofs::AnswersLemmas::CanAsk_always))]
 fn mapped(set: &BitBuffer) -> Result<usize> {
     let mut flip = |i: usize, bit: bool| bit == (i % 3 == 0);
     Ok(last(set.map_cmp(&mut flip)?))
@@ -124,6 +125,7 @@ fn repeated(alloc: Global, row: &str, case: Case) -> Result<usize> {
     Ok(sum)
 }
 
+#[tactic(auto, using(vb_pack::proofs::AnswersLemmas::CanAsk_always))]
 fn make(alloc: Global, turn: usize, row: &str, case: Case) -> Result<BitBuffer> {
     match row {
         "full" => Ok(BitBuffer::full(alloc, turn % 2 == 0, case.size)?),

@@ -93,18 +93,21 @@ fn taken_apart(set: &BitBuffer) -> Result<usize> {
     Ok(offset ^ len)
 }
 
+#[tactic(auto, using(vb_pack::proofs::AnswersLemmas::CanAsk_always))]
 fn each_place(set: &BitBuffer) -> usize {
     let mut sum = 0usize;
     set.for_each_set_index(&mut |i| sum = sum.wrapping_add(i));
     sum
 }
 
+#[tactic(auto, using(vb_pack::proofs::AnswersLemmas::CanAsk_always))]
 fn each_hole(set: &BitBuffer) -> usize {
     let mut sum = 0usize;
     set.for_each_unset_index(&mut |i| sum = sum.wrapping_add(i));
     sum
 }
 
+#[tactic(auto, using(vb_pack::proofs::AnswersLemmas::CanAsk_always))]
 fn each_bit(set: &BitBuffer) -> usize {
     let mut sum = 0usize;
     set.iter_bits(&mut |i, bit| sum = sum.wrapping_add(if bit { i } else { 1 }));
@@ -112,6 +115,7 @@ fn each_bit(set: &BitBuffer) -> usize {
 }
 
 /// The first place, at which the walk is stopped.
+#[tactic(auto, using(vb_pack::proofs::AnswersLemmas::CanAsk_always))]
 fn first_place(set: &BitBuffer) -> usize {
     match set.try_for_each_set_index(&mut |i: usize| Err::<(), usize>(i)) {
         Ok(()) => set.len(),
