@@ -37,7 +37,8 @@ fn kept_bits_are_those_of_a_plain_loop_or_refused(rt: HostRuntime) {
             let answer = are_plain(kept_bits(Handle { inner: &heap }, row), row);
             equal(&rt, answer, heap.wanted(Ok(true), refused));
         }
-        equal(&rt, heap.has_ended(4), true);
+        let requests = row.requests([14, 15, 16, 19, 23]);
+        equal(&rt, heap.has_ended(requests), true);
     }
 }
 

@@ -65,7 +65,8 @@ fn bits_go_back_to_their_places_or_are_refused(rt: HostRuntime) {
             let made = put_back(Handle { inner: &heap }, row, Call::Deposited);
             equal(&rt, are_plain(made, row), heap.wanted(Ok(true), refused));
         }
-        equal(&rt, heap.has_ended(6), true);
+        let requests = row.requests([23, 26, 27, 32, 38]);
+        equal(&rt, heap.has_ended(requests), true);
     }
 }
 
@@ -78,7 +79,8 @@ fn a_mask_of_kept_rows_becomes_one_of_all_or_is_refused(rt: HostRuntime) {
             let made = put_back(Handle { inner: &heap }, row, Call::IntersectByRank);
             equal(&rt, are_plain(made, row), heap.wanted(Ok(true), refused));
         }
-        equal(&rt, heap.has_ended(6), true);
+        let requests = row.requests([23, 26, 27, 32, 38]);
+        equal(&rt, heap.has_ended(requests), true);
     }
 }
 

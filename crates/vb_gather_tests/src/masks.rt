@@ -13,6 +13,21 @@ impl Row {
     pub(crate) fn has(&self, place: usize) -> bool {
         self.2.has(self.1.saturating_add(place))
     }
+
+    /// How many requests a test makes of a row of 0, 1, 64, at most 200 and 1,000 bits that keeps
+    /// none: copies of the allocator, what its mask and its values ask for as they grow, and the
+    /// owners of what is kept. Values that are kept ask for their bytes too.
+    pub(crate) fn requests(&self, of_none: [u64; 5]) -> u64 {
+        let requests = match self.0 {
+            0 => of_none[0],
+            1 => of_none[1],
+            64 => of_none[2],
+            129 | 200 => of_none[3],
+            _ => of_none[4],
+        };
+        let keeps = (0..self.0).any(|place| self.has(place));
+        requests.saturating_add(u64::from(keeps))
+    }
 }
 
 /// Masks that keep none, few, some and all of their values.

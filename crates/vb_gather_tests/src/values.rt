@@ -41,7 +41,8 @@ fn kept_values_are_those_of_a_plain_loop_or_refused(rt: HostRuntime) {
             let answer = are_plain(kept_values(Handle { inner: &heap }, row), row);
             equal(&rt, answer, heap.wanted(Ok(true), refused));
         }
-        equal(&rt, heap.has_ended(4), true);
+        let requests = row.requests([12, 14, 14, 16, 18]);
+        equal(&rt, heap.has_ended(requests), true);
     }
 }
 

@@ -26,7 +26,7 @@ fn each_is_refused(rt: &impl Abort, global: Global, heap: &Refusing<Global>, lin
     for _ in heap.in_turn() {
         drive_is_plain(rt, global, heap, lines);
     }
-    equal(rt, (lines, heap.has_ended(1)), (lines, true));
+    equal(rt, (lines, heap.has_refused()), (lines, false));
 }
 
 #[test]

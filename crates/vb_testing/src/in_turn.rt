@@ -46,10 +46,10 @@ impl<B: Allocator> Refusing<B> {
         }
     }
 
-    /// Whether the runs have come to one that was refused no request, and made so many at least:
+    /// Whether the runs have come to one that was refused no request, and made exactly so many:
     /// false where each of 1000 runs was refused one.
-    pub fn has_ended(&self, least: u64) -> bool {
-        !self.has_refused() && self.asked() >= least
+    pub fn has_ended(&self, requests: u64) -> bool {
+        !self.has_refused() && self.asked() == requests
     }
 
     /// What a run is to answer: `refusal` where its request was refused, and `ample` where none

@@ -135,33 +135,33 @@ fn fixed_copied<'a>(rt: &impl Abort, heap: &'a Refusing<Global>) -> Result<ByteB
     of_fixed(copy)
 }
 
-/// The calls, each with the alignments of what it makes: the reported and the declared one.
-const ROWS: &[(Call, (usize, usize))] = &[
-    (Call::FixedCopyFrom, (512, 512)),
-    (Call::FixedAlignFrom, (16, 256)),
+/// The calls, each with the alignments of what it makes, the reported and the declared one, and
+/// with its requests: copies of the allocator, the bytes, and what it is made from.
+const ROWS: &[(Call, (usize, usize), u64)] = &[
+    (Call::FixedCopyFrom, (512, 512), 4),
+    (Call::FixedAlignFrom, (16, 256), 4),
     // A body that keeps a place that isn't aligned fails here, and so does one that looks at the
     // declared alignment alone.
-    (Call::FixedAlignFromShared, (16, 256)),
-    (Call::FixedClone, (512, 512)),
-    (Call::TextFromStr, (1, 256)),
-    (Call::TextFromString, (1, 1)),
-    (Call::TextTryFromSlice, (1, 256)),
-    (Call::TextClone, (1, 256)),
-    (Call::CopyOfSlice, (16, 256)),
-    (Call::CopyOfBuffer, (16, 256)),
-    (Call::FixedCopyOfSlice, (1024, 1024)),
+    (Call::FixedAlignFromShared, (16, 256), 10),
+    (Call::FixedClone, (512, 512), 5),
+    (Call::TextFromStr, (1, 256), 4),
+    (Call::TextFromString, (1, 1), 3),
+    (Call::TextTryFromSlice, (1, 256), 4),
+    (Call::TextClone, (1, 256), 5),
+    (Call::CopyOfSlice, (16, 256), 4),
+    (Call::CopyOfBuffer, (16, 256), 8),
+    (Call::FixedCopyOfSlice, (1024, 1024), 4),
 ];
 
 #[test]
 fn made_buffers_show_their_items_or_each_request_is_refused(rt: HostRuntime) {
     let heap = Refusing::new(rt.alloc(), 0);
     let refused = Err(BufferError::OutOfMemory);
-    for (call, alignments) in ROWS {
+    for (call, alignments, requests) in ROWS {
         for _ in heap.in_turn() {
             let answer = shows(&rt, call.make(&rt, &heap), b"hello", *alignments);
             equal(&rt, answer, heap.wanted(Ok(()), refused));
         }
-        // Room for the bytes at least.
-        equal(&rt, heap.has_ended(1), true);
+        equal(&rt, heap.has_ended(*requests), true);
     }
 }

@@ -13,8 +13,8 @@ fn each_request_is_refused_and_then_none(rt: HostRuntime) {
         equal(&rt, answer, heap.wanted(Ok(2), Err(AllocError)));
         has_counted(&rt, &heap, request.min(2), request < 3);
     }
-    let ended = (heap.has_ended(2), heap.has_ended(3));
-    equal(&rt, (last, ended), (3, (true, false)));
+    let ended = (heap.has_ended(1), heap.has_ended(2), heap.has_ended(3));
+    equal(&rt, (last, ended), (3, (false, true, false)));
 }
 
 #[test]
@@ -27,5 +27,5 @@ fn runs_that_ask_without_end_are_a_thousand(rt: HostRuntime) {
             drop(two_items(&heap));
         }
     }
-    equal(&rt, (last, heap.has_ended(0)), (1000, false));
+    equal(&rt, (last, heap.has_ended(heap.asked())), (1000, false));
 }
