@@ -16,8 +16,9 @@ use vb_count::Glance;
 use vb_rank::{BLOCK_BITS, find_block, rank_from, select_from};
 
 /// How many of the first `i` of the `len` bits from bit `offset` on are true, as
-/// `rank_by` answers, from the counts of these bits, by at most two probes. A single block needs
-/// none: before it are no bits.
+/// `rank_by` answers, from the counts of these bits. A single block takes no probe, since no bits
+/// are before it. Else the block of the last of the `i` bits takes one or two, as `ones_before`
+/// says.
 pub(crate) fn rank_in_groups<G: Glance, S: ProbeGroups>(
     src: &mut G,
     offset: usize,
@@ -32,6 +33,14 @@ pub(crate) fn rank_in_groups<G: Glance, S: ProbeGroups>(
     requires within { i ≤ len }
     ensures value { result ≡ count (take i (bits (G.seen src.old).bytes offset len)) }
     ensures looks { LooksAtMost 16 (G.seen src.old) (G.seen src.new) }
+    ensures single_block { len ≤ BLOCK_BITS
+        → ProbesExactly 0 (S.seen groups.old) (S.seen groups.new) }
+    ensures first_group { BLOCK_BITS < len → i ≤ GROUP_BITS
+        → ProbesExactly 1 (S.seen groups.old) (S.seen groups.new) }
+    ensures first_block { BLOCK_BITS < len → (i - 1) / BLOCK_BITS % GROUP_BLOCKS ≡ 0
+        → ProbesExactly 1 (S.seen groups.old) (S.seen groups.new) }
+    ensures others { GROUP_BITS < i → 0 < (i - 1) / BLOCK_BITS % GROUP_BLOCKS
+        → ProbesExactly 2 (S.seen groups.old) (S.seen groups.new) }
     ensures probes { ProbesAtMost 2 (S.seen groups.old) (S.seen groups.new) }
 {
     if len <= BLOCK_BITS {
@@ -43,14 +52,20 @@ pub(crate) fn rank_in_groups<G: Glance, S: ProbeGroups>(
     rank_from(src, offset, block, before, i)
 }
 
-/// How many of the `len` bits are true before a block: by one probe in the first group, before
-/// which there are none, and else by at most two. The first block of a later group has no count of
-/// its own.
+/// How many of the `len` bits are true before a block. A block of the first group takes one probe,
+/// since no bits are before the group. The first block of a later group takes one too, since it has
+/// no count of its own. All others take two.
 fn ones_before<S: ProbeGroups>(groups: &mut S, len: usize, block: usize) -> usize
     requires block { BLOCK_BITS * block < len }
     requires size { length (S.seen groups.old).entries ≡ numbers_for len }
     ensures value { (l : List Bool) → AreCounts l (S.seen groups.old).entries → length l ≡ len
         → result ≡ count (take (BLOCK_BITS * block) l) }
+    ensures first_group { block < GROUP_BLOCKS
+        → ProbesExactly 1 (S.seen groups.old) (S.seen groups.new) }
+    ensures first_block { block % GROUP_BLOCKS ≡ 0
+        → ProbesExactly 1 (S.seen groups.old) (S.seen groups.new) }
+    ensures others { GROUP_BLOCKS ≤ block → 0 < block % GROUP_BLOCKS
+        → ProbesExactly 2 (S.seen groups.old) (S.seen groups.new) }
     ensures probes { ProbesAtMost 2 (S.seen groups.old) (S.seen groups.new) }
 {
     if block < GROUP_BLOCKS {
