@@ -104,7 +104,9 @@ impl Report<'_> {
             self.strip.line(),
             format!("row {}", grouped(self.survey.rows)),
         );
+        // Few rows make a strip that is shorter than its two labels.
         let width = line.chars().count().saturating_sub("row 1".len());
+        let width = width.max(" ".len() + last.len());
         writeln!(
             out,
             "\nkept rows, from · none to █ all\n{line}\nrow 1{last:>width$}"

@@ -92,6 +92,14 @@ fn a_report() {
 }
 
 #[test]
+fn labels_of_few_rows_stand_apart() {
+    let folder = Folder::new("few");
+    let file = folder.file("few.csv", "a\n1\n2\n3\n");
+    let report = printed(&file, &["--where", "a > 1"]);
+    assert!(report.contains("\n·██\nrow 1 row 3\n"), "{report}");
+}
+
+#[test]
 fn the_code_that_runs_is_told_in_a_line() {
     let output = run(Path::new(PARCELS), &[]);
     let errors = String::from_utf8(output.stderr).unwrap();

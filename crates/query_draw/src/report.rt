@@ -133,12 +133,10 @@ impl<'a> Report<'a> {
         out.push_str(line.as_str())?;
         out.push_str("\nrow 1")?;
         let last = grouped(self.alloc, self.survey.rows)?;
-        let given = width(last.as_str()).saturating_add("row ".len());
-        pad(
-            out,
-            given.saturating_add("row 1".len()),
-            width(line.as_str()),
-        )?;
+        let given = width(last.as_str()).saturating_add("row 1row ".len());
+        // Few rows make a strip that is shorter than its two labels.
+        let most = width(line.as_str()).max(given.saturating_add(" ".len()));
+        pad(out, given, most)?;
         out.push_str("row ")?;
         out.push_str(last.as_str())?;
         drop((line, last));
