@@ -34,6 +34,16 @@ crates_all=0
 crates_done=0
 crates_before=0
 
+# Prints the comment at the top of the command, and ends it, if it is asked for help.
+for word in "$@"; do
+    case $word in
+    -h | --help)
+        sed -n '2,/^[^#]/ s/^# \{0,1\}//p' "$0"
+        exit 0
+        ;;
+    esac
+done
+
 # Prints its arguments as a line. Inside of another such command, that one keeps the line. On a full
 # disk the line is printed all the same.
 say() {

@@ -446,6 +446,17 @@ class WithoutRt(Folder):
                 said = self.run_it(path, *words)
                 self.assertEqual(said, (1, [NO_RT, "0 passed, 1 failed"]))
 
+    def test_help_prints_what_the_command_does_and_runs_nothing(self):
+        """bindings/build took the word for a level, and bindings/release began to build."""
+        for path in ("tools/check", "bindings/build", "bindings/run", "bindings/release",
+                     "bench/rows"):
+            with self.subTest(path):
+                self.copy(path)
+                status, lines = self.run_it(path, "--help")
+                comment = (TOP / path).read_text(encoding="utf-8").split("\n")[1]
+                self.assertEqual((status, f"# {lines[0]}"), (0, comment))
+                self.assertFalse((self.top / "bindings/out").exists())
+
 
 if __name__ == "__main__":
     unittest.main()
