@@ -1,7 +1,7 @@
 //! How the values of a column are spread.
 use crate::edges::{floats, label, wholes};
 use query_csv::{Result, grouped, ordered};
-use query_engine::{Batch, made, uneven};
+use query_engine::{Batch, made};
 use query_table::Range;
 use std::alloc::{AllocError, Global};
 use vortex_buffer::{BitBuffer, Comparison, compared};
@@ -142,13 +142,9 @@ impl Histogram {
 fn count_from(alloc: Global, numbers: &[i64], edge: i64, mask: &BitBuffer) -> Result<usize> {
     let above = compared(alloc, numbers, Comparison::GreaterOrEqual, edge, None);
     let above = made(alloc, above)?;
-    if mask.len() != above.len() {
-        drop(above);
-        return Err(uneven(alloc));
-    }
-    let count = above.and_count(mask);
+    let count = above.try_and_count(mask);
     drop(above);
-    Ok(count)
+    made(alloc, count)
 }
 
 /// The number at which each bin begins, as a text and as a key.

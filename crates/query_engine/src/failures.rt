@@ -12,11 +12,6 @@ pub fn made<T>(alloc: Global, made: vortex_buffer::Result<T>) -> Result<T> {
     }
 }
 
-/// Returns the failure of two columns of one batch that aren't as long, which no batch has.
-pub fn uneven(alloc: Global) -> Failure {
-    told(String::from_str(alloc, "columns of a batch differ in their length"))
-}
-
 /// Returns the bitmap of truth values.
 pub fn packed(alloc: Global, bools: Vec<bool>) -> Result<BitBuffer> {
     let set = BitBuffer::from_bools(alloc, bools.as_slice());

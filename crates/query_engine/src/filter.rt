@@ -1,14 +1,14 @@
 //! A condition on the columns of a table, and the rows that it keeps.
 use crate::batch::Batch;
 use crate::column::Column;
-use crate::failures::{made, packed, uneven};
+use crate::failures::{made, packed};
 use crate::resolve::Resolver;
 use crate::truth::{Joint, Truth, holds, swapped};
 use query_csv::{Failure, Result, Rows, Source, compare, told};
 use query_table::{Survey, Table};
 use query_where::Condition;
 use std::alloc::Global;
-use vortex_buffer::{BitBuffer, Buffer, Comparison, compared, compared_with};
+use vortex_buffer::{BitBuffer, Buffer, Comparison, compared, try_compared_with};
 
 /// A step of a condition whose columns are known by their indices.
 #[derive(Drop)]
@@ -234,10 +234,10 @@ fn alike(
     right: &Buffer<i64>,
 ) -> Result<BitBuffer> {
     let (left, right) = (left.as_slice(), right.as_slice());
-    if left.len() != right.len() {
-        return Err(uneven(alloc));
-    }
-    made(alloc, compared_with(alloc, left, comparison, right, None))
+    made(
+        alloc,
+        try_compared_with(alloc, left, comparison, right, None),
+    )
 }
 
 /// How whole numbers compare with floats.

@@ -17,6 +17,6 @@ mod truth;
 
 pub use batch::Batch;
 pub use column::Column;
-pub use failures::{made, uneven};
+pub use failures::made;
 pub use filter::RowFilter;
 pub use summary::Summary;

@@ -1,11 +1,9 @@
 //! Truth values of rows, which may be null.
-ghost use Rattle.std.specs.Prelude.{◌≡◌, length};
-
 use crate::failures::made;
 use query_csv::{Failure, Result};
 use std::alloc::Global;
 use std::cmp::Ordering;
-use vortex_buffer::{BitBuffer, BufferError, Comparison, and_kleene, or_kleene};
+use vortex_buffer::{BitBuffer, Comparison, try_and_kleene, try_or_kleene};
 
 /// A truth value per row, by SQL's three-valued logic.
 #[derive(Drop)]
@@ -49,49 +47,15 @@ impl Truth {
 
     /// Returns both joined: `self and other`, or `self or other`.
     pub fn joined(self, alloc: Global, joint: Joint, other: Truth) -> Result<Truth> {
-        let len = self.trues.len();
-        let joined = if self.valid.len() == len
-            && other.trues.len() == len
-            && other.valid.len() == len
-        {
-            join(
-                alloc,
-                joint,
-                &self.trues,
-                &self.valid,
-                &other.trues,
-                &other.valid,
-            )
-        } else {
-            Err(BufferError::LengthMismatch {
-                left: len,
-                right: other.trues.len(),
-            })
+        let (left, left_valid) = (self.trues.as_view(), Some(self.valid.as_view()));
+        let (right, right_valid) = (other.trues.as_view(), Some(other.valid.as_view()));
+        let joined = match joint {
+            Joint::And => try_and_kleene(alloc, left, left_valid, right, right_valid),
+            Joint::Or => try_or_kleene(alloc, left, left_valid, right, right_valid),
         };
         drop((self, other));
         let (trues, valid) = made(alloc, joined)?;
         Ok(Truth { trues, valid })
-    }
-}
-
-/// Joins two bitmaps and their validities, which are all as long.
-fn join(
-    alloc: Global,
-    joint: Joint,
-    left: &BitBuffer,
-    left_valid: &BitBuffer,
-    right: &BitBuffer,
-    right_valid: &BitBuffer,
-) -> vortex_buffer::Result<(BitBuffer, BitBuffer)>
-    requires right { length right.now.bits ≡ length left.now.bits }
-    requires left_valid { length left_valid.now.bits ≡ length left.now.bits }
-    requires right_valid { length right_valid.now.bits ≡ length left.now.bits }
-{
-    let (a, a_valid) = (left.as_view(), Some(left_valid.as_view()));
-    let (b, b_valid) = (right.as_view(), Some(right_valid.as_view()));
-    match joint {
-        Joint::And => and_kleene(alloc, a, a_valid, b, b_valid),
-        Joint::Or => or_kleene(alloc, a, a_valid, b, b_valid),
     }
 }
 
