@@ -168,7 +168,7 @@ show_crate() {
 
 # Keeps the lines of standard input, and shows those that report progress: those of `rt ci`, which
 # names a crate after its proof, of `rt lib` and its like, which name it before, of commands like
-# this one, and of bindings/diff.
+# this one, and of bindings/diff; and those of tools/check-program on what it leaves out.
 progress() {
     local line name=
     local -A seen=()
@@ -187,6 +187,7 @@ progress() {
         'rt: '*' is kept: '*) line=${line#rt: } && show_crate "${line%% *}" "was proved before" ;;
         'rt: '*': trying its must-fail edits '*) say "  ${line#rt: }" ;;
         '  crate '* | '  measures '* | 'part '*' of '*': '* | *' cases agree') echo "  $line" ;;
+        'not compared: '*) echo "  $line" ;;
         esac
     done 3>>"$log"
 }

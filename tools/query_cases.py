@@ -215,8 +215,8 @@ def fixed() -> list[Query]:
 
 
 def of_query() -> list[Query]:
-    """The cases. Says on standard error if demo/'s program isn't there."""
+    """The cases. A line on standard error says which are left out without demo/'s program."""
     if not DEMO.is_file():
-        print("query_cases: no demo/target/release/query, which demo/query builds: its reports and "
-              "pictures aren't compared", file=sys.stderr)
+        print(f"not compared: {SEEDS} reports and pictures of run_query, since there is no "
+              "demo/target/release/query; demo/query builds it", file=sys.stderr)
     return [*fixed(), *(case for seed in range(SEEDS) for case in of_seed(seed))]

@@ -328,6 +328,13 @@ class Check(Folder):
         summary = lines[lines.index("failed: tools/check-documents") :]
         self.assertEqual(summary[1:4:2], ["    README.md is wrong", "    an edit is wrong"])
 
+    def test_what_is_left_out_is_shown(self):
+        self.command("tools/check-program",
+                     "echo 'not compared: 20 reports' >&2; echo '10 passed, 0 failed'")
+        status, lines = self.run_it("tools/check")
+        self.assertEqual((status, lines[-1]), (0, "137 passed, 0 failed"))
+        self.assertIn("  not compared: 20 reports", lines)
+
     def test_the_layout_is_a_part(self):
         self.command("bin/rattle", "echo src/lib.rt is in another layout; exit 1")
         status, lines = self.run_it("tools/check")
