@@ -55,7 +55,7 @@ pub fn run_with<'a, R: Files + Print + Eprint + AllocGlobal + Drop>(
         options,
         table: &table,
         survey: &survey,
-        filter: filter.as_ref(),
+        filter: &filter,
         histogram,
     };
     let outcome = match &options.print {
@@ -75,7 +75,7 @@ struct Run<'a, R: Files + Print + Eprint + AllocGlobal + Drop> {
     options: &'a Options,
     table: &'a Table,
     survey: &'a Survey,
-    filter: Option<&'a RowFilter>,
+    filter: &'a Option<RowFilter>,
     /// The column of `--histogram`.
     histogram: Option<usize>,
 }
