@@ -69,8 +69,8 @@ pub struct Options {
 ///
 /// # Errors
 ///
-/// If there is no file or more than one, and at an option that isn't known, has no value, or has
-/// one that it can't have.
+/// If there is no file or more than one, and at an option that isn't known, is given twice where it
+/// may be given once, has no value, or has one that it can't have.
 pub fn parse(args: impl IntoIterator<Item = OsString>) -> Result<Option<Options>, Error> {
     let mut options = Options {
         file: PathBuf::new(),
@@ -151,24 +151,32 @@ fn flag(options: &mut Options, name: &str) -> Result<(), Error> {
 
 fn with_value(options: &mut Options, name: &str, value: OsString) -> Result<(), Error> {
     match name {
-        "--out" => options.out = Some(PathBuf::from(value)),
-        "--svg" => options.svg = Some(PathBuf::from(value)),
+        "--out" => set_once(&mut options.out, name, PathBuf::from(value)),
+        "--svg" => set_once(&mut options.svg, name, PathBuf::from(value)),
         _ => {
             let Ok(text) = value.into_string() else {
                 return usage(format!("the value of {name} isn't UTF-8"));
             };
-            return with_text(options, name, text);
+            with_text(options, name, text)
         }
     }
+}
+
+/// Sets an option that may be given once.
+fn set_once<T>(option: &mut Option<T>, name: &str, value: T) -> Result<(), Error> {
+    if option.is_some() {
+        return usage(format!("{name} is given twice"));
+    }
+    *option = Some(value);
     Ok(())
 }
 
 fn with_text(options: &mut Options, name: &str, text: String) -> Result<(), Error> {
     match name {
-        "--where" => options.condition = Some(text),
+        "--where" => return set_once(&mut options.condition, name, text),
         "--select" => return print(options, Print::Answers(text)),
         "--nth" => return print(options, Print::Nth(nth(&text)?)),
-        "--histogram" => options.histogram = Some(text),
+        "--histogram" => return set_once(&mut options.histogram, name, text),
         "--delimiter" => options.format.dialect.delimiter = delimiter(&text)?,
         _ => options.kinds.push(kind(&text)?),
     }

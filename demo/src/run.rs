@@ -167,7 +167,7 @@ fn histogram_column(options: &Options, table: &Table) -> Result<Option<usize>, E
     Ok(Some(place?))
 }
 
-/// Refuses to write over the CSV file while it is read.
+/// Refuses to write over the CSV file while it is read, and two outputs in one file.
 fn check_outputs(options: &Options) -> Result<(), Error> {
     let file = identity(&options.file);
     for path in [&options.out, &options.svg].into_iter().flatten() {
@@ -175,6 +175,13 @@ fn check_outputs(options: &Options) -> Result<(), Error> {
             let wrong = "this is the CSV file, which would be written over";
             return Err(Error::file(path, io::Error::other(wrong)));
         }
+    }
+    let (Some(out), Some(svg)) = (&options.out, &options.svg) else {
+        return Ok(());
+    };
+    if out == svg || (identity(out).is_some() && identity(out) == identity(svg)) {
+        let wrong = "--out and --svg both write to this file";
+        return Err(Error::file(out, io::Error::other(wrong)));
     }
     Ok(())
 }

@@ -115,7 +115,7 @@ fn errors_of_a_query_point_at_their_place() {
 }
 
 /// Options that fit no file, and the error.
-const BAD_OPTIONS: [(&[&str], &str); 11] = [
+const BAD_OPTIONS: [(&[&str], &str); 12] = [
     (&["--size"], "there is no option --size"),
     (&["-x"], "there is no option -x"),
     (&["--where"], "--where wants a value"),
@@ -141,6 +141,7 @@ const BAD_OPTIONS: [(&[&str], &str); 11] = [
         "--type \"a=b\": COLUMN=whole, =float or =text is wanted",
     ),
     (&["other.csv"], "one CSV file is wanted, 2 are given"),
+    (&["--out=a", "--out=b"], "--out is given twice"),
     (
         &["--rows", "--nth=1"],
         "one of --select, --rows and --nth is wanted at most",
@@ -173,6 +174,8 @@ fn files_that_cannot_be_used() {
     for option in ["--out", "--svg"] {
         assert!(error(&file, &[option, own]).contains("this is the CSV file"));
     }
+    let both = error(&file, &["--out=same", "--svg=same"]);
+    assert_eq!(both, "same: --out and --svg both write to this file");
     let link = folder.path("link.csv");
     fs::hard_link(&file, &link).unwrap();
     assert!(error(&file, &["--out", link.to_str().unwrap()]).contains("this is the CSV file"));

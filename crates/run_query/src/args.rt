@@ -228,6 +228,11 @@ impl Parser {
             "--svg" => &mut self.options.svg,
             _ => &mut self.options.histogram,
         };
+        if place.is_some() {
+            drop(text);
+            let alloc = self.alloc;
+            return Err(usage(alloc, format!(in alloc; "{name} is given twice")));
+        }
         drop(mem::replace(place, Some(text)));
         Ok(())
     }

@@ -167,6 +167,19 @@ pub fn check_outputs<R: Files + AllocGlobal>(rt: &R, options: &Options) -> Resul
             }
         }
     }
+    check_apart(rt, options)
+}
+
+/// Refuses two outputs in one file.
+fn check_apart<R: Files + AllocGlobal>(rt: &R, options: &Options) -> Result<()> {
+    let (Some(out), Some(svg)) = (&options.out, &options.svg) else {
+        return Ok(());
+    };
+    let (out, svg) = (out.as_str(), svg.as_str());
+    if out == svg || is_same(rt, out, svg) {
+        let alloc = rt.alloc();
+        return Err(told(format!(in alloc; "{out}: --out and --svg both write to this file")));
+    }
     Ok(())
 }
 
