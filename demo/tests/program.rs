@@ -43,6 +43,11 @@ fn answers_about_the_parcels() {
         ),
         "count(*),count(days),sum(days)\n0,0,\n"
     );
+    // Of a text column there is no sum.
+    assert_eq!(
+        printed(file, &["--select", "count(city), sum(city)"]),
+        "count(city),sum(city)\n120,\n"
+    );
 }
 
 #[test]
