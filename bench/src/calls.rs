@@ -80,14 +80,9 @@ pub type Take<I> =
 #[link(name = "vb_c", kind = "static")]
 unsafe extern "C" {
     pub fn vb_count_ones(bytes: Bytes, size: usize, offset: usize, len: usize) -> usize;
-    pub fn vb_bit_select(bytes: Bytes, size: usize, offset: usize, len: usize, n: usize) -> Place;
-    pub fn vb_bit_select_unset(
-        bytes: Bytes,
-        size: usize,
-        offset: usize,
-        len: usize,
-        n: usize,
-    ) -> Place;
+    pub fn vb_select(bytes: Bytes, size: usize, offset: usize, len: usize, n: usize) -> Place;
+    pub fn vb_select_unset(bytes: Bytes, size: usize, offset: usize, len: usize, n: usize)
+    -> Place;
     pub fn vb_and_bits(
         dst: *mut u8,
         dst_size: usize,
@@ -106,7 +101,7 @@ unsafe extern "C" {
         s: usize,
         len: usize,
     );
-    pub fn vb_fill_bits(bytes: *mut u8, size: usize, start: usize, end: usize, value: bool);
+    pub fn vb_fill_bits(bytes: *mut u8, size: usize, offset: usize, len: usize, value: bool);
     pub fn vb_negate_bits(bytes: *mut u8, size: usize, offset: usize, len: usize);
     pub fn vb_and_count(
         left: Bytes,
@@ -140,13 +135,13 @@ unsafe extern "C" {
 
 #[link(name = "vb_c_gather", kind = "static")]
 unsafe extern "C" {
-    pub fn vb_filter_bits_at(
+    pub fn vb_filter_bits(
         out: *mut u8,
         out_size: usize,
         o: usize,
-        values: Bytes,
-        values_size: usize,
-        v: usize,
+        bytes: Bytes,
+        size: usize,
+        offset: usize,
         mask: Bytes,
         mask_size: usize,
         m: usize,

@@ -33,8 +33,8 @@ static void randomize(uint8_t *bytes)
 static void walk(const uint8_t *bytes, size_t offset, size_t len, size_t room)
 {
     size_t seen = 0, begun = 0, ended = 0, count = 0;
-    const size_t found = vb_set_indices(bytes, BYTES, offset, len, places, room);
-    check(vb_try_set_indices(bytes, BYTES, offset, len, places, room, &count) && count == found,
+    const size_t found = vb_set_indices(places, room, bytes, BYTES, offset, len);
+    check(vb_try_set_indices(places, room, bytes, BYTES, offset, len, &count) && count == found,
         "vb_try_set_indices");
     for (size_t i = 0; i < len; i++) {
         if (bit(bytes, offset + i)) {
@@ -43,8 +43,8 @@ static void walk(const uint8_t *bytes, size_t offset, size_t len, size_t room)
         }
     }
     check(found == (seen < room ? seen : room), "vb_set_indices");
-    const size_t slices = vb_set_slices(bytes, BYTES, offset, len, runs, room);
-    check(vb_try_set_slices(bytes, BYTES, offset, len, runs, room, &count) && count == slices,
+    const size_t slices = vb_set_slices(runs, room, bytes, BYTES, offset, len);
+    check(vb_try_set_slices(runs, room, bytes, BYTES, offset, len, &count) && count == slices,
         "vb_try_set_slices");
     for (size_t i = 0; i <= len; i++) {
         const bool here = i < len && bit(bytes, offset + i);
@@ -78,12 +78,12 @@ static void stops(uint8_t *bytes, size_t behind)
     memset(bytes, 0, BYTES);
     bytes[1] = 0x15;
     bytes[BYTES - 1] = 0x20;
-    check(vb_set_indices(bytes, size, 0, 8 * size, places, 4) == 4 && places[3] == BITS - 3,
+    check(vb_set_indices(places, 4, bytes, size, 0, 8 * size) == 4 && places[3] == BITS - 3,
         "the last place before memory ends");
-    check(vb_set_slices(bytes, size, 3, 8 * size - 3, runs, 4) == 4 && runs[3].start == BITS - 6
+    check(vb_set_slices(runs, 4, bytes, size, 3, 8 * size - 3) == 4 && runs[3].start == BITS - 6
             && runs[3].end == BITS - 5, "the last run before memory ends");
-    check(vb_set_indices(bytes, size, 8 * size, 0, places, 0) == 0, "no room and no bits");
-    check(vb_set_slices(bytes, size, BITS, 8 * behind, runs, 0) == 0, "no room");
+    check(vb_set_indices(places, 0, bytes, size, 8 * size, 0) == 0, "no room and no bits");
+    check(vb_set_slices(runs, 0, bytes, size, BITS, 8 * behind) == 0, "no room");
 }
 
 /* A byte of any value is true where it isn't 0, and changes no bit beside its own. */
@@ -99,11 +99,11 @@ static void bools(void)
                 wanted[i / 8] |= (uint8_t)((bytes[i] != 0) << (i % 8));
             }
             memset(got, 0, OUT);
-            vb_pack_bools(got, OUT, (const bool *)(const void *)bytes, n);
-            check(memcmp(got, wanted, OUT) == 0, "vb_pack_bools of any bytes");
+            vb_pack_bools_padded(got, OUT, (const bool *)(const void *)bytes, n);
+            check(memcmp(got, wanted, OUT) == 0, "vb_pack_bools_padded of any bytes");
             memset(got, 0, OUT);
-            check(vb_try_pack_bools(got, OUT, (const bool *)(const void *)bytes, n)
-                    && memcmp(got, wanted, OUT) == 0, "vb_try_pack_bools of any bytes");
+            check(vb_try_pack_bools_padded(got, OUT, (const bool *)(const void *)bytes, n)
+                    && memcmp(got, wanted, OUT) == 0, "vb_try_pack_bools_padded of any bytes");
         }
     }
 }

@@ -33,9 +33,9 @@ static size_t filter(int64_t *sum)
     for (size_t i = 0; i < VALUES; i++) {
         above[i] = values[i] > LIMIT;
     }
-    vb_pack_truthy(mask, sizeof mask, above, VALUES);
+    vb_pack_truthy(mask, sizeof mask, 0, above, VALUES);
     vb_and_bits(mask, sizeof mask, 0, validity, sizeof validity, OFFSET, VALUES);
-    const size_t kept = vb_set_indices(mask, sizeof mask, 0, VALUES, places, VALUES);
+    const size_t kept = vb_set_indices(places, VALUES, mask, sizeof mask, 0, VALUES);
     *sum = 0;
     for (size_t i = 0; i < kept; i++) {
         *sum += values[places[i]];

@@ -54,24 +54,24 @@ static void filters(void)
         }
     }
     begin();
-    check(vb_filter_bits_at(got, BYTES, o, left, BYTES, v, right, BYTES, m, len) == kept,
-        "vb_filter_bits_at");
-    wrote("what vb_filter_bits_at writes");
+    check(vb_filter_bits(got, BYTES, o, left, BYTES, v, right, BYTES, m, len) == kept,
+        "vb_filter_bits");
+    wrote("what vb_filter_bits writes");
     begin();
-    check(vb_try_filter_bits_at(got, BYTES, o, left, BYTES, v, right, BYTES, m, len, &written)
-            && written == kept, "vb_try_filter_bits_at");
-    wrote("what vb_try_filter_bits_at writes");
+    check(vb_try_filter_bits(got, BYTES, o, left, BYTES, v, right, BYTES, m, len, &written)
+            && written == kept, "vb_try_filter_bits");
+    wrote("what vb_try_filter_bits writes");
     /* The last bit that is kept has no room, and no window of bits that don't exist fits. */
     written = 77;
     memcpy(wanted, before, BYTES);
     begin();
-    check(!vb_try_filter_bits_at(got, BYTES, BITS + 1 - kept, left, BYTES, v, right, BYTES, m, len,
+    check(!vb_try_filter_bits(got, BYTES, BITS + 1 - kept, left, BYTES, v, right, BYTES, m, len,
         &written), "a filter without room");
-    check(!vb_try_filter_bits_at(got, BYTES, 0, left, BYTES, BITS + 1 - len, right, BYTES, m, len,
+    check(!vb_try_filter_bits(got, BYTES, 0, left, BYTES, BITS + 1 - len, right, BYTES, m, len,
         &written), "a filter of bits that don't exist");
-    check(!vb_try_filter_bits_at(got, BYTES, 0, left, BYTES, v, right, BYTES, SIZE_MAX, len + 1,
+    check(!vb_try_filter_bits(got, BYTES, 0, left, BYTES, v, right, BYTES, SIZE_MAX, len + 1,
         &written), "a filter by a mask past every place");
-    check(!vb_try_filter_bits_at(got, BYTES, SIZE_MAX, left, BYTES, v, right, BYTES, m, len,
+    check(!vb_try_filter_bits(got, BYTES, SIZE_MAX, left, BYTES, v, right, BYTES, m, len,
         &written) || kept == 0, "a filter to a place past every one");
     check(written == 77, "what a refused filter answers");
     wrote("what stands after a refused filter");
@@ -87,27 +87,27 @@ static void packs(void)
         put(wanted, o + i, bools[i]);
     }
     begin();
-    vb_pack_bools_at(got, BYTES, o, bools, n);
-    wrote("what vb_pack_bools_at writes");
+    vb_pack_bools(got, BYTES, o, bools, n);
+    wrote("what vb_pack_bools writes");
     begin();
-    check(vb_try_pack_bools_at(got, BYTES, o, bools, n), "vb_try_pack_bools_at");
-    wrote("what vb_try_pack_bools_at writes");
+    check(vb_try_pack_bools(got, BYTES, o, bools, n), "vb_try_pack_bools");
+    wrote("what vb_try_pack_bools writes");
     begin();
-    vb_pack_truthy_at(got, BYTES, o, left, n);
-    wrote("what vb_pack_truthy_at writes");
+    vb_pack_truthy(got, BYTES, o, left, n);
+    wrote("what vb_pack_truthy writes");
     begin();
-    check(vb_try_pack_truthy_at(got, BYTES, o, left, n), "vb_try_pack_truthy_at");
-    wrote("what vb_try_pack_truthy_at writes");
+    check(vb_try_pack_truthy(got, BYTES, o, left, n), "vb_try_pack_truthy");
+    wrote("what vb_try_pack_truthy writes");
     memcpy(wanted, before, BYTES);
     begin();
-    check(!vb_try_pack_bools_at(got, BYTES, BITS + 1 - n, bools, n)
-            && !vb_try_pack_truthy_at(got, BYTES, BITS + 1 - n, left, n)
-            && !vb_try_pack_bools_at(got, BYTES, SIZE_MAX, bools, n + 1)
-            && !vb_try_pack_truthy_at(got, BYTES, SIZE_MAX, left, n + 1), "a pack without room");
+    check(!vb_try_pack_bools(got, BYTES, BITS + 1 - n, bools, n)
+            && !vb_try_pack_truthy(got, BYTES, BITS + 1 - n, left, n)
+            && !vb_try_pack_bools(got, BYTES, SIZE_MAX, bools, n + 1)
+            && !vb_try_pack_truthy(got, BYTES, SIZE_MAX, left, n + 1), "a pack without room");
     wrote("what stands after a refused pack");
 }
 
-/* What vb_take_bits_at_I and its checked form write, beside a loop. */
+/* What vb_take_bits_I and its checked form write, beside a loop. */
 #define TAKES(I, index_t)                                                                         \
     static void takes_##I(void)                                                                   \
     {                                                                                             \
@@ -128,35 +128,35 @@ static void packs(void)
             put(wanted, o + i, counts && i != bad && bit(left, offset + (size_t)indices[i]));     \
         }                                                                                         \
         for (int checked = 0; checked < 2; checked++) {                                           \
-            vb_place place = {true, 77};                                                          \
+            vb_taken taken = {true, 77};                                                          \
             begin();                                                                              \
             if (checked != 0) {                                                                   \
-                check(vb_try_take_bits_at_##I(got, BYTES, o, left, BYTES, offset, len, indices,   \
-                    n, all, all ? NULL : right, all ? 0 : BYTES, v, &place),                      \
-                    "vb_try_take_bits_at_" #I);                                                   \
+                check(vb_try_take_bits_##I(got, BYTES, o, left, BYTES, offset, len, indices,      \
+                    n, all, all ? NULL : right, all ? 0 : BYTES, v, &taken),                      \
+                    "vb_try_take_bits_" #I);                                                      \
             } else {                                                                              \
-                place = vb_take_bits_at_##I(got, BYTES, o, left, BYTES, offset, len, indices, n,  \
+                taken = vb_take_bits_##I(got, BYTES, o, left, BYTES, offset, len, indices, n,     \
                     all, all ? NULL : right, all ? 0 : BYTES, v);                                 \
             }                                                                                     \
-            check(place.found == (past < n) && (past == n || place.index == past),                \
-                "the position that vb_take_bits_at_" #I " answers");                              \
+            check(taken.out_of_range == (past < n) && (past == n || taken.position == past),      \
+                "the position that vb_take_bits_" #I " answers");                                 \
             for (size_t i = 0; past < n && i < n; i++) {                                          \
                 put(got, o + i, bit(wanted, o + i));                                              \
             }                                                                                     \
-            wrote("what vb_take_bits_at_" #I " writes");                                          \
+            wrote("what vb_take_bits_" #I " writes");                                             \
         }                                                                                         \
-        vb_place kept = {true, 77};                                                               \
+        vb_taken kept = {true, 77};                                                               \
         memcpy(wanted, before, BYTES);                                                            \
         begin();                                                                                  \
-        check(!vb_try_take_bits_at_##I(got, BYTES, BITS + 1 - n, left, BYTES, offset, len,        \
+        check(!vb_try_take_bits_##I(got, BYTES, BITS + 1 - n, left, BYTES, offset, len,           \
                 indices, n, true, NULL, 0, 0, &kept)                                              \
-            && !vb_try_take_bits_at_##I(got, BYTES, SIZE_MAX, left, BYTES, offset, len, indices,  \
+            && !vb_try_take_bits_##I(got, BYTES, SIZE_MAX, left, BYTES, offset, len, indices,     \
                 n + (n == 0), true, NULL, 0, 0, &kept)                                            \
-            && !vb_try_take_bits_at_##I(got, BYTES, 0, left, BYTES, BITS + 1 - len, len, indices, \
+            && !vb_try_take_bits_##I(got, BYTES, 0, left, BYTES, BITS + 1 - len, len, indices,    \
                 n, true, NULL, 0, 0, &kept)                                                       \
-            && !vb_try_take_bits_at_##I(got, BYTES, 0, left, BYTES, offset, len, indices, n,      \
+            && !vb_try_take_bits_##I(got, BYTES, 0, left, BYTES, offset, len, indices, n,         \
                 false, right, BYTES, BITS + 1 - n, &kept), "bad numbers of a take");              \
-        check(kept.found && kept.index == 77, "what a refused take answers");                     \
+        check(kept.out_of_range && kept.position == 77, "what a refused take answers");           \
         wrote("what stands after a refused take");                                                \
     }
 
@@ -174,7 +174,7 @@ static void joins(void)
     for (size_t from = 0; from < BITS / 2;) {
         const size_t len = random_below(BITS / 2 - from + 1) % 5000 + 1;
         const size_t n = len < BITS / 2 - from ? len : BITS / 2 - from;
-        at += vb_filter_bits_at(got, BYTES, at, left, BYTES, from, right, BYTES, from, n);
+        at += vb_filter_bits(got, BYTES, at, left, BYTES, from, right, BYTES, from, n);
         calls++;
         from += n;
     }

@@ -128,4 +128,9 @@ static bool same_place(vb_place a, vb_place b)
     return a.found == b.found && (!a.found || a.index == b.index);
 }
 
+static bool same_taken(vb_taken a, vb_taken b)
+{
+    return a.out_of_range == b.out_of_range && (!a.out_of_range || a.position == b.position);
+}
+
 #endif

@@ -122,17 +122,15 @@ static void keep(struct answer *answer, const uint8_t *mask, size_t kept, const 
     const struct column *c)
 {
     const size_t at = answer->kept, size = bytes_for(b->len);
-    uint8_t some[BATCH / 8] = {0};
-    vb_filter_u64((uint64_t *)answer->b + at, kept, (const uint64_t *)b->values + b->offset, b->len,
-        mask, size, 0);
-    vb_filter_u64((uint64_t *)(void *)(answer->c + at), kept,
+    vb_filter_values_u64((uint64_t *)answer->b + at, kept, (const uint64_t *)b->values + b->offset,
+        b->len, mask, size, 0);
+    vb_filter_values_u64((uint64_t *)(void *)(answer->c + at), kept,
         (const uint64_t *)c->values + c->offset, c->len, mask, size, 0);
     if (c->valid.bytes == NULL) {
-        vb_fill_bits(answer->c_valid, answer->c_valid_size, at, at + kept, true);
+        vb_fill_bits(answer->c_valid, answer->c_valid_size, at, kept, true);
     } else {
-        vb_filter_bits(some, sizeof some, c->valid.bytes, c->valid.size, c->valid.offset, mask,
-            size, 0, c->len);
-        vb_copy_bits(answer->c_valid, answer->c_valid_size, at, some, sizeof some, 0, kept);
+        vb_filter_bits(answer->c_valid, answer->c_valid_size, at, c->valid.bytes, c->valid.size,
+            c->valid.offset, mask, size, 0, c->len);
     }
     answer->kept += kept;
 }
@@ -140,7 +138,7 @@ static void keep(struct answer *answer, const uint8_t *mask, size_t kept, const 
 /* The row of the n-th true bit of a batch's mask, where it has that many. */
 static vb_place find(const struct answer *answer, const uint8_t *mask, size_t len, size_t n)
 {
-    vb_place place = vb_bit_select(mask, bytes_for(len), 0, len, n);
+    vb_place place = vb_select(mask, bytes_for(len), 0, len, n);
     place.index += place.found ? answer->rows : 0;
     return place;
 }
@@ -173,8 +171,8 @@ static void finish(struct answer *answer)
         answer->sum_b += answer->b[row];
     }
     do {
-        n = vb_set_indices(answer->c_valid, answer->c_valid_size, start, answer->kept - start,
-            found, 64);
+        n = vb_set_indices(found, 64, answer->c_valid, answer->c_valid_size, start,
+            answer->kept - start);
         for (size_t i = 0; i < n; i++) {
             answer->sum_c += answer->c[start + found[i]];
         }
@@ -186,11 +184,11 @@ static void finish(struct answer *answer)
         at[answer->taken] = place_at(i);
         answer->taken += place_at(i) < answer->kept;
     }
-    const vb_place past = vb_take_values_u64_u32((uint64_t *)answer->at, AT,
+    const vb_taken values = vb_take_values_u64_u32((uint64_t *)answer->at, AT,
         (const uint64_t *)answer->b, answer->kept, at, answer->taken, true, NULL, 0, 0);
-    const vb_place past_valid = vb_take_u32(valid, sizeof valid, answer->c_valid,
-        answer->c_valid_size, 0, answer->kept, at, answer->taken);
-    if (past.found || past_valid.found) {
+    const vb_taken bits = vb_take_bits_u32(valid, sizeof valid, 0, answer->c_valid,
+        answer->c_valid_size, 0, answer->kept, at, answer->taken, true, NULL, 0, 0);
+    if (values.out_of_range || bits.out_of_range) {
         abort();    // each place is below the number of rows that are kept
     }
     answer->taken_nulls = answer->taken - vb_count_ones(valid, sizeof valid, 0, answer->taken);

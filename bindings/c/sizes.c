@@ -19,9 +19,9 @@ static void randomize(void *items, size_t size)
     }
 }
 
-static bool same_place(vb_place a, vb_place b)
+static bool same_taken(vb_taken a, vb_taken b)
 {
-    return a.found == b.found && (!a.found || a.index == b.index);
+    return a.out_of_range == b.out_of_range && (!a.out_of_range || a.position == b.position);
 }
 
 #define FILTERS(V, value_t)                                                                       \
@@ -32,7 +32,7 @@ static bool same_place(vb_place a, vb_place b)
         randomize(values, sizeof values);                                                         \
         memset(got, 0xA5, sizeof got);                                                            \
         size_t written = 77;                                                                      \
-        const size_t kept = vb_filter_##V(got[0], VALUES, values, n, mask, BYTES, m);             \
+        const size_t kept = vb_filter_values_##V(got[0], VALUES, values, n, mask, BYTES, m);      \
         check(vb_filter_values(got[1], VALUES, values, n, size, mask, BYTES, m) == kept           \
                 && vb_try_filter_values(got[2], VALUES, values, n, size, mask, BYTES, m,          \
                     &written) && written == kept, "how many a filter of " #V " keeps");           \
@@ -52,13 +52,13 @@ static bool same_place(vb_place a, vb_place b)
         for (size_t i = 0; i < n; i++) {                                                          \
             indices[i] = (index_t)random_below(VALUES + (random_below(400) == 0));                \
         }                                                                                         \
-        vb_place past = {true, 77};                                                               \
-        const vb_place wanted = vb_take_values_##V##_##I(got[0], VALUES, values, VALUES, indices, \
+        vb_taken past = {true, 77};                                                               \
+        const vb_taken wanted = vb_take_values_##V##_##I(got[0], VALUES, values, VALUES, indices, \
             n, all, mask, BYTES, v);                                                              \
-        check(same_place(vb_take_values(got[1], VALUES, values, VALUES, size, indices, n,         \
+        check(same_taken(vb_take_values(got[1], VALUES, values, VALUES, size, indices, n,         \
                 sizeof(index_t), all, mask, BYTES, v), wanted)                                    \
                 && vb_try_take_values(got[2], VALUES, values, VALUES, size, indices, n,           \
-                    sizeof(index_t), all, mask, BYTES, v, &past) && same_place(past, wanted),     \
+                    sizeof(index_t), all, mask, BYTES, v, &past) && same_taken(past, wanted),     \
             "the position that a take of " #V " by " #I " answers");                              \
         check(memcmp(got[0], got[1], sizeof got[0]) == 0                                          \
                 && memcmp(got[0], got[2], sizeof got[0]) == 0,                                    \
@@ -86,7 +86,7 @@ static void refusals(void)
     static vb_u128 values[9], out[9];
     static uint64_t indices[9];
     size_t written = 77;
-    vb_place past = {true, 77};
+    vb_taken past = {true, 77};
     for (size_t size = 0; size <= 40; size++) {
         const bool known = size == 1 || size == 2 || size == 4 || size == 8 || size == 16;
         check(vb_try_filter_values(out, 4, values, 4, size, mask, BYTES, 0, &written) == known
@@ -96,7 +96,7 @@ static void refusals(void)
                 == (known && size < 16), "a size of indices");
     }
     written = 77;
-    past.index = 77;
+    past.position = 77;
     memset(out, 0x5A, sizeof out);
     const uint8_t *odd = (const uint8_t *)values + 4;
     check(!vb_try_filter_values(out, 4, odd, 4, 8, mask, BYTES, 0, &written)
@@ -104,7 +104,7 @@ static void refusals(void)
             && !vb_try_take_values(out, 4, odd, 4, 16, indices, 4, 8, true, NULL, 0, 0, &past)
             && !vb_try_take_values(out, 4, values, 4, 8, odd, 4, 8, true, NULL, 0, 0, &past),
         "items that aren't aligned");
-    check(written == 77 && past.index == 77 && ((const uint8_t *)out)[0] == 0x5A
+    check(written == 77 && past.position == 77 && ((const uint8_t *)out)[0] == 0x5A
             && memcmp(out, (const uint8_t *)out + 1, sizeof out - 1) == 0,
         "what a refused call left");
     check(vb_try_filter_values(out, 4, odd, 4, 4, mask, BYTES, 0, &written), "words of 32 bits");

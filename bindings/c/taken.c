@@ -50,19 +50,19 @@ static void make(void *value, size_t size, size_t i)
             }                                                                                     \
         }                                                                                         \
         const uint8_t *valid = all ? NULL : validity;                                             \
-        vb_place places[2];                                                                       \
-        places[0] = vb_take_values_##V##_##I(got[0], n, values, count, indices, n, all, valid,    \
+        vb_taken takes[2];                                                                        \
+        takes[0] = vb_take_values_##V##_##I(got[0], n, values, count, indices, n, all, valid,     \
             all ? 0 : BYTES, v);                                                                  \
         check(vb_try_take_values_##V##_##I(got[1], n, values, count, indices, n, all, valid,      \
-            all ? 0 : BYTES, v, &places[1]), "vb_try_take_values_" #V "_" #I);                    \
+            all ? 0 : BYTES, v, &takes[1]), "vb_try_take_values_" #V "_" #I);                     \
         for (size_t k = 0; k < 2; k++) {                                                          \
-            check(places[k].found == (past < n) && (past == n || places[k].index == past),        \
+            check(takes[k].out_of_range == (past < n) && (past == n || takes[k].position == past),\
                 "the position that vb_take_values_" #V "_" #I " answers");                        \
             check(memcmp(got[k] + (past < n ? n : 0), wanted + (past < n ? n : 0),                \
                 (past < n ? POSITIONS + 1 - n : POSITIONS + 1) * sizeof(value_t)) == 0,           \
                 "what vb_take_values_" #V "_" #I " writes");                                      \
         }                                                                                         \
-        vb_place kept = {true, 77};                                                               \
+        vb_taken kept = {true, 77};                                                               \
         memcpy(got[0], got[1], sizeof wanted);                                                    \
         check(!vb_try_take_values_##V##_##I(got[1], 2, values, count, indices, 3, true, NULL, 0,  \
             0, &kept), "no room for " #V);                                                        \
@@ -70,8 +70,8 @@ static void make(void *value, size_t size, size_t i)
             validity, 1, 0, &kept), "no bit a position for " #V);                                 \
         check(!vb_try_take_values_##V##_##I(got[1], 9, values, count, indices, 9, false,          \
             validity, BYTES, SIZE_MAX - 8, &kept), "a validity past every place");                \
-        check(kept.found && kept.index == 77 && memcmp(got[0], got[1], sizeof wanted) == 0,       \
-            "what stands after a refusal");                                                       \
+        check(kept.out_of_range && kept.position == 77                                            \
+            && memcmp(got[0], got[1], sizeof wanted) == 0, "what stands after a refusal");                                                       \
     }
 
 #define ALL(X)                                                                                    \

@@ -39,18 +39,18 @@ static void questions(const uint8_t *bytes, size_t offset, size_t len)
     check(vb_try_count_ones(bytes, BYTES, offset, len, &ones_checked) && ones_checked == ones,
         "vb_try_count_ones");
     vb_place place = {false, 0};
-    check(is_place(vb_last_set_index(bytes, BYTES, offset, len), last, len), "vb_last_set_index");
-    check(vb_try_last_set_index(bytes, BYTES, offset, len, &place) && is_place(place, last, len),
-        "vb_try_last_set_index");
+    check(is_place(vb_last_set(bytes, BYTES, offset, len), last, len), "vb_last_set");
+    check(vb_try_last_set(bytes, BYTES, offset, len, &place) && is_place(place, last, len),
+        "vb_try_last_set");
     const size_t n = random_below(len + 2);
     const size_t set = nth(bytes, offset, len, n, true), unset = nth(bytes, offset, len, n, false);
-    check(is_place(vb_bit_select(bytes, BYTES, offset, len, n), set, len), "vb_bit_select");
-    check(vb_try_bit_select(bytes, BYTES, offset, len, n, &place) && is_place(place, set, len),
-        "vb_try_bit_select");
-    check(is_place(vb_bit_select_unset(bytes, BYTES, offset, len, n), unset, len),
-        "vb_bit_select_unset");
-    check(vb_try_bit_select_unset(bytes, BYTES, offset, len, n, &place) && is_place(place, unset, len),
-        "vb_try_bit_select_unset");
+    check(is_place(vb_select(bytes, BYTES, offset, len, n), set, len), "vb_select");
+    check(vb_try_select(bytes, BYTES, offset, len, n, &place) && is_place(place, set, len),
+        "vb_try_select");
+    check(is_place(vb_select_unset(bytes, BYTES, offset, len, n), unset, len),
+        "vb_select_unset");
+    check(vb_try_select_unset(bytes, BYTES, offset, len, n, &place) && is_place(place, unset, len),
+        "vb_try_select_unset");
     if (offset < BITS) {
         bool one = false;
         check(vb_get_bit(bytes, BYTES, offset) == bit(bytes, offset), "vb_get_bit");
@@ -65,8 +65,8 @@ static void walks(const uint8_t *bytes, size_t offset, size_t len)
     const size_t room = random_below(3) == 0 ? random_below(len + 1) : len + 1;
     size_t count = 0, seen = 0, begun = 0;
     memset(places, 0xEE, sizeof places);
-    size_t written = vb_set_indices(bytes, BYTES, offset, len, places, room);
-    check(vb_try_set_indices(bytes, BYTES, offset, len, checked, room, &count) && count == written,
+    size_t written = vb_set_indices(places, room, bytes, BYTES, offset, len);
+    check(vb_try_set_indices(checked, room, bytes, BYTES, offset, len, &count) && count == written,
         "vb_try_set_indices");
     for (size_t i = 0; i < len; i++) {
         if (bit(bytes, offset + i)) {
@@ -80,8 +80,8 @@ static void walks(const uint8_t *bytes, size_t offset, size_t len)
     for (size_t i = written; i < BITS + 1; i++) {
         check(places[i] == (size_t)0xEEEEEEEEEEEEEEEEu, "memory behind the places");
     }
-    written = vb_set_slices(bytes, BYTES, offset, len, runs, room);
-    check(vb_try_set_slices(bytes, BYTES, offset, len, runs_checked, room, &count) && count == written,
+    written = vb_set_slices(runs, room, bytes, BYTES, offset, len);
+    check(vb_try_set_slices(runs_checked, room, bytes, BYTES, offset, len, &count) && count == written,
         "vb_try_set_slices");
     seen = 0;
     for (size_t i = 0; i <= len; i++) {
@@ -181,10 +181,10 @@ static void writes(const uint8_t *bytes, const uint8_t *other, size_t offset, si
             put(wanted, offset + i, v != 0);
         }
         memcpy(got, bytes, BYTES);
-        vb_fill_bits(got, BYTES, offset, offset + len, v != 0);
+        vb_fill_bits(got, BYTES, offset, len, v != 0);
         check(memcmp(got, wanted, BYTES) == 0, "vb_fill_bits");
         memcpy(got, bytes, BYTES);
-        check(vb_try_fill_bits(got, BYTES, offset, offset + len, v != 0)
+        check(vb_try_fill_bits(got, BYTES, offset, len, v != 0)
                 && memcmp(got, wanted, BYTES) == 0, "vb_try_fill_bits");
     }
     memcpy(wanted, bytes, BYTES);
@@ -212,22 +212,22 @@ static void packs(const uint8_t *bytes, const uint8_t *other)
         put(wanted, i, bools[i]);
     }
     memcpy(got, other, BYTES);
-    vb_pack_bools(got, BYTES, bools, n);
-    check(memcmp(got, wanted, BYTES) == 0, "vb_pack_bools");
+    vb_pack_bools_padded(got, BYTES, bools, n);
+    check(memcmp(got, wanted, BYTES) == 0, "vb_pack_bools_padded");
     memcpy(got, other, BYTES);
-    check(vb_try_pack_bools(got, BYTES, bools, n) && memcmp(got, wanted, BYTES) == 0,
-        "vb_try_pack_bools");
+    check(vb_try_pack_bools_padded(got, BYTES, bools, n) && memcmp(got, wanted, BYTES) == 0,
+        "vb_try_pack_bools_padded");
     memcpy(got, other, BYTES);
-    vb_pack_truthy(got, BYTES, bytes, n);
-    check(memcmp(got, wanted, BYTES) == 0, "vb_pack_truthy");
+    vb_pack_truthy_padded(got, BYTES, bytes, n);
+    check(memcmp(got, wanted, BYTES) == 0, "vb_pack_truthy_padded");
     memcpy(got, other, BYTES);
-    check(vb_try_pack_truthy(got, BYTES, bytes, n) && memcmp(got, wanted, BYTES) == 0,
-        "vb_try_pack_truthy");
+    check(vb_try_pack_truthy_padded(got, BYTES, bytes, n) && memcmp(got, wanted, BYTES) == 0,
+        "vb_try_pack_truthy_padded");
     /* One value more than there is room for. */
     memcpy(got, other, BYTES);
-    check(!vb_try_pack_bools(got, 1, bools, 9) && !vb_try_pack_truthy(got, 1, bytes, 9)
+    check(!vb_try_pack_bools_padded(got, 1, bools, 9) && !vb_try_pack_truthy_padded(got, 1, bytes, 9)
             && memcmp(got, other, BYTES) == 0, "a pack without room left all as it was");
-    check(vb_try_pack_truthy(got, 1, bytes, 8), "a pack that has room");
+    check(vb_try_pack_truthy_padded(got, 1, bytes, 8), "a pack that has room");
 }
 
 enum { INDICES = 200 };
@@ -243,42 +243,34 @@ static void takes(const uint8_t *bytes, size_t offset, size_t len, const uint8_t
     uint8_t got[BYTES], rest[BYTES];
     const size_t n = len == 0 ? 0 : random_below(INDICES + 1);
     const size_t most = len + random_below(2);
+    const bool all = valid == NULL;
+    const size_t size = all ? 0 : BYTES;
     size_t past = n;
     for (size_t p = n; p-- > 0;) {
         narrow[p] = (uint32_t)random_below(most);
         wide[p] = narrow[p];
-        if (narrow[p] >= len && (valid == NULL || bit(valid, v + p))) {
+        if (narrow[p] >= len && (all || bit(valid, v + p))) {
             past = p;
         }
     }
     for (size_t kind = 0; kind < 4; kind++) {
-        vb_place place = {true, 77};
+        vb_taken taken = {true, 77};
         memset(got, 0xA5, BYTES);
         memset(rest, 0xA5, BYTES);
-        if (valid == NULL) {
-            switch (kind) {
-            case 0: place = vb_take_u32(got, BYTES, bytes, BYTES, offset, len, narrow, n); break;
-            case 1: place = vb_take_u64(got, BYTES, bytes, BYTES, offset, len, wide, n); break;
-            case 2: check(vb_try_take_u32(got, BYTES, bytes, BYTES, offset, len, narrow, n, &place),
-                        "vb_try_take_u32"); break;
-            default: check(vb_try_take_u64(got, BYTES, bytes, BYTES, offset, len, wide, n, &place),
-                        "vb_try_take_u64");
-            }
-        } else {
-            switch (kind) {
-            case 0: place = vb_take_valid_u32(got, BYTES, bytes, BYTES, offset, len, narrow, n,
-                        valid, BYTES, v); break;
-            case 1: place = vb_take_valid_u64(got, BYTES, bytes, BYTES, offset, len, wide, n,
-                        valid, BYTES, v); break;
-            case 2: check(vb_try_take_valid_u32(got, BYTES, bytes, BYTES, offset, len, narrow, n,
-                        valid, BYTES, v, &place), "vb_try_take_valid_u32"); break;
-            default: check(vb_try_take_valid_u64(got, BYTES, bytes, BYTES, offset, len, wide, n,
-                        valid, BYTES, v, &place), "vb_try_take_valid_u64");
-            }
+        switch (kind) {
+        case 0: taken = vb_take_bits_u32(got, BYTES, 0, bytes, BYTES, offset, len, narrow, n, all,
+                    valid, size, v); break;
+        case 1: taken = vb_take_bits_u64(got, BYTES, 0, bytes, BYTES, offset, len, wide, n, all,
+                    valid, size, v); break;
+        case 2: check(vb_try_take_bits_u32(got, BYTES, 0, bytes, BYTES, offset, len, narrow, n, all,
+                    valid, size, v, &taken), "vb_try_take_bits_u32"); break;
+        default: check(vb_try_take_bits_u64(got, BYTES, 0, bytes, BYTES, offset, len, wide, n, all,
+                    valid, size, v, &taken), "vb_try_take_bits_u64");
         }
-        check(is_place(place, past, n), "the first position past the window");
+        check(taken.out_of_range == (past < n) && (past == n || taken.position == past),
+            "the first position past the window");
         for (size_t p = 0; p < n; p++) {
-            const bool counts = valid == NULL || bit(valid, v + p);
+            const bool counts = all || bit(valid, v + p);
             if (past == n) {
                 check(bit(got, p) == (counts && bit(bytes, offset + wide[p])), "a bit that is taken");
             }
@@ -295,8 +287,8 @@ static void ranks(const uint8_t *bytes, size_t offset, size_t len)
     size_t table[BLOCKS + 1], checked[BLOCKS + 1], count = 0, ones = 0, rank = 0;
     const size_t blocks = (len + 511) / 512, i = random_below(len + 1), n = random_below(len + 2);
     vb_place place = {false, 0};
-    check(vb_block_counts(bytes, BYTES, offset, len, table, BLOCKS + 1) == blocks, "vb_block_counts");
-    check(vb_try_block_counts(bytes, BYTES, offset, len, checked, BLOCKS + 1, &count)
+    check(vb_block_counts(table, BLOCKS + 1, bytes, BYTES, offset, len) == blocks, "vb_block_counts");
+    check(vb_try_block_counts(checked, BLOCKS + 1, bytes, BYTES, offset, len, &count)
             && count == blocks && memcmp(table, checked, blocks * sizeof *table) == 0,
         "vb_try_block_counts");
     for (size_t k = 0; k < i; k++) {
@@ -323,7 +315,7 @@ static void bad_ranks(const uint8_t *bytes, size_t offset, size_t len)
     size_t table[BLOCKS + 1], rank = 77;
     vb_place place = {true, 9};
     memset(table, 0xEE, sizeof table);
-    check(!vb_try_block_counts(bytes, BYTES, offset, len, table, BLOCKS, &rank), "a bad window");
+    check(!vb_try_block_counts(table, BLOCKS, bytes, BYTES, offset, len, &rank), "a bad window");
     for (size_t entries = 0; entries <= BLOCKS + 1; entries++) {
         check(!vb_try_rank(bytes, BYTES, offset, len, table, entries, 0, &rank), "a bad window");
         check(!vb_try_ranked_select(bytes, BYTES, offset, len, table, entries, 0, &place),
@@ -354,20 +346,20 @@ static void bad_takes(const uint8_t *bytes, size_t offset, size_t len)
     const uint32_t narrow[9] = {0};
     const uint64_t wide[9] = {0};
     uint8_t got[2] = {0x5A, 0x5A};
-    vb_place place = {true, 9};
-    check(!vb_try_take_u32(got, 2, bytes, BYTES, offset, len, narrow, 0, &place), "a bad window");
-    check(!vb_try_take_u64(got, 2, bytes, BYTES, offset, len, wide, 0, &place), "a bad window");
-    check(!vb_try_take_valid_u32(got, 2, bytes, BYTES, offset, len, narrow, 0, bytes, BYTES, 0,
-        &place), "a bad window");
-    check(!vb_try_take_valid_u64(got, 2, bytes, BYTES, offset, len, wide, 0, bytes, BYTES, 0,
-        &place), "a bad window");
-    check(!vb_try_take_u32(got, 1, bytes, BYTES, 0, 9, narrow, 9, &place), "no room");
-    check(!vb_try_take_u64(got, 1, bytes, BYTES, 0, 9, wide, 9, &place), "no room");
-    check(!vb_try_take_valid_u32(got, 2, bytes, BYTES, 0, 9, narrow, 9, bytes, 1, 0, &place),
-        "a bad validity");
-    check(!vb_try_take_valid_u64(got, 2, bytes, BYTES, 0, 9, wide, 9, bytes, BYTES, BITS - 8, &place),
-        "a bad validity");
-    check(got[0] == 0x5A && got[1] == 0x5A && place.found && place.index == 9,
+    vb_taken taken = {true, 9};
+    check(!vb_try_take_bits_u32(got, 2, 0, bytes, BYTES, offset, len, narrow, 0, true, NULL, 0, 0,
+        &taken), "a bad window");
+    check(!vb_try_take_bits_u64(got, 2, 0, bytes, BYTES, offset, len, wide, 0, false, bytes, BYTES,
+        0, &taken), "a bad window");
+    check(!vb_try_take_bits_u32(got, 1, 0, bytes, BYTES, 0, 9, narrow, 9, true, NULL, 0, 0, &taken),
+        "no room");
+    check(!vb_try_take_bits_u64(got, 1, 0, bytes, BYTES, 0, 9, wide, 9, true, NULL, 0, 0, &taken),
+        "no room");
+    check(!vb_try_take_bits_u32(got, 2, 0, bytes, BYTES, 0, 9, narrow, 9, false, bytes, 1, 0,
+        &taken), "a bad validity");
+    check(!vb_try_take_bits_u64(got, 2, 0, bytes, BYTES, 0, 9, wide, 9, false, bytes, BYTES,
+        BITS - 8, &taken), "a bad validity");
+    check(got[0] == 0x5A && got[1] == 0x5A && taken.out_of_range && taken.position == 9,
         "a refused take left all as it was");
 }
 
@@ -389,14 +381,15 @@ static void refusals(const uint8_t *bytes)
         vb_run runs[1] = {{3, 4}};
         memcpy(got, bytes, BYTES);
         check(!vb_try_count_ones(bytes, BYTES, offset, len, &number), "a bad count");
-        check(!vb_try_bit_select(bytes, BYTES, offset, len, 0, &place), "a bad select");
-        check(!vb_try_bit_select_unset(bytes, BYTES, offset, len, 0, &place), "a bad select");
-        check(!vb_try_last_set_index(bytes, BYTES, offset, len, &place), "a bad last place");
-        check(!vb_try_set_indices(bytes, BYTES, offset, len, places, 1, &number), "bad places");
-        check(!vb_try_set_slices(bytes, BYTES, offset, len, runs, 1, &number), "bad runs");
+        check(!vb_try_select(bytes, BYTES, offset, len, 0, &place), "a bad select");
+        check(!vb_try_select_unset(bytes, BYTES, offset, len, 0, &place), "a bad select");
+        check(!vb_try_last_set(bytes, BYTES, offset, len, &place), "a bad last place");
+        check(!vb_try_set_indices(places, 1, bytes, BYTES, offset, len, &number), "bad places");
+        check(!vb_try_set_slices(runs, 1, bytes, BYTES, offset, len, &number), "bad runs");
         check(!vb_try_equal_bits(bytes, BYTES, offset, bytes, BYTES, 0, len, &flag), "a bad left window");
         check(!vb_try_equal_bits(bytes, BYTES, 0, bytes, BYTES, offset, len, &flag), "a bad right window");
         check(!vb_try_negate_bits(got, BYTES, offset, len), "a bad window to negate");
+        check(!vb_try_fill_bits(got, BYTES, offset, len, true), "a bad window to fill");
         for (size_t c = 0; c < COMBINES; c++) {
             check(!combines[c].checked(got, BYTES, offset, bytes, BYTES, 0, len), combines[c].name);
             check(!combines[c].checked(got, BYTES, 0, bytes, BYTES, offset, len), combines[c].name);
@@ -413,12 +406,8 @@ static void refusals(const uint8_t *bytes)
         bad_ranks(bytes, offset, len);
     }
     bool flag = true;
-    memcpy(got, bytes, BYTES);
     check(!vb_try_get_bit(bytes, BYTES, BITS, &flag) && flag, "a bit behind the last one");
     check(!vb_try_get_bit(bytes, BYTES, SIZE_MAX, &flag) && flag, "the last of all bits");
-    check(!vb_try_fill_bits(got, BYTES, 0, BITS + 1, true), "a bad end");
-    check(!vb_try_fill_bits(got, BYTES, 0, SIZE_MAX, true), "a bad end");
-    check(memcmp(got, bytes, BYTES) == 0, "a refused fill left all as it was");
 }
 
 /* No bytes: every window of no bits from bit 0 on fits. */
@@ -428,7 +417,7 @@ static void nothing(void)
     size_t number = 77, places[1];
     bool flag = false;
     check(vb_try_count_ones(none, 0, 0, 0, &number) && number == 0, "a count of nothing");
-    check(vb_try_set_indices(none, 0, 0, 0, places, 0, &number) && number == 0, "no places");
+    check(vb_try_set_indices(places, 0, none, 0, 0, 0, &number) && number == 0, "no places");
     check(vb_try_equal_bits(none, 0, 0, none, 0, 0, 0, &flag) && flag, "nothing equals nothing");
     check(!vb_try_count_ones(none, 0, 0, 1, &number), "a bit of nothing");
     check(vb_try_fill_bits(none, 0, 0, 0, true) && none[0] == 0x55, "a fill of nothing");

@@ -46,16 +46,16 @@ static bool is_unwritten(void)
 static void take(size_t value_size, size_t index_size)
 {
     for (size_t count = 0; count <= 8; count += 8) {
-        const vb_place past = vb_take_values(out, 8, values, 8, value_size, others, count,
+        const vb_taken past = vb_take_values(out, 8, values, 8, value_size, others, count,
             index_size, true, NULL, 0, 0);
-        check(past.found && past.index == 0, "a take of an unknown size");
-        const vb_place valid = vb_take_values(out, 8, values, 8, value_size, others, count,
+        check(past.out_of_range && past.position == 0, "a take of an unknown size");
+        const vb_taken valid = vb_take_values(out, 8, values, 8, value_size, others, count,
             index_size, false, mask, 1, 0);
-        check(valid.found && valid.index == 0, "a valid take of an unknown size");
-        vb_place kept = {true, 77};
+        check(valid.out_of_range && valid.position == 0, "a valid take of an unknown size");
+        vb_taken kept = {true, 77};
         const bool taken = vb_try_take_values(out, 8, values, 8, value_size, others, count,
             index_size, true, NULL, 0, 0, &kept);
-        check(!taken && kept.found && kept.index == 77, "a checked take of an unknown size");
+        check(!taken && kept.out_of_range && kept.position == 77, "a checked take of an unknown size");
     }
     check(is_unwritten(), "what a take of an unknown size writes");
 }

@@ -22,7 +22,7 @@
  * Bit i of some bytes is digit i % 8 of byte i / 8, least significant first. A window is the `len`
  * bits from bit `offset` on; no answer depends on a bit outside of the windows that a call names,
  * and none is changed, whatever the bytes hold there. Lengths, offsets and places are counted in
- * bits, `size` in bytes.
+ * bits. A number whose name ends in `size` counts bytes, and one whose name ends in `count` items.
  *
  * A call may load any of the `size` bytes that it is given to read. Of a window that it writes, it
  * loads and stores only the bytes that have a bit of the window: the other bits of the first and the
@@ -42,8 +42,8 @@
  * Of a vb_try_ function the caller owes what is owed of every call, and no more: it tests sizes,
  * offsets, lengths and rooms, and that no pointer is null whose number is not 0, as after a failed
  * malloc. Where they aren't good, it answers false and leaves everything as it was. What indices say
- * is no such number: takes tell of the first bad one by the place that they answer, their vb_try_
- * forms by `past`. No function takes memory or keeps a pointer.
+ * is no such number: takes tell of the first bad one by the vb_taken that they answer, their vb_try_
+ * forms by `taken`. No function takes memory or keeps a pointer.
  *
  * Arrow's arrays have bits so: `offset` is the array's, added to those of the structs that it is a
  * column of, and `size` is (offset + len + 7) / 8. A validity that isn't there, a null pointer,
@@ -108,15 +108,24 @@ typedef struct {
 } vb_run;
 
 /*
- * Bit `place`, which lies in the bytes.
+ * How a take ended: whether an index that counts is out of range. `position` is that of the first
+ * such index, and says something only where `out_of_range` is true.
+ */
+typedef struct {
+    bool out_of_range;
+    size_t position;
+} vb_taken;
+
+/*
+ * The bit at `offset`, which lies in the bytes.
  *
  *     const uint8_t rows[] = {0xE8, 0x06};
  *     bool bit;
  *     assert(vb_get_bit(rows, 2, 3) && vb_try_get_bit(rows, 2, 4, &bit) && !bit);
  *     assert(!vb_try_get_bit(rows, 2, 16, &bit));
  */
-bool vb_get_bit(const uint8_t *bytes, size_t size, size_t place);
-VB_CHECKED bool vb_try_get_bit(const uint8_t *bytes, size_t size, size_t place, bool *bit);
+bool vb_get_bit(const uint8_t *bytes, size_t size, size_t offset);
+VB_CHECKED bool vb_try_get_bit(const uint8_t *bytes, size_t size, size_t offset, bool *bit);
 
 /*
  * How many bits of the window are true. It reads the bytes once, 64 at a time.
@@ -164,33 +173,32 @@ VB_CHECKED bool vb_try_and_not_count(const uint8_t *left, size_t left_size, size
  * n. It counts from the front, 64 bytes at a time, up to the bytes that have it.
  *
  *     const uint8_t rows[] = {0xE8, 0x06};
- *     const vb_place third = vb_bit_select(rows, 2, 3, 10, 2);
+ *     const vb_place third = vb_select(rows, 2, 3, 10, 2);
  *     assert(third.found && third.index == 3);
  */
-vb_place vb_bit_select(const uint8_t *bytes, size_t size, size_t offset, size_t len, size_t n);
-VB_CHECKED bool vb_try_bit_select(const uint8_t *bytes, size_t size, size_t offset, size_t len,
+vb_place vb_select(const uint8_t *bytes, size_t size, size_t offset, size_t len, size_t n);
+VB_CHECKED bool vb_try_select(const uint8_t *bytes, size_t size, size_t offset, size_t len,
         size_t n, vb_place *place);
 
 /*
  * The same of the n-th false bit.
  *
  *     const uint8_t rows[] = {0xE8, 0x06};
- *     assert(vb_bit_select_unset(rows, 2, 3, 10, 0).index == 1);
+ *     assert(vb_select_unset(rows, 2, 3, 10, 0).index == 1);
  */
-vb_place vb_bit_select_unset(const uint8_t *bytes, size_t size, size_t offset, size_t len,
-        size_t n);
-VB_CHECKED bool vb_try_bit_select_unset(const uint8_t *bytes, size_t size, size_t offset,
-        size_t len, size_t n, vb_place *place);
+vb_place vb_select_unset(const uint8_t *bytes, size_t size, size_t offset, size_t len, size_t n);
+VB_CHECKED bool vb_try_select_unset(const uint8_t *bytes, size_t size, size_t offset, size_t len,
+        size_t n, vb_place *place);
 
 /*
  * The place within the window of its last true bit; none where all are false. It reads from the
  * end, eight bytes at a time.
  *
  *     const uint8_t rows[] = {0xE8, 0x06};
- *     assert(vb_last_set_index(rows, 2, 3, 10).index == 7);
+ *     assert(vb_last_set(rows, 2, 3, 10).index == 7);
  */
-vb_place vb_last_set_index(const uint8_t *bytes, size_t size, size_t offset, size_t len);
-VB_CHECKED bool vb_try_last_set_index(const uint8_t *bytes, size_t size, size_t offset, size_t len,
+vb_place vb_last_set(const uint8_t *bytes, size_t size, size_t offset, size_t len);
+VB_CHECKED bool vb_try_last_set(const uint8_t *bytes, size_t size, size_t offset, size_t len,
         vb_place *place);
 
 /*
@@ -272,44 +280,43 @@ VB_CHECKED bool vb_try_is_subset(const uint8_t *left, size_t left_size, size_t l
 
 /*
  * Writes the places of the true bits, in ascending order, to the front of `out`, as many as have
- * room, and answers (`count`) how many these are. No page of memory is read behind that of the last
+ * room, and answers (`written`) how many these are. No page of memory is read behind that of the last
  * one that has room.
  *
  *     const uint8_t rows[] = {0xE8, 0x06};
  *     size_t places[4];
- *     assert(vb_set_indices(rows, 2, 3, 10, places, 4) == 4 && places[3] == 4);
+ *     assert(vb_set_indices(places, 4, rows, 2, 3, 10) == 4 && places[3] == 4);
  */
-size_t vb_set_indices(const uint8_t *bytes, size_t size, size_t offset, size_t len, size_t *out,
-        size_t room);
-VB_CHECKED bool vb_try_set_indices(const uint8_t *bytes, size_t size, size_t offset, size_t len,
-        size_t *out, size_t room, size_t *count);
+size_t vb_set_indices(size_t *out, size_t out_count, const uint8_t *bytes, size_t size,
+        size_t offset, size_t len);
+VB_CHECKED bool vb_try_set_indices(size_t *out, size_t out_count, const uint8_t *bytes, size_t size,
+        size_t offset, size_t len, size_t *written);
 
 /*
  * Writes the runs of true bits, from front to end, each as long as can be, to the front of `out`,
- * as many as have room, and answers (`count`) how many these are. No page of memory is read behind
+ * as many as have room, and answers (`written`) how many these are. No page of memory is read behind
  * that of the end of the last one that has room.
  *
  *     const uint8_t rows[] = {0xE8, 0x06};
  *     vb_run runs[4];
- *     assert(vb_set_slices(rows, 2, 3, 10, runs, 4) == 3);
+ *     assert(vb_set_slices(runs, 4, rows, 2, 3, 10) == 3);
  *     assert(runs[1].start == 2 && runs[1].end == 5);
  */
-size_t vb_set_slices(const uint8_t *bytes, size_t size, size_t offset, size_t len, vb_run *out,
-        size_t room);
-VB_CHECKED bool vb_try_set_slices(const uint8_t *bytes, size_t size, size_t offset, size_t len,
-        vb_run *out, size_t room, size_t *count);
+size_t vb_set_slices(vb_run *out, size_t out_count, const uint8_t *bytes, size_t size,
+        size_t offset, size_t len);
+VB_CHECKED bool vb_try_set_slices(vb_run *out, size_t out_count, const uint8_t *bytes, size_t size,
+        size_t offset, size_t len, size_t *written);
 
 /*
- * Makes the bits from `start` up to `end`, end excluded, `value`; nothing where start >= end. `end`
- * is at most 8 * size. Whole bytes go by a block fill. One bit is made `value` by its place and
- * that behind it.
+ * Makes each bit of the window `value`. Whole bytes go by a block fill. One bit is made `value` by
+ * its offset and the length 1.
  *
  *     uint8_t rows[] = {0x00, 0xFF};
- *     vb_fill_bits(rows, 2, 3, 5, true);
+ *     vb_fill_bits(rows, 2, 3, 2, true);
  *     assert(rows[0] == 0x18 && rows[1] == 0xFF);
  */
-void vb_fill_bits(uint8_t *bytes, size_t size, size_t start, size_t end, bool value);
-VB_CHECKED bool vb_try_fill_bits(uint8_t *bytes, size_t size, size_t start, size_t end, bool value);
+void vb_fill_bits(uint8_t *bytes, size_t size, size_t offset, size_t len, bool value);
+VB_CHECKED bool vb_try_fill_bits(uint8_t *bytes, size_t size, size_t offset, size_t len, bool value);
 
 /*
  * Negates each bit of the window, 32 bytes at a time.

@@ -117,19 +117,19 @@ public:
     /* The place of the n-th true bit, counted from 0, if there is one. */
     std::optional<std::size_t> select(std::size_t n) const
     {
-        return detail::place(vb_bit_select(bytes_, size_, offset_, len_, n));
+        return detail::place(vb_select(bytes_, size_, offset_, len_, n));
     }
 
     /* The place of the n-th false bit. */
     std::optional<std::size_t> select_unset(std::size_t n) const
     {
-        return detail::place(vb_bit_select_unset(bytes_, size_, offset_, len_, n));
+        return detail::place(vb_select_unset(bytes_, size_, offset_, len_, n));
     }
 
     /* The place of the last true bit, if there is one. */
     std::optional<std::size_t> last_set() const
     {
-        return detail::place(vb_last_set_index(bytes_, size_, offset_, len_));
+        return detail::place(vb_last_set(bytes_, size_, offset_, len_));
     }
 
     /* The place of the first bit from place `from` on that is true, or false, if there is one. */
@@ -193,7 +193,7 @@ public:
     std::vector<std::size_t> set_indices() const
     {
         std::vector<std::size_t> places(count_ones());
-        vb_set_indices(bytes_, size_, offset_, len_, places.data(), places.size());
+        vb_set_indices(places.data(), places.size(), bytes_, size_, offset_, len_);
         return places;
     }
 
@@ -208,11 +208,11 @@ public:
     /* Writes them to the front of `out`, as many as have room, and answers how many these are. */
     template <class Out> std::size_t set_indices_into(Out &&out) const
     {
-        return vb_set_indices(bytes_, size_, offset_, len_, out.data(), out.size());
+        return vb_set_indices(out.data(), out.size(), bytes_, size_, offset_, len_);
     }
     template <class Out> std::size_t set_slices_into(Out &&out) const
     {
-        return vb_set_slices(bytes_, size_, offset_, len_, out.data(), out.size());
+        return vb_set_slices(out.data(), out.size(), bytes_, size_, offset_, len_);
     }
 
     /*
@@ -282,7 +282,7 @@ private:
     {
         std::size_t from = 0, found = items.size();
         while (found == items.size() && from < len_) {
-            found = find(bytes_, size_, offset_ + from, len_ - from, items.data(), items.size());
+            found = find(items.data(), items.size(), bytes_, size_, offset_ + from, len_ - from);
             for (std::size_t k = 0; k < found; k++) {
                 if (!each(from, items[k])) {
                     return;
@@ -339,7 +339,7 @@ public:
     }
 
     void set(std::size_t place, bool value) { slice(place, 1).fill(value); }
-    void fill(bool value) { vb_fill_bits(bytes_, size_, offset_, offset_ + len_, value); }
+    void fill(bool value) { vb_fill_bits(bytes_, size_, offset_, len_, value); }
     void negate() { vb_negate_bits(bytes_, size_, offset_, len_); }
 
     /* Of a window of the same length, whose bytes do not overlap these, as in all calls below. */

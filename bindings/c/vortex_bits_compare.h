@@ -30,9 +30,8 @@ enum {
 };
 
 /*
- * Writes to bit `out_offset + k` of `out`, for each k below `values_size`, whether value k compares
- * with `number` so. `values_size`, and `others_size` below, count values and not bytes. Every other
- * bit of `out` stays. 64 values go at a time, by vectors. Floats compare as C's operators do, and
+ * Writes to bit `out_offset + k` of `out`, for each k below `values_count`, whether value k compares
+ * with `number` so. Every other bit of `out` stays. 64 values go at a time, by vectors. Floats compare as C's operators do, and
  * IEEE 754: of what isn't a number VB_NOT_EQUAL alone holds, also where both sides are it, and 0.0
  * equals -0.0.
  *
@@ -43,45 +42,45 @@ enum {
  */
 /* Written by tools/write-lists from tools/families/compare.txt. */
 void vb_compare_u8(uint8_t *out, size_t out_size, size_t out_offset, const uint8_t *values,
-        size_t values_size, uint8_t op, uint8_t number);
+        size_t values_count, uint8_t op, uint8_t number);
 VB_CHECKED bool vb_try_compare_u8(uint8_t *out, size_t out_size, size_t out_offset,
-        const uint8_t *values, size_t values_size, uint8_t op, uint8_t number);
+        const uint8_t *values, size_t values_count, uint8_t op, uint8_t number);
 void vb_compare_u16(uint8_t *out, size_t out_size, size_t out_offset, const uint16_t *values,
-        size_t values_size, uint8_t op, uint16_t number);
+        size_t values_count, uint8_t op, uint16_t number);
 VB_CHECKED bool vb_try_compare_u16(uint8_t *out, size_t out_size, size_t out_offset,
-        const uint16_t *values, size_t values_size, uint8_t op, uint16_t number);
+        const uint16_t *values, size_t values_count, uint8_t op, uint16_t number);
 void vb_compare_u32(uint8_t *out, size_t out_size, size_t out_offset, const uint32_t *values,
-        size_t values_size, uint8_t op, uint32_t number);
+        size_t values_count, uint8_t op, uint32_t number);
 VB_CHECKED bool vb_try_compare_u32(uint8_t *out, size_t out_size, size_t out_offset,
-        const uint32_t *values, size_t values_size, uint8_t op, uint32_t number);
+        const uint32_t *values, size_t values_count, uint8_t op, uint32_t number);
 void vb_compare_u64(uint8_t *out, size_t out_size, size_t out_offset, const uint64_t *values,
-        size_t values_size, uint8_t op, uint64_t number);
+        size_t values_count, uint8_t op, uint64_t number);
 VB_CHECKED bool vb_try_compare_u64(uint8_t *out, size_t out_size, size_t out_offset,
-        const uint64_t *values, size_t values_size, uint8_t op, uint64_t number);
+        const uint64_t *values, size_t values_count, uint8_t op, uint64_t number);
 void vb_compare_i8(uint8_t *out, size_t out_size, size_t out_offset, const int8_t *values,
-        size_t values_size, uint8_t op, int8_t number);
+        size_t values_count, uint8_t op, int8_t number);
 VB_CHECKED bool vb_try_compare_i8(uint8_t *out, size_t out_size, size_t out_offset,
-        const int8_t *values, size_t values_size, uint8_t op, int8_t number);
+        const int8_t *values, size_t values_count, uint8_t op, int8_t number);
 void vb_compare_i16(uint8_t *out, size_t out_size, size_t out_offset, const int16_t *values,
-        size_t values_size, uint8_t op, int16_t number);
+        size_t values_count, uint8_t op, int16_t number);
 VB_CHECKED bool vb_try_compare_i16(uint8_t *out, size_t out_size, size_t out_offset,
-        const int16_t *values, size_t values_size, uint8_t op, int16_t number);
+        const int16_t *values, size_t values_count, uint8_t op, int16_t number);
 void vb_compare_i32(uint8_t *out, size_t out_size, size_t out_offset, const int32_t *values,
-        size_t values_size, uint8_t op, int32_t number);
+        size_t values_count, uint8_t op, int32_t number);
 VB_CHECKED bool vb_try_compare_i32(uint8_t *out, size_t out_size, size_t out_offset,
-        const int32_t *values, size_t values_size, uint8_t op, int32_t number);
+        const int32_t *values, size_t values_count, uint8_t op, int32_t number);
 void vb_compare_i64(uint8_t *out, size_t out_size, size_t out_offset, const int64_t *values,
-        size_t values_size, uint8_t op, int64_t number);
+        size_t values_count, uint8_t op, int64_t number);
 VB_CHECKED bool vb_try_compare_i64(uint8_t *out, size_t out_size, size_t out_offset,
-        const int64_t *values, size_t values_size, uint8_t op, int64_t number);
+        const int64_t *values, size_t values_count, uint8_t op, int64_t number);
 void vb_compare_f32(uint8_t *out, size_t out_size, size_t out_offset, const float *values,
-        size_t values_size, uint8_t op, float number);
+        size_t values_count, uint8_t op, float number);
 VB_CHECKED bool vb_try_compare_f32(uint8_t *out, size_t out_size, size_t out_offset,
-        const float *values, size_t values_size, uint8_t op, float number);
+        const float *values, size_t values_count, uint8_t op, float number);
 void vb_compare_f64(uint8_t *out, size_t out_size, size_t out_offset, const double *values,
-        size_t values_size, uint8_t op, double number);
+        size_t values_count, uint8_t op, double number);
 VB_CHECKED bool vb_try_compare_f64(uint8_t *out, size_t out_size, size_t out_offset,
-        const double *values, size_t values_size, uint8_t op, double number);
+        const double *values, size_t values_count, uint8_t op, double number);
 /* To here. */
 
 /*
@@ -94,55 +93,55 @@ VB_CHECKED bool vb_try_compare_f64(uint8_t *out, size_t out_size, size_t out_off
  */
 /* Written by tools/write-lists from tools/families/compare.txt. */
 void vb_compare_with_u8(uint8_t *out, size_t out_size, size_t out_offset, const uint8_t *values,
-        size_t values_size, uint8_t op, const uint8_t *others, size_t others_size);
+        size_t values_count, uint8_t op, const uint8_t *others, size_t others_count);
 VB_CHECKED bool vb_try_compare_with_u8(uint8_t *out, size_t out_size, size_t out_offset,
-        const uint8_t *values, size_t values_size, uint8_t op, const uint8_t *others,
-        size_t others_size);
+        const uint8_t *values, size_t values_count, uint8_t op, const uint8_t *others,
+        size_t others_count);
 void vb_compare_with_u16(uint8_t *out, size_t out_size, size_t out_offset, const uint16_t *values,
-        size_t values_size, uint8_t op, const uint16_t *others, size_t others_size);
+        size_t values_count, uint8_t op, const uint16_t *others, size_t others_count);
 VB_CHECKED bool vb_try_compare_with_u16(uint8_t *out, size_t out_size, size_t out_offset,
-        const uint16_t *values, size_t values_size, uint8_t op, const uint16_t *others,
-        size_t others_size);
+        const uint16_t *values, size_t values_count, uint8_t op, const uint16_t *others,
+        size_t others_count);
 void vb_compare_with_u32(uint8_t *out, size_t out_size, size_t out_offset, const uint32_t *values,
-        size_t values_size, uint8_t op, const uint32_t *others, size_t others_size);
+        size_t values_count, uint8_t op, const uint32_t *others, size_t others_count);
 VB_CHECKED bool vb_try_compare_with_u32(uint8_t *out, size_t out_size, size_t out_offset,
-        const uint32_t *values, size_t values_size, uint8_t op, const uint32_t *others,
-        size_t others_size);
+        const uint32_t *values, size_t values_count, uint8_t op, const uint32_t *others,
+        size_t others_count);
 void vb_compare_with_u64(uint8_t *out, size_t out_size, size_t out_offset, const uint64_t *values,
-        size_t values_size, uint8_t op, const uint64_t *others, size_t others_size);
+        size_t values_count, uint8_t op, const uint64_t *others, size_t others_count);
 VB_CHECKED bool vb_try_compare_with_u64(uint8_t *out, size_t out_size, size_t out_offset,
-        const uint64_t *values, size_t values_size, uint8_t op, const uint64_t *others,
-        size_t others_size);
+        const uint64_t *values, size_t values_count, uint8_t op, const uint64_t *others,
+        size_t others_count);
 void vb_compare_with_i8(uint8_t *out, size_t out_size, size_t out_offset, const int8_t *values,
-        size_t values_size, uint8_t op, const int8_t *others, size_t others_size);
+        size_t values_count, uint8_t op, const int8_t *others, size_t others_count);
 VB_CHECKED bool vb_try_compare_with_i8(uint8_t *out, size_t out_size, size_t out_offset,
-        const int8_t *values, size_t values_size, uint8_t op, const int8_t *others,
-        size_t others_size);
+        const int8_t *values, size_t values_count, uint8_t op, const int8_t *others,
+        size_t others_count);
 void vb_compare_with_i16(uint8_t *out, size_t out_size, size_t out_offset, const int16_t *values,
-        size_t values_size, uint8_t op, const int16_t *others, size_t others_size);
+        size_t values_count, uint8_t op, const int16_t *others, size_t others_count);
 VB_CHECKED bool vb_try_compare_with_i16(uint8_t *out, size_t out_size, size_t out_offset,
-        const int16_t *values, size_t values_size, uint8_t op, const int16_t *others,
-        size_t others_size);
+        const int16_t *values, size_t values_count, uint8_t op, const int16_t *others,
+        size_t others_count);
 void vb_compare_with_i32(uint8_t *out, size_t out_size, size_t out_offset, const int32_t *values,
-        size_t values_size, uint8_t op, const int32_t *others, size_t others_size);
+        size_t values_count, uint8_t op, const int32_t *others, size_t others_count);
 VB_CHECKED bool vb_try_compare_with_i32(uint8_t *out, size_t out_size, size_t out_offset,
-        const int32_t *values, size_t values_size, uint8_t op, const int32_t *others,
-        size_t others_size);
+        const int32_t *values, size_t values_count, uint8_t op, const int32_t *others,
+        size_t others_count);
 void vb_compare_with_i64(uint8_t *out, size_t out_size, size_t out_offset, const int64_t *values,
-        size_t values_size, uint8_t op, const int64_t *others, size_t others_size);
+        size_t values_count, uint8_t op, const int64_t *others, size_t others_count);
 VB_CHECKED bool vb_try_compare_with_i64(uint8_t *out, size_t out_size, size_t out_offset,
-        const int64_t *values, size_t values_size, uint8_t op, const int64_t *others,
-        size_t others_size);
+        const int64_t *values, size_t values_count, uint8_t op, const int64_t *others,
+        size_t others_count);
 void vb_compare_with_f32(uint8_t *out, size_t out_size, size_t out_offset, const float *values,
-        size_t values_size, uint8_t op, const float *others, size_t others_size);
+        size_t values_count, uint8_t op, const float *others, size_t others_count);
 VB_CHECKED bool vb_try_compare_with_f32(uint8_t *out, size_t out_size, size_t out_offset,
-        const float *values, size_t values_size, uint8_t op, const float *others,
-        size_t others_size);
+        const float *values, size_t values_count, uint8_t op, const float *others,
+        size_t others_count);
 void vb_compare_with_f64(uint8_t *out, size_t out_size, size_t out_offset, const double *values,
-        size_t values_size, uint8_t op, const double *others, size_t others_size);
+        size_t values_count, uint8_t op, const double *others, size_t others_count);
 VB_CHECKED bool vb_try_compare_with_f64(uint8_t *out, size_t out_size, size_t out_offset,
-        const double *values, size_t values_size, uint8_t op, const double *others,
-        size_t others_size);
+        const double *values, size_t values_count, uint8_t op, const double *others,
+        size_t others_count);
 /* To here. */
 
 #ifdef __cplusplus

@@ -56,6 +56,12 @@ inline std::optional<std::size_t> place(vb_place it)
     return it.found ? std::optional<std::size_t>(it.index) : std::nullopt;
 }
 
+/* The first position whose index is out of range. */
+inline std::optional<std::size_t> position(vb_taken it)
+{
+    return it.out_of_range ? std::optional<std::size_t>(it.position) : std::nullopt;
+}
+
 /* Whether it lends bytes: a std::vector, std::array, std::span, .. of std::uint8_t does. */
 template <class Container, class Byte, class = void> inline constexpr bool lends = false;
 template <class Container, class Byte>
@@ -106,11 +112,11 @@ struct by {
 };
 template <std::size_t Size> struct laid { using type = void; };
 /* Written by tools/write-lists from tools/families/filter.txt. */
-template <> struct laid<1> : by<std::uint8_t, vb_filter_u8> {};
-template <> struct laid<2> : by<std::uint16_t, vb_filter_u16> {};
-template <> struct laid<4> : by<std::uint32_t, vb_filter_u32> {};
-template <> struct laid<8> : by<std::uint64_t, vb_filter_u64> {};
-template <> struct laid<16> : by<vb_u128, vb_filter_u128> {};
+template <> struct laid<1> : by<std::uint8_t, vb_filter_values_u8> {};
+template <> struct laid<2> : by<std::uint16_t, vb_filter_values_u16> {};
+template <> struct laid<4> : by<std::uint32_t, vb_filter_values_u32> {};
+template <> struct laid<8> : by<std::uint64_t, vb_filter_values_u64> {};
+template <> struct laid<16> : by<vb_u128, vb_filter_values_u128> {};
 /* To here. */
 
 /* Whether items of the type may be copied as such a type's are. */

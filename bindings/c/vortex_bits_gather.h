@@ -3,8 +3,8 @@
  * keeps and those that go back to where it kept them, and `and` and `or` of truth values that may
  * be null. vortex_bits.h includes this file, and its head says what the caller owes of every call.
  *
- * Calls that end in _at write to any window of `out`, and leave every other bit of it: so what
- * batches give is joined as it is made. The others write the first bits.
+ * The calls write to any window of `out`, and leave every other bit of it: so what batches give is
+ * joined as it is made. Those that end in _padded write whole bytes.
  */
 #ifndef VORTEX_BITS_GATHER_H
 #define VORTEX_BITS_GATHER_H
@@ -16,190 +16,138 @@ extern "C" {
 #endif
 
 /*
- * Packs `count` truth values into the first bytes of `out`, eight into each; the bits of the last
- * one behind them are false, and later bytes stay. `out` has room for as many bits. A `bool` is a
- * byte 0 or 1, as the compiler makes it: another one, written through a pointer, counts as true.
+ * Packs truth values into the bits of `out` from bit `out_offset` on, one each; they lie in it, and
+ * every other bit stays. 64 values go at a time, by vectors. A `bool` is a byte 0 or 1, as the
+ * compiler makes it: another one, written through a pointer, counts as true.
  *
  *     uint8_t out[] = {0xFF};
- *     vb_pack_bools(out, 1, (const bool[]){true, false, true}, 3);
- *     assert(out[0] == 0x05);
+ *     vb_pack_bools(out, 1, 3, (const bool[]){true, false, true}, 3);
+ *     assert(out[0] == 0xEF);
  */
-void vb_pack_bools(uint8_t *out, size_t out_size, const bool *bools, size_t count);
-VB_CHECKED bool vb_try_pack_bools(uint8_t *out, size_t out_size, const bool *bools, size_t count);
+void vb_pack_bools(uint8_t *out, size_t out_size, size_t out_offset, const bool *bools,
+        size_t bools_count);
+VB_CHECKED bool vb_try_pack_bools(uint8_t *out, size_t out_size, size_t out_offset,
+        const bool *bools, size_t bools_count);
 
 /*
  * The same of bytes, each of which is true where it is not 0.
  *
  *     uint8_t out[] = {0xFF};
  *     const uint8_t truthy[] = {7, 0, 255};
- *     vb_pack_truthy(out, 1, truthy, 3);
- *     assert(out[0] == 0x05);
+ *     vb_pack_truthy(out, 1, 3, truthy, 3);
+ *     assert(out[0] == 0xEF);
  */
-void vb_pack_truthy(uint8_t *out, size_t out_size, const uint8_t *truthy, size_t count);
-VB_CHECKED bool vb_try_pack_truthy(uint8_t *out, size_t out_size, const uint8_t *truthy,
-        size_t count);
+void vb_pack_truthy(uint8_t *out, size_t out_size, size_t out_offset, const uint8_t *truthy,
+        size_t truthy_count);
+VB_CHECKED bool vb_try_pack_truthy(uint8_t *out, size_t out_size, size_t out_offset,
+        const uint8_t *truthy, size_t truthy_count);
 
 /*
- * The same to the `count` bits of `out` from bit `out_offset` on. 64 values go at a time, by
- * vectors.
+ * The same into the first bytes of `out`, eight values into each; the bits of the last one behind
+ * them are false, and later bytes stay.
  *
  *     uint8_t out[] = {0xFF};
  *     const uint8_t truthy[] = {7, 0, 255};
- *     vb_pack_truthy_at(out, 1, 3, truthy, 3);
- *     vb_pack_bools_at(out, 1, 0, (const bool *)truthy + 1, 1);
- *     assert(out[0] == 0xEE);
+ *     vb_pack_truthy_padded(out, 1, truthy, 3);
+ *     assert(out[0] == 0x05);
+ *     vb_pack_bools_padded(out, 1, (const bool[]){false, true}, 2);
+ *     assert(out[0] == 0x02);
  */
-void vb_pack_bools_at(uint8_t *out, size_t out_size, size_t out_offset, const bool *bools,
-        size_t count);
-VB_CHECKED bool vb_try_pack_bools_at(uint8_t *out, size_t out_size, size_t out_offset,
-        const bool *bools, size_t count);
-void vb_pack_truthy_at(uint8_t *out, size_t out_size, size_t out_offset, const uint8_t *truthy,
-        size_t count);
-VB_CHECKED bool vb_try_pack_truthy_at(uint8_t *out, size_t out_size, size_t out_offset,
-        const uint8_t *truthy, size_t count);
+void vb_pack_bools_padded(uint8_t *out, size_t out_size, const bool *bools, size_t bools_count);
+VB_CHECKED bool vb_try_pack_bools_padded(uint8_t *out, size_t out_size, const bool *bools,
+        size_t bools_count);
+void vb_pack_truthy_padded(uint8_t *out, size_t out_size, const uint8_t *truthy,
+        size_t truthy_count);
+VB_CHECKED bool vb_try_pack_truthy_padded(uint8_t *out, size_t out_size, const uint8_t *truthy,
+        size_t truthy_count);
 
 /*
- * Writes the bits that the indices name among those of the window to the first bits of `out`, which
- * has room for one each, and answers no place; or answers the first position whose index is not
- * below `len`. The bits of `out` behind these stay; where a position is answered, these hold
- * anything. The checked forms answer that in `past`. 64 indices go at a time.
+ * Writes the bits that the indices name among those of the window to the bits of `out` from bit
+ * `out_offset` on, one for each index; or answers the first position that counts and whose index is
+ * out of range, not below `len`. The checked forms answer that in `taken`. Where `all_valid` is true,
+ * each position counts, and the validity may be null, of no bytes; else a position counts if the bit
+ * of `validity` from bit `validity_offset` on is true there: at the others false is written, and
+ * their indices are not looked at. Every other bit of `out` stays; where a position is answered,
+ * those of the indices hold anything. 64 indices go at a time.
  *
- *     uint8_t out[] = {0};
- *     const uint8_t bits[] = {0x12};
- *     const uint32_t indices[] = {4, 0, 1};
- *     assert(!vb_take_u32(out, 1, bits, 1, 0, 5, indices, 3).found && out[0] == 0x05);
- *     assert(vb_take_u32(out, 1, bits, 1, 0, 4, indices, 3).found);    // index 4 at position 0
- */
-/* Written by tools/write-lists from tools/families/take_bits.txt. */
-VB_CHECKED vb_place vb_take_u32(uint8_t *out, size_t out_size, const uint8_t *bytes, size_t size,
-        size_t offset, size_t len, const uint32_t *indices, size_t index_count);
-VB_CHECKED bool vb_try_take_u32(uint8_t *out, size_t out_size, const uint8_t *bytes, size_t size,
-        size_t offset, size_t len, const uint32_t *indices, size_t index_count, vb_place *past);
-VB_CHECKED vb_place vb_take_u64(uint8_t *out, size_t out_size, const uint8_t *bytes, size_t size,
-        size_t offset, size_t len, const uint64_t *indices, size_t index_count);
-VB_CHECKED bool vb_try_take_u64(uint8_t *out, size_t out_size, const uint8_t *bytes, size_t size,
-        size_t offset, size_t len, const uint64_t *indices, size_t index_count, vb_place *past);
-/* To here. */
-
-/*
- * The same where a position counts only if the bit of `validity` from bit `validity_offset` on is
- * true there: at the others false is written, and their indices are not looked at.
- *
- *     uint8_t out[] = {0};
- *     const uint8_t bits[] = {0x12}, valid[] = {0x06};
- *     const uint64_t indices[] = {99, 0, 1};
- *     assert(!vb_take_valid_u64(out, 1, bits, 1, 0, 5, indices, 3, valid, 1, 0).found);
- *     assert(out[0] == 0x04);
- */
-/* Written by tools/write-lists from tools/families/take_bits.txt. */
-VB_CHECKED vb_place vb_take_valid_u32(uint8_t *out, size_t out_size, const uint8_t *bytes,
-        size_t size, size_t offset, size_t len, const uint32_t *indices, size_t index_count,
-        const uint8_t *validity, size_t validity_size, size_t validity_offset);
-VB_CHECKED bool vb_try_take_valid_u32(uint8_t *out, size_t out_size, const uint8_t *bytes,
-        size_t size, size_t offset, size_t len, const uint32_t *indices, size_t index_count,
-        const uint8_t *validity, size_t validity_size, size_t validity_offset, vb_place *past);
-VB_CHECKED vb_place vb_take_valid_u64(uint8_t *out, size_t out_size, const uint8_t *bytes,
-        size_t size, size_t offset, size_t len, const uint64_t *indices, size_t index_count,
-        const uint8_t *validity, size_t validity_size, size_t validity_offset);
-VB_CHECKED bool vb_try_take_valid_u64(uint8_t *out, size_t out_size, const uint8_t *bytes,
-        size_t size, size_t offset, size_t len, const uint64_t *indices, size_t index_count,
-        const uint8_t *validity, size_t validity_size, size_t validity_offset, vb_place *past);
-/* To here. */
-
-/*
- * The same by indices of 8 to 64 bits, to the bits of `out` from bit `out_offset` on, one for each
- * index. Where `all_valid` is true, each position counts, and the validity may be null, of no
- * bytes; else as above. Where a position is answered, these bits of `out` hold anything. Signed
- * indices go by casts, where `len` is at most what they can name, as in vortex_bits_values.h.
+ * Signed indices go by casts, where `len` is at most what they can name, as in vortex_bits_values.h.
  *
  *     uint8_t out[] = {0xFF};
  *     const uint8_t bits[] = {0x12}, indices[] = {4, 0, 1};
- *     vb_place past = vb_take_bits_at_u8(out, 1, 4, bits, 1, 0, 5, indices, 3, true, NULL, 0, 0);
- *     assert(!past.found && out[0] == 0xDF);
+ *     vb_taken taken = vb_take_bits_u8(out, 1, 4, bits, 1, 0, 5, indices, 3, true, NULL, 0, 0);
+ *     assert(!taken.out_of_range && out[0] == 0xDF);
+ *     taken = vb_take_bits_u8(out, 1, 4, bits, 1, 0, 4, indices, 3, true, NULL, 0, 0);
+ *     assert(taken.out_of_range && taken.position == 0);    // index 4 of four bits
  */
 /* Written by tools/write-lists from tools/families/take_bits.txt. */
-VB_CHECKED vb_place vb_take_bits_at_u8(uint8_t *out, size_t out_size, size_t out_offset,
+VB_CHECKED vb_taken vb_take_bits_u8(uint8_t *out, size_t out_size, size_t out_offset,
         const uint8_t *bytes, size_t size, size_t offset, size_t len, const uint8_t *indices,
-        size_t index_count, bool all_valid, const uint8_t *validity, size_t validity_size,
+        size_t indices_count, bool all_valid, const uint8_t *validity, size_t validity_size,
         size_t validity_offset);
-VB_CHECKED bool vb_try_take_bits_at_u8(uint8_t *out, size_t out_size, size_t out_offset,
+VB_CHECKED bool vb_try_take_bits_u8(uint8_t *out, size_t out_size, size_t out_offset,
         const uint8_t *bytes, size_t size, size_t offset, size_t len, const uint8_t *indices,
-        size_t index_count, bool all_valid, const uint8_t *validity, size_t validity_size,
-        size_t validity_offset, vb_place *past);
-VB_CHECKED vb_place vb_take_bits_at_u16(uint8_t *out, size_t out_size, size_t out_offset,
+        size_t indices_count, bool all_valid, const uint8_t *validity, size_t validity_size,
+        size_t validity_offset, vb_taken *taken);
+VB_CHECKED vb_taken vb_take_bits_u16(uint8_t *out, size_t out_size, size_t out_offset,
         const uint8_t *bytes, size_t size, size_t offset, size_t len, const uint16_t *indices,
-        size_t index_count, bool all_valid, const uint8_t *validity, size_t validity_size,
+        size_t indices_count, bool all_valid, const uint8_t *validity, size_t validity_size,
         size_t validity_offset);
-VB_CHECKED bool vb_try_take_bits_at_u16(uint8_t *out, size_t out_size, size_t out_offset,
+VB_CHECKED bool vb_try_take_bits_u16(uint8_t *out, size_t out_size, size_t out_offset,
         const uint8_t *bytes, size_t size, size_t offset, size_t len, const uint16_t *indices,
-        size_t index_count, bool all_valid, const uint8_t *validity, size_t validity_size,
-        size_t validity_offset, vb_place *past);
-VB_CHECKED vb_place vb_take_bits_at_u32(uint8_t *out, size_t out_size, size_t out_offset,
+        size_t indices_count, bool all_valid, const uint8_t *validity, size_t validity_size,
+        size_t validity_offset, vb_taken *taken);
+VB_CHECKED vb_taken vb_take_bits_u32(uint8_t *out, size_t out_size, size_t out_offset,
         const uint8_t *bytes, size_t size, size_t offset, size_t len, const uint32_t *indices,
-        size_t index_count, bool all_valid, const uint8_t *validity, size_t validity_size,
+        size_t indices_count, bool all_valid, const uint8_t *validity, size_t validity_size,
         size_t validity_offset);
-VB_CHECKED bool vb_try_take_bits_at_u32(uint8_t *out, size_t out_size, size_t out_offset,
+VB_CHECKED bool vb_try_take_bits_u32(uint8_t *out, size_t out_size, size_t out_offset,
         const uint8_t *bytes, size_t size, size_t offset, size_t len, const uint32_t *indices,
-        size_t index_count, bool all_valid, const uint8_t *validity, size_t validity_size,
-        size_t validity_offset, vb_place *past);
-VB_CHECKED vb_place vb_take_bits_at_u64(uint8_t *out, size_t out_size, size_t out_offset,
+        size_t indices_count, bool all_valid, const uint8_t *validity, size_t validity_size,
+        size_t validity_offset, vb_taken *taken);
+VB_CHECKED vb_taken vb_take_bits_u64(uint8_t *out, size_t out_size, size_t out_offset,
         const uint8_t *bytes, size_t size, size_t offset, size_t len, const uint64_t *indices,
-        size_t index_count, bool all_valid, const uint8_t *validity, size_t validity_size,
+        size_t indices_count, bool all_valid, const uint8_t *validity, size_t validity_size,
         size_t validity_offset);
-VB_CHECKED bool vb_try_take_bits_at_u64(uint8_t *out, size_t out_size, size_t out_offset,
+VB_CHECKED bool vb_try_take_bits_u64(uint8_t *out, size_t out_size, size_t out_offset,
         const uint8_t *bytes, size_t size, size_t offset, size_t len, const uint64_t *indices,
-        size_t index_count, bool all_valid, const uint8_t *validity, size_t validity_size,
-        size_t validity_offset, vb_place *past);
+        size_t indices_count, bool all_valid, const uint8_t *validity, size_t validity_size,
+        size_t validity_offset, vb_taken *taken);
 /* To here. */
 
 /*
- * Writes those of the `len` bits of `values` from bit `values_offset` on whose bit of `mask` from
- * bit `mask_offset` on is true, in order, to the first bits of `out`, which has room for them, and
- * answers (`written`) how many these are. The bits of `out` behind them stay. The checked form
- * tests the room too. 64 bits go at a time.
- *
- *     uint8_t out[] = {0};
- *     const uint8_t bits[] = {0x76}, mask[] = {0x4B};
- *     assert(vb_filter_bits(out, 1, bits, 1, 0, mask, 1, 0, 7) == 4 && out[0] == 0x0A);
- */
-size_t vb_filter_bits(uint8_t *out, size_t out_size, const uint8_t *values, size_t values_size,
-        size_t values_offset, const uint8_t *mask, size_t mask_size, size_t mask_offset,
-        size_t len);
-VB_CHECKED bool vb_try_filter_bits(uint8_t *out, size_t out_size, const uint8_t *values,
-        size_t values_size, size_t values_offset, const uint8_t *mask, size_t mask_size,
-        size_t mask_offset, size_t len, size_t *written);
-
-/*
- * The same to the bits of `out` from bit `out_offset` on, which lie in it.
+ * Writes those of the `len` bits of `bytes` from bit `offset` on whose bit of `mask` from bit
+ * `mask_offset` on is true, in order, to the bits of `out` from bit `out_offset` on, which lie in it,
+ * and answers (`written`) how many these are. Every other bit of `out` stays. The checked form tests
+ * the room too. 64 bits go at a time.
  *
  *     uint8_t out[] = {0xFF};
  *     const uint8_t bits[] = {0x76}, mask[] = {0x4B};
- *     assert(vb_filter_bits_at(out, 1, 3, bits, 1, 0, mask, 1, 0, 7) == 4 && out[0] == 0xD7);
+ *     assert(vb_filter_bits(out, 1, 3, bits, 1, 0, mask, 1, 0, 7) == 4 && out[0] == 0xD7);
  */
-size_t vb_filter_bits_at(uint8_t *out, size_t out_size, size_t out_offset, const uint8_t *values,
-        size_t values_size, size_t values_offset, const uint8_t *mask, size_t mask_size,
-        size_t mask_offset, size_t len);
-VB_CHECKED bool vb_try_filter_bits_at(uint8_t *out, size_t out_size, size_t out_offset,
-        const uint8_t *values, size_t values_size, size_t values_offset, const uint8_t *mask,
-        size_t mask_size, size_t mask_offset, size_t len, size_t *written);
+size_t vb_filter_bits(uint8_t *out, size_t out_size, size_t out_offset, const uint8_t *bytes,
+        size_t size, size_t offset, const uint8_t *mask, size_t mask_size, size_t mask_offset,
+        size_t len);
+VB_CHECKED bool vb_try_filter_bits(uint8_t *out, size_t out_size, size_t out_offset,
+        const uint8_t *bytes, size_t size, size_t offset, const uint8_t *mask, size_t mask_size,
+        size_t mask_offset, size_t len, size_t *written);
 
 /*
  * Undoes vb_filter_bits: writes `len` bits to `out` from bit `out_offset` on, which are those of
- * `values` from bit `values_offset` on, in order, where the bit of `mask` from bit `mask_offset` on
- * is true, and false elsewhere. `values` has a bit for each true one of the mask, which the checked
- * form counts. Every other bit of `out` stays.
+ * `bytes` from bit `offset` on, in order, where the bit of `mask` from bit `mask_offset` on is true,
+ * and false elsewhere. `bytes` has a bit for each true one of the mask, which the checked form
+ * counts. Every other bit of `out` stays.
  *
  *     uint8_t out[] = {0};
  *     const uint8_t bits[] = {0x0A}, mask[] = {0x4B};
  *     vb_deposit_bits(out, 1, 0, bits, 1, 0, mask, 1, 0, 7);
  *     assert(out[0] == 0x42);
  */
-void vb_deposit_bits(uint8_t *out, size_t out_size, size_t out_offset, const uint8_t *values,
-        size_t values_size, size_t values_offset, const uint8_t *mask, size_t mask_size,
-        size_t mask_offset, size_t len);
+void vb_deposit_bits(uint8_t *out, size_t out_size, size_t out_offset, const uint8_t *bytes,
+        size_t size, size_t offset, const uint8_t *mask, size_t mask_size, size_t mask_offset,
+        size_t len);
 VB_CHECKED bool vb_try_deposit_bits(uint8_t *out, size_t out_size, size_t out_offset,
-        const uint8_t *values, size_t values_size, size_t values_offset, const uint8_t *mask,
-        size_t mask_size, size_t mask_offset, size_t len);
+        const uint8_t *bytes, size_t size, size_t offset, const uint8_t *mask, size_t mask_size,
+        size_t mask_offset, size_t len);
 
 /*
  * Writes `left and right`, or `left or right`, of `len` truth values that may be null, by

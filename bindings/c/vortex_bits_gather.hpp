@@ -23,7 +23,7 @@ template <std::size_t Index> struct bits_taken_by;
 #define VB_TAKEN_BY(size, name, integer)                                                          \
     template <> struct bits_taken_by<size> {                                                      \
         using type = integer;                                                                     \
-        static constexpr auto take = vb_take_bits_at_##name;                                      \
+        static constexpr auto take = vb_take_bits_##name;                                      \
     };
 /* Written by tools/write-lists from tools/families/take_bits.txt. */
 VB_TAKEN_BY(1, u8, std::uint8_t)
@@ -48,7 +48,7 @@ std::optional<std::size_t> bits::take(const Indices &indices, const bits *valid,
     if constexpr (detail::is_index<index>()) {
         using by = detail::bits_taken_by<sizeof(index)>;
         const bits counts = valid != nullptr ? *valid : bits();
-        return detail::place(by::take(out, size, at, bytes_, size_, offset_,
+        return detail::position(by::take(out, size, at, bytes_, size_, offset_,
             detail::reached<index>(len_),
             reinterpret_cast<const typename by::type *>(indices.data()), indices.size(),
             valid == nullptr, counts.bytes_, counts.size_, counts.offset_));
@@ -75,15 +75,15 @@ template <class Out> std::size_t bits::filter_into(bits mask, Out &&out) const
     static_assert(detail::is_bytes<Out>(), "filter_into writes bytes of std::uint8_t");
     detail::expect(mask.len_ == len_, "windows are of two lengths");
     detail::expect(fits(out.size(), 0, mask.count_ones()), "no room for the bits to keep");
-    return vb_filter_bits(out.data(), out.size(), bytes_, size_, offset_, mask.bytes_, mask.size_,
-        mask.offset_, len_);
+    return vb_filter_bits(out.data(), out.size(), 0, bytes_, size_, offset_, mask.bytes_,
+        mask.size_, mask.offset_, len_);
 }
 
 inline std::size_t bits_mut::filter_of(bits values, bits mask)
 {
     detail::expect(mask.len_ == values.len_, "windows are of two lengths");
     detail::expect(mask.count_ones() <= len_, "no room for the bits to keep");
-    return vb_filter_bits_at(bytes_, size_, offset_, values.bytes_, values.size_, values.offset_,
+    return vb_filter_bits(bytes_, size_, offset_, values.bytes_, values.size_, values.offset_,
         mask.bytes_, mask.size_, mask.offset_, mask.len_);
 }
 
@@ -141,14 +141,14 @@ template <class Bools> void bits_mut::copy_from_bools(const Bools &bools)
         "copy_from_bools packs values of bool, of which std::vector<bool> lends none");
     detail::expect(bools.size() == len_, "not a bit for each bool");
     if constexpr (!std::is_void_v<detail::lent_t<const Bools>>) {
-        vb_pack_bools_at(bytes_, size_, offset_, bools.data(), len_);
+        vb_pack_bools(bytes_, size_, offset_, bools.data(), len_);
     }
 }
 
 template <class Bytes> void bits_mut::copy_from_truthy(const Bytes &truthy)
 {
     detail::expect(truthy.size() == len_, "not a bit for each byte");
-    vb_pack_truthy_at(bytes_, size_, offset_, truthy.data(), len_);
+    vb_pack_truthy(bytes_, size_, offset_, truthy.data(), len_);
 }
 
 /*
@@ -162,7 +162,7 @@ template <class Bools, class Out> void pack_bools(const Bools &bools, Out &&out)
     static_assert(detail::is_bytes<Out>(), "pack_bools writes bytes of std::uint8_t");
     detail::expect(fits(out.size(), 0, bools.size()), "no room for a bit a bool");
     if constexpr (!std::is_void_v<detail::lent_t<const Bools>>) {
-        vb_pack_bools(out.data(), out.size(), bools.data(), bools.size());
+        vb_pack_bools_padded(out.data(), out.size(), bools.data(), bools.size());
     }
 }
 
@@ -171,7 +171,7 @@ template <class Bytes, class Out> void pack_truthy(const Bytes &truthy, Out &&ou
 {
     static_assert(detail::is_bytes<Out>(), "pack_truthy writes bytes of std::uint8_t");
     detail::expect(fits(out.size(), 0, truthy.size()), "no room for a bit a byte");
-    vb_pack_truthy(out.data(), out.size(), truthy.data(), truthy.size());
+    vb_pack_truthy_padded(out.data(), out.size(), truthy.data(), truthy.size());
 }
 
 } // namespace vortex_bits

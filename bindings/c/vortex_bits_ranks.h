@@ -20,15 +20,15 @@ extern "C" {
  *     uint8_t rows[128];
  *     memset(rows, 0x11, sizeof rows);
  *     size_t table[2];
- *     assert(vb_block_counts(rows, 128, 0, 1024, table, 2) == 2 && table[1] == 128);
+ *     assert(vb_block_counts(table, 2, rows, 128, 0, 1024) == 2 && table[1] == 128);
  */
-size_t vb_block_counts(const uint8_t *bytes, size_t size, size_t offset, size_t len, size_t *table,
-        size_t room);
-VB_CHECKED bool vb_try_block_counts(const uint8_t *bytes, size_t size, size_t offset, size_t len,
-        size_t *table, size_t room, size_t *written);
+size_t vb_block_counts(size_t *table, size_t table_count, const uint8_t *bytes, size_t size,
+        size_t offset, size_t len);
+VB_CHECKED bool vb_try_block_counts(size_t *table, size_t table_count, const uint8_t *bytes,
+        size_t size, size_t offset, size_t len, size_t *written);
 
 /*
- * How many of the first `place` bits of the window are true; `place` is at most `len`. It reads one
+ * How many of the first `index` bits of the window are true; `index` is at most `len`. It reads one
  * entry of the table, and the bits of one block. Here and below the table has exactly
  * ceil(len / 512) entries, which the checked forms test; that they are those of vb_block_counts
  * they cannot test: of other ones the answer says nothing, and does no harm.
@@ -39,9 +39,9 @@ VB_CHECKED bool vb_try_block_counts(const uint8_t *bytes, size_t size, size_t of
  *     assert(vb_rank(rows, 128, 0, 1024, table, 2, 601) == 151);
  */
 size_t vb_rank(const uint8_t *bytes, size_t size, size_t offset, size_t len, const size_t *table,
-        size_t entries, size_t place);
+        size_t table_count, size_t index);
 VB_CHECKED bool vb_try_rank(const uint8_t *bytes, size_t size, size_t offset, size_t len,
-        const size_t *table, size_t entries, size_t place, size_t *rank);
+        const size_t *table, size_t table_count, size_t index, size_t *rank);
 
 /*
  * The place of the n-th true bit of the window, and of its n-th false bit, by halves of the table
@@ -54,13 +54,13 @@ VB_CHECKED bool vb_try_rank(const uint8_t *bytes, size_t size, size_t offset, si
  *     assert(vb_ranked_select_unset(rows, 128, 0, 1024, table, 2, 3).index == 5);
  */
 vb_place vb_ranked_select(const uint8_t *bytes, size_t size, size_t offset, size_t len,
-        const size_t *table, size_t entries, size_t n);
+        const size_t *table, size_t table_count, size_t n);
 VB_CHECKED bool vb_try_ranked_select(const uint8_t *bytes, size_t size, size_t offset, size_t len,
-        const size_t *table, size_t entries, size_t n, vb_place *place);
+        const size_t *table, size_t table_count, size_t n, vb_place *place);
 vb_place vb_ranked_select_unset(const uint8_t *bytes, size_t size, size_t offset, size_t len,
-        const size_t *table, size_t entries, size_t n);
+        const size_t *table, size_t table_count, size_t n);
 VB_CHECKED bool vb_try_ranked_select_unset(const uint8_t *bytes, size_t size, size_t offset,
-        size_t len, const size_t *table, size_t entries, size_t n, vb_place *place);
+        size_t len, const size_t *table, size_t table_count, size_t n, vb_place *place);
 
 #ifdef __cplusplus
 }

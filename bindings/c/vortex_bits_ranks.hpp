@@ -23,8 +23,8 @@ public:
     /* It counts the bits once. */
     explicit ranks(bits window) : bits_(window), table_(blocks(window))
     {
-        vb_block_counts(bits_.bytes_, bits_.size_, bits_.offset_, bits_.len_, table_.data(),
-            table_.size());
+        vb_block_counts(table_.data(), table_.size(), bits_.bytes_, bits_.size_, bits_.offset_,
+            bits_.len_);
     }
 
     /*

@@ -18,38 +18,43 @@ typedef struct {
 } vb_u128;
 
 /*
- * Writes those of `count` values whose bit of `mask` from bit `mask_offset` on is true, in order,
- * to the front of `out`, and answers (`written`) how many these are; `room` is how many `out` has
- * room for, at least as many. The items behind them stay. The checked form tests the room too. 64
+ * Writes those of the values whose bit of `mask` from bit `mask_offset` on is true, in order, to the
+ * front of `out`, and answers (`written`) how many these are; `out_count` is how many `out` has room
+ * for, at least as many. The items behind them stay. The checked form tests the room too. 64
  * values go at a time. Values are copied as they are, so those of another type of the size, aligned
  * as that one is, go by casts of both pointers, or by vb_filter_values.
  *
  *     uint32_t kept[2];
  *     const uint32_t values[] = {5, 6, 7};
  *     const uint8_t mask[] = {0x05};
- *     assert(vb_filter_u32(kept, 2, values, 3, mask, 1, 0) == 2 && kept[1] == 7);
+ *     assert(vb_filter_values_u32(kept, 2, values, 3, mask, 1, 0) == 2 && kept[1] == 7);
  */
 /* Written by tools/write-lists from tools/families/filter.txt. */
-size_t vb_filter_u8(uint8_t *out, size_t room, const uint8_t *values, size_t count,
-        const uint8_t *mask, size_t mask_size, size_t mask_offset);
-VB_CHECKED bool vb_try_filter_u8(uint8_t *out, size_t room, const uint8_t *values, size_t count,
-        const uint8_t *mask, size_t mask_size, size_t mask_offset, size_t *written);
-size_t vb_filter_u16(uint16_t *out, size_t room, const uint16_t *values, size_t count,
-        const uint8_t *mask, size_t mask_size, size_t mask_offset);
-VB_CHECKED bool vb_try_filter_u16(uint16_t *out, size_t room, const uint16_t *values, size_t count,
-        const uint8_t *mask, size_t mask_size, size_t mask_offset, size_t *written);
-size_t vb_filter_u32(uint32_t *out, size_t room, const uint32_t *values, size_t count,
-        const uint8_t *mask, size_t mask_size, size_t mask_offset);
-VB_CHECKED bool vb_try_filter_u32(uint32_t *out, size_t room, const uint32_t *values, size_t count,
-        const uint8_t *mask, size_t mask_size, size_t mask_offset, size_t *written);
-size_t vb_filter_u64(uint64_t *out, size_t room, const uint64_t *values, size_t count,
-        const uint8_t *mask, size_t mask_size, size_t mask_offset);
-VB_CHECKED bool vb_try_filter_u64(uint64_t *out, size_t room, const uint64_t *values, size_t count,
-        const uint8_t *mask, size_t mask_size, size_t mask_offset, size_t *written);
-size_t vb_filter_u128(vb_u128 *out, size_t room, const vb_u128 *values, size_t count,
-        const uint8_t *mask, size_t mask_size, size_t mask_offset);
-VB_CHECKED bool vb_try_filter_u128(vb_u128 *out, size_t room, const vb_u128 *values, size_t count,
-        const uint8_t *mask, size_t mask_size, size_t mask_offset, size_t *written);
+size_t vb_filter_values_u8(uint8_t *out, size_t out_count, const uint8_t *values,
+        size_t values_count, const uint8_t *mask, size_t mask_size, size_t mask_offset);
+VB_CHECKED bool vb_try_filter_values_u8(uint8_t *out, size_t out_count, const uint8_t *values,
+        size_t values_count, const uint8_t *mask, size_t mask_size, size_t mask_offset,
+        size_t *written);
+size_t vb_filter_values_u16(uint16_t *out, size_t out_count, const uint16_t *values,
+        size_t values_count, const uint8_t *mask, size_t mask_size, size_t mask_offset);
+VB_CHECKED bool vb_try_filter_values_u16(uint16_t *out, size_t out_count, const uint16_t *values,
+        size_t values_count, const uint8_t *mask, size_t mask_size, size_t mask_offset,
+        size_t *written);
+size_t vb_filter_values_u32(uint32_t *out, size_t out_count, const uint32_t *values,
+        size_t values_count, const uint8_t *mask, size_t mask_size, size_t mask_offset);
+VB_CHECKED bool vb_try_filter_values_u32(uint32_t *out, size_t out_count, const uint32_t *values,
+        size_t values_count, const uint8_t *mask, size_t mask_size, size_t mask_offset,
+        size_t *written);
+size_t vb_filter_values_u64(uint64_t *out, size_t out_count, const uint64_t *values,
+        size_t values_count, const uint8_t *mask, size_t mask_size, size_t mask_offset);
+VB_CHECKED bool vb_try_filter_values_u64(uint64_t *out, size_t out_count, const uint64_t *values,
+        size_t values_count, const uint8_t *mask, size_t mask_size, size_t mask_offset,
+        size_t *written);
+size_t vb_filter_values_u128(vb_u128 *out, size_t out_count, const vb_u128 *values,
+        size_t values_count, const uint8_t *mask, size_t mask_size, size_t mask_offset);
+VB_CHECKED bool vb_try_filter_values_u128(vb_u128 *out, size_t out_count, const vb_u128 *values,
+        size_t values_count, const uint8_t *mask, size_t mask_size, size_t mask_offset,
+        size_t *written);
 /* To here. */
 
 /*
@@ -64,153 +69,153 @@ VB_CHECKED bool vb_try_filter_u128(vb_u128 *out, size_t room, const vb_u128 *val
  *     assert(vb_filter_values(kept, 3, prices, 4, sizeof *prices, mask, 1, 0) == 3);
  *     assert(kept[2] == 3.5);
  */
-size_t vb_filter_values(void *out, size_t room, const void *values, size_t count,
+size_t vb_filter_values(void *out, size_t out_count, const void *values, size_t values_count,
         size_t value_size, const uint8_t *mask, size_t mask_size, size_t mask_offset);
-VB_CHECKED bool vb_try_filter_values(void *out, size_t room, const void *values, size_t count,
-        size_t value_size, const uint8_t *mask, size_t mask_size, size_t mask_offset,
-        size_t *written);
+VB_CHECKED bool vb_try_filter_values(void *out, size_t out_count, const void *values,
+        size_t values_count, size_t value_size, const uint8_t *mask, size_t mask_size,
+        size_t mask_offset, size_t *written);
 
 /*
- * Writes the values at `index_count` indices to the front of `out`, one each, and answers no place;
- * or answers the first position that counts and whose index is not below `count`. `room` is how
- * many values `out` has room for, at least as many as indices. Where `all_valid` is true, each
- * position counts, and the validity may be null, of no bytes; else a position counts if the bit of
- * `validity` from bit `validity_offset` on is true there: at the others 0 is written, and their
- * indices are not looked at. The items of `out` behind those of the indices stay; where a position
- * is answered, the ones in front hold anything. The checked forms answer that in `past`.
+ * Writes the values at the indices to the front of `out`, one each; or answers the first position
+ * that counts and whose index is out of range, not below `values_count`. The checked forms answer
+ * that in `taken`. `out_count` is how many values `out` has room for, at least as many as indices.
+ * Where `all_valid` is true, each position counts, and the validity may be null, of no bytes; else a
+ * position counts if the bit of `validity` from bit `validity_offset` on is true there: at the
+ * others 0 is written, and their indices are not looked at. The items of `out` behind those of the
+ * indices stay; where a position is answered, the ones in front hold anything.
  *
  * vb_take_values_u64_u32 takes values of 64 bits at indices of 32. Values of another type of the
- * size go by casts, or by vb_take_values. So do signed indices, where `count` is at most what they
- * can name: a negative one is then read as one that names nothing. Pass a smaller `count` where
+ * size go by casts, or by vb_take_values. So do signed indices, where `values_count` is at most what
+ * they can name: a negative one is then read as one that names nothing. Pass a smaller number where
  * there are more values, as of 2^31 for int32_t.
  *
- *     uint64_t taken[2];
+ *     uint64_t out[2];
  *     const uint64_t values[] = {5, 6, 7};
  *     const uint32_t indices[] = {2, 0};
- *     vb_place past = vb_take_values_u64_u32(taken, 2, values, 3, indices, 2, true, NULL, 0, 0);
- *     assert(!past.found && taken[0] == 7 && taken[1] == 5);
+ *     vb_taken taken = vb_take_values_u64_u32(out, 2, values, 3, indices, 2, true, NULL, 0, 0);
+ *     assert(!taken.out_of_range && out[0] == 7 && out[1] == 5);
  */
 /* Written by tools/write-lists from tools/families/take_values.txt. */
-VB_CHECKED vb_place vb_take_values_u8_u8(uint8_t *out, size_t room, const uint8_t *values,
-        size_t count, const uint8_t *indices, size_t index_count, bool all_valid,
+VB_CHECKED vb_taken vb_take_values_u8_u8(uint8_t *out, size_t out_count, const uint8_t *values,
+        size_t values_count, const uint8_t *indices, size_t indices_count, bool all_valid,
         const uint8_t *validity, size_t validity_size, size_t validity_offset);
-VB_CHECKED bool vb_try_take_values_u8_u8(uint8_t *out, size_t room, const uint8_t *values,
-        size_t count, const uint8_t *indices, size_t index_count, bool all_valid,
-        const uint8_t *validity, size_t validity_size, size_t validity_offset, vb_place *past);
-VB_CHECKED vb_place vb_take_values_u16_u8(uint16_t *out, size_t room, const uint16_t *values,
-        size_t count, const uint8_t *indices, size_t index_count, bool all_valid,
+VB_CHECKED bool vb_try_take_values_u8_u8(uint8_t *out, size_t out_count, const uint8_t *values,
+        size_t values_count, const uint8_t *indices, size_t indices_count, bool all_valid,
+        const uint8_t *validity, size_t validity_size, size_t validity_offset, vb_taken *taken);
+VB_CHECKED vb_taken vb_take_values_u16_u8(uint16_t *out, size_t out_count, const uint16_t *values,
+        size_t values_count, const uint8_t *indices, size_t indices_count, bool all_valid,
         const uint8_t *validity, size_t validity_size, size_t validity_offset);
-VB_CHECKED bool vb_try_take_values_u16_u8(uint16_t *out, size_t room, const uint16_t *values,
-        size_t count, const uint8_t *indices, size_t index_count, bool all_valid,
-        const uint8_t *validity, size_t validity_size, size_t validity_offset, vb_place *past);
-VB_CHECKED vb_place vb_take_values_u32_u8(uint32_t *out, size_t room, const uint32_t *values,
-        size_t count, const uint8_t *indices, size_t index_count, bool all_valid,
+VB_CHECKED bool vb_try_take_values_u16_u8(uint16_t *out, size_t out_count, const uint16_t *values,
+        size_t values_count, const uint8_t *indices, size_t indices_count, bool all_valid,
+        const uint8_t *validity, size_t validity_size, size_t validity_offset, vb_taken *taken);
+VB_CHECKED vb_taken vb_take_values_u32_u8(uint32_t *out, size_t out_count, const uint32_t *values,
+        size_t values_count, const uint8_t *indices, size_t indices_count, bool all_valid,
         const uint8_t *validity, size_t validity_size, size_t validity_offset);
-VB_CHECKED bool vb_try_take_values_u32_u8(uint32_t *out, size_t room, const uint32_t *values,
-        size_t count, const uint8_t *indices, size_t index_count, bool all_valid,
-        const uint8_t *validity, size_t validity_size, size_t validity_offset, vb_place *past);
-VB_CHECKED vb_place vb_take_values_u64_u8(uint64_t *out, size_t room, const uint64_t *values,
-        size_t count, const uint8_t *indices, size_t index_count, bool all_valid,
+VB_CHECKED bool vb_try_take_values_u32_u8(uint32_t *out, size_t out_count, const uint32_t *values,
+        size_t values_count, const uint8_t *indices, size_t indices_count, bool all_valid,
+        const uint8_t *validity, size_t validity_size, size_t validity_offset, vb_taken *taken);
+VB_CHECKED vb_taken vb_take_values_u64_u8(uint64_t *out, size_t out_count, const uint64_t *values,
+        size_t values_count, const uint8_t *indices, size_t indices_count, bool all_valid,
         const uint8_t *validity, size_t validity_size, size_t validity_offset);
-VB_CHECKED bool vb_try_take_values_u64_u8(uint64_t *out, size_t room, const uint64_t *values,
-        size_t count, const uint8_t *indices, size_t index_count, bool all_valid,
-        const uint8_t *validity, size_t validity_size, size_t validity_offset, vb_place *past);
-VB_CHECKED vb_place vb_take_values_u128_u8(vb_u128 *out, size_t room, const vb_u128 *values,
-        size_t count, const uint8_t *indices, size_t index_count, bool all_valid,
+VB_CHECKED bool vb_try_take_values_u64_u8(uint64_t *out, size_t out_count, const uint64_t *values,
+        size_t values_count, const uint8_t *indices, size_t indices_count, bool all_valid,
+        const uint8_t *validity, size_t validity_size, size_t validity_offset, vb_taken *taken);
+VB_CHECKED vb_taken vb_take_values_u128_u8(vb_u128 *out, size_t out_count, const vb_u128 *values,
+        size_t values_count, const uint8_t *indices, size_t indices_count, bool all_valid,
         const uint8_t *validity, size_t validity_size, size_t validity_offset);
-VB_CHECKED bool vb_try_take_values_u128_u8(vb_u128 *out, size_t room, const vb_u128 *values,
-        size_t count, const uint8_t *indices, size_t index_count, bool all_valid,
-        const uint8_t *validity, size_t validity_size, size_t validity_offset, vb_place *past);
-VB_CHECKED vb_place vb_take_values_u8_u16(uint8_t *out, size_t room, const uint8_t *values,
-        size_t count, const uint16_t *indices, size_t index_count, bool all_valid,
+VB_CHECKED bool vb_try_take_values_u128_u8(vb_u128 *out, size_t out_count, const vb_u128 *values,
+        size_t values_count, const uint8_t *indices, size_t indices_count, bool all_valid,
+        const uint8_t *validity, size_t validity_size, size_t validity_offset, vb_taken *taken);
+VB_CHECKED vb_taken vb_take_values_u8_u16(uint8_t *out, size_t out_count, const uint8_t *values,
+        size_t values_count, const uint16_t *indices, size_t indices_count, bool all_valid,
         const uint8_t *validity, size_t validity_size, size_t validity_offset);
-VB_CHECKED bool vb_try_take_values_u8_u16(uint8_t *out, size_t room, const uint8_t *values,
-        size_t count, const uint16_t *indices, size_t index_count, bool all_valid,
-        const uint8_t *validity, size_t validity_size, size_t validity_offset, vb_place *past);
-VB_CHECKED vb_place vb_take_values_u16_u16(uint16_t *out, size_t room, const uint16_t *values,
-        size_t count, const uint16_t *indices, size_t index_count, bool all_valid,
+VB_CHECKED bool vb_try_take_values_u8_u16(uint8_t *out, size_t out_count, const uint8_t *values,
+        size_t values_count, const uint16_t *indices, size_t indices_count, bool all_valid,
+        const uint8_t *validity, size_t validity_size, size_t validity_offset, vb_taken *taken);
+VB_CHECKED vb_taken vb_take_values_u16_u16(uint16_t *out, size_t out_count, const uint16_t *values,
+        size_t values_count, const uint16_t *indices, size_t indices_count, bool all_valid,
         const uint8_t *validity, size_t validity_size, size_t validity_offset);
-VB_CHECKED bool vb_try_take_values_u16_u16(uint16_t *out, size_t room, const uint16_t *values,
-        size_t count, const uint16_t *indices, size_t index_count, bool all_valid,
-        const uint8_t *validity, size_t validity_size, size_t validity_offset, vb_place *past);
-VB_CHECKED vb_place vb_take_values_u32_u16(uint32_t *out, size_t room, const uint32_t *values,
-        size_t count, const uint16_t *indices, size_t index_count, bool all_valid,
+VB_CHECKED bool vb_try_take_values_u16_u16(uint16_t *out, size_t out_count, const uint16_t *values,
+        size_t values_count, const uint16_t *indices, size_t indices_count, bool all_valid,
+        const uint8_t *validity, size_t validity_size, size_t validity_offset, vb_taken *taken);
+VB_CHECKED vb_taken vb_take_values_u32_u16(uint32_t *out, size_t out_count, const uint32_t *values,
+        size_t values_count, const uint16_t *indices, size_t indices_count, bool all_valid,
         const uint8_t *validity, size_t validity_size, size_t validity_offset);
-VB_CHECKED bool vb_try_take_values_u32_u16(uint32_t *out, size_t room, const uint32_t *values,
-        size_t count, const uint16_t *indices, size_t index_count, bool all_valid,
-        const uint8_t *validity, size_t validity_size, size_t validity_offset, vb_place *past);
-VB_CHECKED vb_place vb_take_values_u64_u16(uint64_t *out, size_t room, const uint64_t *values,
-        size_t count, const uint16_t *indices, size_t index_count, bool all_valid,
+VB_CHECKED bool vb_try_take_values_u32_u16(uint32_t *out, size_t out_count, const uint32_t *values,
+        size_t values_count, const uint16_t *indices, size_t indices_count, bool all_valid,
+        const uint8_t *validity, size_t validity_size, size_t validity_offset, vb_taken *taken);
+VB_CHECKED vb_taken vb_take_values_u64_u16(uint64_t *out, size_t out_count, const uint64_t *values,
+        size_t values_count, const uint16_t *indices, size_t indices_count, bool all_valid,
         const uint8_t *validity, size_t validity_size, size_t validity_offset);
-VB_CHECKED bool vb_try_take_values_u64_u16(uint64_t *out, size_t room, const uint64_t *values,
-        size_t count, const uint16_t *indices, size_t index_count, bool all_valid,
-        const uint8_t *validity, size_t validity_size, size_t validity_offset, vb_place *past);
-VB_CHECKED vb_place vb_take_values_u128_u16(vb_u128 *out, size_t room, const vb_u128 *values,
-        size_t count, const uint16_t *indices, size_t index_count, bool all_valid,
+VB_CHECKED bool vb_try_take_values_u64_u16(uint64_t *out, size_t out_count, const uint64_t *values,
+        size_t values_count, const uint16_t *indices, size_t indices_count, bool all_valid,
+        const uint8_t *validity, size_t validity_size, size_t validity_offset, vb_taken *taken);
+VB_CHECKED vb_taken vb_take_values_u128_u16(vb_u128 *out, size_t out_count, const vb_u128 *values,
+        size_t values_count, const uint16_t *indices, size_t indices_count, bool all_valid,
         const uint8_t *validity, size_t validity_size, size_t validity_offset);
-VB_CHECKED bool vb_try_take_values_u128_u16(vb_u128 *out, size_t room, const vb_u128 *values,
-        size_t count, const uint16_t *indices, size_t index_count, bool all_valid,
-        const uint8_t *validity, size_t validity_size, size_t validity_offset, vb_place *past);
-VB_CHECKED vb_place vb_take_values_u8_u32(uint8_t *out, size_t room, const uint8_t *values,
-        size_t count, const uint32_t *indices, size_t index_count, bool all_valid,
+VB_CHECKED bool vb_try_take_values_u128_u16(vb_u128 *out, size_t out_count, const vb_u128 *values,
+        size_t values_count, const uint16_t *indices, size_t indices_count, bool all_valid,
+        const uint8_t *validity, size_t validity_size, size_t validity_offset, vb_taken *taken);
+VB_CHECKED vb_taken vb_take_values_u8_u32(uint8_t *out, size_t out_count, const uint8_t *values,
+        size_t values_count, const uint32_t *indices, size_t indices_count, bool all_valid,
         const uint8_t *validity, size_t validity_size, size_t validity_offset);
-VB_CHECKED bool vb_try_take_values_u8_u32(uint8_t *out, size_t room, const uint8_t *values,
-        size_t count, const uint32_t *indices, size_t index_count, bool all_valid,
-        const uint8_t *validity, size_t validity_size, size_t validity_offset, vb_place *past);
-VB_CHECKED vb_place vb_take_values_u16_u32(uint16_t *out, size_t room, const uint16_t *values,
-        size_t count, const uint32_t *indices, size_t index_count, bool all_valid,
+VB_CHECKED bool vb_try_take_values_u8_u32(uint8_t *out, size_t out_count, const uint8_t *values,
+        size_t values_count, const uint32_t *indices, size_t indices_count, bool all_valid,
+        const uint8_t *validity, size_t validity_size, size_t validity_offset, vb_taken *taken);
+VB_CHECKED vb_taken vb_take_values_u16_u32(uint16_t *out, size_t out_count, const uint16_t *values,
+        size_t values_count, const uint32_t *indices, size_t indices_count, bool all_valid,
         const uint8_t *validity, size_t validity_size, size_t validity_offset);
-VB_CHECKED bool vb_try_take_values_u16_u32(uint16_t *out, size_t room, const uint16_t *values,
-        size_t count, const uint32_t *indices, size_t index_count, bool all_valid,
-        const uint8_t *validity, size_t validity_size, size_t validity_offset, vb_place *past);
-VB_CHECKED vb_place vb_take_values_u32_u32(uint32_t *out, size_t room, const uint32_t *values,
-        size_t count, const uint32_t *indices, size_t index_count, bool all_valid,
+VB_CHECKED bool vb_try_take_values_u16_u32(uint16_t *out, size_t out_count, const uint16_t *values,
+        size_t values_count, const uint32_t *indices, size_t indices_count, bool all_valid,
+        const uint8_t *validity, size_t validity_size, size_t validity_offset, vb_taken *taken);
+VB_CHECKED vb_taken vb_take_values_u32_u32(uint32_t *out, size_t out_count, const uint32_t *values,
+        size_t values_count, const uint32_t *indices, size_t indices_count, bool all_valid,
         const uint8_t *validity, size_t validity_size, size_t validity_offset);
-VB_CHECKED bool vb_try_take_values_u32_u32(uint32_t *out, size_t room, const uint32_t *values,
-        size_t count, const uint32_t *indices, size_t index_count, bool all_valid,
-        const uint8_t *validity, size_t validity_size, size_t validity_offset, vb_place *past);
-VB_CHECKED vb_place vb_take_values_u64_u32(uint64_t *out, size_t room, const uint64_t *values,
-        size_t count, const uint32_t *indices, size_t index_count, bool all_valid,
+VB_CHECKED bool vb_try_take_values_u32_u32(uint32_t *out, size_t out_count, const uint32_t *values,
+        size_t values_count, const uint32_t *indices, size_t indices_count, bool all_valid,
+        const uint8_t *validity, size_t validity_size, size_t validity_offset, vb_taken *taken);
+VB_CHECKED vb_taken vb_take_values_u64_u32(uint64_t *out, size_t out_count, const uint64_t *values,
+        size_t values_count, const uint32_t *indices, size_t indices_count, bool all_valid,
         const uint8_t *validity, size_t validity_size, size_t validity_offset);
-VB_CHECKED bool vb_try_take_values_u64_u32(uint64_t *out, size_t room, const uint64_t *values,
-        size_t count, const uint32_t *indices, size_t index_count, bool all_valid,
-        const uint8_t *validity, size_t validity_size, size_t validity_offset, vb_place *past);
-VB_CHECKED vb_place vb_take_values_u128_u32(vb_u128 *out, size_t room, const vb_u128 *values,
-        size_t count, const uint32_t *indices, size_t index_count, bool all_valid,
+VB_CHECKED bool vb_try_take_values_u64_u32(uint64_t *out, size_t out_count, const uint64_t *values,
+        size_t values_count, const uint32_t *indices, size_t indices_count, bool all_valid,
+        const uint8_t *validity, size_t validity_size, size_t validity_offset, vb_taken *taken);
+VB_CHECKED vb_taken vb_take_values_u128_u32(vb_u128 *out, size_t out_count, const vb_u128 *values,
+        size_t values_count, const uint32_t *indices, size_t indices_count, bool all_valid,
         const uint8_t *validity, size_t validity_size, size_t validity_offset);
-VB_CHECKED bool vb_try_take_values_u128_u32(vb_u128 *out, size_t room, const vb_u128 *values,
-        size_t count, const uint32_t *indices, size_t index_count, bool all_valid,
-        const uint8_t *validity, size_t validity_size, size_t validity_offset, vb_place *past);
-VB_CHECKED vb_place vb_take_values_u8_u64(uint8_t *out, size_t room, const uint8_t *values,
-        size_t count, const uint64_t *indices, size_t index_count, bool all_valid,
+VB_CHECKED bool vb_try_take_values_u128_u32(vb_u128 *out, size_t out_count, const vb_u128 *values,
+        size_t values_count, const uint32_t *indices, size_t indices_count, bool all_valid,
+        const uint8_t *validity, size_t validity_size, size_t validity_offset, vb_taken *taken);
+VB_CHECKED vb_taken vb_take_values_u8_u64(uint8_t *out, size_t out_count, const uint8_t *values,
+        size_t values_count, const uint64_t *indices, size_t indices_count, bool all_valid,
         const uint8_t *validity, size_t validity_size, size_t validity_offset);
-VB_CHECKED bool vb_try_take_values_u8_u64(uint8_t *out, size_t room, const uint8_t *values,
-        size_t count, const uint64_t *indices, size_t index_count, bool all_valid,
-        const uint8_t *validity, size_t validity_size, size_t validity_offset, vb_place *past);
-VB_CHECKED vb_place vb_take_values_u16_u64(uint16_t *out, size_t room, const uint16_t *values,
-        size_t count, const uint64_t *indices, size_t index_count, bool all_valid,
+VB_CHECKED bool vb_try_take_values_u8_u64(uint8_t *out, size_t out_count, const uint8_t *values,
+        size_t values_count, const uint64_t *indices, size_t indices_count, bool all_valid,
+        const uint8_t *validity, size_t validity_size, size_t validity_offset, vb_taken *taken);
+VB_CHECKED vb_taken vb_take_values_u16_u64(uint16_t *out, size_t out_count, const uint16_t *values,
+        size_t values_count, const uint64_t *indices, size_t indices_count, bool all_valid,
         const uint8_t *validity, size_t validity_size, size_t validity_offset);
-VB_CHECKED bool vb_try_take_values_u16_u64(uint16_t *out, size_t room, const uint16_t *values,
-        size_t count, const uint64_t *indices, size_t index_count, bool all_valid,
-        const uint8_t *validity, size_t validity_size, size_t validity_offset, vb_place *past);
-VB_CHECKED vb_place vb_take_values_u32_u64(uint32_t *out, size_t room, const uint32_t *values,
-        size_t count, const uint64_t *indices, size_t index_count, bool all_valid,
+VB_CHECKED bool vb_try_take_values_u16_u64(uint16_t *out, size_t out_count, const uint16_t *values,
+        size_t values_count, const uint64_t *indices, size_t indices_count, bool all_valid,
+        const uint8_t *validity, size_t validity_size, size_t validity_offset, vb_taken *taken);
+VB_CHECKED vb_taken vb_take_values_u32_u64(uint32_t *out, size_t out_count, const uint32_t *values,
+        size_t values_count, const uint64_t *indices, size_t indices_count, bool all_valid,
         const uint8_t *validity, size_t validity_size, size_t validity_offset);
-VB_CHECKED bool vb_try_take_values_u32_u64(uint32_t *out, size_t room, const uint32_t *values,
-        size_t count, const uint64_t *indices, size_t index_count, bool all_valid,
-        const uint8_t *validity, size_t validity_size, size_t validity_offset, vb_place *past);
-VB_CHECKED vb_place vb_take_values_u64_u64(uint64_t *out, size_t room, const uint64_t *values,
-        size_t count, const uint64_t *indices, size_t index_count, bool all_valid,
+VB_CHECKED bool vb_try_take_values_u32_u64(uint32_t *out, size_t out_count, const uint32_t *values,
+        size_t values_count, const uint64_t *indices, size_t indices_count, bool all_valid,
+        const uint8_t *validity, size_t validity_size, size_t validity_offset, vb_taken *taken);
+VB_CHECKED vb_taken vb_take_values_u64_u64(uint64_t *out, size_t out_count, const uint64_t *values,
+        size_t values_count, const uint64_t *indices, size_t indices_count, bool all_valid,
         const uint8_t *validity, size_t validity_size, size_t validity_offset);
-VB_CHECKED bool vb_try_take_values_u64_u64(uint64_t *out, size_t room, const uint64_t *values,
-        size_t count, const uint64_t *indices, size_t index_count, bool all_valid,
-        const uint8_t *validity, size_t validity_size, size_t validity_offset, vb_place *past);
-VB_CHECKED vb_place vb_take_values_u128_u64(vb_u128 *out, size_t room, const vb_u128 *values,
-        size_t count, const uint64_t *indices, size_t index_count, bool all_valid,
+VB_CHECKED bool vb_try_take_values_u64_u64(uint64_t *out, size_t out_count, const uint64_t *values,
+        size_t values_count, const uint64_t *indices, size_t indices_count, bool all_valid,
+        const uint8_t *validity, size_t validity_size, size_t validity_offset, vb_taken *taken);
+VB_CHECKED vb_taken vb_take_values_u128_u64(vb_u128 *out, size_t out_count, const vb_u128 *values,
+        size_t values_count, const uint64_t *indices, size_t indices_count, bool all_valid,
         const uint8_t *validity, size_t validity_size, size_t validity_offset);
-VB_CHECKED bool vb_try_take_values_u128_u64(vb_u128 *out, size_t room, const vb_u128 *values,
-        size_t count, const uint64_t *indices, size_t index_count, bool all_valid,
-        const uint8_t *validity, size_t validity_size, size_t validity_offset, vb_place *past);
+VB_CHECKED bool vb_try_take_values_u128_u64(vb_u128 *out, size_t out_count, const vb_u128 *values,
+        size_t values_count, const uint64_t *indices, size_t indices_count, bool all_valid,
+        const uint8_t *validity, size_t validity_size, size_t validity_offset, vb_taken *taken);
 /* To here. */
 
 /*
@@ -221,18 +226,19 @@ VB_CHECKED bool vb_try_take_values_u128_u64(vb_u128 *out, size_t room, const vb_
  *
  *     const float prices[] = {0.5f, 1.5f, 2.5f};
  *     const int32_t rows[] = {2, 0};
- *     float taken[2];
- *     vb_place past = vb_take_values(taken, 2, prices, 3, sizeof *prices, rows, 2, sizeof *rows,
- *         true, NULL, 0, 0);
- *     assert(!past.found && taken[0] == 2.5f);
+ *     float out[2];
+ *     vb_taken taken = vb_take_values(out, 2, prices, 3, sizeof *prices, rows, 2, sizeof *rows, true,
+ *         NULL, 0, 0);
+ *     assert(!taken.out_of_range && out[0] == 2.5f);
  */
-VB_CHECKED vb_place vb_take_values(void *out, size_t room, const void *values, size_t count,
-        size_t value_size, const void *indices, size_t index_count, size_t index_size,
-        bool all_valid, const uint8_t *validity, size_t validity_size, size_t validity_offset);
-VB_CHECKED bool vb_try_take_values(void *out, size_t room, const void *values, size_t count,
-        size_t value_size, const void *indices, size_t index_count, size_t index_size,
-        bool all_valid, const uint8_t *validity, size_t validity_size, size_t validity_offset,
-        vb_place *past);
+VB_CHECKED vb_taken vb_take_values(void *out, size_t out_count, const void *values,
+        size_t values_count, size_t value_size, const void *indices, size_t indices_count,
+        size_t index_size, bool all_valid, const uint8_t *validity, size_t validity_size,
+        size_t validity_offset);
+VB_CHECKED bool vb_try_take_values(void *out, size_t out_count, const void *values,
+        size_t values_count, size_t value_size, const void *indices, size_t indices_count,
+        size_t index_size, bool all_valid, const uint8_t *validity, size_t validity_size,
+        size_t validity_offset, vb_taken *taken);
 
 #ifdef __cplusplus
 }

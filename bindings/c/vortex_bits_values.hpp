@@ -72,7 +72,7 @@ template <class Values, class Indices, class Out>
         using laid = typename detail::laid<sizeof(value)>::type;
         using as = typename detail::laid<sizeof(index)>::type;
         const bits counts = valid.value_or(bits());
-        return detail::place(detail::taken_by<sizeof(value), sizeof(index)>::take(
+        return detail::position(detail::taken_by<sizeof(value), sizeof(index)>::take(
             reinterpret_cast<laid *>(out.data()), out.size(),
             reinterpret_cast<const laid *>(values.data()), detail::reached<index>(values.size()),
             reinterpret_cast<const as *>(indices.data()), indices.size(), !valid, counts.bytes_,

@@ -11,11 +11,8 @@ EXPORT = re.compile(r"^pub use [\w:]+?::(?:\{([^}]*)\}|(\w+));", re.MULTILINE)
 OF_C = re.compile(r"crates/vb_c(_\w+)?/src/")
 # What the C library says of itself, which no function of the crate does.
 OF_THE_LIBRARY = {"vb_level", "vb_has_level"}
-# What the Rust crate does without a call, and where it has one that writes at an offset too.
-NOT_CALLED = {
-    "vb_get_bit", "vb_pack_bools", "vb_pack_truthy", "vb_take_u32", "vb_take_u64",
-    "vb_take_valid_u32", "vb_take_valid_u64", "vb_filter_bits",
-}
+# What the Rust crate does without a call.
+NOT_CALLED = {"vb_get_bit", "vb_pack_bools_padded", "vb_pack_truthy_padded"}
 # The C functions that the library makes of several of a crate.
 MADE = re.compile(r"^\w+ (vb_\w+)\(", re.MULTILINE)
 

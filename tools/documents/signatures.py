@@ -8,12 +8,9 @@ from dataclasses import dataclass
 from families.types import FLOATS, SIGNED, UNSIGNED
 
 OF_NUMBERS = {it.c: it.crossing for it in [*UNSIGNED, *SIGNED, *FLOATS] if it.c}
-TYPES = OF_NUMBERS | {"vb_place": "Place", "vb_run": "Run", "void": "()"}
-# What the number of items behind a pointer is called, beside NAME_size: of those that are read, and
-# of those that are written.
-SIZES = {"*const": {"count", "index_count", "entries"}, "*mut": {"room"}}
+TYPES = OF_NUMBERS | {"vb_place": "Place", "vb_taken": "Taken", "vb_run": "Run", "void": "()"}
 # What the crate calls by a letter that isn't the first one of the window before it.
-LETTERS = {"i": "place", "v": "value"}
+LETTERS = {"v": "value"}
 
 OF_CRATE = re.compile(r'^pub extern "C" fn (\w+)\(([^)]*)\)(?: -> (\w+))?', re.MULTILINE)
 OF_HEADER = re.compile(r"^(?:VB_CHECKED )?(\w+) (vb_\w+)\((\w[^)]* \*?\w+)\);", re.MULTILINE)
@@ -49,8 +46,9 @@ def parts(text: str) -> list[str]:
 def of_slice(name: str, kind: str) -> list[Parameter]:
     """A slice, as its pointer and its number of items."""
     pointer, item = ("*mut", kind[6:-1]) if kind.startswith("&mut") else ("*const", kind[2:-1])
-    size = "size" if name == "bytes" else f"{name}_size"
-    return [named(f"{pointer} {item}", name), named("usize", size, *SIZES[pointer])]
+    # Bytes may be a window of bits, or values of a byte each.
+    of_bytes = {"size" if name == "bytes" else f"{name}_size"} if item == "u8" else set()
+    return [named(f"{pointer} {item}", name), named("usize", f"{name}_count", *of_bytes)]
 
 
 def of_crate(text: str) -> dict[str, Signature]:

@@ -36,17 +36,17 @@ class Signatures(unittest.TestCase):
 
     def test_two_swapped_numbers_are_found(self):
         swaps = [
-            (CRATE, "vb_fill_bits(bytes: &mut [u8], start: usize, end: usize,",
-             "vb_fill_bits(bytes: &mut [u8], end: usize, start: usize,"),
-            (HEADER, "void vb_fill_bits(uint8_t *bytes, size_t size, size_t start, size_t end,",
-             "void vb_fill_bits(uint8_t *bytes, size_t size, size_t end, size_t start,"),
-            (TABLE, "fill_bits(bytes: *mut u8, size: usize, start: usize, end: usize,",
-             "fill_bits(bytes: *mut u8, size: usize, end: usize, start: usize,"),
+            (CRATE, "fn vb_fill_bits(bytes: &mut [u8], offset: usize, len: usize,",
+             "fn vb_fill_bits(bytes: &mut [u8], len: usize, offset: usize,"),
+            (HEADER, "void vb_fill_bits(uint8_t *bytes, size_t size, size_t offset, size_t len,",
+             "void vb_fill_bits(uint8_t *bytes, size_t size, size_t len, size_t offset,"),
+            (TABLE, "fill_bits(bytes: *mut u8, size: usize, offset: usize, len: usize,",
+             "fill_bits(bytes: *mut u8, size: usize, len: usize, offset: usize,"),
         ]
         for swap in swaps:
             found = self.found(*swap)
             self.assertIn("`vb_fill_bits`: parameter 3 is `", found[0])
-            self.assertTrue({"start: usize", "end: usize"} <= set(found[0].split("`")))
+            self.assertTrue({"offset: usize", "len: usize"} <= set(found[0].split("`")))
 
     def test_a_size_in_the_place_of_an_offset_is_found(self):
         found = self.found(
@@ -71,14 +71,14 @@ class Signatures(unittest.TestCase):
             ("void vb_negate_bits(uint8_t *bytes, size_t size,",
              "void vb_negate_bits(int8_t *bytes, size_t size,",
              "parameter 1 is `bytes: *mut i8`"),
-            ("bool vb_get_bit(const uint8_t *bytes, size_t size, size_t place);",
-             "size_t vb_get_bit(const uint8_t *bytes, size_t size, size_t place);",
+            ("bool vb_get_bit(const uint8_t *bytes, size_t size, size_t offset);",
+             "size_t vb_get_bit(const uint8_t *bytes, size_t size, size_t offset);",
              "it answers `usize` in place of `bool`"),
-            ("bool vb_get_bit(const uint8_t *bytes, size_t size, size_t place);",
+            ("bool vb_get_bit(const uint8_t *bytes, size_t size, size_t offset);",
              "bool vb_get_bit(const uint8_t *bytes, size_t size);",
              "it has 2 parameters in place of 3"),
-            ("bool vb_get_bit(const uint8_t *bytes, size_t size, size_t place);",
-             "bool vb_get_bit(uint8_t *bytes, size_t size, size_t place);",
+            ("bool vb_get_bit(const uint8_t *bytes, size_t size, size_t offset);",
+             "bool vb_get_bit(uint8_t *bytes, size_t size, size_t offset);",
              "parameter 1 is `bytes: *mut u8` in place of `bytes: *const u8`"),
         ]
         for old, new, wanted in edits:

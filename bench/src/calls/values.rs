@@ -13,9 +13,9 @@ macro_rules! filters {
         unsafe extern "C" {
             $(pub fn $name(
                 out: *mut $value,
-                room: usize,
+                out_count: usize,
                 values: *const $value,
-                many: usize,
+                values_count: usize,
                 mask: Bytes,
                 mask_size: usize,
                 m: usize,
@@ -25,10 +25,10 @@ macro_rules! filters {
 }
 
 filters! {
-    vb_filter_u8: u8;
-    vb_filter_u16: u16;
-    vb_filter_u32: u32;
-    vb_filter_u64: u64;
+    vb_filter_values_u8: u8;
+    vb_filter_values_u16: u16;
+    vb_filter_values_u32: u32;
+    vb_filter_values_u64: u64;
 }
 
 /// A comparison of values with a number.
@@ -43,7 +43,7 @@ macro_rules! compares {
                 out_size: usize,
                 o: usize,
                 values: *const $value,
-                many: usize,
+                values_count: usize,
                 op: u8,
                 number: $value,
             );)*
@@ -71,10 +71,10 @@ macro_rules! compares_with {
                 out_size: usize,
                 o: usize,
                 values: *const $value,
-                many: usize,
+                values_count: usize,
                 op: u8,
                 others: *const $value,
-                others_many: usize,
+                others_count: usize,
             );)*
         }
     };

@@ -83,13 +83,7 @@ fn writes(bench: &mut Bench) {
         let over = RefCell::new(vec![0u8; MILLION / 8 + 1]);
         let ours = move || unsafe {
             let over = &mut *over.borrow_mut();
-            calls::vb_fill_bits(
-                over.as_mut_ptr(),
-                over.len(),
-                offset,
-                offset + MILLION,
-                true,
-            );
+            calls::vb_fill_bits(over.as_mut_ptr(), over.len(), offset, MILLION, true);
             0
         };
         let row = Row::new("`fill_bits`", Contender::of(ours))

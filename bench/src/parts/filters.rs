@@ -18,9 +18,14 @@ pub fn measure(bench: &mut Bench) {
     let values: &Vec<u32> = &(0..MILLION as u32).collect();
     for share in [0.5, 0.1, 0.001, 0.9, 1.0] {
         let mask = &Input::with_set(share, MILLION / 8);
-        let into = into("`filter_elements_into`", values, mask, calls::vb_filter_u32)
-            .plain(plain(values, mask))
-            .beside(MEMCPY, memcpy(values));
+        let into = into(
+            "`filter_elements_into`",
+            values,
+            mask,
+            calls::vb_filter_values_u32,
+        )
+        .plain(plain(values, mask))
+        .beside(MEMCPY, memcpy(values));
         for row in [owned(values, mask), into] {
             let row = row.set(share);
             bench.row(match share {
@@ -112,19 +117,19 @@ fn other_widths(bench: &mut Bench) {
                 "`filter_elements_into` of `u8`",
                 bytes,
                 mask,
-                calls::vb_filter_u8,
+                calls::vb_filter_values_u8,
             ),
             into(
                 "`filter_elements_into` of `u16`",
                 halves,
                 mask,
-                calls::vb_filter_u16,
+                calls::vb_filter_values_u16,
             ),
             into(
                 "`filter_elements_into` of `u64`",
                 wide,
                 mask,
-                calls::vb_filter_u64,
+                calls::vb_filter_values_u64,
             ),
         ] {
             bench.row(row.set(share));
@@ -148,7 +153,7 @@ fn bits<'a>(values: &Input, mask: &'a Input, offset: usize) -> Row<'a> {
         let (out, room) = (out.as_mut_ptr().cast(), 8 * out.len());
         unsafe {
             let (from, mask) = (bytes.as_ptr(), by.as_ptr());
-            calls::vb_filter_bits_at(out, room, offset, from, size, 0, mask, by.len(), 0, MILLION)
+            calls::vb_filter_bits(out, room, offset, from, size, 0, mask, by.len(), 0, MILLION)
         }
     };
     let over = RefCell::new(vec![0u64; MILLION / 64]);

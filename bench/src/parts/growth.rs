@@ -49,7 +49,7 @@ fn selects(bench: &mut Bench, input: &Input) {
         let w = input.bits(3, len);
         let last = on(calls::vb_count_ones, w) - 1;
         let (bytes, size) = (w.bytes.as_ptr(), w.bytes.len());
-        Contender::of(move || unsafe { calls::vb_bit_select(bytes, size, 3, len, last).index() })
+        Contender::of(move || unsafe { calls::vb_select(bytes, size, 3, len, last).index() })
     });
     bench.growth("`==`, offsets 3, 3", BITS, BYTES, |len| {
         let w = input.bits(3, len);
@@ -73,7 +73,7 @@ fn writes(bench: &mut Bench, input: &Input) {
         let over = std::cell::RefCell::new(vec![0u8; len / 8 + 1]);
         Contender::of(move || unsafe {
             let over = &mut *over.borrow_mut();
-            calls::vb_fill_bits(over.as_mut_ptr(), over.len(), 3, 3 + len, true);
+            calls::vb_fill_bits(over.as_mut_ptr(), over.len(), 3, len, true);
             0
         })
     });

@@ -2,7 +2,7 @@
 
 use super::{SIZES, upstream};
 use crate::bench::Bench;
-use crate::calls::{Select, on, vb_bit_select, vb_bit_select_unset, vb_count_ones};
+use crate::calls::{Select, on, vb_count_ones, vb_select, vb_select_unset};
 use crate::input::{Input, Random, Window};
 use crate::loops;
 use crate::measure::Contender;
@@ -95,7 +95,7 @@ fn true_bits<'a>(how: &str, w: Window<'a>, ranks: Vec<usize>) -> Row<'a> {
         let select = move |n| crate::upstream::bit_select(w, n);
         Contender::of_each(ranks.len(), move || sum(&ranks, select))
     });
-    row("`bit_select`", vb_bit_select, how, w, ranks.clone())
+    row("`bit_select`", vb_select, how, w, ranks.clone())
         .upstream(others)
         .plain(Contender::of_each(ranks.len(), move || {
             sum(&ranks, |n| loops::select::<false>(w, n))
@@ -109,17 +109,11 @@ fn false_bits<'a>(how: &str, w: Window<'a>, ranks: Vec<usize>) -> Row<'a> {
             sum(&ranks, |n| crate::upstream::bit_select_unset(&set, n))
         })
     });
-    row(
-        "`bit_select_unset`",
-        vb_bit_select_unset,
-        how,
-        w,
-        ranks.clone(),
-    )
-    .upstream(others)
-    .plain(Contender::of_each(ranks.len(), move || {
-        sum(&ranks, |n| loops::select::<true>(w, n))
-    }))
+    row("`bit_select_unset`", vb_select_unset, how, w, ranks.clone())
+        .upstream(others)
+        .plain(Contender::of_each(ranks.len(), move || {
+            sum(&ranks, |n| loops::select::<true>(w, n))
+        }))
 }
 
 fn row<'a>(call: &str, select: Select, how: &str, w: Window<'a>, ranks: Vec<usize>) -> Row<'a> {

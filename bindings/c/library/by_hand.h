@@ -23,27 +23,25 @@ static size_t bytes_of(size_t end)
     return end / 8 + (end % 8 != 0);
 }
 
-/* Whether the window lies in its bytes: a checked take tests it, and of no index reads none. */
+/* Whether the window lies in its bytes: a checked search tests it, and from its end on reads none. */
 static bool fits(const uint8_t *bytes, size_t size, size_t offset, size_t len)
 {
-    uint8_t *const out = (uint8_t *)&nothing;
-    const uint32_t *const indices = (const uint32_t *)&nothing;
-    vb_place past;
-    return CALL(try_take_u32)(out, 0, ANY(bytes, size), offset, len, indices, 0, &past);
+    vb_place place;
+    return CALL(try_next_set)(ANY(bytes, size), offset, len, len, &place);
 }
 
-size_t vb_set_indices(const uint8_t *bytes, size_t size, size_t offset, size_t len, size_t *out,
-    size_t room)
+size_t vb_set_indices(size_t *out, size_t out_count, const uint8_t *bytes, size_t size,
+    size_t offset, size_t len)
 {
-    if (room >= len) {
-        return CALL(set_indices)(ANY(bytes, size), offset, len, ANY(out, room));
+    if (out_count >= len) {
+        return CALL(set_indices)(ANY(out, out_count), ANY(bytes, size), offset, len);
     }
     size_t written = 0;
-    for (size_t at = 0, n; at < len && written < room; at += n) {
+    for (size_t at = 0, n; at < len && written < out_count; at += n) {
         const size_t start = offset + at;
         n = in_page(bytes, start, len - at);
-        const size_t found = CALL(set_indices)(bytes, bytes_of(start + n), start, n, out + written,
-            room - written);
+        const size_t found = CALL(set_indices)(out + written, out_count - written, bytes,
+            bytes_of(start + n), start, n);
         for (size_t k = 0; at != 0 && k < found; k++) {
             out[written + k] += at;
         }
@@ -52,13 +50,13 @@ size_t vb_set_indices(const uint8_t *bytes, size_t size, size_t offset, size_t l
     return written;
 }
 
-bool vb_try_set_indices(const uint8_t *bytes, size_t size, size_t offset, size_t len, size_t *out,
-    size_t room, size_t *count)
+bool vb_try_set_indices(size_t *out, size_t out_count, const uint8_t *bytes, size_t size,
+    size_t offset, size_t len, size_t *written)
 {
-    if (!MAY_HAVE(out, room) || !MAY_HAVE(bytes, size) || !fits(bytes, size, offset, len)) {
+    if (!MAY_HAVE(out, out_count) || !MAY_HAVE(bytes, size) || !fits(bytes, size, offset, len)) {
         return false;
     }
-    *count = vb_set_indices(bytes, size, offset, len, out, room);
+    *written = vb_set_indices(out, out_count, bytes, size, offset, len);
     return true;
 }
 
@@ -68,7 +66,7 @@ static size_t run_end(const uint8_t *bytes, size_t offset, size_t at, size_t len
     for (size_t n; at < len; at += n) {
         const size_t start = offset + at;
         n = in_page(bytes, start, len - at);
-        const vb_place behind = CALL(bit_select_unset)(bytes, bytes_of(start + n), start, n, 0);
+        const vb_place behind = CALL(select_unset)(bytes, bytes_of(start + n), start, n, 0);
         if (behind.found) {
             return at + behind.index;
         }
@@ -76,18 +74,18 @@ static size_t run_end(const uint8_t *bytes, size_t offset, size_t at, size_t len
     return len;
 }
 
-size_t vb_set_slices(const uint8_t *bytes, size_t size, size_t offset, size_t len, vb_run *out,
-    size_t room)
+size_t vb_set_slices(vb_run *out, size_t out_count, const uint8_t *bytes, size_t size,
+    size_t offset, size_t len)
 {
     /* There are no more runs than that. */
-    if (room >= len - len / 2) {
-        return CALL(set_slices)(ANY(bytes, size), offset, len, ANY(out, room));
+    if (out_count >= len - len / 2) {
+        return CALL(set_slices)(ANY(out, out_count), ANY(bytes, size), offset, len);
     }
     size_t written = 0, at = 0;
-    while (at < len && written < room) {
+    while (at < len && written < out_count) {
         const size_t start = offset + at, n = in_page(bytes, start, len - at);
-        const size_t found = CALL(set_slices)(bytes, bytes_of(start + n), start, n, out + written,
-            room - written);
+        const size_t found = CALL(set_slices)(out + written, out_count - written, bytes,
+            bytes_of(start + n), start, n);
         for (size_t k = 0; at != 0 && k < found; k++) {
             out[written + k].start += at;
             out[written + k].end += at;
@@ -102,26 +100,27 @@ size_t vb_set_slices(const uint8_t *bytes, size_t size, size_t offset, size_t le
     return written;
 }
 
-bool vb_try_set_slices(const uint8_t *bytes, size_t size, size_t offset, size_t len, vb_run *out,
-    size_t room, size_t *count)
+bool vb_try_set_slices(vb_run *out, size_t out_count, const uint8_t *bytes, size_t size,
+    size_t offset, size_t len, size_t *written)
 {
-    if (!MAY_HAVE(out, room) || !MAY_HAVE(bytes, size) || !fits(bytes, size, offset, len)) {
+    if (!MAY_HAVE(out, out_count) || !MAY_HAVE(bytes, size) || !fits(bytes, size, offset, len)) {
         return false;
     }
-    *count = vb_set_slices(bytes, size, offset, len, out, room);
+    *written = vb_set_slices(out, out_count, bytes, size, offset, len);
     return true;
 }
 
 /* Bools are packed as bytes, so that one that no compiler makes changes no bit beside its own. */
-void vb_pack_bools(uint8_t *out, size_t out_size, const bool *bools, size_t count)
+void vb_pack_bools_padded(uint8_t *out, size_t out_size, const bool *bools, size_t bools_count)
 {
-    CALL(pack_truthy)(ANY(out, out_size), ANY((const uint8_t *)bools, count));
+    CALL(pack_truthy_padded)(ANY(out, out_size), ANY((const uint8_t *)bools, bools_count));
 }
 
-bool vb_try_pack_bools(uint8_t *out, size_t out_size, const bool *bools, size_t count)
+bool vb_try_pack_bools_padded(uint8_t *out, size_t out_size, const bool *bools, size_t bools_count)
 {
-    return MAY_HAVE(out, out_size) && MAY_HAVE(bools, count)
-        && CALL(try_pack_truthy)(ANY(out, out_size), ANY((const uint8_t *)bools, count));
+    return MAY_HAVE(out, out_size) && MAY_HAVE(bools, bools_count)
+        && CALL(try_pack_truthy_padded)(ANY(out, out_size),
+            ANY((const uint8_t *)bools, bools_count));
 }
 
 #endif

@@ -6,18 +6,18 @@
 #define VORTEX_BITS_MADE_H
 
 /* Bools are packed as bytes, so that one that no compiler makes changes no bit beside its own. */
-void vb_pack_bools_at(uint8_t *out, size_t out_size, size_t out_offset, const bool *bools,
-    size_t count)
+void vb_pack_bools(uint8_t *out, size_t out_size, size_t out_offset, const bool *bools,
+    size_t bools_count)
 {
-    CALL(pack_truthy_at)(ANY(out, out_size), out_offset, ANY((const uint8_t *)bools, count));
+    CALL(pack_truthy)(ANY(out, out_size), out_offset, ANY((const uint8_t *)bools, bools_count));
 }
 
-bool vb_try_pack_bools_at(uint8_t *out, size_t out_size, size_t out_offset, const bool *bools,
-    size_t count)
+bool vb_try_pack_bools(uint8_t *out, size_t out_size, size_t out_offset, const bool *bools,
+    size_t bools_count)
 {
-    return MAY_HAVE(out, out_size) && MAY_HAVE(bools, count)
-        && CALL(try_pack_truthy_at)(ANY(out, out_size), out_offset,
-            ANY((const uint8_t *)bools, count));
+    return MAY_HAVE(out, out_size) && MAY_HAVE(bools, bools_count)
+        && CALL(try_pack_truthy)(ANY(out, out_size), out_offset,
+            ANY((const uint8_t *)bools, bools_count));
 }
 
 /* Whether there are functions for items of so many bytes, and these are aligned as theirs. */
@@ -39,15 +39,15 @@ static bool is_laid(const void *items, size_t size, size_t most)
 
 /* What one of the functions for values of so many bytes answers. */
 #define OF_VALUES(name, V, ...)                                                                   \
-    CALL(name)(ANY((V *)out, room), ANY((const V *)values, count), __VA_ARGS__)
+    CALL(name)(ANY((V *)out, out_count), ANY((const V *)values, values_count), __VA_ARGS__)
 
-size_t vb_filter_values(void *out, size_t room, const void *values, size_t count,
+size_t vb_filter_values(void *out, size_t out_count, const void *values, size_t values_count,
     size_t value_size, const uint8_t *mask, size_t mask_size, size_t mask_offset)
 {
     switch (value_size) {
 #define WIDTH(size, name, V)                                                                      \
     case size:                                                                                    \
-        return OF_VALUES(filter_##name, V, ANY(mask, mask_size), mask_offset);
+        return OF_VALUES(filter_values_##name, V, ANY(mask, mask_size), mask_offset);
         EACH_VALUE(WIDTH)
 #undef WIDTH
     default:
@@ -55,17 +55,18 @@ size_t vb_filter_values(void *out, size_t room, const void *values, size_t count
     }
 }
 
-bool vb_try_filter_values(void *out, size_t room, const void *values, size_t count,
+bool vb_try_filter_values(void *out, size_t out_count, const void *values, size_t values_count,
     size_t value_size, const uint8_t *mask, size_t mask_size, size_t mask_offset, size_t *written)
 {
-    if (!MAY_HAVE(out, room) || !MAY_HAVE(values, count) || !MAY_HAVE(mask, mask_size)
+    if (!MAY_HAVE(out, out_count) || !MAY_HAVE(values, values_count) || !MAY_HAVE(mask, mask_size)
             || !is_laid(out, value_size, 16) || !is_laid(values, value_size, 16)) {
         return false;
     }
     switch (value_size) {
 #define WIDTH(size, name, V)                                                                      \
     case size:                                                                                    \
-        return OF_VALUES(try_filter_##name, V, ANY(mask, mask_size), mask_offset, written);
+        return OF_VALUES(try_filter_values_##name, V, ANY(mask, mask_size), mask_offset,          \
+            written);
         EACH_VALUE(WIDTH)
 #undef WIDTH
     default:
@@ -105,37 +106,38 @@ static size_t pair(size_t value_size, size_t index_size)
     WIDTH(16, u128, vb_u128, 8, u64, uint64_t)
 /* To here. */
 
-vb_place vb_take_values(void *out, size_t room, const void *values, size_t count,
-    size_t value_size, const void *indices, size_t index_count, size_t index_size, bool all_valid,
+vb_taken vb_take_values(void *out, size_t out_count, const void *values, size_t values_count,
+    size_t value_size, const void *indices, size_t indices_count, size_t index_size, bool all_valid,
     const uint8_t *validity, size_t validity_size, size_t validity_offset)
 {
     switch (pair(value_size, index_size)) {
 #define WIDTH(size, name, V, wide, index, I)                                                      \
     case PAIR(size, wide):                                                                        \
-        return OF_VALUES(take_values_##name##_##index, V, ANY((const I *)indices, index_count),   \
+        return OF_VALUES(take_values_##name##_##index, V, ANY((const I *)indices, indices_count), \
             all_valid, ANY(validity, validity_size), validity_offset);
         EACH_PAIR(WIDTH)
 #undef WIDTH
     default:
-        return (vb_place){true, 0};
+        return (vb_taken){true, 0};
     }
 }
 
-bool vb_try_take_values(void *out, size_t room, const void *values, size_t count,
-    size_t value_size, const void *indices, size_t index_count, size_t index_size, bool all_valid,
-    const uint8_t *validity, size_t validity_size, size_t validity_offset, vb_place *past)
+bool vb_try_take_values(void *out, size_t out_count, const void *values, size_t values_count,
+    size_t value_size, const void *indices, size_t indices_count, size_t index_size, bool all_valid,
+    const uint8_t *validity, size_t validity_size, size_t validity_offset, vb_taken *taken)
 {
-    if (!MAY_HAVE(out, room) || !MAY_HAVE(values, count) || !MAY_HAVE(indices, index_count)
-            || !MAY_HAVE(validity, validity_size) || !is_laid(out, value_size, 16)
-            || !is_laid(values, value_size, 16) || !is_laid(indices, index_size, 8)) {
+    if (!MAY_HAVE(out, out_count) || !MAY_HAVE(values, values_count)
+            || !MAY_HAVE(indices, indices_count) || !MAY_HAVE(validity, validity_size)
+            || !is_laid(out, value_size, 16) || !is_laid(values, value_size, 16)
+            || !is_laid(indices, index_size, 8)) {
         return false;
     }
     switch (pair(value_size, index_size)) {
 #define WIDTH(size, name, V, wide, index, I)                                                      \
     case PAIR(size, wide):                                                                        \
         return OF_VALUES(try_take_values_##name##_##index, V,                                     \
-            ANY((const I *)indices, index_count), all_valid, ANY(validity, validity_size),        \
-            validity_offset, past);
+            ANY((const I *)indices, indices_count), all_valid, ANY(validity, validity_size),      \
+            validity_offset, taken);
         EACH_PAIR(WIDTH)
 #undef WIDTH
     default:

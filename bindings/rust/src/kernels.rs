@@ -90,7 +90,7 @@ pub fn count_ones(bits: Bits<'_>) -> usize {
 #[inline]
 pub fn select(bits: Bits<'_>, n: usize) -> Option<usize> {
     if !is_word(bits) {
-        native!(bit_select: window bits, value n);
+        native!(select: window bits, value n);
     }
     portable::select(bits, n)
 }
@@ -98,7 +98,7 @@ pub fn select(bits: Bits<'_>, n: usize) -> Option<usize> {
 #[inline]
 pub fn select_unset(bits: Bits<'_>, n: usize) -> Option<usize> {
     if !is_word(bits) {
-        native!(bit_select_unset: window bits, value n);
+        native!(select_unset: window bits, value n);
     }
     portable::select_unset(bits, n)
 }
@@ -106,7 +106,7 @@ pub fn select_unset(bits: Bits<'_>, n: usize) -> Option<usize> {
 #[inline]
 pub fn last_set(bits: Bits<'_>) -> Option<usize> {
     if !is_word(bits) {
-        native!(last_set_index: window bits);
+        native!(last_set: window bits);
     }
     portable::last_set(bits)
 }
@@ -173,7 +173,7 @@ pub fn equal(left: Bits<'_>, right: Bits<'_>) -> bool {
 #[inline]
 pub fn fill(out: &mut Written<'_>, value: bool) {
     if !is_word(out.as_bits()) {
-        native!(fill_bits: start_mut out, value out.offset() + out.len(), value value);
+        native!(fill_bits: start_mut out, value out.len(), value value);
     }
     portable::fill(out, value);
 }
@@ -270,7 +270,7 @@ pub fn deposit(out: &mut Written<'_>, bits: Bits<'_>, mask: Bits<'_>) {
 /// how many there are.
 pub fn block_counts(bits: Bits<'_>, table: &mut [usize]) -> usize {
     debug_assert_eq!(table.len(), blocks(bits.len()));
-    native!(block_counts: window bits, slice_mut table);
+    native!(block_counts: slice_mut table, window bits);
     portable::block_counts(bits, table)
 }
 

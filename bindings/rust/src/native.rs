@@ -29,6 +29,22 @@ impl From<Place> for Option<usize> {
     }
 }
 
+/// How a take ended: `position` is the first one whose index is out of range, and says something
+/// only where `out_of_range` is true.
+#[repr(C)]
+#[derive(Clone, Copy)]
+pub struct Taken {
+    out_of_range: bool,
+    position: usize,
+}
+
+impl From<Taken> for Option<usize> {
+    #[inline]
+    fn from(taken: Taken) -> Option<usize> {
+        taken.out_of_range.then_some(taken.position)
+    }
+}
+
 /// An operator on one window and another of the same length.
 pub type Combine = unsafe extern "C" fn(*mut u8, usize, usize, *const u8, usize, usize, usize);
 
@@ -120,9 +136,9 @@ kernels! {
         right_size: usize, right_offset: usize, len: usize) -> usize;
     and_not_count(left: *const u8, left_size: usize, left_offset: usize, right: *const u8,
         right_size: usize, right_offset: usize, len: usize) -> usize;
-    bit_select(bytes: *const u8, size: usize, offset: usize, len: usize, n: usize) -> Place;
-    bit_select_unset(bytes: *const u8, size: usize, offset: usize, len: usize, n: usize) -> Place;
-    last_set_index(bytes: *const u8, size: usize, offset: usize, len: usize) -> Place;
+    select(bytes: *const u8, size: usize, offset: usize, len: usize, n: usize) -> Place;
+    select_unset(bytes: *const u8, size: usize, offset: usize, len: usize, n: usize) -> Place;
+    last_set(bytes: *const u8, size: usize, offset: usize, len: usize) -> Place;
     next_set(bytes: *const u8, size: usize, offset: usize, len: usize, from: usize) -> Place;
     next_unset(bytes: *const u8, size: usize, offset: usize, len: usize, from: usize) -> Place;
     previous_set(bytes: *const u8, size: usize, offset: usize, len: usize, before: usize) -> Place;
@@ -136,11 +152,11 @@ kernels! {
         right_size: usize, right_offset: usize, len: usize) -> bool;
     is_subset(left: *const u8, left_size: usize, left_offset: usize, right: *const u8,
         right_size: usize, right_offset: usize, len: usize) -> bool;
-    set_indices(bytes: *const u8, size: usize, offset: usize, len: usize, out: *mut usize,
-        room: usize) -> usize;
-    set_slices(bytes: *const u8, size: usize, offset: usize, len: usize, out: *mut Run,
-        room: usize) -> usize;
-    fill_bits(bytes: *mut u8, size: usize, start: usize, end: usize, value: bool);
+    set_indices(out: *mut usize, out_count: usize, bytes: *const u8, size: usize, offset: usize,
+        len: usize) -> usize;
+    set_slices(out: *mut Run, out_count: usize, bytes: *const u8, size: usize, offset: usize,
+        len: usize) -> usize;
+    fill_bits(bytes: *mut u8, size: usize, offset: usize, len: usize, value: bool);
     negate_bits(bytes: *mut u8, size: usize, offset: usize, len: usize);
     copy_bits(dst: *mut u8, dst_size: usize, dst_offset: usize, src: *const u8, src_size: usize,
         src_offset: usize, len: usize);
@@ -162,68 +178,63 @@ kernels! {
         left_size: usize, left_offset: usize, right: *const u8, right_size: usize,
         right_offset: usize, len: usize);
     compare_u8(out: *mut u8, out_size: usize, out_offset: usize, values: *const u8,
-        values_size: usize, op: u8, number: u8);
+        values_count: usize, op: u8, number: u8);
     compare_u16(out: *mut u8, out_size: usize, out_offset: usize, values: *const u16,
-        values_size: usize, op: u8, number: u16);
+        values_count: usize, op: u8, number: u16);
     compare_u32(out: *mut u8, out_size: usize, out_offset: usize, values: *const u32,
-        values_size: usize, op: u8, number: u32);
+        values_count: usize, op: u8, number: u32);
     compare_u64(out: *mut u8, out_size: usize, out_offset: usize, values: *const u64,
-        values_size: usize, op: u8, number: u64);
+        values_count: usize, op: u8, number: u64);
     compare_i8(out: *mut u8, out_size: usize, out_offset: usize, values: *const i8,
-        values_size: usize, op: u8, number: i8);
+        values_count: usize, op: u8, number: i8);
     compare_i16(out: *mut u8, out_size: usize, out_offset: usize, values: *const i16,
-        values_size: usize, op: u8, number: i16);
+        values_count: usize, op: u8, number: i16);
     compare_i32(out: *mut u8, out_size: usize, out_offset: usize, values: *const i32,
-        values_size: usize, op: u8, number: i32);
+        values_count: usize, op: u8, number: i32);
     compare_i64(out: *mut u8, out_size: usize, out_offset: usize, values: *const i64,
-        values_size: usize, op: u8, number: i64);
+        values_count: usize, op: u8, number: i64);
     compare_f32(out: *mut u8, out_size: usize, out_offset: usize, values: *const f32,
-        values_size: usize, op: u8, number: f32);
+        values_count: usize, op: u8, number: f32);
     compare_f64(out: *mut u8, out_size: usize, out_offset: usize, values: *const f64,
-        values_size: usize, op: u8, number: f64);
+        values_count: usize, op: u8, number: f64);
     compare_with_u8(out: *mut u8, out_size: usize, out_offset: usize, values: *const u8,
-        values_size: usize, op: u8, others: *const u8, others_size: usize);
+        values_count: usize, op: u8, others: *const u8, others_count: usize);
     compare_with_u16(out: *mut u8, out_size: usize, out_offset: usize, values: *const u16,
-        values_size: usize, op: u8, others: *const u16, others_size: usize);
+        values_count: usize, op: u8, others: *const u16, others_count: usize);
     compare_with_u32(out: *mut u8, out_size: usize, out_offset: usize, values: *const u32,
-        values_size: usize, op: u8, others: *const u32, others_size: usize);
+        values_count: usize, op: u8, others: *const u32, others_count: usize);
     compare_with_u64(out: *mut u8, out_size: usize, out_offset: usize, values: *const u64,
-        values_size: usize, op: u8, others: *const u64, others_size: usize);
+        values_count: usize, op: u8, others: *const u64, others_count: usize);
     compare_with_i8(out: *mut u8, out_size: usize, out_offset: usize, values: *const i8,
-        values_size: usize, op: u8, others: *const i8, others_size: usize);
+        values_count: usize, op: u8, others: *const i8, others_count: usize);
     compare_with_i16(out: *mut u8, out_size: usize, out_offset: usize, values: *const i16,
-        values_size: usize, op: u8, others: *const i16, others_size: usize);
+        values_count: usize, op: u8, others: *const i16, others_count: usize);
     compare_with_i32(out: *mut u8, out_size: usize, out_offset: usize, values: *const i32,
-        values_size: usize, op: u8, others: *const i32, others_size: usize);
+        values_count: usize, op: u8, others: *const i32, others_count: usize);
     compare_with_i64(out: *mut u8, out_size: usize, out_offset: usize, values: *const i64,
-        values_size: usize, op: u8, others: *const i64, others_size: usize);
+        values_count: usize, op: u8, others: *const i64, others_count: usize);
     compare_with_f32(out: *mut u8, out_size: usize, out_offset: usize, values: *const f32,
-        values_size: usize, op: u8, others: *const f32, others_size: usize);
+        values_count: usize, op: u8, others: *const f32, others_count: usize);
     compare_with_f64(out: *mut u8, out_size: usize, out_offset: usize, values: *const f64,
-        values_size: usize, op: u8, others: *const f64, others_size: usize);
-    pack_truthy_at(out: *mut u8, out_size: usize, out_offset: usize, truthy: *const u8,
-        count: usize);
-    take_bits_at_u8(out: *mut u8, out_size: usize, out_offset: usize, bytes: *const u8, size: usize,
-        offset: usize, len: usize, indices: *const u8, index_count: usize, all_valid: bool,
-        validity: *const u8, validity_size: usize, validity_offset: usize) -> Place;
-    take_bits_at_u16(out: *mut u8, out_size: usize, out_offset: usize, bytes: *const u8,
-        size: usize, offset: usize, len: usize, indices: *const u16, index_count: usize,
-        all_valid: bool, validity: *const u8, validity_size: usize,
-        validity_offset: usize) -> Place;
-    take_bits_at_u32(out: *mut u8, out_size: usize, out_offset: usize, bytes: *const u8,
-        size: usize, offset: usize, len: usize, indices: *const u32, index_count: usize,
-        all_valid: bool, validity: *const u8, validity_size: usize,
-        validity_offset: usize) -> Place;
-    take_bits_at_u64(out: *mut u8, out_size: usize, out_offset: usize, bytes: *const u8,
-        size: usize, offset: usize, len: usize, indices: *const u64, index_count: usize,
-        all_valid: bool, validity: *const u8, validity_size: usize,
-        validity_offset: usize) -> Place;
-    filter_bits_at(out: *mut u8, out_size: usize, out_offset: usize, values: *const u8,
-        values_size: usize, values_offset: usize, mask: *const u8, mask_size: usize,
-        mask_offset: usize, len: usize) -> usize;
-    deposit_bits(out: *mut u8, out_size: usize, out_offset: usize, values: *const u8,
-        values_size: usize, values_offset: usize, mask: *const u8, mask_size: usize,
-        mask_offset: usize, len: usize);
+        values_count: usize, op: u8, others: *const f64, others_count: usize);
+    pack_truthy(out: *mut u8, out_size: usize, out_offset: usize, truthy: *const u8,
+        truthy_count: usize);
+    take_bits_u8(out: *mut u8, out_size: usize, out_offset: usize, bytes: *const u8, size: usize,
+        offset: usize, len: usize, indices: *const u8, indices_count: usize, all_valid: bool,
+        validity: *const u8, validity_size: usize, validity_offset: usize) -> Taken;
+    take_bits_u16(out: *mut u8, out_size: usize, out_offset: usize, bytes: *const u8, size: usize,
+        offset: usize, len: usize, indices: *const u16, indices_count: usize, all_valid: bool,
+        validity: *const u8, validity_size: usize, validity_offset: usize) -> Taken;
+    take_bits_u32(out: *mut u8, out_size: usize, out_offset: usize, bytes: *const u8, size: usize,
+        offset: usize, len: usize, indices: *const u32, indices_count: usize, all_valid: bool,
+        validity: *const u8, validity_size: usize, validity_offset: usize) -> Taken;
+    take_bits_u64(out: *mut u8, out_size: usize, out_offset: usize, bytes: *const u8, size: usize,
+        offset: usize, len: usize, indices: *const u64, indices_count: usize, all_valid: bool,
+        validity: *const u8, validity_size: usize, validity_offset: usize) -> Taken;
+    filter_bits(out: *mut u8, out_size: usize, out_offset: usize, bytes: *const u8, size: usize,
+        offset: usize, mask: *const u8, mask_size: usize, mask_offset: usize, len: usize) -> usize;
+    deposit_bits(out: *mut u8, out_size: usize, out_offset: usize, bytes: *const u8, size: usize,
+        offset: usize, mask: *const u8, mask_size: usize, mask_offset: usize, len: usize);
     and_kleene(trues: *mut u8, trues_size: usize, trues_offset: usize, valid: *mut u8,
         valid_size: usize, valid_offset: usize, left: *const u8, left_size: usize,
         left_offset: usize, left_all_valid: bool, left_validity: *const u8,
@@ -236,82 +247,82 @@ kernels! {
         left_validity_size: usize, left_validity_offset: usize, right: *const u8, right_size: usize,
         right_offset: usize, right_all_valid: bool, right_validity: *const u8,
         right_validity_size: usize, right_validity_offset: usize, len: usize);
-    block_counts(bytes: *const u8, size: usize, offset: usize, len: usize, table: *mut usize,
-        room: usize) -> usize;
+    block_counts(table: *mut usize, table_count: usize, bytes: *const u8, size: usize,
+        offset: usize, len: usize) -> usize;
     rank(bytes: *const u8, size: usize, offset: usize, len: usize, table: *const usize,
-        entries: usize, place: usize) -> usize;
+        table_count: usize, index: usize) -> usize;
     ranked_select(bytes: *const u8, size: usize, offset: usize, len: usize, table: *const usize,
-        entries: usize, n: usize) -> Place;
+        table_count: usize, n: usize) -> Place;
     ranked_select_unset(bytes: *const u8, size: usize, offset: usize, len: usize,
-        table: *const usize, entries: usize, n: usize) -> Place;
-    filter_u8(out: *mut u8, room: usize, values: *const u8, count: usize, mask: *const u8,
-        mask_size: usize, mask_offset: usize) -> usize;
-    filter_u16(out: *mut u16, room: usize, values: *const u16, count: usize, mask: *const u8,
-        mask_size: usize, mask_offset: usize) -> usize;
-    filter_u32(out: *mut u32, room: usize, values: *const u32, count: usize, mask: *const u8,
-        mask_size: usize, mask_offset: usize) -> usize;
-    filter_u64(out: *mut u64, room: usize, values: *const u64, count: usize, mask: *const u8,
-        mask_size: usize, mask_offset: usize) -> usize;
-    filter_u128(out: *mut Wide, room: usize, values: *const Wide, count: usize, mask: *const u8,
-        mask_size: usize, mask_offset: usize) -> usize;
-    take_values_u8_u8(out: *mut u8, room: usize, values: *const u8, count: usize,
-        indices: *const u8, index_count: usize, all_valid: bool, validity: *const u8,
-        validity_size: usize, validity_offset: usize) -> Place;
-    take_values_u16_u8(out: *mut u16, room: usize, values: *const u16, count: usize,
-        indices: *const u8, index_count: usize, all_valid: bool, validity: *const u8,
-        validity_size: usize, validity_offset: usize) -> Place;
-    take_values_u32_u8(out: *mut u32, room: usize, values: *const u32, count: usize,
-        indices: *const u8, index_count: usize, all_valid: bool, validity: *const u8,
-        validity_size: usize, validity_offset: usize) -> Place;
-    take_values_u64_u8(out: *mut u64, room: usize, values: *const u64, count: usize,
-        indices: *const u8, index_count: usize, all_valid: bool, validity: *const u8,
-        validity_size: usize, validity_offset: usize) -> Place;
-    take_values_u128_u8(out: *mut Wide, room: usize, values: *const Wide, count: usize,
-        indices: *const u8, index_count: usize, all_valid: bool, validity: *const u8,
-        validity_size: usize, validity_offset: usize) -> Place;
-    take_values_u8_u16(out: *mut u8, room: usize, values: *const u8, count: usize,
-        indices: *const u16, index_count: usize, all_valid: bool, validity: *const u8,
-        validity_size: usize, validity_offset: usize) -> Place;
-    take_values_u16_u16(out: *mut u16, room: usize, values: *const u16, count: usize,
-        indices: *const u16, index_count: usize, all_valid: bool, validity: *const u8,
-        validity_size: usize, validity_offset: usize) -> Place;
-    take_values_u32_u16(out: *mut u32, room: usize, values: *const u32, count: usize,
-        indices: *const u16, index_count: usize, all_valid: bool, validity: *const u8,
-        validity_size: usize, validity_offset: usize) -> Place;
-    take_values_u64_u16(out: *mut u64, room: usize, values: *const u64, count: usize,
-        indices: *const u16, index_count: usize, all_valid: bool, validity: *const u8,
-        validity_size: usize, validity_offset: usize) -> Place;
-    take_values_u128_u16(out: *mut Wide, room: usize, values: *const Wide, count: usize,
-        indices: *const u16, index_count: usize, all_valid: bool, validity: *const u8,
-        validity_size: usize, validity_offset: usize) -> Place;
-    take_values_u8_u32(out: *mut u8, room: usize, values: *const u8, count: usize,
-        indices: *const u32, index_count: usize, all_valid: bool, validity: *const u8,
-        validity_size: usize, validity_offset: usize) -> Place;
-    take_values_u16_u32(out: *mut u16, room: usize, values: *const u16, count: usize,
-        indices: *const u32, index_count: usize, all_valid: bool, validity: *const u8,
-        validity_size: usize, validity_offset: usize) -> Place;
-    take_values_u32_u32(out: *mut u32, room: usize, values: *const u32, count: usize,
-        indices: *const u32, index_count: usize, all_valid: bool, validity: *const u8,
-        validity_size: usize, validity_offset: usize) -> Place;
-    take_values_u64_u32(out: *mut u64, room: usize, values: *const u64, count: usize,
-        indices: *const u32, index_count: usize, all_valid: bool, validity: *const u8,
-        validity_size: usize, validity_offset: usize) -> Place;
-    take_values_u128_u32(out: *mut Wide, room: usize, values: *const Wide, count: usize,
-        indices: *const u32, index_count: usize, all_valid: bool, validity: *const u8,
-        validity_size: usize, validity_offset: usize) -> Place;
-    take_values_u8_u64(out: *mut u8, room: usize, values: *const u8, count: usize,
-        indices: *const u64, index_count: usize, all_valid: bool, validity: *const u8,
-        validity_size: usize, validity_offset: usize) -> Place;
-    take_values_u16_u64(out: *mut u16, room: usize, values: *const u16, count: usize,
-        indices: *const u64, index_count: usize, all_valid: bool, validity: *const u8,
-        validity_size: usize, validity_offset: usize) -> Place;
-    take_values_u32_u64(out: *mut u32, room: usize, values: *const u32, count: usize,
-        indices: *const u64, index_count: usize, all_valid: bool, validity: *const u8,
-        validity_size: usize, validity_offset: usize) -> Place;
-    take_values_u64_u64(out: *mut u64, room: usize, values: *const u64, count: usize,
-        indices: *const u64, index_count: usize, all_valid: bool, validity: *const u8,
-        validity_size: usize, validity_offset: usize) -> Place;
-    take_values_u128_u64(out: *mut Wide, room: usize, values: *const Wide, count: usize,
-        indices: *const u64, index_count: usize, all_valid: bool, validity: *const u8,
-        validity_size: usize, validity_offset: usize) -> Place;
+        table: *const usize, table_count: usize, n: usize) -> Place;
+    filter_values_u8(out: *mut u8, out_count: usize, values: *const u8, values_count: usize,
+        mask: *const u8, mask_size: usize, mask_offset: usize) -> usize;
+    filter_values_u16(out: *mut u16, out_count: usize, values: *const u16, values_count: usize,
+        mask: *const u8, mask_size: usize, mask_offset: usize) -> usize;
+    filter_values_u32(out: *mut u32, out_count: usize, values: *const u32, values_count: usize,
+        mask: *const u8, mask_size: usize, mask_offset: usize) -> usize;
+    filter_values_u64(out: *mut u64, out_count: usize, values: *const u64, values_count: usize,
+        mask: *const u8, mask_size: usize, mask_offset: usize) -> usize;
+    filter_values_u128(out: *mut Wide, out_count: usize, values: *const Wide, values_count: usize,
+        mask: *const u8, mask_size: usize, mask_offset: usize) -> usize;
+    take_values_u8_u8(out: *mut u8, out_count: usize, values: *const u8, values_count: usize,
+        indices: *const u8, indices_count: usize, all_valid: bool, validity: *const u8,
+        validity_size: usize, validity_offset: usize) -> Taken;
+    take_values_u16_u8(out: *mut u16, out_count: usize, values: *const u16, values_count: usize,
+        indices: *const u8, indices_count: usize, all_valid: bool, validity: *const u8,
+        validity_size: usize, validity_offset: usize) -> Taken;
+    take_values_u32_u8(out: *mut u32, out_count: usize, values: *const u32, values_count: usize,
+        indices: *const u8, indices_count: usize, all_valid: bool, validity: *const u8,
+        validity_size: usize, validity_offset: usize) -> Taken;
+    take_values_u64_u8(out: *mut u64, out_count: usize, values: *const u64, values_count: usize,
+        indices: *const u8, indices_count: usize, all_valid: bool, validity: *const u8,
+        validity_size: usize, validity_offset: usize) -> Taken;
+    take_values_u128_u8(out: *mut Wide, out_count: usize, values: *const Wide, values_count: usize,
+        indices: *const u8, indices_count: usize, all_valid: bool, validity: *const u8,
+        validity_size: usize, validity_offset: usize) -> Taken;
+    take_values_u8_u16(out: *mut u8, out_count: usize, values: *const u8, values_count: usize,
+        indices: *const u16, indices_count: usize, all_valid: bool, validity: *const u8,
+        validity_size: usize, validity_offset: usize) -> Taken;
+    take_values_u16_u16(out: *mut u16, out_count: usize, values: *const u16, values_count: usize,
+        indices: *const u16, indices_count: usize, all_valid: bool, validity: *const u8,
+        validity_size: usize, validity_offset: usize) -> Taken;
+    take_values_u32_u16(out: *mut u32, out_count: usize, values: *const u32, values_count: usize,
+        indices: *const u16, indices_count: usize, all_valid: bool, validity: *const u8,
+        validity_size: usize, validity_offset: usize) -> Taken;
+    take_values_u64_u16(out: *mut u64, out_count: usize, values: *const u64, values_count: usize,
+        indices: *const u16, indices_count: usize, all_valid: bool, validity: *const u8,
+        validity_size: usize, validity_offset: usize) -> Taken;
+    take_values_u128_u16(out: *mut Wide, out_count: usize, values: *const Wide, values_count: usize,
+        indices: *const u16, indices_count: usize, all_valid: bool, validity: *const u8,
+        validity_size: usize, validity_offset: usize) -> Taken;
+    take_values_u8_u32(out: *mut u8, out_count: usize, values: *const u8, values_count: usize,
+        indices: *const u32, indices_count: usize, all_valid: bool, validity: *const u8,
+        validity_size: usize, validity_offset: usize) -> Taken;
+    take_values_u16_u32(out: *mut u16, out_count: usize, values: *const u16, values_count: usize,
+        indices: *const u32, indices_count: usize, all_valid: bool, validity: *const u8,
+        validity_size: usize, validity_offset: usize) -> Taken;
+    take_values_u32_u32(out: *mut u32, out_count: usize, values: *const u32, values_count: usize,
+        indices: *const u32, indices_count: usize, all_valid: bool, validity: *const u8,
+        validity_size: usize, validity_offset: usize) -> Taken;
+    take_values_u64_u32(out: *mut u64, out_count: usize, values: *const u64, values_count: usize,
+        indices: *const u32, indices_count: usize, all_valid: bool, validity: *const u8,
+        validity_size: usize, validity_offset: usize) -> Taken;
+    take_values_u128_u32(out: *mut Wide, out_count: usize, values: *const Wide, values_count: usize,
+        indices: *const u32, indices_count: usize, all_valid: bool, validity: *const u8,
+        validity_size: usize, validity_offset: usize) -> Taken;
+    take_values_u8_u64(out: *mut u8, out_count: usize, values: *const u8, values_count: usize,
+        indices: *const u64, indices_count: usize, all_valid: bool, validity: *const u8,
+        validity_size: usize, validity_offset: usize) -> Taken;
+    take_values_u16_u64(out: *mut u16, out_count: usize, values: *const u16, values_count: usize,
+        indices: *const u64, indices_count: usize, all_valid: bool, validity: *const u8,
+        validity_size: usize, validity_offset: usize) -> Taken;
+    take_values_u32_u64(out: *mut u32, out_count: usize, values: *const u32, values_count: usize,
+        indices: *const u64, indices_count: usize, all_valid: bool, validity: *const u8,
+        validity_size: usize, validity_offset: usize) -> Taken;
+    take_values_u64_u64(out: *mut u64, out_count: usize, values: *const u64, values_count: usize,
+        indices: *const u64, indices_count: usize, all_valid: bool, validity: *const u8,
+        validity_size: usize, validity_offset: usize) -> Taken;
+    take_values_u128_u64(out: *mut Wide, out_count: usize, values: *const Wide, values_count: usize,
+        indices: *const u64, indices_count: usize, all_valid: bool, validity: *const u8,
+        validity_size: usize, validity_offset: usize) -> Taken;
 }

@@ -3,24 +3,24 @@ ghost use Rattle.std.specs.Prelude.{◌≡◌, ◌*◌, ◌/◌, ◌<◌, length
 ghost use Rattle.vb_bits.specs.Bits.{bit_of};
 ghost use Rattle.vb_c_core.specs.Fits.{DoneIf};
 
-/// Bit `i`, which has to lie in the bytes.
+/// Bit `offset`, which has to lie in the bytes.
 #[unsafe(no_mangle)]
-pub extern "C" fn vb_get_bit(bytes: &[u8], i: usize) -> bool
-    requires { i / 8 < length bytes.now }
-    ensures { result ≡ bit_of bytes.now i }
+pub extern "C" fn vb_get_bit(bytes: &[u8], offset: usize) -> bool
+    requires { offset / 8 < length bytes.now }
+    ensures { result ≡ bit_of bytes.now offset }
 {
-    vb_bits::get_bit(bytes, i)
+    vb_bits::get_bit(bytes, offset)
 }
 
-/// Whether bit `i` lies in the bytes; `bit` is then [`vb_get_bit`], and else as it was.
+/// Whether bit `offset` lies in the bytes; `bit` is then [`vb_get_bit`], and else as it was.
 #[unsafe(no_mangle)]
-pub extern "C" fn vb_try_get_bit(bytes: &[u8], i: usize, bit: &mut bool) -> bool
-    ensures { DoneIf (i < 8 * length bytes.now) (bit.new ≡ bit_of bytes.now i)
+pub extern "C" fn vb_try_get_bit(bytes: &[u8], offset: usize, bit: &mut bool) -> bool
+    ensures { DoneIf (offset < 8 * length bytes.now) (bit.new ≡ bit_of bytes.now offset)
         (bit.new ≡ bit.old) result }
 {
-    if i / 8 >= bytes.len() {
+    if offset / 8 >= bytes.len() {
         return false;
     }
-    *bit = vb_get_bit(bytes, i);
+    *bit = vb_get_bit(bytes, offset);
     true
 }

@@ -17,10 +17,10 @@ use vb_rank::PlainTable;
 /// are. There are `ceil(len / 512)` blocks.
 #[unsafe(no_mangle)]
 pub extern "C" fn vb_block_counts(
+    table: &mut [usize],
     bytes: &[u8],
     offset: usize,
     len: usize,
-    table: &mut [usize],
 ) -> usize
     requires window { InBytes bytes.now offset len }
     ensures { Fills (block_counts (bits bytes.now offset len)) table.old table.new result }
@@ -33,10 +33,10 @@ pub extern "C" fn vb_block_counts(
 /// makes and answers them, and else as they were.
 #[unsafe(no_mangle)]
 pub extern "C" fn vb_try_block_counts(
+    table: &mut [usize],
     bytes: &[u8],
     offset: usize,
     len: usize,
-    table: &mut [usize],
     written: &mut usize,
 ) -> bool
     ensures { DoneIf (InBytes bytes.now offset len)
@@ -46,11 +46,11 @@ pub extern "C" fn vb_try_block_counts(
     if !vb_bits::window_fits(bytes, offset, len) {
         return false;
     }
-    *written = vb_block_counts(bytes, offset, len, table);
+    *written = vb_block_counts(table, bytes, offset, len);
     true
 }
 
-/// How many of the first `i` bits of the window are true, where the table is that of
+/// How many of the first `index` bits of the window are true, where the table is that of
 /// [`vb_block_counts`]; of any other table with an entry a block the number says nothing. It reads
 /// one entry, and the bits of one block.
 #[unsafe(no_mangle)]
@@ -59,37 +59,37 @@ pub extern "C" fn vb_rank(
     offset: usize,
     len: usize,
     table: &[usize],
-    i: usize,
+    index: usize,
 ) -> usize
     requires table { HasTable bytes.now offset len table.now }
-    requires within { i ≤ len }
+    requires within { index ≤ len }
     ensures { table.now ≡ block_counts (bits bytes.now offset len)
-        → result ≡ count (take i (bits bytes.now offset len)) }
+        → result ≡ count (take index (bits bytes.now offset len)) }
 {
     let table = &mut PlainTable::new(table);
-    vb_rank::rank_by(&mut Plain::new(bytes), offset, len, table, i)
+    vb_rank::rank_by(&mut Plain::new(bytes), offset, len, table, index)
 }
 
-/// Whether the window lies in the bytes, the table has an entry a block, and `i` is at most `len`;
-/// `rank` is then [`vb_rank`], and else as it was.
+/// Whether the window lies in the bytes, the table has an entry a block, and `index` is at most
+/// `len`; `rank` is then [`vb_rank`], and else as it was.
 #[unsafe(no_mangle)]
 pub extern "C" fn vb_try_rank(
     bytes: &[u8],
     offset: usize,
     len: usize,
     table: &[usize],
-    i: usize,
+    index: usize,
     rank: &mut usize,
 ) -> bool
-    ensures { DoneIf (HasTable bytes.now offset len table.now × (i ≤ len))
+    ensures { DoneIf (HasTable bytes.now offset len table.now × (index ≤ len))
         (table.now ≡ block_counts (bits bytes.now offset len)
-        → rank.new ≡ count (take i (bits bytes.now offset len)))
+        → rank.new ≡ count (take index (bits bytes.now offset len)))
         (rank.new ≡ rank.old) result }
 {
-    if !has_table(bytes, offset, len, table) || len < i {
+    if !has_table(bytes, offset, len, table) || len < index {
         return false;
     }
-    *rank = vb_rank(bytes, offset, len, table, i);
+    *rank = vb_rank(bytes, offset, len, table, index);
     true
 }
 

@@ -12,7 +12,7 @@ use vb_c_core::Place;
 /// counted from 0; none where the window has at most `n`. It counts from the front, 64 bytes at a
 /// time, up to the bytes that have it.
 #[unsafe(no_mangle)]
-pub extern "C" fn vb_bit_select(bytes: &[u8], offset: usize, len: usize, n: usize) -> Place
+pub extern "C" fn vb_select(bytes: &[u8], offset: usize, len: usize, n: usize) -> Place
     requires window { InBytes bytes.now offset len }
     ensures place { Selects (bits bytes.now offset len) n (answered_place result) }
     ensures each { InvertsCount (bits bytes.now offset len) n (answered_place result) }
@@ -21,9 +21,9 @@ pub extern "C" fn vb_bit_select(bytes: &[u8], offset: usize, len: usize, n: usiz
 }
 
 /// The place, relative to the window of `len` bits from bit `offset` on, of its `n`-th false bit,
-/// counted from 0; none where the window has at most `n`. It costs what [`vb_bit_select`] does.
+/// counted from 0; none where the window has at most `n`. It costs what [`vb_select`] does.
 #[unsafe(no_mangle)]
-pub extern "C" fn vb_bit_select_unset(bytes: &[u8], offset: usize, len: usize, n: usize) -> Place
+pub extern "C" fn vb_select_unset(bytes: &[u8], offset: usize, len: usize, n: usize) -> Place
     requires window { InBytes bytes.now offset len }
     ensures place { Selects (complement (bits bytes.now offset len)) n (answered_place result) }
     ensures each { InvertsCount (complement (bits bytes.now offset len)) n (answered_place result) }
@@ -34,16 +34,16 @@ pub extern "C" fn vb_bit_select_unset(bytes: &[u8], offset: usize, len: usize, n
 /// The place, relative to the window of `len` bits from bit `offset` on, of its last true bit; none
 /// where all are false. It reads from the end, eight bytes at a time.
 #[unsafe(no_mangle)]
-pub extern "C" fn vb_last_set_index(bytes: &[u8], offset: usize, len: usize) -> Place
+pub extern "C" fn vb_last_set(bytes: &[u8], offset: usize, len: usize) -> Place
     requires window { InBytes bytes.now offset len }
     ensures { answered_place result ≡ last_place (bits bytes.now offset len) }
 {
     vb_select::last_set_index(bytes, offset, len).into()
 }
 
-/// Whether the window lies in the bytes; `place` is then [`vb_bit_select`], and else as it was.
+/// Whether the window lies in the bytes; `place` is then [`vb_select`], and else as it was.
 #[unsafe(no_mangle)]
-pub extern "C" fn vb_try_bit_select(
+pub extern "C" fn vb_try_select(
     bytes: &[u8],
     offset: usize,
     len: usize,
@@ -57,14 +57,13 @@ pub extern "C" fn vb_try_bit_select(
     if !vb_bits::window_fits(bytes, offset, len) {
         return false;
     }
-    *place = vb_bit_select(bytes, offset, len, n);
+    *place = vb_select(bytes, offset, len, n);
     true
 }
 
-/// Whether the window lies in the bytes; `place` is then [`vb_bit_select_unset`], and else as it
-/// was.
+/// Whether the window lies in the bytes; `place` is then [`vb_select_unset`], and else as it was.
 #[unsafe(no_mangle)]
-pub extern "C" fn vb_try_bit_select_unset(
+pub extern "C" fn vb_try_select_unset(
     bytes: &[u8],
     offset: usize,
     len: usize,
@@ -78,13 +77,13 @@ pub extern "C" fn vb_try_bit_select_unset(
     if !vb_bits::window_fits(bytes, offset, len) {
         return false;
     }
-    *place = vb_bit_select_unset(bytes, offset, len, n);
+    *place = vb_select_unset(bytes, offset, len, n);
     true
 }
 
-/// Whether the window lies in the bytes; `place` is then [`vb_last_set_index`], and else as it was.
+/// Whether the window lies in the bytes; `place` is then [`vb_last_set`], and else as it was.
 #[unsafe(no_mangle)]
-pub extern "C" fn vb_try_last_set_index(
+pub extern "C" fn vb_try_last_set(
     bytes: &[u8],
     offset: usize,
     len: usize,
@@ -97,6 +96,6 @@ pub extern "C" fn vb_try_last_set_index(
     if !vb_bits::window_fits(bytes, offset, len) {
         return false;
     }
-    *place = vb_last_set_index(bytes, offset, len);
+    *place = vb_last_set(bytes, offset, len);
     true
 }

@@ -24,10 +24,10 @@ pub struct Run {
 /// `out` is full, no further place is sought.
 #[unsafe(no_mangle)]
 pub extern "C" fn vb_set_indices(
+    out: &mut [usize],
     bytes: &[u8],
     offset: usize,
     len: usize,
-    out: &mut [usize],
 ) -> usize
     requires window { InBytes bytes.now offset len }
     ensures { Fills (places (bits bytes.now offset len)) out.old out.new result }
@@ -50,7 +50,7 @@ pub extern "C" fn vb_set_indices(
 /// the front of `out`, as many as have room there, and answers how many these are. Once `out` is
 /// full, no further run is sought.
 #[unsafe(no_mangle)]
-pub extern "C" fn vb_set_slices(bytes: &[u8], offset: usize, len: usize, out: &mut [Run]) -> usize
+pub extern "C" fn vb_set_slices(out: &mut [Run], bytes: &[u8], offset: usize, len: usize) -> usize
     requires window { InBytes bytes.now offset len }
     ensures { Fills (map run_of (runs (bits bytes.now offset len))) out.old out.new result }
 {
@@ -71,44 +71,44 @@ pub extern "C" fn vb_set_slices(bytes: &[u8], offset: usize, len: usize, out: &m
     written
 }
 
-/// Whether the window lies in the bytes; `count` and `out` are then those of [`vb_set_indices`],
+/// Whether the window lies in the bytes; `written` and `out` are then those of [`vb_set_indices`],
 /// and else as they were.
 #[unsafe(no_mangle)]
 pub extern "C" fn vb_try_set_indices(
+    out: &mut [usize],
     bytes: &[u8],
     offset: usize,
     len: usize,
-    out: &mut [usize],
-    count: &mut usize,
+    written: &mut usize,
 ) -> bool
     ensures { DoneIf (InBytes bytes.now offset len)
-        (Fills (places (bits bytes.now offset len)) out.old out.new count.new)
-        ((out.new ≡ out.old) × (count.new ≡ count.old)) result }
+        (Fills (places (bits bytes.now offset len)) out.old out.new written.new)
+        ((out.new ≡ out.old) × (written.new ≡ written.old)) result }
 {
     if !vb_bits::window_fits(bytes, offset, len) {
         return false;
     }
-    *count = vb_set_indices(bytes, offset, len, out);
+    *written = vb_set_indices(out, bytes, offset, len);
     true
 }
 
-/// Whether the window lies in the bytes; `count` and `out` are then those of [`vb_set_slices`],
+/// Whether the window lies in the bytes; `written` and `out` are then those of [`vb_set_slices`],
 /// and else as they were.
 #[unsafe(no_mangle)]
 pub extern "C" fn vb_try_set_slices(
+    out: &mut [Run],
     bytes: &[u8],
     offset: usize,
     len: usize,
-    out: &mut [Run],
-    count: &mut usize,
+    written: &mut usize,
 ) -> bool
     ensures { DoneIf (InBytes bytes.now offset len)
-        (Fills (map run_of (runs (bits bytes.now offset len))) out.old out.new count.new)
-        ((out.new ≡ out.old) × (count.new ≡ count.old)) result }
+        (Fills (map run_of (runs (bits bytes.now offset len))) out.old out.new written.new)
+        ((out.new ≡ out.old) × (written.new ≡ written.old)) result }
 {
     if !vb_bits::window_fits(bytes, offset, len) {
         return false;
     }
-    *count = vb_set_slices(bytes, offset, len, out);
+    *written = vb_set_slices(out, bytes, offset, len);
     true
 }

@@ -1,5 +1,5 @@
 //! Bits filled, negated and copied.
-ghost use Rattle.std.specs.Prelude.{◌≡◌, ◌-◌, ◌*◌, ◌≤◌, length, replicate};
+ghost use Rattle.std.specs.Prelude.{◌≡◌, replicate};
 ghost use Rattle.vb_bits.specs.Bits.{bits, complement};
 ghost use Rattle.vb_bits.specs.InBytes.{InBytes};
 ghost use Rattle.vb_bits.specs.Writes.{Writes};
@@ -8,31 +8,30 @@ ghost use Rattle.vb_c.specs.Windows.{BothInBytes};
 
 use vb_c_core::copy_to_window;
 
-/// Makes the bits from `start` up to `end`, `end` excluded, `v`, and leaves every other bit;
-/// nothing where `start >= end`.
+/// Makes each of the `len` bits from bit `offset` on `v`, and leaves every other bit.
 #[unsafe(no_mangle)]
-pub extern "C" fn vb_fill_bits(bytes: &mut [u8], start: usize, end: usize, v: bool)
-    requires { end ≤ 8 * length bytes.old }
-    ensures { Writes bytes.old bytes.new start (replicate (end - start) v) }
+pub extern "C" fn vb_fill_bits(bytes: &mut [u8], offset: usize, len: usize, v: bool)
+    requires window { InBytes bytes.old offset len }
+    ensures { Writes bytes.old bytes.new offset (replicate len v) }
 {
-    if start < end {
-        let window = &mut bytes[start / 8..end.div_ceil(8)];
-        vb_bits::fill_bits(window, start % 8, start % 8 + (end - start), v);
+    if len > 0 {
+        let window = &mut bytes[offset / 8..(offset + len).div_ceil(8)];
+        vb_bits::fill_bits(window, offset % 8, offset % 8 + len, v);
     }
 }
 
-/// Whether `end` is at most the number of bits; then [`vb_fill_bits`] is done, and else the bytes
-/// are as they were.
+/// Whether the window lies in the bytes; then [`vb_fill_bits`] is done, and else the bytes are as
+/// they were.
 #[unsafe(no_mangle)]
-pub extern "C" fn vb_try_fill_bits(bytes: &mut [u8], start: usize, end: usize, v: bool) -> bool
-    ensures { DoneIf (end ≤ 8 * length bytes.old)
-        (Writes bytes.old bytes.new start (replicate (end - start) v))
+pub extern "C" fn vb_try_fill_bits(bytes: &mut [u8], offset: usize, len: usize, v: bool) -> bool
+    ensures { DoneIf (InBytes bytes.old offset len)
+        (Writes bytes.old bytes.new offset (replicate len v))
         (bytes.new ≡ bytes.old) result }
 {
-    if !vb_bits::window_fits(bytes, 0, end) {
+    if !vb_bits::window_fits(bytes, offset, len) {
         return false;
     }
-    vb_fill_bits(bytes, start, end, v);
+    vb_fill_bits(bytes, offset, len, v);
     true
 }
 

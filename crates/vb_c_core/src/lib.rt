@@ -4,6 +4,8 @@
 
 mod copy;
 mod place;
+mod taken;
 
 pub use copy::copy_to_window;
 pub use place::Place;
+pub use taken::Taken;

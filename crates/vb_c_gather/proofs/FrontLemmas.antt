@@ -12,13 +12,13 @@ use Rattle.vb_bits.proofs.BitsLemmas.{length-bits}
 use Rattle.vb_bits.proofs.KeptLemmas.{length-kept_by}
 use Rattle.vb_bits.proofs.WindowLemmas.{bits-append}
 use Rattle.vb_c_core.proofs.PartLemmas.{part, Writes_in_part}
-use Rattle.vb_c_core.specs.declared.place.Place.{Place}
+use Rattle.vb_c_core.specs.declared.taken.Taken.{Taken}
 use Rattle.vb_filter.proofs.PendingLemmas.{Writes_in_front}
 use Rattle.vb_pack.specs.WordBits.{filled_to}
 use Rattle.vb_take.specs.Takes.{IsTaken}
 use Rattle.vb_c_gather.specs.Filtered.{FiltersBits}
 use Rattle.vb_c_gather.specs.Packed.{Packs}
-use Rattle.vb_c_gather.specs.Taken.{TakesAt, Takes}
+use Rattle.vb_c_gather.specs.Taken.{TakesAt}
 
 -- values that are packed into the first bytes
 pub Packs_in_front : (bools : List Bool) (b c : List ℕ) (n e : ℕ) → length bools ≡ n
@@ -53,28 +53,9 @@ Filters_in_front mask values b c answer kept e same number end room f = record {
       (omega (arith, number, end, length-kept_by false mask values same)) f.window;
 }
 
--- bits that are taken into the first bytes
-pub Takes_in_front : (l : List Bool) (indices : List ℤ) (validity : Option (List Bool))
-    → (b c : List ℕ) (answer : Place) (e : ℕ) → e ≡ div_ceil (length indices) 8
-    → length indices ≤ 8 * length b → Takes l indices validity (take e b) c answer
-    → Takes l indices validity b (c ++ drop e b) answer
-Takes_in_front l indices validity b c answer e end room t =
-    let n : ℕ = length indices in
-    let inside : e ≤ length b = omega (arith, end, room) in
-    let long : length c ≡ e = t.others.same_len ∙ length-take-le e b inside in
-    let same : bits (c ++ drop e b) 0 n ≡ bits c 0 n =
-    bits-append c (drop e b) 0 n (omega (arith, long, end)) in
-    record {
-      taken = λ h. subst (IsTaken l indices validity) (sym same) (t.taken h);
-      past = t.past;
-      others = subst (Writes b (c ++ drop e b) 0) (sym same)
-          (Writes_in_front b c 0 e (bits c 0 n) inside
-          (omega (arith, end, length-bits c 0 n)) t.others);
-    }
-
--- into the bytes of a window
+-- bits that are taken into the bytes of a window
 pub Takes_in_part : (l : List Bool) (indices : List ℤ) (validity : Option (List Bool))
-    → (b c : List ℕ) (answer : Place) (o e : ℕ) → InBytes b o (length indices)
+    → (b c : List ℕ) (answer : Taken) (o e : ℕ) → InBytes b o (length indices)
     → e ≡ div_ceil (o + length indices) 8
     → TakesAt l indices validity (part b o e) c (o % 8) answer
     → TakesAt l indices validity b (put_mid (o / 8) (e - o / 8) b c) o answer

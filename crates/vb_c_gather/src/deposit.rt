@@ -11,52 +11,53 @@ use vb_filter::deposit_into;
 use vb_view::BitBufferView;
 
 /// Writes `len` bits to `out` from bit `o` on: where that of `mask` from bit `m` on is true, the
-/// bits of `values` from bit `v` on, in order, of which there have to be as many; false elsewhere.
-/// Every other bit of `out` stays. It undoes `vb_filter_bits`.
+/// bits of `bytes` from bit `offset` on, in order, of which there have to be as many; false
+/// elsewhere. Every other bit of `out` stays. It undoes `vb_filter_bits`.
 #[unsafe(no_mangle)]
 pub extern "C" fn vb_deposit_bits(
     out: &mut [u8],
     o: usize,
-    values: &[u8],
-    v: usize,
+    bytes: &[u8],
+    offset: usize,
     mask: &[u8],
     m: usize,
     len: usize,
 )
-    requires { DepositFits out.old o values.now v mask.now m len }
-    ensures { Deposits values.now v (bits mask.now m len) out.old out.new o }
+    requires { DepositFits out.old o bytes.now offset mask.now m len }
+    ensures { Deposits bytes.now offset (bits mask.now m len) out.old out.new o }
 {
     // Of no bits too, the kernel stores those before `o` again that are in its byte.
     if len == 0 {
         return;
     }
     let mask = BitBufferView::new_with_offset(mask, len, m);
-    let values = BitBufferView::new_with_offset(values, mask.true_count(), v);
+    let values = BitBufferView::new_with_offset(bytes, mask.true_count(), offset);
     let end = (o + len).div_ceil(8);
     deposit_into(&mut out[o / 8..end], o % 8, values, mask);
 }
 
-/// Whether all windows lie in their bytes, that of `values` with a bit for each true one of `mask`;
+/// Whether all windows lie in their bytes, that of `bytes` with a bit for each true one of `mask`;
 /// [`vb_deposit_bits`] is then done, else nothing.
 #[unsafe(no_mangle)]
 pub extern "C" fn vb_try_deposit_bits(
     out: &mut [u8],
     o: usize,
-    values: &[u8],
-    v: usize,
+    bytes: &[u8],
+    offset: usize,
     mask: &[u8],
     m: usize,
     len: usize,
 ) -> bool
-    ensures { DoneIf (DepositFits out.old o values.now v mask.now m len)
-        (Deposits values.now v (bits mask.now m len) out.old out.new o) (out.new ≡ out.old) result }
+    ensures { DoneIf (DepositFits out.old o bytes.now offset mask.now m len)
+        (Deposits bytes.now offset (bits mask.now m len) out.old out.new o)
+        (out.new ≡ out.old) result }
 {
     if !window_fits(out, o, len)
         || !window_fits(mask, m, len)
-        || !window_fits(values, v, count_ones(mask, m, len))
+        || !window_fits(bytes, offset, count_ones(mask, m, len))
     {
         return false;
     }
-    vb_deposit_bits(out, o, values, v, mask, m, len);
+    vb_deposit_bits(out, o, bytes, offset, mask, m, len);
     true
 }

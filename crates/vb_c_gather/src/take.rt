@@ -1,242 +1,357 @@
 //! Bits taken at indices.
-ghost use Rattle.std.specs.Prelude.{◌≡◌, ◌*◌, ◌≤◌, Some, None, length, map, pos};
+ghost use Rattle.std.specs.Prelude.{◌≡◌, ◌+◌, ◌*◌, ◌≤◌, IfOk, IfErr, length, map, pos};
 ghost use Rattle.std.specs.Option.{ForSome, option_map};
 ghost use Rattle.vb_bits.specs.Bits.{bits};
 ghost use Rattle.vb_bits.specs.InBytes.{InBytes};
+ghost use Rattle.vb_bits.specs.Writes.{Writes};
 ghost use Rattle.vb_c_core.specs.Fits.{DoneIf};
-ghost use Rattle.vb_c_gather.specs.Taken.{Takes};
+ghost use Rattle.vb_c_core.specs.Validity.{HasValidity, validity_of};
+ghost use Rattle.vb_c_gather.specs.Taken.{Takes, TakesAt};
+ghost use Rattle.vb_take.specs.Takes.{IsTaken, IsFirstPast};
 ghost use Rattle.vb_view.specs.View.{bits_of};
 
-use vb_bits::window_fits;
-use vb_c_core::Place;
+use crate::block::COPIED_BITS;
+use vb_bits::{copy_bits, window_fits};
+use vb_c_core::Taken;
 use vb_core::BitIndex;
+use vb_take::take_into;
 use vb_view::BitBufferView;
 
-/// Writes the bits that the indices name among the `len` bits from bit `offset` on to the first
-/// bits of `out`, one for each index, and answers no place; or answers the first position whose
-/// index isn't below `len`. The bits of `out` behind the first ones stay; where a position is
-/// answered, the first ones hold any bits.
+/// Writes the bits that the indices name among the `len` bits from bit `offset` on to the bits of
+/// `out` from bit `o` on, one for each index of 8 bits; or answers the first position that counts
+/// and whose index is out of range, not below `len`. Where `all_valid` is false, a position counts
+/// if the bit of `validity` from bit `v` on is true: at the others false is written, and their
+/// indices aren't looked at. Every other bit of `out` stays; where a position is answered, those
+/// from bit `o` on, one for each index, hold any.
 #[unsafe(no_mangle)]
-pub extern "C" fn vb_take_u32(
+pub extern "C" fn vb_take_bits_u8(
     out: &mut [u8],
+    o: usize,
     bytes: &[u8],
     offset: usize,
     len: usize,
-    indices: &[u32],
-) -> Place
-    requires room { length indices.now ≤ 8 * length out.old }
-    requires window { InBytes bytes.now offset len }
-    ensures { Takes (bits bytes.now offset len) (map pos indices.now) None out.old out.new result }
-{
-    let window = BitBufferView::new_with_offset(bytes, len, offset);
-    take(out, window, indices, None)
-}
-
-/// Whether the window lies in the bytes, and `out` has room for a bit an index; `past` is then what
-/// [`vb_take_u32`] answers, and else all is as it was.
-#[unsafe(no_mangle)]
-pub extern "C" fn vb_try_take_u32(
-    out: &mut [u8],
-    bytes: &[u8],
-    offset: usize,
-    len: usize,
-    indices: &[u32],
-    past: &mut Place,
-) -> bool
-    ensures { DoneIf ((length indices.now ≤ 8 * length out.old) × InBytes bytes.now offset len)
-        (Takes (bits bytes.now offset len) (map pos indices.now) None out.old out.new past.new)
-        ((out.new ≡ out.old) × (past.new ≡ past.old)) result }
-{
-    if !window_fits(out, 0, indices.len()) || !window_fits(bytes, offset, len) {
-        return false;
-    }
-    *past = vb_take_u32(out, bytes, offset, len, indices);
-    true
-}
-
-/// Writes the bits that the indices name among the `len` bits from bit `offset` on to the first
-/// bits of `out`, one for each index, and answers no place; or answers the first position that
-/// counts and whose index isn't below `len`. A position counts where the bit of `validity` from bit
-/// `v` on is true: at the others false is written, and their indices aren't looked at. The bits of
-/// `out` behind the first ones stay; where a position is answered, the first ones hold any bits.
-#[unsafe(no_mangle)]
-pub extern "C" fn vb_take_valid_u32(
-    out: &mut [u8],
-    bytes: &[u8],
-    offset: usize,
-    len: usize,
-    indices: &[u32],
+    indices: &[u8],
+    all_valid: bool,
     validity: &[u8],
     v: usize,
-) -> Place
-    requires room { length indices.now ≤ 8 * length out.old }
+) -> Taken
+    requires room { InBytes out.old o (length indices.now) }
     requires window { InBytes bytes.now offset len }
-    requires validity { InBytes validity.now v (length indices.now) }
-    ensures { Takes (bits bytes.now offset len) (map pos indices.now)
-        (Some (bits validity.now v (length indices.now))) out.old out.new result }
+    requires validity { HasValidity all_valid validity.now v (length indices.now) }
+    ensures { TakesAt (bits bytes.now offset len) (map pos indices.now)
+        (validity_of all_valid validity.now v (length indices.now)) out.old out.new o result }
 {
     let window = BitBufferView::new_with_offset(bytes, len, offset);
-    let valid = BitBufferView::new_with_offset(validity, indices.len(), v);
-    take(out, window, indices, Some(valid))
+    take(out, o, window, indices, all_valid, validity, v)
 }
 
-/// Whether both windows lie in their bytes, and `out` has room for a bit an index; `past` is then
-/// what [`vb_take_valid_u32`] answers, and else all is as it was.
+/// Whether all windows lie in their bytes, that of `validity` only where it counts, those of `out`
+/// and `validity` with a bit an index; `taken` is then what [`vb_take_bits_u8`] answers, and
+/// else all is as it was.
 #[unsafe(no_mangle)]
-pub extern "C" fn vb_try_take_valid_u32(
+pub extern "C" fn vb_try_take_bits_u8(
     out: &mut [u8],
+    o: usize,
     bytes: &[u8],
     offset: usize,
     len: usize,
-    indices: &[u32],
+    indices: &[u8],
+    all_valid: bool,
     validity: &[u8],
     v: usize,
-    past: &mut Place,
+    taken: &mut Taken,
 ) -> bool
-    ensures { DoneIf ((length indices.now ≤ 8 * length out.old) × InBytes bytes.now offset len
-        × InBytes validity.now v (length indices.now))
-        (Takes (bits bytes.now offset len) (map pos indices.now)
-        (Some (bits validity.now v (length indices.now))) out.old out.new past.new)
-        ((out.new ≡ out.old) × (past.new ≡ past.old)) result }
+    ensures { DoneIf (InBytes out.old o (length indices.now) × InBytes bytes.now offset len
+        × HasValidity all_valid validity.now v (length indices.now))
+        (TakesAt (bits bytes.now offset len) (map pos indices.now)
+        (validity_of all_valid validity.now v (length indices.now)) out.old out.new o taken.new)
+        ((out.new ≡ out.old) × (taken.new ≡ taken.old)) result }
 {
-    if !window_fits(out, 0, indices.len())
+    if !window_fits(out, o, indices.len())
         || !window_fits(bytes, offset, len)
-        || !window_fits(validity, v, indices.len())
+        || !all_valid && !window_fits(validity, v, indices.len())
     {
         return false;
     }
-    *past = vb_take_valid_u32(out, bytes, offset, len, indices, validity, v);
+    *taken = vb_take_bits_u8(out, o, bytes, offset, len, indices, all_valid, validity, v);
     true
 }
 
-/// Writes the bits that the indices name among the `len` bits from bit `offset` on to the first
-/// bits of `out`, one for each index of 64 bits, and answers no place; or answers the first
-/// position whose index isn't below `len`. The bits of `out` behind the first ones stay; where a
-/// position is answered, the first ones hold any bits.
+/// [`vb_take_bits_u8`] of indices of 16 bits.
 #[unsafe(no_mangle)]
-pub extern "C" fn vb_take_u64(
+pub extern "C" fn vb_take_bits_u16(
     out: &mut [u8],
+    o: usize,
     bytes: &[u8],
     offset: usize,
     len: usize,
-    indices: &[u64],
-) -> Place
-    requires room { length indices.now ≤ 8 * length out.old }
-    requires window { InBytes bytes.now offset len }
-    ensures { Takes (bits bytes.now offset len) (map pos indices.now) None out.old out.new result }
-{
-    let window = BitBufferView::new_with_offset(bytes, len, offset);
-    take(out, window, indices, None)
-}
-
-/// Whether the window lies in the bytes, and `out` has room for a bit an index; `past` is then what
-/// [`vb_take_u64`] answers, and else all is as it was.
-#[unsafe(no_mangle)]
-pub extern "C" fn vb_try_take_u64(
-    out: &mut [u8],
-    bytes: &[u8],
-    offset: usize,
-    len: usize,
-    indices: &[u64],
-    past: &mut Place,
-) -> bool
-    ensures { DoneIf ((length indices.now ≤ 8 * length out.old) × InBytes bytes.now offset len)
-        (Takes (bits bytes.now offset len) (map pos indices.now) None out.old out.new past.new)
-        ((out.new ≡ out.old) × (past.new ≡ past.old)) result }
-{
-    if !window_fits(out, 0, indices.len()) || !window_fits(bytes, offset, len) {
-        return false;
-    }
-    *past = vb_take_u64(out, bytes, offset, len, indices);
-    true
-}
-
-/// Writes the bits that the indices name among the `len` bits from bit `offset` on to the first
-/// bits of `out`, one for each index of 64 bits, and answers no place; or answers the first
-/// position that counts and whose index isn't below `len`. A position counts where the bit of
-/// `validity` from bit `v` on is true: at the others false is written, and their indices aren't
-/// looked at. The bits of `out` behind the first ones stay; where a position is answered, the first
-/// ones hold any bits.
-#[unsafe(no_mangle)]
-pub extern "C" fn vb_take_valid_u64(
-    out: &mut [u8],
-    bytes: &[u8],
-    offset: usize,
-    len: usize,
-    indices: &[u64],
+    indices: &[u16],
+    all_valid: bool,
     validity: &[u8],
     v: usize,
-) -> Place
-    requires room { length indices.now ≤ 8 * length out.old }
+) -> Taken
+    requires room { InBytes out.old o (length indices.now) }
     requires window { InBytes bytes.now offset len }
-    requires validity { InBytes validity.now v (length indices.now) }
-    ensures { Takes (bits bytes.now offset len) (map pos indices.now)
-        (Some (bits validity.now v (length indices.now))) out.old out.new result }
+    requires validity { HasValidity all_valid validity.now v (length indices.now) }
+    ensures { TakesAt (bits bytes.now offset len) (map pos indices.now)
+        (validity_of all_valid validity.now v (length indices.now)) out.old out.new o result }
 {
     let window = BitBufferView::new_with_offset(bytes, len, offset);
-    let valid = BitBufferView::new_with_offset(validity, indices.len(), v);
-    take(out, window, indices, Some(valid))
+    take(out, o, window, indices, all_valid, validity, v)
 }
 
-/// Whether both windows lie in their bytes, and `out` has room for a bit an index; `past` is then
-/// what [`vb_take_valid_u64`] answers, and else all is as it was.
+/// Whether all windows lie in their bytes, that of `validity` only where it counts, those of `out`
+/// and `validity` with a bit an index; `taken` is then what [`vb_take_bits_u16`] answers, and
+/// else all is as it was.
 #[unsafe(no_mangle)]
-pub extern "C" fn vb_try_take_valid_u64(
+pub extern "C" fn vb_try_take_bits_u16(
     out: &mut [u8],
+    o: usize,
     bytes: &[u8],
     offset: usize,
     len: usize,
-    indices: &[u64],
+    indices: &[u16],
+    all_valid: bool,
     validity: &[u8],
     v: usize,
-    past: &mut Place,
+    taken: &mut Taken,
 ) -> bool
-    ensures { DoneIf ((length indices.now ≤ 8 * length out.old) × InBytes bytes.now offset len
-        × InBytes validity.now v (length indices.now))
-        (Takes (bits bytes.now offset len) (map pos indices.now)
-        (Some (bits validity.now v (length indices.now))) out.old out.new past.new)
-        ((out.new ≡ out.old) × (past.new ≡ past.old)) result }
+    ensures { DoneIf (InBytes out.old o (length indices.now) × InBytes bytes.now offset len
+        × HasValidity all_valid validity.now v (length indices.now))
+        (TakesAt (bits bytes.now offset len) (map pos indices.now)
+        (validity_of all_valid validity.now v (length indices.now)) out.old out.new o taken.new)
+        ((out.new ≡ out.old) × (taken.new ≡ taken.old)) result }
 {
-    if !window_fits(out, 0, indices.len())
+    if !window_fits(out, o, indices.len())
         || !window_fits(bytes, offset, len)
-        || !window_fits(validity, v, indices.len())
+        || !all_valid && !window_fits(validity, v, indices.len())
     {
         return false;
     }
-    *past = vb_take_valid_u64(out, bytes, offset, len, indices, validity, v);
+    *taken = vb_take_bits_u16(out, o, bytes, offset, len, indices, all_valid, validity, v);
     true
 }
 
-/// The bits at the indices, as [`vb_take_u32`] and [`vb_take_valid_u32`] write them, by a slice of
-/// the bytes that have one of them.
+/// [`vb_take_bits_u8`] of indices of 32 bits.
+#[unsafe(no_mangle)]
+pub extern "C" fn vb_take_bits_u32(
+    out: &mut [u8],
+    o: usize,
+    bytes: &[u8],
+    offset: usize,
+    len: usize,
+    indices: &[u32],
+    all_valid: bool,
+    validity: &[u8],
+    v: usize,
+) -> Taken
+    requires room { InBytes out.old o (length indices.now) }
+    requires window { InBytes bytes.now offset len }
+    requires validity { HasValidity all_valid validity.now v (length indices.now) }
+    ensures { TakesAt (bits bytes.now offset len) (map pos indices.now)
+        (validity_of all_valid validity.now v (length indices.now)) out.old out.new o result }
+{
+    let window = BitBufferView::new_with_offset(bytes, len, offset);
+    take(out, o, window, indices, all_valid, validity, v)
+}
+
+/// Whether all windows lie in their bytes, that of `validity` only where it counts, those of `out`
+/// and `validity` with a bit an index; `taken` is then what [`vb_take_bits_u32`] answers, and
+/// else all is as it was.
+#[unsafe(no_mangle)]
+pub extern "C" fn vb_try_take_bits_u32(
+    out: &mut [u8],
+    o: usize,
+    bytes: &[u8],
+    offset: usize,
+    len: usize,
+    indices: &[u32],
+    all_valid: bool,
+    validity: &[u8],
+    v: usize,
+    taken: &mut Taken,
+) -> bool
+    ensures { DoneIf (InBytes out.old o (length indices.now) × InBytes bytes.now offset len
+        × HasValidity all_valid validity.now v (length indices.now))
+        (TakesAt (bits bytes.now offset len) (map pos indices.now)
+        (validity_of all_valid validity.now v (length indices.now)) out.old out.new o taken.new)
+        ((out.new ≡ out.old) × (taken.new ≡ taken.old)) result }
+{
+    if !window_fits(out, o, indices.len())
+        || !window_fits(bytes, offset, len)
+        || !all_valid && !window_fits(validity, v, indices.len())
+    {
+        return false;
+    }
+    *taken = vb_take_bits_u32(out, o, bytes, offset, len, indices, all_valid, validity, v);
+    true
+}
+
+/// [`vb_take_bits_u8`] of indices of 64 bits.
+#[unsafe(no_mangle)]
+pub extern "C" fn vb_take_bits_u64(
+    out: &mut [u8],
+    o: usize,
+    bytes: &[u8],
+    offset: usize,
+    len: usize,
+    indices: &[u64],
+    all_valid: bool,
+    validity: &[u8],
+    v: usize,
+) -> Taken
+    requires room { InBytes out.old o (length indices.now) }
+    requires window { InBytes bytes.now offset len }
+    requires validity { HasValidity all_valid validity.now v (length indices.now) }
+    ensures { TakesAt (bits bytes.now offset len) (map pos indices.now)
+        (validity_of all_valid validity.now v (length indices.now)) out.old out.new o result }
+{
+    let window = BitBufferView::new_with_offset(bytes, len, offset);
+    take(out, o, window, indices, all_valid, validity, v)
+}
+
+/// Whether all windows lie in their bytes, that of `validity` only where it counts, those of `out`
+/// and `validity` with a bit an index; `taken` is then what [`vb_take_bits_u64`] answers, and
+/// else all is as it was.
+#[unsafe(no_mangle)]
+pub extern "C" fn vb_try_take_bits_u64(
+    out: &mut [u8],
+    o: usize,
+    bytes: &[u8],
+    offset: usize,
+    len: usize,
+    indices: &[u64],
+    all_valid: bool,
+    validity: &[u8],
+    v: usize,
+    taken: &mut Taken,
+) -> bool
+    ensures { DoneIf (InBytes out.old o (length indices.now) × InBytes bytes.now offset len
+        × HasValidity all_valid validity.now v (length indices.now))
+        (TakesAt (bits bytes.now offset len) (map pos indices.now)
+        (validity_of all_valid validity.now v (length indices.now)) out.old out.new o taken.new)
+        ((out.new ≡ out.old) × (taken.new ≡ taken.old)) result }
+{
+    if !window_fits(out, o, indices.len())
+        || !window_fits(bytes, offset, len)
+        || !all_valid && !window_fits(validity, v, indices.len())
+    {
+        return false;
+    }
+    *taken = vb_take_bits_u64(out, o, bytes, offset, len, indices, all_valid, validity, v);
+    true
+}
+
+/// The bits at the indices, as [`vb_take_bits_u8`] writes them, by a slice of the bytes that have
+/// one of them.
 fn take<I: BitIndex>(
     out: &mut [u8],
+    o: usize,
     window: BitBufferView<'_>,
     indices: &[I],
-    validity: Option<BitBufferView<'_>>,
-) -> Place
-    requires room { length indices.now ≤ 8 * length out.old }
-    requires validity { ForSome validity (λ v. length (bits_of v) ≡ length indices.now) }
-    ensures { Takes (bits_of window.entry) (map I.number indices.now)
-        (option_map bits_of validity.entry) out.old out.new result }
+    all_valid: bool,
+    validity: &[u8],
+    v: usize,
+) -> Taken
+    requires room { InBytes out.old o (length indices.now) }
+    requires validity { HasValidity all_valid validity.now v (length indices.now) }
+    ensures { TakesAt (bits_of window.entry) (map I.number indices.now)
+        (validity_of all_valid validity.now v (length indices.now)) out.old out.new o result }
 {
-    let end = indices.len().div_ceil(8);
-    take_to_front(&mut out[..end], window, indices, validity)
+    let end = (o + indices.len()).div_ceil(8);
+    let part = &mut out[o / 8..end];
+    take_within(part, o % 8, window, indices, all_valid, validity, v)
 }
 
 /// [`take`], which may store any byte of `out`.
-pub(crate) fn take_to_front<I: BitIndex>(
+fn take_within<I: BitIndex>(
+    out: &mut [u8],
+    o: usize,
+    window: BitBufferView<'_>,
+    indices: &[I],
+    all_valid: bool,
+    validity: &[u8],
+    v: usize,
+) -> Taken
+    requires room { InBytes out.old o (length indices.now) }
+    requires validity { HasValidity all_valid validity.now v (length indices.now) }
+    ensures { TakesAt (bits_of window.entry) (map I.number indices.now)
+        (validity_of all_valid validity.now v (length indices.now)) out.old out.new o result }
+{
+    if o == 0 {
+        let valid = valid_part(all_valid, validity, v, 0, indices.len());
+        return take_to_front(out, window, indices, valid);
+    }
+    take_by_blocks(out, o, window, indices, all_valid, validity, v)
+        .err()
+        .into()
+}
+
+/// [`take`] at bit 0, which may store any byte of `out`.
+fn take_to_front<I: BitIndex>(
     out: &mut [u8],
     window: BitBufferView<'_>,
     indices: &[I],
     validity: Option<BitBufferView<'_>>,
-) -> Place
+) -> Taken
     requires room { length indices.now ≤ 8 * length out.old }
     requires validity { ForSome validity (λ v. length (bits_of v) ≡ length indices.now) }
     ensures { Takes (bits_of window.entry) (map I.number indices.now)
         (option_map bits_of validity.entry) out.old out.new result }
 {
-    vb_take::take_into(out, window, indices, validity)
-        .err()
-        .into()
+    take_into(out, window, indices, validity).err().into()
+}
+
+/// The validity of `n` positions from `start` on, where it counts.
+pub(crate) fn valid_part(
+    all_valid: bool,
+    validity: &[u8],
+    v: usize,
+    start: usize,
+    n: usize,
+) -> Option<BitBufferView<'_>>
+    requires { HasValidity all_valid validity.now v (start + n) }
+    ensures valid { option_map bits_of result
+        ≡ validity_of all_valid validity.now (v + start) n }
+    ensures len { ForSome result (λ view. length (bits_of view) ≡ n) }
+{
+    if all_valid {
+        None
+    } else {
+        Some(BitBufferView::new_with_offset(validity, n, v + start))
+    }
+}
+
+/// [`take`], a block of the indices at a time; or the first position that takes no bit.
+fn take_by_blocks<I: BitIndex>(
+    out: &mut [u8],
+    o: usize,
+    window: BitBufferView<'_>,
+    indices: &[I],
+    all_valid: bool,
+    validity: &[u8],
+    v: usize,
+) -> Result<(), usize>
+    requires room { InBytes out.old o (length indices.now) }
+    requires validity { HasValidity all_valid validity.now v (length indices.now) }
+    ensures taken { IfOk result (λ _. IsTaken (bits_of window.entry) (map I.number indices.now)
+        (validity_of all_valid validity.now v (length indices.now))
+        (bits out.new o (length indices.now))) }
+    ensures past { IfErr result (λ p. IsFirstPast (bits_of window.entry)
+        (map I.number indices.now)
+        (validity_of all_valid validity.now v (length indices.now)) p) }
+    ensures others { Writes out.old out.new o (bits out.new o (length indices.now)) }
+{
+    let mut made = [0u8; COPIED_BITS / 8];
+    let mut done = 0;
+    while done < indices.len() {
+        let n = (indices.len() - done).min(COPIED_BITS);
+        let valid = valid_part(all_valid, validity, v, done, n);
+        if let Err(position) = take_into(&mut made, window, &indices[done..done + n], valid) {
+            return Err(done + position);
+        }
+        copy_bits(out, o + done, &made, 0, n);
+        done += n;
+    }
+    Ok(())
 }

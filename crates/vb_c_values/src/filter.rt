@@ -15,7 +15,7 @@ use vb_view::BitBufferView;
 /// of `out`, which has to have room for them, and answers how many they are. The items of `out`
 /// behind them stay.
 #[unsafe(no_mangle)]
-pub extern "C" fn vb_filter_u8(out: &mut [u8], values: &[u8], mask: &[u8], m: usize) -> usize
+pub extern "C" fn vb_filter_values_u8(out: &mut [u8], values: &[u8], mask: &[u8], m: usize) -> usize
     requires { KeptFits mask.now m (length values.now) (length out.old) }
     ensures { Filters (bits mask.now m (length values.now)) values.now out.old out.new result }
 {
@@ -23,9 +23,9 @@ pub extern "C" fn vb_filter_u8(out: &mut [u8], values: &[u8], mask: &[u8], m: us
 }
 
 /// Whether the mask has a bit for each value in its bytes, and `out` room for those that it keeps;
-/// `written` is then what [`vb_filter_u8`] answers, and else all is as it was.
+/// `written` is then what [`vb_filter_values_u8`] answers, and else all is as it was.
 #[unsafe(no_mangle)]
-pub extern "C" fn vb_try_filter_u8(
+pub extern "C" fn vb_try_filter_values_u8(
     out: &mut [u8],
     values: &[u8],
     mask: &[u8],
@@ -43,7 +43,12 @@ pub extern "C" fn vb_try_filter_u8(
 /// order, to the front of `out`, which has to have room for them, and answers how many they are.
 /// The items of `out` behind them stay.
 #[unsafe(no_mangle)]
-pub extern "C" fn vb_filter_u16(out: &mut [u16], values: &[u16], mask: &[u8], m: usize) -> usize
+pub extern "C" fn vb_filter_values_u16(
+    out: &mut [u16],
+    values: &[u16],
+    mask: &[u8],
+    m: usize,
+) -> usize
     requires { KeptFits mask.now m (length values.now) (length out.old) }
     ensures { Filters (bits mask.now m (length values.now)) values.now out.old out.new result }
 {
@@ -51,9 +56,9 @@ pub extern "C" fn vb_filter_u16(out: &mut [u16], values: &[u16], mask: &[u8], m:
 }
 
 /// Whether the mask has a bit for each value in its bytes, and `out` room for those that it keeps;
-/// `written` is then what [`vb_filter_u16`] answers, and else all is as it was.
+/// `written` is then what [`vb_filter_values_u16`] answers, and else all is as it was.
 #[unsafe(no_mangle)]
-pub extern "C" fn vb_try_filter_u16(
+pub extern "C" fn vb_try_filter_values_u16(
     out: &mut [u16],
     values: &[u16],
     mask: &[u8],
@@ -71,7 +76,12 @@ pub extern "C" fn vb_try_filter_u16(
 /// order, to the front of `out`, which has to have room for them, and answers how many they are.
 /// The items of `out` behind them stay.
 #[unsafe(no_mangle)]
-pub extern "C" fn vb_filter_u32(out: &mut [u32], values: &[u32], mask: &[u8], m: usize) -> usize
+pub extern "C" fn vb_filter_values_u32(
+    out: &mut [u32],
+    values: &[u32],
+    mask: &[u8],
+    m: usize,
+) -> usize
     requires { KeptFits mask.now m (length values.now) (length out.old) }
     ensures { Filters (bits mask.now m (length values.now)) values.now out.old out.new result }
 {
@@ -79,9 +89,9 @@ pub extern "C" fn vb_filter_u32(out: &mut [u32], values: &[u32], mask: &[u8], m:
 }
 
 /// Whether the mask has a bit for each value in its bytes, and `out` room for those that it keeps;
-/// `written` is then what [`vb_filter_u32`] answers, and else all is as it was.
+/// `written` is then what [`vb_filter_values_u32`] answers, and else all is as it was.
 #[unsafe(no_mangle)]
-pub extern "C" fn vb_try_filter_u32(
+pub extern "C" fn vb_try_filter_values_u32(
     out: &mut [u32],
     values: &[u32],
     mask: &[u8],
@@ -99,7 +109,12 @@ pub extern "C" fn vb_try_filter_u32(
 /// order, to the front of `out`, which has to have room for them, and answers how many they are.
 /// The items of `out` behind them stay.
 #[unsafe(no_mangle)]
-pub extern "C" fn vb_filter_u64(out: &mut [u64], values: &[u64], mask: &[u8], m: usize) -> usize
+pub extern "C" fn vb_filter_values_u64(
+    out: &mut [u64],
+    values: &[u64],
+    mask: &[u8],
+    m: usize,
+) -> usize
     requires { KeptFits mask.now m (length values.now) (length out.old) }
     ensures { Filters (bits mask.now m (length values.now)) values.now out.old out.new result }
 {
@@ -107,9 +122,9 @@ pub extern "C" fn vb_filter_u64(out: &mut [u64], values: &[u64], mask: &[u8], m:
 }
 
 /// Whether the mask has a bit for each value in its bytes, and `out` room for those that it keeps;
-/// `written` is then what [`vb_filter_u64`] answers, and else all is as it was.
+/// `written` is then what [`vb_filter_values_u64`] answers, and else all is as it was.
 #[unsafe(no_mangle)]
-pub extern "C" fn vb_try_filter_u64(
+pub extern "C" fn vb_try_filter_values_u64(
     out: &mut [u64],
     values: &[u64],
     mask: &[u8],
@@ -127,7 +142,12 @@ pub extern "C" fn vb_try_filter_u64(
 /// order, to the front of `out`, which has to have room for them, and answers how many they are.
 /// The items of `out` behind them stay.
 #[unsafe(no_mangle)]
-pub extern "C" fn vb_filter_u128(out: &mut [Wide], values: &[Wide], mask: &[u8], m: usize) -> usize
+pub extern "C" fn vb_filter_values_u128(
+    out: &mut [Wide],
+    values: &[Wide],
+    mask: &[u8],
+    m: usize,
+) -> usize
     requires { KeptFits mask.now m (length values.now) (length out.old) }
     ensures { Filters (bits mask.now m (length values.now)) values.now out.old out.new result }
 {
@@ -135,9 +155,9 @@ pub extern "C" fn vb_filter_u128(out: &mut [Wide], values: &[Wide], mask: &[u8],
 }
 
 /// Whether the mask has a bit for each value in its bytes, and `out` room for those that it keeps;
-/// `written` is then what [`vb_filter_u128`] answers, and else all is as it was.
+/// `written` is then what [`vb_filter_values_u128`] answers, and else all is as it was.
 #[unsafe(no_mangle)]
-pub extern "C" fn vb_try_filter_u128(
+pub extern "C" fn vb_try_filter_values_u128(
     out: &mut [Wide],
     values: &[Wide],
     mask: &[u8],

@@ -10,13 +10,13 @@ pub mod by_u64;
 pub mod by_u8;
 
 use vb_bits::window_fits;
-use vb_c_core::Place;
+use vb_c_core::Taken;
 use vb_core::{BitIndex, Element};
 use vb_take::take_values_into;
 use vb_view::BitBufferView;
 
-/// Writes the values at the indices to the front of `out`, and answers no place, or the first
-/// position that counts and whose index names no value.
+/// Writes the values at the indices to the front of `out`, or answers the first position that
+/// counts and whose index names no value.
 fn take_values<T: Element, I: BitIndex>(
     out: &mut [T],
     values: &[T],
@@ -24,7 +24,7 @@ fn take_values<T: Element, I: BitIndex>(
     all_valid: bool,
     validity: &[u8],
     v: usize,
-) -> Place
+) -> Taken
     requires room { length indices.now ≤ length out.old }
     requires validity { HasValidity all_valid validity.now v (length indices.now) }
     ensures { TakesValues T.zero values.now (map I.number indices.now)
@@ -39,8 +39,8 @@ fn take_values<T: Element, I: BitIndex>(
     take_values_into(out, values, indices, valid).err().into()
 }
 
-/// Whether the numbers are good; `past` is then what [`take_values`] answers, and else all is as it
-/// was.
+/// Whether the numbers are good; `taken` is then what [`take_values`] answers, and else all is as
+/// it was.
 fn try_take_values<T: Element, I: BitIndex>(
     out: &mut [T],
     values: &[T],
@@ -48,17 +48,17 @@ fn try_take_values<T: Element, I: BitIndex>(
     all_valid: bool,
     validity: &[u8],
     v: usize,
-    past: &mut Place,
+    taken: &mut Taken,
 ) -> bool
     ensures { DoneIf ((length indices.now ≤ length out.old)
         × HasValidity all_valid validity.now v (length indices.now))
         (TakesValues T.zero values.now (map I.number indices.now)
-        (validity_of all_valid validity.now v (length indices.now)) out.old out.new past.new)
-        ((out.new ≡ out.old) × (past.new ≡ past.old)) result }
+        (validity_of all_valid validity.now v (length indices.now)) out.old out.new taken.new)
+        ((out.new ≡ out.old) × (taken.new ≡ taken.old)) result }
 {
     if out.len() < indices.len() || !all_valid && !window_fits(validity, v, indices.len()) {
         return false;
     }
-    *past = take_values(out, values, indices, all_valid, validity, v);
+    *taken = take_values(out, values, indices, all_valid, validity, v);
     true
 }

@@ -27,11 +27,11 @@ VB_CHECKED bool vb_try_and_count(const uint8_t *left, size_t size,
         size_t *ones);
 size_t vb_and_not_count(const uint8_t *left, size_t size);
 VB_CHECKED bool vb_try_and_not_count(const uint8_t *left, size_t size, size_t *ones);
-VB_CHECKED vb_place vb_take_u8_u8(uint8_t *out);
-VB_CHECKED bool vb_try_take_u8_u8(uint8_t *out, vb_place *past);
+VB_CHECKED vb_taken vb_take_u8_u8(uint8_t *out);
+VB_CHECKED bool vb_try_take_u8_u8(uint8_t *out, vb_taken *taken);
 """
-WIDER = """VB_CHECKED vb_place vb_take_u16_u8(uint8_t *out);
-VB_CHECKED bool vb_try_take_u16_u8(uint8_t *out, vb_place *past);
+WIDER = """VB_CHECKED vb_taken vb_take_u16_u8(uint8_t *out);
+VB_CHECKED bool vb_try_take_u16_u8(uint8_t *out, vb_taken *taken);
 const char *vb_level(void);
 """
 FILES = {
@@ -109,7 +109,7 @@ class Calls(unittest.TestCase):
         self.assertEqual(found, [f"{PAGE}: has `{it}`, which {HEADERS} hasn't" for it in gone])
 
     def test_a_form_is_gone(self):
-        old = "VB_CHECKED bool vb_try_take_u8_u8(uint8_t *out, vb_place *past);\n"
+        old = "VB_CHECKED bool vb_try_take_u8_u8(uint8_t *out, vb_taken *taken);\n"
         said = [f"{PAGE}: has `vb_try_take_u8_u8`, which {HEADERS} hasn't"]
         self.assertEqual(self.replace("bindings/c/vortex_bits.h", old, ""), said)
 

@@ -17,7 +17,7 @@ pub fn filter(out: &mut Written<'_>, bits: Bits<'_>, mask: Bits<'_>) {
     debug_assert_eq!(out.len(), portable::count_ones(mask));
     #[cfg(vortex_bits_native)]
     if let Some(kernels) = kernels().filter(|_| !is_word(mask)) {
-        let function = kernels.filter_bits_at;
+        let function = kernels.filter_bits;
         let kept: usize = native!(@call function, [] start_mut out, start bits, window mask);
         debug_assert_eq!(kept, out.len());
         return;
@@ -39,11 +39,11 @@ pub fn keep<T: Value>(out: &mut [T], values: &[T], mask: Bits<'_>) -> usize {
         }
         return match laid {
             // Written by tools/write-lists from tools/families/filter.txt.
-            Laid::One => by!(filter_u8),
-            Laid::Two => by!(filter_u16),
-            Laid::Four => by!(filter_u32),
-            Laid::Eight => by!(filter_u64),
-            Laid::Sixteen => by!(filter_u128),
+            Laid::One => by!(filter_values_u8),
+            Laid::Two => by!(filter_values_u16),
+            Laid::Four => by!(filter_values_u32),
+            Laid::Eight => by!(filter_values_u64),
+            Laid::Sixteen => by!(filter_values_u128),
             // To here.
         };
     }

@@ -15,7 +15,7 @@ use crate::value::Laid;
 #[inline]
 pub fn pack_bools(out: &mut Written<'_>, bools: &[bool]) {
     debug_assert_eq!(out.len(), bools.len());
-    native!(pack_truthy_at: start_mut out, slice bools);
+    native!(pack_truthy: start_mut out, slice bools);
     portable::pack(out, bools, |value| value);
 }
 
@@ -23,7 +23,7 @@ pub fn pack_bools(out: &mut Written<'_>, bools: &[bool]) {
 #[inline]
 pub fn pack_truthy(out: &mut Written<'_>, truthy: &[u8]) {
     debug_assert_eq!(out.len(), truthy.len());
-    native!(pack_truthy_at: start_mut out, slice truthy);
+    native!(pack_truthy: start_mut out, slice truthy);
     portable::pack(out, truthy, |value| value != 0);
 }
 
@@ -66,10 +66,10 @@ fn take_by_width<I: BitIndex>(
     }
     match width {
         // Written by tools/write-lists from tools/families/take_bits.txt.
-        Laid::One => by!(take_bits_at_u8),
-        Laid::Two => by!(take_bits_at_u16),
-        Laid::Four => by!(take_bits_at_u32),
-        Laid::Eight => by!(take_bits_at_u64),
+        Laid::One => by!(take_bits_u8),
+        Laid::Two => by!(take_bits_u16),
+        Laid::Four => by!(take_bits_u32),
+        Laid::Eight => by!(take_bits_u64),
         // To here.
         Laid::Sixteen => portable::take(out, bits, indices, validity),
     }

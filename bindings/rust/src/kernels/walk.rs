@@ -90,7 +90,7 @@ fn run_end(bits: Bits<'_>, start: usize) -> usize {
 /// The places of a page, counted from `base` on.
 #[cfg(vortex_bits_native)]
 fn indices(kernels: &Kernels, page: Bits<'_>, base: usize, out: &mut [usize]) -> usize {
-    let found = native!(@call kernels.set_indices, [] window page, slice_mut out);
+    let found = native!(@call kernels.set_indices, [] slice_mut out, window page);
     let moved = if base > 0 { found } else { 0 };
     for place in &mut out[..moved] {
         *place += base;
@@ -101,7 +101,7 @@ fn indices(kernels: &Kernels, page: Bits<'_>, base: usize, out: &mut [usize]) ->
 /// The runs of a page, counted from `base` on.
 #[cfg(vortex_bits_native)]
 fn slices(kernels: &Kernels, page: Bits<'_>, base: usize, out: &mut [Run]) -> usize {
-    let found = native!(@call kernels.set_slices, [] window page, slice_mut out);
+    let found = native!(@call kernels.set_slices, [] slice_mut out, window page);
     let moved = if base > 0 { found } else { 0 };
     for run in &mut out[..moved] {
         run.start += base;

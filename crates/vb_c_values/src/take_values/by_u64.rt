@@ -7,11 +7,11 @@ ghost use Rattle.vb_c_values.specs.WideLaws.{wide_zero};
 
 use crate::take_values::{take_values, try_take_values};
 use crate::wide::Wide;
-use vb_c_core::Place;
+use vb_c_core::Taken;
 
 /// Writes the values at the indices, of one byte each, to the front of `out`, which has to have
-/// room for one an index, and answers no place; or answers the first position that counts and whose
-/// index isn't below the number of values. Where `all_valid` is false, a position counts if the bit
+/// room for one an index; or answers the first position that counts and whose index is out of
+/// range, not below the number of values. Where `all_valid` is false, a position counts if the bit
 /// of `validity` from bit `v` on is true: at the others 0 is written, and their indices aren't
 /// looked at. The items of `out` behind those of the indices stay; where a position is answered,
 /// the ones in front hold any values.
@@ -23,7 +23,7 @@ pub extern "C" fn vb_take_values_u8_u64(
     all_valid: bool,
     validity: &[u8],
     v: usize,
-) -> Place
+) -> Taken
     requires room { length indices.now ≤ length out.old }
     requires validity { HasValidity all_valid validity.now v (length indices.now) }
     ensures { TakesValues 0 values.now (map pos indices.now)
@@ -33,7 +33,7 @@ pub extern "C" fn vb_take_values_u8_u64(
 }
 
 /// Whether `out` has room for a value an index, and the validity, where it counts, a bit in its
-/// bytes for each; `past` is then what [`vb_take_values_u8_u64`] answers, and else all is as it
+/// bytes for each; `taken` is then what [`vb_take_values_u8_u64`] answers, and else all is as it
 /// was.
 #[unsafe(no_mangle)]
 pub extern "C" fn vb_try_take_values_u8_u64(
@@ -43,20 +43,20 @@ pub extern "C" fn vb_try_take_values_u8_u64(
     all_valid: bool,
     validity: &[u8],
     v: usize,
-    past: &mut Place,
+    taken: &mut Taken,
 ) -> bool
     ensures { DoneIf ((length indices.now ≤ length out.old)
         × HasValidity all_valid validity.now v (length indices.now))
         (TakesValues 0 values.now (map pos indices.now)
-        (validity_of all_valid validity.now v (length indices.now)) out.old out.new past.new)
-        ((out.new ≡ out.old) × (past.new ≡ past.old)) result }
+        (validity_of all_valid validity.now v (length indices.now)) out.old out.new taken.new)
+        ((out.new ≡ out.old) × (taken.new ≡ taken.old)) result }
 {
-    try_take_values(out, values, indices, all_valid, validity, v, past)
+    try_take_values(out, values, indices, all_valid, validity, v, taken)
 }
 
 /// Writes the values at the indices, of two bytes each, to the front of `out`, which has to have
-/// room for one an index, and answers no place; or answers the first position that counts and whose
-/// index isn't below the number of values. Where `all_valid` is false, a position counts if the bit
+/// room for one an index; or answers the first position that counts and whose index is out of
+/// range, not below the number of values. Where `all_valid` is false, a position counts if the bit
 /// of `validity` from bit `v` on is true: at the others 0 is written, and their indices aren't
 /// looked at. The items of `out` behind those of the indices stay; where a position is answered,
 /// the ones in front hold any values.
@@ -68,7 +68,7 @@ pub extern "C" fn vb_take_values_u16_u64(
     all_valid: bool,
     validity: &[u8],
     v: usize,
-) -> Place
+) -> Taken
     requires room { length indices.now ≤ length out.old }
     requires validity { HasValidity all_valid validity.now v (length indices.now) }
     ensures { TakesValues 0 values.now (map pos indices.now)
@@ -78,7 +78,7 @@ pub extern "C" fn vb_take_values_u16_u64(
 }
 
 /// Whether `out` has room for a value an index, and the validity, where it counts, a bit in its
-/// bytes for each; `past` is then what [`vb_take_values_u16_u64`] answers, and else all is as it
+/// bytes for each; `taken` is then what [`vb_take_values_u16_u64`] answers, and else all is as it
 /// was.
 #[unsafe(no_mangle)]
 pub extern "C" fn vb_try_take_values_u16_u64(
@@ -88,20 +88,20 @@ pub extern "C" fn vb_try_take_values_u16_u64(
     all_valid: bool,
     validity: &[u8],
     v: usize,
-    past: &mut Place,
+    taken: &mut Taken,
 ) -> bool
     ensures { DoneIf ((length indices.now ≤ length out.old)
         × HasValidity all_valid validity.now v (length indices.now))
         (TakesValues 0 values.now (map pos indices.now)
-        (validity_of all_valid validity.now v (length indices.now)) out.old out.new past.new)
-        ((out.new ≡ out.old) × (past.new ≡ past.old)) result }
+        (validity_of all_valid validity.now v (length indices.now)) out.old out.new taken.new)
+        ((out.new ≡ out.old) × (taken.new ≡ taken.old)) result }
 {
-    try_take_values(out, values, indices, all_valid, validity, v, past)
+    try_take_values(out, values, indices, all_valid, validity, v, taken)
 }
 
 /// Writes the values at the indices, of four bytes each, to the front of `out`, which has to have
-/// room for one an index, and answers no place; or answers the first position that counts and whose
-/// index isn't below the number of values. Where `all_valid` is false, a position counts if the bit
+/// room for one an index; or answers the first position that counts and whose index is out of
+/// range, not below the number of values. Where `all_valid` is false, a position counts if the bit
 /// of `validity` from bit `v` on is true: at the others 0 is written, and their indices aren't
 /// looked at. The items of `out` behind those of the indices stay; where a position is answered,
 /// the ones in front hold any values.
@@ -113,7 +113,7 @@ pub extern "C" fn vb_take_values_u32_u64(
     all_valid: bool,
     validity: &[u8],
     v: usize,
-) -> Place
+) -> Taken
     requires room { length indices.now ≤ length out.old }
     requires validity { HasValidity all_valid validity.now v (length indices.now) }
     ensures { TakesValues 0 values.now (map pos indices.now)
@@ -123,7 +123,7 @@ pub extern "C" fn vb_take_values_u32_u64(
 }
 
 /// Whether `out` has room for a value an index, and the validity, where it counts, a bit in its
-/// bytes for each; `past` is then what [`vb_take_values_u32_u64`] answers, and else all is as it
+/// bytes for each; `taken` is then what [`vb_take_values_u32_u64`] answers, and else all is as it
 /// was.
 #[unsafe(no_mangle)]
 pub extern "C" fn vb_try_take_values_u32_u64(
@@ -133,20 +133,20 @@ pub extern "C" fn vb_try_take_values_u32_u64(
     all_valid: bool,
     validity: &[u8],
     v: usize,
-    past: &mut Place,
+    taken: &mut Taken,
 ) -> bool
     ensures { DoneIf ((length indices.now ≤ length out.old)
         × HasValidity all_valid validity.now v (length indices.now))
         (TakesValues 0 values.now (map pos indices.now)
-        (validity_of all_valid validity.now v (length indices.now)) out.old out.new past.new)
-        ((out.new ≡ out.old) × (past.new ≡ past.old)) result }
+        (validity_of all_valid validity.now v (length indices.now)) out.old out.new taken.new)
+        ((out.new ≡ out.old) × (taken.new ≡ taken.old)) result }
 {
-    try_take_values(out, values, indices, all_valid, validity, v, past)
+    try_take_values(out, values, indices, all_valid, validity, v, taken)
 }
 
 /// Writes the values at the indices, of eight bytes each, to the front of `out`, which has to have
-/// room for one an index, and answers no place; or answers the first position that counts and whose
-/// index isn't below the number of values. Where `all_valid` is false, a position counts if the bit
+/// room for one an index; or answers the first position that counts and whose index is out of
+/// range, not below the number of values. Where `all_valid` is false, a position counts if the bit
 /// of `validity` from bit `v` on is true: at the others 0 is written, and their indices aren't
 /// looked at. The items of `out` behind those of the indices stay; where a position is answered,
 /// the ones in front hold any values.
@@ -158,7 +158,7 @@ pub extern "C" fn vb_take_values_u64_u64(
     all_valid: bool,
     validity: &[u8],
     v: usize,
-) -> Place
+) -> Taken
     requires room { length indices.now ≤ length out.old }
     requires validity { HasValidity all_valid validity.now v (length indices.now) }
     ensures { TakesValues 0 values.now (map pos indices.now)
@@ -168,7 +168,7 @@ pub extern "C" fn vb_take_values_u64_u64(
 }
 
 /// Whether `out` has room for a value an index, and the validity, where it counts, a bit in its
-/// bytes for each; `past` is then what [`vb_take_values_u64_u64`] answers, and else all is as it
+/// bytes for each; `taken` is then what [`vb_take_values_u64_u64`] answers, and else all is as it
 /// was.
 #[unsafe(no_mangle)]
 pub extern "C" fn vb_try_take_values_u64_u64(
@@ -178,20 +178,20 @@ pub extern "C" fn vb_try_take_values_u64_u64(
     all_valid: bool,
     validity: &[u8],
     v: usize,
-    past: &mut Place,
+    taken: &mut Taken,
 ) -> bool
     ensures { DoneIf ((length indices.now ≤ length out.old)
         × HasValidity all_valid validity.now v (length indices.now))
         (TakesValues 0 values.now (map pos indices.now)
-        (validity_of all_valid validity.now v (length indices.now)) out.old out.new past.new)
-        ((out.new ≡ out.old) × (past.new ≡ past.old)) result }
+        (validity_of all_valid validity.now v (length indices.now)) out.old out.new taken.new)
+        ((out.new ≡ out.old) × (taken.new ≡ taken.old)) result }
 {
-    try_take_values(out, values, indices, all_valid, validity, v, past)
+    try_take_values(out, values, indices, all_valid, validity, v, taken)
 }
 
 /// Writes the values at the indices, of 16 bytes each, to the front of `out`, which has to have
-/// room for one an index, and answers no place; or answers the first position that counts and whose
-/// index isn't below the number of values. Where `all_valid` is false, a position counts if the bit
+/// room for one an index; or answers the first position that counts and whose index is out of
+/// range, not below the number of values. Where `all_valid` is false, a position counts if the bit
 /// of `validity` from bit `v` on is true: at the others 0 is written, and their indices aren't
 /// looked at. The items of `out` behind those of the indices stay; where a position is answered,
 /// the ones in front hold any values.
@@ -203,7 +203,7 @@ pub extern "C" fn vb_take_values_u128_u64(
     all_valid: bool,
     validity: &[u8],
     v: usize,
-) -> Place
+) -> Taken
     requires room { length indices.now ≤ length out.old }
     requires validity { HasValidity all_valid validity.now v (length indices.now) }
     ensures { TakesValues wide_zero values.now (map pos indices.now)
@@ -213,7 +213,7 @@ pub extern "C" fn vb_take_values_u128_u64(
 }
 
 /// Whether `out` has room for a value an index, and the validity, where it counts, a bit in its
-/// bytes for each; `past` is then what [`vb_take_values_u128_u64`] answers, and else all is as it
+/// bytes for each; `taken` is then what [`vb_take_values_u128_u64`] answers, and else all is as it
 /// was.
 #[unsafe(no_mangle)]
 pub extern "C" fn vb_try_take_values_u128_u64(
@@ -223,13 +223,13 @@ pub extern "C" fn vb_try_take_values_u128_u64(
     all_valid: bool,
     validity: &[u8],
     v: usize,
-    past: &mut Place,
+    taken: &mut Taken,
 ) -> bool
     ensures { DoneIf ((length indices.now ≤ length out.old)
         × HasValidity all_valid validity.now v (length indices.now))
         (TakesValues wide_zero values.now (map pos indices.now)
-        (validity_of all_valid validity.now v (length indices.now)) out.old out.new past.new)
-        ((out.new ≡ out.old) × (past.new ≡ past.old)) result }
+        (validity_of all_valid validity.now v (length indices.now)) out.old out.new taken.new)
+        ((out.new ≡ out.old) × (taken.new ≡ taken.old)) result }
 {
-    try_take_values(out, values, indices, all_valid, validity, v, past)
+    try_take_values(out, values, indices, all_valid, validity, v, taken)
 }

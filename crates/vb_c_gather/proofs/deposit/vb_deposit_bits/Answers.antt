@@ -21,10 +21,10 @@ returns c =
     let new = c.deposit_into.new.out in let mask = bits a.mask.now a.m a.len in
     let window = c.new_with_offset-mask.ensures.bits in
     let values = c.new_with_offset-values.ensures.bits
-    ∙ ap (bits a.values.now a.v) (c.true_count.ensures ∙ ap count window) in
+    ∙ ap (bits a.bytes.now a.offset) (c.true_count.ensures ∙ ap count window) in
     let same = ap (λ x. spread_by x (bits_of c.new_with_offset-values.result)) window
     ∙ ap (spread_by mask) values in
-    Writes_in_part b new a.o e a.len (spread_by mask (bits a.values.now a.v (count mask)))
+    Writes_in_part b new a.o e a.len (spread_by mask (bits a.bytes.now a.offset (count mask)))
     (length-spread_by mask _ ∙ length-bits a.mask.now a.m a.len) c.requires.into
     c.div_ceil-end.ensures
     (subst (Writes (part b a.o e) new (a.o % 8)) same c.deposit_into.ensures.spread)

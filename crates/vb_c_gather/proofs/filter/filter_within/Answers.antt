@@ -7,5 +7,5 @@ pub returns : goal.returns
 returns c =
     let a = c.args in
     Filters_in_front _ _ a.out.now _ _ a.kept _
-    (length-bits a.mask.now a.m a.len ∙ sym (length-bits a.values.now a.v a.len))
+    (length-bits a.mask.now a.m a.len ∙ sym (length-bits a.bytes.now a.offset a.len))
     c.requires.kept c.div_ceil.ensures c.requires.mask.few c.filter_to_front.ensures

@@ -10,7 +10,7 @@ use Rattle.vb_take.specs.Takes.{IsTaken, IsFirstPast}
 use Rattle.vb_view.specs.View.{bits_of}
 use Rattle.vb_c_gather.proofs.TakenBlocks.{taken_in_block, TakenTo-block, IsFirstPast-block}
 use Rattle.vb_c_gather.proofs.TakenBlocks.{IsTaken-bits, Writes-block, Writes-wider}
-use Rattle.vb_c_gather.proofs.take_at.take_by_blocks.Goals as goal
+use Rattle.vb_c_gather.proofs.take.take_by_blocks.Goals as goal
 
 pub loop-done-init : goal.loop-done-init
 loop-done-init g c = record {

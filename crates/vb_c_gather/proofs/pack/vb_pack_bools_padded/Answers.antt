@@ -1,6 +1,6 @@
 use Rattle.std.proofs.Common.{refl}
 use Rattle.vb_c_gather.proofs.FrontLemmas.{Packs_in_front}
-use Rattle.vb_c_gather.proofs.pack.vb_pack_bools.Goals as goal
+use Rattle.vb_c_gather.proofs.pack.vb_pack_bools_padded.Goals as goal
 
 pub returns : goal.returns
 returns c =

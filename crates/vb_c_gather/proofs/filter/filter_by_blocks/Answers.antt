@@ -5,7 +5,7 @@ use Rattle.vb_bits.specs.Writes.{Writes}
 use Rattle.vb_bits.proofs.BitsLemmas.{bits_none, count-bits_none, count-bits-le, count-bits-add}
 use Rattle.vb_bits.proofs.WritesLemmas.{Writes_none}
 use Rattle.vb_c_gather.proofs.KeptBlocks.{kept-block, count-begun}
-use Rattle.vb_c_gather.proofs.filter_at.filter_by_blocks.Goals as goal
+use Rattle.vb_c_gather.proofs.filter.filter_by_blocks.Goals as goal
 
 pub loop-done-init : goal.loop-done-init
 loop-done-init c =
@@ -15,8 +15,8 @@ loop-done-init c =
       room = refl;
       number = sym (count-bits_none a.mask.now a.m);
       written = Writes_none a.out.now a.o
-          (kept_by (bits a.mask.now a.m 0) (bits a.values.now a.v 0))
-          (ap (λ k. length (kept_by k (bits a.values.now a.v 0))) (bits_none a.mask.now a.m));
+          (kept_by (bits a.mask.now a.m 0) (bits a.bytes.now a.offset 0))
+          (ap (λ k. length (kept_by k (bits a.bytes.now a.offset 0))) (bits_none a.mask.now a.m));
     }
 
 pub filter_to_front-more-requires-clause-mask : goal.filter_to_front-more-requires-clause-mask
@@ -99,7 +99,7 @@ loop-done-preserved c =
       inside = omega (arith, c.min-n.ensures, c.loop-done-test.true);
       room = made.window.same_len ∙ inv.room;
       number = omega (arith, inv.number, made.number, count-bits-add a.mask.now a.m done n);
-      written = kept-block a.mask.now a.values.now a.m a.v a.out.now c.loop-done.out
+      written = kept-block a.mask.now a.bytes.now a.m a.offset a.out.now c.loop-done.out
           c.copy_to_window.new.dst c.loop-done.made c.filter_to_front-more.new.out a.o done n
           inv.written made.window
           (subst (λ k. Writes c.loop-done.out c.copy_to_window.new.dst (a.o + k)

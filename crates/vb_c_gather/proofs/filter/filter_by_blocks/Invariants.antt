@@ -2,7 +2,7 @@ use Rattle.std.proofs.Common.{◌≡◌, ◌-◌, ◌≤◌, length}
 use Rattle.vb_bits.specs.Bits.{bits, count}
 use Rattle.vb_bits.specs.Kept.{kept_by}
 use Rattle.vb_bits.specs.Writes.{Writes}
-use Rattle.vb_c_gather.proofs.filter_at.filter_by_blocks.Given as goal
+use Rattle.vb_c_gather.proofs.filter.filter_by_blocks.Given as goal
 
 -- the bits so far
 abbrev pub invariant-loop-done : goal.invariant-loop-done
@@ -11,7 +11,7 @@ invariant-loop-done l = record {
   room : length l.made ≡ 512;
   number : l.kept ≡ count (bits l.mask l.m l.done);
   written : Writes l.initial.out l.out l.o
-      (kept_by (bits l.mask l.m l.done) (bits l.values l.v l.done));
+      (kept_by (bits l.mask l.m l.done) (bits l.bytes l.offset l.done));
 }
 
 abbrev pub decreases-loop-done : goal.decreases-loop-done

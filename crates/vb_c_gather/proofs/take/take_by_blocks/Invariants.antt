@@ -4,7 +4,7 @@ use Rattle.vb_bits.specs.Writes.{Writes}
 use Rattle.vb_c_core.specs.Validity.{validity_of}
 use Rattle.vb_view.specs.View.{bits_of}
 use Rattle.vb_take.specs.Takes.{taken_at, TakenTo}
-use Rattle.vb_c_gather.proofs.take_at.take_by_blocks.Given as goal
+use Rattle.vb_c_gather.proofs.take.take_by_blocks.Given as goal
 
 -- the positions so far have what they take
 abbrev pub invariant-loop-done : goal.invariant-loop-done

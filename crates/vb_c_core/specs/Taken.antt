@@ -1,0 +1,7 @@
+-- What the end of a take that crosses to C stands for.
+use Rattle.std.specs.Prelude.{ℕ, Option, Some, None, if◌then◌else◌}
+use Rattle.vb_c_core.specs.declared.taken.Taken.{Taken}
+
+-- the first position whose index is out of range, if there is one
+abbrev pub first_past : Taken → Option ℕ
+first_past t = if t.out_of_range then Some t.position else None

@@ -1,9 +1,0 @@
-use Rattle.std.proofs.Common.{length}
-use Rattle.std.proofs.lemmas.List.{length-map}
-use Rattle.vb_c_core.proofs.PartLemmas.{Writes_in_part}
-use Rattle.vb_c_gather.proofs.pack_at.vb_pack_truthy_at.Goals as goal
-
-pub returns : goal.returns
-returns c =
-    Writes_in_part _ _ _ _ (length c.args.truthy.now) _ (length-map c.args.truthy.now _) c.requires
-    c.div_ceil-end.ensures c.pack_within.ensures
