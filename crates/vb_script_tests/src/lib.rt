@@ -5,6 +5,8 @@
 #[cfg(test)]
 mod compared;
 #[cfg(test)]
+mod costs;
+#[cfg(test)]
 mod drive_memory;
 #[cfg(test)]
 mod one_by_one;
