@@ -153,3 +153,25 @@ fn a_take_keeps_no_block_of_elements(rt: HostRuntime) {
     }
     drop((values, out));
 }
+
+/// The items are all elements.
+fn are_elements(rt: &impl Abort, items: &[Wide]) {
+    equal(rt, items.len(), MANY);
+    for place in 0..MANY {
+        has(rt, items, place, byte_at(place));
+    }
+}
+
+#[test]
+fn an_extend_keeps_no_block_of_elements(rt: HostRuntime) {
+    let values = elements(&rt, rt.alloc());
+    let mut made = BufferMut::empty(rt.alloc());
+    let items = values.as_slice().iter().copied();
+    made.extend(items).expect(&rt, "memory");
+    are_elements(&rt, made.as_slice());
+    made.clear();
+    let items = values.as_slice().iter().copied();
+    made.extend_trusted(items).expect(&rt, "memory");
+    are_elements(&rt, made.as_slice());
+    drop((values, made));
+}
