@@ -126,6 +126,9 @@ const ASKED: &[Row] = &[
     ("bits 2", 0, 0),
     ("places 2", 0, 0),
     ("runs 2", 0, 0),
+    // A body that pushes places into room that grows fails here.
+    ("indices 3 8000 1,3,5,7,9", 1000, 0),
+    ("places 3", 40, 0),
 ];
 
 /// Carries out the command of a line, which is done.
