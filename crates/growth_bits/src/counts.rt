@@ -32,6 +32,7 @@ fn call(bits: BitBufferView<'_>, other: BitBufferView<'_>, row: &str) -> Result<
         "true_count" => bits.true_count(),
         "false_count" => bits.false_count(),
         "count_range" => bits.count_range(0, bits.len()),
+        "count_few" => bits.count_range(bits.len().saturating_sub(64), bits.len()),
         "and_count" => bits.and_count(&other),
         "or_count" => bits.or_count(&other),
         "xor_count" => bits.xor_count(&other),

@@ -58,6 +58,7 @@ fn beside(
         "true_count"
         | "false_count"
         | "count_range"
+        | "count_few"
         | "and_count"
         | "or_count"
         | "xor_count"
@@ -76,6 +77,7 @@ fn count(bits: &BitBuffer, other: &BitBuffer, row: &str) -> Result<usize>
         "true_count" => bits.true_count(),
         "false_count" => bits.false_count(),
         "count_range" => bits.count_range(0, bits.len()),
+        "count_few" => bits.count_range(bits.len().saturating_sub(64), bits.len()),
         "and_count" => bits.and_count(other),
         "or_count" => bits.or_count(other),
         "xor_count" => bits.xor_count(other),
@@ -102,6 +104,10 @@ fn place(bits: &BitBuffer, other: &BitBuffer, row: &str) -> Result<usize> {
         "next_unset" => other.next_unset(0),
         "previous_set" => bits.previous_set(bits.len()),
         "previous_unset" => other.previous_unset(other.len()),
+        "next_set_from" => bits.next_set(bits.len() / 2),
+        "next_unset_from" => other.next_unset(other.len() / 2),
+        "previous_set_before" => bits.previous_set(bits.len() / 2),
+        "previous_unset_before" => other.previous_unset(other.len() / 2),
         "last_set_index" => bits.last_set_index(),
         "select" => bits.select(0),
         "select_unset" => other.select_unset(0),
