@@ -2,6 +2,7 @@
 //! frozen set that it makes of bytes of its own, and nothing where it shares or works in place.
 use crate::compared::equal;
 use crate::served::{Heap, Way, serve};
+use std::alloc::{AllocError, Global};
 use std::process::Abort;
 use vb_pool::Pool;
 use vb_testing::Refusing;
@@ -174,6 +175,27 @@ fn commands_that_are_given_away_ask_for_the_same(rt: HostRuntime) {
     for rows in [IMPORTED, EDITED, SHARED, OPERATED, TAKEN, ASKED] {
         session(&rt, &heap, rows, Way::Owned);
     }
+}
+
+/// An `import` of a thousand bytes.
+fn long_import(alloc: Global) -> Result<String, AllocError> {
+    let digits = "a5".repeat(alloc, 1000)?;
+    let line = format!(in alloc; "import 0 3 7990 {digits}");
+    drop(digits);
+    line
+}
+
+/// A body that copies bytes that are given away fails here: it asks once too, but for more than an
+/// owner takes.
+#[test]
+fn a_long_import_that_is_given_away_copies_nothing(rt: HostRuntime) {
+    let heap = Refusing::new(rt.alloc(), 0);
+    let line = long_import(rt.alloc()).expect(&rt, "memory");
+    let mut pool = Pool::new();
+    equal(&rt, serve(&rt, &heap, &mut pool, &line, Way::Owned), true);
+    equal(&rt, heap.asked(), 1);
+    equal(&rt, heap.asks_within(0, OWNER), true);
+    drop((pool, line));
 }
 
 /// Commands that are refused before any memory is asked for, behind those that fill slots: an open
