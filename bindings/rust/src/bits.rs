@@ -328,13 +328,15 @@ impl<'a> Bits<'a> {
         Iter::new(self)
     }
 
-    /// The places of the true bits, in ascending order.
+    /// The places of the true bits, in ascending order. Like the other walks it goes from the end
+    /// too.
     ///
     /// ```
     /// use vortex_bits::Bits;
     ///
     /// let bits = Bits::new(&[0b0111_0110], 0, 7);
     /// assert_eq!(bits.set_indices().collect::<Vec<_>>(), [1, 2, 4, 5, 6]);
+    /// assert_eq!(bits.set_indices().rev().take(2).collect::<Vec<_>>(), [6, 5]);
     /// ```
     #[doc(alias("positions", "iter_ones"))]
     #[inline]

@@ -244,6 +244,56 @@ impl fmt::Debug for SharedBytes {
     }
 }
 
+/// A shared [`Vec`] as a slice: `Arc<Vec<T>>` has no `AsRef<[T]>`, which owners of bits and of values
+/// need. Clones share the `Vec`.
+///
+/// ```
+/// use std::sync::Arc;
+/// use vortex_bits::{Bitmap, SharedVec};
+///
+/// // The buffer of an engine, whose bits from bit 3 on say which rows are valid.
+/// let buffer = Arc::new(vec![0b1110_1000]);
+/// let valid = Bitmap::new(SharedVec(Arc::clone(&buffer)), 3, 5);
+/// assert_eq!(valid.count_ones(), 4);
+/// assert_eq!(valid.bits().bytes().as_ptr(), buffer.as_ptr());
+/// ```
+#[derive(Debug, Default, PartialEq, Eq)]
+pub struct SharedVec<T>(pub Arc<Vec<T>>);
+
+impl<T> Clone for SharedVec<T> {
+    fn clone(&self) -> SharedVec<T> {
+        SharedVec(Arc::clone(&self.0))
+    }
+}
+
+impl<T> Deref for SharedVec<T> {
+    type Target = [T];
+
+    #[inline]
+    fn deref(&self) -> &[T] {
+        &self.0
+    }
+}
+
+impl<T> AsRef<[T]> for SharedVec<T> {
+    #[inline]
+    fn as_ref(&self) -> &[T] {
+        self
+    }
+}
+
+impl<T> From<Arc<Vec<T>>> for SharedVec<T> {
+    fn from(shared: Arc<Vec<T>>) -> SharedVec<T> {
+        SharedVec(shared)
+    }
+}
+
+impl<T> From<Vec<T>> for SharedVec<T> {
+    fn from(values: Vec<T>) -> SharedVec<T> {
+        SharedVec(Arc::new(values))
+    }
+}
+
 /// Bytes in which a [`Bitmap`](crate::Bitmap) grows and is edited: [`AlignedBytes`], at once, and
 /// [`SharedBytes`], after a test that no one shares them, else in a copy.
 #[diagnostic::on_unimplemented(

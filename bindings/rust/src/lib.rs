@@ -37,7 +37,8 @@
 //! - single bits, other windows of at most 64, values at up to 16 indices, and values and indices
 //!   of which [`Value`], [`Compare`] and [`BitIndex`] say so;
 //! - what puts calls together: `fill_with`, and the blocks in which iterators are filled;
-//! - walks over false bits, how bitmaps are made and grow, [`Validity`], and `arrow`;
+//! - walks over false bits and from the end, how bitmaps are made and grow, [`Validity`], and
+//!   `arrow`;
 //! - everything on other machines, under Miri, and where the archives of those functions aren't
 //!   there when the crate is built.
 //!
@@ -107,7 +108,7 @@ pub use bitmap::{Bitmap, BitmapMut};
 pub use bits::Bits;
 pub use bits_mut::BitsMut;
 #[cfg(feature = "alloc")]
-pub use bytes::{AlignedBytes, Grow, SharedBytes};
+pub use bytes::{AlignedBytes, Grow, SharedBytes, SharedVec};
 pub use compare::{Compare, Comparison};
 pub use error::{BadIndex, OutOfBounds, ShortTable, SplitError, TakeError, TakeValuesError};
 pub use level::Level;

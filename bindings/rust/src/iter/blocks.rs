@@ -48,6 +48,28 @@ impl<'a, F: Find> Blocks<'a, F> {
         self.bits.part(self.end, self.bits.len() - self.end)
     }
 
+    /// The place up to which the window has been walked.
+    #[inline]
+    pub fn walked(&self) -> usize {
+        self.end
+    }
+
+    /// Leaves the bits out that are from a place on, which hasn't been walked.
+    #[inline]
+    pub fn cut(&mut self, end: usize) {
+        self.bits = self.bits.part(0, end);
+    }
+
+    /// The last item of the block, and the place from which it is counted.
+    #[inline]
+    pub fn pop_last(&mut self) -> Option<(usize, F::Item)> {
+        if self.next == self.filled {
+            return None;
+        }
+        self.filled -= 1;
+        Some((self.base, self.found[self.filled]))
+    }
+
     /// How many of the items that were found are left.
     #[inline]
     pub fn found(&self) -> usize {

@@ -1,8 +1,9 @@
 //! Places of true bits and of false ones. Where there are C functions they answer those of true
-//! bits, by blocks; the others are found here, word by word.
+//! bits, by blocks; the others are found here, word by word, and so are those from the end.
 
 use core::fmt;
 use core::iter::FusedIterator;
+use core::mem;
 
 use crate::{Bits, portable};
 
@@ -14,9 +15,10 @@ type Set<'a> = ByWords<'a, true>;
 
 #[cfg(vortex_bits_native)]
 mod by_blocks {
-    use crate::Bits;
+    use super::Left;
     use crate::iter::blocks::{Blocks, Find};
     use crate::kernels::set_indices;
+    use crate::{Bits, portable};
 
     #[derive(Clone)]
     struct Found;
@@ -36,41 +38,114 @@ mod by_blocks {
     }
 
     #[derive(Clone)]
-    pub struct Places<'a>(Blocks<'a, Found>);
+    pub struct Places<'a> {
+        front: Blocks<'a, Found>,
+        back: Left,
+    }
 
     impl<'a> Places<'a> {
         #[inline]
         pub fn new(bits: Bits<'a>) -> Self {
-            Places(Blocks::new(bits))
+            Places {
+                front: Blocks::new(bits),
+                back: Left::default(),
+            }
         }
 
         #[inline]
         pub fn left(&self) -> usize {
-            self.0.found() + self.0.rest().count_ones()
+            self.front.found() + self.front.rest().count_ones() + self.back.len()
         }
 
         #[inline]
         pub fn next(&mut self) -> Option<usize> {
-            self.0.next().map(|(base, place)| base + place)
+            let found = self.front.next();
+            found.map_or_else(|| self.back.first(), |(base, place)| Some(base + place))
+        }
+
+        #[inline]
+        pub fn next_back(&mut self) -> Option<usize> {
+            while self.back.is_empty() {
+                let (base, rest) = (self.front.walked(), self.front.rest());
+                let len = rest.len().min(64);
+                if len == 0 {
+                    return self.front.pop_last().map(|(base, place)| base + place);
+                }
+                let start = rest.len() - len;
+                self.front.cut(base + start);
+                self.back = Left::new(base + start, portable::only_word(rest.part(start, len)));
+            }
+            self.back.last()
         }
 
         #[inline]
         pub fn fold<A>(self, first: A, mut f: impl FnMut(A, usize) -> A) -> A {
-            self.0
-                .fold(first, |all, (base, place)| f(all, base + place))
+            let found = |all, (base, place)| f(all, base + place);
+            let all = self.front.fold(first, found);
+            self.back.fold(all, f)
         }
+    }
+}
+
+/// The places that are left of a word: its digits 1, counted from `base` on.
+#[derive(Clone, Copy, Default)]
+struct Left {
+    base: usize,
+    word: u64,
+}
+
+impl Left {
+    #[inline]
+    fn new(base: usize, word: u64) -> Self {
+        Left { base, word }
+    }
+
+    #[inline]
+    fn len(self) -> usize {
+        self.word.count_ones() as usize
+    }
+
+    #[inline]
+    fn is_empty(self) -> bool {
+        self.word == 0
+    }
+
+    #[inline]
+    fn first(&mut self) -> Option<usize> {
+        if self.word == 0 {
+            return None;
+        }
+        let place = self.base + self.word.trailing_zeros() as usize;
+        self.word &= self.word - 1;
+        Some(place)
+    }
+
+    #[inline]
+    fn last(&mut self) -> Option<usize> {
+        let digit = self.word.checked_ilog2()?;
+        self.word ^= 1 << digit;
+        Some(self.base + digit as usize)
+    }
+
+    #[inline]
+    fn fold<A>(mut self, first: A, mut f: impl FnMut(A, usize) -> A) -> A {
+        let mut all = first;
+        while let Some(place) = self.first() {
+            all = f(all, place);
+        }
+        all
     }
 }
 
 /// The places of the bits of a window that are `VALUE`.
 #[derive(Clone)]
 struct ByWords<'a, const VALUE: bool> {
+    /// The window up to the word in `back`.
     bits: Bits<'a>,
-    /// The bits that are left of a word, and the place of its lowest digit.
-    word: u64,
-    base: usize,
+    front: Left,
     /// The place behind that word.
     end: usize,
+    back: Left,
 }
 
 impl<'a, const VALUE: bool> ByWords<'a, VALUE> {
@@ -78,79 +153,91 @@ impl<'a, const VALUE: bool> ByWords<'a, VALUE> {
     fn new(bits: Bits<'a>) -> Self {
         ByWords {
             bits,
-            word: 0,
-            base: 0,
+            front: Left::default(),
             end: 0,
+            back: Left::default(),
         }
     }
 
-    /// Goes on to the next word, if there is one.
+    /// What hasn't been walked.
     #[inline]
-    fn advance(&mut self) -> bool {
-        let len = (self.bits.len() - self.end).min(64);
-        let word = portable::only_word(self.bits.part(self.end, len));
-        self.word = if VALUE {
+    fn rest(&self) -> Bits<'a> {
+        self.bits.part(self.end, self.bits.len() - self.end)
+    }
+
+    /// The places of a part of at most 64 bits.
+    #[inline]
+    fn word(&self, start: usize, len: usize) -> Left {
+        let word = portable::only_word(self.bits.part(start, len));
+        let word = if VALUE {
             word
         } else {
             !word & portable::low(len)
         };
-        self.base = self.end;
+        Left::new(start, word)
+    }
+
+    /// Goes on to the next word, if there is one, and then to the one from the end.
+    #[inline]
+    fn advance(&mut self) -> bool {
+        let len = (self.bits.len() - self.end).min(64);
+        if len == 0 {
+            self.front = mem::take(&mut self.back);
+            return !self.front.is_empty();
+        }
+        self.front = self.word(self.end, len);
         self.end += len;
-        len > 0
+        true
     }
 
     /// How many places are left, for which it counts the bits.
     #[inline]
     fn left(&self) -> usize {
-        let rest = self.bits.part(self.end, self.bits.len() - self.end);
-        let here = self.word.count_ones() as usize;
-        here + if VALUE {
-            rest.count_ones()
-        } else {
-            rest.count_zeros()
-        }
-    }
-
-    /// The first place of the word, which has one.
-    #[inline]
-    fn pop(&mut self) -> usize {
-        let place = self.base + self.word.trailing_zeros() as usize;
-        self.word &= self.word - 1;
-        place
+        let rest = self.rest();
+        let found = self.front.len() + self.back.len();
+        found
+            + if VALUE {
+                rest.count_ones()
+            } else {
+                rest.count_zeros()
+            }
     }
 
     #[inline]
     fn next(&mut self) -> Option<usize> {
-        while self.word == 0 {
-            if !self.advance() {
-                return None;
+        loop {
+            match self.front.first() {
+                None if self.advance() => (),
+                place => return place,
             }
         }
-        Some(self.pop())
+    }
+
+    #[inline]
+    fn next_back(&mut self) -> Option<usize> {
+        while self.back.is_empty() {
+            let len = (self.bits.len() - self.end).min(64);
+            if len == 0 {
+                return self.front.last();
+            }
+            let start = self.bits.len() - len;
+            self.back = self.word(start, len);
+            self.bits = self.bits.part(0, start);
+        }
+        self.back.last()
     }
 
     /// Whole words go first, by a loop of their own.
     #[inline]
     fn fold<A>(mut self, first: A, mut f: impl FnMut(A, usize) -> A) -> A {
-        let mut all = self.fold_word(first, &mut f);
-        let rest = self.bits.part(self.end, self.bits.len() - self.end);
-        for word in portable::quick_words(rest) {
-            self.word = if VALUE { word } else { !word };
-            self.base = self.end;
+        let mut all = self.front.fold(first, &mut f);
+        for word in portable::quick_words(self.rest()) {
+            let word = if VALUE { word } else { !word };
+            all = Left::new(self.end, word).fold(all, &mut f);
             self.end += 64;
-            all = self.fold_word(all, &mut f);
         }
         while self.advance() {
-            all = self.fold_word(all, &mut f);
-        }
-        all
-    }
-
-    #[inline]
-    fn fold_word<A>(&mut self, first: A, mut f: impl FnMut(A, usize) -> A) -> A {
-        let mut all = first;
-        while self.word != 0 {
-            all = f(all, self.pop());
+            all = self.front.fold(all, &mut f);
         }
         all
     }
@@ -191,8 +278,20 @@ macro_rules! indices {
             }
 
             #[inline]
+            fn last(mut self) -> Option<usize> {
+                self.next_back()
+            }
+
+            #[inline]
             fn fold<A, F: FnMut(A, usize) -> A>(self, first: A, f: F) -> A {
                 self.0.fold(first, f)
+            }
+        }
+
+        impl DoubleEndedIterator for $name<'_> {
+            #[inline]
+            fn next_back(&mut self) -> Option<usize> {
+                self.0.next_back()
             }
         }
 

@@ -1,4 +1,4 @@
-//! Runs of true bits and of false ones.
+//! Runs of true bits and of false ones. Those from the end are found here, word by word.
 
 use core::fmt;
 use core::iter::FusedIterator;
@@ -8,37 +8,153 @@ use super::blocks::{Blocks, Find};
 use crate::kernels::{Run, set_slices};
 use crate::{Bits, portable};
 
-#[derive(Clone)]
-struct Set;
+/// What runs are of.
+trait Seek: Find<Item = Run> {
+    /// A word of at most 64 bits, in which the bits of runs are 1.
+    fn word(bits: Bits<'_>) -> u64;
 
-impl Find for Set {
-    type Item = Run;
+    /// The place of the last bit of no run before a place.
+    fn before(bits: Bits<'_>, place: usize) -> Option<usize>;
+}
 
+macro_rules! seek {
+    ($($name:ident: $find:path, $word:expr, $before:path;)*) => {$(
+        #[derive(Clone)]
+        struct $name;
+
+        impl Find for $name {
+            type Item = Run;
+
+            #[inline]
+            fn find(bits: Bits<'_>, out: &mut [Run]) -> usize {
+                $find(bits, out)
+            }
+
+            #[inline]
+            fn end(run: Run) -> usize {
+                run.end
+            }
+        }
+
+        impl Seek for $name {
+            #[inline]
+            fn word(bits: Bits<'_>) -> u64 {
+                $word(portable::only_word(bits), bits.len())
+            }
+
+            #[inline]
+            fn before(bits: Bits<'_>, place: usize) -> Option<usize> {
+                $before(bits, place)
+            }
+        }
+    )*};
+}
+
+seek! {
+    Set: set_slices, |word, _| word, Bits::previous_unset;
+    Unset: portable::unset_slices, |word: u64, len| !word & portable::low(len), Bits::previous_set;
+}
+
+/// The runs that are left of a word: its digits 1, counted from `base` on.
+#[derive(Clone, Copy, Default)]
+struct Left {
+    base: usize,
+    word: u64,
+}
+
+impl Left {
+    fn len(self) -> usize {
+        (self.word & !(self.word << 1)).count_ones() as usize
+    }
+
+    /// A run of so many digits from one on, which it leaves out from now on.
     #[inline]
-    fn find(bits: Bits<'_>, out: &mut [Run]) -> usize {
-        set_slices(bits, out)
+    fn cut(&mut self, start: u32, len: u32) -> Range<usize> {
+        let [start, len] = [start as usize, len as usize];
+        self.word &= !(portable::low(len) << start);
+        self.base + start..self.base + start + len
     }
 
     #[inline]
-    fn end(run: Run) -> usize {
-        run.end
+    fn first(&mut self) -> Option<Range<usize>> {
+        let start = self.word.trailing_zeros();
+        (self.word != 0).then(|| self.cut(start, (self.word >> start).trailing_ones()))
+    }
+
+    #[inline]
+    fn last(&mut self) -> Option<Range<usize>> {
+        let behind = self.word.leading_zeros();
+        (self.word != 0).then(|| {
+            let len = (self.word << behind).leading_ones();
+            self.cut(64 - behind - len, len)
+        })
     }
 }
 
+/// The runs of a window.
 #[derive(Clone)]
-struct Unset;
+struct Runs<'a, F: Seek> {
+    front: Blocks<'a, F>,
+    /// Of a word that begins with a bit of no run.
+    back: Left,
+}
 
-impl Find for Unset {
-    type Item = Run;
-
+impl<'a, F: Seek> Runs<'a, F> {
     #[inline]
-    fn find(bits: Bits<'_>, out: &mut [Run]) -> usize {
-        portable::unset_slices(bits, out)
+    fn new(bits: Bits<'a>) -> Self {
+        Runs {
+            front: Blocks::new(bits),
+            back: Left::default(),
+        }
     }
 
     #[inline]
-    fn end(run: Run) -> usize {
-        run.end
+    fn next(&mut self) -> Option<Range<usize>> {
+        let found = self.front.next();
+        found.map_or_else(|| self.back.first(), |found| Some(range(found)))
+    }
+
+    #[inline]
+    fn next_back(&mut self) -> Option<Range<usize>> {
+        loop {
+            if let Some(run) = self.back.last() {
+                return Some(run);
+            }
+            let (base, rest) = (self.front.walked(), self.front.rest());
+            if rest.is_empty() {
+                return self.front.pop_last().map(range);
+            }
+            let len = rest.len().min(64);
+            let start = rest.len() - len;
+            let word = F::word(rest.part(start, len));
+            let begun = word.trailing_ones() as usize;
+            if begun >= len {
+                let start = F::before(rest, start).map_or(0, |before| before + 1);
+                self.front.cut(base + start);
+                return Some(base + start..base + rest.len());
+            }
+            self.front.cut(base + start + begun);
+            self.back = Left {
+                base: base + start + begun,
+                word: word >> begun,
+            };
+        }
+    }
+
+    #[inline]
+    fn fold<A>(self, first: A, mut f: impl FnMut(A, Range<usize>) -> A) -> A {
+        let found = self.front.fold(first, |all, found| f(all, range(found)));
+        let (mut all, mut back) = (found, self.back);
+        while let Some(run) = back.first() {
+            all = f(all, run);
+        }
+        all
+    }
+
+    #[inline]
+    fn left(&self) -> (usize, Option<usize>) {
+        let found = self.front.found() + self.back.len();
+        (found, Some(found + self.front.rest().len().div_ceil(2)))
     }
 }
 
@@ -52,12 +168,12 @@ macro_rules! slices {
     ($($(#[$doc:meta])* $name:ident: $find:ty;)*) => {$(
         $(#[$doc])*
         #[derive(Clone)]
-        pub struct $name<'a>(Blocks<'a, $find>);
+        pub struct $name<'a>(Runs<'a, $find>);
 
         impl<'a> $name<'a> {
             #[inline]
             pub(crate) fn new(bits: Bits<'a>) -> Self {
-                $name(Blocks::new(bits))
+                $name(Runs::new(bits))
             }
         }
 
@@ -66,18 +182,29 @@ macro_rules! slices {
 
             #[inline]
             fn next(&mut self) -> Option<Range<usize>> {
-                self.0.next().map(range)
+                self.0.next()
             }
 
             #[inline]
             fn size_hint(&self) -> (usize, Option<usize>) {
-                let found = self.0.found();
-                (found, Some(found + self.0.rest().len().div_ceil(2)))
+                self.0.left()
             }
 
             #[inline]
-            fn fold<A, F: FnMut(A, Range<usize>) -> A>(self, first: A, mut f: F) -> A {
-                self.0.fold(first, |all, found| f(all, range(found)))
+            fn last(mut self) -> Option<Range<usize>> {
+                self.next_back()
+            }
+
+            #[inline]
+            fn fold<A, F: FnMut(A, Range<usize>) -> A>(self, first: A, f: F) -> A {
+                self.0.fold(first, f)
+            }
+        }
+
+        impl DoubleEndedIterator for $name<'_> {
+            #[inline]
+            fn next_back(&mut self) -> Option<Range<usize>> {
+                self.0.next_back()
             }
         }
 

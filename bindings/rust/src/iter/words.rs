@@ -1,8 +1,9 @@
 //! Words of 64 bits, and single bits.
 
 use core::iter::FusedIterator;
+use core::mem;
 
-use crate::{Bits, BitsMut, kernels};
+use crate::{Bits, BitsMut, kernels, portable};
 
 /// How many words are copied at once.
 const ROOM: usize = 32;
@@ -62,6 +63,23 @@ impl Iterator for Words<'_> {
     }
 }
 
+impl DoubleEndedIterator for Words<'_> {
+    #[inline]
+    fn next_back(&mut self) -> Option<u64> {
+        let Some(before) = self.rest.len().div_ceil(64).checked_sub(1) else {
+            if self.next == self.filled {
+                return None;
+            }
+            self.filled -= 1;
+            let word = self.bytes[8 * self.filled..].first_chunk()?;
+            return Some(u64::from_le_bytes(*word));
+        };
+        let (bits, start) = (self.rest, 64 * before);
+        self.rest = bits.part(0, start);
+        Some(portable::only_word(bits.part(start, bits.len() - start)))
+    }
+}
+
 impl ExactSizeIterator for Words<'_> {}
 impl FusedIterator for Words<'_> {}
 
@@ -69,10 +87,34 @@ impl FusedIterator for Words<'_> {}
 #[derive(Clone, Debug)]
 pub struct Iter<'a> {
     words: Words<'a>,
-    /// The bits of the word that is walked, the next one lowest.
-    word: u64,
-    in_word: usize,
+    front: Part,
+    back: Part,
     left: usize,
+}
+
+/// What is left of a word: its lowest digits.
+#[derive(Clone, Copy, Debug, Default)]
+struct Part {
+    word: u64,
+    len: usize,
+}
+
+impl Part {
+    /// Cuts the first digit off.
+    #[inline]
+    fn first(&mut self) -> bool {
+        let bit = self.word & 1 == 1;
+        self.word >>= 1;
+        self.len -= 1;
+        bit
+    }
+
+    /// Cuts the last digit off.
+    #[inline]
+    fn last(&mut self) -> bool {
+        self.len -= 1;
+        self.word >> self.len & 1 == 1
+    }
 }
 
 impl<'a> Iter<'a> {
@@ -80,10 +122,16 @@ impl<'a> Iter<'a> {
     pub(crate) fn new(bits: Bits<'a>) -> Self {
         Iter {
             words: bits.words(),
-            word: 0,
-            in_word: 0,
+            front: Part::default(),
+            back: Part::default(),
             left: bits.len(),
         }
+    }
+
+    /// The bits in words that neither end has come to.
+    #[inline]
+    fn between(&self) -> usize {
+        self.left - self.front.len - self.back.len
     }
 }
 
@@ -95,15 +143,15 @@ impl Iterator for Iter<'_> {
         if self.left == 0 {
             return None;
         }
-        if self.in_word == 0 {
-            self.word = self.words.next()?;
-            self.in_word = 64;
+        if self.front.len == 0 {
+            let len = self.between().min(64);
+            self.front = match self.words.next() {
+                Some(word) => Part { word, len },
+                None => mem::take(&mut self.back),
+            };
         }
-        let bit = self.word & 1 == 1;
-        self.word >>= 1;
-        self.in_word -= 1;
         self.left -= 1;
-        Some(bit)
+        Some(self.front.first())
     }
 
     #[inline]
@@ -111,17 +159,43 @@ impl Iterator for Iter<'_> {
         (self.left, Some(self.left))
     }
 
+    #[inline]
+    fn last(mut self) -> Option<bool> {
+        self.next_back()
+    }
+
     /// A word at a time.
     #[inline]
     fn fold<A, F: FnMut(A, bool) -> A>(self, first: A, mut f: F) -> A {
-        let begun = self.in_word.min(self.left);
-        let all = fold_word(self.word, begun, first, &mut f);
-        let mut left = self.left - begun;
-        self.words.fold(all, |all, word| {
+        let mut left = self.between();
+        let all = fold_word(self.front.word, self.front.len, first, &mut f);
+        let all = self.words.fold(all, |all, word| {
             let len = left.min(64);
             left -= len;
             fold_word(word, len, all, &mut f)
-        })
+        });
+        fold_word(self.back.word, self.back.len, all, &mut f)
+    }
+}
+
+impl DoubleEndedIterator for Iter<'_> {
+    #[inline]
+    fn next_back(&mut self) -> Option<bool> {
+        if self.left == 0 {
+            return None;
+        }
+        if self.back.len == 0 {
+            let len = match self.between() % 64 {
+                0 => 64,
+                len => len,
+            };
+            self.back = match self.words.next_back() {
+                Some(word) => Part { word, len },
+                None => mem::take(&mut self.front),
+            };
+        }
+        self.left -= 1;
+        Some(self.back.last())
     }
 }
 

@@ -7,7 +7,7 @@ use std::sync::Arc;
 use std::thread;
 
 use vortex_bits::arrow::{Array, ArrowArray, ArrowError, ArrowSchema, Export, Primitive};
-use vortex_bits::{AlignedBytes, Bitmap, Bits};
+use vortex_bits::{AlignedBytes, Bitmap, Bits, SharedVec};
 
 use crate::plain::{Random, bit};
 use crate::raw::{self, Count};
@@ -203,6 +203,11 @@ fn other_owners_keep_their_values() {
     assert_eq!(Arc::strong_count(&shared), 2);
     drop(array);
     assert_eq!(Arc::strong_count(&shared), 1);
+    let shared = SharedVec::from(vec![1i64, 2, 3]);
+    let array = Export::values(shared.clone(), None).read_back();
+    assert_eq!(array.values::<i64>().unwrap().as_ptr(), shared.as_ptr());
+    drop(array);
+    assert_eq!(Arc::strong_count(&SharedVec::from(shared.0).0), 1);
     // Values within the owner itself.
     let array = Export::values([7u16, 8], None).read_back();
     assert_eq!(array.values::<u16>(), Ok(&[7, 8][..]));
