@@ -315,11 +315,15 @@ impl Array {
         Ok(self.parts())
     }
 
-    /// The columns of a struct; of other types the children, whole.
+    /// The columns of a struct, and as many rows of a sparse union's children; of other types the
+    /// children, whole.
     pub(super) fn parts(&self) -> impl ExactSizeIterator<Item = Array> + '_ {
-        let is_struct = self.node.field.layout == Layout::Struct;
+        let has_rows = match self.node.field.layout {
+            Layout::Union { is_sparse, .. } => is_sparse,
+            layout => layout == Layout::Struct,
+        };
         self.node.children.iter().map(move |child| {
-            if !is_struct {
+            if !has_rows {
                 return Array::whole(child);
             }
             Array {

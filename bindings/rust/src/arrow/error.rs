@@ -243,6 +243,22 @@ pub enum Fault {
     /// The ends of runs have this format, which isn't that of signed whole numbers of 16 to 64
     /// bits.
     RunEnds(String),
+    /// This row of a union has a type that none of the children has.
+    TypeId {
+        /// The row.
+        row: usize,
+        /// The id of its type.
+        id: i8,
+    },
+    /// This row of a dense union is no item of its child.
+    Item {
+        /// The row.
+        row: usize,
+        /// The place among the items of the child.
+        offset: i32,
+        /// How many items the child has.
+        items: usize,
+    },
     /// It ends before the parent's items do.
     Short {
         /// How many items the parent asks for, from its offset 0 on.
@@ -284,6 +300,10 @@ impl fmt::Display for Fault {
                 write!(f, "the last run ends at {end}, before {wanted} rows do")
             }
             Fault::RunEnds(format) => write!(f, "format {format:?} isn't that of ends of runs"),
+            Fault::TypeId { row, id } => write!(f, "row {row} has the type {id} of no child"),
+            Fault::Item { row, offset, items } => {
+                write!(f, "row {row} is item {offset} of {items}")
+            }
             Fault::Short { wanted, got } => {
                 write!(f, "it has {got} items, of which its parent wants {wanted}")
             }

@@ -109,10 +109,12 @@ impl Field {
         self
     }
 
-    /// Returns the same as a column that may have nulls, which those of runs are in their values.
+    /// Returns the same as a column that may have nulls: runs have them in their values, unions in
+    /// their first child.
     pub(super) fn or_null(mut self) -> Field {
         let values = match self.layout {
             Layout::Runs => self.children.get_mut(1),
+            Layout::Union { .. } => self.children.first_mut(),
             _ => None,
         };
         let Some(values) = values else {

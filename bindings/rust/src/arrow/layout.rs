@@ -149,6 +149,17 @@ impl Layout {
         !matches!(self, Layout::Union { .. } | Layout::Runs | Layout::Nulls)
     }
 
+    /// Whether these are rows of unions whose items are at places of their own.
+    pub fn is_dense(self) -> bool {
+        matches!(
+            self,
+            Layout::Union {
+                is_sparse: false,
+                ..
+            }
+        )
+    }
+
     /// The bytes of an item in the widest of the buffers whose size the length gives, and how many
     /// items more than rows that one has.
     pub fn widest(self) -> (usize, usize) {
@@ -217,6 +228,12 @@ fn decimal(parameters: &str) -> Option<usize> {
     let has_digits = digits.parse().is_ok_and(|it: u32| (1..=most).contains(&it));
     let is_known = has_digits && scale.parse::<i32>().is_ok() && numbers.next().is_none();
     is_known.then_some(bits)
+}
+
+/// The ids of the types of a union, in the order of its children.
+pub(super) fn type_ids(format: &str) -> impl Iterator<Item = u8> {
+    let ids = format.split_once(':').map_or("", |(_, ids)| ids);
+    ids.split(',').filter_map(|id| id.parse().ok())
 }
 
 /// How many ids of types there are: each from 0 to 127, and none twice.

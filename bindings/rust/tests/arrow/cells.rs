@@ -22,7 +22,7 @@ struct Of<'a> {
 ///
 /// # Safety
 ///
-/// It is as the interface asks for, and has no unions.
+/// It is as the interface asks for.
 pub unsafe fn cells(array: &Array, schema: &Schema) -> Vec<Cell> {
     let of = Of { array, schema };
     (0..count(array.length))
@@ -143,8 +143,27 @@ impl<'a> Of<'a> {
                     Cell::Many(columns.map(|it| self.child(it).cell(place)).collect())
                 }
                 Type::Runs => self.of_run(place),
-                Type::Null | Type::SparseUnion(_) | Type::DenseUnion(_) => unreachable!(),
+                Type::SparseUnion(ids) => self.of_union(&ids, place, place),
+                Type::DenseUnion(ids) => {
+                    let item = count(self.number(1, place, 4));
+                    self.of_union(&ids, place, item)
+                }
+                Type::Null => Cell::Null,
             }
+        }
+    }
+
+    /// An item of the child of a row's type, with the id of that; null where it is.
+    unsafe fn of_union(self, ids: &[i8], place: usize, item: usize) -> Cell {
+        // SAFETY: as of the caller.
+        let (id, cell) = unsafe {
+            let id = self.number(0, place, 1);
+            let child = ids.iter().position(|it| i64::from(*it) == id).unwrap();
+            (id, self.child(child).cell(item))
+        };
+        match cell {
+            Cell::Null => Cell::Null,
+            cell => Cell::Many(vec![Cell::Bytes(id.to_ne_bytes().into()), cell]),
         }
     }
 

@@ -83,18 +83,47 @@ fn the_first_index_that_is_valid_and_of_no_row_is_named() {
     assert_eq!(told(rows.take_valid(&[0i8, 1, 2, -1], valid)), refused);
 }
 
+/// Three rows of a union, of an array with one row before them and two items of each child.
+fn union(format: &str, types: [u8; 4], places: [i32; 4]) -> Array {
+    let mut buffers = vec![Some(Buffer::exact(&types))];
+    if format.starts_with("+ud") {
+        let places: Vec<u8> = places.iter().flat_map(|it| it.to_ne_bytes()).collect();
+        buffers.push(Some(Buffer::exact(&places)));
+    }
+    let items = if format.starts_with("+ud") { 2 } else { 4 };
+    let children = [(); 2].map(|()| of("n", items, vec![], vec![]));
+    imported(of(format, 4, buffers, children.into())).slice(1..)
+}
+
 #[test]
-fn unions_are_refused_by_name() {
-    let types = || vec![Some(Buffer::exact(&[0, 0]))];
-    let union = || of("+us:0", 2, types(), vec![of("n", 2, vec![], vec![])]);
-    let refused = "format \"+us:0\" isn't that of rows that are copied";
-    let rows = imported(union());
-    assert_eq!(told(rows.take(&[0u8])), format!("column \"a\": {refused}"));
-    let batch = imported(of("+s", 2, vec![None], vec![union()]));
-    assert_eq!(
-        told(batch.filter(None::<Bits>)),
-        format!("column \"a.a\": {refused}")
-    );
+fn rows_of_unions_that_are_of_no_child_are_named() {
+    let said = |union: &Array, what: &str| {
+        assert_eq!(told(union.filter(None::<Bits>)), what);
+        assert_eq!(told(union.take(&[0u8, 2])), what);
+        assert!(union.take(&[0u8, 1]).is_ok());
+    };
+    let types = [0, 5, 0, 4];
+    for format in ["+us:0,5", "+ud:0,5"] {
+        let union = union(format, types, [9, 0, 0, 0]);
+        said(&union, "column \"a\": row 2 has the type 4 of no child");
+    }
+    for (offset, what) in [
+        (2, "2 of 2"),
+        (-1, "-1 of 2"),
+        (i32::MIN, "-2147483648 of 2"),
+    ] {
+        let union = union("+ud:0,5", [0, 5, 0, 0], [9, 0, 0, offset]);
+        said(&union, &format!("column \"a\": row 2 is item {what}"));
+    }
+    for format in ["+us:", "+ud:"] {
+        let buffers = if format == "+us:" { 1 } else { 2 };
+        let none = (0..buffers).map(|_| None).collect();
+        let rows = imported(of(format, 0, none, vec![]));
+        assert_eq!(rows.filter(None::<Bits>).unwrap().read_back().len(), 0);
+        let refused = rows.take_valid(&[0u8], Bits::new(&[0], 0, 1));
+        let format = format!("column \"a\": format {format:?} isn't that of rows that may be null");
+        assert_eq!(told(refused), format);
+    }
 }
 
 #[test]

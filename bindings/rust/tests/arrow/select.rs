@@ -1,6 +1,6 @@
 //! Rows of each type by masks, at indices and of several arrays, compared with the rows that a
 //! plain reader finds one by one in what came and in what is handed on.
-use vortex_bits::arrow::{Array, ArrowError, Export, Field};
+use vortex_bits::arrow::{Array, ArrowError, Export};
 use vortex_bits::{Bitmap, Bits};
 
 use crate::cells::{Cell, cells};
@@ -37,22 +37,13 @@ fn rows_as_they_came(array: &Array) -> Vec<Cell> {
     read(as_it_came(Export::from(array.clone())))
 }
 
-fn has_union(field: &Field) -> bool {
-    field.format().starts_with("+u") || field.fields().chain(field.dictionary()).any(has_union)
-}
-
-/// Rows by chance, of a type without unions, and what they are.
+/// Rows by chance, and what they are.
 fn some(maker: &mut Maker, levels: usize) -> (Array, Vec<Cell>) {
-    loop {
-        let len = maker.one_of(&[0, 1, 5, 9, 40, 200]);
-        let (array, schema) = maker.tree(len, levels);
-        let array = import(array, schema).unwrap();
-        if !has_union(array.field()) {
-            let part = part(maker, &array);
-            let rows = rows_as_they_came(&part);
-            return (part, rows);
-        }
-    }
+    let len = maker.one_of(&[0, 1, 5, 9, 40, 200]);
+    let (array, schema) = maker.tree(len, levels);
+    let part = part(maker, &import(array, schema).unwrap());
+    let rows = rows_as_they_came(&part);
+    (part, rows)
 }
 
 fn part(maker: &mut Maker, array: &Array) -> Array {

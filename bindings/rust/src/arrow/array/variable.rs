@@ -156,6 +156,28 @@ impl Array {
         })
     }
 
+    /// The ids of the rows' types, of a union.
+    pub(in crate::arrow) fn type_ids(&self) -> &[u8] {
+        if self.len == 0 || !matches!(self.node.field.layout, Layout::Union { .. }) {
+            return &[];
+        }
+        let ids = self.node.buffers[0].cast::<u8>();
+        // SAFETY: there is a byte for each item.
+        unsafe { slice::from_raw_parts(ids.add(self.start), self.len) }
+    }
+
+    /// Where a row of a dense union is among the items of its child.
+    ///
+    /// # Panics
+    ///
+    /// If there is no such row, or the union isn't dense.
+    pub(in crate::arrow) fn union_offset(&self, row: usize) -> i32 {
+        assert!(row < self.len && self.node.field.layout.is_dense());
+        let offsets = self.node.buffers[1].cast::<i32>();
+        // SAFETY: there is a number for each item.
+        unsafe { offsets.add(self.start + row).read_unaligned() }
+    }
+
     /// The bytes of texts, or of binary values, those of the rows before these too.
     ///
     /// # Errors

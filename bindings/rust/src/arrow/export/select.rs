@@ -6,6 +6,7 @@ mod made;
 mod nested;
 mod rows;
 mod runs;
+mod unions;
 mod variable;
 
 use alloc::vec::Vec;
@@ -31,8 +32,8 @@ impl Array {
     /// one call.
     ///
     /// What is kept is copied into new memory: numbers, truth values and texts, the columns of
-    /// structs, the items of lists, and a value for each run that has a row. The buffers of views,
-    /// the items of list views and the dictionary are shared. A batch without columns keeps its
+    /// structs, the items of lists and unions, and a value for each run that has a row. The buffers of
+    /// views, the items of list views and the dictionary are shared. A batch without columns keeps its
     /// number of rows.
     ///
     /// ```
@@ -60,9 +61,8 @@ impl Array {
     /// # Errors
     ///
     /// Returns [`ArrowError::Mask`] if the mask has another number of bits than there are rows,
-    /// [`ArrowError::Type`] of a union or a column of one, [`ArrowError::Malformed`] if rows of
-    /// texts or lists go back or runs end before the rows, and [`ArrowError::Memory`] if there is
-    /// no memory for what is kept.
+    /// [`ArrowError::Malformed`] if rows of texts or lists go back, runs end before the rows or a row
+    /// of a union is of no child, and [`ArrowError::Memory`] if there is no memory for what is kept.
     #[doc(alias("where", "compress", "select"))]
     pub fn filter(&self, mask: impl Mask) -> Result<Export, ArrowError> {
         let (rows, bits) = (self.len, mask.mask_len().unwrap_or(self.len));
@@ -111,7 +111,8 @@ impl Array {
     /// are: as of [`take`](Array::take), of a column that may have nulls if some are.
     ///
     /// What a null row of a struct or of a list of one length has in its children is null too where
-    /// these may have nulls, else 0, false, an empty text or list.
+    /// these may have nulls, else 0, false, an empty text or list. A null row of a union is one of
+    /// its first child.
     ///
     /// ```
     /// use vortex_bits::Bits;
@@ -129,7 +130,8 @@ impl Array {
     ///
     /// Returns [`ArrowError::Take`] if the validity isn't as long as the indices, with the first
     /// index that is valid and isn't one of a row, and if a null row would have to name an item of
-    /// a dictionary without items; and the errors of `take`.
+    /// a dictionary without items; [`ArrowError::Type`] of null rows of a union without children; and
+    /// the errors of `take`.
     pub fn take_valid<I: BitIndex>(
         &self,
         indices: &[I],
@@ -245,13 +247,8 @@ fn selected(field: &Field, of: &[Array], rows: Rows<'_>) -> Result<Owned<ArrowAr
             let nulls = Nulls::Unmarked(rows.len());
             return Ok(Made::default().array(rows.len(), nulls));
         }
-        (Layout::Union { .. }, _) => {
-            return Err(ArrowError::Type {
-                column: field.name.clone(),
-                format: field.format.clone(),
-                wanted: "that of rows that are copied",
-            });
-        }
+        (Layout::Union { is_sparse, .. }, _) if is_sparse => unions::sparse(field, of, rows)?,
+        (Layout::Union { .. }, _) => unions::dense(field, of, rows)?,
     };
     let nulls = if field.layout.has_validity() {
         Nulls::Marked(fixed::validity(field, of, rows)?)

@@ -113,7 +113,7 @@ impl Maker {
         let ids = [0i64, 5, 127];
         let types: Vec<usize> = (0..rows.end).map(|_| self.below(3)).collect();
         let mut places = [0i64; 3];
-        let offsets: Vec<i64> = types
+        let mut offsets: Vec<i64> = types
             .iter()
             .map(|&child| {
                 places[child] += 1;
@@ -127,7 +127,8 @@ impl Maker {
                 self.tree(len, levels)
             })
             .into();
-        let types: Vec<i64> = types.iter().map(|child| ids[*child]).collect();
+        let mut types: Vec<i64> = types.iter().map(|child| ids[*child]).collect();
+        self.wrong_items(&mut types, &mut offsets);
         let mut buffers = vec![Some(numbers(&types, 1))];
         if !is_sparse {
             buffers.push(Some(numbers(&offsets, 4)));

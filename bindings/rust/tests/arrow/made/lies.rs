@@ -24,6 +24,16 @@ impl Maker {
         }
     }
 
+    /// Types of unions that aren't there, and items behind those that are.
+    pub(super) fn wrong_items(&mut self, types: &mut [i64], offsets: &mut [i64]) {
+        while self.lies() && !types.is_empty() {
+            let row = self.below(types.len());
+            types[row] = self.one_of(&[-128, -1, 1, 4, 126]);
+            let row = self.below(types.len());
+            offsets[row] = self.one_of(&[-1, 3, 70, i64::from(i32::MIN), i64::from(i32::MAX)]);
+        }
+    }
+
     /// Views of places that aren't there.
     pub(super) fn wrong_views(&mut self, views: &mut [u8], rows: &Rows) {
         while self.lies() && rows.end > 0 {

@@ -39,7 +39,7 @@ pub(super) fn bits(
     kept_bits(field, &bits.collect::<Result<Vec<_>, _>>()?, rows, false)
 }
 
-/// The rows' bits, which are true where an array has none, and `of_null` where a row is of no array.
+/// The rows' bits: true where an array has none, and `of_null` where a row is of no array.
 fn kept_bits(
     field: &Field,
     of: &[Option<Bits<'_>>],

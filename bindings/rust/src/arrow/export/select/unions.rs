@@ -1,0 +1,141 @@
+//! Rows of unions.
+
+use alloc::vec::Vec;
+
+use super::made::Made;
+use super::rows::{Rows, Run, Runs};
+use super::{put, too_long, too_many, whole, zeroed};
+use crate::arrow::array::Array;
+use crate::arrow::error::{ArrowError, Fault};
+use crate::arrow::field::Field;
+use crate::arrow::layout;
+use crate::bytes::AlignedBytes;
+
+/// What each id of a type says.
+struct Ids {
+    /// The child that has the id.
+    children: [Option<u8>; 128],
+    /// The id of the first child, in which rows are null that are of no array.
+    first: Option<u8>,
+}
+
+impl Ids {
+    fn of(field: &Field) -> Ids {
+        let (mut children, mut first) = ([None; 128], None);
+        for (child, id) in (0..).zip(layout::type_ids(&field.format)) {
+            children[usize::from(id)] = Some(child);
+            first = first.or(Some(id));
+        }
+        Ids { children, first }
+    }
+
+    /// The child of a row.
+    fn child(&self, of: &Array, row: usize, id: u8) -> Result<usize, ArrowError> {
+        let child = self.children.get(usize::from(id)).copied().flatten();
+        child.map(usize::from).ok_or_else(|| {
+            let id = i8::from_ne_bytes([id]);
+            of.malformed(Fault::TypeId { row, id })
+        })
+    }
+
+    /// The id of rows that are of no array.
+    fn of_nulls(&self, field: &Field) -> Result<u8, ArrowError> {
+        self.first.ok_or_else(|| ArrowError::Type {
+            column: field.name.clone(),
+            format: field.format.clone(),
+            wanted: "that of rows that may be null",
+        })
+    }
+}
+
+/// Sparse unions: the types of the rows, and the same rows of each child.
+pub(super) fn sparse(field: &Field, of: &[Array], rows: Rows<'_>) -> Result<Made, ArrowError> {
+    let ids = Ids::of(field);
+    let mut types = zeroed(field, rows.len(), 1)?;
+    rows.each(|before, run| {
+        let out = &mut types[before..before + run.len];
+        let Some(one) = run.of.map(|one| &of[one]) else {
+            out.fill(ids.of_nulls(field)?);
+            return Ok(());
+        };
+        out.copy_from_slice(&one.type_ids()[run.start..][..run.len]);
+        let mut rows = (run.start..).zip(&*out);
+        rows.try_for_each(|(row, id)| ids.child(one, row, *id).map(drop))
+    })?;
+    let mut made = Made::of([types]);
+    let columns: Vec<Vec<Array>> = of.iter().map(|it| it.parts().collect()).collect();
+    let column = |place: usize| columns.iter().map(|it| it[place].clone()).collect();
+    made.children(field, column, |_| rows)?;
+    Ok(made)
+}
+
+/// Rows of dense unions that are put together.
+struct Dense {
+    types: AlignedBytes,
+    offsets: AlignedBytes,
+    /// Those of each child.
+    items: Vec<Runs>,
+}
+
+/// Dense unions: the types of the rows, new offsets, and of each child the items that are rows.
+pub(super) fn dense(field: &Field, of: &[Array], rows: Rows<'_>) -> Result<Made, ArrowError> {
+    let ids = Ids::of(field);
+    let mut kept = Dense {
+        types: zeroed(field, rows.len(), 1)?,
+        offsets: zeroed(field, rows.len(), size_of::<i32>())?,
+        items: field.children.iter().map(|_| Runs::default()).collect(),
+    };
+    rows.each(|before, run| match run.of {
+        Some(one) => (0..run.len).try_for_each(|row| {
+            let (id, child, start) = of[one].item_of_union(&ids, run.start + row)?;
+            let (of, len) = (Some(one), 1);
+            kept.add(field, before + row, (id, child), Run { of, start, len })
+        }),
+        None => (before..before + run.len).try_for_each(|row| {
+            let (of, start, len) = (None, 0, 1);
+            let id = ids.of_nulls(field)?;
+            kept.add(field, row, (id, 0), Run { of, start, len })
+        }),
+    })?;
+    let Dense {
+        types,
+        offsets,
+        items,
+    } = kept;
+    let mut made = Made::of([types, offsets]);
+    made.children(field, |place| whole(of, place), |place| items[place].rows())?;
+    Ok(made)
+}
+
+impl Dense {
+    /// Adds an item of a child as a row.
+    fn add(
+        &mut self,
+        field: &Field,
+        row: usize,
+        (id, child): (u8, usize),
+        item: Run,
+    ) -> Result<(), ArrowError> {
+        let offset = self.items[child].len();
+        if i32::try_from(offset).is_err() {
+            return Err(too_long(field, "items of a union", offset, i32::MAX.into()));
+        }
+        self.types[row] = id;
+        put(&mut self.offsets, row, size_of::<i32>(), offset);
+        let added = self.items[child].push(item);
+        added.ok_or_else(|| too_many(field))
+    }
+}
+
+impl Array {
+    /// The id of a row of a dense union, its child, and the row's item among those of the child.
+    fn item_of_union(&self, ids: &Ids, row: usize) -> Result<(u8, usize, usize), ArrowError> {
+        let id = self.type_ids()[row];
+        let child = ids.child(self, row, id)?;
+        let (offset, items) = (self.union_offset(row), self.node.children[child].len);
+        match usize::try_from(offset) {
+            Ok(item) if item < items => Ok((id, child, item)),
+            _ => Err(self.malformed(Fault::Item { row, offset, items })),
+        }
+    }
+}
