@@ -65,6 +65,13 @@ pub fn take_values<T: Value, I: BitIndex>(
     validity: Option<Bits<'_>>,
 ) -> Option<usize> {
     let named = |index: I| index.place().and_then(|place| values.get(place));
+    if validity.is_none() {
+        return out.iter_mut().zip(indices).position(|(out, &index)| {
+            let value = named(index);
+            *out = value.copied().unwrap_or(T::ZERO);
+            value.is_none()
+        });
+    }
     for (i, (out, indices)) in out.chunks_mut(64).zip(indices.chunks(64)).enumerate() {
         let mut counts = validity.map_or(u64::MAX, |validity| word_at(validity, i));
         for (at, (out, &index)) in out.iter_mut().zip(indices).enumerate() {
