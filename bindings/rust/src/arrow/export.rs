@@ -3,11 +3,11 @@
 mod dictionary;
 mod format;
 mod select;
+mod structs;
 mod texts;
 
 use alloc::boxed::Box;
 use alloc::sync::Arc;
-use alloc::vec;
 use alloc::vec::Vec;
 use core::any::Any;
 use core::ffi::c_void;
@@ -138,36 +138,6 @@ impl Export {
         Export {
             array: held.array(len, Some(nulls), offset),
             field,
-            len,
-        }
-    }
-
-    /// Rows of columns, which the consumer finds by their names.
-    ///
-    /// # Panics
-    ///
-    /// Where the columns are of different lengths.
-    #[must_use]
-    #[track_caller]
-    pub fn batch(columns: impl IntoIterator<Item = Export>) -> Export {
-        let columns: Vec<Export> = columns.into_iter().collect();
-        let len = columns.first().map_or(0, Export::len);
-        let mut fields = Vec::new();
-        let mut children = Vec::new();
-        for column in columns {
-            let own = column.len;
-            assert!(own == len, "columns of {len} and {own} rows");
-            fields.push(column.field);
-            children.push(column.array);
-        }
-        let held = Held {
-            buffers: vec![ptr::null()],
-            below: Below::new(children),
-            _kept: (None, None),
-        };
-        Export {
-            array: held.array(len, Some(0), 0),
-            field: Field::batch(fields),
             len,
         }
     }

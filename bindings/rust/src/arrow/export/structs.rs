@@ -1,0 +1,80 @@
+//! Rows of columns that are handed on.
+
+use alloc::vec::Vec;
+use core::ptr;
+
+use super::{Export, Held, from_bit, start_of};
+use crate::Bitmap;
+use crate::arrow::ffi::Below;
+use crate::arrow::field::Field;
+
+/// Structs.
+impl Export {
+    /// Rows of columns, which the consumer finds by their names. Of no column there are no rows:
+    /// [`structs`](Export::structs) has a number of them.
+    ///
+    /// # Panics
+    ///
+    /// Where the columns are of different lengths.
+    #[must_use]
+    #[track_caller]
+    pub fn batch(columns: impl IntoIterator<Item = Export>) -> Export {
+        let mut columns = columns.into_iter().peekable();
+        let len = columns.peek().map_or(0, Export::len);
+        Export::structs(len, columns, None)
+    }
+
+    /// Returns so many rows of columns, and which of them are valid: all where that is None, as of a
+    /// batch. A batch of which a query reads no column has its number of rows so.
+    ///
+    /// ```
+    /// use vortex_bits::Bitmap;
+    /// use vortex_bits::arrow::Export;
+    ///
+    /// assert_eq!(Export::structs(1000, [], None).len(), 1000);
+    ///
+    /// let places = [[4.5, 0.0], [51.9, 0.0]].map(|it| Export::values(it, None));
+    /// let places = places.into_iter().zip(["x", "y"]).map(|(it, name)| it.named(name));
+    /// let valid = Bitmap::from([true, false]);
+    /// let place = Export::structs(2, places, Some(valid.clone())).named("place").into_array();
+    /// assert_eq!(place.validity()?.bits(), Some(valid.bits()));
+    /// assert_eq!(place.column("y")?.values::<f64>()?, [51.9, 0.0]);
+    /// # Ok::<(), vortex_bits::arrow::ArrowError>(())
+    /// ```
+    ///
+    /// # Panics
+    ///
+    /// Panics if a column has another number of rows, or the validity another number of bits.
+    #[must_use]
+    #[track_caller]
+    pub fn structs(
+        len: usize,
+        columns: impl IntoIterator<Item = Export>,
+        valid: Option<Bitmap>,
+    ) -> Export {
+        let (mut fields, mut children) = (Vec::new(), Vec::new());
+        for column in columns {
+            let own = column.len;
+            assert!(own == len, "columns of {len} and {own} rows");
+            fields.push(column.field);
+            children.push(column.array);
+        }
+        let field = Field::batch(fields).nullable(valid.is_some());
+        let below = Below::new(children);
+        let bits = valid.as_ref().map_or(len, Bitmap::len);
+        assert!(bits == len, "{bits} bits of validity for {len} values");
+        let nulls = valid.as_ref().map_or(0, Bitmap::count_zeros);
+        let valid = valid.filter(|_| nulls > 0).map(|it| from_bit(it, 0));
+        let validity = valid.as_ref().map_or(ptr::null(), |it| start_of(it.bits()));
+        let held = Held {
+            buffers: [validity].into(),
+            below,
+            _kept: (None, valid),
+        };
+        Export {
+            array: held.array(len, Some(nulls), 0),
+            field,
+            len,
+        }
+    }
+}
