@@ -19,5 +19,7 @@ pub use kleene::*;
 pub use rank::*;
 pub use take::*;
 pub use walk::*;
+#[cfg(feature = "arrow")]
+pub use word::first_eight;
 pub use word::{low, only_word, quick_words, write};
 pub use write::*;

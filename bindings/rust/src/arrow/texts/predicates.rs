@@ -3,7 +3,7 @@
 use alloc::vec::Vec;
 
 use super::{Rows, Texts, viewed};
-use crate::Bitmap;
+use crate::{Bitmap, portable};
 
 /// Which rows pass a test of their bytes.
 ///
@@ -135,13 +135,31 @@ impl Texts<'_> {
     }
 }
 
-/// Whether bytes have a part that begins with one byte and goes on with others.
-fn has(mut bytes: &[u8], first: u8, rest: &[u8]) -> bool {
-    while let Some(place) = bytes.iter().position(|byte| *byte == first) {
-        bytes = &bytes[place + 1..];
-        if bytes.starts_with(rest) {
-            return true;
+/// Whether bytes have a part that begins with one byte and goes on with others. It looks for the
+/// first one among eight at once.
+fn has(bytes: &[u8], first: u8, rest: &[u8]) -> bool {
+    let is_there = |place: usize| {
+        let found = bytes.get(place..).and_then(|behind| behind.split_first());
+        found.is_some_and(|(byte, behind)| *byte == first && behind.starts_with(rest))
+    };
+    let mut start = 0;
+    while start < bytes.len() {
+        let mut places = equal_to(portable::first_eight(&bytes[start..]), first);
+        while places != 0 {
+            if is_there(start + places.trailing_zeros() as usize / 8) {
+                return true;
+            }
+            places &= places - 1;
         }
+        start += 8;
     }
     false
+}
+
+/// The highest digit of each byte of a word that is equal to one, and of some of those above it.
+#[inline]
+fn equal_to(word: u64, byte: u8) -> u64 {
+    const ONES: u64 = u64::from_ne_bytes([1; 8]);
+    let other = word ^ (ONES * u64::from(byte));
+    other.wrapping_sub(ONES) & !other & ONES << 7
 }
