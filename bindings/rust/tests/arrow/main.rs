@@ -11,6 +11,7 @@ mod import;
 mod made;
 mod malformed;
 mod nested;
+mod offsets;
 #[cfg(feature = "std")]
 mod panics;
 mod parts;

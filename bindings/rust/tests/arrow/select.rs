@@ -21,7 +21,7 @@ fn read((mut array, mut schema): (raw::Array, raw::Schema)) -> Vec<Cell> {
 /// The rows of what is handed on, which is as the interface asks for, by C's structs, and by an array
 /// that this crate reads and hands on again.
 #[track_caller]
-fn rows_of(export: Export) -> Vec<Cell> {
+pub fn rows_of(export: Export) -> Vec<Cell> {
     let (field, len) = (export.field().clone(), export.len());
     let (array, schema) = raw_of(export);
     // SAFETY: they are as the interface asks for.
@@ -33,7 +33,7 @@ fn rows_of(export: Export) -> Vec<Cell> {
     rows
 }
 
-fn rows_as_they_came(array: &Array) -> Vec<Cell> {
+pub fn rows_as_they_came(array: &Array) -> Vec<Cell> {
     read(as_it_came(Export::from(array.clone())))
 }
 

@@ -19,7 +19,12 @@ pub struct Maker {
     /// Whether some numbers, offsets and views are wrong.
     lies: bool,
     pub count: Count,
+    /// The offset of each array; by chance where it is None.
+    pub offset: Option<usize>,
 }
+
+/// How many kinds of arrays there are.
+pub const KINDS: usize = 13;
 
 /// So many rounds: few under Miri, and as many times as many as `ROUNDS` in the environment says.
 pub fn rounds(number: usize) -> usize {
@@ -46,6 +51,7 @@ impl Maker {
             random: Random(seed | 1),
             lies,
             count: Count::default(),
+            offset: None,
         }
     }
 
@@ -69,8 +75,13 @@ impl Maker {
 
     /// Rows of a type by chance, with so many levels below at most.
     pub fn tree(&mut self, len: usize, levels: usize) -> Tree {
-        let kinds = if levels == 0 { 5 } else { 13 };
-        match self.below(kinds) {
+        let kind = self.below(if levels == 0 { 5 } else { KINDS });
+        self.tree_of(kind, len, levels)
+    }
+
+    /// Rows of a kind of type, of which those from 5 on have levels below.
+    pub fn tree_of(&mut self, kind: usize, len: usize, levels: usize) -> Tree {
+        match kind {
             0 => self.fixed(len),
             1 => self.bits(len),
             2 => self.texts(len),
@@ -97,6 +108,7 @@ impl Maker {
 
     fn rows(&mut self, len: usize) -> Rows {
         let offset = self.one_of(&[0, 0, 1, 7, 8, 9]);
+        let offset = self.offset.unwrap_or(offset);
         let end = offset + len;
         let valid = match self.below(3) {
             0 => None,
