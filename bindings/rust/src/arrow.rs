@@ -57,7 +57,7 @@ mod texts;
 
 pub use array::Array;
 pub use error::{ArrowError, Fault, StreamError};
-pub use export::Export;
+pub use export::{Export, TextsMut};
 pub use ffi::{ArrowArray, ArrowArrayStream, ArrowSchema};
 pub use field::Field;
 pub use primitive::{Primitive, Unaligned};

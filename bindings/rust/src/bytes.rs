@@ -61,13 +61,28 @@ impl AlignedBytes {
     /// So many bytes, all 0; None where memory runs out.
     #[cfg(feature = "arrow")]
     pub(crate) fn try_zeroed(bytes: usize) -> Option<AlignedBytes> {
+        let mut zeros = AlignedBytes::try_with_capacity(bytes)?;
+        zeros.all.resize(zeros.start + bytes, 0);
+        Some(zeros)
+    }
+
+    /// No bytes, and room for so many; None where memory runs out.
+    #[cfg(feature = "arrow")]
+    pub(crate) fn try_with_capacity(bytes: usize) -> Option<AlignedBytes> {
         if bytes == 0 {
             return Some(AlignedBytes::default());
         }
         let mut all = Vec::new();
         all.try_reserve_exact(bytes.checked_add(ALIGNMENT - 1)?)
             .ok()?;
-        Some(AlignedBytes::cut(all, bytes))
+        Some(AlignedBytes::cut(all, 0))
+    }
+
+    /// Adds bytes where there is room for them.
+    #[cfg(feature = "arrow")]
+    #[inline(never)]
+    pub(crate) fn extend(&mut self, bytes: &[u8]) {
+        self.all.extend_from_slice(bytes);
     }
 
     /// The first `len` aligned bytes of some memory, which has room for 63 more.

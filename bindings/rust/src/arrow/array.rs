@@ -390,7 +390,7 @@ impl Array {
     }
 
     #[cold]
-    fn is_not(&self, wanted: &'static str) -> ArrowError {
+    pub(super) fn is_not(&self, wanted: &'static str) -> ArrowError {
         ArrowError::Type {
             column: self.name(),
             format: self.node.field.format.clone(),

@@ -2,6 +2,7 @@
 
 mod dictionary;
 mod format;
+mod growing;
 mod select;
 mod structs;
 mod texts;
@@ -24,6 +25,8 @@ use super::node::Node;
 use super::primitive::Primitive;
 use crate::Bitmap;
 use crate::error::expect;
+
+pub use growing::TextsMut;
 
 /// What a field is compared with, and is called.
 const OF_ARRAY: Between = Between {

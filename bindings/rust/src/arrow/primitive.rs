@@ -131,6 +131,18 @@ impl<'a, T: Primitive> Unaligned<'a, T> {
         (place < self.len).then(|| unsafe { self.read(place) })
     }
 
+    /// The values at a place and at the next one.
+    ///
+    /// # Panics
+    ///
+    /// If there aren't both.
+    #[inline]
+    pub(super) fn pair(&self, place: usize) -> [T; 2] {
+        assert!(place < self.len.saturating_sub(1));
+        // SAFETY: both are among the values.
+        unsafe { [self.read(place), self.read(place + 1)] }
+    }
+
     /// A value.
     ///
     /// # Safety

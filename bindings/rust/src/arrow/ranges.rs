@@ -1,5 +1,7 @@
 //! Where the rows of texts and lists lie.
 
+mod offsets;
+
 use core::fmt;
 use core::iter::FusedIterator;
 use core::mem;
@@ -8,23 +10,7 @@ use core::ops::Range;
 use super::error::Fault;
 use super::primitive::Unaligned;
 use crate::Bitmap;
-
-/// Writes numbers that are so much further.
-macro_rules! moved {
-    ($number:ty, $offsets:expr, $rows:expr, $end:expr, $out:expr) => {{
-        const WIDTH: usize = size_of::<$number>();
-        let Range { start, end } = $rows;
-        let first = $offsets.get(start).unwrap_or(0);
-        let further = <$number>::try_from($end).unwrap_or(0).wrapping_sub(first);
-        let ends = $offsets.bytes_of(start + 1..end + 1).chunks_exact(WIDTH);
-        for (out, end) in $out.chunks_exact_mut(WIDTH).zip(ends) {
-            let end = end
-                .first_chunk()
-                .map_or(0, |it| <$number>::from_ne_bytes(*it));
-            out.copy_from_slice(&end.wrapping_add(further).to_ne_bytes());
-        }
-    }};
-}
+pub(super) use offsets::Offset;
 
 /// Where each row lies among the bytes of texts, or among the items of lists:
 /// [`Array::ranges`](super::Array::ranges). No row begins before the one before it ends.
@@ -33,7 +19,7 @@ pub struct Ranges<'a>(Offsets<'a>);
 
 /// One more than there are rows, or none, each at least the one before.
 #[derive(Clone, Copy)]
-enum Offsets<'a> {
+pub(super) enum Offsets<'a> {
     Narrow(Unaligned<'a, i32>),
     Wide(Unaligned<'a, i64>),
 }
@@ -41,13 +27,13 @@ enum Offsets<'a> {
 impl<'a> Ranges<'a> {
     /// Of numbers of 32 bits: each is tested.
     pub(super) fn narrow(offsets: Unaligned<'a, i32>) -> Result<Self, Fault> {
-        ascending(offsets.iter().map(i64::from))?;
+        offsets::ascend(offsets)?;
         Ok(Ranges(Offsets::Narrow(offsets)))
     }
 
     /// Of numbers of 64 bits: each is tested.
     pub(super) fn wide(offsets: Unaligned<'a, i64>) -> Result<Self, Fault> {
-        ascending(offsets.iter())?;
+        offsets::ascend(offsets)?;
         Ok(Ranges(Offsets::Wide(offsets)))
     }
 
@@ -100,13 +86,18 @@ impl<'a> Ranges<'a> {
         Some(self.offset(rows.start)?..self.offset(rows.end)?)
     }
 
-    /// Writes where the rows of a range end that begin at some place in another buffer, as numbers of
-    /// the same width.
+    /// Writes where the rows of a range end that begin at some place in another buffer, as numbers
+    /// of the same width.
     pub(super) fn write_ends(&self, rows: Range<usize>, start: usize, out: &mut [u8]) {
         match self.0 {
-            Offsets::Narrow(offsets) => moved!(i32, offsets, rows, start, out),
-            Offsets::Wide(offsets) => moved!(i64, offsets, rows, start, out),
+            Offsets::Narrow(offsets) => offsets::write_ends(offsets, rows, start, out),
+            Offsets::Wide(offsets) => offsets::write_ends(offsets, rows, start, out),
         }
+    }
+
+    /// The numbers, of whichever type.
+    pub(super) fn offsets(self) -> Offsets<'a> {
+        self.0
     }
 
     /// The place behind the last row; 0 where there is none.
@@ -118,8 +109,12 @@ impl<'a> Ranges<'a> {
     #[inline]
     #[must_use]
     pub fn iter(self) -> RangesIter<'a> {
-        let rows = 0..self.len();
-        RangesIter { ranges: self, rows }
+        RangesIter {
+            ranges: self,
+            rows: 0..self.len(),
+            start: self.offset(0).unwrap_or(0),
+            end: self.end(),
+        }
     }
 }
 
@@ -140,6 +135,17 @@ impl<'a> Ranges<'a> {
 pub struct RangesIter<'a> {
     ranges: Ranges<'a>,
     rows: Range<usize>,
+    /// Where the first of the rows begins, and where the last one ends.
+    start: usize,
+    end: usize,
+}
+
+impl RangesIter<'_> {
+    /// The rows that are left.
+    #[inline]
+    pub(super) fn rows(&self) -> Range<usize> {
+        self.rows.clone()
+    }
 }
 
 impl Iterator for RangesIter<'_> {
@@ -147,24 +153,50 @@ impl Iterator for RangesIter<'_> {
 
     #[inline]
     fn next(&mut self) -> Option<Range<usize>> {
-        self.rows.next().and_then(|row| self.ranges.get(row))
+        let end = self.ranges.offset(self.rows.next()? + 1)?;
+        Some(mem::replace(&mut self.start, end)..end)
     }
 
     #[inline]
     fn nth(&mut self, n: usize) -> Option<Range<usize>> {
-        self.rows.nth(n).and_then(|row| self.ranges.get(row))
+        let range = self.ranges.get(self.rows.nth(n)?)?;
+        self.start = range.end;
+        Some(range)
     }
 
     #[inline]
     fn size_hint(&self) -> (usize, Option<usize>) {
         self.rows.size_hint()
     }
+
+    #[inline]
+    fn last(mut self) -> Option<Range<usize>> {
+        self.next_back()
+    }
+
+    #[inline]
+    fn fold<A, F: FnMut(A, Range<usize>) -> A>(self, first: A, f: F) -> A {
+        match self.ranges.0 {
+            Offsets::Narrow(offsets) => {
+                offsets::fold_rows(offsets, self.rows, self.start, first, f)
+            }
+            Offsets::Wide(offsets) => offsets::fold_rows(offsets, self.rows, self.start, first, f),
+        }
+    }
 }
 
 impl DoubleEndedIterator for RangesIter<'_> {
     #[inline]
     fn next_back(&mut self) -> Option<Range<usize>> {
-        self.rows.next_back().and_then(|row| self.ranges.get(row))
+        let start = self.ranges.offset(self.rows.next_back()?)?;
+        Some(start..mem::replace(&mut self.end, start))
+    }
+
+    #[inline]
+    fn nth_back(&mut self, n: usize) -> Option<Range<usize>> {
+        let range = self.ranges.get(self.rows.nth_back(n)?)?;
+        self.end = range.start;
+        Some(range)
     }
 }
 
@@ -218,34 +250,4 @@ fn tested(
             test(mem::replace(&mut start, end)..end)
         });
     })
-}
-
-/// Whether no number is negative, none is below the one before it, and each is an `isize`, as the
-/// size of a slice is.
-fn ascending(offsets: impl Iterator<Item = i64> + Clone) -> Result<(), Fault> {
-    let (mut start, mut is_wrong) = (0, false);
-    for end in offsets.clone() {
-        // In vectors, since it goes on behind a wrong one.
-        is_wrong |= end < start || isize::try_from(end).is_err();
-        start = end;
-    }
-    if is_wrong {
-        first_wrong(offsets)
-    } else {
-        Ok(())
-    }
-}
-
-/// The first number that isn't as of [`ascending`].
-#[cold]
-fn first_wrong(offsets: impl Iterator<Item = i64>) -> Result<(), Fault> {
-    let mut start = 0;
-    for (place, end) in offsets.enumerate() {
-        if end < start || isize::try_from(end).is_err() {
-            let row = place.saturating_sub(1);
-            return Err(Fault::Range { row, start, end });
-        }
-        start = end;
-    }
-    Ok(())
 }

@@ -8,7 +8,7 @@ use core::iter::FusedIterator;
 use core::ops::Range;
 
 use super::error::Fault;
-use super::ranges::Ranges;
+use super::ranges::{Ranges, RangesIter};
 use crate::Validity;
 
 /// The bytes of each row of texts, or of binary values, that is valid:
@@ -92,8 +92,12 @@ impl<'a> Texts<'a> {
     #[inline]
     #[must_use]
     pub fn iter(&self) -> TextsIter<'a, '_> {
-        let rows = 0..self.len();
-        TextsIter { texts: self, rows }
+        let source = match &self.rows {
+            Rows::Joined(ranges, bytes) => Source::Joined(ranges.iter(), bytes),
+            Rows::Views(views, buffers) => Source::Views(0..views.len(), views, buffers),
+        };
+        let valid = self.valid;
+        TextsIter { source, valid }
     }
 }
 
@@ -112,8 +116,34 @@ impl<'a> Texts<'a> {
 /// ```
 #[derive(Clone)]
 pub struct TextsIter<'a, 'b> {
-    texts: &'b Texts<'a>,
-    rows: Range<usize>,
+    source: Source<'a, 'b>,
+    /// Of all rows, those too that were walked.
+    valid: Validity<'a>,
+}
+
+#[derive(Clone)]
+enum Source<'a, 'b> {
+    Joined(RangesIter<'a>, &'a [u8]),
+    Views(Range<usize>, &'a [View], &'b [&'a [u8]]),
+}
+
+/// The text of a row that a step of the rows gives.
+macro_rules! step {
+    ($walk:expr, $next:ident($($n:expr)?), |$rows:ident| $row:expr) => {{
+        let valid = $walk.valid;
+        match &mut $walk.source {
+            Source::Joined(ranges, bytes) => {
+                let $rows = ranges.rows();
+                let (row, range) = ($row, ranges.$next($($n)?)?);
+                Some(bytes.get(range).filter(|_| valid.get(row) == Some(true)))
+            }
+            Source::Views(rows, views, buffers) => {
+                let row = rows.$next($($n)?)?;
+                let is_valid = valid.get(row) == Some(true);
+                Some(viewed(&views[row], buffers).filter(|_| is_valid))
+            }
+        }
+    }};
 }
 
 impl<'a> Iterator for TextsIter<'a, '_> {
@@ -121,24 +151,54 @@ impl<'a> Iterator for TextsIter<'a, '_> {
 
     #[inline]
     fn next(&mut self) -> Option<Option<&'a [u8]>> {
-        self.rows.next().map(|row| self.texts.get(row))
+        step!(self, next(), |rows| rows.start)
     }
 
     #[inline]
     fn nth(&mut self, n: usize) -> Option<Option<&'a [u8]>> {
-        self.rows.nth(n).map(|row| self.texts.get(row))
+        step!(self, nth(n), |rows| rows.start.saturating_add(n))
     }
 
     #[inline]
     fn size_hint(&self) -> (usize, Option<usize>) {
-        self.rows.size_hint()
+        match &self.source {
+            Source::Joined(ranges, _) => ranges.size_hint(),
+            Source::Views(rows, ..) => rows.size_hint(),
+        }
+    }
+
+    #[inline]
+    fn last(mut self) -> Option<Option<&'a [u8]>> {
+        self.next_back()
+    }
+
+    /// The layout is matched once, and not for each row.
+    #[inline]
+    fn fold<A, F: FnMut(A, Option<&'a [u8]>) -> A>(self, first: A, mut f: F) -> A {
+        let valid = self.valid.bits();
+        let is_valid = |row| valid.is_none_or(|valid| valid[row]);
+        match self.source {
+            Source::Joined(ranges, bytes) if valid.is_none() => {
+                ranges.fold(first, |all, range| f(all, bytes.get(range)))
+            }
+            Source::Joined(ranges, bytes) => {
+                let mut rows = ranges.rows();
+                ranges.fold(first, |all, range| {
+                    let is_valid = rows.next().is_some_and(is_valid);
+                    f(all, bytes.get(range).filter(|_| is_valid))
+                })
+            }
+            Source::Views(rows, views, buffers) => rows.fold(first, |all, row| {
+                f(all, viewed(&views[row], buffers).filter(|_| is_valid(row)))
+            }),
+        }
     }
 }
 
 impl<'a> DoubleEndedIterator for TextsIter<'a, '_> {
     #[inline]
     fn next_back(&mut self) -> Option<Option<&'a [u8]>> {
-        self.rows.next_back().map(|row| self.texts.get(row))
+        step!(self, next_back(), |rows| rows.end.wrapping_sub(1))
     }
 }
 

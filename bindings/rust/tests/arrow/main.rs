@@ -26,3 +26,4 @@ mod sizes;
 mod stream;
 mod strict;
 mod texts;
+mod walks;

@@ -195,7 +195,7 @@ impl Array {
         Ok((ranges, self.bytes_up_to(ranges.end())?))
     }
 
-    fn has_bytes(&self) -> Result<(), ArrowError> {
+    pub(in crate::arrow) fn has_bytes(&self) -> Result<(), ArrowError> {
         match self.node.field.layout {
             Layout::Ranges(_, Of::Bytes) => Ok(()),
             _ => Err(self.is_not("that of texts")),

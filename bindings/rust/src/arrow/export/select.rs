@@ -2,6 +2,7 @@
 //! several arrays.
 
 mod fixed;
+mod joined;
 mod made;
 mod nested;
 mod rows;
@@ -32,9 +33,9 @@ impl Array {
     /// one call.
     ///
     /// What is kept is copied into new memory: numbers, truth values and texts, the columns of
-    /// structs, the items of lists and unions, and a value for each run that has a row. The buffers of
-    /// views, the items of list views and the dictionary are shared. A batch without columns keeps its
-    /// number of rows.
+    /// structs, the items of lists and unions, and a value for each run that has a row. The buffers
+    /// of views, the items of list views and the dictionary are shared. A batch without columns
+    /// keeps its number of rows.
     ///
     /// ```
     /// use vortex_bits::arrow::Export;
@@ -61,15 +62,12 @@ impl Array {
     /// # Errors
     ///
     /// Returns [`ArrowError::Mask`] if the mask has another number of bits than there are rows,
-    /// [`ArrowError::Malformed`] if rows of texts or lists go back, runs end before the rows or a row
-    /// of a union is of no child, and [`ArrowError::Memory`] if there is no memory for what is kept.
+    /// [`ArrowError::Malformed`] if rows of texts or lists go back, runs end before the rows or a
+    /// row of a union is of no child, and [`ArrowError::Memory`] if there is no memory for what is
+    /// kept.
     #[doc(alias("where", "compress", "select"))]
     pub fn filter(&self, mask: impl Mask) -> Result<Export, ArrowError> {
-        let (rows, bits) = (self.len, mask.mask_len().unwrap_or(self.len));
-        if bits != rows {
-            let column = self.node.field.name.clone();
-            return Err(ArrowError::Mask { column, bits, rows });
-        }
+        self.is_for(&mask)?;
         let of = slice::from_ref(self);
         match mask.mask() {
             Some(mask) => {
@@ -130,8 +128,8 @@ impl Array {
     ///
     /// Returns [`ArrowError::Take`] if the validity isn't as long as the indices, with the first
     /// index that is valid and isn't one of a row, and if a null row would have to name an item of
-    /// a dictionary without items; [`ArrowError::Type`] of null rows of a union without children; and
-    /// the errors of `take`.
+    /// a dictionary without items; [`ArrowError::Type`] of null rows of a union without children;
+    /// and the errors of `take`.
     pub fn take_valid<I: BitIndex>(
         &self,
         indices: &[I],
@@ -149,7 +147,17 @@ impl Array {
         export(field, slice::from_ref(self), rows)
     }
 
-    /// The rows at indices: 0 where an index isn't valid.
+    /// Whether a mask has a bit for each row.
+    pub(in crate::arrow) fn is_for(&self, mask: &impl Mask) -> Result<(), ArrowError> {
+        let (rows, bits) = (self.len, mask.mask_len().unwrap_or(self.len));
+        if bits == rows {
+            return Ok(());
+        }
+        let column = self.node.field.name.clone();
+        Err(ArrowError::Mask { column, bits, rows })
+    }
+
+    /// The rows at indices: any, or 0, where an index isn't valid.
     fn places<I: BitIndex>(
         &self,
         indices: &[I],
@@ -157,7 +165,16 @@ impl Array {
     ) -> Result<Vec<usize>, ArrowError> {
         crate::take::one_each(indices, validity)
             .map_err(|error| self.not_taken(values_error(error)))?;
-        let valid = validity.mask();
+        let (valid, mut is_wrong) = (validity.mask(), false);
+        let row = |index: &I| {
+            let row = index.place().unwrap_or(usize::MAX);
+            is_wrong |= row >= self.len;
+            row
+        };
+        let rows = indices.iter().map(row).collect();
+        if !is_wrong {
+            return Ok(rows);
+        }
         let place = |(position, index): (usize, &I)| {
             if valid.is_some_and(|valid| !valid[position]) {
                 return Ok(0);
@@ -229,6 +246,11 @@ fn export(field: Field, of: &[Array], rows: Rows<'_>) -> Result<Export, ArrowErr
 
 /// Rows of arrays of a type.
 fn selected(field: &Field, of: &[Array], rows: Rows<'_>) -> Result<Owned<ArrowArray>, ArrowError> {
+    let nulls = match field.layout {
+        Layout::Nulls => Nulls::Unmarked(rows.len()),
+        layout if layout.has_validity() => Nulls::Marked(fixed::validity(field, of, rows)?),
+        _ => Nulls::Unmarked(0),
+    };
     let made = match (field.layout, &field.dictionary) {
         (Layout::Bits, _) => Made::of([fixed::bits(field, of, rows)?]),
         (Layout::Fixed(..), Some(items)) => nested::coded(field, items, of, rows)?,
@@ -236,24 +258,18 @@ fn selected(field: &Field, of: &[Array], rows: Rows<'_>) -> Result<Owned<ArrowAr
             let bytes: Vec<&[u8]> = of.iter().map(Array::value_bytes).collect();
             Made::of([fixed::values(field, width, &bytes, rows)?])
         }
-        (Layout::Ranges(width, Of::Bytes), _) => variable::texts(field, width, of, rows)?,
+        (Layout::Ranges(width, Of::Bytes), _) => {
+            variable::texts(field, width, of, rows, nulls.valid(rows.len()))?
+        }
         (Layout::Ranges(width, Of::Items), _) => variable::lists(field, width, of, rows)?,
         (Layout::Views, _) => variable::views(field, of, rows)?,
         (Layout::Struct, _) => nested::structs(field, of, rows)?,
         (Layout::Lists(each), _) => nested::fixed_lists(field, each, of, rows)?,
         (Layout::ListViews(width), _) => nested::list_views(field, width, of, rows)?,
         (Layout::Runs, _) => runs::runs(field, of, rows)?,
-        (Layout::Nulls, _) => {
-            let nulls = Nulls::Unmarked(rows.len());
-            return Ok(Made::default().array(rows.len(), nulls));
-        }
+        (Layout::Nulls, _) => Made::default(),
         (Layout::Union { is_sparse, .. }, _) if is_sparse => unions::sparse(field, of, rows)?,
         (Layout::Union { .. }, _) => unions::dense(field, of, rows)?,
-    };
-    let nulls = if field.layout.has_validity() {
-        Nulls::Marked(fixed::validity(field, of, rows)?)
-    } else {
-        Nulls::Unmarked(0)
     };
     Ok(made.array(rows.len(), nulls))
 }
@@ -287,6 +303,14 @@ fn zeroed(field: &Field, len: usize, width: usize) -> Result<AlignedBytes, Arrow
             column: field.name.clone(),
             bytes: bytes.unwrap_or(usize::MAX),
         })
+}
+
+/// No bytes, and memory for so many.
+fn with_room(field: &Field, bytes: usize) -> Result<AlignedBytes, ArrowError> {
+    AlignedBytes::try_with_capacity(bytes).ok_or_else(|| ArrowError::Memory {
+        column: field.name.clone(),
+        bytes,
+    })
 }
 
 /// Writes a number of one of the widths of whole numbers, which holds it.

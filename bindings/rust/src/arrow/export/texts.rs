@@ -6,6 +6,7 @@ use alloc::vec::Vec;
 use core::ffi::c_void;
 use core::slice;
 
+use super::growing::TextsMut;
 use super::{Export, number};
 use crate::arrow::array::Array;
 use crate::arrow::error::ArrowError;
@@ -29,9 +30,9 @@ impl Export {
         texts: impl IntoIterator<Item = impl AsRef<str>>,
         valid: Option<Bitmap>,
     ) -> Export {
-        let mut rows = Joined::new();
+        let mut rows = TextsMut::new();
         for text in texts {
-            rows.push(text.as_ref().as_bytes());
+            rows.append(Some(text.as_ref()));
         }
         rows.export(valid)
     }
@@ -48,12 +49,11 @@ impl Export {
     /// ```
     #[must_use]
     pub fn texts_or_nulls(texts: impl IntoIterator<Item = Option<impl AsRef<str>>>) -> Export {
-        let (mut rows, mut valid) = (Joined::new(), Bitmap::growing(0));
+        let mut rows = TextsMut::new();
         for text in texts {
-            valid.append(text.is_some());
-            rows.push(text.as_ref().map_or("", AsRef::as_ref).as_bytes());
+            rows.append(text.as_ref().map(AsRef::as_ref));
         }
-        rows.export(Some(valid.share()))
+        Export::from(rows)
     }
 
     /// The rows of texts, or of binary values, that a mask keeps, in their order, with the name and
@@ -82,24 +82,24 @@ impl Export {
     #[track_caller]
     pub fn texts_kept(texts: &Array, mask: impl Mask) -> Result<Export, ArrowError> {
         let mask = mask.of_len(texts.len());
-        let rows = texts.texts()?;
+        let Some(views) = texts.views() else {
+            texts.has_bytes()?;
+            // By runs the bytes of null rows would be copied too.
+            let all = mask.is_none() && texts.validity()?.bits().is_some();
+            let all = all.then(|| Bitmap::new_set(texts.len()));
+            return texts.filter(mask.or(all.as_ref().map(Bitmap::bits)));
+        };
+        texts.texts()?;
         let valid = texts.validity()?.filter(mask);
-        if let Some(views) = texts.views() {
-            let len = mask.map_or(views.len(), Bits::count_ones);
-            return Ok(shown(texts, len, valid, |kept, valid| {
-                match mask {
-                    Some(mask) => drop(mask.keep_into(views, kept)),
-                    None => kept.copy_from_slice(views),
-                }
-                let nulls = valid.iter().flat_map(|valid| valid.unset_indices());
-                nulls.for_each(|row| kept[row] = View::default());
-            }));
-        }
-        let text = |row| rows.get(row);
-        match mask {
-            Some(mask) => joined(texts, mask.set_indices().map(text), valid),
-            None => joined(texts, (0..rows.len()).map(text), valid),
-        }
+        let len = mask.map_or(views.len(), Bits::count_ones);
+        Ok(shown(texts, len, valid, |kept, valid| {
+            match mask {
+                Some(mask) => drop(mask.keep_into(views, kept)),
+                None => kept.copy_from_slice(views),
+            }
+            let nulls = valid.iter().flat_map(|valid| valid.unset_indices());
+            nulls.for_each(|row| kept[row] = View::default());
+        }))
     }
 
     /// The rows of texts, or of binary values, at indices, with the name and the type that they
@@ -147,24 +147,17 @@ impl Export {
         indices: &[I],
         validity: impl Mask,
     ) -> Result<Export, ArrowError> {
+        let Some(views) = texts.views() else {
+            texts.has_bytes()?;
+            return texts.take_valid(indices, validity).map(Export::or_null);
+        };
+        texts.texts()?;
         let refused = |error| texts.not_taken(values_error(error));
-        let rows = texts.texts()?;
         let valid = valid_at(texts.validity()?, indices, &validity).map_err(refused)?;
-        if let Some(views) = texts.views() {
-            let taken = shown(texts, indices.len(), valid, |taken, valid| {
-                values::take_valid_into(views, indices, valid, taken);
-            });
-            return Ok(taken.or_null());
-        }
-        let valid_rows = Validity::new(valid.as_ref().map(Bitmap::bits), indices.len());
-        let taken = indices.iter().enumerate().map(|(place, index)| {
-            let is_valid = valid_rows.get(place) == Some(true);
-            index
-                .place()
-                .filter(|_| is_valid)
-                .and_then(|row| rows.get(row))
+        let taken = shown(texts, indices.len(), valid, |taken, valid| {
+            values::take_valid_into(views, indices, valid, taken);
         });
-        joined(texts, taken, valid.clone()).map(Export::or_null)
+        Ok(taken.or_null())
     }
 
     /// The same texts with offsets of 32 bits, which are new: `u` in place of `U`, and `z` of `Z`.
@@ -226,35 +219,6 @@ impl Export {
     }
 }
 
-/// Texts one behind the other, whose offsets have 64 bits.
-struct Joined {
-    ends: Vec<i64>,
-    bytes: Vec<u8>,
-}
-
-impl Joined {
-    fn new() -> Joined {
-        Joined {
-            ends: vec![0],
-            bytes: Vec::new(),
-        }
-    }
-
-    fn push(&mut self, text: &[u8]) {
-        self.bytes.extend_from_slice(text);
-        self.ends.push(number(self.bytes.len()));
-    }
-
-    #[track_caller]
-    fn export(self, valid: Option<Bitmap>) -> Export {
-        let Joined { ends, bytes } = self;
-        let pointers = [ends.as_ptr().cast(), bytes.as_ptr().cast()];
-        let field = Field::of("", "U", Layout::Ranges(8, Of::Bytes));
-        let len = ends.len() - 1;
-        Export::column(field, len, 0, &pointers, Arc::new((ends, bytes)), valid)
-    }
-}
-
 /// Where the rows end, behind a 0.
 enum Ends {
     Narrow(Vec<i32>),
@@ -282,42 +246,6 @@ impl Ends {
             Ends::Wide(ends) => ends.as_ptr().cast(),
         }
     }
-}
-
-/// The rows' texts, of the type of others: a null one has no byte. Their lengths are gone over
-/// before memory is taken for the bytes.
-fn joined<'a>(
-    of: &Array,
-    rows: impl Iterator<Item = Option<&'a [u8]>> + Clone,
-    valid: Option<Bitmap>,
-) -> Result<Export, ArrowError> {
-    let field = of.field();
-    let is_narrow = field.layout == Layout::Ranges(4, Of::Bytes);
-    let texts = rows.map(Option::unwrap_or_default);
-    let (mut len, mut end) = (0, 0usize);
-    let ends = texts.clone().map(|text| {
-        len += 1;
-        end = end.saturating_add(text.len());
-        end
-    });
-    let ends = Ends::new(is_narrow, ends).map_err(|bytes| long(of, bytes))?;
-    let mut bytes = Vec::new();
-    if bytes.try_reserve_exact(end).is_err() {
-        return Err(ArrowError::Memory {
-            column: field.name.clone(),
-            bytes: end,
-        });
-    }
-    texts.for_each(|text| bytes.extend_from_slice(text));
-    let buffers = [ends.pointer(), bytes.as_ptr().cast()];
-    Ok(Export::column(
-        field.clone(),
-        len,
-        0,
-        &buffers,
-        Arc::new((ends, bytes)),
-        valid,
-    ))
 }
 
 /// So many views of the buffers that another array of views has, which are written with regard to

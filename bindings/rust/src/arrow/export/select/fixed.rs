@@ -51,7 +51,7 @@ fn kept_bits(
     let mut out = BitsMut::new(&mut bytes, 0, len);
     match (rows, of) {
         (Rows::Mask(mask, _), [Some(bits)]) => bits.filter_into(mask, out),
-        (Rows::Places(places, valid), [Some(bits)]) if !of_null => {
+        (Rows::Places(places, valid), [Some(bits)]) if !of_null || !rows.has_nulls() => {
             bits.take_valid_into(places, valid, out);
         }
         _ => rows.for_each(

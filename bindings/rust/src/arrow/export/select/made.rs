@@ -7,6 +7,7 @@ use core::ptr;
 
 use super::rows::Rows;
 use super::{below, selected};
+use crate::Bits;
 use crate::arrow::array::Array;
 use crate::arrow::error::ArrowError;
 use crate::arrow::export::Held;
@@ -21,6 +22,16 @@ pub(super) enum Nulls {
     Unmarked(usize),
     /// Those whose bit is false, which are so many: none where there are no bits.
     Marked(Option<(AlignedBytes, usize)>),
+}
+
+impl Nulls {
+    /// A bit for each of so many rows; None where there are none.
+    pub(super) fn valid(&self, len: usize) -> Option<Bits<'_>> {
+        match self {
+            Nulls::Marked(Some((bytes, _))) => Some(Bits::new(bytes, 0, len)),
+            _ => None,
+        }
+    }
 }
 
 /// What new rows have beside their validity.

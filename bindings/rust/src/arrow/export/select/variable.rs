@@ -5,7 +5,8 @@ use core::ffi::c_void;
 
 use super::made::Made;
 use super::rows::{Rows, Run, Runs};
-use super::{fixed, put, too_long, whole, zeroed};
+use super::{fixed, joined, put, too_long, whole, zeroed};
+use crate::Bits;
 use crate::arrow::array::Array;
 use crate::arrow::error::ArrowError;
 use crate::arrow::field::Field;
@@ -14,13 +15,19 @@ use crate::arrow::ranges::Ranges;
 use crate::arrow::texts::View;
 use crate::bytes::AlignedBytes;
 
-/// Texts: new offsets, and the bytes of the rows, those of null ones too.
+/// Texts: new offsets, and the bytes of the rows, of which bits say which are valid.
 pub(super) fn texts(
     field: &Field,
     width: usize,
     of: &[Array],
     rows: Rows<'_>,
+    valid: Option<Bits<'_>>,
 ) -> Result<Made, ArrowError> {
+    if let [one] = of {
+        if let Some(made) = joined::rows(field, one, rows, valid)? {
+            return Ok(made);
+        }
+    }
     let joined = of.iter().map(Array::joined);
     let (ranges, bytes): (Vec<_>, Vec<_>) =
         joined.collect::<Result<Vec<_>, _>>()?.into_iter().unzip();
@@ -88,7 +95,7 @@ fn offsets(
 
 /// What is said of rows that end at these places, of which one is too far for an offset.
 #[cold]
-fn long(field: &Field, mut ends: impl Iterator<Item = usize>) -> ArrowError {
+pub(super) fn long(field: &Field, mut ends: impl Iterator<Item = usize>) -> ArrowError {
     let column = field.name.clone();
     let is_too_far = |end: &usize| i32::try_from(*end).is_err();
     let number = ends.find(is_too_far).unwrap_or(usize::MAX);
