@@ -42,6 +42,36 @@ fn a_batch_without_columns_keeps_its_number_of_rows() {
 }
 
 #[test]
+fn structs_have_their_rows_and_their_nulls() {
+    let none = Export::structs(9, [], None);
+    assert!(!none.field().is_nullable());
+    assert_eq!(none.read_back().len(), 9);
+    let valid = Bitmap::from(Bits::new(&[0b1011_0000, 0b01], 4, 5));
+    let column = || Export::values(vec![1u8, 2, 3, 4, 5], None).named("a");
+    let rows = Export::structs(5, [column()], Some(valid.clone())).read_back();
+    assert!(rows.field().is_nullable());
+    assert_eq!(rows.validity().unwrap().bits(), Some(valid.bits()));
+    let kept = rows
+        .filter(Bits::new(&[0b00110], 0, 5))
+        .unwrap()
+        .read_back();
+    assert_eq!(kept.null_count(), Ok(1));
+    assert_eq!(kept.column("a").unwrap().values::<u8>(), Ok(&[2, 3][..]));
+}
+
+#[test]
+#[should_panic(expected = "columns of 2 and 3 rows")]
+fn structs_have_columns_of_their_length() {
+    let _ = Export::structs(2, [Export::values(vec![1u8; 3], None)], None);
+}
+
+#[test]
+#[should_panic(expected = "3 bits of validity for 2 values")]
+fn structs_have_a_bit_for_each_row() {
+    let _ = Export::structs(2, [], Some(Bitmap::new_set(3)));
+}
+
+#[test]
 fn masks_and_validities_of_another_length_are_refused() {
     let rows = imported(of("n", 3, vec![], vec![]));
     let mask = Bitmap::new_set(4);
