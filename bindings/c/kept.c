@@ -176,11 +176,16 @@ static void filters(const uint8_t *bytes, size_t v, const uint8_t *mask, size_t 
     }
     check(vb_filter_bits(got[0], BYTES, 0, bytes, BYTES, v, mask, BYTES, m, len) == ones,
         "vb_filter_bits");
-    check(vb_filter_values_u8(u8[0], ones, from8, len, mask, BYTES, m) == ones, "vb_filter_values_u8");
-    check(vb_filter_values_u16(u16[0], ones, from16, len, mask, BYTES, m) == ones, "vb_filter_values_u16");
-    check(vb_filter_values_u32(u32[0], ones, from32, len, mask, BYTES, m) == ones, "vb_filter_values_u32");
-    check(vb_filter_values_u64(u64[0], ones, from64, len, mask, BYTES, m) == ones, "vb_filter_values_u64");
-    check(vb_filter_values_u128(u128[0], ones, from128, len, mask, BYTES, m) == ones, "vb_filter_values_u128");
+    check(vb_filter_values_u8(u8[0], ones, from8, len, mask, BYTES, m) == ones,
+        "vb_filter_values_u8");
+    check(vb_filter_values_u16(u16[0], ones, from16, len, mask, BYTES, m) == ones,
+        "vb_filter_values_u16");
+    check(vb_filter_values_u32(u32[0], ones, from32, len, mask, BYTES, m) == ones,
+        "vb_filter_values_u32");
+    check(vb_filter_values_u64(u64[0], ones, from64, len, mask, BYTES, m) == ones,
+        "vb_filter_values_u64");
+    check(vb_filter_values_u128(u128[0], ones, from128, len, mask, BYTES, m) == ones,
+        "vb_filter_values_u128");
     const bool all = vb_try_filter_bits(got[1], BYTES, 0, bytes, BYTES, v, mask, BYTES, m, len,
             &written[0])
         & vb_try_filter_values_u8(u8[1], BITS, from8, len, mask, BYTES, m, &written[1])
@@ -238,10 +243,14 @@ static void bad_filters(const uint8_t *bytes, size_t offset, size_t len)
     check(!vb_try_filter_bits(got, 1, 0, ones, 2, 7, ones, 2, 7, 9, &number), "no room");
     for (size_t m = 7; m < 9; m++) {
         const size_t room = m == 7 ? 8 : 9;
-        check(!vb_try_filter_values_u8(u8, room, u8, 9, ones, 2, m, &number), "no room, or a bad mask");
-        check(!vb_try_filter_values_u16(u16, room, u16, 9, ones, 2, m, &number), "no room, or a bad mask");
-        check(!vb_try_filter_values_u32(u32, room, u32, 9, ones, 2, m, &number), "no room, or a bad mask");
-        check(!vb_try_filter_values_u64(u64, room, u64, 9, ones, 2, m, &number), "no room, or a bad mask");
+        check(!vb_try_filter_values_u8(u8, room, u8, 9, ones, 2, m, &number),
+            "no room, or a bad mask");
+        check(!vb_try_filter_values_u16(u16, room, u16, 9, ones, 2, m, &number),
+            "no room, or a bad mask");
+        check(!vb_try_filter_values_u32(u32, room, u32, 9, ones, 2, m, &number),
+            "no room, or a bad mask");
+        check(!vb_try_filter_values_u64(u64, room, u64, 9, ones, 2, m, &number),
+            "no room, or a bad mask");
         check(!vb_try_filter_values_u128(u128, room, u128, 9, ones, 2, m, &number),
             "no room, or a bad mask");
     }

@@ -71,7 +71,7 @@ static void make(void *value, size_t size, size_t i)
         check(!vb_try_take_values_##V##_##I(got[1], 9, values, count, indices, 9, false,          \
             validity, BYTES, SIZE_MAX - 8, &kept), "a validity past every place");                \
         check(kept.out_of_range && kept.position == 77                                            \
-            && memcmp(got[0], got[1], sizeof wanted) == 0, "what stands after a refusal");                                                       \
+            && memcmp(got[0], got[1], sizeof wanted) == 0, "what stands after a refusal");        \
     }
 
 #define ALL(X)                                                                                    \

@@ -81,7 +81,8 @@ static void walks(const uint8_t *bytes, size_t offset, size_t len)
         check(places[i] == (size_t)0xEEEEEEEEEEEEEEEEu, "memory behind the places");
     }
     written = vb_set_slices(runs, room, bytes, BYTES, offset, len);
-    check(vb_try_set_slices(runs_checked, room, bytes, BYTES, offset, len, &count) && count == written,
+    check(vb_try_set_slices(runs_checked, room, bytes, BYTES, offset, len, &count)
+            && count == written,
         "vb_try_set_slices");
     seen = 0;
     for (size_t i = 0; i <= len; i++) {
@@ -225,7 +226,8 @@ static void packs(const uint8_t *bytes, const uint8_t *other)
         "vb_try_pack_truthy_padded");
     /* One value more than there is room for. */
     memcpy(got, other, BYTES);
-    check(!vb_try_pack_bools_padded(got, 1, bools, 9) && !vb_try_pack_truthy_padded(got, 1, bytes, 9)
+    check(!vb_try_pack_bools_padded(got, 1, bools, 9)
+            && !vb_try_pack_truthy_padded(got, 1, bytes, 9)
             && memcmp(got, other, BYTES) == 0, "a pack without room left all as it was");
     check(vb_try_pack_truthy_padded(got, 1, bytes, 8), "a pack that has room");
 }
@@ -287,7 +289,8 @@ static void ranks(const uint8_t *bytes, size_t offset, size_t len)
     size_t table[BLOCKS + 1], checked[BLOCKS + 1], count = 0, ones = 0, rank = 0;
     const size_t blocks = (len + 511) / 512, i = random_below(len + 1), n = random_below(len + 2);
     vb_place place = {false, 0};
-    check(vb_block_counts(table, BLOCKS + 1, bytes, BYTES, offset, len) == blocks, "vb_block_counts");
+    check(vb_block_counts(table, BLOCKS + 1, bytes, BYTES, offset, len) == blocks,
+        "vb_block_counts");
     check(vb_try_block_counts(checked, BLOCKS + 1, bytes, BYTES, offset, len, &count)
             && count == blocks && memcmp(table, checked, blocks * sizeof *table) == 0,
         "vb_try_block_counts");

@@ -55,7 +55,8 @@ static void take(size_t value_size, size_t index_size)
         vb_taken kept = {true, 77};
         const bool taken = vb_try_take_values(out, 8, values, 8, value_size, others, count,
             index_size, true, NULL, 0, 0, &kept);
-        check(!taken && kept.out_of_range && kept.position == 77, "a checked take of an unknown size");
+        check(!taken && kept.out_of_range && kept.position == 77,
+            "a checked take of an unknown size");
     }
     check(is_unwritten(), "what a take of an unknown size writes");
 }

@@ -41,9 +41,9 @@
  *
  * Of a vb_try_ function the caller owes what is owed of every call, and no more: it tests sizes,
  * offsets, lengths and rooms, and that no pointer is null whose number is not 0, as after a failed
- * malloc. Where they aren't good, it answers false and leaves everything as it was. What indices say
- * is no such number: takes tell of the first bad one by the vb_taken that they answer, their vb_try_
- * forms by `taken`. No function takes memory or keeps a pointer.
+ * malloc. Where they aren't good, it answers false and leaves everything as it was. What indices
+ * say is no such number: takes tell of the first bad one by the vb_taken that they answer, their
+ * vb_try_ forms by `taken`. No function takes memory or keeps a pointer.
  *
  * Arrow's arrays have bits so: `offset` is the array's, added to those of the structs that it is a
  * column of, and `size` is (offset + len + 7) / 8. A validity that isn't there, a null pointer,
@@ -280,8 +280,8 @@ VB_CHECKED bool vb_try_is_subset(const uint8_t *left, size_t left_size, size_t l
 
 /*
  * Writes the places of the true bits, in ascending order, to the front of `out`, as many as have
- * room, and answers (`written`) how many these are. No page of memory is read behind that of the last
- * one that has room.
+ * room, and answers (`written`) how many these are. No page of memory is read behind that of the
+ * last one that has room.
  *
  *     const uint8_t rows[] = {0xE8, 0x06};
  *     size_t places[4];
@@ -294,8 +294,8 @@ VB_CHECKED bool vb_try_set_indices(size_t *out, size_t out_count, const uint8_t 
 
 /*
  * Writes the runs of true bits, from front to end, each as long as can be, to the front of `out`,
- * as many as have room, and answers (`written`) how many these are. No page of memory is read behind
- * that of the end of the last one that has room.
+ * as many as have room, and answers (`written`) how many these are. No page of memory is read
+ * behind that of the end of the last one that has room.
  *
  *     const uint8_t rows[] = {0xE8, 0x06};
  *     vb_run runs[4];
@@ -316,7 +316,8 @@ VB_CHECKED bool vb_try_set_slices(vb_run *out, size_t out_count, const uint8_t *
  *     assert(rows[0] == 0x18 && rows[1] == 0xFF);
  */
 void vb_fill_bits(uint8_t *bytes, size_t size, size_t offset, size_t len, bool value);
-VB_CHECKED bool vb_try_fill_bits(uint8_t *bytes, size_t size, size_t offset, size_t len, bool value);
+VB_CHECKED bool vb_try_fill_bits(uint8_t *bytes, size_t size, size_t offset, size_t len,
+        bool value);
 
 /*
  * Negates each bit of the window, 32 bytes at a time.

@@ -30,10 +30,10 @@ enum {
 };
 
 /*
- * Writes to bit `out_offset + k` of `out`, for each k below `values_count`, whether value k compares
- * with `number` so. Every other bit of `out` stays. 64 values go at a time, by vectors. Floats compare as C's operators do, and
- * IEEE 754: of what isn't a number VB_NOT_EQUAL alone holds, also where both sides are it, and 0.0
- * equals -0.0.
+ * Writes to bit `out_offset + k` of `out`, for each k below `values_count`, whether value k
+ * compares with `number` so. Every other bit of `out` stays. 64 values go at a time, by vectors.
+ * Floats compare as C's operators do, and IEEE 754: of what isn't a number VB_NOT_EQUAL alone
+ * holds, also where both sides are it, and 0.0 equals -0.0.
  *
  *     const double prices[] = {1.5, NAN, 0.25};
  *     uint8_t cheap[] = {0};

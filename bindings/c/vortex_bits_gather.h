@@ -64,13 +64,14 @@ VB_CHECKED bool vb_try_pack_truthy_padded(uint8_t *out, size_t out_size, const u
 /*
  * Writes the bits that the indices name among those of the window to the bits of `out` from bit
  * `out_offset` on, one for each index; or answers the first position that counts and whose index is
- * out of range, not below `len`. The checked forms answer that in `taken`. Where `all_valid` is true,
- * each position counts, and the validity may be null, of no bytes; else a position counts if the bit
- * of `validity` from bit `validity_offset` on is true there: at the others false is written, and
- * their indices are not looked at. Every other bit of `out` stays; where a position is answered,
- * those of the indices hold anything. 64 indices go at a time.
+ * out of range, not below `len`. The checked forms answer that in `taken`. Where `all_valid` is
+ * true, each position counts, and the validity may be null, of no bytes; else a position counts if
+ * the bit of `validity` from bit `validity_offset` on is true there: at the others false is
+ * written, and their indices are not looked at. Every other bit of `out` stays; where a position is
+ * answered, those of the indices hold anything. 64 indices go at a time.
  *
- * Signed indices go by casts, where `len` is at most what they can name, as in vortex_bits_values.h.
+ * Signed indices go by casts, where `len` is at most what they can name, as in
+ * vortex_bits_values.h.
  *
  *     uint8_t out[] = {0xFF};
  *     const uint8_t bits[] = {0x12}, indices[] = {4, 0, 1};
@@ -116,9 +117,9 @@ VB_CHECKED bool vb_try_take_bits_u64(uint8_t *out, size_t out_size, size_t out_o
 
 /*
  * Writes those of the `len` bits of `bytes` from bit `offset` on whose bit of `mask` from bit
- * `mask_offset` on is true, in order, to the bits of `out` from bit `out_offset` on, which lie in it,
- * and answers (`written`) how many these are. Every other bit of `out` stays. The checked form tests
- * the room too. 64 bits go at a time.
+ * `mask_offset` on is true, in order, to the bits of `out` from bit `out_offset` on, which lie in
+ * it, and answers (`written`) how many these are. Every other bit of `out` stays. The checked form
+ * tests the room too. 64 bits go at a time.
  *
  *     uint8_t out[] = {0xFF};
  *     const uint8_t bits[] = {0x76}, mask[] = {0x4B};
@@ -133,9 +134,9 @@ VB_CHECKED bool vb_try_filter_bits(uint8_t *out, size_t out_size, size_t out_off
 
 /*
  * Undoes vb_filter_bits: writes `len` bits to `out` from bit `out_offset` on, which are those of
- * `bytes` from bit `offset` on, in order, where the bit of `mask` from bit `mask_offset` on is true,
- * and false elsewhere. `bytes` has a bit for each true one of the mask, which the checked form
- * counts. Every other bit of `out` stays.
+ * `bytes` from bit `offset` on, in order, where the bit of `mask` from bit `mask_offset` on is
+ * true, and false elsewhere. `bytes` has a bit for each true one of the mask, which the checked
+ * form counts. Every other bit of `out` stays.
  *
  *     uint8_t out[] = {0};
  *     const uint8_t bits[] = {0x0A}, mask[] = {0x4B};

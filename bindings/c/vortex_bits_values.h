@@ -18,9 +18,9 @@ typedef struct {
 } vb_u128;
 
 /*
- * Writes those of the values whose bit of `mask` from bit `mask_offset` on is true, in order, to the
- * front of `out`, and answers (`written`) how many these are; `out_count` is how many `out` has room
- * for, at least as many. The items behind them stay. The checked form tests the room too. 64
+ * Writes those of the values whose bit of `mask` from bit `mask_offset` on is true, in order, to
+ * the front of `out`, and answers (`written`) how many these are; `out_count` is how many `out` has
+ * room for, at least as many. The items behind them stay. The checked form tests the room too. 64
  * values go at a time. Values are copied as they are, so those of another type of the size, aligned
  * as that one is, go by casts of both pointers, or by vb_filter_values.
  *
@@ -79,15 +79,15 @@ VB_CHECKED bool vb_try_filter_values(void *out, size_t out_count, const void *va
  * Writes the values at the indices to the front of `out`, one each; or answers the first position
  * that counts and whose index is out of range, not below `values_count`. The checked forms answer
  * that in `taken`. `out_count` is how many values `out` has room for, at least as many as indices.
- * Where `all_valid` is true, each position counts, and the validity may be null, of no bytes; else a
- * position counts if the bit of `validity` from bit `validity_offset` on is true there: at the
+ * Where `all_valid` is true, each position counts, and the validity may be null, of no bytes; else
+ * a position counts if the bit of `validity` from bit `validity_offset` on is true there: at the
  * others 0 is written, and their indices are not looked at. The items of `out` behind those of the
  * indices stay; where a position is answered, the ones in front hold anything.
  *
  * vb_take_values_u64_u32 takes values of 64 bits at indices of 32. Values of another type of the
- * size go by casts, or by vb_take_values. So do signed indices, where `values_count` is at most what
- * they can name: a negative one is then read as one that names nothing. Pass a smaller number where
- * there are more values, as of 2^31 for int32_t.
+ * size go by casts, or by vb_take_values. So do signed indices, where `values_count` is at most
+ * what they can name: a negative one is then read as one that names nothing. Pass a smaller number
+ * where there are more values, as of 2^31 for int32_t.
  *
  *     uint64_t out[2];
  *     const uint64_t values[] = {5, 6, 7};
@@ -227,8 +227,8 @@ VB_CHECKED bool vb_try_take_values_u128_u64(vb_u128 *out, size_t out_count, cons
  *     const float prices[] = {0.5f, 1.5f, 2.5f};
  *     const int32_t rows[] = {2, 0};
  *     float out[2];
- *     vb_taken taken = vb_take_values(out, 2, prices, 3, sizeof *prices, rows, 2, sizeof *rows, true,
- *         NULL, 0, 0);
+ *     vb_taken taken = vb_take_values(out, 2, prices, 3, sizeof *prices, rows, 2, sizeof *rows,
+ *         true, NULL, 0, 0);
  *     assert(!taken.out_of_range && out[0] == 2.5f);
  */
 VB_CHECKED vb_taken vb_take_values(void *out, size_t out_count, const void *values,

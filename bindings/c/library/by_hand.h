@@ -23,7 +23,7 @@ static size_t bytes_of(size_t end)
     return end / 8 + (end % 8 != 0);
 }
 
-/* Whether the window lies in its bytes: a checked search tests it, and from its end on reads none. */
+/* Whether the window lies in its bytes: a checked search tests it, and reads none from its end. */
 static bool fits(const uint8_t *bytes, size_t size, size_t offset, size_t len)
 {
     vb_place place;
