@@ -169,9 +169,5 @@ fn an_extend_keeps_no_block_of_elements(rt: HostRuntime) {
     let items = values.as_slice().iter().copied();
     made.extend(items).expect(&rt, "memory");
     are_elements(&rt, made.as_slice());
-    made.clear();
-    let items = values.as_slice().iter().copied();
-    made.extend_trusted(items).expect(&rt, "memory");
-    are_elements(&rt, made.as_slice());
     drop((values, made));
 }
