@@ -65,12 +65,20 @@ fn pack_all_truthy(alloc: Global, items: &[u8], case: Case) -> Result<usize> {
 fn of_closure(alloc: Global, case: Case) -> Result<usize> {
     let mut words = Vec::from_elem(alloc, 0u64, case.size / 64)?;
     for turn in 0..case.calls {
-        let mut third = |i: usize| i % 3 == turn % 2;
-        collect_bool_words(words.as_mut_slice(), case.size / 64 * 64, &mut third);
+        pack_thirds(words.as_mut_slice(), case, turn);
     }
     let first = words.first().copied().unwrap_or(0);
     drop(words);
     Ok((first % 256) as usize)
+}
+
+#[tactic(auto, using(vb_pack::proofs::AnswersLemmas::CanAsk_always))]
+fn pack_thirds(words: &mut [u64], case: Case, turn: usize) {
+    let len = case.size / 64 * 64;
+    if len <= 64 * words.len().min(Case::MOST) {
+        let mut third = |i: usize| i % 3 == turn % 2;
+        collect_bool_words(words, len, &mut third);
+    }
 }
 
 fn of_values(alloc: Global, case: Case) -> Result<usize> {
