@@ -3,7 +3,7 @@ use crate::histogram::Histogram;
 use crate::strip::Strip;
 use query_csv::{grouped, visible};
 use std::alloc::{AllocError, Global};
-use std::num::{nearest_u64_to_f64, nearest_usize_to_f64};
+use std::num::{nearest_u64_to_f64, nearest_usize_to_f64, saturating_f64_to_usize};
 
 const WIDTH: f64 = 760.0;
 
@@ -139,12 +139,13 @@ impl<'a> Picture<'a> {
         let count = nearest_usize_to_f64(end.saturating_sub(first).max(1));
         let slot = (WIDTH - MARGIN - CHART_LEFT) / count;
         let longest = nearest_usize_to_f64(histogram.longest().saturating_add(1));
-        let each = (longest * CHARACTER / slot).ceil().max(1.0);
+        // The remainder of floats is a call of the C library that older ones lack.
+        let each = saturating_f64_to_usize((longest * CHARACTER / slot).ceil()).max(1);
         for bin in first..end {
-            let place = nearest_usize_to_f64(bin.saturating_sub(first));
-            let x = CHART_LEFT + place * slot;
+            let place = bin.saturating_sub(first);
+            let x = CHART_LEFT + nearest_usize_to_f64(place) * slot;
             self.add_bar(out, histogram, bin, (x, slot), most)?;
-            if place % each == 0.0 {
+            if place % each == 0 {
                 let below = CHART_TOP + CHART_HEIGHT + 16.0;
                 self.add_text(out, (x, below), "middle", "", histogram.label(bin))?;
             }
