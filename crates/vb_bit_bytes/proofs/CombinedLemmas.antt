@@ -1,9 +1,7 @@
 -- Bytes combined one by one.
-use Rattle.std.proofs.Common.{◌≡◌, inl, inr, ℕ, ◌+◌, ◌*◌, ◌/◌, ◌%◌, ◌<◌, ◌≤◌, Bool, List, [], ◌∷◌}
-use Rattle.std.proofs.Common.{◌++◌, length, get_or, sym, ap, subst, ◌∙◌, arith}
-use Rattle.std.proofs.lemmas.Bool.{cases_lt}
-use Rattle.std.proofs.lemmas.List.{same_lists, get_or_append_left}
-use Rattle.std.proofs.Math.Seq.{get_or-append_seam}
+use Rattle.std.proofs.Common.{◌≡◌, ℕ, ◌+◌, ◌*◌, ◌/◌, ◌%◌, ◌<◌, ◌≤◌, Bool, List}
+use Rattle.std.proofs.Common.{get_or, sym, ap, ◌∙◌, arith}
+use Rattle.std.proofs.lemmas.List.{same_lists}
 use Rattle.vb_bits.specs.Bits.{bit_of, bits}
 use Rattle.vb_bits.specs.Digits.{has_bit}
 use Rattle.vb_bits.specs.Operators.{merged_by}
@@ -14,21 +12,6 @@ use Rattle.vb_bits.proofs.OperatorsLemmas.{at-merged_by, length-merged_bits}
 abbrev pub IsMerged : (Bool → Bool → Bool) → List ℕ → List ℕ → List ℕ → ℕ → Type 0
 IsMerged f b l r m = (j i : ℕ) → j < m
     → i < 8 → has_bit (get_or b j 0) i ≡ f (has_bit (get_or l j 0) i) (has_bit (get_or r j 0) i)
-
--- one more byte
-pub IsMerged-more : (f : Bool → Bool → Bool) (b c l r : List ℕ) (m y : ℕ) → IsMerged f b l r m
-    → length b ≡ m → c ≡ b ++ y ∷ [] → ((i : ℕ) → i < 8 → has_bit y i ≡ f (has_bit (get_or l m 0) i)
-    (has_bit (get_or r m 0) i)) → IsMerged f c l r (m + 1)
-IsMerged-more f b c l r m y before long is last = λ j i low small. elim (cases_lt j m) [
-  | inl inside ↦ ap (λ z. has_bit (get_or z j 0) i) is ∙ ap (λ z. has_bit z i)
-      (get_or_append_left b (y ∷ []) 0 j (omega arith)) ∙ before j i inside small
-  | inr past ↦
-      let at : m ≡ j = omega arith in
-      ap (λ z. has_bit (get_or z j 0) i) is ∙ ap (λ z. has_bit z i)
-      (ap (λ p. get_or (b ++ y ∷ []) p 0) (sym (long ∙ at)) ∙ get_or-append_seam b y [] 0)
-      ∙ subst (λ p. has_bit y i ≡ f (has_bit (get_or l p 0) i) (has_bit (get_or r p 0) i)) at
-      (last i small)
-]
 
 -- windows of the bytes
 pub bits-merged_bytes : (f : Bool → Bool → Bool) (b l r : List ℕ) (m o n : ℕ)

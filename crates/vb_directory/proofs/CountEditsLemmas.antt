@@ -1,12 +1,11 @@
 -- Counts of lists that are edited.
 use Rattle.std.proofs.Common.{◌≡◌, ◌≢◌, ℕ, zero, suc, ◌+◌, ◌-◌, ◌*◌, ◌/◌, ◌%◌, ◌^◌, ◌<◌, ◌≤◌, Bool}
 use Rattle.std.proofs.Common.{true, false, not, cond, List, [], ◌∷◌, ◌++◌, length, get_or, take}
-use Rattle.std.proofs.Common.{drop, set, slice_range, refl, sym, ap, ◌∙◌, arith, subst, ⊎_elim}
-use Rattle.std.proofs.Math.Seq.{take-length, take-append_seam}
+use Rattle.std.proofs.Common.{drop, set, slice_range, refl, sym, ap, ◌∙◌, arith, ⊎_elim}
+use Rattle.std.proofs.Math.Seq.{take-length}
 use Rattle.std.proofs.lemmas.Bool.{cases_lt}
 use Rattle.std.proofs.lemmas.List.{length-set, length-append, length-take, take-append-le}
 use Rattle.std.proofs.lemmas.List.{take-take, get_or_append_left, get_or-append-add}
-use Rattle.std.specs.Int.{div_ceil}
 use Rattle.vb_bits.specs.Bits.{at, count}
 use Rattle.vb_bits.proofs.BitsLemmas.{count-le, count-take-le, count-take_more, count-take-mono}
 use Rattle.vb_directory.specs.Counts.{AreCounts, numbers_for, count_before_group, count_in_group}
@@ -200,35 +199,6 @@ AreCounts-push l c v p h =
           let old : 65536 * k + 512 * i < length l = omega (arith, inside, size, h) in
           p.each k i small old ∙ sym (count-push l (65536 * k + 512 * i) v (omega (arith, old)));
     }
-
-pub AreCounts-same_blocks : (l m : List Bool) (c : List ℕ) → AreCounts l c → take (length l) m ≡ l
-    → length l ≤ length m → div_ceil (length l) 512 ≡ div_ceil (length m) 512 → AreCounts m c
-AreCounts-same_blocks l m c p front more same = record {
-  long = omega (arith, p.long, same, more);
-  each = λ k i small inside.
-      let n : ℕ = 65536 * k + 512 * i in
-      let old : n < length l = omega (arith, inside, same, small) in
-      p.each k i small old ∙ ap (λ x. count (take n x)) (sym front)
-      ∙ ap count (take-take n (length l) m (omega (arith, old)));
-}
-
--- so with a longer front of the same bits
-pub AreCounts-longer : (l : List Bool) (c : List ℕ) (a b : ℕ) → AreCounts (take a l) c → a ≤ b
-    → b ≤ length l → div_ceil a 512 ≡ div_ceil b 512 → AreCounts (take b l) c
-AreCounts-longer l c a b p order within same =
-    let short : length (take a l) ≡ a = omega (arith, length-take a l, order, within) in
-    let long : length (take b l) ≡ b = omega (arith, length-take b l, within) in
-    AreCounts-same_blocks (take a l) (take b l) c p
-    (ap (λ n. take n (take b l)) short ∙ take-take a b l order) (omega (arith, short, long, order))
-    (ap (λ n. div_ceil n 512) short ∙ same ∙ ap (λ n. div_ceil n 512) (sym long))
-
--- the bits before those that were added have the counts that they had
-pub AreCounts-front : (l m v : List Bool) (c d : List ℕ) (n : ℕ) → AreCounts l c → v ≡ l ++ m
-    → n ≡ length l → d ≡ c → AreCounts (take n v) d
-AreCounts-front l m v c d n p whole size same =
-    subst (λ x. AreCounts x d)
-    (sym (ap (λ k. take k v) size ∙ ap (take (length l)) whole ∙ take-append_seam l m))
-    (subst (AreCounts l) (sym same) p)
 
 -- numbers that are added change no group before them
 before-append : (c y : List ℕ) (k : ℕ)

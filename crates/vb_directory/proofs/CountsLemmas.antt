@@ -1,5 +1,5 @@
 -- Counts of blocks by their groups: read and searched.
-use Rattle.std.proofs.Common.{◌≡◌, ◌≢◌, ℕ, zero, suc, ◌+◌, ◌-◌, ◌*◌, ◌/◌, ◌%◌, ◌<◌, ◌≤◌, Bool, true}
+use Rattle.std.proofs.Common.{◌≡◌, ℕ, zero, suc, ◌+◌, ◌-◌, ◌*◌, ◌/◌, ◌%◌, ◌<◌, ◌≤◌, Bool, true}
 use Rattle.std.proofs.Common.{false, List, length, get_or, take, min, refl, sym, ap, ◌∙◌, arith}
 use Rattle.std.proofs.Common.{subst, ⊎_elim}
 use Rattle.std.specs.Int.{div_ceil}
@@ -39,26 +39,6 @@ pub within-same : (c d : List ℕ) (k i : ℕ)
 within-same c d k zero same = refl
 within-same c d k (suc i) same = at-count_in_group d k (suc i) (omega arith)
     ∙ same (omega arith) ∙ sym (at-count_in_group c k (suc i) (omega arith))
-
--- a write to the digits of one group leaves the counts before the others
-pub before-other : (c d : List ℕ) (k j : ℕ)
-    → ((n : ℕ) → n < 131 * k → get_or d n 0 ≡ get_or c n 0)
-    → ((n : ℕ) → 131 * k + 4 ≤ n → get_or d n 0 ≡ get_or c n 0) → j ≢ k
-    → count_before_group d j ≡ count_before_group c j
-before-other c d k j low high other = before-same c d j (λ n from to. ⊎_elim
-    (λ (less : j < k). low n (omega (arith, to, less)))
-    (λ (more : k ≤ j). high n (omega (arith, from, more, other)))
-    (cases_lt j k))
-
--- and the counts of all blocks
-pub within-other : (c d : List ℕ) (k j i : ℕ)
-    → ((n : ℕ) → n < 131 * k → get_or d n 0 ≡ get_or c n 0)
-    → ((n : ℕ) → 131 * k + 4 ≤ n → get_or d n 0 ≡ get_or c n 0) → i < 128
-    → count_in_group d j i ≡ count_in_group c j i
-within-other c d k j i low high small = within-same c d j i (λ some. ⊎_elim
-    (λ (less : j < k). low (131 * j + 3 + i) (omega (arith, small, less)))
-    (λ (more : k ≤ j). high (131 * j + 3 + i) (omega (arith, some, more)))
-    (cases_lt j k))
 
 -- there are as many counts before groups as groups
 pub length_counts_before : (c : List ℕ) (n : ℕ)
@@ -126,25 +106,6 @@ before-of_group l c k p h =
     omega (
       arith,
       p.each k 0 (omega arith) (omega (arith, h, place)),
-      ap (λ x. count (take x l)) place,
-    )
-
--- before the first group there are none
-none-before : (l : List Bool) (c : List ℕ)
-    → AreCounts l c → 0 < length l → count_before_group c 0 ≡ 0
-none-before l c p h =
-    let none : count (take (65536 * 0) l) ≡ 0 = refl in
-    before-of_group l c 0 p (omega (arith, h)) ∙ none
-
--- the count before a block of the first group
-pub ones-of_first : (l : List Bool) (c : List ℕ) (j : ℕ) → AreCounts l c → 512 * j < length l
-    → j < 128 → count_in_group c 0 j ≡ count (take (512 * j) l)
-ones-of_first l c j p h small =
-    let place : 65536 * 0 + 512 * j ≡ 512 * j = omega arith in
-    omega (
-      arith,
-      p.each 0 j small (omega (arith, h)),
-      none-before l c p (omega (arith, h)),
       ap (λ x. count (take x l)) place,
     )
 

@@ -72,12 +72,6 @@ Writes-next b c d o p a m w e l from inside at end one two =
     ∙ ap (take (m - a + w - (m - a))) (ap (λ n. drop n l) (sym here) ∙ sym (drop-drop (m - a) a l)))
     two)
 
--- a part from the first value on
-pub front_part : (l : List Bool) (a e n : ℕ) → a ≡ 0 → e ≡ n → slice_range l a e ≡ take n l
-front_part l a e n none same =
-    let size : e - a ≡ n = omega arith in
-    ap (λ k. take k (drop a l)) size ∙ ap (λ k. take n (drop k l)) none
-
 -- how many are in a part
 pub length-part : (l : List Bool) (a w : ℕ) → a + w ≤ length l
     → length (slice_range l a (a + w)) ≡ w

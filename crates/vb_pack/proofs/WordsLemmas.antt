@@ -9,7 +9,6 @@ use Rattle.std.proofs.lemmas.List.{get_or_append_left, get_or-append_right}
 use Rattle.std.proofs.lemmas.List.FromFn.{length-map-range_with_len, get_or-map-range_with_len}
 use Rattle.std.proofs.lemmas.Nat.Bits.{bit_at_above}
 use Rattle.vb_bits.specs.Digits.{has_bit, digits}
-use Rattle.vb_bits.proofs.RangeLemmas.{map-range_with_len-add, same_map-range_with_len}
 use Rattle.vb_bits.proofs.DigitsLemmas.{length-digits, at-digits, digits-add}
 use Rattle.vb_bits.proofs.WrittenLemmas.{IsWindowed, Written, Written_by_values, Written-at}
 use Rattle.vb_bits.proofs.WrittenLemmas.{Written-more, Written-ended}
@@ -30,24 +29,6 @@ at-word_bits w o n i d h = get_or-map-range_with_len (word_bit w) o n i (o + i) 
 pub word_bits_none : (w : List ℕ) (o : ℕ) → word_bits w o 0 ≡ []
 unfolding word_bits
 word_bits_none w o = refl
-
--- digits cut in two
-pub word_bits-add : (w : List ℕ) (o m n : ℕ)
-    → word_bits w o (m + n) ≡ word_bits w o m ++ word_bits w (o + m) n
-unfolding word_bits
-word_bits-add w o m n = map-range_with_len-add (word_bit w) o m n
-
--- two lists of words with the same digits
-pub same_word_bits : (v w : List ℕ) (o p n : ℕ) → ((i : ℕ)
-    → i < n → word_bit v (o + i) ≡ word_bit w (p + i)) → word_bits v o n ≡ word_bits w p n
-unfolding word_bits
-same_word_bits v w o p n h = same_map-range_with_len (word_bit v) (word_bit w) o p n h
-
--- digits that are those of a number
-pub word_bits-digits : (v : List ℕ) (w o a n : ℕ)
-    → ((i : ℕ) → i < n → word_bit v (o + i) ≡ has_bit w (a + i)) → word_bits v o n ≡ digits w a n
-unfolding word_bits digits
-word_bits-digits v w o a n h = same_map-range_with_len (word_bit v) (has_bit w) o a n h
 
 -- ---- digits that are 0
 -- a digit past a number's last one

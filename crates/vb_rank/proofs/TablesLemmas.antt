@@ -1,6 +1,6 @@
 -- Tables of counts by blocks, and a search of them by halves.
 use Rattle.std.proofs.Common.{◌≡◌, ℕ, zero, suc, ◌+◌, ◌-◌, ◌*◌, ◌/◌, ◌^◌, ◌<◌, ◌≤◌, Bool, true}
-use Rattle.std.proofs.Common.{false, List, [], ◌∷◌, length, get_or, take, None, Some, min, refl}
+use Rattle.std.proofs.Common.{false, List, length, get_or, take, None, Some, min, refl}
 use Rattle.std.proofs.Common.{sym, ap}
 use Rattle.std.proofs.Common.{◌∙◌, arith, subst, ⊎_elim}
 use Rattle.std.specs.Int.{div_ceil}
@@ -93,12 +93,7 @@ pub Rises-table : (v : Bool) (b t : List ℕ) (o n : ℕ)
 Rises-table v b t o n e =
     record { small = entry-le b t o n e; rising = count_before-mono v b t o n e }
 
--- ---- the block of a rank
--- it begins in the window
-pub block-begins : (v : Bool) (b t : List ℕ) (o n r j m : ℕ)
-    → t ≡ block_counts (bits b o n) → BeginsBefore 512 v t r j m → 512 * j < n
-block-begins v b t o n r j m e f = omega (arith, inside b t o n e j f.within)
-
+-- ---- the block of a select
 -- what its search finds is found in the window
 pub Selects-block_some : (v : Bool) (b t : List ℕ) (o n r j m k p : ℕ)
     → t ≡ block_counts (bits b o n) → BeginsBefore 512 v t r j m → k ≡ min (n - 512 * j) 512
@@ -141,29 +136,7 @@ Selects-block_none v b t o n r j m k e f cut s =
     (arith, s, f.before, f.low, before, whole, ap (λ x. count (hits v (bits b o x))) full))
     (cases_lt (j + 1) (length t))
 
--- ---- ranks
--- the count before a block, and that of its bits before place i
-pub rank-block : (b t : List ℕ) (o n i j m k : ℕ) → t ≡ block_counts (bits b o n) → j < length t
-    → 512 * j ≤ i → i ≤ n → m ≡ get_or t j 0 → k ≡ count (bits b (o + 512 * j) (i - 512 * j))
-    → m + k ≡ count (take i (bits b o n))
-rank-block b t o n i j m k e h from to before here =
-    omega (
-      arith,
-      before,
-      here,
-      count_before-table true b t o n e j h,
-      count-hits-bits_split true b o
-          (512 * j) i (o + 512 * j) (i - 512 * j) refl (omega arith),
-      ap count (take-bits b o n i to),
-    )
-
 -- ---- halves
--- no values are before the first part
-count_before-first : (w : ℕ) (v : Bool) (t : List ℕ) → Rises w v t → 0 ≡ count_before w v t 0
-count_before-first w true [] r = refl
-count_before-first w true (x ∷ t) r = omega (arith, r.small 0 (omega arith))
-count_before-first w false t r = omega arith
-
 -- the upper half is left, where so many values before it are among those that are sought
 pub narrows-up : (w : ℕ) (v : Bool) (t : List ℕ) (n j m k here : ℕ)
     → Narrows w v t n j m k → 2 ≤ k → (Rises w v t → here ≡ count_before w v t (j + k / 2))
@@ -198,30 +171,6 @@ narrows-down w v t n j m k here f two is high = record {
         is r,
         past,
       );
-}
-
--- one part is left, which is the one
-pub Narrows-BeginsBefore : (w : ℕ) (v : Bool) (t : List ℕ) (n j m k : ℕ)
-    → Narrows w v t n j m k → k ≤ 1 → Rises w v t → BeginsBefore w v t n j m
-Narrows-BeginsBefore w v t n j m k f one r =
-    let single : k ≡ 1 = omega (arith, one, f.some) in
-    record {
-      within = omega (arith, f.within, single);
-      before = f.before r;
-      low = f.low;
-      high = λ more. subst (λ x. n < count_before w v t (j + x)) single
-          (f.above r (omega (arith, more, single)));
-    }
-
--- at the begin all parts are left
-pub Narrows-all : (w : ℕ) (v : Bool) (t : List ℕ) (n k : ℕ)
-    → 0 < k → k ≡ length t → Narrows w v t n 0 0 k
-Narrows-all w v t n k some size = record {
-  some = some;
-  within = omega (arith, size);
-  low = omega arith;
-  before = λ r. count_before-first w v t r;
-  above = λ r more. absurd (omega (arith, more, size));
 }
 
 -- ---- probes

@@ -62,16 +62,6 @@ TakenTo-bit k l xs v out new b before here w = λ i h. elim (cases_lt i k) [
       ap (taken_at l xs v) same ∙ here ∙ ap Some (sym bit ∙ ap (bit_of new) place)
 ]
 
--- a position that takes nothing is the first, where those before it have what they take
-pub IsFirstPast-here : (k : ℕ) (l : List Bool) (xs : List ℤ) (v : Option (List Bool)) (out : List ℕ)
-    → TakenTo k (taken_at l xs v) (bit_of out) → k < length xs → taken_at l xs v k ≡ None
-    → IsFirstPast l xs v k
-IsFirstPast-here k l xs v out before h none = record {
-  within = h;
-  past = none;
-  before = λ i low. some_taken (taken_at l xs v i) (bit_of out i) (before i low);
-}
-
 -- ---- blocks of 64
 -- what a position of a block takes
 taken_in_block : (l : List Bool) (xs : List ℤ) (v : Option (List Bool)) (block : List ℕ)
