@@ -1,6 +1,7 @@
-"""Whether each public call whose docstring promises a cost has a row in the table of docs/COSTS.md,
+"""Whether each public call whose docstring promises a cost has a row in the table docs/costs.csv,
 which `tools/growth` measures, and whether each call that the table names is there.
 """
+import csv
 import re
 from collections.abc import Iterator
 from dataclasses import dataclass
@@ -8,13 +9,12 @@ from dataclasses import dataclass
 from documents.files import Repository
 from documents.lists import exported
 
-COSTS, FACADE = "docs/COSTS.md", "crates/vortex_buffer/src/lib.rt"
+COSTS, FACADE = "docs/costs.csv", "crates/vortex_buffer/src/lib.rt"
 SOURCE = re.compile(r"crates/(?:vb_\w+?(?<!_tests)|vortex_buffer)/src/.*\.rt")
 PROGRAM = re.compile(r"crates/growth_\w+/src/lib\.rt")
 OWNER = re.compile(r"impl(?:<.*?>)? (?:.* for )?&?(?:'\w+ )?(?:mut )?(\w+)|pub trait (\w+)")
 CALL = re.compile(r"\s*(pub )?fn (\w+)")
-NAME = re.compile(r"`([\w:]+)`")
-ROW = re.compile(r"\| `(\w+)`: (\w+) \| ")
+NAME = re.compile(r"[\w:]+")
 LISTED = re.compile(r'^ +"(\w+) (\w+)",$', re.MULTILINE)
 # What a docstring says of a cost that grows with the input, or doesn't.
 PROMISE = re.compile(
@@ -63,16 +63,11 @@ def public_calls(repository: Repository) -> list[Call]:
     return [it for it in every if (it.owner or it.name) in public]
 
 
-def named(text: str) -> set[str]:
-    """The calls that the rows name, in their last cell."""
-    lines = [it for it in text.split("\n") if ROW.match(it)]
-    return {name for it in lines for name in NAME.findall(it.strip("|").rpartition("|")[2])}
-
-
 def costs(repository: Repository) -> list[str]:
     """What is wrong with the table: calls that it lacks, calls and rows that aren't there."""
-    text = repository.read(COSTS)
-    public, listed = public_calls(repository), named(text)
+    rows = list(csv.DictReader(repository.read(COSTS).splitlines()))
+    public = public_calls(repository)
+    listed = {name for it in rows for name in it["calls"].split() if NAME.fullmatch(name)}
     found = [
         f"{COSTS}: no row has `{it.path}`, whose docstring says '{PROMISE.search(it.said)[0]}'"
         for it in public if PROMISE.search(it.said) and it.path not in listed
@@ -81,7 +76,7 @@ def costs(repository: Repository) -> list[str]:
     found += [f"{COSTS}: `{it}` is no public call" for it in sorted(listed - known)]
     programs = [text for path, text in repository.code.items() if PROGRAM.fullmatch(path)]
     made = {it for program in programs for it in LISTED.findall(program)}
-    said = {it for it in ROW.findall(text) if it[0] != "session"}
-    found += [f"{COSTS}: no row is `{a}`: {b}, which a program has" for a, b in sorted(made - said)]
-    found += [f"{COSTS}: no program has `{a}`: {b}" for a, b in sorted(said - made)]
+    said = {(it["family"], it["row"]) for it in rows if it["family"] != "session"}
+    found += [f"{COSTS}: no row is `{a} {b}`, which a program has" for a, b in sorted(made - said)]
+    found += [f"{COSTS}: no program has `{a} {b}`" for a, b in sorted(said - made)]
     return found

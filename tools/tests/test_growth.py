@@ -8,13 +8,10 @@ import unittest
 from pathlib import Path
 
 TOP = Path(__file__).resolve().parents[2]
-TABLE = """# Costs
-
-| Row | Promise | Most | Unit | Calls |
-|---|---|---|---|---|
-| `sets`: clone | constant | 1,000 | call | `Set::clone` |
-| `sets`: count | each word | 2.5 | 64 bits | `Set::count` |
-| `session`: get | constant | 1,000 | call | |
+TABLE = """family,row,promise,most,unit,calls
+sets,clone,"constant, of one owner",1000,call,Set::clone
+sets,count,each word,2.5,64 bits,Set::count
+session,get,constant,1000,call,
 """
 # Its output has the count of a run: one word of arguments is the size, the last one the calls.
 VALGRIND = """#!{python}
@@ -40,7 +37,7 @@ class Growth(unittest.TestCase):
             for path in ("tools", "docs", "bin"):
                 (top / path).mkdir()
             shutil.copy(TOP / "tools/growth", top / "tools/growth")
-            (top / "docs/COSTS.md").write_text(TABLE)
+            (top / "docs/costs.csv").write_text(TABLE)
             for name in programs:
                 out = top / "crates" / name / "out"
                 out.mkdir(parents=True)
@@ -51,7 +48,7 @@ class Growth(unittest.TestCase):
             counter.chmod(0o755)
             ended = subprocess.run([top / "tools/growth", *words], capture_output=True, text=True,
                                    env={**os.environ, "PATH": f"{top}/bin:{os.environ['PATH']}"})
-            self.table = (top / "docs/COSTS.md").read_text()
+            self.table = (top / "docs/costs.csv").read_text()
         return ended.returncode, ended.stdout.splitlines()
 
     def test_calls_within_their_bounds_pass(self):
@@ -87,10 +84,10 @@ class Growth(unittest.TestCase):
 
     def test_bounds_are_written_a_third_above(self):
         steps = "750 if row == 'clone' else 1.5 * size // 64 + 300"
-        self.assertEqual(self.said(steps, "--write", "sets"), (0, ["2 bounds in docs/COSTS.md"]))
-        self.assertEqual(self.table, TABLE.replace("| 2.5 |", "| 2.1 |"))
+        self.assertEqual(self.said(steps, "--write", "sets"), (0, ["2 bounds in docs/costs.csv"]))
+        self.assertEqual(self.table, TABLE.replace(",2.5,", ",2.1,"))
         self.assertEqual(self.said("66", "--write", "clone")[0], 0)
-        self.assertIn("| constant | 88 | call |", self.table)
+        self.assertEqual(self.table, TABLE.replace(",1000,call,Set", ",88,call,Set"))
 
     def test_a_program_that_fails_is_told(self):
         status, lines = self.said("900", "clone", status=1)
