@@ -1,6 +1,6 @@
 -- The places of true values.
 use Rattle.std.proofs.Common.{◌≡◌, ℕ, zero, suc, ◌+◌, ◌<◌, ◌≤◌, Bool, true, false, cond, List, []}
-use Rattle.std.proofs.Common.{◌∷◌, ◌++◌, length, map, filter, refl, ap, ◌∙◌, arith}
+use Rattle.std.proofs.Common.{◌∷◌, ◌++◌, length, map, filter, refl, ap, ◌∙◌, arith, add-zero}
 use Rattle.std.specs.List.{All, range_with_len}
 use Rattle.std.proofs.lemmas.List.{get_or_append_left, length-append, length-map, get_or-append-add}
 use Rattle.std.proofs.lemmas.List.Elements.{filter-append, All-append, All-cons, All-nil, All-map}
@@ -65,6 +65,15 @@ pub places_cons : (b : Bool) (l : List Bool)
     → places (b ∷ l) ≡ cond b (0 ∷ []) [] ++ map (λ i. 1 + i) (places l)
 places_cons b l =
     places-append (b ∷ []) l ∙ ap (λ ps. ps ++ map (λ i. 1 + i) (places l)) (places_one b)
+
+-- one more value at the end
+pub places_push : (l : List Bool) (b : Bool)
+    → places (l ++ b ∷ []) ≡ places l ++ cond b (length l ∷ []) []
+places_push l true =
+    places-append l (true ∷ []) ∙ ap (λ x. places l ++ map (λ i. length l + i) x) (places_one true)
+    ∙ ap (λ n. places l ++ n ∷ []) (add-zero (length l))
+places_push l false = places-append l (false ∷ [])
+    ∙ ap (λ x. places l ++ map (λ i. length l + i) x) (places_one false)
 
 -- there are as many places as true values
 pub length-places : (l : List Bool) → length (places l) ≡ count l
