@@ -6,8 +6,9 @@ import re
 from collections.abc import Iterator
 from dataclasses import dataclass
 
+from documents import signatures
 from documents.files import Repository
-from documents.lists import exported
+from documents.lists import OF_THE_LIBRARY, exported, headers
 
 COSTS, FACADE = "docs/costs.csv", "crates/vortex_buffer/src/lib.rt"
 SOURCE = re.compile(r"crates/(?:vb_\w+?(?<!_tests)|vortex_buffer)/src/.*\.rt")
@@ -63,9 +64,13 @@ def public_calls(repository: Repository) -> list[Call]:
     return [it for it in every if (it.owner or it.name) in public]
 
 
+def table(repository: Repository) -> list[dict[str, str]]:
+    return list(csv.DictReader(repository.read(COSTS).splitlines()))
+
+
 def costs(repository: Repository) -> list[str]:
     """What is wrong with the table: calls that it lacks, calls and rows that aren't there."""
-    rows = list(csv.DictReader(repository.read(COSTS).splitlines()))
+    rows = table(repository)
     public = public_calls(repository)
     listed = {name for it in rows for name in it["calls"].split() if NAME.fullmatch(name)}
     found = [
@@ -76,7 +81,19 @@ def costs(repository: Repository) -> list[str]:
     found += [f"{COSTS}: `{it}` is no public call" for it in sorted(listed - known)]
     programs = [text for path, text in repository.code.items() if PROGRAM.fullmatch(path)]
     made = {it for program in programs for it in LISTED.findall(program)}
-    said = {(it["family"], it["row"]) for it in rows if it["family"] != "session"}
+    said = {(it["family"], it["row"]) for it in rows if it["family"] not in ("session", "c")}
     found += [f"{COSTS}: no row is `{a} {b}`, which a program has" for a, b in sorted(made - said)]
     found += [f"{COSTS}: no program has `{a} {b}`" for a, b in sorted(said - made)]
     return found
+
+
+def costs_of_c(repository: Repository) -> list[str]:
+    """The functions of C without a row, and rows of none; a checked form has that of the plain one."""
+    rows = {it["row"] for it in table(repository) if it["family"] == "c"}
+    texts = [repository.read(it) for it in headers(repository)]
+    declared = {name for it in texts for name in signatures.of_header(it)} - OF_THE_LIBRARY
+    plain = {it for it in declared if not it.startswith("vb_try_")}
+    known = {it.removeprefix("vb_") for it in plain}
+    found = [f"{COSTS}: no row is `c {it}`, a function of C" for it in sorted(known - rows)]
+    others = {it for it in rows - known if it.removeprefix("far_") not in known}
+    return found + [f"{COSTS}: `c {it}` is no function of C" for it in sorted(others)]

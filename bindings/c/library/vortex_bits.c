@@ -56,53 +56,31 @@ bool vb_has_level(void)
 
 #else
 
-/* The functions of one level. */
-struct level {
-    const char *text;
-#define F(type, name, parameters, arguments) type(*name) parameters;
-#define P(name, parameters, arguments) F(void, name, parameters, arguments)
-#define T(name, parameters, arguments, tests) F(bool, name, parameters, arguments)
-    FUNCTIONS
-#undef F
-#undef P
-#undef T
-};
-
-#define P(name, parameters, arguments) F(void, name, parameters, arguments)
-#define T(name, parameters, arguments, tests) F(bool, name, parameters, arguments)
-#define F(type, name, parameters, arguments) .name = vb_v2_##name,
-static const struct level v2 = {.text = "x86-64-v2", FUNCTIONS};
-#undef F
-#define F(type, name, parameters, arguments) .name = vb_v3_##name,
-static const struct level v3 = {.text = "x86-64-v3", FUNCTIONS};
-#undef F
-#undef P
-#undef T
-
 /*
- * The level that calls use; null before the first one. Each thread that finds it null chooses the
- * same, and a level is there before the program begins, so the order of these writes says nothing.
+ * The level that calls use, 2 or 3; 0 before the first one. Each thread that finds 0 chooses the
+ * same, so the order of these writes says nothing. No table names the functions of a level: so a
+ * program that is linked with -Wl,--gc-sections has the code of those alone that it calls.
  */
-static _Atomic(const struct level *) current;
+static _Atomic(int) current;
 
-static const struct level *choose(void)
+static int choose(void)
 {
-    const struct level *best = has_v3() ? &v3 : &v2;
+    const int best = has_v3() ? 3 : 2;
     atomic_store_explicit(&current, best, memory_order_relaxed);
     return best;
 }
 
-static inline const struct level *level(void)
+static inline int level(void)
 {
-    const struct level *chosen = atomic_load_explicit(&current, memory_order_relaxed);
-    return chosen != NULL ? chosen : choose();
+    const int chosen = atomic_load_explicit(&current, memory_order_relaxed);
+    return chosen != 0 ? chosen : choose();
 }
 
-#define CALL(name) level()->name
+#define CALL(name) (level() == 3 ? vb_v3_##name : vb_v2_##name)
 
 const char *vb_level(void)
 {
-    return level()->text;
+    return level() == 3 ? "x86-64-v3" : "x86-64-v2";
 }
 
 bool vb_has_level(void)

@@ -1,0 +1,291 @@
+/*
+ * The C functions whose cost is promised: the program of `tools/growth --c`, which counts its steps.
+ *
+ *     growth ROW SIZE CALLS
+ *
+ * It makes inputs of SIZE bits or items once, calls the function of the row CALLS times, and prints
+ * a sum of what the calls returned and wrote. Without arguments it prints the rows.
+ */
+#include <stdio.h>
+#include <stdlib.h>
+#include <string.h>
+
+#include "vortex_bits.h"
+#include "vortex_bits_compare.h"
+#include "vortex_bits_gather.h"
+#include "vortex_bits_ranks.h"
+#include "vortex_bits_values.h"
+
+/* The offsets of the windows that are read, and of those that are written. */
+#define LEFT 3
+#define RIGHT 6
+#define OUT 5
+/* How far from the window's begin, or end, a search begins. */
+#define NEAR 77
+
+/* Inputs: bits at random, none and all set, values, and indices below the size. */
+static uint8_t *mixed, *other, *zeros, *ones, *indices_u8;
+static uint16_t *indices_u16;
+static uint32_t *indices_u32;
+static uint64_t *indices_u64;
+static vb_u128 *values, *others;
+static bool *bools;
+static size_t *table, table_count;
+/* What the calls write. */
+static uint8_t *out, *valid;
+static vb_u128 *written;
+static size_t *places;
+static vb_run *runs;
+/* The bytes of each window. */
+static size_t size;
+
+#define WINDOW(bytes, offset) bytes, size, offset
+#define NULLS false, WINDOW(other, RIGHT)
+
+/* A row has the name of its function, without `vb_`. */
+#define ROW(name, call)                                                                           \
+    static size_t row_##name(size_t n)                                                            \
+    {                                                                                             \
+        (void)n;                                                                                  \
+        return (size_t)(call);                                                                    \
+    }
+#define WRITE(name, call)                                                                         \
+    static size_t row_##name(size_t n)                                                            \
+    {                                                                                             \
+        call;                                                                                     \
+        return out[n / 16];                                                                       \
+    }
+#define PAIR(name) ROW(name, vb_##name(WINDOW(mixed, LEFT), WINDOW(other, RIGHT), n))
+#define NEXT(name) ROW(name, vb_##name(WINDOW(mixed, LEFT), n, NEAR).index)
+#define PREVIOUS(name) ROW(name, vb_##name(WINDOW(mixed, LEFT), n, n - NEAR).index)
+#define SELECT(name) ROW(name, vb_##name(WINDOW(mixed, LEFT), n, n / 4).index)
+#define RANKED(name) ROW(name, vb_##name(WINDOW(mixed, LEFT), n, table, table_count, n / 4).index)
+#define IN_PLACE(name) WRITE(name, vb_##name(WINDOW(out, OUT), WINDOW(mixed, LEFT), n))
+#define INTO(name)                                                                                \
+    WRITE(name, vb_##name(WINDOW(out, OUT), WINDOW(mixed, LEFT), WINDOW(other, RIGHT), n))
+#define KLEENE(name)                                                                              \
+    WRITE(name, vb_##name(WINDOW(out, OUT), WINDOW(valid, OUT), WINDOW(mixed, LEFT), NULLS,       \
+        WINDOW(other, RIGHT), false, WINDOW(mixed, 1), n))
+#define COMPARE(name, type)                                                                       \
+    WRITE(compare_##name,                                                                         \
+        vb_compare_##name(WINDOW(out, OUT), (const type *)values, n, VB_LESS, (type)77))          \
+    WRITE(compare_with_##name, vb_compare_with_##name(WINDOW(out, OUT), (const type *)values, n,  \
+        VB_LESS, (const type *)others, n))
+#define FILTER(name, type)                                                                        \
+    ROW(filter_values_##name, vb_filter_values_##name((type *)written, n, (const type *)values,   \
+        n, WINDOW(mixed, LEFT)))
+#define TAKE_VALUES(name, type, at)                                                               \
+    ROW(take_values_##name##_##at, vb_take_values_##name##_##at((type *)written, n,               \
+        (const type *)values, n, indices_##at, n, NULLS).position)
+#define TAKE(at)                                                                                  \
+    ROW(take_bits_##at, vb_take_bits_##at(WINDOW(out, OUT), WINDOW(mixed, LEFT), n, indices_##at, \
+        n, NULLS).position)                                                                       \
+    TAKE_VALUES(u8, uint8_t, at)                                                                  \
+    TAKE_VALUES(u16, uint16_t, at)                                                                \
+    TAKE_VALUES(u32, uint32_t, at)                                                                \
+    TAKE_VALUES(u64, uint64_t, at)                                                                \
+    TAKE_VALUES(u128, vb_u128, at)
+
+ROW(get_bit, vb_get_bit(mixed, size, LEFT + n / 2))
+ROW(count_ones, vb_count_ones(WINDOW(mixed, LEFT), n))
+PAIR(and_count)
+PAIR(or_count)
+PAIR(xor_count)
+PAIR(and_not_count)
+SELECT(select)
+SELECT(select_unset)
+ROW(last_set, vb_last_set(WINDOW(mixed, LEFT), n).index)
+NEXT(next_set)
+NEXT(next_unset)
+PREVIOUS(previous_set)
+PREVIOUS(previous_unset)
+ROW(any_set, vb_any_set(WINDOW(mixed, LEFT), n))
+ROW(all_set, vb_all_set(WINDOW(mixed, LEFT), n))
+PAIR(equal_bits)
+PAIR(is_disjoint)
+PAIR(is_subset)
+ROW(far_last_set, vb_last_set(WINDOW(zeros, LEFT), n).index)
+ROW(far_next_set, vb_next_set(WINDOW(zeros, LEFT), n, 0).index)
+ROW(far_next_unset, vb_next_unset(WINDOW(ones, LEFT), n, 0).index)
+ROW(far_previous_set, vb_previous_set(WINDOW(zeros, LEFT), n, n).index)
+ROW(far_previous_unset, vb_previous_unset(WINDOW(ones, LEFT), n, n).index)
+ROW(far_any_set, vb_any_set(WINDOW(zeros, LEFT), n))
+ROW(far_all_set, vb_all_set(WINDOW(ones, LEFT), n))
+ROW(far_equal_bits, vb_equal_bits(WINDOW(mixed, LEFT), WINDOW(mixed, LEFT), n))
+ROW(far_is_disjoint, vb_is_disjoint(WINDOW(mixed, LEFT), WINDOW(zeros, RIGHT), n))
+ROW(far_is_subset, vb_is_subset(WINDOW(mixed, LEFT), WINDOW(ones, RIGHT), n))
+ROW(set_indices, vb_set_indices(places, n, WINDOW(mixed, LEFT), n))
+ROW(set_slices, vb_set_slices(runs, n, WINDOW(mixed, LEFT), n))
+WRITE(fill_bits, vb_fill_bits(WINDOW(out, OUT), n, true))
+WRITE(negate_bits, vb_negate_bits(WINDOW(out, OUT), n))
+IN_PLACE(copy_bits)
+IN_PLACE(and_bits)
+IN_PLACE(or_bits)
+IN_PLACE(xor_bits)
+IN_PLACE(and_not_bits)
+INTO(and_into)
+INTO(or_into)
+INTO(xor_into)
+INTO(and_not_into)
+WRITE(pack_bools, vb_pack_bools(WINDOW(out, OUT), bools, n))
+WRITE(pack_truthy, vb_pack_truthy(WINDOW(out, OUT), indices_u8, n))
+WRITE(pack_bools_padded, vb_pack_bools_padded(out, size, bools, n))
+WRITE(pack_truthy_padded, vb_pack_truthy_padded(out, size, indices_u8, n))
+ROW(filter_bits, vb_filter_bits(WINDOW(out, OUT), WINDOW(mixed, LEFT), WINDOW(other, RIGHT), n))
+INTO(deposit_bits)
+KLEENE(and_kleene)
+KLEENE(or_kleene)
+COMPARE(u8, uint8_t)
+COMPARE(u16, uint16_t)
+COMPARE(u32, uint32_t)
+COMPARE(u64, uint64_t)
+COMPARE(i8, int8_t)
+COMPARE(i16, int16_t)
+COMPARE(i32, int32_t)
+COMPARE(i64, int64_t)
+COMPARE(f32, float)
+COMPARE(f64, double)
+FILTER(u8, uint8_t)
+FILTER(u16, uint16_t)
+FILTER(u32, uint32_t)
+FILTER(u64, uint64_t)
+FILTER(u128, vb_u128)
+ROW(filter_values, vb_filter_values(written, n, values, n, 4, WINDOW(mixed, LEFT)))
+TAKE(u8)
+TAKE(u16)
+TAKE(u32)
+TAKE(u64)
+ROW(take_values,
+    vb_take_values(written, n, values, n, 4, indices_u32, n, 4, NULLS).position)
+ROW(block_counts, vb_block_counts(places, n, WINDOW(mixed, LEFT), n))
+ROW(rank, vb_rank(WINDOW(mixed, LEFT), n, table, table_count, n / 2 + 1))
+RANKED(ranked_select)
+RANKED(ranked_select_unset)
+
+typedef struct {
+    const char *name;
+    size_t (*call)(size_t n);
+} row;
+
+#define OF(name) {#name, row_##name},
+#define OF_COMPARE(name) OF(compare_##name) OF(compare_with_##name)
+#define OF_TAKE(at)                                                                               \
+    OF(take_bits_##at) OF(take_values_u8_##at) OF(take_values_u16_##at) OF(take_values_u32_##at)  \
+    OF(take_values_u64_##at) OF(take_values_u128_##at)
+
+static const row rows[] = {
+    OF(get_bit) OF(count_ones) OF(and_count) OF(or_count) OF(xor_count) OF(and_not_count)
+    OF(select) OF(select_unset) OF(last_set) OF(next_set) OF(next_unset) OF(previous_set)
+    OF(previous_unset) OF(any_set) OF(all_set) OF(equal_bits) OF(is_disjoint) OF(is_subset)
+    OF(far_last_set) OF(far_next_set) OF(far_next_unset) OF(far_previous_set)
+    OF(far_previous_unset) OF(far_any_set) OF(far_all_set) OF(far_equal_bits)
+    OF(far_is_disjoint) OF(far_is_subset) OF(set_indices) OF(set_slices) OF(fill_bits)
+    OF(negate_bits) OF(copy_bits) OF(and_bits) OF(or_bits) OF(xor_bits) OF(and_not_bits)
+    OF(and_into) OF(or_into) OF(xor_into) OF(and_not_into) OF(pack_bools) OF(pack_truthy)
+    OF(pack_bools_padded) OF(pack_truthy_padded) OF(filter_bits) OF(deposit_bits) OF(and_kleene)
+    OF(or_kleene) OF_COMPARE(u8) OF_COMPARE(u16) OF_COMPARE(u32) OF_COMPARE(u64) OF_COMPARE(i8)
+    OF_COMPARE(i16) OF_COMPARE(i32) OF_COMPARE(i64) OF_COMPARE(f32) OF_COMPARE(f64)
+    OF(filter_values_u8) OF(filter_values_u16) OF(filter_values_u32) OF(filter_values_u64)
+    OF(filter_values_u128) OF(filter_values) OF_TAKE(u8) OF_TAKE(u16) OF_TAKE(u32) OF_TAKE(u64)
+    OF(take_values) OF(block_counts) OF(rank) OF(ranked_select) OF(ranked_select_unset)
+};
+#define ROWS (sizeof rows / sizeof *rows)
+
+/* The next number at random, by xorshift. */
+static uint64_t next(void)
+{
+    static uint64_t state = 88172645463325252;
+    state ^= state << 13;
+    state ^= state >> 7;
+    state ^= state << 17;
+    return state;
+}
+
+static void *room(size_t bytes)
+{
+    void *made = calloc(1, bytes);
+    if (made == NULL) {
+        fputs("growth: out of memory\n", stderr);
+        exit(1);
+    }
+    return made;
+}
+
+/* So many bytes at random. */
+static void *random_bytes(size_t bytes)
+{
+    uint8_t *made = room(bytes);
+    for (size_t k = 0; k < bytes; k++) {
+        made[k] = (uint8_t)next();
+    }
+    return made;
+}
+
+/* Indices below n that their type can hold. */
+static void make_indices(size_t n)
+{
+    indices_u8 = room(n);
+    indices_u16 = room(2 * n);
+    indices_u32 = room(4 * n);
+    indices_u64 = room(8 * n);
+    for (size_t k = 0; k < n; k++) {
+        uint64_t at = next() % n;
+        indices_u64[k] = at;
+        indices_u32[k] = (uint32_t)at;
+        indices_u16[k] = (uint16_t)at;
+        indices_u8[k] = (uint8_t)at;
+        bools[k] = at % 2 == 1;
+    }
+}
+
+static void make_inputs(size_t n)
+{
+    size = (n + 7 + 7) / 8;
+    mixed = random_bytes(size);
+    other = random_bytes(size);
+    zeros = room(size);
+    ones = memset(room(size), 0xFF, size);
+    out = random_bytes(size);
+    valid = random_bytes(size);
+    values = random_bytes(16 * n);
+    others = random_bytes(16 * n);
+    written = room(16 * n);
+    places = room(sizeof *places * n);
+    runs = room(sizeof *runs * n);
+    bools = room(n);
+    make_indices(n);
+    table = room(sizeof *table * (n / 512 + 1));
+    table_count = vb_block_counts(table, n / 512 + 1, WINDOW(mixed, LEFT), n);
+}
+
+static const row *row_of(const char *name)
+{
+    for (size_t k = 0; k < ROWS; k++) {
+        if (strcmp(rows[k].name, name) == 0) {
+            return &rows[k];
+        }
+    }
+    return NULL;
+}
+
+int main(int count, char **words)
+{
+    if (count == 1) {
+        for (size_t k = 0; k < ROWS; k++) {
+            puts(rows[k].name);
+        }
+        return 0;
+    }
+    const row *chosen = count == 4 ? row_of(words[1]) : NULL;
+    if (chosen == NULL) {
+        fputs("usage: growth ROW SIZE CALLS\n", stderr);
+        return 2;
+    }
+    size_t n = strtoull(words[2], NULL, 10), calls = strtoull(words[3], NULL, 10), sum = 0;
+    make_inputs(n);
+    for (size_t k = 0; k < calls; k++) {
+        sum = 31 * sum + chosen->call(n);
+    }
+    printf("%zu\n", sum);
+    return 0;
+}
