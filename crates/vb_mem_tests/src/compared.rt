@@ -2,7 +2,7 @@
 use std::alloc::Allocator;
 use std::fmt::Debug;
 use std::process::Abort;
-use vb_core::{BufferError, Result};
+use vb_core::{BufferError, Element, Result};
 use vb_mem::{Buffer, BufferMut};
 use vb_testing::Refusing;
 
@@ -22,7 +22,17 @@ pub fn answers<B: Allocator>(rt: &impl Abort, heap: &Refusing<B>, answer: Result
     equal(rt, answer, heap.wanted(Ok(()), refused));
 }
 
-/// What was made has these items, and these alignments in bytes: the reported and the declared one.
+/// These are the alignments of the buffer in bytes: the reported and the declared one.
+pub fn is_aligned<T: Element, A: Allocator>(
+    rt: &impl Abort,
+    buffer: &Buffer<T, A>,
+    wanted: (usize, usize),
+) {
+    let given = (buffer.alignment().as_usize(), buffer.declared().as_usize());
+    equal(rt, given, wanted);
+}
+
+/// What was made has these items, and these alignments.
 pub fn shows<A: Allocator>(
     rt: &impl Abort,
     made: Result<Buffer<u32, A>>,
@@ -30,8 +40,8 @@ pub fn shows<A: Allocator>(
     alignments: (usize, usize),
 ) -> Result<()> {
     let buffer = made?;
-    let given = (buffer.alignment().as_usize(), buffer.declared().as_usize());
-    equal(rt, (buffer.as_slice(), given), (items, alignments));
+    equal(rt, buffer.as_slice(), items);
+    is_aligned(rt, &buffer, alignments);
     drop(buffer);
     Ok(())
 }

@@ -1,7 +1,15 @@
-//! Tests of list buffers that are made, that grow and that share their storage: examples with known
-//! answers, each request for memory refused in turn, and what calls ask of the allocator.
+//! Tests of list buffers: how they are made, grow and share their storage; what is read of them, by
+//! iterators, comparisons and bytes; their places and alignments; each request for memory refused
+//! in turn, what a refused one leaves, what calls ask of the allocator, and of which one where two
+//! could be meant.
 #![tactic(auto)]
 
+#[cfg(test)]
+mod asked;
+#[cfg(test)]
+mod byte_form;
+#[cfg(test)]
+mod callers;
 #[cfg(test)]
 mod changes;
 #[cfg(test)]
@@ -9,10 +17,18 @@ mod compared;
 #[cfg(test)]
 mod costs;
 #[cfg(test)]
+mod declared;
+#[cfg(test)]
 mod growth;
 #[cfg(test)]
 mod items;
 #[cfg(test)]
+mod iterators;
+#[cfg(test)]
 mod makers;
+#[cfg(test)]
+mod places;
+#[cfg(test)]
+mod refused;
 #[cfg(test)]
 mod sharing;
