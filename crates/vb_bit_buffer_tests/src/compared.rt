@@ -30,3 +30,37 @@ fn has_bits<A: Allocator + Clone>(rt: &impl Abort, set: &BitBuffer<A>, digits: &
         equal(rt, set.value(i), digits[i] == b'1');
     }
 }
+
+/// The set that was made has these bits and no others.
+pub(crate) fn shows_list<A: Allocator + Clone>(
+    rt: &impl Abort,
+    made: Result<BitBuffer<A>>,
+    bits: &[bool],
+) {
+    let set = made.expect(rt, "a set");
+    equal(rt, set.len(), bits.len());
+    for i in 0..bits.len().min(set.len()) {
+        equal(rt, set.value(i), bits[i]);
+    }
+    drop(set);
+}
+
+/// How many bits the set has that was made.
+pub(crate) fn len_of<A: Allocator + Clone>(made: Result<BitBuffer<A>>) -> Result<usize> {
+    let set = made?;
+    let len = set.len();
+    drop(set);
+    Ok(len)
+}
+
+/// Whether the set that was made is equal to the other one is as wanted.
+pub(crate) fn compares<A: Allocator + Clone>(
+    rt: &impl Abort,
+    set: &BitBuffer<A>,
+    made: Result<BitBuffer<A>>,
+    wanted: bool,
+) {
+    let other = made.expect(rt, "a set");
+    equal(rt, *set == other, wanted);
+    drop(other);
+}

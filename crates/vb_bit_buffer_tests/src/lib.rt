@@ -1,16 +1,31 @@
 //! Tests of shared sets of bits: calls whose requests for memory are refused, what calls ask of the
-//! allocator, walks over sets, and their text. Those of their operators are `vb_operator_tests`.
+//! allocator, and of which one where two could be meant; walks over sets, their equality, copies
+//! and text; operators, as worked rows and each call beside a plain loop over its bits.
 #![tactic(auto)]
 
+#[cfg(test)]
+mod calls;
 #[cfg(test)]
 mod compared;
 #[cfg(test)]
 mod costs;
 #[cfg(test)]
+mod heaps;
+#[cfg(test)]
 mod made;
 #[cfg(test)]
 mod makers;
 #[cfg(test)]
+mod operator_costs;
+#[cfg(test)]
+mod plain;
+#[cfg(test)]
 mod printed;
+#[cfg(test)]
+mod refused;
+#[cfg(test)]
+mod relation;
+#[cfg(test)]
+mod rows;
 #[cfg(test)]
 mod walks;

@@ -1,6 +1,6 @@
 //! Each call beside a plain loop over its bits.
 use crate::calls::{LENT, ONE, OWNED, One, Operator, Two};
-use crate::compared::{compares, shows};
+use crate::compared::{compares, shows_list};
 use crate::made::{LONGEST, front, list, set};
 use std::alloc::{Allocator, Global};
 use std::process::Abort;
@@ -29,7 +29,7 @@ fn call_is_plain(rt: &impl Abort, alloc: Global, call: Two, lefts: &[bool], righ
     for left in OFFSETS {
         for right in OFFSETS {
             let made = call.of_made(set(alloc, lefts, left), set(alloc, rights, right));
-            shows(rt, made, front(&wanted, lefts.len()));
+            shows_list(rt, made, front(&wanted, lefts.len()));
         }
     }
 }
@@ -66,7 +66,7 @@ fn copies_and_negations_are_those_of_bits(rt: HostRuntime) {
         for len in LENGTHS {
             for offset in OFFSETS {
                 let made = call.make(set(rt.alloc(), front(&bits, len), offset));
-                shows(&rt, made, front(&wanted, len));
+                shows_list(&rt, made, front(&wanted, len));
             }
         }
     }

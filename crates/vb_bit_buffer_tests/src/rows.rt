@@ -1,6 +1,6 @@
 //! Worked rows: what operators, copies and the printed form answer.
 use crate::calls::One;
-use crate::compared::{equal, shows};
+use crate::compared::{equal, shows_list};
 use crate::made::{part, window};
 use std::alloc::{Allocator, Global};
 use std::process::Abort;
@@ -18,7 +18,7 @@ fn both_are_ones<A: Allocator + Clone>(
     equal(rt, left == right, true);
     let both = (left & right).expect(rt, "a set");
     equal(rt, both.true_count(), 5);
-    shows(rt, Ok(both), &[true; 5]);
+    shows_list(rt, Ok(both), &[true; 5]);
 }
 
 #[test]
