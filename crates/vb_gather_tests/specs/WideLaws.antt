@@ -3,7 +3,7 @@
 use Rattle.std.proofs.Common.{◌≡◌, ℕ, List, length, refl, lit<}
 use Rattle.std.specs.Prelude.{replicate}
 use Rattle.vb_core.specs.Elements.{AreBytes, IsElement}
-use Rattle.vb_wide_tests.specs.declared.wide.Wide.{Wide}
+use Rattle.vb_gather_tests.specs.declared.wide.Wide.{Wide}
 
 -- the value whose bytes these are
 abbrev pub wide_of : List ℕ → Wide

@@ -1,5 +1,5 @@
 //! Calls that make a set: each of their requests for memory refused in turn.
-use crate::compared::{REFUSED, equal, shows};
+use crate::compared::{REFUSED, equal, shows_set};
 use crate::made::{own_taken, taken};
 use std::alloc::Allocator;
 use std::process::Abort;
@@ -80,7 +80,7 @@ fn makes<A: Allocator + Clone>(
     bits: &str,
 ) -> Result<()> {
     let set = made?;
-    shows(rt, &set, bits);
+    shows_set(rt, &set, bits);
     drop(set);
     Ok(())
 }

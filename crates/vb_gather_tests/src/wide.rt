@@ -1,7 +1,7 @@
 //! An element of 128 KiB, of which 64 are as many bytes as a stack usually has.
 ghost use Rattle.std.specs.Prelude.{◌≡◌, IsTrue};
 ghost use Rattle.vb_core.specs.Elements.{AreBytes};
-ghost use Rattle.vb_wide_tests.specs.WideLaws.{IsWide, wide_bytes, wide_of, wide_laws, wide_zero};
+ghost use Rattle.vb_gather_tests.specs.WideLaws.{IsWide, wide_bytes, wide_of, wide_laws, wide_zero};
 
 use vb_core::Element;
 
