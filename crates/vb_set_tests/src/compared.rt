@@ -6,7 +6,7 @@ ghost use Rattle.std.specs.Prelude.{◌≡◌, true};
 use std::alloc::Allocator;
 use std::fmt::Debug;
 use std::process::Abort;
-use vb_set::{BitBuffer, Result};
+use vb_set::{BitBuffer, BitBufferMut, Result};
 
 /// The two values are equal.
 pub(crate) fn equal<T: Copy + PartialEq + Debug>(rt: &impl Abort, given: T, wanted: T) {
@@ -36,5 +36,29 @@ fn has_bits<A: Allocator + Clone>(rt: &impl Abort, set: &BitBuffer<A>, digits: &
     equal(rt, set.len(), digits.len());
     for i in 0..set.len().min(digits.len()) {
         equal(rt, set.value(i), digits[i] == b'1');
+    }
+}
+
+/// The set has these bits, by each of them and by its count.
+pub(crate) fn same<A: Allocator + Clone>(rt: &impl Abort, set: &BitBufferMut<A>, list: &[bool]) {
+    equal(rt, set.len(), list.len());
+    let mut ones = 0usize;
+    for (i, bit) in list.iter().enumerate() {
+        ones = ones.saturating_add(usize::from(*bit));
+        if i < set.len() {
+            equal(rt, set.value(i), *bit);
+        }
+    }
+    equal(rt, set.as_view().true_count(), ones);
+}
+
+/// Whether it was made. It is dropped.
+pub(crate) fn is_made<M: Drop>(made: Result<M>) -> bool {
+    match made {
+        Ok(made) => {
+            drop(made);
+            true
+        }
+        Err(_) => false,
     }
 }

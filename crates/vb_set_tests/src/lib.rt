@@ -1,11 +1,16 @@
-//! Tests of sets of bits that are made, shared and asked: worked rows, answers beside those of the
-//! kernels, closures that are asked, calls whose requests for memory are refused, what calls ask of
-//! the allocator, and of which one where two could be meant. Those of edits are
-//! `vb_set_edit_tests`.
+//! Tests of sets of bits that are made, shared, edited and asked: worked rows, answers beside those
+//! of the kernels, edits and bits that are added beside those of plain lists, closures that are
+//! asked, what calls ask of the allocator, and of which one where two could be meant; what stands
+//! after a request for memory that is refused, and how far calls poll an iterator, or call a
+//! closure, where memory is refused or there is an error: no item behind it is gone.
 #![tactic(auto)]
 
 #[cfg(test)]
+mod appended;
+#[cfg(test)]
 mod callers;
+#[cfg(test)]
+mod changes;
 #[cfg(test)]
 mod collected;
 #[cfg(test)]
@@ -13,14 +18,25 @@ mod compared;
 #[cfg(test)]
 mod costs;
 #[cfg(test)]
+mod edit_rows;
+#[cfg(test)]
+mod edits;
+#[cfg(test)]
 mod heaps;
 #[cfg(test)]
 mod made;
 #[cfg(test)]
 mod makers;
 #[cfg(test)]
+mod polled_buffers;
+#[cfg(test)]
+mod polled_sets;
+#[cfg(test)]
 mod relation;
+#[cfg(test)]
+mod room;
 #[cfg(test)]
 mod rows;
 #[cfg(test)]
 mod tallies;
+pub mod watched;

@@ -3,7 +3,7 @@
 ghost use Rattle.std.specs.Prelude.{⊤};
 ghost use Rattle.std.specs.Iterator.{at_most};
 ghost use Rattle.vb_core.specs.Lengths.{CountsDown};
-ghost use Rattle.vb_polled_tests.specs.Watched.{counted_down};
+ghost use Rattle.vb_set_tests.specs.Watched.{counted_down};
 
 use std::cell::Cell;
 use vb_core::TrustedLen;
