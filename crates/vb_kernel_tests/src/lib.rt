@@ -1,8 +1,15 @@
-//! Tests of the kernels: worked values, and each kernel beside the plain bit loops.
+//! Tests of the kernels, beside plain loops over single bits and values, at many offsets and
+//! lengths: counts, selects, searches, copies and combinations; walks and views; comparisons of
+//! whole numbers and of floats. And of what all crates share: errors, alignments, elements, indices
+//! and iterators of known length.
 #![tactic(auto)]
 
 #[cfg(test)]
+mod alignments;
+#[cfg(test)]
 mod bits;
+#[cfg(test)]
+mod clones;
 #[cfg(test)]
 mod combined;
 #[cfg(test)]
@@ -12,7 +19,17 @@ mod counts;
 #[cfg(test)]
 mod edits;
 #[cfg(test)]
+mod elements;
+#[cfg(test)]
 mod ends;
+#[cfg(test)]
+mod errors;
+#[cfg(test)]
+mod float_values;
+#[cfg(test)]
+mod floats;
+#[cfg(test)]
+mod indices;
 #[cfg(test)]
 mod looks;
 #[cfg(test)]
@@ -20,8 +37,26 @@ mod nearest;
 #[cfg(test)]
 mod plain;
 #[cfg(test)]
+mod plain_loop;
+#[cfg(test)]
+mod relation;
+#[cfg(test)]
 mod sample;
 #[cfg(test)]
 mod selects;
 #[cfg(test)]
 mod stops;
+#[cfg(test)]
+mod trusted_lengths;
+#[cfg(test)]
+mod values;
+#[cfg(test)]
+mod views;
+#[cfg(test)]
+mod walks;
+#[cfg(test)]
+mod windows;
+#[cfg(test)]
+mod words;
+#[cfg(test)]
+mod written;
