@@ -10,7 +10,7 @@ LAYERS = "docs/LAYERS.md"
 BLOCK = re.compile(r"(?<=^```mermaid\n).*?(?=^```$)", re.MULTILINE | re.DOTALL)
 # What the crates of a kind are called that have a box of their own around them.
 BOXES = {"command": "commands", "c": "for C", "example": "examples, timed jobs"}
-FOR_TESTS = ("_tests", "vb_testing", "vb_plain_machine")
+FOR_TESTS = ("_tests", "vb_testing")
 # Crates whose calls are counted by tools/growth.
 COUNTED = ("growth_", "run_growth")
 

@@ -60,7 +60,7 @@ def c_functions(repository: Repository) -> list[str]:
 def commands(repository: Repository) -> list[str]:
     """The commands, those that users read of, and those that tests run."""
     crate, table = "crates/vb_command/src/command.rt", "docs/COMMANDS.md"
-    forms = "crates/vb_plain_machine/src/commands.rt"
+    forms = "crates/vb_script_tests/src/machine/commands.rt"
     sessions = "crates/vb_script_tests/src/sessions.rt"
     _, _, variants = repository.read(crate).partition("pub enum Command")
     given = {it.lower() for it in re.findall(r"^    (\w+)\(", variants, re.MULTILINE)}

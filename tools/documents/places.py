@@ -7,7 +7,7 @@ from families.fill import of_template
 from families.written import templates
 
 LIBRARY = (
-    r"crates/(?!\w+_tests/|vb_c(?:_\w+)?/|vb_command/|vb_pool/|vb_script/|vb_plain_|use_|run_)\w+"
+    r"crates/(?!\w+_tests/|vb_c(?:_\w+)?/|vb_command/|vb_pool/|vb_script/|use_|run_)\w+"
 )
 RUST = r"bindings/rust/src/"
 Places = list[tuple[str, list[str]]]
@@ -39,8 +39,8 @@ COMMAND = [
         (r"crates/vb_script/src/", r"(?<!\.)\bNAME\b"),
     ]),
     Task("Lines with known answers; what a plain list answers", [
-        (r"crates/(vb_command_tests|vb_script_(plain_)?tests)/src/", r"\bNAME\b"),
-        (r"crates/vb_plain_machine/src/", r"(?<!\.)\bNAME\b"),
+        (r"crates/(vb_command_tests|vb_script_tests)/src/(?!machine/)", r"\bNAME\b"),
+        (r"crates/vb_script_tests/src/machine/", r"(?<!\.)\bNAME\b"),
         (r"crates/vbits/stdin$", r"\bNAME\b"),
     ]),
     Task("Wrong bodies, and proofs", [

@@ -75,7 +75,7 @@ pub fn two(n: u8) -> u8
     "crates/vb_command/src/command.rt": "pub enum Mode {\n    Ref(u8),\n}\n\n"
     "pub enum Command<A> {\n    /// `len k`: the length.\n    Len(usize),\n}\n",
     "docs/COMMANDS.md": "| Line | Answers |\n|---|---|\n| `len k` | how many |\n",
-    "crates/vb_plain_machine/src/commands.rt": '    Form("len", &[Held], Answers, Never),\n',
+    "crates/vb_script_tests/src/machine/commands.rt": '    Form("len", &[Held], Answers, Never),\n',
     "crates/vb_script_tests/src/sessions.rt": '    ("drop 0\\nlen 0\\n", "0\\n"),\n',
 }
 
@@ -163,7 +163,7 @@ class Checked(unittest.TestCase):
         crate = "crates/vb_command/src/command.rt"
         for where, (old, other) in {
             "COMMANDS_dot_md": ("`len ", "docs/COMMANDS.md"),
-            "commands_dot_rt": ('"len"', "crates/vb_plain_machine/src/commands.rt"),
+            "commands_dot_rt": ('"len"', "crates/vb_script_tests/src/machine/commands.rt"),
             "sessions_dot_rt": ("len 0", "crates/vb_script_tests/src/sessions.rt"),
         }.items():
             found = lists(self.repository(**{where: (old, old.replace("len", ""))}))

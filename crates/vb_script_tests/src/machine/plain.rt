@@ -1,9 +1,9 @@
 //! The commands on plain lists of truth values, one list a slot, which share nothing.
-use crate::commands::{Named, answer, change};
-use crate::form::{Kind, Memory, Then};
-use crate::line::Call;
-use crate::stop::{BAD_SLOT, OUT_OF_MEMORY, Stop};
-use crate::text::Text;
+use crate::machine::commands::{Named, answer, change};
+use crate::machine::form::{Kind, Memory, Then};
+use crate::machine::line::Call;
+use crate::machine::stop::{BAD_SLOT, OUT_OF_MEMORY, Stop};
+use crate::machine::text::Text;
 use std::alloc::{AllocError, Global};
 use std::mem;
 

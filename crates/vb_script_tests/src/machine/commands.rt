@@ -1,17 +1,17 @@
 //! What each command is: the form of its line, and what a plain list becomes by it, or is answered.
-use crate::answer::{add_bits, add_place, add_places, add_runs, add_shown};
-use crate::form::Form;
-use crate::form::Kind::{
+use crate::machine::answer::{add_bits, add_place, add_places, add_runs, add_shown};
+use crate::machine::form::Form;
+use crate::machine::form::Kind::{
     Frozen, Held, Hex, Indexes, Mode, Number, Numbers, Open, Truth, Vacant, Validity,
 };
-use crate::form::Memory::{Asks, Never};
-use crate::form::Then::{Answers, Empties, Freezes, Keeps, Opens};
-use crate::line::Call;
-use crate::list::{
+use crate::machine::form::Memory::{Asks, Never};
+use crate::machine::form::Then::{Answers, Empties, Freezes, Keeps, Opens};
+use crate::machine::line::Call;
+use crate::machine::list::{
     combine, count, cut, fill, lengthen, name_places, nth_place, part, take, window,
 };
-use crate::stop::Stop;
-use crate::text::Text;
+use crate::machine::stop::Stop;
+use crate::machine::text::Text;
 
 /// The form of the command of this name.
 pub fn form_of(name: &str) -> Option<&'static Form> {

@@ -1,6 +1,6 @@
 //! Lines read by splitting them at their spaces.
-use crate::commands::form_of;
-use crate::form::{Form, Kind};
+use crate::machine::commands::form_of;
+use crate::machine::form::{Form, Kind};
 
 /// The word at a place of a line, or no text where there are fewer.
 pub(crate) fn word(text: &str, place: usize) -> &str {

@@ -1,5 +1,5 @@
 //! Answers as they are printed.
-use crate::text::Text;
+use crate::machine::text::Text;
 
 /// Adds a place, or that there is none.
 pub(crate) fn add_place(text: &mut Text, place: Option<usize>) {

@@ -1,7 +1,8 @@
 //! Sessions from lines to answers, by `drive`.
-use crate::compared::{equal, is_plain};
+use crate::answered::is_plain;
+use crate::compared::equal;
 use crate::random::{ALL_LENGTHS, LENGTHS, Random};
-use crate::session::{SESSIONS, with_looks};
+use crate::refused_sessions::{SESSIONS, with_looks};
 use std::alloc::Global;
 use std::process::Abort;
 use std::str;

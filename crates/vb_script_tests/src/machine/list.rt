@@ -1,6 +1,6 @@
 //! Edits of a plain list of truth values.
-use crate::line::{index, number};
-use crate::stop::{OUT_OF_MEMORY, OUT_OF_RANGE, Stop};
+use crate::machine::line::{index, number};
+use crate::machine::stop::{OUT_OF_MEMORY, OUT_OF_RANGE, Stop};
 
 /// How many bits a list has at most. There isn't memory for more.
 const MOST: usize = 1 << 40;

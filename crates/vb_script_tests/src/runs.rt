@@ -1,6 +1,7 @@
 //! Commands that are at hand, by `run`.
-use crate::compared::{equal, is_plain};
-use crate::session::{SESSIONS, with_looks};
+use crate::answered::is_plain;
+use crate::compared::equal;
+use crate::refused_sessions::{SESSIONS, with_looks};
 use std::alloc::{Allocator, Global};
 use std::process::Abort;
 use vb_script::{Answer, BufferError, Command, Pool, command_of, run};

@@ -1,7 +1,5 @@
 //! The plain machine, for tests alone: it splits each line at its spaces and keeps a list of truth
 //! values for each slot. [`FORMS`] has a row for each command.
-#![tactic(auto)]
-
 mod answer;
 mod commands;
 mod form;

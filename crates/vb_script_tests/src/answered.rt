@@ -1,14 +1,9 @@
 //! Comparisons of what was answered with what the plain machine answers.
+use crate::compared::equal;
+use crate::machine::{Call, Line, Plain, read};
 use std::alloc::Global;
-use std::fmt::Debug;
 use std::process::Abort;
-use vb_plain_machine::{Call, Line, Plain, read};
 use vb_script::DriveError;
-
-/// The two values are equal. In a case of many each stands beside what tells the case.
-pub(crate) fn equal<T: Copy + PartialEq + Debug>(rt: &impl Abort, given: T, wanted: T) {
-    assert_eq!(rt; given, wanted);
-}
 
 /// Each answer is that of the plain machine. This is how a session over the lines then ends: at its
 /// first line that can't be read, or for want of memory where answers are missing.

@@ -1,6 +1,6 @@
 //! Random lines, told by a seed.
+use crate::machine::{FORMS, Kind, Line, Text, form_of, read};
 use std::alloc::Global;
-use vb_plain_machine::{FORMS, Kind, Line, Text, form_of, read};
 
 /// Lines that have no answer.
 const SKIPPED: &[&str] = &["", "  ", "# len 0", " #"];
