@@ -12,7 +12,7 @@ from documents.lists import OF_THE_LIBRARY, exported, headers
 
 COSTS, FACADE = "docs/costs.csv", "crates/vortex_buffer/src/lib.rt"
 SOURCE = re.compile(r"crates/(?:vb_\w+?(?<!_tests)|vortex_buffer)/src/.*\.rt")
-PROGRAM = re.compile(r"crates/growth_\w+/src/lib\.rt")
+PROGRAM = re.compile(r"crates/run_growth/src/\w+\.rt")
 OWNER = re.compile(r"impl(?:<.*?>)? (?:.* for )?&?(?:'\w+ )?(?:mut )?(\w+)|pub trait (\w+)")
 CALL = re.compile(r"\s*(pub )?fn (\w+)")
 NAME = re.compile(r"[\w:]+")

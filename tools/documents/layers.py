@@ -11,8 +11,8 @@ BLOCK = re.compile(r"(?<=^```mermaid\n).*?(?=^```$)", re.MULTILINE | re.DOTALL)
 # What the crates of a kind are called that have a box of their own around them.
 BOXES = {"command": "commands", "c": "for C", "example": "examples, timed jobs"}
 FOR_TESTS = ("_tests", "vb_testing")
-# Crates whose calls are counted by tools/growth.
-COUNTED = ("growth_", "run_growth")
+# The program whose calls are counted by tools/growth.
+COUNTED = "run_growth"
 
 
 def dependencies(text: str) -> dict[str, list[str]]:
@@ -22,7 +22,7 @@ def dependencies(text: str) -> dict[str, list[str]]:
         if line.strip() and not line.startswith("#"):
             left, _, right = line.partition(":")
             found[left.split()[0]] = right.split()
-    drawn = [it for it in found if not (it.endswith(FOR_TESTS) or it.startswith(COUNTED))]
+    drawn = [it for it in found if not (it.endswith(FOR_TESTS) or it == COUNTED)]
     return {it: [dep for dep in found[it] if dep in drawn] for it in drawn}
 
 

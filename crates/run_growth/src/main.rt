@@ -5,8 +5,14 @@
 //! over all of them.
 #![tactic(auto)]
 
+mod bits;
+mod directory;
+mod input;
+mod sets;
+mod values;
+
+use crate::input::Case;
 use anyhow::{Context, Result, bail};
-use growth_input::Case;
 use std::alloc::Global;
 use std::env;
 
@@ -27,10 +33,10 @@ fn main(rt: HostRuntime) -> Result<()> {
 
 /// Makes the calls of all rows.
 fn measure_all(alloc: Global, case: Case) -> Result<usize> {
-    let bits = measure_rows(alloc, growth_bits::ROWS, case)?;
-    let sets = measure_rows(alloc, growth_sets::ROWS, case)?;
-    let values = measure_rows(alloc, growth_values::ROWS, case)?;
-    let directory = measure_rows(alloc, growth_directory::ROWS, case)?;
+    let bits = measure_rows(alloc, bits::ROWS, case)?;
+    let sets = measure_rows(alloc, sets::ROWS, case)?;
+    let values = measure_rows(alloc, values::ROWS, case)?;
+    let directory = measure_rows(alloc, directory::ROWS, case)?;
     Ok(bits ^ sets.rotate_left(8) ^ values.rotate_left(16) ^ directory.rotate_left(24))
 }
 
@@ -47,11 +53,11 @@ fn measure_rows(alloc: Global, rows: &[&str], case: Case) -> Result<usize> {
 /// Makes the calls of a row.
 fn measure(alloc: Global, family: &str, row: &str, case: Case) -> Result<usize> {
     match family {
-        "counts" | "near" | "far" | "walks" | "few" | "writes" => growth_bits::measure(
+        "counts" | "near" | "far" | "walks" | "few" | "writes" => bits::measure(
             alloc, family, row, case,
         ),
         "sets" | "far_sets" | "combined" | "grown" | "made" | "open" | "room" | "shared" =>
-            growth_sets::measure(alloc, family, row, case),
+            sets::measure(alloc, family, row, case),
         "filtered"
         | "filtered_few"
         | "filtered_all"
@@ -60,8 +66,8 @@ fn measure(alloc: Global, family: &str, row: &str, case: Case) -> Result<usize> 
         | "packed"
         | "buffers"
         | "grown_buffers"
-        | "owners" => growth_values::measure(alloc, family, row, case),
-        "ranked" | "ranked_buffer" | "edited" | "counted" | "tables" => growth_directory::measure(
+        | "owners" => values::measure(alloc, family, row, case),
+        "ranked" | "ranked_buffer" | "edited" | "counted" | "tables" => directory::measure(
             alloc, family, row, case,
         ),
         _ => bail!("no family of this name"),

@@ -39,7 +39,7 @@ sets,clone,"constant, of one owner",100,call,Set::clone Open::open
 sets,copy,each word,3,64 bits,copy
 session,get,constant,3000,call,
 """
-SOURCE, ROWS = "crates/vb_low/src/set.rt", "crates/growth_low/src/lib.rt"
+SOURCE, ROWS = "crates/vb_low/src/set.rt", "crates/run_growth/src/low.rt"
 
 
 class Sources(Repository):

@@ -1,0 +1,21 @@
+//! Sets over a page of bytes. Each call has a set of its own, which begins at another bit, so that
+//! no compiler makes one call for all.
+ghost use Rattle.std.specs.Prelude.{◌≡◌, length, IfOk};
+
+use crate::input::Case;
+use anyhow::{Result, bail};
+use vb_bits::window_fits;
+use vb_mem::ByteBuffer;
+use vb_set::BitBuffer;
+
+/// The bits of the page from bit `turn % 8` on, which share its storage. Returns an error if they
+/// are too few.
+pub fn set_of(page: &ByteBuffer, case: Case, turn: usize) -> Result<BitBuffer>
+    ensures { IfOk result (λ set. length set.bits ≡ case.size) }
+{
+    let offset = turn % 8;
+    if !window_fits(page.as_slice(), offset, case.size) {
+        bail!("too few bytes");
+    }
+    Ok(BitBuffer::new_with_offset(page.clone()?, case.size, offset))
+}

@@ -1,0 +1,91 @@
+//! Calls on values, buffers and masks, whose steps `tools/growth` counts.
+mod buffers;
+mod compared;
+mod filtered;
+mod grown;
+mod packed;
+mod taken;
+mod texts;
+
+use crate::input::Case;
+use anyhow::{Result, bail};
+use std::alloc::Global;
+
+/// The rows: each is a family, which has one input, and a call.
+pub const ROWS: &[&str] = &[
+    "filtered bits",
+    "filtered u8",
+    "filtered u16",
+    "filtered u32",
+    "filtered u64",
+    "filtered deposited",
+    "filtered intersect_by_rank",
+    "filtered_few bits",
+    "filtered_few u8",
+    "filtered_few u16",
+    "filtered_few u32",
+    "filtered_few u64",
+    "filtered_few deposited",
+    "filtered_all bits",
+    "filtered_all u8",
+    "filtered_all u16",
+    "filtered_all u32",
+    "filtered_all u64",
+    "filtered_all deposited",
+    "taken bits",
+    "taken valid_bits",
+    "taken u8",
+    "taken u16",
+    "taken u32",
+    "taken u64",
+    "taken valid_u32",
+    "compared u8",
+    "compared u16",
+    "compared u32",
+    "compared u64",
+    "compared with_u32",
+    "compared with_u64",
+    "compared valid_u32",
+    "compared and_kleene",
+    "compared or_kleene",
+    "packed pack_bools",
+    "packed pack_truthy",
+    "packed filter_values_into",
+    "packed collect_bool_words",
+    "buffers clone",
+    "buffers slice_unaligned",
+    "buffers freeze",
+    "buffers items_mut",
+    "buffers into_vec",
+    "buffers push",
+    "buffers push_n",
+    "buffers extend_from_slice",
+    "buffers reserve",
+    "buffers pop",
+    "buffers truncate",
+    "grown_buffers push",
+    "grown_buffers push_n",
+    "grown_buffers extend_from_slice",
+    "grown_buffers reserve",
+    "grown_buffers extend",
+    "grown_buffers extend_trusted",
+    "grown_buffers resize",
+    "owners text",
+    "owners fixed",
+];
+
+/// Makes the calls of a row, and returns a sum of what they returned.
+pub fn measure(alloc: Global, family: &str, row: &str, case: Case) -> Result<usize> {
+    match family {
+        "filtered" => filtered::by_half(alloc, row, case),
+        "filtered_few" => filtered::by_few(alloc, row, case),
+        "filtered_all" => filtered::by_all(alloc, row, case),
+        "taken" => taken::measure(alloc, row, case),
+        "compared" => compared::measure(alloc, row, case),
+        "packed" => packed::measure(alloc, row, case),
+        "buffers" => buffers::measure(alloc, row, case),
+        "grown_buffers" => grown::measure(alloc, row, case),
+        "owners" => texts::measure(alloc, row, case),
+        _ => bail!("no family of this name"),
+    }
+}
