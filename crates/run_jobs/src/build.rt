@@ -5,7 +5,7 @@ use crate::pages::{Pages, window};
 use crate::random::Random;
 use anyhow::{Result, bail};
 use std::alloc::Global;
-use use_filters::{Condition, rows_where};
+use use_columns::{Condition, rows_where};
 use vortex_buffer::{Alignment, BitBuffer, BitBufferMut, Buffer, BufferMut, Filter, TryIntoMut};
 
 /// Words of a page of values, and of one of masks.

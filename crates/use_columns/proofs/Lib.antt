@@ -1,1 +1,4 @@
 mod Ends
+mod FilterLemmas
+mod GreaterLemmas
+mod Records

@@ -1,0 +1,119 @@
+//! Answers known from outside, with ample memory and with each request refused in turn.
+use crate::tests::equal;
+use crate::{Condition, filtered, rows_failing, rows_where};
+use std::alloc::Global;
+use std::process::Abort;
+use vb_testing::Refusing;
+use vortex_buffer::{BitBuffer, Buffer, BufferError, Filter, Result};
+
+type Heap<'a> = &'a Refusing<Global>;
+
+/// Five ages, of which the third is null.
+const AGES: &[u32] = &[31, 17, 0, 54, 18];
+
+/// A condition, the valid ages that meet it, which of all that meet it are of members, and how many
+/// requests are made.
+type Row = (Condition, &'static [u32], &'static [bool], u64);
+
+const ROWS: &[Row] = &[
+    (Condition::Below(18), &[17], &[false, true], 17),
+    (
+        Condition::AtLeast(18),
+        &[31, 54, 18],
+        &[true, false, true],
+        17,
+    ),
+    (Condition::Equals(54), &[54], &[false], 17),
+    // No age is kept: there are no bytes to ask for.
+    (Condition::Equals(0), &[], &[true], 16),
+];
+
+fn ages<'a>(heap: Heap<'a>, condition: Condition) -> Result<Buffer<u32, Heap<'a>>> {
+    let values = Buffer::copy_from(heap, AGES)?;
+    let valid = BitBuffer::from_bools(heap, &[true, true, false, true, true])?;
+    let found = filtered(heap, &values, &valid, condition);
+    drop((values, valid));
+    found
+}
+
+fn members<'a>(heap: Heap<'a>, condition: Condition) -> Result<BitBuffer<Heap<'a>>> {
+    let values = Buffer::copy_from(heap, AGES)?;
+    let made = rows_where(heap, &values, condition);
+    drop(values);
+    let rows = made?;
+    let member = BitBuffer::from_bools(heap, &[true, false, true, false, true])?;
+    let found = member.filtered(rows.as_view());
+    drop((member, rows));
+    found
+}
+
+fn answers(rt: &impl Abort, heap: Heap<'_>, row: &Row) -> Result<()> {
+    let found = ages(heap, row.0)?;
+    assert_eq!(rt; found.as_slice(), row.1);
+    drop(found);
+    let found = members(heap, row.0)?;
+    equal(rt, found.iter().eq(row.2.iter().copied()), true);
+    drop(found);
+    Ok(())
+}
+
+#[test]
+fn filters_are_answered_or_refused(rt: HostRuntime) {
+    let heap = Refusing::new(rt.alloc(), 0);
+    for row in ROWS {
+        for _ in heap.in_turn() {
+            let answer = answers(&rt, &heap, row);
+            let refused = Err(BufferError::OutOfMemory);
+            equal(&rt, answer, heap.wanted(Ok(()), refused));
+        }
+        equal(&rt, (heap.has_refused(), heap.asked()), (false, row.3));
+    }
+}
+
+/// The masks of two conditions and which rows of each are valid, for each of the nine pairs of
+/// true, false and null: what stands at a null is true on the left and false on the right.
+const MASKS: [&[bool]; 4] = [
+    &[true, true, true, false, false, false, true, true, true],
+    &[true, true, true, true, true, true, false, false, false],
+    &[true, false, false, true, false, false, true, false, false],
+    &[true, true, false, true, true, false, true, true, false],
+];
+
+/// The rows of which one side is known to be false.
+const FAILING: &[bool] = &[false, true, false, true, true, true, false, true, false];
+
+fn failing<'a>(heap: Heap<'a>) -> Result<BitBuffer<Heap<'a>>> {
+    let left = BitBuffer::from_bools(heap, MASKS[0])?;
+    let left_valid = BitBuffer::from_bools(heap, MASKS[1])?;
+    let right = BitBuffer::from_bools(heap, MASKS[2])?;
+    let right_valid = BitBuffer::from_bools(heap, MASKS[3])?;
+    let len = left.len();
+    let made = if right.len() == len && left_valid.len() == len && right_valid.len() == len {
+        rows_failing(heap, &left, &left_valid, &right, &right_valid)
+    } else {
+        Err(BufferError::NotAligned)
+    };
+    drop((left, left_valid, right, right_valid));
+    made
+}
+
+fn fails(rt: &impl Abort, made: Result<BitBuffer<Heap<'_>>>) -> Result<()> {
+    let rows = made?;
+    equal(rt, rows.iter().eq(FAILING.iter().copied()), true);
+    drop(rows);
+    Ok(())
+}
+
+#[test]
+fn a_null_fails_where_the_other_side_does_or_memory_is_refused(rt: HostRuntime) {
+    let heap = Refusing::new(rt.alloc(), 0);
+    for _ in heap.in_turn() {
+        let refused = Err(BufferError::OutOfMemory);
+        equal(
+            &rt,
+            fails(&rt, failing(&heap)),
+            heap.wanted(Ok(()), refused),
+        );
+    }
+    equal(&rt, (heap.has_refused(), heap.asked()), (false, 13));
+}

@@ -1,2 +1,0 @@
-pub mod Sequences
-pub mod Sources
