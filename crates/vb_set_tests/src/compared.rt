@@ -27,12 +27,14 @@ pub(crate) fn shows<A: Allocator + Clone>(
     bits: &str,
 ) -> Result<()> {
     let set = made?;
-    has_bits(rt, &set, bits.as_bytes());
+    shows_set(rt, &set, bits);
     drop(set);
     Ok(())
 }
 
-fn has_bits<A: Allocator + Clone>(rt: &impl Abort, set: &BitBuffer<A>, digits: &[u8]) {
+/// The set has these bits, `1` for a true one, and no others.
+pub(crate) fn shows_set<A: Allocator + Clone>(rt: &impl Abort, set: &BitBuffer<A>, bits: &str) {
+    let digits = bits.as_bytes();
     equal(rt, set.len(), digits.len());
     for i in 0..set.len().min(digits.len()) {
         equal(rt, set.value(i), digits[i] == b'1');
@@ -61,4 +63,30 @@ pub(crate) fn is_made<M: Drop>(made: Result<M>) -> bool {
         }
         Err(_) => false,
     }
+}
+
+/// The set that was made has so many bits, in these bytes.
+pub(crate) fn packs<A: Allocator + Clone>(
+    rt: &impl Abort,
+    made: Result<BitBuffer<A>>,
+    len: usize,
+    bytes: &[u8],
+) {
+    let set = made.expect(rt, "a set");
+    equal(rt, set.len(), len);
+    equal(rt, set.inner().as_slice(), bytes);
+    drop(set);
+}
+
+/// The set to edit that was made has so many bits, in these bytes.
+pub(crate) fn packs_open<A: Allocator + Clone>(
+    rt: &impl Abort,
+    made: Result<BitBufferMut<A>>,
+    len: usize,
+    bytes: &[u8],
+) {
+    let set = made.expect(rt, "a set");
+    equal(rt, set.len(), len);
+    equal(rt, set.as_slice(), bytes);
+    drop(set);
 }

@@ -1,12 +1,16 @@
 //! Tests of sets of bits that are made, shared, edited and asked: worked rows, answers beside those
-//! of the kernels, edits and bits that are added beside those of plain lists, closures that are
-//! asked, what calls ask of the allocator, and of which one where two could be meant; what stands
-//! after a request for memory that is refused, and how far calls poll an iterator, or call a
-//! closure, where memory is refused or there is an error: no item behind it is gone.
+//! of the kernels, edits and bits that are added beside those of plain lists; truth values that are
+//! packed, and closures that are asked; what calls ask of the allocator, and of which one where two
+//! could be meant; what stands after a request for memory that is refused, and how far calls poll
+//! an iterator, or call a closure, where memory is refused or there is an error: no item behind it
+//! is gone.
 #![tactic(auto)]
 
+pub mod alternate;
 #[cfg(test)]
 mod appended;
+#[cfg(test)]
+mod called;
 #[cfg(test)]
 mod callers;
 #[cfg(test)]
@@ -27,6 +31,14 @@ mod heaps;
 mod made;
 #[cfg(test)]
 mod makers;
+#[cfg(test)]
+mod pack_kernels;
+#[cfg(test)]
+mod pack_memory;
+#[cfg(test)]
+mod pack_sets;
+#[cfg(test)]
+mod patterns;
 #[cfg(test)]
 mod polled_buffers;
 #[cfg(test)]

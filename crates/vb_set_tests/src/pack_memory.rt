@@ -1,6 +1,6 @@
 //! Calls that make a set of truth values: each of their requests for memory refused in turn, and
 //! that no closure is asked where one is.
-use crate::compared::{equal, shows};
+use crate::compared::{equal, shows_set};
 use std::alloc::Allocator;
 use std::process::Abort;
 use vb_set::{BitBuffer, BitBufferMut, BufferError, Result};
@@ -126,7 +126,7 @@ fn makes<A: Allocator + Clone>(
     bits: &str,
 ) -> Result<()> {
     let set = made?;
-    shows(rt, &set, bits);
+    shows_set(rt, &set, bits);
     drop(set);
     Ok(())
 }

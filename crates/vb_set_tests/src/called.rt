@@ -2,8 +2,8 @@
 //!
 //! A closure notes the places at which it is called in one number, so that each place and their
 //! order count.
-use crate::compared::{equal, shows};
-use crate::made::{part, scattered, thirds};
+use crate::compared::{equal, shows_set};
+use crate::patterns::{part, scattered, thirds};
 use std::alloc::Allocator;
 use std::process::Abort;
 use vb_set::{BitBuffer, Result};
@@ -86,7 +86,7 @@ fn mapped_part<A: Allocator + Clone>(rt: &impl Abort, made: Result<BitBuffer<A>>
     let part = part(rt, &set, 5, 17);
     let (even, asked) = mapped(rt, &part);
     equal(rt, asked, 12);
-    shows(rt, &even, "000111000111");
+    shows_set(rt, &even, "000111000111");
     drop((set, part, even));
 }
 

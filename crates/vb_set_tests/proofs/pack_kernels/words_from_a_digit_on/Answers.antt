@@ -5,7 +5,7 @@ use Rattle.std.proofs.lemmas.Bool.{cases_lt}
 use Rattle.std.proofs.lemmas.Nat.Bits.{bit_at_above}
 use Rattle.vb_pack.specs.Digits.{has_bit}
 use Rattle.vb_pack.specs.WordBits.{word_bit}
-use Rattle.vb_pack_tests.proofs.kernels.words_from_a_digit_on.Goals as goal
+use Rattle.vb_set_tests.proofs.pack_kernels.words_from_a_digit_on.Goals as goal
 
 abbrev words : List ℕ
 words = 31 ∷ 0 ∷ []

@@ -1,6 +1,6 @@
 use Rattle.std.proofs.Common.{rules, arith, ◌≡◌, ◌+◌, ◌-◌, ◌%◌, ◌^◌, ◌<◌, true, refl, sym, zero-add}
 use Rattle.vb_pack.proofs.AnswersLemmas.{Answers-from, Answers-keeps, CanAsk_always}
-use Rattle.vb_pack_tests.proofs.alternate.asked.Goals as goal
+use Rattle.vb_set_tests.proofs.alternate.asked.Goals as goal
 
 pub collect_bool_bytes-requires-clause-callable : goal.collect_bool_bytes-requires-clause-callable
 collect_bool_bytes-requires-clause-callable c = CanAsk_always _ _ (λ p k. search rules) _ _

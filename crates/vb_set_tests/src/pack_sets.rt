@@ -1,6 +1,6 @@
 //! Worked rows of sets.
-use crate::compared::{equal, packs, packs_open, shows};
-use crate::made::{part, thirds};
+use crate::compared::{equal, packs, packs_open, shows_set};
+use crate::patterns::{part, thirds};
 use std::alloc::Allocator;
 use std::process::Abort;
 use vb_set::{BitBuffer, BitBufferMut, Result};
@@ -40,7 +40,7 @@ fn shows_thirds<A: Allocator + Clone>(rt: &impl Abort, made: Result<BitBuffer<A>
     let set = made.expect(rt, "memory");
     equal(rt, set.inner().as_slice(), &[0x49, 0x92, 0x04]);
     let part = part(rt, &set, 5, 17);
-    shows(rt, &part, "010010010010");
+    shows_set(rt, &part, "010010010010");
     drop((set, part));
 }
 

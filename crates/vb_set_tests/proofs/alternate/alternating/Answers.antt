@@ -1,7 +1,7 @@
 use Rattle.std.proofs.Common.{rules, arith, ◌≡◌, ◌==◌, ℕ, ◌%◌, ◌+◌, not, refl, ap, ◌∙◌}
 use Rattle.std.proofs.lemmas.Grind.{common_steps}
 use Rattle.vb_pack.proofs.AnswersLemmas.{Answers-from, CanAsk_always}
-use Rattle.vb_pack_tests.proofs.alternate.alternating.Goals as goal
+use Rattle.vb_set_tests.proofs.alternate.alternating.Goals as goal
 
 even_turns : (k : ℕ) → not (k % 2 == 0) ≡ ((k + 1) % 2 == 0)
 even_turns k = grind (arith, common_steps)
