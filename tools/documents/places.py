@@ -39,7 +39,7 @@ COMMAND = [
         (r"crates/vb_script/src/", r"(?<!\.)\bNAME\b"),
     ]),
     Task("Lines with known answers; what a plain list answers", [
-        (r"crates/(vb_pool_tests|vb_script_tests)/src/(?!machine/)", r"\bNAME\b"),
+        (r"crates/vb_script_tests/src/(?!machine/)", r"\bNAME\b"),
         (r"crates/vb_script_tests/src/machine/", r"(?<!\.)\bNAME\b"),
         (r"crates/vbits/stdin$", r"\bNAME\b"),
     ]),

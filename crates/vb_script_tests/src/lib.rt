@@ -1,11 +1,15 @@
-//! Tests of whole sessions: what goes in by lines and what comes out, streams that fail, and memory
-//! that is refused; and sessions of all commands and random ones beside the plain machine, with
-//! ample memory and with each request refused in turn. They cross the crates of commands, pool and
-//! streams.
+//! Tests of commands and of whole sessions: which lines can be read, what commands and answers look
+//! like, and what a line and a command ask of the allocator; what goes in by lines and what comes
+//! out, streams that fail, and memory that is refused; and sessions of all commands and random ones
+//! beside the plain machine, with ample memory and with each request refused in turn.
 #![tactic(auto)]
 
 #[cfg(test)]
 mod answered;
+#[cfg(test)]
+mod answers;
+#[cfg(test)]
+mod command_costs;
 #[cfg(test)]
 mod compared;
 #[cfg(test)]
@@ -14,6 +18,10 @@ mod costs;
 mod drive_memory;
 #[cfg(test)]
 mod drives;
+#[cfg(test)]
+mod line_costs;
+#[cfg(test)]
+mod lines;
 #[cfg(test)]
 mod machine;
 #[cfg(test)]
@@ -27,6 +35,12 @@ mod refused_sessions;
 #[cfg(test)]
 mod runs;
 #[cfg(test)]
+mod served;
+#[cfg(test)]
 mod sessions;
 #[cfg(test)]
+mod shown;
+#[cfg(test)]
 mod streams;
+#[cfg(test)]
+mod within;
