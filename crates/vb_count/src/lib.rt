@@ -10,6 +10,7 @@
 mod chunk;
 mod count;
 mod counter;
+mod ghost_count;
 mod glance;
 mod lane_sum;
 mod looks;
@@ -20,6 +21,7 @@ mod word;
 
 pub use chunk::chunk_ones;
 pub use count::{add_chunks, count_ones, count_ones_by};
+pub use ghost_count::GhostCount;
 pub use glance::{Glance, Plain, Tally};
 pub use lane_sum::LaneSum;
 pub use looks::{first_look, last_look, most_looks};

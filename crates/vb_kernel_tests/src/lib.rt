@@ -29,6 +29,8 @@ mod float_values;
 #[cfg(test)]
 mod floats;
 #[cfg(test)]
+mod ghost_counts;
+#[cfg(test)]
 mod indices;
 #[cfg(test)]
 mod looks;

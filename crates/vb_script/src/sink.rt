@@ -4,9 +4,9 @@ ghost use Rattle.std.specs.Io.KnownBytes.{Appends};
 ghost use Rattle.vb_script.specs.Fault.{CountsFault};
 
 use crate::fault::Fault;
-use ghost_count::GhostCount;
 use std::fmt;
 use std::io::Write;
+use vb_count::GhostCount;
 
 /// A writer of bytes that counts its faults in contracts.
 pub trait Sink {

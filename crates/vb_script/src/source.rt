@@ -5,9 +5,9 @@ ghost use Rattle.std.specs.Io.KnownBytes.{ReadConsumes};
 ghost use Rattle.vb_script.specs.Fault.{CountsFault};
 
 use crate::fault::Fault;
-use ghost_count::GhostCount;
 use std::fmt;
 use std::io::Read;
+use vb_count::GhostCount;
 
 /// A reader of bytes that counts its faults in contracts.
 pub trait Source {

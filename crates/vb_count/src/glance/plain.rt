@@ -2,8 +2,8 @@
 ghost use Rattle.std.specs.Prelude.{◌≡◌};
 ghost use Rattle.vb_count.specs.Looks.{CountedBytes};
 
+use crate::ghost_count::GhostCount;
 use crate::glance::Glance;
-use ghost_count::GhostCount;
 use std::marker::Model;
 use vb_bits::{chunk_at, word_at};
 

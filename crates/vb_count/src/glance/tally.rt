@@ -3,8 +3,8 @@ ghost use Rattle.std.specs.Prelude.{◌≡◌, min};
 ghost use Rattle.std.below.core.specs.declared.int.u64.TheConstants.{MAX};
 ghost use Rattle.vb_count.specs.Looks.{CountedBytes, LooksExactly};
 
+use crate::ghost_count::GhostCount;
 use crate::glance::Glance;
-use ghost_count::GhostCount;
 use std::marker::Model;
 use vb_bits::{chunk_at, word_at};
 

@@ -5,8 +5,8 @@ ghost use Rattle.vb_rank.specs.Tables.{CountedEntries};
 use super::before_group;
 use crate::probe_groups::ProbeGroups;
 use crate::size::{BEFORE_DIGITS, GROUP_NUMBERS};
-use ghost_count::GhostCount;
 use std::marker::Model;
+use vb_count::GhostCount;
 
 /// The counts of a slice. Their probes are counted in contracts alone: the value is no more than
 /// the slice, and no instruction counts.

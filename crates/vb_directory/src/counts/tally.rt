@@ -6,9 +6,9 @@ ghost use Rattle.vb_rank.specs.Tables.{CountedEntries};
 use super::{Counts, before_group};
 use crate::probe_groups::ProbeGroups;
 use crate::size::{BEFORE_DIGITS, GROUP_NUMBERS};
-use ghost_count::GhostCount;
 use std::alloc::Allocator;
 use std::marker::Model;
+use vb_count::GhostCount;
 
 /// The counts of a slice, and a count of their probes.
 #[derive(Drop)]

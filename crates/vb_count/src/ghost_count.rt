@@ -4,8 +4,6 @@
 //! keeps a [`GhostCount`] and calls [`GhostCount::add_one`] each time. Its contracts then speak of
 //! the exact number, and no instruction is spent on it. Nothing ties the number to the world: what
 //! it restricts is code that is generic over a trait whose calls say how the count moves.
-#![tactic(auto)]
-
 ghost use Rattle.std.specs.Prelude.{◌≡◌, ℕ, ◌+◌};
 ghost use Rattle.std.specs.Borrow.{ftrue};
 
@@ -34,16 +32,4 @@ impl GhostCount {
     pub fn add_one(&mut self)
         ensures { self.new.count ≡ self.old.count + 1 }
     {}
-}
-
-#[cfg(test)]
-mod tests {
-    use super::*;
-    use std::mem::size_of;
-
-    #[test]
-    fn takes_no_bytes(rt: HostRuntime) {
-        assert_eq!(rt; size_of::<GhostCount>(), 0);
-        assert_eq!(rt; size_of::<(GhostCount, u64)>(), 8);
-    }
 }
