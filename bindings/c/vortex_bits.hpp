@@ -42,6 +42,34 @@ template <class Bytes> inline constexpr bool is_borrowed = detail::refers<Bytes>
 template <class Byte, class Traits>
 inline constexpr bool is_borrowed<std::basic_string_view<Byte, Traits>> = true;
 
+/*
+ * Items that another container owns, as std::span of C++20 has them:
+ *
+ *     vortex_bits::bits rows(vortex_bits::view(pointer, 2), 3, 10);    // over two bytes or words
+ */
+template <class Item> class view {
+public:
+    view() = default;
+    view(Item *items, std::size_t count) : items_(items), count_(count) {}
+
+    Item *data() const { return items_; }
+    std::size_t size() const { return count_; }
+    bool empty() const { return count_ == 0; }
+    Item *begin() const { return items_; }
+    Item *end() const { return items_ + count_; }
+
+    Item &operator[](std::size_t position) const
+    {
+        detail::expect(position < count_, "a position is not one of the view");
+        return items_[position];
+    }
+
+private:
+    Item *items_ = nullptr;
+    std::size_t count_ = 0;
+};
+template <class Item> inline constexpr bool is_borrowed<view<Item>> = true;
+
 namespace detail {
 
 /* What lends bytes, and of these what borrows them, and what has bytes of its own. */
@@ -51,6 +79,14 @@ template <class Container, class Byte>
 using borrower = std::enable_if_t<lends<Container, Byte> && is_borrowed<Container>, int>;
 template <class Container, class Byte>
 using owner = std::enable_if_t<lends<Container, Byte> && !is_borrowed<Container>, int>;
+
+/* The bytes of words, the lowest one of each first, as on each x86-64. */
+template <class Words> auto bytes_of(Words &words)
+{
+    using word = std::remove_pointer_t<decltype(words.data())>;
+    using byte = std::conditional_t<std::is_const_v<word>, const std::uint8_t, std::uint8_t>;
+    return reinterpret_cast<byte *>(words.data());
+}
 
 } // namespace detail
 
@@ -72,9 +108,18 @@ public:
     {
     }
 
+    /* Over words of 64 bits: bit i is bit i % 64 of word i / 64, least significant first. */
+    template <class Words, detail::lender<const Words, const std::uint64_t> = 0>
+    bits(const Words &words, std::size_t offset, std::size_t len)
+        : bits(detail::bytes_of(words), 8 * words.size(), offset, len)
+    {
+    }
+
     /* A temporary container ends before the window: give it a name. Of views see is_borrowed. */
     template <class Bytes, detail::owner<Bytes, const std::uint8_t> = 0>
     bits(const Bytes &&bytes, std::size_t offset, std::size_t len) = delete;
+    template <class Words, detail::owner<Words, const std::uint64_t> = 0>
+    bits(const Words &&words, std::size_t offset, std::size_t len) = delete;
 
     std::size_t size() const { return len_; }
     bool empty() const { return len_ == 0; }
@@ -325,6 +370,20 @@ public:
     }
     template <class Bytes, detail::owner<Bytes, std::uint8_t> = 0>
     bits_mut(const Bytes &&bytes, std::size_t offset, std::size_t len) = delete;
+
+    /* Over words of 64 bits, as bits has them. */
+    template <class Words, detail::lender<Words, std::uint64_t> = 0>
+    bits_mut(Words &words, std::size_t offset, std::size_t len)
+        : bits_mut(detail::bytes_of(words), 8 * words.size(), offset, len)
+    {
+    }
+    template <class Words, detail::borrower<Words, std::uint64_t> = 0>
+    bits_mut(const Words &&words, std::size_t offset, std::size_t len)
+        : bits_mut(detail::bytes_of(words), 8 * words.size(), offset, len)
+    {
+    }
+    template <class Words, detail::owner<Words, std::uint64_t> = 0>
+    bits_mut(const Words &&words, std::size_t offset, std::size_t len) = delete;
 
     std::size_t size() const { return len_; }
 

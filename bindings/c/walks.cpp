@@ -1,9 +1,11 @@
 /*
- * Walks of vortex_bits.hpp that end before their window does, and windows over temporary views.
+ * Walks of vortex_bits.hpp that end before their window does, windows over temporary views, and
+ * windows over words.
  */
 #include "vortex_bits.hpp"
 
 #include <cstdio>
+#include <cstring>
 
 using vortex_bits::bits;
 using vortex_bits::bits_mut;
@@ -81,6 +83,38 @@ static void views()
 #endif
 }
 
+/* Windows over words beside those over the same bytes, at each offset of two words and more. */
+static void words(const buffer &all)
+{
+    std::vector<std::uint64_t> some(all.size() / 8);
+    std::memcpy(some.data(), all.data(), 8 * some.size());
+    for (std::size_t offset = 0; offset < 130; offset++) {
+        const std::size_t len = 64 * some.size() - 2 * offset;
+        buffer bytes = all;
+        std::vector<std::uint64_t> written = some;
+        check(bits(some, offset, len) == bits(all, offset, len), "a window over words");
+        bits_mut(bytes, offset, len).negate();
+        bits_mut(written, offset, len).negate();
+        check(std::memcmp(written.data(), bytes.data(), 8 * some.size()) == 0, "a write to words");
+        bits_mut(vortex_bits::view(written.data(), some.size()), offset, len).negate();
+        check(written == some, "a write over a view of words");
+    }
+    check(bits(some, 0, 64 * some.size()).count_ones() > 0, "all bits of words");
+    refused([&] { bits(some, 1, 64 * some.size()); }, "a window past its words");
+    refused([&] { bits_mut(some, 64 * some.size(), 1); }, "a window behind its words");
+}
+
+/* The class view: its items, and what it refuses. */
+static void items()
+{
+    const buffer all = {5, 6, 7};
+    const vortex_bits::view middle(all.data() + 1, 2);
+    check(buffer(middle.begin(), middle.end()) == buffer({6, 7}) && middle[1] == 7, "a view");
+    refused([&] { return middle[2]; }, "a position past a view");
+    const vortex_bits::view<std::uint16_t> none;
+    check(none.empty() && none.size() == 0 && none.begin() == none.end(), "a view of nothing");
+}
+
 int main()
 {
     buffer any(170);
@@ -93,5 +127,7 @@ int main()
         }
     }
     views();
+    words(any);
+    items();
     return failures == 0 ? 0 : 1;
 }
