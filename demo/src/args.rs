@@ -11,13 +11,14 @@ use crate::table::Format;
 pub const HELP: &str = "\
 Answers a query over a CSV file by the calls of vortex_bits, and draws it.
 
-usage: demo/query FILE [option..]
+usage: demo/query FILE [option..]; FILE may be -, standard input that is redirected from a file
 
-  --where CONDITION    the rows to keep: size > 4 and not (name = 'a' or \"a b\" is null)
-  --select LIST        print answers as CSV: count(*), count(c), sum(c), min(c), max(c)
+  --where CONDITION    the rows to keep: size > 4 and not (name in ('a', 'b') or \"a b\" is null)
+  --select LIST        print answers as CSV: count(*), count(c), sum(c), min(c), max(c), avg(c)
   --rows               print the kept rows as CSV
   --nth N              print the N-th kept row, from 1 on; status 1 if there is none
   --out FILE           write the kept rows to a file as CSV
+  --columns LIST       the columns that --rows and --out write, in this order: size, \"a b\"
   --svg FILE           draw the kept rows and the histogram to a file
   --histogram COLUMN   the column of the histogram; else the first one of numbers
   --delimiter BYTE     between fields, a comma by default; tab is one too
@@ -55,6 +56,8 @@ pub struct Options {
     pub print: Print,
     /// The file for kept rows.
     pub out: Option<PathBuf>,
+    /// The columns of kept rows, as they are written.
+    pub columns: Option<String>,
     /// The file for the picture.
     pub svg: Option<PathBuf>,
     /// The column of the histogram.
@@ -77,6 +80,7 @@ pub fn parse(args: impl IntoIterator<Item = OsString>) -> Result<Option<Options>
         condition: None,
         print: Print::Report,
         out: None,
+        columns: None,
         svg: None,
         histogram: None,
         format: Format::default(),
@@ -96,8 +100,19 @@ pub fn parse(args: impl IntoIterator<Item = OsString>) -> Result<Option<Options>
     }
     let [file] = <[PathBuf; 1]>::try_from(files)
         .or_else(|files| usage(format!("one CSV file is wanted, {} are given", files.len())))?;
-    options.file = file;
+    options.file = named(file);
+    if options.columns.is_some() && options.out.is_none() && options.print != Print::Rows {
+        return usage("--columns is for --rows and --out, of which neither is given".to_string());
+    }
     Ok(Some(options))
+}
+
+/// The file of a name: `-` is standard input, where opening it anew begins at its start.
+fn named(file: PathBuf) -> PathBuf {
+    if cfg!(target_os = "linux") && file.as_os_str() == "-" {
+        return PathBuf::from("/dev/stdin");
+    }
+    file
 }
 
 fn usage<T>(wrong: String) -> Result<T, Error> {
@@ -126,6 +141,7 @@ fn option_of(
         "nth",
         "out",
         "svg",
+        "columns",
         "histogram",
         "delimiter",
         "type",
@@ -176,6 +192,7 @@ fn with_text(options: &mut Options, name: &str, text: String) -> Result<(), Erro
         "--where" => return set_once(&mut options.condition, name, text),
         "--select" => return print(options, Print::Answers(text)),
         "--nth" => return print(options, Print::Nth(nth(&text)?)),
+        "--columns" => return set_once(&mut options.columns, name, text),
         "--histogram" => return set_once(&mut options.histogram, name, text),
         "--delimiter" => options.format.dialect.delimiter = delimiter(&text)?,
         _ => options.kinds.push(kind(&text)?),

@@ -61,29 +61,32 @@ impl Output for Nth {
     }
 }
 
-/// All rows that are kept, written as CSV.
-pub struct Writer<W, E> {
+/// All rows that are kept, some of their columns, written as CSV.
+pub struct Writer<'a, W, E> {
     out: W,
     dialect: Dialect,
+    columns: &'a [usize],
     error: E,
 }
 
-impl<W: Write, E: Fn(io::Error) -> Error> Writer<W, E> {
-    /// Returns a writer of rows; `error` makes an error of what the system says.
-    pub fn new(out: W, dialect: Dialect, error: E) -> Writer<W, E> {
+impl<'a, W: Write, E: Fn(io::Error) -> Error> Writer<'a, W, E> {
+    /// Returns a writer of these columns of rows; `error` makes an error of what the system says.
+    pub fn new(out: W, dialect: Dialect, columns: &'a [usize], error: E) -> Writer<'a, W, E> {
         Writer {
             out,
             dialect,
+            columns,
             error,
         }
     }
 
-    /// Writes one row.
+    /// Writes one row, of which `field` returns the field of a column.
     ///
     /// # Errors
     ///
     /// If the output can't be written.
-    pub fn row<'a>(&mut self, fields: impl Iterator<Item = &'a [u8]>) -> Result<(), Error> {
+    pub fn row<'b>(&mut self, field: impl Fn(usize) -> &'b [u8]) -> Result<(), Error> {
+        let fields = self.columns.iter().map(|&column| field(column));
         write_row(&mut self.out, self.dialect, fields).map_err(&self.error)
     }
 
@@ -97,9 +100,9 @@ impl<W: Write, E: Fn(io::Error) -> Error> Writer<W, E> {
     }
 }
 
-impl<W: Write, E: Fn(io::Error) -> Error> Output for Writer<W, E> {
+impl<W: Write, E: Fn(io::Error) -> Error> Output for Writer<'_, W, E> {
     fn take(&mut self, batch: &Batch<'_>, kept: &Bitmap) -> Result<(), Error> {
         kept.set_indices()
-            .try_for_each(|row| self.row(batch.rows.row(row)))
+            .try_for_each(|row| self.row(|column| batch.rows.field(row, column)))
     }
 }

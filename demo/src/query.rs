@@ -10,5 +10,5 @@ mod token;
 mod truth;
 
 pub use filter::Filter;
-pub use parse::{condition, selection};
+pub use parse::{column_names, condition, selection};
 pub use select::{Aggregate, Answer};

@@ -130,26 +130,35 @@ fn aligned(row: &[String; 6], widths: [usize; 6]) -> String {
     cells.collect::<Vec<_>>().join("  ").trim_end().to_string()
 }
 
-/// Returns the first line of a report: how many rows there are, and how many are kept if there is a
-/// condition.
+/// Returns the first line of a report: the file, and what [`counts`] returns.
+#[must_use]
+pub fn title(file: &Path, survey: &Survey, kept: Option<u64>) -> String {
+    let file = shown(file.to_string_lossy().as_bytes(), 200);
+    format!("{file}: {}", counts(survey, kept))
+}
+
+/// Returns the name of a file without its folder.
+#[must_use]
+pub fn base(file: &Path) -> String {
+    let file = file.to_string_lossy();
+    let base = file.rsplit('/').next().unwrap_or_default();
+    shown(base.as_bytes(), 200)
+}
+
+/// Returns how many rows there are, and how many are kept if there is a condition.
 #[must_use]
 #[allow(
     clippy::cast_precision_loss,
     reason = "a share needs no more than three digits"
 )]
-pub fn title(file: &Path, survey: &Survey, kept: Option<u64>) -> String {
+pub fn counts(survey: &Survey, kept: Option<u64>) -> String {
     let (rows, columns) = (survey.rows, survey.columns.len() as u64);
-    let file = shown(file.to_string_lossy().as_bytes(), 200);
-    let title = format!(
-        "{file}: {}, {}",
-        counted(rows, "row"),
-        counted(columns, "column")
-    );
+    let counts = format!("{}, {}", counted(rows, "row"), counted(columns, "column"));
     let Some(kept) = kept else {
-        return title;
+        return counts;
     };
     let share = 100.0 * kept as f64 / rows.max(1) as f64;
-    format!("{title}; {} kept, {share:.1} %", grouped(kept))
+    format!("{counts}; {} kept, {share:.1} %", grouped(kept))
 }
 
 /// Writes one row, a field per line.

@@ -27,6 +27,10 @@ const SVG_STRIP: usize = 340;
 /// A histogram of fewer bins is made once more, of the kept values' own range.
 const FEW_BINS: usize = 4;
 
+/// The error of a histogram of a text column.
+const TEXT_COLUMN: &str = "this column is text; one of numbers is wanted; --type COLUMN=float \
+    reads it as numbers, or names the first line where it has none";
+
 /// How a run that didn't fail has ended.
 #[derive(Clone, Copy, Debug, PartialEq, Eq)]
 pub enum Outcome {
@@ -46,7 +50,8 @@ pub fn run(options: &Options) -> Result<Outcome, Error> {
     let table = Table::open(&options.file, options.format)?;
     check_outputs(options)?;
     let kinds = kinds(options, &table)?;
-    let (list, histogram) = (query.list(&table)?, histogram_column(options, &table)?);
+    let (list, columns) = (query.list(&table)?, query.columns(&table)?);
+    let histogram = histogram_column(options, &table)?;
     query.check_names(&table)?;
     // Nobody reads it if standard error is closed.
     let _ = writeln!(io::stderr(), "{}", code());
@@ -58,6 +63,7 @@ pub fn run(options: &Options) -> Result<Outcome, Error> {
         table: &table,
         survey: &survey,
         filter,
+        columns,
         histogram,
     };
     match &options.print {
@@ -77,11 +83,12 @@ fn code() -> &'static str {
     }
 }
 
-/// The condition and the list of answers, as they are written.
+/// The condition and the lists of answers and columns, as they are written.
 struct Query<'a> {
     options: &'a Options,
     condition: Option<Condition>,
     answers: Vec<Answer<Name>>,
+    columns: Option<Vec<Name>>,
 }
 
 impl<'a> Query<'a> {
@@ -96,10 +103,15 @@ impl<'a> Query<'a> {
             }
             _ => Vec::new(),
         };
+        let columns = options
+            .columns
+            .as_ref()
+            .map(|text| query::column_names(text).map_err(|error| error.of("--columns", text)));
         Ok(Query {
             options,
             condition: condition.transpose()?,
             answers,
+            columns: columns.transpose()?,
         })
     }
 
@@ -146,6 +158,18 @@ impl<'a> Query<'a> {
             }
         };
         self.answers.iter().map(place).collect()
+    }
+
+    /// The indices of the columns that are written: all, if none are named.
+    fn columns(&self, table: &Table) -> Result<Vec<usize>, Error> {
+        let (Some(names), Some(text)) = (&self.columns, &self.options.columns) else {
+            return Ok((0..table.names().len()).collect());
+        };
+        let place = |name: &Name| {
+            let place = table.find(&name.name);
+            place.map_err(|wrong| QueryError::new(name.at, wrong).of("--columns", text).into())
+        };
+        names.iter().map(place).collect()
     }
 }
 
@@ -206,6 +230,8 @@ struct Run<'a> {
     table: &'a Table,
     survey: &'a Survey,
     filter: Option<Filter>,
+    /// The columns that are written of the kept rows.
+    columns: Vec<usize>,
     /// The column of `--histogram`.
     histogram: Option<usize>,
 }
@@ -214,7 +240,7 @@ struct Run<'a> {
 type Failed<'a> = Box<dyn Fn(io::Error) -> Error + 'a>;
 
 /// The writer of `--out`.
-type FileWriter<'a> = Writer<BufWriter<File>, Failed<'a>>;
+type FileWriter<'a> = Writer<'a, BufWriter<File>, Failed<'a>>;
 
 /// What every pass answers.
 struct Kept {
@@ -264,7 +290,7 @@ impl Run<'_> {
             .filter(|&place| columns[place].kind == Kind::Text)
         {
             let name = &columns[place].name;
-            let wrong = QueryError::new(0, "this column is text; one of numbers is wanted");
+            let wrong = QueryError::new(0, TEXT_COLUMN);
             return Err(wrong.of("--histogram", name).into());
         }
         let first = columns.iter().position(|column| column.range.is_some());
@@ -302,10 +328,11 @@ impl Run<'_> {
         &self,
         out: W,
         error: E,
-    ) -> Result<Writer<W, E>, Error> {
-        let mut writer = Writer::new(out, self.table.format().dialect, error);
+    ) -> Result<Writer<'_, W, E>, Error> {
+        let dialect = self.table.format().dialect;
+        let mut writer = Writer::new(out, dialect, &self.columns, error);
         if let Some(header) = self.table.header() {
-            writer.row(header)?;
+            writer.row(|column| &header[column])?;
         }
         Ok(writer)
     }
@@ -314,7 +341,9 @@ impl Run<'_> {
         let column = |it: &Histogram| self.survey.columns[it.column()].name.clone();
         let picture = Picture {
             title: self.title(kept),
-            condition: self.options.condition.clone().unwrap_or_default(),
+            file: report::base(&self.options.file),
+            counts: report::counts(self.survey, self.kept(kept)),
+            condition: self.options.condition.as_deref(),
             strip,
             rows: self.survey.rows,
             histogram: kept.histogram.as_ref().map(|it| (column(it), it.bins())),
@@ -323,11 +352,12 @@ impl Run<'_> {
     }
 
     fn title(&self, kept: &Kept) -> String {
-        report::title(
-            &self.options.file,
-            self.survey,
-            self.filter.is_some().then_some(kept.rows),
-        )
+        report::title(&self.options.file, self.survey, self.kept(kept))
+    }
+
+    /// The number of kept rows, if there is a condition.
+    fn kept(&self, kept: &Kept) -> Option<u64> {
+        self.filter.is_some().then_some(kept.rows)
     }
 
     fn report(&self) -> Result<Outcome, Error> {

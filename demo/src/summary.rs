@@ -1,4 +1,5 @@
-//! What is answered about the rows that are kept: counts, sums, the least and the greatest.
+//! What is answered about the rows that are kept: counts, sums, means, the least and the
+//! greatest.
 
 use vortex_bits::{Bitmap, Value, values};
 
@@ -69,7 +70,7 @@ impl Summary {
         }
     }
 
-    /// Returns one answer as text: empty if there is no value, or no sum.
+    /// Returns one answer as text: empty if there is no value, and for a sum or a mean of texts.
     #[must_use]
     pub fn answer(&self, aggregate: Aggregate) -> Vec<u8> {
         let Some(total) = &self.total else {
@@ -85,6 +86,7 @@ impl Summary {
             Aggregate::Sum => total.sum().unwrap_or_default().into_bytes(),
             Aggregate::Min => total.least(),
             Aggregate::Max => total.greatest(),
+            Aggregate::Avg => self.mean().map(text).unwrap_or_default().into_bytes(),
         }
     }
 
@@ -120,6 +122,13 @@ impl Summary {
             }
             Total::Text(_) => None,
         }
+    }
+
+    fn mean(&self) -> Option<f64> {
+        self.range().map(|range| match range {
+            Range::Whole(spread) => spread.mean,
+            Range::Float(spread) => spread.mean,
+        })
     }
 
     fn add(&mut self, total: Total) {

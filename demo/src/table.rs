@@ -54,7 +54,9 @@ pub struct Table {
 
 impl Table {
     /// Returns the table of a file, whose first row has the names of the columns. Without a header
-    /// line, and where a name is empty, they are called c1, c2 and so on.
+    /// line, and where a name is empty, they are called c1, c2 and so on. Without a header line,
+    /// and if rows may be short, there is a column for each field of the longest row; the file is
+    /// then read for it.
     ///
     /// # Errors
     ///
@@ -83,8 +85,26 @@ impl Table {
             return Err(Error::data(path, 1, wrong));
         }
         table.first = first.all_fields().map(<[u8]>::to_vec).collect();
-        table.names = names(&table.first, format.has_header);
+        let width = if format.has_header || !format.has_short_rows {
+            table.first.len()
+        } else {
+            table.widest()?
+        };
+        table.names = names(&table.first, width, format.has_header);
         Ok(table)
+    }
+
+    /// Reads the file once. Returns the number of fields of the row that has most.
+    fn widest(&self) -> Result<usize, Error> {
+        let (mut reader, mut rows, mut widest) = (self.reader()?, Rows::new(0), 0);
+        while reader
+            .read_row(&mut rows)
+            .map_err(|error| self.error(error))?
+        {
+            widest = widest.max(rows.fields());
+            rows.clear();
+        }
+        Ok(widest)
     }
 
     /// Returns the file.
@@ -107,9 +127,8 @@ impl Table {
 
     /// Returns the fields of the header line as they are; None if the file has none.
     #[must_use]
-    pub fn header(&self) -> Option<impl Iterator<Item = &[u8]>> {
-        let fields = self.first.iter().map(Vec::as_slice);
-        self.format.has_header.then_some(fields)
+    pub fn header(&self) -> Option<&[Vec<u8>]> {
+        self.format.has_header.then_some(&self.first)
     }
 
     /// Returns the index of a column, as [`find`] does.
@@ -231,13 +250,15 @@ impl Batches<'_> {
     }
 }
 
-/// The names of the columns, by the fields of the first row.
-fn names(first: &[Vec<u8>], has_header: bool) -> Vec<String> {
-    let name = |(place, field): (usize, &Vec<u8>)| match String::from_utf8_lossy(field) {
-        name if has_header && !name.is_empty() => name.into_owned(),
-        _ => format!("c{place}"),
+/// The names of `width` columns, by the fields of the first row.
+fn names(first: &[Vec<u8>], width: usize, has_header: bool) -> Vec<String> {
+    let name = |place: usize| match first.get(place) {
+        Some(field) if has_header && !field.is_empty() => {
+            String::from_utf8_lossy(field).into_owned()
+        }
+        _ => format!("c{}", place + 1),
     };
-    (1..).zip(first).map(name).collect()
+    (0..width).map(name).collect()
 }
 
 /// Returns the index of a name. Names are compared as they are; if none is equal, without regard to
@@ -260,10 +281,14 @@ pub fn find<'a>(names: impl Iterator<Item = &'a str> + Clone, name: &str) -> Res
             "there is no column \"{shown}\"; the columns are {}",
             listed(names)
         )),
-        _ => Err(format!(
-            "{} columns are called \"{shown}\"; with --no-header they are c1, c2 and so on",
-            found.len()
-        )),
+        [first, second, ..] => {
+            let (count, first, second) = (found.len(), first + 1, second + 1);
+            Err(format!(
+                "{count} columns are called \"{shown}\", as column {first} and column {second}; \
+                 rename them in the first line of the file, or read it as a row by --no-header, \
+                 which calls them c{first} and c{second}"
+            ))
+        }
     }
 }
 

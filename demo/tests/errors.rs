@@ -67,7 +67,7 @@ fn errors_of_the_file_name_the_line_and_the_column() {
 }
 
 /// Options that don't fit the parcels, and the error.
-const BAD_QUERIES: [(&[&str], &str); 8] = [
+const BAD_QUERIES: [(&[&str], &str); 9] = [
     (
         &["--where", "weight > 1 and size = 2"],
         "--where: there is no column \"size\"; the columns are parcel, city, weight, cents, \
@@ -75,17 +75,19 @@ const BAD_QUERIES: [(&[&str], &str); 8] = [
     ),
     (
         &["--where", "city = 4"],
-        "--where: column \"city\" is text; a text is wanted, as '4'\n  city = 4\n         ^",
+        "--where: column \"city\" is text; a text is wanted, as '4'; --type \"city\"=whole reads it \
+             as numbers, or names the first line where it has none\n  city = 4\n         ^",
     ),
     (
         &["--where", "cents = '4'"],
-        "--where: column \"cents\" has numbers; a number without quotes is wanted\n  \
-             cents = '4'\n          ^",
+        "--where: column \"cents\" has numbers; a number without quotes is wanted; \
+             --type \"cents\"=text reads it as texts\n  cents = '4'\n          ^",
     ),
     (
         &["--where", "cents = city"],
         "--where: column \"city\" is text and column \"cents\" is whole; numbers compare with \
-             numbers, and texts with texts\n  cents = city\n          ^",
+             numbers, and texts with texts; --type \"cents\"=text makes both texts\n  \
+             cents = city\n          ^",
     ),
     (
         &["--where", "1 = 2"],
@@ -98,7 +100,13 @@ const BAD_QUERIES: [(&[&str], &str); 8] = [
     ),
     (
         &["--histogram", "city"],
-        "--histogram: this column is text; one of numbers is wanted\n  city\n  ^",
+        "--histogram: this column is text; one of numbers is wanted; --type COLUMN=float reads it \
+             as numbers, or names the first line where it has none\n  city\n  ^",
+    ),
+    (
+        &["--rows", "--columns", "city, size"],
+        "--columns: there is no column \"size\"; the columns are parcel, city, weight, cents, \
+             days, note\n  city, size\n        ^",
     ),
     (
         &["--where", "cents >"],
@@ -115,7 +123,7 @@ fn errors_of_a_query_point_at_their_place() {
 }
 
 /// Options that fit no file, and the error.
-const BAD_OPTIONS: [(&[&str], &str); 12] = [
+const BAD_OPTIONS: [(&[&str], &str); 13] = [
     (&["--size"], "there is no option --size"),
     (&["-x"], "there is no option -x"),
     (&["--where"], "--where wants a value"),
@@ -142,6 +150,10 @@ const BAD_OPTIONS: [(&[&str], &str); 12] = [
     ),
     (&["other.csv"], "one CSV file is wanted, 2 are given"),
     (&["--out=a", "--out=b"], "--out is given twice"),
+    (
+        &["--columns", "city"],
+        "--columns is for --rows and --out, of which neither is given",
+    ),
     (
         &["--rows", "--nth=1"],
         "one of --select, --rows and --nth is wanted at most",

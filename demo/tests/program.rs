@@ -2,7 +2,7 @@
 
 mod support;
 
-use std::fs;
+use std::fs::{self, File};
 use std::io::{self, Write};
 use std::path::Path;
 use std::process::Command;
@@ -152,8 +152,11 @@ fn columns_of_one_name() {
     let file = folder.file("in.csv", "a,b,A,b\n1,2,3,4\n");
     let select = ["--select", "sum(a),sum(A)"];
     assert_eq!(printed(&file, &select), "sum(a),sum(A)\n1,3\n");
-    let wanted = "2 columns are called \"B\"; with --no-header they are c1, c2 and so on";
+    let wanted =
+        "2 columns are called \"B\", as column 2 and column 4; rename them in the first line";
     assert!(error(&file, &["--where", "B = 2"]).contains(wanted));
+    let rows = printed(&file, &["--no-header", "--where", "c4 = '4'", "--rows"]);
+    assert_eq!(rows, "1,2,3,4\n");
 }
 
 #[test]
@@ -182,6 +185,46 @@ fn short_rows() {
     assert_eq!(printed(&file, &select), "count(*),count(b),sum(a)\n3,1,6\n");
     let long = folder.file("long.csv", "a\n1,2\n");
     assert!(error(&long, &["--short-rows"]).ends_with(":2: 2 fields; 1 is wanted: a"));
+}
+
+/// Without a header line the longest row has a field for each column.
+#[test]
+fn short_rows_without_a_header_line() {
+    let folder = Folder::new("widest");
+    let file = folder.file("short.csv", "1\n2,x\n\n3,,z\n");
+    let args = ["--short-rows", "--no-header", "--rows"];
+    assert_eq!(printed(&file, &args), "1,,\n2,x,\n3,,z\n");
+    assert!(error(&file, &args[1..]).ends_with(":2: 2 fields; 1 is wanted: c1"));
+}
+
+#[test]
+fn some_columns_in_another_order() {
+    let folder = Folder::new("columns");
+    let out = folder.path("out.csv");
+    let args = [
+        "--where",
+        "parcel <= 'P0000002'",
+        "--columns",
+        "days, \"city\", days",
+        "--rows",
+        "--out",
+        out.to_str().unwrap(),
+    ];
+    let rows = printed(Path::new(PARCELS), &args);
+    assert_eq!(rows, "days,city,days\n1,Linz,1\n5,Linz,5\n");
+    assert_eq!(fs::read_to_string(out).unwrap(), rows);
+}
+
+#[test]
+#[cfg(target_os = "linux")]
+fn a_file_as_standard_input() {
+    let mut command = program(Path::new("-"));
+    command.args(["--select", "count(*)"]);
+    let output = command
+        .stdin(File::open(PARCELS).unwrap())
+        .output()
+        .unwrap();
+    assert_eq!(output.stdout, b"count(*)\n120\n");
 }
 
 /// A histogram of the whole column's range would have one bar.
@@ -269,6 +312,35 @@ fn help() {
     let output = run(Path::new("--help"), &[]);
     let text = String::from_utf8(output.stdout).unwrap();
     assert!(output.status.success() && text.starts_with("Answers a query over a CSV file"));
+}
+
+/// Texts of any length are inside the picture, and cells at whole units beside one another.
+#[test]
+fn a_picture_of_long_texts() {
+    let folder = Folder::new("long");
+    let name = "long ".repeat(40);
+    let file = folder.file(&format!("{name}.csv"), format!("{name}\n1\n2\n3\n"));
+    let svg = folder.path("n.svg");
+    let condition = format!("\"{name}\" > 1 or \"{name}\" < 0");
+    printed(&file, &["--svg", svg.to_str().unwrap()]);
+    assert!(
+        !fs::read_to_string(&svg)
+            .unwrap()
+            .contains("of the kept rows")
+    );
+    let args = ["--where", &condition, "--svg", svg.to_str().unwrap()];
+    printed(&file, &args);
+    let svg = fs::read_to_string(svg).unwrap();
+    let texts = svg.lines().filter(|line| line.starts_with("<text"));
+    let lengths = texts.map(|line| line.split(['<', '>']).nth(2).unwrap().chars().count());
+    assert!(lengths.max().unwrap() <= 110, "{svg}");
+    assert!(svg.contains("long… of the kept rows: "), "{svg}");
+    let cells = [("266", "227"), ("493", "227")];
+    assert!(cells.iter().all(|(x, width)| {
+        svg.contains(&format!(
+            "class=\"cell\" x=\"{x}\" y=\"80\" width=\"{width}\""
+        ))
+    }));
 }
 
 /// The example of the README prints what it says, and draws its picture.

@@ -8,21 +8,32 @@ use crate::progress::grouped;
 
 const WIDTH: f64 = 760.0;
 const MARGIN: f64 = 40.0;
-const STRIP_TOP: f64 = 76.0;
+/// The strip begins and ends at a whole unit, and so do its cells.
+const STRIP_LEFT: usize = 40;
+const STRIP_WIDTH: usize = 680;
+const STRIP_TOP: f64 = 80.0;
 const STRIP_HEIGHT: f64 = 36.0;
 const CHART_TOP: f64 = 176.0;
 const CHART_HEIGHT: f64 = 200.0;
 const CHART_LEFT: f64 = MARGIN + 40.0;
 /// About how wide a character of an axis is.
 const CHARACTER: f64 = 6.5;
+/// How many characters of the file's name, of the condition and of a column's name are shown.
+const FILE: usize = 60;
+const CONDITION: usize = 90;
+const NAME: usize = 30;
 
 /// What a picture shows.
 #[derive(Clone, Debug)]
 pub struct Picture<'a> {
-    /// The first line.
+    /// The title, which a viewer may show beside the picture.
     pub title: String,
-    /// The condition, below the title.
-    pub condition: String,
+    /// The first line.
+    pub file: String,
+    /// The second line.
+    pub counts: String,
+    /// The third line, if there is a condition.
+    pub condition: Option<&'a str>,
     /// Which rows are kept.
     pub strip: &'a Strip,
     /// The number of rows.
@@ -56,39 +67,45 @@ fn draw(out: &mut String, picture: &Picture<'_>) -> fmt::Result {
         out,
         "<rect width=\"{WIDTH}\" height=\"{height}\" fill=\"#fff\"/>"
     )?;
-    text(
-        out,
-        (MARGIN, 28.0),
-        "start",
-        " font-size=\"16\"",
-        &picture.title,
-    )?;
-    text(out, (MARGIN, 50.0), "start", "", &picture.condition)?;
+    let file = fitted(&picture.file, FILE);
+    text(out, (MARGIN, 28.0), "start", " font-size=\"16\"", &file)?;
+    text(out, (MARGIN, 48.0), "start", "", &picture.counts)?;
+    if let Some(condition) = picture.condition {
+        let condition = fitted(&format!("where {condition}"), CONDITION);
+        text(out, (MARGIN, 66.0), "start", "", &condition)?;
+    }
     strip(out, picture)?;
     if let Some((name, bins)) = &picture.histogram {
-        chart(out, name, bins)?;
+        chart(out, name, bins, picture.condition.is_some())?;
     }
     writeln!(out, "</svg>")
 }
 
-#[allow(clippy::cast_precision_loss, reason = "there are a few hundred cells")]
+/// The strip of rows. Its cells begin at whole units and aren't blurred, since a gap would show
+/// between blurred ones.
 fn strip(out: &mut String, picture: &Picture<'_>) -> fmt::Result {
-    let (inner, shares) = (WIDTH - 2.0 * MARGIN, picture.strip.shares());
-    let shares: Vec<f64> = shares.collect();
-    let cell = inner / shares.len().max(1) as f64;
+    let shares: Vec<f64> = picture.strip.shares().collect();
     writeln!(
         out,
-        "<rect x=\"{MARGIN}\" y=\"{STRIP_TOP}\" width=\"{inner}\" height=\"{STRIP_HEIGHT}\" \
-         fill=\"#eef2f5\"/>"
+        "<g shape-rendering=\"crispEdges\">\n<rect x=\"{STRIP_LEFT}\" y=\"{STRIP_TOP}\" \
+         width=\"{STRIP_WIDTH}\" height=\"{STRIP_HEIGHT}\" fill=\"#eef2f5\"/>"
     )?;
-    for (place, share) in shares.iter().enumerate().filter(|(_, share)| **share > 0.0) {
-        let x = MARGIN + place as f64 * cell;
+    let start = |cell: usize| STRIP_LEFT + cell * STRIP_WIDTH / shares.len();
+    for (cell, share) in shares.iter().enumerate().filter(|(_, share)| **share > 0.0) {
+        let (x, end) = (start(cell), start(cell + 1));
         writeln!(
             out,
-            "<rect class=\"cell\" x=\"{x:.2}\" y=\"{STRIP_TOP}\" width=\"{cell:.2}\" \
-             height=\"{STRIP_HEIGHT}\" fill=\"#2f6f9f\" fill-opacity=\"{share:.3}\"/>"
+            "<rect class=\"cell\" x=\"{x}\" y=\"{STRIP_TOP}\" width=\"{}\" \
+             height=\"{STRIP_HEIGHT}\" fill=\"#2f6f9f\" fill-opacity=\"{share:.3}\"/>",
+            end - x
         )?;
     }
+    writeln!(out, "</g>")?;
+    legend(out, picture)
+}
+
+/// What is below the strip.
+fn legend(out: &mut String, picture: &Picture<'_>) -> fmt::Result {
     let below = STRIP_TOP + STRIP_HEIGHT + 16.0;
     let last = format!("row {}", grouped(picture.rows));
     text(out, (MARGIN, below), "start", "", "row 1")?;
@@ -102,7 +119,8 @@ fn strip(out: &mut String, picture: &Picture<'_>) -> fmt::Result {
     text(out, (WIDTH - MARGIN, below), "end", "", &last)
 }
 
-fn chart(out: &mut String, name: &str, bins: &[(String, u64)]) -> fmt::Result {
+#[allow(clippy::cast_precision_loss, reason = "a label is short")]
+fn chart(out: &mut String, name: &str, bins: &[(String, u64)], is_part: bool) -> fmt::Result {
     let most = bins.iter().map(|bin| bin.1).max().unwrap_or(0);
     let bottom = CHART_TOP + CHART_HEIGHT;
     bars(out, bins, most.max(1))?;
@@ -111,10 +129,15 @@ fn chart(out: &mut String, name: &str, bins: &[(String, u64)]) -> fmt::Result {
         "<path d=\"M{CHART_LEFT} {CHART_TOP}V{bottom}H{}\" stroke=\"#888\" fill=\"none\"/>",
         WIDTH - MARGIN
     )?;
-    let left = CHART_LEFT - 6.0;
-    text(out, (left, CHART_TOP + 10.0), "end", "", &grouped(most))?;
+    let (left, count) = (CHART_LEFT - 6.0, grouped(most));
+    let end = (count.len() as f64 * CHARACTER).max(left);
+    text(out, (end, CHART_TOP + 10.0), "end", "", &count)?;
     text(out, (left, bottom), "end", "", "0")?;
-    let caption = format!("{name} of the kept rows: how many are in each bin, by where it begins");
+    let (name, of) = (
+        fitted(name, NAME),
+        if is_part { " of the kept rows" } else { "" },
+    );
+    let caption = format!("{name}{of}: how many are in each bin, by where it begins");
     text(out, (WIDTH / 2.0, bottom + 38.0), "middle", "", &caption)
 }
 
@@ -127,7 +150,8 @@ fn bars(out: &mut String, bins: &[(String, u64)], most: u64) -> fmt::Result {
     let slot = (WIDTH - MARGIN - CHART_LEFT) / bins.len().max(1) as f64;
     let (width, bottom) = ((slot - 1.0).max(0.5), CHART_TOP + CHART_HEIGHT);
     let longest = bins.iter().map(|bin| bin.0.len()).max().unwrap_or(0);
-    let each = ((longest + 1) as f64 * CHARACTER / slot).ceil().max(1.0);
+    let label = (longest + 1) as f64 * CHARACTER;
+    let each = (label / slot).ceil().max(1.0);
     for (place, (edge, count)) in bins.iter().enumerate() {
         let height = CHART_HEIGHT * *count as f64 / most as f64;
         let (x, y) = (CHART_LEFT + place as f64 * slot, bottom - height);
@@ -137,7 +161,7 @@ fn bars(out: &mut String, bins: &[(String, u64)], most: u64) -> fmt::Result {
             "<rect class=\"bar\" x=\"{x:.2}\" y=\"{y:.2}\" width=\"{width:.2}\" \
              height=\"{height:.2}\" fill=\"#2f6f9f\"><title>{count} from {title} on</title></rect>"
         )?;
-        if place as f64 % each == 0.0 {
+        if place as f64 % each == 0.0 && x + label / 2.0 <= WIDTH {
             text(out, (x, bottom + 16.0), "middle", "", edge)?;
         }
     }
@@ -150,6 +174,23 @@ fn text(out: &mut String, (x, y): (f64, f64), anchor: &str, more: &str, text: &s
         out,
         "<text x=\"{x:.2}\" y=\"{y:.2}\" text-anchor=\"{anchor}\"{more}>{text}</text>"
     )
+}
+
+/// The beginning of a text that is about as wide as `most` letters; the last character of a longer
+/// text becomes dots. Characters of East Asia are as wide as two letters.
+fn fitted(text: &str, most: usize) -> String {
+    let (mut fitted, mut left) = (String::new(), most);
+    for character in text.chars() {
+        let width = if character < '\u{1100}' { 1 } else { 2 };
+        if left < width {
+            fitted.pop();
+            fitted.push('…');
+            break;
+        }
+        left -= width;
+        fitted.push(character);
+    }
+    fitted
 }
 
 /// A text between tags. Characters that XML can't have become others.
@@ -179,8 +220,10 @@ mod tests {
             ("5".to_string(), 6),
         ];
         Picture {
-            title: "a<b>.csv".to_string(),
-            condition: "x = '\u{1}&'".to_string(),
+            title: "a<b>.csv: 1 row".to_string(),
+            file: "a<b>.csv".to_string(),
+            counts: "1 row".to_string(),
+            condition: Some("x = '\u{1}&'"),
             strip,
             rows: 1000,
             histogram: Some(("x".to_string(), bins)),
@@ -207,7 +250,15 @@ mod tests {
     fn texts_are_escaped() {
         let strip = Strip::new(0, 10);
         let svg = svg(&picture(&strip));
-        assert!(svg.contains("<title>a&lt;b&gt;.csv</title>"));
-        assert!(svg.contains(">x = '␁&amp;'</text>"));
+        assert!(svg.contains("<title>a&lt;b&gt;.csv: 1 row</title>"));
+        assert!(svg.contains(">where x = '␁&amp;'</text>"));
+    }
+
+    #[test]
+    fn long_texts_end_in_dots() {
+        assert_eq!(fitted("abcd", 4), "abcd");
+        assert_eq!(fitted("abcde", 4), "abc…");
+        assert_eq!(fitted("表計算", 6), "表計算");
+        assert_eq!(fitted("a表計", 4), "a…");
     }
 }

@@ -182,7 +182,8 @@ fn two(left: &Name, op: Comparison, right: &Name, survey: &Survey) -> Result<Fil
     if (a_kind == Kind::Text) != (b_kind == Kind::Text) {
         let wrong = format!(
             "column {right} is {b_kind} and column {left} is {a_kind}; numbers compare with \
-             numbers, and texts with texts"
+             numbers, and texts with texts; --type {}=text makes both texts",
+            if a_kind == Kind::Text { right } else { left }
         );
         return Err(QueryError::new(right.at, wrong));
     }
@@ -210,11 +211,21 @@ fn with_literal(
             Meaning::Always(truth) => Filter::Always(column, truth),
         },
         (Kind::Text, number) => {
-            let wrong = format!("column {name} is text; a text is wanted, as '{number}'");
+            let kind = match number {
+                Literal::Whole(_) => Kind::Whole,
+                _ => Kind::Float,
+            };
+            let wrong = format!(
+                "column {name} is text; a text is wanted, as '{number}'; --type {name}={kind} \
+                 reads it as numbers, or names the first line where it has none"
+            );
             return Err(QueryError::new(at, wrong));
         }
         (Kind::Whole | Kind::Float, Literal::Text(_)) => {
-            let wrong = format!("column {name} has numbers; a number without quotes is wanted");
+            let wrong = format!(
+                "column {name} has numbers; a number without quotes is wanted; --type {name}=text \
+                 reads it as texts"
+            );
             return Err(QueryError::new(at, wrong));
         }
     })

@@ -1,5 +1,7 @@
 //! Conditions and lists of answers, read from their words.
 
+use vortex_bits::Comparison;
+
 #[cfg(test)]
 mod tests;
 
@@ -39,6 +41,21 @@ pub fn selection(text: &str) -> Result<Vec<Answer<Name>>, QueryError> {
     }
     parser.end("a comma or the end")?;
     Ok(answers)
+}
+
+/// Returns the names of a list of columns, such as `size, "the note"`.
+///
+/// # Errors
+///
+/// At the first word that isn't wanted where it is.
+pub fn column_names(text: &str) -> Result<Vec<Name>, QueryError> {
+    let mut parser = Parser::new(text)?;
+    let mut names = vec![parser.name("a column")?];
+    while parser.take(&Word::Comma) {
+        names.push(parser.name("a column")?);
+    }
+    parser.end("a comma or the end")?;
+    Ok(names)
 }
 
 struct Parser {
@@ -151,7 +168,10 @@ impl Parser {
                 self.skip();
                 self.null(name)
             }
-            (_, Operand::Column(_)) => self.wanted("a comparison, as \"=\" or \"<\", or \"is\""),
+            (word, Operand::Column(name)) if word.is("in") || word.is("not") => self.list(&name),
+            (_, Operand::Column(_)) => {
+                self.wanted("a comparison, as \"=\" or \"<\", \"is\" or \"in\"")
+            }
             (_, Operand::Literal(..)) => self.wanted("a comparison, as \"=\" or \"<\","),
         }
     }
@@ -171,6 +191,36 @@ impl Parser {
         } else {
             is_null
         })
+    }
+
+    /// A list of operands, one of which a column equals; none of them after `not`.
+    fn list(&mut self, name: &Name) -> Result<Condition, QueryError> {
+        let negated = self.keyword("not");
+        if !self.keyword("in") {
+            return self.wanted("\"in\"");
+        }
+        if !self.take(&Word::Open) {
+            return self.wanted("\"(\"");
+        }
+        let mut parts = vec![self.equal(name)?];
+        while self.take(&Word::Comma) {
+            parts.push(self.equal(name)?);
+        }
+        if !self.take(&Word::Close) {
+            return self.wanted("a comma or \")\"");
+        }
+        let any = only(parts).unwrap_or_else(Condition::Or);
+        Ok(if negated {
+            Condition::Not(Box::new(any))
+        } else {
+            any
+        })
+    }
+
+    fn equal(&mut self, name: &Name) -> Result<Condition, QueryError> {
+        let right = self.operand("a column, a number or a text")?;
+        let left = Operand::Column(name.clone());
+        Ok(Condition::Compare(left, Comparison::Equal, right))
     }
 
     fn operand(&mut self, what: &str) -> Result<Operand, QueryError> {
@@ -207,7 +257,7 @@ impl Parser {
 
     fn answer(&mut self) -> Result<Answer<Name>, QueryError> {
         let at = self.next().at;
-        let what = "count, sum, min or max";
+        let what = "count, sum, min, max or avg";
         let Name { name, .. } = self.name(what)?;
         let Some(aggregate) = Aggregate::named(&name) else {
             return Err(QueryError::new(at, format!("{what} is wanted here")));

@@ -35,14 +35,17 @@ pub enum Aggregate {
     Min,
     /// The greatest value.
     Max,
+    /// The mean of all values, a float.
+    Avg,
 }
 
 impl Aggregate {
-    const ALL: [(&str, Aggregate); 4] = [
+    const ALL: [(&str, Aggregate); 5] = [
         ("count", Aggregate::Count),
         ("sum", Aggregate::Sum),
         ("min", Aggregate::Min),
         ("max", Aggregate::Max),
+        ("avg", Aggregate::Avg),
     ];
 
     /// Returns the aggregate of a name, in any case of its letters.

@@ -154,9 +154,10 @@ fn number(text: &str, at: usize) -> Result<(Word, usize), QueryError> {
             let end = text.find(char::is_whitespace).unwrap_or(text.len());
             let wrong = &text[..end];
             let named = wrong.starts_with('-') && wrong[1..].starts_with(is_of_name);
-            let hint = match named {
-                true => "; a name with such characters is between double quotes",
-                false => "",
+            let hint = if named {
+                "; a name with such characters is between double quotes"
+            } else {
+                ""
             };
             Err(QueryError::new(
                 at,

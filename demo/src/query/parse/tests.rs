@@ -1,6 +1,6 @@
 //! Conditions and lists that are read, and where those that aren't are wrong.
 
-use super::{condition, selection};
+use super::{column_names, condition, selection};
 
 #[test]
 fn conditions() {
@@ -23,6 +23,13 @@ fn conditions() {
         ("not a = 1 and b = 2", "(not (\"a\" = 1)) and (\"b\" = 2)"),
         ("not not a = 1", "not (not (\"a\" = 1))"),
         ("\"and\" = 1", "\"and\" = 1"),
+        ("a in (1)", "\"a\" = 1"),
+        (
+            "a in (1, b , 'c') and b = 2",
+            "((\"a\" = 1) or (\"a\" = \"b\") or (\"a\" = 'c')) and (\"b\" = 2)",
+        ),
+        ("a NOT IN (1, 2)", "not ((\"a\" = 1) or (\"a\" = 2))"),
+        ("in = 1 or in in (2)", "(\"in\" = 1) or (\"in\" = 2)"),
         ("größe\t>=\n2", "\"größe\" >= 2"),
         ("a = 99999999999999999999", "\"a\" = 1e20"),
     ];
@@ -41,7 +48,7 @@ fn wrong_conditions() {
         (
             "a",
             1,
-            "a comparison, as \"=\" or \"<\", or \"is\" is wanted",
+            "a comparison, as \"=\" or \"<\", \"is\" or \"in\" is wanted",
         ),
         ("a >", 3, "a column, a number or a text is wanted"),
         ("a > 4 b", 6, "\"and\", \"or\" or the end is wanted"),
@@ -49,6 +56,11 @@ fn wrong_conditions() {
         ("(a > 4", 6, "\"and\", \"or\" or \")\" is wanted"),
         ("a > 4 and", 9, "a condition is wanted"),
         ("a = null", 4, "write \"is null\""),
+        ("a in 1", 5, "\"(\" is wanted"),
+        ("a in ()", 6, "a column, a number or a text is wanted"),
+        ("a in (1 2)", 8, "a comma or \")\" is wanted"),
+        ("a in (1, null)", 9, "write \"is null\""),
+        ("a not 1", 6, "\"in\" is wanted"),
         ("a is 4", 5, "\"null\" or \"not null\" is wanted"),
         ("a is not 4", 9, "\"null\" is wanted"),
         ("4 is null", 2, "a comparison"),
@@ -102,15 +114,17 @@ fn nesting_is_bounded() {
 
 #[test]
 fn lists() {
-    let list = selection("count(*), SUM(a), min(\"b c\"),max(a),count( a )").unwrap();
+    let list = selection("count(*), SUM(a), min(\"b c\"),max(a),Avg(a),count( a )").unwrap();
     let names: Vec<String> = list.iter().map(ToString::to_string).collect();
     assert_eq!(
         names,
-        ["count(*)", "sum(a)", "min(b c)", "max(a)", "count(a)"]
+        [
+            "count(*)", "sum(a)", "min(b c)", "max(a)", "avg(a)", "count(a)"
+        ]
     );
     for (text, at) in [
         ("", 0),
-        ("avg(a)", 0),
+        ("mean(a)", 0),
         ("sum(*)", 4),
         ("sum a", 4),
         ("sum(a", 5),
@@ -118,5 +132,11 @@ fn lists() {
         ("a", 0),
     ] {
         assert_eq!(selection(text).unwrap_err().at, at, "{text}");
+    }
+    let names = column_names("a, \"b c\",a").unwrap();
+    let names: Vec<&str> = names.iter().map(|it| it.name.as_str()).collect();
+    assert_eq!(names, ["a", "b c", "a"]);
+    for (text, at) in [("", 0), ("a,", 2), ("a b", 2), ("a, and", 3), ("sum(a)", 3)] {
+        assert_eq!(column_names(text).unwrap_err().at, at, "{text}");
     }
 }
