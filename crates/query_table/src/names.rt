@@ -2,14 +2,15 @@
 use query_csv::{Failure, Result, Rows, Source, shown};
 use std::alloc::{AllocError, Global};
 
-/// The names of the columns, by the fields of the first row.
+/// The names of `width` columns, by the fields of the first row.
 pub fn names(
     alloc: Global,
     first: &Rows,
+    width: usize,
     has_header: bool,
 ) -> std::result::Result<Vec<String>, AllocError> {
     let mut names = Vec::new(alloc);
-    for place in 0..first.fields() {
+    for place in 0..width {
         let field = first.nth_field(place);
         let name = if has_header && !field.is_empty() {
             String::from_utf8_lossy(alloc, field)?
@@ -38,22 +39,31 @@ pub fn find(
     if found.count == 1 {
         return Ok(found.first);
     }
-    let message = not_one(alloc, names, name, found.count)?;
+    let message = if found.count == 0 {
+        no_column(alloc, names, name)?
+    } else {
+        several(alloc, name, found)?
+    };
     let failure = source.wrong(alloc, at, message.as_str());
     drop(message);
     Err(failure)
 }
 
-/// How many names are one that is looked for, and the first of them.
+/// How many names are one that is looked for, and the first two of them.
 #[derive(Clone, Copy)]
 struct Found {
     count: usize,
     first: usize,
+    second: usize,
 }
 
 impl Found {
     fn among(names: &[String], name: &str, with_case: bool) -> Found {
-        let mut found = Found { count: 0, first: 0 };
+        let mut found = Found {
+            count: 0,
+            first: 0,
+            second: 0,
+        };
         for (place, own) in names.iter().enumerate() {
             let own = own.as_str();
             if own != name && (with_case || !own.eq_ignore_ascii_case(name)) {
@@ -62,30 +72,41 @@ impl Found {
             if found.count == 0 {
                 found.first = place;
             }
+            if found.count == 1 {
+                found.second = place;
+            }
             found.count = found.count.saturating_add(1);
         }
         found
     }
 }
 
-/// The message of a name that `count` columns have, and not one.
-fn not_one(
+/// The message of a name that no column has.
+fn no_column(
     alloc: Global,
     names: &[String],
     name: &str,
-    count: usize,
 ) -> std::result::Result<String, AllocError> {
     let shown = shown(alloc, name.as_bytes(), 40)?;
-    let message = if count == 0 {
-        let listed = listed(alloc, names)?;
-        let message = format!(in alloc; "there is no column \"{shown}\"; the columns are {listed}");
-        drop(listed);
-        message
-    } else {
-        format!(in alloc;
-            "{count} columns are called \"{shown}\"; with --no-header they are c1, c2 and so on"
-        )
-    };
+    let listed = listed(alloc, names)?;
+    let message = format!(in alloc; "there is no column \"{shown}\"; the columns are {listed}");
+    drop((shown, listed));
+    message
+}
+
+/// The message of a name that several columns have.
+fn several(alloc: Global, name: &str, found: Found) -> std::result::Result<String, AllocError> {
+    let shown = shown(alloc, name.as_bytes(), 40)?;
+    let (first, second) = (
+        found.first.saturating_add(1),
+        found.second.saturating_add(1),
+    );
+    let message = format!(in alloc;
+        "{} columns are called \"{shown}\", as column {first} and column {second}; rename them in \
+         the first line of the file, or read it as a row by --no-header, which calls them \
+         c{first} and c{second}",
+        found.count
+    );
     drop(shown);
     message
 }

@@ -44,7 +44,9 @@ pub struct Table {
 
 impl Table {
     /// Returns the table of a file, whose first row has the names of the columns. Without a header
-    /// line, and where a name is empty, they are called c1, c2 and so on.
+    /// line, and where a name is empty, they are called c1, c2 and so on. Without a header line,
+    /// and if rows may be short, there is a column for each field of the longest row; the file is
+    /// then read for it.
     ///
     /// Fails if the file isn't a regular one, can't be read, is empty, or begins with no row of
     /// CSV.
@@ -78,9 +80,32 @@ impl Table {
             Ok(false) => return Err(self.empty()),
             Err(error) => return Err(self.failure(error)),
         }
-        let names = names(self.alloc, &self.first, self.format.has_header)?;
+        let has_header = self.format.has_header;
+        let width = if has_header || !self.format.has_short_rows {
+            self.first.fields()
+        } else {
+            self.widest(rt)?
+        };
+        let names = names(self.alloc, &self.first, width, has_header)?;
         drop(std::mem::replace(&mut self.names, names));
         Ok(())
+    }
+
+    /// Reads the file once. Returns the number of fields of the row that has most.
+    fn widest<R: Files + AllocGlobal>(&self, rt: &R) -> Result<usize> {
+        let mut reader = self.reader(rt)?;
+        let mut rows = Rows::new(self.alloc, 0)?;
+        let mut widest = 0usize;
+        for _ in 0..u64::MAX {
+            rows.clear();
+            let read = reader.read_row(&mut rows);
+            if !self.checked(read)? {
+                break;
+            }
+            widest = widest.max(rows.fields());
+        }
+        drop((reader, rows));
+        Ok(widest)
     }
 
     fn empty(&self) -> Failure {
