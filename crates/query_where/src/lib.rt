@@ -1,7 +1,8 @@
-//! Conditions and lists of answers, read from the command line.
+//! Conditions and lists of answers or columns, read from the command line.
 //!
 //! [`parse_condition`] reads what `--where` keeps as steps in the order in which they are computed,
-//! and [`selection`] what `--select` answers. Columns are still names here.
+//! [`selection`] what `--select` answers, and [`column_names`] what `--columns` names. Columns are
+//! still names here.
 #![tactic(auto)]
 
 mod condition;
@@ -14,4 +15,4 @@ mod words;
 
 pub use condition::{Condition, Literal, Name, Operand, Sign, Step};
 pub use parse::parse_condition;
-pub use select::{Aggregate, Answer, selection};
+pub use select::{Aggregate, Answer, column_names, selection};

@@ -24,6 +24,8 @@ pub enum Aggregate {
     Min,
     /// The greatest value.
     Max,
+    /// The mean of all values, a float.
+    Avg,
 }
 
 const AGGREGATES: &[(&str, Aggregate)] = &[
@@ -31,6 +33,7 @@ const AGGREGATES: &[(&str, Aggregate)] = &[
     ("sum", Aggregate::Sum),
     ("min", Aggregate::Min),
     ("max", Aggregate::Max),
+    ("avg", Aggregate::Avg),
 ];
 
 impl Aggregate {
@@ -51,6 +54,7 @@ impl Aggregate {
             Aggregate::Sum => "sum",
             Aggregate::Min => "min",
             Aggregate::Max => "max",
+            Aggregate::Avg => "avg",
         }
     }
 }
@@ -87,8 +91,28 @@ pub fn selection(alloc: Global, source: Source<'_>) -> Result<Vec<Answer>> {
     Ok(answers)
 }
 
+/// Returns the names of a list of columns, such as `size, "the note"`.
+///
+/// Fails at the first word that isn't wanted where it is.
+pub fn column_names(alloc: Global, source: Source<'_>) -> Result<Vec<Name>> {
+    let mut words = Words::new(alloc, source)?;
+    let mut names = Vec::new(alloc);
+    for _ in 0..u64::MAX {
+        let name = words.name("a column")?;
+        names.push(name)?;
+        if !words.comma() {
+            break;
+        }
+    }
+    if !words.is_end() {
+        return Err(words.next_wanted("a comma or the end"));
+    }
+    drop(words);
+    Ok(names)
+}
+
 fn read_answer(words: &mut Words<'_>) -> Result<Answer> {
-    let what = "count, sum, min or max";
+    let what = "count, sum, min, max or avg";
     let Name { name, at } = words.name(what)?;
     let named = Aggregate::named(name.as_str());
     drop(name);

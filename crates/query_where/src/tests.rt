@@ -43,9 +43,14 @@ const CONDITIONS: &[(&str, &str)] = &[
         "c!n!cc|&|",
     ),
     ("not (a is null and not b <> .5)", "nc!&!"),
+    ("a in (1, b, 'c') and b not in (2)", "cc|c|c!&"),
+    (
+        "a in (1, 2",
+        "w: a comma or \")\" is wanted here\n  a in (1, 2\n            ^",
+    ),
     (
         "a 1",
-        "w: a comparison, as \"=\" or \"<\", or \"is\" is wanted here\n  a 1\n    ^",
+        "w: a comparison, as \"=\" or \"<\", \"is\" or \"in\" is wanted here\n  a 1\n    ^",
     ),
     (
         "(a = 1",

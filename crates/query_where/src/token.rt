@@ -218,11 +218,24 @@ impl<'a> Letters<'a> {
     /// The error of a number of which `count` characters are read.
     fn no_number(&mut self, at: usize, count: usize) -> Result<Word> {
         self.read = self.read.saturating_sub(count);
+        let hint = if self.is_dashed_name() {
+            "; a name with such characters is between double quotes"
+        } else {
+            ""
+        };
         let count = inks(self.rest());
         let text = self.take(count)?;
-        let message = format!(in self.alloc; "{text:?} isn't a number");
+        let message = format!(in self.alloc; "{text:?} isn't a number{hint}");
         drop(text);
         Err(self.wrong(at, message?))
+    }
+
+    /// Whether a minus is next, and a character of a name behind it.
+    fn is_dashed_name(&self) -> bool {
+        match (self.peek(0), self.peek(1)) {
+            (Some('-'), Some(character)) => is_of_name(character),
+            _ => false,
+        }
     }
 
     /// Takes the next characters.

@@ -1,5 +1,5 @@
 //! The words of a text, taken one by one.
-use crate::condition::{Literal, Name, Operand, Step};
+use crate::condition::{Literal, Name, Operand, Sign, Step};
 use crate::token::{Token, Word, tokens};
 use query_csv::{Failure, Result, Source};
 use std::alloc::Global;
@@ -146,6 +146,9 @@ impl<'a> Words<'a> {
             return Ok(());
         }
         match left {
+            Operand::Column(name) if self.is_next("in") || self.is_next("not") => {
+                self.among(name, steps)
+            }
             Operand::Column(name) => self.null(name, steps),
             Operand::Literal(literal, _) => {
                 drop(literal);
@@ -157,7 +160,7 @@ impl<'a> Words<'a> {
     fn null(&mut self, name: Name, steps: &mut Vec<Step>) -> Result<()> {
         if !self.keyword("is") {
             drop(name);
-            return Err(self.next_wanted("a comparison, as \"=\" or \"<\", or \"is\""));
+            return Err(self.next_wanted("a comparison, as \"=\" or \"<\", \"is\" or \"in\""));
         }
         let is_negated = self.keyword("not");
         if !self.keyword("null") {
@@ -173,6 +176,58 @@ impl<'a> Words<'a> {
             steps.push(Step::Not)?;
         }
         Ok(())
+    }
+
+    /// Reads a list of operands, one of which a column equals; none of them after `not`.
+    fn among(&mut self, name: Name, steps: &mut Vec<Step>) -> Result<()> {
+        let is_negated = self.keyword("not");
+        if !self.keyword("in") {
+            drop(name);
+            return Err(self.next_wanted("\"in\""));
+        }
+        if !self.open() {
+            drop(name);
+            return Err(self.next_wanted("\"(\""));
+        }
+        let listed = self.list(&name, steps);
+        drop(name);
+        listed?;
+        if !self.close() {
+            return Err(self.next_wanted("a comma or \")\""));
+        }
+        if is_negated {
+            steps.push(Step::Not)?;
+        }
+        Ok(())
+    }
+
+    /// Reads the operands of a list, and adds a comparison with each, joined by `or`.
+    fn list(&mut self, name: &Name, steps: &mut Vec<Step>) -> Result<()> {
+        for count in 0..u64::MAX {
+            let step = self.equal(name)?;
+            steps.push(step)?;
+            if count > 0 {
+                steps.push(Step::Or)?;
+            }
+            if !self.comma() {
+                break;
+            }
+        }
+        Ok(())
+    }
+
+    fn equal(&mut self, name: &Name) -> Result<Step> {
+        let left = Name {
+            name: name.name.clone()?,
+            at: name.at,
+        };
+        match self.operand("a column, a number or a text") {
+            Ok(right) => Ok(Step::Compare(Operand::Column(left), Sign::Equal, right)),
+            Err(failure) => {
+                drop(left);
+                Err(failure)
+            }
+        }
     }
 
     fn operand(&mut self, what: &str) -> Result<Operand> {
