@@ -130,9 +130,14 @@ fn unlike(
 ) -> std::result::Result<String, AllocError> {
     let (a, b) = (left.quoted(alloc)?, right.quoted(alloc)?);
     let (a_kind, b_kind) = (left_kind.name(), right_kind.name());
+    let of_numbers = if left_kind == Kind::Text {
+        b.as_str()
+    } else {
+        a.as_str()
+    };
     let message = format!(in alloc;
         "column {b} is {b_kind} and column {a} is {a_kind}; numbers compare with numbers, and \
-         texts with texts"
+         texts with texts; --type {of_numbers}=text makes both texts"
     );
     drop((a, b));
     message
@@ -144,24 +149,25 @@ fn wants_text(
     number: &Literal,
 ) -> std::result::Result<String, AllocError> {
     let name = name.quoted(alloc)?;
-    let message = match number {
-        Literal::Whole(number) => {
-            format!(in alloc; "column {name} is text; a text is wanted, as '{number}'")
-        }
-        Literal::Float(number) => {
-            format!(in alloc; "column {name} is text; a text is wanted, as '{number:?}'")
-        }
-        Literal::Text(text) => {
-            format!(in alloc; "column {name} is text; a text is wanted, as '{text}'")
-        }
+    let (kind, literal) = match number {
+        Literal::Whole(number) => ("whole", format!(in alloc; "{number}")?),
+        Literal::Float(number) => ("float", format!(in alloc; "{number:?}")?),
+        Literal::Text(text) => ("float", text.clone()?),
     };
-    drop(name);
+    let message = format!(in alloc;
+        "column {name} is text; a text is wanted, as '{literal}'; --type {name}={kind} reads it \
+         as numbers, or names the first line where it has none"
+    );
+    drop((name, literal));
     message
 }
 
 fn wants_number(alloc: Global, name: &Name) -> std::result::Result<String, AllocError> {
     let name = name.quoted(alloc)?;
-    let message = format!(in alloc; "column {name} has numbers; a number without quotes is wanted");
+    let message = format!(in alloc;
+        "column {name} has numbers; a number without quotes is wanted; --type {name}=text reads it \
+         as texts"
+    );
     drop(name);
     message
 }

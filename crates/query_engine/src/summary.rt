@@ -1,4 +1,5 @@
-//! What is answered about the rows that are kept: counts, sums, the least and the greatest.
+//! What is answered about the rows that are kept: counts, sums, means, the least and the
+//! greatest.
 use crate::batch::Batch;
 use crate::column::Column;
 use crate::failures::made;
@@ -44,7 +45,7 @@ impl Summary {
         self.count
     }
 
-    /// Returns one answer as text: empty if there is no value, or no sum.
+    /// Returns one answer as text: empty if there is no value, and for a sum or a mean of texts.
     pub fn answer(
         &self,
         alloc: Global,
@@ -55,6 +56,27 @@ impl Summary {
             Aggregate::Sum => self.sum(alloc),
             Aggregate::Min => self.least(alloc),
             Aggregate::Max => self.greatest(alloc),
+            Aggregate::Avg => self.mean(alloc),
+        }
+    }
+
+    fn mean(&self, alloc: Global) -> std::result::Result<Vec<u8>, AllocError> {
+        match self.range(alloc)? {
+            Some(
+                Range::Whole {
+                    least: _,
+                    greatest: _,
+                    mean,
+                },
+            ) => float_text(alloc, mean),
+            Some(
+                Range::Float {
+                    least: _,
+                    greatest: _,
+                    mean,
+                },
+            ) => float_text(alloc, mean),
+            None => Ok(Vec::new(alloc)),
         }
     }
 
