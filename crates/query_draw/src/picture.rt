@@ -1,6 +1,7 @@
 //! A picture as SVG: the strip of rows that are kept, and the histogram of their values.
 use crate::histogram::Histogram;
 use crate::strip::Strip;
+use crate::texts::fitted;
 use query_csv::{grouped, visible};
 use std::alloc::{AllocError, Global};
 use std::num::{nearest_u64_to_f64, nearest_usize_to_f64, saturating_f64_to_usize};
@@ -9,7 +10,12 @@ const WIDTH: f64 = 760.0;
 
 const MARGIN: f64 = 40.0;
 
-const STRIP_TOP: f64 = 76.0;
+/// The strip begins and ends at a whole unit, and so do its cells.
+const STRIP_LEFT: usize = 40;
+
+const STRIP_WIDTH: usize = 680;
+
+const STRIP_TOP: f64 = 80.0;
 
 const STRIP_HEIGHT: f64 = 36.0;
 
@@ -22,6 +28,15 @@ const CHART_LEFT: f64 = 80.0;
 /// About how wide a character of an axis is.
 const CHARACTER: f64 = 6.5;
 
+/// How many characters of the file's name are shown,
+const FILE: usize = 60;
+
+/// of the condition,
+const CONDITION: usize = 90;
+
+/// and of a column's name.
+const NAME: usize = 30;
+
 type Added = std::result::Result<(), AllocError>;
 
 /// What a picture shows.
@@ -29,10 +44,14 @@ type Added = std::result::Result<(), AllocError>;
 pub struct Picture<'a> {
     /// The memory for the text.
     pub alloc: Global,
-    /// The first line.
+    /// The title, which a viewer may show beside the picture.
     pub title: &'a str,
-    /// The condition, below the title.
-    pub condition: &'a str,
+    /// The first line.
+    pub file: &'a str,
+    /// The second line.
+    pub counts: &'a str,
+    /// The third line, if there is a condition.
+    pub condition: Option<&'a str>,
     /// Which rows are kept.
     pub strip: &'a Strip,
     /// The number of rows.
@@ -46,14 +65,14 @@ impl<'a> Picture<'a> {
     pub fn svg(&self) -> std::result::Result<String, AllocError> {
         let mut out = String::new(self.alloc);
         self.add_head(&mut out)?;
-        self.add_text(
-            &mut out,
-            (MARGIN, 28.0),
-            "start",
-            " font-size=\"16\"",
-            self.title,
-        )?;
-        self.add_text(&mut out, (MARGIN, 50.0), "start", "", self.condition)?;
+        let file = fitted(self.alloc, self.file, FILE)?;
+        let at = (MARGIN, 28.0);
+        self.add_text(&mut out, at, "start", " font-size=\"16\"", file.as_str())?;
+        drop(file);
+        self.add_text(&mut out, (MARGIN, 48.0), "start", "", self.counts)?;
+        if let Some(condition) = self.condition {
+            self.add_condition(&mut out, condition)?;
+        }
         self.add_strip(&mut out)?;
         if let Some((name, histogram)) = self.histogram {
             self.add_chart(&mut out, name, histogram)?;
@@ -82,17 +101,33 @@ impl<'a> Picture<'a> {
         )
     }
 
+    fn add_condition(&self, out: &mut String, condition: &str) -> Added {
+        let whole = format!(in self.alloc; "where {condition}")?;
+        let line = fitted(self.alloc, whole.as_str(), CONDITION);
+        drop(whole);
+        let line = line?;
+        let added = self.add_text(out, (MARGIN, 66.0), "start", "", line.as_str());
+        drop(line);
+        added
+    }
+
+    /// Adds the strip of rows. Its cells begin at whole units and aren't blurred, since a gap would
+    /// show between blurred ones.
     fn add_strip(&self, out: &mut String) -> Added {
-        let inner = WIDTH - 2.0 * MARGIN;
         writeln!(
             out,
-            "<rect x=\"{MARGIN}\" y=\"{STRIP_TOP}\" width=\"{inner}\" \
-             height=\"{STRIP_HEIGHT}\" fill=\"#eef2f5\"/>"
+            "<g shape-rendering=\"crispEdges\">\n<rect x=\"{STRIP_LEFT}\" y=\"{STRIP_TOP}\" \
+             width=\"{STRIP_WIDTH}\" height=\"{STRIP_HEIGHT}\" fill=\"#eef2f5\"/>"
         )?;
-        let cell = inner / nearest_usize_to_f64(self.strip.len().max(1));
-        for place in 0..self.strip.len() {
-            add_shade(out, place, cell, self.strip.share(place))?;
+        for cell in 0..self.strip.len() {
+            add_cell(out, cell, self.strip)?;
         }
+        out.push_str("</g>\n")?;
+        self.add_legend(out)
+    }
+
+    /// Adds what is below the strip.
+    fn add_legend(&self, out: &mut String) -> Added {
         let below = STRIP_TOP + STRIP_HEIGHT + 16.0;
         self.add_text(out, (MARGIN, below), "start", "", "row 1")?;
         let middle = "the darker, the more rows are kept";
@@ -116,21 +151,29 @@ impl<'a> Picture<'a> {
         )?;
         let left = CHART_LEFT - 6.0;
         let count = grouped(self.alloc, most)?;
-        self.add_text(out, (left, CHART_TOP + 10.0), "end", "", count.as_str())?;
+        let end = (nearest_usize_to_f64(count.len()) * CHARACTER).max(left);
+        self.add_text(out, (end, CHART_TOP + 10.0), "end", "", count.as_str())?;
         drop(count);
         self.add_text(out, (left, bottom), "end", "", "0")?;
+        self.add_caption(out, name)
+    }
+
+    fn add_caption(&self, out: &mut String, name: &str) -> Added {
+        let name = fitted(self.alloc, name, NAME)?;
+        let of = if self.condition.is_some() {
+            " of the kept rows"
+        } else {
+            ""
+        };
         let caption = format!(in self.alloc;
-            "{name} of the kept rows: how many are in each bin, by where it begins"
-        )?;
-        self.add_text(
-            out,
-            (WIDTH / 2.0, bottom + 38.0),
-            "middle",
-            "",
-            caption.as_str(),
-        )?;
+            "{name}{of}: how many are in each bin, by where it begins"
+        );
+        drop(name);
+        let caption = caption?;
+        let at = (WIDTH / 2.0, CHART_TOP + CHART_HEIGHT + 38.0);
+        let added = self.add_text(out, at, "middle", "", caption.as_str());
         drop(caption);
-        Ok(())
+        added
     }
 
     /// Adds the bars, with their edges below as far as there is space for these.
@@ -138,14 +181,14 @@ impl<'a> Picture<'a> {
         let (first, end) = histogram.bins();
         let count = nearest_usize_to_f64(end.saturating_sub(first).max(1));
         let slot = (WIDTH - MARGIN - CHART_LEFT) / count;
-        let longest = nearest_usize_to_f64(histogram.longest().saturating_add(1));
+        let label = nearest_usize_to_f64(histogram.longest().saturating_add(1)) * CHARACTER;
         // The remainder of floats is a call of the C library that older ones lack.
-        let each = saturating_f64_to_usize((longest * CHARACTER / slot).ceil()).max(1);
+        let each = saturating_f64_to_usize((label / slot).ceil()).max(1);
         for bin in first..end {
             let place = bin.saturating_sub(first);
             let x = CHART_LEFT + nearest_usize_to_f64(place) * slot;
             self.add_bar(out, histogram, bin, (x, slot), most)?;
-            if place % each == 0 {
+            if place % each == 0 && x + label / 2.0 <= WIDTH {
                 let below = CHART_TOP + CHART_HEIGHT + 16.0;
                 self.add_text(out, (x, below), "middle", "", histogram.label(bin))?;
             }
@@ -195,16 +238,27 @@ impl<'a> Picture<'a> {
 }
 
 /// Adds a cell of the strip, if a row of it is kept.
-fn add_shade(out: &mut String, place: usize, width: f64, share: f64) -> Added {
+fn add_cell(out: &mut String, cell: usize, strip: &Strip) -> Added {
+    let share = strip.share(cell);
     if !(share > 0.0) {
         return Ok(());
     }
-    let x = MARGIN + nearest_usize_to_f64(place) * width;
+    let x = cell_start(cell, strip.len());
+    let width = cell_start(cell.saturating_add(1), strip.len()).saturating_sub(x);
     writeln!(
         out,
-        "<rect class=\"cell\" x=\"{x:.2}\" y=\"{STRIP_TOP}\" width=\"{width:.2}\" \
+        "<rect class=\"cell\" x=\"{x}\" y=\"{STRIP_TOP}\" width=\"{width}\" \
          height=\"{STRIP_HEIGHT}\" fill=\"#2f6f9f\" fill-opacity=\"{share:.3}\"/>"
     )
+}
+
+/// Where a cell begins, of a strip of `cells`.
+fn cell_start(cell: usize, cells: usize) -> usize {
+    let start = cell
+        .saturating_mul(STRIP_WIDTH)
+        .checked_div(cells)
+        .unwrap_or(0);
+    start.saturating_add(STRIP_LEFT)
 }
 
 /// A text between tags. Characters that XML can't have become others.

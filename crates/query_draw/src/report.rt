@@ -51,17 +51,32 @@ pub struct Report<'a> {
 }
 
 impl<'a> Report<'a> {
-    /// Returns the first line: how many rows there are, and how many are kept if there is a
-    /// condition.
+    /// Returns the first line: the file, and what [`Report::counts`] returns.
     pub fn title(&self) -> Text {
         let alloc = self.alloc;
         let file = shown(alloc, self.table.path().as_bytes(), 200)?;
+        let counts = self.counts()?;
+        let title = format!(in alloc; "{file}: {counts}");
+        drop((file, counts));
+        title
+    }
+
+    /// Returns the name of the file without its folder.
+    pub fn base(&self) -> Text {
+        let path = self.table.path().as_bytes();
+        let base = path.get(base_start(path)..).unwrap_or(path);
+        shown(self.alloc, base, 200)
+    }
+
+    /// Returns how many rows there are, and how many are kept if there is a condition.
+    pub fn counts(&self) -> Text {
+        let alloc = self.alloc;
         let rows = counted(alloc, self.survey.rows, "row")?;
         let columns = counted(alloc, self.table.width() as u64, "column")?;
         let kept = self.kept()?;
-        let title = format!(in alloc; "{file}: {rows}, {columns}{kept}");
-        drop((file, rows, columns, kept));
-        title
+        let counts = format!(in alloc; "{rows}, {columns}{kept}");
+        drop((rows, columns, kept));
+        counts
     }
 
     fn kept(&self) -> Text {
@@ -251,6 +266,17 @@ fn widths(alloc: Global, cells: &[String]) -> std::result::Result<Vec<usize>, Al
         }
     }
     Ok(widths)
+}
+
+/// Where the name of a file begins in its path: behind the last slash.
+fn base_start(path: &[u8]) -> usize {
+    let mut start = 0usize;
+    for (place, byte) in path.iter().enumerate() {
+        if *byte == b'/' {
+            start = place.saturating_add(1);
+        }
+    }
+    start
 }
 
 fn counted(alloc: Global, number: u64, thing: &str) -> Text {

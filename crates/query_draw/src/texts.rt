@@ -1,5 +1,5 @@
-//! Texts that are aligned.
-use std::alloc::AllocError;
+//! Texts that are aligned, or cut to fit.
+use std::alloc::{AllocError, Global};
 
 /// Returns the number of characters of a text.
 pub fn width(text: &str) -> usize {
@@ -16,6 +16,24 @@ pub fn pad(out: &mut String, given: usize, width: usize) -> Result<(), AllocErro
         out.push(' ')?;
     }
     Ok(())
+}
+
+/// Returns the beginning of a text that is about as wide as `most` letters; the last character of a
+/// longer text becomes dots. Characters of East Asia are as wide as two letters.
+pub fn fitted(alloc: Global, text: &str, most: usize) -> Result<String, AllocError> {
+    let mut fitted = String::new(alloc);
+    let mut left = most;
+    for character in text.chars() {
+        let width = if character < '\u{1100}' { 1 } else { 2 };
+        if left < width {
+            drop(fitted.pop());
+            fitted.push('…')?;
+            return Ok(fitted);
+        }
+        left = left.saturating_sub(width);
+        fitted.push(character)?;
+    }
+    Ok(fitted)
 }
 
 /// Removes the spaces at the end of a text.
