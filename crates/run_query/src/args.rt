@@ -9,13 +9,14 @@ use std::mem;
 pub const HELP: &str = "\
 Answers a query over a CSV file by the calls of vortex_buffer, and draws it.
 
-usage: run_query FILE [option..]
+usage: run_query FILE [option..]; FILE may be -, standard input that is redirected from a file
 
-  --where CONDITION    the rows to keep: size > 4 and not (name = 'a' or \"a b\" is null)
-  --select LIST        print answers as CSV: count(*), count(c), sum(c), min(c), max(c)
+  --where CONDITION    the rows to keep: size > 4 and not (name in ('a', 'b') or \"a b\" is null)
+  --select LIST        print answers as CSV: count(*), count(c), sum(c), min(c), max(c), avg(c)
   --rows               print the kept rows as CSV
   --nth N              print the N-th kept row, from 1 on; status 1 if there is none
   --out FILE           write the kept rows to a file as CSV
+  --columns LIST       the columns that --rows and --out write, in this order: size, \"a b\"
   --svg FILE           draw the kept rows and the histogram to a file
   --histogram COLUMN   the column of the histogram; else the first one of numbers
   --delimiter BYTE     between fields, a comma by default; tab is one too
@@ -53,6 +54,8 @@ pub struct Options {
     pub print: Print,
     /// The file for kept rows.
     pub out: Option<String>,
+    /// The columns of kept rows, as they are written.
+    pub columns: Option<String>,
     /// The file for the picture.
     pub svg: Option<String>,
     /// The column of the histogram.
@@ -101,6 +104,7 @@ impl Parser {
                 condition: None,
                 print: Print::Report,
                 out: None,
+                columns: None,
                 svg: None,
                 histogram: None,
                 format: Format::commas(),
@@ -143,8 +147,10 @@ impl Parser {
         }
     }
 
+    /// Takes a file: `-` is standard input.
     fn file(&mut self, word: &str) -> Result<()> {
-        let file = String::from_str(self.alloc, word)?;
+        let path = if word == "-" { "/dev/stdin" } else { word };
+        let file = String::from_str(self.alloc, path)?;
         drop(mem::replace(&mut self.options.file, file));
         self.files = self.files.saturating_add(1);
         Ok(())
@@ -226,6 +232,7 @@ impl Parser {
             "--where" => &mut self.options.condition,
             "--out" => &mut self.options.out,
             "--svg" => &mut self.options.svg,
+            "--columns" => &mut self.options.columns,
             _ => &mut self.options.histogram,
         };
         if place.is_some() {
@@ -267,9 +274,16 @@ impl Parser {
             let text = format!(in alloc; "one CSV file is wanted, {files} are given");
             return Err(usage(alloc, text));
         }
+        let writes = options.out.is_some() || matches!(options.print, Print::Rows);
+        if options.columns.is_some() && !writes {
+            drop(options);
+            return Err(usage(alloc, String::from_str(alloc, NOTHING_WRITTEN)));
+        }
         Ok(options)
     }
 }
+
+const NOTHING_WRITTEN: &str = "--columns is for --rows and --out, of which neither is given";
 
 /// The options with a value.
 const VALUED: &[&str] = &[
@@ -278,6 +292,7 @@ const VALUED: &[&str] = &[
     "--nth",
     "--out",
     "--svg",
+    "--columns",
     "--histogram",
     "--delimiter",
     "--type",

@@ -8,6 +8,15 @@ use std::alloc::{AllocError, Global};
 use std::io::Write;
 use vortex_buffer::BitBuffer;
 
+/// How rows are written.
+#[derive(Clone, Copy)]
+pub struct Written<'a> {
+    /// The bytes between and around fields.
+    pub dialect: Dialect,
+    /// The columns that are written, in their order.
+    pub columns: &'a [usize],
+}
+
 /// What is made of the rows that are kept, of each batch in turn.
 #[derive(Drop)]
 pub struct Outputs<F: Write + Drop> {
@@ -63,7 +72,7 @@ impl<F: Write + Drop> Outputs<F> {
         rt: &R,
         batch: &Batch<'_>,
         kept: &BitBuffer,
-        dialect: Dialect,
+        written: Written<'_>,
     ) -> Result<()> {
         let alloc = rt.alloc();
         self.count = self.count.saturating_add(kept.true_count() as u64);
@@ -77,7 +86,7 @@ impl<F: Write + Drop> Outputs<F> {
             histogram.take(alloc, batch, kept)?;
         }
         self.find(alloc, batch, kept)?;
-        self.write(rt, batch.rows, kept, dialect)
+        self.write(rt, batch.rows, kept, written)
     }
 
     /// Looks for the row that so many kept ones come before.
@@ -102,12 +111,12 @@ impl<F: Write + Drop> Outputs<F> {
         rt: &R,
         rows: &Rows,
         kept: &BitBuffer,
-        dialect: Dialect,
+        written: Written<'_>,
     ) -> Result<()> {
         if !self.prints && self.file.is_none() {
             return Ok(());
         }
-        let text = rows_text(rt.alloc(), rows, kept, dialect)?;
+        let text = rows_text(rt.alloc(), rows, kept, written)?;
         let written = self.write_text(rt, text.as_slice());
         drop(text);
         written
@@ -148,17 +157,34 @@ fn found(alloc: Global, batch: &Batch<'_>, row: usize) -> std::result::Result<Ro
 }
 
 /// The rows that are kept, as CSV.
-fn rows_text(alloc: Global, rows: &Rows, kept: &BitBuffer, dialect: Dialect) -> Result<Vec<u8>> {
+fn rows_text(
+    alloc: Global,
+    rows: &Rows,
+    kept: &BitBuffer,
+    written: Written<'_>,
+) -> Result<Vec<u8>> {
     let mut text = Vec::new(alloc);
     for row in kept.set_indices() {
-        let mut fields = Vec::with_capacity(alloc, rows.width())?;
-        for column in 0..rows.width() {
-            fields.push(rows.field(row, column))?;
-        }
-        add_row(&mut text, dialect, fields.as_slice())?;
-        drop(fields);
+        add_columns(alloc, &mut text, rows, row, written)?;
     }
     Ok(text)
+}
+
+/// Adds the columns of one row that are written.
+fn add_columns(
+    alloc: Global,
+    text: &mut Vec<u8>,
+    rows: &Rows,
+    row: usize,
+    written: Written<'_>,
+) -> Result<()> {
+    let mut fields = Vec::with_capacity(alloc, written.columns.len())?;
+    for column in written.columns {
+        fields.push(rows.field(row, *column))?;
+    }
+    add_row(text, written.dialect, fields.as_slice())?;
+    drop(fields);
+    Ok(())
 }
 
 /// Adds a row of fields as CSV to a text, whose memory alone can fail.

@@ -3,18 +3,21 @@ use crate::args::{Options, Print};
 use query_csv::{Result, Source, told};
 use query_engine::RowFilter;
 use query_table::{Kind, Survey, Table};
-use query_where::{Aggregate, Answer, Condition, Name, Operand, Step, parse_condition, selection};
+use query_where::{
+    Aggregate, Answer, Condition, Name, Operand, Step, column_names, parse_condition, selection,
+};
 use std::alloc::Global;
 use std::fs;
 use std::rt::Files;
 
-/// The condition and the list of answers, as they are written.
+/// The condition and the lists of answers and columns, as they are written.
 #[derive(Drop)]
 pub struct Query<'a> {
     options: &'a Options,
     condition: Option<Condition>,
     /// The answers.
     pub answers: Vec<Answer>,
+    columns: Vec<Name>,
 }
 
 impl<'a> Query<'a> {
@@ -28,10 +31,15 @@ impl<'a> Query<'a> {
             Print::Answers(text) => selection(alloc, of_select(text.as_str()))?,
             _ => Vec::new(alloc),
         };
+        let columns = match &options.columns {
+            Some(text) => column_names(alloc, of_columns(text.as_str()))?,
+            None => Vec::new(alloc),
+        };
         Ok(Query {
             options,
             condition,
             answers,
+            columns,
         })
     }
 
@@ -112,6 +120,23 @@ impl<'a> Query<'a> {
         }
         Ok(answered)
     }
+
+    /// Returns the indices of the columns that are written: all, if none are named.
+    pub fn columns(&self, alloc: Global, table: &Table) -> Result<Vec<usize>> {
+        match &self.options.columns {
+            Some(text) => self.named(alloc, table, of_columns(text.as_str())),
+            None => Ok((0..table.width()).collect(alloc)?),
+        }
+    }
+
+    fn named(&self, alloc: Global, table: &Table, source: Source<'_>) -> Result<Vec<usize>> {
+        let mut columns = Vec::new(alloc);
+        for name in self.columns.iter() {
+            let column = table.find(name.name.as_str(), source, name.at)?;
+            columns.push(column)?;
+        }
+        Ok(columns)
+    }
 }
 
 fn of_where(text: &str) -> Source<'_> {
@@ -124,6 +149,13 @@ fn of_where(text: &str) -> Source<'_> {
 fn of_select(text: &str) -> Source<'_> {
     Source {
         option: "--select",
+        text,
+    }
+}
+
+fn of_columns(text: &str) -> Source<'_> {
+    Source {
+        option: "--columns",
         text,
     }
 }

@@ -1,6 +1,6 @@
 //! A run of the program, from its options to what it prints.
 use crate::args::{Options, Print as Wanted};
-use crate::outputs::{Outputs, add_row};
+use crate::outputs::{Outputs, Written, add_row};
 use crate::query::{Query, check_outputs, histogram_column, kinds};
 use crate::texts::print;
 use query_csv::{Failure, Result, Rows, Source, grouped};
@@ -21,6 +21,10 @@ const SVG_STRIP: u64 = 340;
 
 /// A histogram of fewer bins is made once more, of the kept values' own range.
 const FEW_BINS: usize = 4;
+
+/// The error of a histogram of a text column.
+const TEXT_COLUMN: &str = "this column is text; one of numbers is wanted; --type COLUMN=float \
+    reads it as numbers, or names the first line where it has none";
 
 /// How a run that didn't fail has ended.
 #[derive(Clone, Copy, PartialEq, Eq)]
@@ -45,6 +49,7 @@ pub fn run_with<'a, R: Files + Print + Eprint + AllocGlobal + Drop>(
     check_outputs(rt, options)?;
     let kinds = kinds(alloc, options, &table)?;
     let answered = query.answered(alloc, &table)?;
+    let columns = query.columns(alloc, &table)?;
     let histogram = histogram_column(options, &table)?;
     query.check_names(&table)?;
     let survey = Survey::of(rt, &table, kinds.as_slice())?;
@@ -56,6 +61,7 @@ pub fn run_with<'a, R: Files + Print + Eprint + AllocGlobal + Drop>(
         table: &table,
         survey: &survey,
         filter: &filter,
+        columns: columns.as_slice(),
         histogram,
     };
     let outcome = match &options.print {
@@ -64,7 +70,7 @@ pub fn run_with<'a, R: Files + Print + Eprint + AllocGlobal + Drop>(
         Wanted::Rows => run.rows(),
         Wanted::Nth(before) => run.nth(*before),
     };
-    drop((query, table, answered, survey, filter));
+    drop((query, table, answered, columns, survey, filter));
     outcome
 }
 
@@ -76,6 +82,8 @@ struct Run<'a, R: Files + Print + Eprint + AllocGlobal + Drop> {
     table: &'a Table,
     survey: &'a Survey,
     filter: &'a Option<RowFilter>,
+    /// The columns that are written of the kept rows.
+    columns: &'a [usize],
     /// The column of `--histogram`.
     histogram: Option<usize>,
 }
@@ -127,8 +135,7 @@ impl<'a, R: Files + Print + Eprint + AllocGlobal + Drop> Run<'a, R> {
             option: "--histogram",
             text: self.table.name(column),
         };
-        let message = "this column is text; one of numbers is wanted";
-        Err(source.wrong(self.rt.alloc(), 0, message))
+        Err(source.wrong(self.rt.alloc(), 0, TEXT_COLUMN))
     }
 
     /// Reads the file once for what is printed, and for the files of `--out` and `--svg`.
@@ -180,8 +187,8 @@ impl<'a, R: Files + Print + Eprint + AllocGlobal + Drop> Run<'a, R> {
         }
         let alloc = self.rt.alloc();
         let mut fields = Vec::new(alloc);
-        for column in 0..self.table.width() {
-            fields.push(self.table.header(column))?;
+        for column in self.columns {
+            fields.push(self.table.header(*column))?;
         }
         let mut text = Vec::new(alloc);
         add_row(&mut text, self.table.format().dialect, fields.as_slice())?;
@@ -227,8 +234,11 @@ impl<'a, R: Files + Print + Eprint + AllocGlobal + Drop> Run<'a, R> {
         let alloc = self.rt.alloc();
         let batch = Batch::read(alloc, self.table, self.survey, rows, before, uses)?;
         let kept = self.kept(&batch)?;
-        let dialect = self.table.format().dialect;
-        let taken = outputs.take(self.rt, &batch, &kept, dialect);
+        let written = Written {
+            dialect: self.table.format().dialect,
+            columns: self.columns,
+        };
+        let taken = outputs.take(self.rt, &batch, &kept, written);
         drop((batch, kept));
         taken
     }
@@ -278,7 +288,8 @@ impl<'a, R: Files + Print + Eprint + AllocGlobal + Drop> Run<'a, R> {
             return Ok(());
         };
         let alloc = self.rt.alloc();
-        let title = self.about(outputs.count).title()?;
+        let about = self.about(outputs.count);
+        let (title, file, counts) = (about.title()?, about.base()?, about.counts()?);
         let histogram = match &outputs.histogram {
             Some(histogram) => Some((self.table.name(histogram.column()), histogram)),
             None => None,
@@ -286,13 +297,15 @@ impl<'a, R: Files + Print + Eprint + AllocGlobal + Drop> Run<'a, R> {
         let picture = Picture {
             alloc,
             title: title.as_str(),
-            condition: self.condition().unwrap_or(""),
+            file: file.as_str(),
+            counts: counts.as_str(),
+            condition: self.condition(),
             strip,
             rows: self.survey.rows,
             histogram,
         };
         let svg = picture.svg();
-        drop(title);
+        drop((title, file, counts));
         let svg = svg?;
         let written = fs::write(self.rt, path.as_str(), svg.as_str());
         drop(svg);
