@@ -25,6 +25,7 @@ COMPARISONS = ["=", "<>", "<", "<=", ">", ">="]
 # Rows that take more than one batch.
 MANY = 70_000
 NO_ROW = "there is no such row: {} are kept\n"
+READS = " reads it as numbers, or names the first line where it has none"
 # Command lines that are wrong, and what is said of them.
 WRONG = [
     ([], "one CSV file is wanted, 0 are given; --help lists the options\n"),
@@ -42,7 +43,62 @@ WRONG = [
      '--where: there is no column "none"; the columns are size, rank, mass, name, the note\n'
      "  none = 1\n  ^\n"),
     (["t.csv", "--where", "name = 1"],
-     "--where: column \"name\" is text; a text is wanted, as '1'\n  name = 1\n         ^\n"),
+     "--where: column \"name\" is text; a text is wanted, as '1'; --type \"name\"=whole" + READS +
+     "\n  name = 1\n         ^\n"),
+    (["t.csv", "--where", "size > 0 or 2.5 < \"the note\""],
+     "--where: column \"the note\" is text; a text is wanted, as '2.5'; --type \"the note\"=float" +
+     READS + "\n  size > 0 or 2.5 < \"the note\"\n              ^\n"),
+    (["t.csv", "--where", "mass = '4'"],
+     '--where: column "mass" has numbers; a number without quotes is wanted; --type "mass"=text '
+     "reads it as texts\n  mass = '4'\n         ^\n"),
+    (["t.csv", "--where", "size = name"],
+     '--where: column "name" is text and column "size" is whole; numbers compare with numbers, and '
+     'texts with texts; --type "size"=text makes both texts\n  size = name\n         ^\n'),
+    (["t.csv", "--where", "name = mass"],
+     '--where: column "mass" is float and column "name" is text; numbers compare with numbers, and '
+     'texts with texts; --type "mass"=text makes both texts\n  name = mass\n         ^\n'),
+    (["t.csv", "--histogram", "name"],
+     "--histogram: this column is text; one of numbers is wanted; --type COLUMN=float" + READS +
+     "\n  name\n  ^\n"),
+    (["t.csv", "--type", "name=whole"],
+     't.csv:2: column "name": "a" is not a whole number of 64 bits, the type of this column\n'),
+    (["t.csv", "--columns", "size"],
+     "--columns is for --rows and --out, of which neither is given; --help lists the options\n"),
+    (["t.csv", "--rows", "--columns", "size, none"],
+     '--columns: there is no column "none"; the columns are size, rank, mass, name, the note\n'
+     "  size, none\n        ^\n"),
+    (["t.csv", "--rows", "--columns", "size,"],
+     "--columns: a column is wanted here\n  size,\n       ^\n"),
+    (["t.csv", "--rows", "--columns", "the note"],
+     "--columns: a comma or the end is wanted here\n  the note\n      ^\n"),
+    (["t.csv", "--rows", "--columns", "count(size)"],
+     "--columns: a comma or the end is wanted here\n  count(size)\n       ^\n"),
+    (["t.csv", "--rows", "--columns=size", "--columns=rank"],
+     "--columns is given twice; --help lists the options\n"),
+    (["-", "t.csv"], "one CSV file is wanted, 2 are given; --help lists the options\n"),
+    (["-"], "/dev/stdin: not a regular file; it is read twice, so save the data to a file first\n"),
+    (["t.csv", "--where", "size in 1"], '--where: "(" is wanted here\n  size in 1\n          ^\n'),
+    (["t.csv", "--where", "size in ()"],
+     "--where: a column, a number or a text is wanted here\n  size in ()\n           ^\n"),
+    (["t.csv", "--where", "size not in (1, rank, 3"],
+     '--where: a comma or ")" is wanted here\n  size not in (1, rank, 3\n' + " " * 25 + "^\n"),
+    (["t.csv", "--where", "size in (1, 'a')"],
+     '--where: column "size" has numbers; a number without quotes is wanted; --type "size"=text '
+     "reads it as texts\n  size in (1, 'a')\n              ^\n"),
+    (["t.csv", "--where", "size not 1"],
+     '--where: "in" is wanted here\n  size not 1\n           ^\n'),
+    (["t.csv", "--where", "size 1"],
+     '--where: a comparison, as "=" or "<", "is" or "in" is wanted here\n  size 1\n       ^\n'),
+    (["t.csv", "--select", "mean(size)"],
+     "--select: count, sum, min, max or avg is wanted here\n  mean(size)\n  ^\n"),
+    (["t.csv", "--where", "size-esm = 1"],
+     '--where: "-esm" isn\'t a number; a name with such characters is between double quotes\n'
+     "  size-esm = 1\n      ^\n"),
+    (["t.csv", "--where", "size = -1x"],
+     '--where: "-1x" isn\'t a number; a name with such characters is between double quotes\n'
+     "  size = -1x\n         ^\n"),
+    (["t.csv", "--where", "size = 1x"],
+     '--where: "1x" isn\'t a number\n  size = 1x\n         ^\n'),
     (["t.csv", "--select", "sum(size"], '--select: ")" is wanted here\n  sum(size\n          ^\n'),
 ]
 # Files that aren't CSV, and what is said of them.
@@ -51,9 +107,65 @@ MALFORMED = {
     b'a,b\n1,"2"x\n': '2: column "b": "x" follows the closing quote; a delimiter or the end of the '
                       "line is wanted",
     b"a,b\n1\n": "2: 1 field; 2 are wanted: a, b; --short-rows allows for missing ones",
+    b"a,b\n1,2\n3,4,5\n": "3: 3 fields; 2 are wanted: a, b",
+    b"a,b\n1,2\r3\n": '2: column "b": a carriage return without a line feed; lines end in LF or '
+                       "CRLF, and other carriage returns are quoted",
     b"": "1: the file is empty; a row with the names of the columns is wanted",
     b"\xff\xfea": "1: column 1: the file is UTF-16; UTF-8 is wanted",
 }
+
+
+# Options for a file of which columns have the same name, and which name, how many columns have it,
+# and the first two of these.
+ALIKE = b"a,b,A,a,b,a\n1,2,3,4,5,6\n"
+ALIKE_CASES = [
+    (["--where", "a = 1"], "--where", "a", 3, 1, 4, "  a = 1\n  ^\n"),
+    (["--where", "A = 1 and B > 1"], "--where", "B", 2, 2, 5, "  A = 1 and B > 1\n            ^\n"),
+    (["--select", "sum(A), max(b)"], "--select", "b", 2, 2, 5,
+     "  sum(A), max(b)\n              ^\n"),
+    (["--rows", "--columns", "A, a"], "--columns", "a", 3, 1, 4, "  A, a\n     ^\n"),
+    (["--type", "b=text"], "--type", "b", 2, 2, 5, "  b\n  ^\n"),
+    (["--histogram", "a"], "--histogram", "a", 3, 1, 4, "  a\n  ^\n"),
+]
+# Columns that are written, by their numbers, of a file with these names.
+NAMED = ["a", "b c", "and", "D", ""]
+COLUMNS = [
+    ("a", [0]),
+    ('D, "b c", a', [3, 1, 0]),
+    ("a, a, d", [0, 0, 3]),
+    ('"and" , c5', [2, 4]),
+    ('c5,D,"and","b c",A', [4, 3, 2, 1, 0]),
+]
+# Files without a header line whose rows may be short, with the number of columns.
+SHORT = [
+    (b"1\n2,x\n3,,z\n", 3),
+    (b"1,2\n\n3\n", 2),
+    (b"\n\n4\n5\n", 1),
+    (b"1;2\n,,\"a,b\n\",,9\n3", 5),
+    (b"a,b,c\n1,2,3\n", 3),
+]
+# Columns with their means.
+MEANS = [
+    (["1", "2", "", "6"], "3.0"),
+    (["9223372036854775807", "9223372036854775807", "4"], "6.148914691236517e18"),
+    (["0.5", "-2.25", "1e3"], "332.75"),
+    (["1", "2", "2"], "1.6666666666666667"),
+    (["", ""], ""),
+    (["a", "b"], ""),
+]
+LONG = "a name that is too long for a picture"
+# Files, and options, whose pictures are compared.
+PICTURES = [
+    (f"{LONG}, as it is the name of the file.csv", "size\n1\n2\n", []),
+    ("t.csv", "size\n1\n2\n", ["--where", f"size > 1 and not size = {'1' * 18} or size < -1e300"
+                                " or size > 123456789 or size >= 12345678"]),
+    ("t.csv", f"{LONG},b\n1,2\n2,3\n", ["--where", "b > 2"]),
+    ("t.csv", "\u8868\u8a08\u7b97" * 20 + "\n" + "1.5\n" * 341, []),
+    ("t.csv", "n\n" + "".join(f"{i * 9 ** 18}\n" for i in range(-60, 61)),
+     ["--where", "n > 0 or n < -9e18"]),
+    ("t.csv", "n\n" + "".join(f"{i}\n" for i in range(487)), ["--where", "n <> 7 and n <> 250"]),
+    ("t.csv", "n\n", ["--where", "n is null"]),
+]
 
 
 @dataclass
@@ -67,6 +179,9 @@ class Query:
     status: int = 0
     files: dict[str, bytes] = field(default_factory=dict)
     written: dict[str, bytes] = field(default_factory=dict)
+    # The file that is standard input, or what a pipe has; else standard input is empty.
+    given: str = ""
+    piped: bytes = b""
 
 
 class Table:
@@ -96,6 +211,8 @@ class Table:
             f'"{name}" {sign} {self.literal(kind)}',
             f'{self.literal(kind)} {sign} "{name}"',
             f'"{name}" {sign} {self.chance.choice(others)}',
+            f'"{name}" in ({self.literal(kind)}, {self.literal(kind)})',
+            f'"{name}" not in ({self.literal(kind)})',
             f'"{name}" is null',
             f'"{name}" is not null',
         ])
@@ -171,6 +288,7 @@ def of_seed(seed: int) -> list[Query]:
             Query(name + "rows", [*line, "--rows"], table.rows_of(kept), files=files),
             Query(name + "answers", [*line, "--select", ", ".join(answers)], found, files=files),
             nth(name, line, table, kept, chance.randint(1, 9), files),
+            of_columns(name, line, table, kept, chance.choices(range(len(KINDS)), k=3), files),
         ]
     return cases + like_demo(seed, table, file, given)
 
@@ -185,12 +303,76 @@ def nth(name: str, line: list[str], table: Table, kept: list[int], which: int,
     return Query(f"{name}row {which}", line, table.shown(kept[which - 1]), files=files, written=out)
 
 
+def of_columns(name: str, line: list[str], table: Table, kept: list[int], columns: list[int],
+               files: dict[str, bytes]) -> Query:
+    """Some columns of the rows that are kept, in any order."""
+    names = list(KINDS)
+    rows = [names, *(table.rows[number - 1] for number in kept)]
+    out = written([[row[column] for column in columns] for row in rows])
+    listed = ", ".join(f'"{names[column]}"' for column in columns)
+    line = [*line, "--rows", "--columns", listed]
+    return Query(f"{name}columns {listed}", line, out, files=files)
+
+
 def like_demo(seed: int, table: Table, file: bytes, given: list[str]) -> list[Query]:
     """A report and a picture as demo/'s program makes them, if it is there."""
     if not DEMO.is_file():
         return []
     line = ["t.csv", "--where", table.condition(), *given, "--svg", "picture.svg"]
     return [from_demo(f"seed {seed}, report", line, {"t.csv": file})]
+
+
+def more() -> list[Query]:
+    """Columns of one name, columns that are written, standard input, short rows, and pictures."""
+    row = [["1", "x", "2.5", "", "z"]]
+    of_names = {"t.csv": written([NAMED, *row])}
+    columns = [Query(f"--columns {it}", ["t.csv", "--rows", "--columns", it],
+                     written([[line[at] for at in places] for line in [NAMED, *row]]),
+                     files=of_names) for it, places in COLUMNS]
+    alike = [Query(f"columns of one name, {line}", ["t.csv", *line], b"", alike_text(*case), 2,
+                   {"t.csv": ALIKE}) for line, *case in ALIKE_CASES]
+    short = [Query(f"short rows {file!r}", ["t.csv", "--short-rows", "--no-header", "--select",
+                                            f"count(*), count(c{width})"],
+                   counted(file, width), files={"t.csv": file}) for file, width in SHORT]
+    pictures = [from_demo(f"the picture of {name}, {line}", [name, *line, "--svg", "picture.svg"],
+                          {name: file.encode()}) for name, file, line in PICTURES if DEMO.is_file()]
+    means = [Query(f"the mean of {values}", ["t.csv", "--select", "avg(a)"],
+                   f"avg(a)\n{mean}\n".encode(), files={"t.csv": written([["a", "b"], *(
+                       [value, "0"] for value in values)])}) for values, mean in MEANS]
+    return [*columns, *alike, *short, *pictures, *means, *of_input()]
+
+
+def alike_text(option: str, name: str, count: int, first: int, second: int, pointed: str) -> str:
+    return (f'{option}: {count} columns are called "{name}", as column {first} and column '
+            f"{second}; rename them in the first line of the file, or read it as a row by "
+            f"--no-header, which calls them c{first} and c{second}\n{pointed}")
+
+
+def counted(file: bytes, width: int) -> bytes:
+    """How many rows there are, and how many have a value in the last column."""
+    rows = [row for row in csv.reader(io.StringIO(file.decode())) if row or width == 1]
+    values = sum(len(row) == width and row[-1] != "" for row in rows)
+    return written([["count(*)", f"count(c{width})"], [len(rows), values]])
+
+
+def of_input() -> list[Query]:
+    """Standard input: a file is read, a pipe and what is no file are refused."""
+    file = b"a,b\n1,x\n2,y\n"
+    files = {"t.csv": file}
+    refused = "/dev/stdin: not a regular file; it is read twice, so save the data to a file first\n"
+    over = "t.csv: this is the CSV file, which would be written over\n"
+    return [
+        Query("input, rows", ["-", "--rows"], file, files=files, given="t.csv"),
+        Query("input, answers", ["--select", "sum(a)", "-"], b"sum(a)\n3\n", files=files,
+              given="t.csv"),
+        Query("input behind --", ["--nth=2", "--", "-"], b"row 2, from line 3 on\n  a  2\n  b  y\n",
+              files=files, given="t.csv"),
+        Query("input that is short", ["-", "--rows", "--short-rows", "--no-header"], b"1,\n2,3\n",
+              files={"t.csv": b"1\n2,3\n"}, given="t.csv"),
+        Query("input that --out would change", ["-", "--out", "t.csv"], b"", over, 2, files,
+              given="t.csv"),
+        Query("a pipe", ["-", "--rows"], b"", refused, 2, piped=file),
+    ]
 
 
 def from_demo(name: str, line: list[str], files: dict[str, bytes]) -> Query:
@@ -223,4 +405,4 @@ def of_query() -> list[Query]:
     if not DEMO.is_file():
         print(f"not compared: {SEEDS} reports and pictures of run_query, since there is no "
               "demo/target/release/query; demo/query builds it", file=sys.stderr)
-    return [*fixed(), *(case for seed in range(SEEDS) for case in of_seed(seed))]
+    return [*fixed(), *more(), *(case for seed in range(SEEDS) for case in of_seed(seed))]
