@@ -8,10 +8,12 @@ use crate::lanes::CompareLanes;
 use crate::test::Test;
 use std::marker::PhantomData;
 
-/// Truth values, of which 64 in a row are made at once.
-pub(crate) trait Truths {
-    /// Eight words of vectors are made sooner of eight values each than one of 64: so it is of
-    /// values of eight bytes and more, of which a vector has few.
+/// Truth values by position, such as the results of a comparison: one, or 64 in a row at once.
+///
+/// [`write_truths`](crate::write_truths) writes them as bits.
+pub trait Truths {
+    /// Whether 64 are made sooner as eight times eight, by [`one`](Truths::one), than at once: so
+    /// it is of whole numbers of eight bytes and more, of which a vector has few.
     const IS_WIDE: bool;
 
     // The truth values.

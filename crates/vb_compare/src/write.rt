@@ -9,9 +9,12 @@ use crate::digits::{store_word, write_digits, write_in_byte};
 use crate::few::{eight, last_values, word_from};
 use crate::truths::Truths;
 
-/// Writes the truth values to the bits of `out` from bit `offset` on, and leaves every other bit.
+/// Writes the truth values to the bits of `out` from bit `offset` on. No other bit changes.
+///
+/// These bits have to lie in `out`, and `offset` plus the number of truth values has to fit in a
+/// `usize`. The call is inlined, so that each kind of truth values has loops of its own.
 #[inline(always)]
-pub(crate) fn write_truths<S: Truths>(out: &mut [u8], offset: usize, source: &S)
+pub fn write_truths<S: Truths>(out: &mut [u8], offset: usize, source: &S)
     requires { InBytes out.old offset (length (S.truths source.now)) }
     ensures { Writes out.old out.new offset (S.truths source.now) }
 {
