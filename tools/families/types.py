@@ -121,6 +121,8 @@ COMPARED = [*INDICES, I8, I16, I32, I64, *FLOATS]
 LANES = {name: [it for it in numbers if it.bits < 128] for name, numbers in WHOLE.items()}
 # How floats compare, by the name of the call and by that of IEEE 754.
 FLOAT_TESTS = {"equal": "eq", "not_equal": "ne", "less": "lt", "less_or_equal": "le"}
+# The operators of two floats, by the name of the call.
+FLOAT_SIGNS = {"equal": "==", "not_equal": "!=", "less": "<", "less_or_equal": "<="}
 
 
 @dataclass(frozen=True)

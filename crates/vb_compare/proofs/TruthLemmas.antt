@@ -2,7 +2,7 @@
 use Rattle.std.proofs.Common.{◌≡◌, ℕ, suc, zero, ◌+◌, ◌-◌, ◌*◌, ◌/◌, ◌^◌, ◌<◌, ◌≤◌, Bool, not}
 use Rattle.std.proofs.Common.{List, [], ◌∷◌, ◌++◌, length, map, take, drop, replicate, refl, sym}
 use Rattle.std.proofs.Common.{ap, ◌∙◌, arith, false, get_or}
-use Rattle.std.proofs.lemmas.List.{take-map, take-take, take-replicate, take_all, take-append-drop}
+use Rattle.std.proofs.lemmas.List.{take-map, take-take, take_all, take-append-drop}
 use Rattle.std.proofs.lemmas.List.{drop-map, drop-drop, length-map, length-drop, length-take-le}
 use Rattle.std.proofs.lemmas.Simd.{zip2_splat, length-zip2, get_or-zip2, map-map}
 use Rattle.std.proofs.Math.Seq.{take-add, take-append_seam}
@@ -91,19 +91,6 @@ module _ {X Y : Type 0} (s : Y → Y → Bool) (f : X → Y) (y : Y) (xs : List 
       ∙ sym (ap (take 64) (drop-map (λ x. s (f x) y) at xs)
       ∙ take-map (λ x. s (f x) y) 64 (drop at xs))
 
-  pub few_to_number : (w : ℕ) (zs : List Y) → length (map (λ x. s (f x) y) xs) < 64
-      → take (length xs) zs ≡ map f xs
-      → digits w 0 64 ≡ zip2 s zs (replicate 64 y)
-      → digits w 0 (length (map (λ x. s (f x) y) xs)) ≡ map (λ x. s (f x) y) xs
-  few_to_number w zs few front e =
-      let n : ℕ = length xs in
-      let few_values : n < 64 = omega (arith, length-map xs (λ x. s (f x) y)) in
-      ap (digits w 0) (length-map xs (λ x. s (f x) y)) ∙ take-digits w n 64 (omega arith)
-      ∙ ap (take n) e ∙ take-zip2 s n zs (replicate 64 y)
-      ∙ ap (λ l. zip2 s l (take n (replicate 64 y))) front
-      ∙ ap (zip2 s (map f xs)) (take-replicate n 64 y (omega arith))
-      ∙ zip2_splat s (map f xs) n y (length-map xs f) ∙ map-map (λ z. s z y) f xs
-
 -- ---- values and others
 module _ {X Y : Type 0} (s : Y → Y → Bool) (f : X → Y) where
   -- by what is compared
@@ -143,20 +130,6 @@ module _ {X Y : Type 0} (s : Y → Y → Bool) (f : X → Y) where
       ∙ zip2-values (take 64 (drop at xs)) (take 64 (drop at ys))
       ∙ sym (ap (take 64) (drop-zip2 answer at xs ys)
       ∙ take-zip2 answer 64 (drop at xs) (drop at ys))
-
-  pub few_to_others : (w : ℕ) (xs ys : List X) (zs us : List Y) → length ys ≡ length xs
-      → length (zip2 (λ x y. s (f x) (f y)) xs ys) < 64
-      → take (length xs) zs ≡ map f xs → take (length ys) us ≡ map f ys
-      → digits w 0 64 ≡ zip2 s zs us
-      → digits w 0 (length (zip2 (λ x y. s (f x) (f y)) xs ys)) ≡ zip2 (λ x y. s (f x) (f y)) xs ys
-  few_to_others w xs ys zs us same few left right e =
-      let n : ℕ = length xs in
-      let size = length_paired (λ x y. s (f x) (f y)) xs ys same in
-      ap (digits w 0) size ∙ take-digits w n 64 (omega arith)
-      ∙ ap (take n) e ∙ take-zip2 s n zs us
-      ∙ ap (λ l. zip2 s l (take n us)) left
-      ∙ ap (λ k. zip2 s (map f xs) (take k us)) (sym same)
-      ∙ ap (zip2 s (map f xs)) right ∙ zip2-values xs ys
 
 -- ---- a list cut where words begin
 -- one word more

@@ -6,16 +6,17 @@ ghost use Rattle.vb_bits.specs.Writes.{Writes};
 ghost use Rattle.vb_float.specs.Floats.{compares_floats};
 
 use crate::lanes::FloatLanes;
-use crate::test::{IsEqual, IsGreater, IsGreaterOrEqual, IsLess, IsLessOrEqual, IsNotEqual, Test};
-use crate::write::write_digits;
-use vb_compare::Comparison;
+use crate::test::{IsEqual, IsGreater, IsGreaterOrEqual, IsLess, IsLessOrEqual, IsNotEqual};
+use crate::truths::{ToNumber, ToOthers};
+use vb_compare::{Comparison, write_truths};
 
 /// Writes to bit `offset + k` of `out`, for each `k` below the number of values, how `values[k]`
 /// compares with `number`. No other bit changes.
 ///
 /// These bits have to lie in `out`, and `offset` plus the number of values has to fit in a `usize`.
 ///
-/// 64 values are compared at once by vectors; fewer than 64 are copied to the front of 64 first.
+/// 64 values are compared at once by vectors; fewer than 64 by eights, and fewer than eight one by
+/// one.
 pub fn compare_floats_into<T: FloatLanes>(
     out: &mut [u8],
     offset: usize,
@@ -28,12 +29,28 @@ pub fn compare_floats_into<T: FloatLanes>(
         (map (λ value. compares_floats op (T.float value) (T.float number)) values.now) }
 {
     match op {
-        Comparison::Equal => to_number::<T, IsEqual>(out, offset, values, number),
-        Comparison::NotEqual => to_number::<T, IsNotEqual>(out, offset, values, number),
-        Comparison::Less => to_number::<T, IsLess>(out, offset, values, number),
-        Comparison::LessOrEqual => to_number::<T, IsLessOrEqual>(out, offset, values, number),
-        Comparison::Greater => to_number::<T, IsGreater>(out, offset, values, number),
-        Comparison::GreaterOrEqual => to_number::<T, IsGreaterOrEqual>(out, offset, values, number),
+        Comparison::Equal => {
+            write_truths(out, offset, &ToNumber::<T, IsEqual>::new(values, number))
+        }
+        Comparison::NotEqual => {
+            write_truths(out, offset, &ToNumber::<T, IsNotEqual>::new(values, number))
+        }
+        Comparison::Less => {
+            write_truths(out, offset, &ToNumber::<T, IsLess>::new(values, number))
+        }
+        Comparison::LessOrEqual => write_truths(
+            out,
+            offset,
+            &ToNumber::<T, IsLessOrEqual>::new(values, number),
+        ),
+        Comparison::Greater => {
+            write_truths(out, offset, &ToNumber::<T, IsGreater>::new(values, number))
+        }
+        Comparison::GreaterOrEqual => write_truths(
+            out,
+            offset,
+            &ToNumber::<T, IsGreaterOrEqual>::new(values, number),
+        ),
     }
 }
 
@@ -43,7 +60,9 @@ pub fn compare_floats_into<T: FloatLanes>(
 /// There have to be as many others. These bits have to lie in `out`, and `offset` plus the number
 /// of values has to fit in a `usize`.
 ///
-/// 64 values are compared at once by vectors; fewer than 64 are copied to the front of 64 first.
+/// 64 values are compared at once by vectors; fewer than 64 by eights, and fewer than eight one by
+/// one.
+#[tactic(auto, using(vb_compare::proofs::TruthLemmas::length_paired))]
 pub fn compare_floats_with_into<T: FloatLanes>(
     out: &mut [u8],
     offset: usize,
@@ -58,44 +77,27 @@ pub fn compare_floats_with_into<T: FloatLanes>(
         values.now others.now) }
 {
     match op {
-        Comparison::Equal => to_others::<T, IsEqual>(out, offset, values, others),
-        Comparison::NotEqual => to_others::<T, IsNotEqual>(out, offset, values, others),
-        Comparison::Less => to_others::<T, IsLess>(out, offset, values, others),
-        Comparison::LessOrEqual => to_others::<T, IsLessOrEqual>(out, offset, values, others),
-        Comparison::Greater => to_others::<T, IsGreater>(out, offset, values, others),
-        Comparison::GreaterOrEqual => to_others::<T, IsGreaterOrEqual>(out, offset, values, others),
+        Comparison::Equal => {
+            write_truths(out, offset, &ToOthers::<T, IsEqual>::new(values, others))
+        }
+        Comparison::NotEqual => {
+            write_truths(out, offset, &ToOthers::<T, IsNotEqual>::new(values, others))
+        }
+        Comparison::Less => {
+            write_truths(out, offset, &ToOthers::<T, IsLess>::new(values, others))
+        }
+        Comparison::LessOrEqual => write_truths(
+            out,
+            offset,
+            &ToOthers::<T, IsLessOrEqual>::new(values, others),
+        ),
+        Comparison::Greater => {
+            write_truths(out, offset, &ToOthers::<T, IsGreater>::new(values, others))
+        }
+        Comparison::GreaterOrEqual => write_truths(
+            out,
+            offset,
+            &ToOthers::<T, IsGreaterOrEqual>::new(values, others),
+        ),
     }
-}
-
-/// Writes what `C` answers of each value and the number.
-fn to_number<T: FloatLanes, C: Test>(out: &mut [u8], offset: usize, values: &[T], number: T)
-    requires window { InBytes out.old offset (length values.now) }
-    ensures { Writes out.old out.new offset
-        (map (λ value. C.holds (T.float value) (T.float number)) values.now) }
-{
-    let whole = values.len() / 64;
-    for k in 0..whole {
-        let word = C::word::<T>(T::load(&values[64 * k..]), T::splat(number));
-        write_digits(out, offset + 64 * k, 64, word);
-    }
-    let rest = &values[64 * whole..];
-    let last = C::word::<T>(T::load_few(rest), T::splat(number));
-    write_digits(out, offset + 64 * whole, rest.len(), last);
-}
-
-/// Writes what `C` answers of each value and the one of the others at its place.
-fn to_others<T: FloatLanes, C: Test>(out: &mut [u8], offset: usize, values: &[T], others: &[T])
-    requires others { length others.now ≡ length values.now }
-    requires window { InBytes out.old offset (length values.now) }
-    ensures { Writes out.old out.new offset
-        (zip2 (λ left right. C.holds (T.float left) (T.float right)) values.now others.now) }
-{
-    let whole = values.len() / 64;
-    for k in 0..whole {
-        let (left, right) = (T::load(&values[64 * k..]), T::load(&others[64 * k..]));
-        write_digits(out, offset + 64 * k, 64, C::word::<T>(left, right));
-    }
-    let (rest, behind) = (&values[64 * whole..], &others[64 * whole..]);
-    let last = C::word::<T>(T::load_few(rest), T::load_few(behind));
-    write_digits(out, offset + 64 * whole, rest.len(), last);
 }

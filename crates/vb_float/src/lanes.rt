@@ -1,5 +1,5 @@
 //! Floats that are compared 64 at a time.
-ghost use Rattle.std.specs.Prelude.{◌≡◌, ◌<◌, ◌≤◌, List, length, map, replicate, take};
+ghost use Rattle.std.specs.Prelude.{◌≡◌, ◌≤◌, List, length, map, replicate, take};
 ghost use Rattle.std.specs.Simd.Lanes.{zip2};
 ghost use Rattle.vb_bits.specs.Digits.{digits};
 ghost use lib.Ieee.{Float, eq, ne, lt, le};
@@ -21,11 +21,6 @@ pub trait FloatLanes: Copy {
     fn load(values: &[Self]) -> Self::Block
         requires { 64 ≤ length values.now }
         ensures { floats result ≡ map float (take 64 values.now) };
-
-    /// The values, fewer than 64, and behind them any others.
-    fn load_few(values: &[Self]) -> Self::Block
-        requires { length values.now < 64 }
-        ensures { take (length values.now) (floats result) ≡ map float values.now };
 
     /// One value, 64 times.
     fn splat(value: Self) -> Self::Block
@@ -50,6 +45,22 @@ pub trait FloatLanes: Copy {
     /// one or equal to it.
     fn less_or_equal(left: Self::Block, right: Self::Block) -> u64
         ensures { digits result 0 64 ≡ zip2 le (floats left) (floats right) };
+
+    /// Whether this value is equal to the other one.
+    fn is_equal(self, other: Self) -> bool
+        ensures { result ≡ eq (float self) (float other) };
+
+    /// Whether this value isn't equal to the other one.
+    fn is_not_equal(self, other: Self) -> bool
+        ensures { result ≡ ne (float self) (float other) };
+
+    /// Whether this value is below the other one.
+    fn is_less(self, other: Self) -> bool
+        ensures { result ≡ lt (float self) (float other) };
+
+    /// Whether this value is below the other one or equal to it.
+    fn is_less_or_equal(self, other: Self) -> bool
+        ensures { result ≡ le (float self) (float other) };
 }
 
 impl FloatLanes for f64 {
@@ -62,12 +73,6 @@ impl FloatLanes for f64 {
     #[inline(always)]
     fn load(values: &[f64]) -> Simd<f64, 64> {
         Simd::<f64, 64>::from_slice(values)
-    }
-
-    fn load_few(values: &[f64]) -> Simd<f64, 64> {
-        let mut block = [0.0; 64];
-        block[..values.len()].copy_from_slice(values);
-        Simd::<f64, 64>::from_array(block)
     }
 
     #[inline(always)]
@@ -94,6 +99,26 @@ impl FloatLanes for f64 {
     fn less_or_equal(left: Simd<f64, 64>, right: Simd<f64, 64>) -> u64 {
         left.simd_le(right).to_bitmask()
     }
+
+    #[inline(always)]
+    fn is_equal(self, other: f64) -> bool {
+        self == other
+    }
+
+    #[inline(always)]
+    fn is_not_equal(self, other: f64) -> bool {
+        self != other
+    }
+
+    #[inline(always)]
+    fn is_less(self, other: f64) -> bool {
+        self < other
+    }
+
+    #[inline(always)]
+    fn is_less_or_equal(self, other: f64) -> bool {
+        self <= other
+    }
 }
 
 impl FloatLanes for f32 {
@@ -106,12 +131,6 @@ impl FloatLanes for f32 {
     #[inline(always)]
     fn load(values: &[f32]) -> Simd<f32, 64> {
         Simd::<f32, 64>::from_slice(values)
-    }
-
-    fn load_few(values: &[f32]) -> Simd<f32, 64> {
-        let mut block = [0.0; 64];
-        block[..values.len()].copy_from_slice(values);
-        Simd::<f32, 64>::from_array(block)
     }
 
     #[inline(always)]
@@ -137,5 +156,25 @@ impl FloatLanes for f32 {
     #[inline(always)]
     fn less_or_equal(left: Simd<f32, 64>, right: Simd<f32, 64>) -> u64 {
         left.simd_le(right).to_bitmask()
+    }
+
+    #[inline(always)]
+    fn is_equal(self, other: f32) -> bool {
+        self == other
+    }
+
+    #[inline(always)]
+    fn is_not_equal(self, other: f32) -> bool {
+        self != other
+    }
+
+    #[inline(always)]
+    fn is_less(self, other: f32) -> bool {
+        self < other
+    }
+
+    #[inline(always)]
+    fn is_less_or_equal(self, other: f32) -> bool {
+        self <= other
     }
 }

@@ -8,7 +8,7 @@
 mod compare;
 mod lanes;
 mod test;
-mod write;
+mod truths;
 
 pub use compare::{compare_floats_into, compare_floats_with_into};
 pub use lanes::FloatLanes;

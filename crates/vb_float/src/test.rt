@@ -11,6 +11,10 @@ pub(crate) trait Test {
     // What it answers of two floats.
     ghost holds: { Float → Float → Bool };
 
+    /// What it answers of two values.
+    fn one<T: FloatLanes>(left: T, right: T) -> bool
+        ensures { result ≡ holds (T.float left) (T.float right) };
+
     /// The word whose digit `k` is what it answers of value `k` of each block.
     fn word<T: FloatLanes>(left: T::Block, right: T::Block) -> u64
         ensures { digits result 0 64 ≡ zip2 holds (T.floats left) (T.floats right) };
@@ -21,6 +25,11 @@ pub(crate) struct IsEqual;
 
 impl Test for IsEqual {
     ghost holds = { eq };
+
+    #[inline(always)]
+    fn one<T: FloatLanes>(left: T, right: T) -> bool {
+        left.is_equal(right)
+    }
 
     #[inline(always)]
     fn word<T: FloatLanes>(left: T::Block, right: T::Block) -> u64 {
@@ -35,6 +44,11 @@ impl Test for IsNotEqual {
     ghost holds = { ne };
 
     #[inline(always)]
+    fn one<T: FloatLanes>(left: T, right: T) -> bool {
+        left.is_not_equal(right)
+    }
+
+    #[inline(always)]
     fn word<T: FloatLanes>(left: T::Block, right: T::Block) -> u64 {
         T::not_equal(left, right)
     }
@@ -45,6 +59,11 @@ pub(crate) struct IsLess;
 
 impl Test for IsLess {
     ghost holds = { lt };
+
+    #[inline(always)]
+    fn one<T: FloatLanes>(left: T, right: T) -> bool {
+        left.is_less(right)
+    }
 
     #[inline(always)]
     fn word<T: FloatLanes>(left: T::Block, right: T::Block) -> u64 {
@@ -59,6 +78,11 @@ impl Test for IsLessOrEqual {
     ghost holds = { le };
 
     #[inline(always)]
+    fn one<T: FloatLanes>(left: T, right: T) -> bool {
+        left.is_less_or_equal(right)
+    }
+
+    #[inline(always)]
     fn word<T: FloatLanes>(left: T::Block, right: T::Block) -> u64 {
         T::less_or_equal(left, right)
     }
@@ -71,6 +95,11 @@ impl Test for IsGreater {
     ghost holds = { λ a b. lt b a };
 
     #[inline(always)]
+    fn one<T: FloatLanes>(left: T, right: T) -> bool {
+        right.is_less(left)
+    }
+
+    #[inline(always)]
     fn word<T: FloatLanes>(left: T::Block, right: T::Block) -> u64 {
         T::less(right, left)
     }
@@ -81,6 +110,11 @@ pub(crate) struct IsGreaterOrEqual;
 
 impl Test for IsGreaterOrEqual {
     ghost holds = { λ a b. le b a };
+
+    #[inline(always)]
+    fn one<T: FloatLanes>(left: T, right: T) -> bool {
+        right.is_less_or_equal(left)
+    }
 
     #[inline(always)]
     fn word<T: FloatLanes>(left: T::Block, right: T::Block) -> u64 {

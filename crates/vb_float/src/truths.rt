@@ -1,0 +1,99 @@
+//! What a comparison answers of floats, one or a word at a time.
+//!
+//! A word is one comparison of 64 for `f64` too: the compiler makes no vectors of comparisons of
+//! single floats, as it does of single whole numbers.
+ghost use Rattle.std.specs.Prelude.{◌≡◌, length, map};
+ghost use Rattle.std.specs.Simd.Lanes.{zip2};
+
+use crate::lanes::FloatLanes;
+use crate::test::Test;
+use std::marker::PhantomData;
+use vb_compare::Truths;
+
+/// What `C` answers of each float and one number.
+#[derive(Drop)]
+pub(crate) struct ToNumber<'a, T, C> {
+    values: &'a [T],
+    number: T,
+    test: PhantomData<C>,
+}
+
+impl<'a, T: FloatLanes, C: Test> ToNumber<'a, T, C> {
+    pub(crate) fn new(values: &'a [T], number: T) -> Self
+        ensures values { result.values.now ≡ values.now }
+        ensures number { result.number ≡ number }
+    {
+        ToNumber {
+            values,
+            number,
+            test: PhantomData,
+        }
+    }
+}
+
+impl<T: FloatLanes, C: Test> Truths for ToNumber<'_, T, C> {
+    const IS_WIDE: bool = false;
+
+    ghost truths = { λ s. map (λ v. C.holds (T.float v) (T.float s.number)) s.values.now };
+
+    #[inline(always)]
+    fn len(&self) -> usize {
+        self.values.len()
+    }
+
+    #[inline(always)]
+    fn one(&self, k: usize) -> bool {
+        C::one::<T>(self.values[k], self.number)
+    }
+
+    #[inline(always)]
+    fn word(&self, k: usize) -> u64 {
+        C::word::<T>(T::load(&self.values[k..]), T::splat(self.number))
+    }
+}
+
+/// What `C` answers of each float and of that at its place among others, which are as many.
+#[derive(Drop)]
+pub(crate) struct ToOthers<'a, T, C> {
+    values: &'a [T],
+    others: &'a [T],
+    test: PhantomData<C>,
+    ghost same_len: { length others.now ≡ length values.now },
+}
+
+impl<'a, T: FloatLanes, C: Test> ToOthers<'a, T, C> {
+    pub(crate) fn new(values: &'a [T], others: &'a [T]) -> Self
+        requires { length others.now ≡ length values.now }
+        ensures values { result.values.now ≡ values.now }
+        ensures others { result.others.now ≡ others.now }
+    {
+        ToOthers {
+            values,
+            others,
+            test: PhantomData,
+        }
+    }
+}
+
+#[tactic(auto, using(vb_compare::proofs::TruthLemmas::length_paired))]
+impl<T: FloatLanes, C: Test> Truths for ToOthers<'_, T, C> {
+    const IS_WIDE: bool = false;
+
+    ghost truths = { λ s. zip2 (λ v w. C.holds (T.float v) (T.float w))
+        s.values.now s.others.now };
+
+    #[inline(always)]
+    fn len(&self) -> usize {
+        self.values.len()
+    }
+
+    #[inline(always)]
+    fn one(&self, k: usize) -> bool {
+        C::one::<T>(self.values[k], self.others[k])
+    }
+
+    #[inline(always)]
+    fn word(&self, k: usize) -> u64 {
+        C::word::<T>(T::load(&self.values[k..]), T::load(&self.others[k..]))
+    }
+}
