@@ -85,20 +85,21 @@ byte_at_part : (j n : ℕ) → byte_at j n ≡ n / 2 ^ (8 * j) % 2 ^ 8
 byte_at_part zero n = ap (λ x. x % 256) (sym (div-one n))
 byte_at_part (suc j) n = ap (λ x. n / x % 256) (pow_256 (suc j))
 
--- byte j of a word
-pub get_or-to_le_bytes : (w j : ℕ)
-    → j < 8 → get_or (to_le_bytes w64 w) j 0 ≡ w / 2 ^ (8 * j) % 2 ^ 8
-get_or-to_le_bytes w j h =
-    get_or-bytes_low_first 0 8 w j h ∙ ap (λ x. byte_at x w) (zero-add j) ∙ byte_at_part j w
-
--- a bit of a word's bytes is a digit of the word
-pub bit_of-to_le_bytes : (w i : ℕ) → i < 64 → bit_of (to_le_bytes w64 w) i ≡ has_bit w i
-bit_of-to_le_bytes w i h =
+-- a bit of a number's bytes is a digit of the number
+bit_of-bytes_low_first : (k w i : ℕ)
+    → i < 8 * k → bit_of (bytes_low_first 0 k w) i ≡ has_bit w i
+bit_of-bytes_low_first k w i h =
     let e : 8 * (i / 8) + i % 8 ≡ i = omega arith in
-    ap (λ x. has_bit x (i % 8)) (get_or-to_le_bytes w (i / 8) (omega arith))
+    ap (λ x. has_bit x (i % 8)) (get_or-bytes_low_first 0 k w (i / 8) (omega arith)
+    ∙ ap (λ x. byte_at x w) (zero-add (i / 8)) ∙ byte_at_part (i / 8) w)
     ∙ has_bit_part w (8 * (i / 8)) 8 (i % 8) (omega arith) ∙ ap (has_bit w) e
+
+-- the bits of a number's bytes are its digits
+pub bits-bytes_low_first : (k w a n : ℕ)
+    → a + n ≤ 8 * k → bits (bytes_low_first 0 k w) a n ≡ digits w a n
+bits-bytes_low_first k w a n within = bits-digits (bytes_low_first 0 k w) a w a n
+    (λ i h. bit_of-bytes_low_first k w (a + i) (omega arith))
 
 -- the bits of a word's bytes are its digits
 pub bits-to_le_bytes : (w a n : ℕ) → a + n ≤ 64 → bits (to_le_bytes w64 w) a n ≡ digits w a n
-bits-to_le_bytes w a n within =
-    bits-digits (to_le_bytes w64 w) a w a n (λ i h. bit_of-to_le_bytes w (a + i) (omega arith))
+bits-to_le_bytes w a n within = bits-bytes_low_first 8 w a n within

@@ -1,6 +1,6 @@
 //! Many bytes of a slice read or written at once, and masks of one byte.
 ghost use Rattle.std.specs.Prelude.{◌≡◌, ◌+◌, ◌-◌, ◌*◌, ◌^◌, ◌≤◌, length, slice_range};
-ghost use Rattle.std.specs.Int.{w64, to_le_bytes};
+ghost use Rattle.std.specs.Int.{w16, w32, w64, to_le_bytes};
 ghost use Rattle.vb_bits.specs.Digits.{digits};
 ghost use Rattle.vb_bits.specs.Writes.{Writes};
 
@@ -22,6 +22,24 @@ pub fn word_at(bytes: &[u8], at: usize) -> u64
     ensures { to_le_bytes w64 result ≡ slice_range bytes.now at (at + 8) }
 {
     u64::from_le_bytes(u8x8::from_slice(&bytes[at..at + 8]).to_array())
+}
+
+/// The four bytes from `at` on, least significant first.
+#[inline(always)]
+pub(crate) fn four_at(bytes: &[u8], at: usize) -> u32
+    requires { at + 4 ≤ length bytes.now }
+    ensures { to_le_bytes w32 result ≡ slice_range bytes.now at (at + 4) }
+{
+    u32::from_le_bytes(u8x4::from_slice(&bytes[at..at + 4]).to_array())
+}
+
+/// The two bytes from `at` on, least significant first.
+#[inline(always)]
+pub(crate) fn two_at(bytes: &[u8], at: usize) -> u16
+    requires { at + 2 ≤ length bytes.now }
+    ensures { to_le_bytes w16 result ≡ slice_range bytes.now at (at + 2) }
+{
+    u16::from_le_bytes(u8x2::from_slice(&bytes[at..at + 2]).to_array())
 }
 
 /// Writes `word` into the eight bytes from `at` on, least significant first.

@@ -4,7 +4,8 @@ ghost use Rattle.vb_bits.specs.Bits.{bits};
 ghost use Rattle.vb_bits.specs.InBytes.{InBytes};
 
 use crate::bytes::word_at;
-use crate::read::{read_bits, shifted_word};
+use crate::read::{read_bits, read_in_eight, shifted_word};
+use crate::word::low_digits;
 
 /// How many words are compared before it is seen whether they differ: a vector loop has no way out.
 const BLOCK_WORDS: usize = 64;
@@ -21,13 +22,25 @@ pub fn equal_bits(left: &[u8], l: usize, right: &[u8], r: usize, len: usize) -> 
     ensures { IsTrue result ↔ (bits left.now l len ≡ bits right.now r len) }
 {
     if len < 64 {
-        return equal_few(left, l, right, r, len);
+        equal_few(left, l, right, r, len)
+    } else {
+        equal_many(left, l, right, r, len)
     }
+}
+
+/// [`equal_bits`] of at least 64 bits.
+#[inline(never)]
+fn equal_many(left: &[u8], l: usize, right: &[u8], r: usize, len: usize) -> bool
+    requires many { 64 ≤ len }
+    requires left { InBytes left.now l len }
+    requires right { InBytes right.now r len }
+    ensures { IsTrue result ↔ (bits left.now l len ≡ bits right.now r len) }
+{
     let head = 64 - l % 64;
     let rest = len - 64;
-    equal_few(left, l, right, r, head)
+    equal_in_eight(left, l, right, r, head)
         && equal_words(left, (l + head) / 8, right, r + head, (len - head) / 64)
-        && equal_few(left, l + rest, right, r + rest, 64)
+        && equal_in_eight(left, l + rest, right, r + rest, 64)
 }
 
 /// [`equal_bits`] of at most 64 bits.
@@ -38,6 +51,19 @@ fn equal_few(left: &[u8], l: usize, right: &[u8], r: usize, len: usize) -> bool
     ensures { IsTrue result ↔ (bits left.now l len ≡ bits right.now r len) }
 {
     read_bits(left, l, len) == read_bits(right, r, len)
+}
+
+/// [`equal_few`] where each of the two has at least eight bytes.
+#[inline(always)]
+fn equal_in_eight(left: &[u8], l: usize, right: &[u8], r: usize, len: usize) -> bool
+    requires in_word { len ≤ 64 }
+    requires left_inside { l + len ≤ 8 * length left.now }
+    requires right_inside { r + len ≤ 8 * length right.now }
+    requires left_eight { 8 ≤ length left.now }
+    requires right_eight { 8 ≤ length right.now }
+    ensures { IsTrue result ↔ (bits left.now l len ≡ bits right.now r len) }
+{
+    low_digits(read_in_eight(left, l, len), len) == low_digits(read_in_eight(right, r, len), len)
 }
 
 /// [`equal_bits`] of `n` words of `left` from byte `a` on: those up to a multiple of 64 bytes,

@@ -3,18 +3,25 @@ ghost use Rattle.std.specs.Prelude.{◌≡◌, ◌+◌, ◌*◌, ◌^◌, ◌<�
 ghost use Rattle.vb_bits.specs.Bits.{bits};
 ghost use Rattle.vb_bits.specs.Digits.{digits};
 
-use crate::bytes::word_at;
+use crate::bytes::{four_at, two_at, word_at};
 use crate::word::low_digits;
 
 /// The bytes, at most eight, as one number: its lowest digits are those of the first byte, and its
 /// digits past the last byte are 0.
+///
+/// From two bytes on they are read by two loads that overlap, of four bytes or of two.
 pub fn read_u64_le(bytes: &[u8]) -> u64
     requires { length bytes.now ≤ 8 }
     ensures { digits result 0 64 ≡ bits bytes.now 0 64 }
 {
-    let mut eight = [0u8; 8];
-    eight[..bytes.len()].copy_from_slice(bytes);
-    u64::from_le_bytes(eight)
+    let n = bytes.len();
+    if n >= 4 {
+        return u64::from(four_at(bytes, 0)) | u64::from(four_at(bytes, n - 4)) << (8 * (n - 4));
+    }
+    if n >= 2 {
+        return u64::from(two_at(bytes, 0)) | u64::from(two_at(bytes, n - 2)) << (8 * (n - 2));
+    }
+    if n == 1 { u64::from(bytes[0]) } else { 0 }
 }
 
 /// The window of `count` bits from bit `at` on, at most 64, as one number: its lowest digit is bit
@@ -31,14 +38,35 @@ pub fn read_bits(bytes: &[u8], at: usize, count: usize) -> u64
 }
 
 /// [`read_bits`], with any digits from `count` on.
+#[inline(always)]
 fn read_shifted(bytes: &[u8], at: usize, count: usize) -> u64
     requires in_word { count ≤ 64 }
     requires inside { at + count ≤ 8 * length bytes.now }
     ensures { digits result 0 count ≡ bits bytes.now at count }
 {
+    if bytes.len() >= 8 {
+        read_in_eight(bytes, at, count)
+    } else {
+        read_u64_le(&bytes[at / 8..]) >> (at % 8)
+    }
+}
+
+/// [`read_shifted`] of at least eight bytes: by the word from the first byte on and the ninth byte,
+/// or where fewer are left by the last word.
+#[inline(always)]
+pub(crate) fn read_in_eight(bytes: &[u8], at: usize, count: usize) -> u64
+    requires in_word { count ≤ 64 }
+    requires inside { at + count ≤ 8 * length bytes.now }
+    requires eight { 8 ≤ length bytes.now }
+    ensures { digits result 0 count ≡ bits bytes.now at count }
+{
     let first = at / 8;
     let shift = at % 8;
-    let low = word_from(bytes, first) >> shift;
+    let left = bytes.len() - first;
+    if left < 8 {
+        return word_at(bytes, bytes.len() - 8) >> (8 * (7 - left)) >> (8 + shift);
+    }
+    let low = word_at(bytes, first) >> shift;
     if shift + count > 64 {
         low | u64::from(bytes[first + 8]) << (64 - shift)
     } else {
@@ -61,23 +89,6 @@ pub(crate) fn read_few(bytes: &[u8], at: usize, count: usize) -> u64
         low | u64::from(bytes[first + 1]) << (8 - shift)
     } else {
         low
-    }
-}
-
-/// The eight bytes from byte `first` on, or those that are left, as one number.
-///
-/// Fewer than eight are the upper ones of the last eight, where the slice has so many.
-fn word_from(bytes: &[u8], first: usize) -> u64
-    requires { first ≤ length bytes.now }
-    ensures { digits result 0 64 ≡ bits bytes.now (8 * first) 64 }
-{
-    let left = bytes.len() - first;
-    if left >= 8 {
-        word_at(bytes, first)
-    } else if bytes.len() >= 8 {
-        word_at(bytes, bytes.len() - 8) >> (8 * (7 - left)) >> 8
-    } else {
-        read_u64_le(&bytes[first..])
     }
 }
 

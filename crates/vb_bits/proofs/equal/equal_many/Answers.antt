@@ -1,7 +1,7 @@
 use Rattle.std.proofs.Common.{◌+◌, ◌-◌, ◌*◌, ◌/◌, ◌%◌, ◌∙◌, sym, arith}
 use Rattle.vb_bits.proofs.EqualLemmas.{same-three}
-use Rattle.vb_bits.proofs.equal.equal_bits.Goals as goal
-use Rattle.vb_bits.proofs.equal.equal_bits.Goals.{then-equal_few, else-equal_few}
+use Rattle.vb_bits.proofs.equal.equal_many.Goals as goal
+use Rattle.vb_bits.proofs.equal.equal_many.Goals.{then-equal_in_eight, else-equal_in_eight}
 
 pub returns-then-equal_words : goal.returns-then-equal_words
 returns-then-equal_words c =
@@ -14,17 +14,17 @@ returns-then-equal_words c =
     (64 * m) 64 k (8 * ((l + h) / 8)) (r + h) (l + (k - 64)) (r + (k - 64))
     (omega arith) (omega arith) (omega arith) (omega arith) (omega arith)
     (omega arith) (omega arith) in
-    elim c.if-equal_few.branch [
-      | then-equal_few w ↦ (
+    elim c.if-equal_in_eight.branch [
+      | then-equal_in_eight w ↦ (
         λ t. parts.1 (
-          c.equal_few-2.ensures.0 w.if-equal_few.true,
+          c.equal_in_eight.ensures.0 w.if-equal_in_eight.true,
           w.equal_words.ensures.0
               (sym w.value-is ∙ c.if-equal_words.true),
-          c.equal_few-then-equal_words.ensures.0 t,
+          c.equal_in_eight-then-equal_words.ensures.0 t,
         ),
-        λ e. c.equal_few-then-equal_words.ensures.1 (parts.0 e).2,
+        λ e. c.equal_in_eight-then-equal_words.ensures.1 (parts.0 e).2,
       )
-      | else-equal_few w ↦ absurd cc
+      | else-equal_in_eight w ↦ absurd cc
     ]
 
 pub returns-else-equal_words : goal.returns-else-equal_words
@@ -39,11 +39,11 @@ returns-else-equal_words c =
     (omega arith) (omega arith) (omega arith) (omega arith) (omega arith)
     (omega arith) (omega arith) in (
       λ t. absurd cc,
-      λ e. elim c.if-equal_few.branch [
-        | then-equal_few w ↦ w.value-is ∙ w.equal_words.ensures.1 (parts.0 e).1
-        | else-equal_few w ↦
-            let first = c.equal_few-2.ensures.1 (parts.0 e).0 in
-            let none = w.if-equal_few.false in
+      λ e. elim c.if-equal_in_eight.branch [
+        | then-equal_in_eight w ↦ w.value-is ∙ w.equal_words.ensures.1 (parts.0 e).1
+        | else-equal_in_eight w ↦
+            let first = c.equal_in_eight.ensures.1 (parts.0 e).0 in
+            let none = w.if-equal_in_eight.false in
             absurd cc
       ],
     )
