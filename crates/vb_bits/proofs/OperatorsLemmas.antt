@@ -1,6 +1,6 @@
 -- Lists of truth values combined place by place, and writes of what they are combined to.
-use Rattle.std.proofs.Common.{◌≡◌, ℕ, ◌+◌, ◌<◌, ◌≤◌, Bool, List, [], ◌∷◌, ◌++◌, length, get_or}
-use Rattle.std.proofs.Common.{refl, sym, ap, subst, ◌∙◌, arith}
+use Rattle.std.proofs.Common.{◌≡◌, ℕ, ◌+◌, ◌/◌, ◌^◌, ◌<◌, ◌≤◌, Bool, List, [], ◌∷◌, ◌++◌, length}
+use Rattle.std.proofs.Common.{get_or, refl, sym, ap, subst, ◌∙◌, arith, zero-add}
 use Rattle.std.proofs.lemmas.List.{same_lists}
 use Rattle.std.proofs.lemmas.Simd.{get_or-zip2, length-zip2}
 use Rattle.vb_bits.specs.Bits.{bits}
@@ -8,7 +8,8 @@ use Rattle.vb_bits.specs.Digits.{has_bit, digits}
 use Rattle.vb_bits.specs.Operators.{merged_by}
 use Rattle.vb_bits.specs.Writes.{Writes}
 use Rattle.vb_bits.proofs.BitsLemmas.{length-bits, bits-add}
-use Rattle.vb_bits.proofs.DigitsLemmas.{length-digits, at-digits}
+use Rattle.vb_bits.proofs.DigitsLemmas.{length-digits, at-digits, digits-add}
+use Rattle.vb_bits.proofs.ShiftLemmas.{digits_shr}
 use Rattle.vb_bits.proofs.WritesLemmas.{Writes_none, Writes-add, bits_outside}
 
 -- as many values as in one of the lists
@@ -70,27 +71,58 @@ pub Writes_merged_none : (f : Bool → Bool → Bool) (b s : List ℕ) (o p n : 
 Writes_merged_none f b s o p n e =
     Writes_none b o (merged_by f (bits b o n) (bits s p n)) (length-merged_bits f b s o p n ∙ e)
 
--- two windows, one right behind the other
+-- two windows, one right behind the other, with two lists
+Writes-merged_lists : (f : Bool → Bool → Bool) (b c d : List ℕ) (o p m n k : ℕ) (r t : List Bool)
+    → length r ≡ m → Writes b c o (merged_by f (bits b o m) r)
+    → Writes c d p (merged_by f (bits c p n) t)
+    → p ≡ o + m → k ≡ m + n → Writes b d o (merged_by f (bits b o k) (r ++ t))
+Writes-merged_lists f b c d o p m n k r t size one two at whole =
+    let same : length (bits b o m) ≡ length r = length-bits b o m ∙ sym size in
+    let long : length (merged_by f (bits b o m) r) ≡ m =
+    length-merged_by f (bits b o m) r same ∙ length-bits b o m in
+    let left : bits c p n ≡ bits b (o + m) n =
+    bits_outside b c o p n (merged_by f (bits b o m) r) one (omega arith)
+    ∙ ap (λ x. bits b x n) at in
+    subst (Writes b d o)
+    (ap (λ x. merged_by f (bits b o m) r ++ merged_by f x t) left
+    ∙ sym (merged_by-append f (bits b o m) (bits b (o + m) n) r t same)
+    ∙ ap (λ x. merged_by f x (r ++ t)) (sym (bits-add b o m n) ∙ ap (bits b o) (sym whole)))
+    (Writes-add b c d o p (merged_by f (bits b o m) r) (merged_by f (bits c p n) t) (omega arith)
+    one two)
+
+-- with two other windows, one right behind the other
 pub Writes-merged_by : (f : Bool → Bool → Bool) (b c d s : List ℕ) (o p u v m n k : ℕ)
     → Writes b c o (merged_by f (bits b o m) (bits s u m))
     → Writes c d p (merged_by f (bits c p n) (bits s v n))
     → p ≡ o + m → v ≡ u + m → k ≡ m + n → Writes b d o (merged_by f (bits b o k) (bits s u k))
 Writes-merged_by f b c d s o p u v m n k one two at from whole =
-    let long = length-merged_bits f b s o u m in
-    let left : bits c p n ≡ bits b (o + m) n =
-    bits_outside b c o p n (merged_by f (bits b o m) (bits s u m)) one (omega arith)
-    ∙ ap (λ x. bits b x n) at in
-    let right : bits s v n ≡ bits s (u + m) n = ap (λ x. bits s x n) from in
-    subst (Writes b d o)
-    (ap (λ x. merged_by f (bits b o m) (bits s u m) ++ merged_by f x (bits s v n)) left
-    ∙ ap (λ x. merged_by f (bits b o m) (bits s u m) ++ merged_by f (bits b (o + m) n) x) right
-    ∙ sym (merged_by-append f (bits b o m) (bits b (o + m) n)
-    (bits s u m) (bits s (u + m) n) (length-bits b o m ∙ sym (length-bits s u m)))
-    ∙ ap (λ x. merged_by f x (bits s u m ++ bits s (u + m) n))
-    (sym (bits-add b o m n) ∙ ap (bits b o) (sym whole))
-    ∙ ap (merged_by f (bits b o k)) (sym (bits-add s u m n) ∙ ap (bits s u) (sym whole)))
-    (Writes-add b c d o p (merged_by f (bits b o m) (bits s u m))
-    (merged_by f (bits c p n) (bits s v n)) (omega arith) one two)
+    subst (λ l. Writes b d o (merged_by f (bits b o k) l))
+    (ap (λ x. bits s u m ++ bits s x n) from
+    ∙ sym (bits-add s u m n) ∙ ap (bits s u) (sym whole))
+    (Writes-merged_lists f b c d o p m n k (bits s u m) (bits s v n) (length-bits s u m) one two at
+    whole)
+
+-- with the lowest digits of a number and those behind them
+pub Writes-merged_digits : (f : Bool → Bool → Bool) (b c d : List ℕ) (o p m n k w : ℕ)
+    → Writes b c o (merged_by f (bits b o m) (digits w 0 m))
+    → Writes c d p (merged_by f (bits c p n) (digits (w / 2 ^ m) 0 n))
+    → p ≡ o + m → k ≡ m + n → Writes b d o (merged_by f (bits b o k) (digits w 0 k))
+Writes-merged_digits f b c d o p m n k w one two at whole =
+    subst (λ l. Writes b d o (merged_by f (bits b o k) l))
+    (ap (λ l. digits w 0 m ++ l) (digits_shr w m n ∙ ap (λ x. digits w x n) (sym (zero-add m)))
+    ∙ sym (digits-add w 0 m n) ∙ ap (digits w 0) (sym whole))
+    (Writes-merged_lists f b c d o p m n k (digits w 0 m) (digits (w / 2 ^ m) 0 n)
+    (length-digits w 0 m) one two at whole)
+
+-- a number whose digits are a window, and one that is combined of it and of another one and written
+-- to that window
+pub Writes_merged_number : (f : Bool → Bool → Bool) (b c : List ℕ) (o n w x y : ℕ) → n ≤ 64
+    → digits x 0 n ≡ bits b o n
+    → ((i : ℕ) → i < 64 → has_bit w i ≡ f (has_bit x i) (has_bit y i))
+    → Writes b c o (digits w 0 n) → Writes b c o (merged_by f (bits b o n) (digits y 0 n))
+Writes_merged_number f b c o n w x y small left h written =
+    subst (Writes b c o) (digits-merged_by f w x y n small h
+    ∙ ap (λ z. merged_by f z (digits y 0 n)) left) written
 
 -- numbers whose digits are windows, and one that is combined of them and written to the first
 -- window

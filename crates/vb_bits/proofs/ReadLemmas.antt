@@ -31,6 +31,12 @@ pub digits-bits : (b : List ℕ) (w o n : ℕ)
 digits-bits b w o n h =
     sym (bits-digits b o w 0 n (λ i l. sym (h i l) ∙ ap (has_bit w) (sym (zero-add i))))
 
+-- fewer of the digits
+pub digits_front : (b : List ℕ) (w o n k : ℕ)
+    → digits w 0 n ≡ bits b o n → k ≤ n → digits w 0 k ≡ bits b o k
+digits_front b w o n k e h =
+    digits-bits b w o k (λ i l. has_bit-bits b w o n i e (omega arith))
+
 -- the digits from digit m on
 pub digits_inside : (b : List ℕ) (w o n m k p : ℕ) → digits w 0 n ≡ bits b o n → p ≡ o + m
     → m + k ≤ n → digits (w / 2 ^ m) 0 k ≡ bits b p k

@@ -9,7 +9,9 @@ use Rattle.std.proofs.lemmas.List.{get_or-replicate, get_or-append_right}
 use Rattle.std.proofs.lemmas.List.{replicate-append-replicate, map-append, set_split, append-nil}
 use Rattle.std.proofs.lemmas.List.{append_assoc, drop_all, get_or_push}
 use Rattle.std.proofs.lemmas.Bool.{cases_lt}
-use Rattle.std.specs.Int.{bit_not, from_bool, w64, to_le_bytes}
+use Rattle.std.proofs.lemmas.Simd.{put_chunk_whole}
+use Rattle.std.specs.Int.{bit_not, from_bool, w64, to_le_bytes, bytes_low_first}
+use Rattle.std.specs.Simd.Lanes.{put_chunk}
 use Rattle.std.specs.Prelude.{slice_range}
 use borrow.Rule.Slice.PartMut.{put_mid}
 use Rattle.vb_bits.specs.Bits.{bit_of, bits, complement}
@@ -18,7 +20,7 @@ use Rattle.vb_bits.specs.Edits.{with_part, with_fill}
 use Rattle.vb_bits.specs.Writes.{Writes, extension}
 use Rattle.vb_bits.proofs.BitsLemmas.{at-bits, length-bits, take-bits, drop-bits, bits-add}
 use Rattle.vb_bits.proofs.BitsLemmas.{same_bits}
-use Rattle.vb_bits.proofs.BytesLemmas.{bits-to_le_bytes, bits_of_read}
+use Rattle.vb_bits.proofs.BytesLemmas.{bits-to_le_bytes, bits-bytes_low_first, bits_of_read}
 use Rattle.vb_bits.proofs.DigitsLemmas.{digits-bit_not}
 use Rattle.vb_bits.proofs.WrittenLemmas.{IsWindowed, Written, Written_by_values, Written-at}
 use Rattle.vb_bits.proofs.WrittenLemmas.{Written-add}
@@ -128,6 +130,17 @@ Writes-put_mid b ys a k m long within e =
     ∙ at-bits ys 0 (8 * k) i d (omega arith) ∙ ap (bit_of ys) (zero-add i)))
     (λ i h. ap (λ x. has_bit x (i % 8)) (get_or-put_mid_outside a k b ys (i / 8) long within
     (elim h [ inl low ↦ inl (omega arith) | inr high ↦ inr (omega arith) ])))
+
+-- the k bytes of a number are written
+pub Writes_number : (b xs ys : List ℕ) (a k w z : ℕ) → ys ≡ bytes_low_first 0 k w → length ys ≡ k
+    → length xs ≡ k → z ≡ k → a + k ≤ length b
+    → Writes b (put_mid a z b (put_chunk 0 xs ys)) (8 * a) (digits w 0 (8 * k))
+Writes_number b xs ys a k w z is size long count within =
+    let over : put_chunk 0 xs ys ≡ ys = put_chunk_whole xs ys (long ∙ sym size) in
+    Writes-put_mid b (put_chunk 0 xs ys) a z (digits w 0 (8 * k))
+    (ap length over ∙ size ∙ sym count) (omega arith)
+    (ap (λ n. bits (put_chunk 0 xs ys) 0 (8 * n)) count ∙ ap (λ l. bits l 0 (8 * k)) over
+    ∙ ap (λ l. bits l 0 (8 * k)) is ∙ bits-bytes_low_first k w 0 (8 * k) (omega arith))
 
 -- a word is negated
 pub Writes_not_word : (b c : List ℕ) (a w : ℕ) → w < 2 ^ 64

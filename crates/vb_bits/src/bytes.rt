@@ -53,6 +53,24 @@ pub fn write_word(bytes: &mut [u8], at: usize, word: u64)
     u8x8::from_array(word.to_le_bytes()).copy_to_slice(&mut bytes[at..at + 8]);
 }
 
+/// Writes `word` into the four bytes from `at` on, least significant first.
+#[inline(always)]
+pub(crate) fn write_four(bytes: &mut [u8], at: usize, word: u32)
+    requires { at + 4 ≤ length bytes.old }
+    ensures { Writes bytes.old bytes.new (8 * at) (digits word 0 32) }
+{
+    u8x4::from_array(word.to_le_bytes()).copy_to_slice(&mut bytes[at..at + 4]);
+}
+
+/// Writes `word` into the two bytes from `at` on, least significant first.
+#[inline(always)]
+pub(crate) fn write_two(bytes: &mut [u8], at: usize, word: u16)
+    requires { at + 2 ≤ length bytes.old }
+    ensures { Writes bytes.old bytes.new (8 * at) (digits word 0 16) }
+{
+    u8x2::from_array(word.to_le_bytes()).copy_to_slice(&mut bytes[at..at + 2]);
+}
+
 /// Ones in the digits from `from` up to `to`, `to` excluded.
 pub(crate) fn byte_mask(from: usize, to: usize) -> u8
     requires ordered { from ≤ to }

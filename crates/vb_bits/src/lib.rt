@@ -9,6 +9,7 @@ mod bit;
 mod bytes;
 mod copy;
 mod equal;
+mod few;
 mod fill;
 mod lanes;
 mod map;

@@ -6,10 +6,11 @@ ghost use Rattle.vb_bits.specs.Operators.{merged_by};
 ghost use Rattle.vb_bits.specs.Writes.{Writes};
 
 use crate::bytes::{word_at, write_word};
+use crate::few::{merge_few, merge_in_eight};
 use crate::lanes::{shifted_words, words_at, write_words};
 use crate::operator::Merge;
-use crate::read::{full_word, read_bits, read_few};
-use crate::write::{write_few, write_in_byte};
+use crate::read::{full_word, read_few, read_in_eight};
+use crate::write::write_in_byte;
 
 /// From so many bits on, those up to a multiple of four words of `dst` are combined first: then no
 /// vector that is written reaches over a cache line where `dst` begins with one.
@@ -17,16 +18,33 @@ const MIN_ALIGNED_BITS: usize = 65_536;
 
 /// Combines each of the `len` bits of `dst` from bit `d` on with that of `src` from bit `s` on, and
 /// leaves every other bit of `dst`.
+///
+/// Which way they go is seen where it is called, so that few bits save no registers for many.
+#[inline(always)]
 pub(crate) fn merge_bits<M: Merge>(dst: &mut [u8], d: usize, src: &[u8], s: usize, len: usize)
     requires into { InBytes dst.old d len }
     requires from { InBytes src.now s len }
     ensures { Writes dst.old dst.new d
         (merged_by (M.bit) (bits dst.old d len) (bits src.now s len)) }
 {
-    if len < MIN_ALIGNED_BITS || d % 256 == 0 {
+    if len <= 64 {
+        merge_few::<M>(dst, d, src, s, len);
+    } else if len < MIN_ALIGNED_BITS || d % 256 == 0 {
         merge_run::<M>(dst, d, src, s, len);
-        return;
+    } else {
+        merge_aligned::<M>(dst, d, src, s, len);
     }
+}
+
+/// [`merge_bits`] of more than 64 bits, of which those up to a multiple of four words go first.
+#[inline(never)]
+fn merge_aligned<M: Merge>(dst: &mut [u8], d: usize, src: &[u8], s: usize, len: usize)
+    requires many { 256 ≤ len }
+    requires into { InBytes dst.old d len }
+    requires from { InBytes src.now s len }
+    ensures { Writes dst.old dst.new d
+        (merged_by (M.bit) (bits dst.old d len) (bits src.now s len)) }
+{
     let lead = 256 - d % 256;
     merge_run::<M>(dst, d, src, s, lead);
     merge_run::<M>(dst, d + lead, src, s + lead, len - lead);
@@ -34,9 +52,12 @@ pub(crate) fn merge_bits<M: Merge>(dst: &mut [u8], d: usize, src: &[u8], s: usiz
 
 /// [`merge_bits`] from wherever they begin: those of a partial first byte of `dst` by a mask, those
 /// behind it by words, and what is left by one word more.
+#[inline(never)]
 fn merge_run<M: Merge>(dst: &mut [u8], d: usize, src: &[u8], s: usize, len: usize)
     requires into { InBytes dst.old d len }
     requires from { InBytes src.now s len }
+    requires eight { 8 ≤ length dst.old }
+    requires eight_source { 8 ≤ length src.now }
     ensures { Writes dst.old dst.new d
         (merged_by (M.bit) (bits dst.old d len) (bits src.now s len)) }
 {
@@ -167,15 +188,14 @@ fn merge_word<M: Merge>(dst: &mut [u8], d: usize, src: &[u8], s: usize)
 fn merge_rest<M: Merge>(dst: &mut [u8], d: usize, src: &[u8], s: usize, len: usize)
     requires in_word { len ≤ 64 }
     requires whole { 0 < len → d % 8 ≡ 0 }
-    requires into { InBytes dst.old d len }
+    requires into { d + len ≤ 8 * length dst.old }
     requires from { s + len ≤ 8 * length src.now }
+    requires eight { 8 ≤ length dst.old }
+    requires eight_source { 8 ≤ length src.now }
     ensures { Writes dst.old dst.new d
         (merged_by (M.bit) (bits dst.old d len) (bits src.now s len)) }
 {
-    if len == 0 {
-        return;
+    if len > 0 {
+        merge_in_eight::<M>(dst, d, len, read_in_eight(src, s, len));
     }
-    let left = read_bits(dst, d, len);
-    let right = read_bits(src, s, len);
-    write_few(dst, d, len, M::word(left, right));
 }

@@ -39,7 +39,7 @@ pub fn read_bits(bytes: &[u8], at: usize, count: usize) -> u64
 
 /// [`read_bits`], with any digits from `count` on.
 #[inline(always)]
-fn read_shifted(bytes: &[u8], at: usize, count: usize) -> u64
+pub(crate) fn read_shifted(bytes: &[u8], at: usize, count: usize) -> u64
     requires in_word { count ≤ 64 }
     requires inside { at + count ≤ 8 * length bytes.now }
     ensures { digits result 0 count ≡ bits bytes.now at count }

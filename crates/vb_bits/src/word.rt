@@ -1,5 +1,5 @@
 //! The digits of words.
-ghost use Rattle.std.specs.Prelude.{◌≡◌, ◌^◌, ◌<◌, ◌≤◌};
+ghost use Rattle.std.specs.Prelude.{◌≡◌, ◌⊎◌, ℕ, ◌+◌, ◌^◌, ◌<◌, ◌≤◌};
 ghost use Rattle.vb_bits.specs.Digits.{digits, has_bit};
 
 /// Digit `i` of a word, from the lowest one on.
@@ -19,4 +19,17 @@ pub fn low_digits(word: u64, n: usize) -> u64
     ensures clear { result < 2 ^ n }
 {
     if n == 64 { word } else { word & ((1 << n) - 1) }
+}
+
+/// `old` with the `count` lowest digits of `word` in place of its own from digit `from` on.
+#[inline(always)]
+pub(crate) fn with_digits(old: u64, from: usize, count: usize, word: u64) -> u64
+    requires some { 0 < count }
+    requires in_word { from + count ≤ 64 }
+    ensures inside { digits result from count ≡ digits word 0 count }
+    ensures others { (i : ℕ) → i < 64 → (i < from) ⊎ (from + count ≤ i)
+        → has_bit result i ≡ has_bit old i }
+{
+    let mask = (u64::MAX >> (64 - count)) << from;
+    (old & !mask) | ((word << from) & mask)
 }

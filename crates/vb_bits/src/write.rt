@@ -1,10 +1,10 @@
 //! The lowest digits of a number written as bits.
-ghost use Rattle.std.specs.Prelude.{ℕ, ◌≡◌, ◌+◌, ◌*◌, ◌%◌, ◌^◌, ◌<◌, ◌≤◌, length};
+ghost use Rattle.std.specs.Prelude.{ℕ, ◌+◌, ◌*◌, ◌%◌, ◌^◌, ◌<◌, ◌≤◌, length};
 ghost use Rattle.vb_bits.specs.Digits.{digits};
-ghost use Rattle.vb_bits.specs.InBytes.{InBytes};
 ghost use Rattle.vb_bits.specs.Writes.{Writes};
 
-use crate::bytes::{byte_mask, word_at, write_word};
+use crate::bytes::{byte_mask, word_at, write_four, write_two, write_word};
+use crate::word::with_digits;
 
 /// Writes the `count` lowest digits of `word` to the bits from bit `at` on, which lie in one byte.
 pub(crate) fn write_in_byte(bytes: &mut [u8], at: usize, count: usize, word: u64)
@@ -21,51 +21,38 @@ pub(crate) fn write_in_byte(bytes: &mut [u8], at: usize, count: usize, word: u64
     bytes[at / 8] = (bytes[at / 8] & !mask) | (byte & mask);
 }
 
-/// Writes the `count` lowest digits of `word`, at most 64, to the bits from the first one of a byte
-/// on: into one word, which begins there or is the last one of the slice.
-pub(crate) fn write_few(bytes: &mut [u8], at: usize, count: usize, word: u64)
-    requires in_word { count ≤ 64 }
-    requires whole { 0 < count → at % 8 ≡ 0 }
-    requires window { InBytes bytes.old at count }
-    ensures { Writes bytes.old bytes.new at (digits word 0 count) }
-{
-    if count == 0 {
-        return;
-    }
-    if bytes.len() < 8 {
-        write_by_bytes(bytes, at, count, word);
-        return;
-    }
-    let first = (at / 8).min(bytes.len() - 8);
-    write_in_word(bytes, first, at - 8 * first, count, word);
-}
-
 /// Writes the `count` lowest digits of `word` to digits of the word from byte `first` on, from
 /// digit `from` on.
 #[inline(always)]
-fn write_in_word(bytes: &mut [u8], first: usize, from: usize, count: usize, word: u64)
+pub(crate) fn write_in_word(bytes: &mut [u8], first: usize, from: usize, count: usize, word: u64)
     requires some { 0 < count }
     requires in_word { from + count ≤ 64 }
     requires inside { first + 8 ≤ length bytes.old }
     ensures { Writes bytes.old bytes.new (8 * first + from) (digits word 0 count) }
 {
-    let mask = (u64::MAX >> (64 - count)) << from;
     let old = word_at(bytes, first);
-    write_word(bytes, first, (old & !mask) | ((word << from) & mask));
+    write_word(bytes, first, with_digits(old, from, count, word));
 }
 
-/// [`write_few`] where the slice has fewer than eight bytes: byte by byte.
-#[inline(always)]
-fn write_by_bytes(bytes: &mut [u8], at: usize, count: usize, word: u64)
-    requires in_word { count ≤ 64 }
-    requires whole { 0 < count → at % 8 ≡ 0 }
-    requires window { InBytes bytes.old at count }
-    ensures { Writes bytes.old bytes.new at (digits word 0 count) }
+/// Writes the lowest digits of `word` to all bits of the bytes, of which there are at most eight.
+///
+/// From two bytes on they are written by two stores that overlap, of four bytes or of two.
+pub(crate) fn write_u64_le(bytes: &mut [u8], word: u64)
+    requires { length bytes.old ≤ 8 }
+    ensures { Writes bytes.old bytes.new 0 (digits word 0 (8 * length bytes.old)) }
 {
-    let mut done = 0;
-    while done < count {
-        let n = (count - done).min(8);
-        write_in_byte(bytes, at + done, n, word >> done);
-        done += n;
+    let n = bytes.len();
+    if n >= 4 {
+        write_four(bytes, 0, (word & 0xFFFF_FFFF) as u32);
+        write_four(bytes, n - 4, ((word >> (8 * (n - 4))) & 0xFFFF_FFFF) as u32);
+        return;
+    }
+    if n >= 2 {
+        write_two(bytes, 0, (word & 0xFFFF) as u16);
+        write_two(bytes, n - 2, ((word >> (8 * (n - 2))) & 0xFFFF) as u16);
+        return;
+    }
+    if n == 1 {
+        bytes[0] = (word & 0xFF) as u8;
     }
 }

@@ -28,6 +28,7 @@ pub enum BitOp {
 /// `usize`.
 ///
 /// It goes by words of 64 bits, four at a time, whatever the two offsets are.
+#[inline(always)]
 pub fn zip_words(dst: &mut [u8], d: usize, src: &[u8], s: usize, len: usize, op: BitOp)
     requires into { InBytes dst.old d len }
     requires from { InBytes src.now s len }
