@@ -13,6 +13,8 @@ OF_C = re.compile(r"crates/vb_c(_\w+)?/src/")
 OF_THE_LIBRARY = {"vb_level", "vb_has_level"}
 # What the Rust crate does without a call.
 NOT_CALLED = {"vb_get_bit", "vb_pack_bools_padded", "vb_pack_truthy_padded"}
+# The forms of C functions for wide vectors, which bindings/wide gives the plain names.
+WIDE = "_wide"
 # The C functions that the library makes of several of a crate.
 MADE = re.compile(r"^\w+ (vb_\w+)\(", re.MULTILINE)
 
@@ -43,9 +45,13 @@ def c_functions(repository: Repository) -> list[str]:
     """The functions of the headers, of the Rust table, and of the crates, and how these are called."""
     crates, table = "crates/vb_c*", "bindings/rust/src/native.rs"
     sources = [text for path, text in repository.code.items() if OF_C.match(path)]
-    given = signatures.of_crate("\n".join(sources))
+    both = signatures.of_crate("\n".join(sources))
+    given = {name: it for name, it in both.items() if not name.endswith(WIDE)}
+    wide = {name.removesuffix(WIDE): it for name, it in both.items() if name.endswith(WIDE)}
+    found = differ(f"{crates}, wide", set(wide), crates, set(wide) & set(given))
+    found += signatures.differences(f"{crates}, wide", given, wide)
     native = signatures.of_table(repository.read(table))
-    declared, found = {}, []
+    declared = {}
     for header in headers(repository):
         own = signatures.of_header(repository.read(header))
         found += signatures.differences(header, given, own)

@@ -19,6 +19,16 @@ pub extern "C" fn vb_count_ones(bytes: &[u8], offset: usize, len: usize) -> usiz
     vb_count::count_ones(bytes, offset, len)
 }
 
+/// [`vb_count_ones`] for vectors of 32 bytes and more: adders count long windows. It is in no
+/// header: from x86-64-v3 on `bindings/build` gives it the name of the other.
+#[unsafe(no_mangle)]
+pub extern "C" fn vb_count_ones_wide(bytes: &[u8], offset: usize, len: usize) -> usize
+    requires window { InBytes bytes.now offset len }
+    ensures { result ≡ count (bits bytes.now offset len) }
+{
+    vb_count::count_ones_wide(bytes, offset, len)
+}
+
 /// Whether the window lies in the bytes; `ones` is then [`vb_count_ones`], and else as it was.
 #[unsafe(no_mangle)]
 pub extern "C" fn vb_try_count_ones(
@@ -34,6 +44,24 @@ pub extern "C" fn vb_try_count_ones(
         return false;
     }
     *ones = vb_count_ones(bytes, offset, len);
+    true
+}
+
+/// [`vb_try_count_ones`] by [`vb_count_ones_wide`], and named as that one.
+#[unsafe(no_mangle)]
+pub extern "C" fn vb_try_count_ones_wide(
+    bytes: &[u8],
+    offset: usize,
+    len: usize,
+    ones: &mut usize,
+) -> bool
+    ensures { DoneIf (InBytes bytes.now offset len)
+        (ones.new ≡ count (bits bytes.now offset len)) (ones.new ≡ ones.old) result }
+{
+    if !window_fits(bytes, offset, len) {
+        return false;
+    }
+    *ones = vb_count_ones_wide(bytes, offset, len);
     true
 }
 

@@ -31,6 +31,28 @@ pub extern "C" fn vb_select_unset(bytes: &[u8], offset: usize, len: usize, n: us
     vb_select::bit_select_unset(bytes, offset, len, n).into()
 }
 
+/// [`vb_select`] for vectors of 32 bytes and more: adders pass long windows. It is in no header:
+/// from x86-64-v3 on `bindings/build` gives it the name of the other.
+#[unsafe(no_mangle)]
+pub extern "C" fn vb_select_wide(bytes: &[u8], offset: usize, len: usize, n: usize) -> Place
+    requires window { InBytes bytes.now offset len }
+    ensures place { Selects (bits bytes.now offset len) n (answered_place result) }
+    ensures each { InvertsCount (bits bytes.now offset len) n (answered_place result) }
+{
+    vb_select::bit_select_wide(bytes, offset, len, n).into()
+}
+
+/// [`vb_select_unset`] for vectors of 32 bytes and more: adders pass long windows. It is in no
+/// header: from x86-64-v3 on `bindings/build` gives it the name of the other.
+#[unsafe(no_mangle)]
+pub extern "C" fn vb_select_unset_wide(bytes: &[u8], offset: usize, len: usize, n: usize) -> Place
+    requires window { InBytes bytes.now offset len }
+    ensures place { Selects (complement (bits bytes.now offset len)) n (answered_place result) }
+    ensures each { InvertsCount (complement (bits bytes.now offset len)) n (answered_place result) }
+{
+    vb_select::bit_select_unset_wide(bytes, offset, len, n).into()
+}
+
 /// The place, relative to the window of `len` bits from bit `offset` on, of its last true bit; none
 /// where all are false. It reads from the end, eight bytes at a time.
 #[unsafe(no_mangle)]
@@ -61,6 +83,26 @@ pub extern "C" fn vb_try_select(
     true
 }
 
+/// [`vb_try_select`] by [`vb_select_wide`], and named as that one.
+#[unsafe(no_mangle)]
+pub extern "C" fn vb_try_select_wide(
+    bytes: &[u8],
+    offset: usize,
+    len: usize,
+    n: usize,
+    place: &mut Place,
+) -> bool
+    ensures { DoneIf (InBytes bytes.now offset len)
+        (Selects (bits bytes.now offset len) n (answered_place place.new))
+        (place.new ≡ place.old) result }
+{
+    if !vb_bits::window_fits(bytes, offset, len) {
+        return false;
+    }
+    *place = vb_select_wide(bytes, offset, len, n);
+    true
+}
+
 /// Whether the window lies in the bytes; `place` is then [`vb_select_unset`], and else as it was.
 #[unsafe(no_mangle)]
 pub extern "C" fn vb_try_select_unset(
@@ -78,6 +120,26 @@ pub extern "C" fn vb_try_select_unset(
         return false;
     }
     *place = vb_select_unset(bytes, offset, len, n);
+    true
+}
+
+/// [`vb_try_select_unset`] by [`vb_select_unset_wide`], and named as that one.
+#[unsafe(no_mangle)]
+pub extern "C" fn vb_try_select_unset_wide(
+    bytes: &[u8],
+    offset: usize,
+    len: usize,
+    n: usize,
+    place: &mut Place,
+) -> bool
+    ensures { DoneIf (InBytes bytes.now offset len)
+        (Selects (complement (bits bytes.now offset len)) n (answered_place place.new))
+        (place.new ≡ place.old) result }
+{
+    if !vb_bits::window_fits(bytes, offset, len) {
+        return false;
+    }
+    *place = vb_select_unset_wide(bytes, offset, len, n);
     true
 }
 

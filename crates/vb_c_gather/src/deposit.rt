@@ -6,7 +6,7 @@ ghost use Rattle.vb_c_gather.specs.Deposited.{Deposits, DepositFits};
 ghost use Rattle.vb_c_core.specs.Fits.{DoneIf};
 
 use vb_bits::window_fits;
-use vb_count::count_ones;
+use vb_count::count_ones_wide;
 use vb_filter::deposit_into;
 use vb_view::BitBufferView;
 
@@ -54,7 +54,7 @@ pub extern "C" fn vb_try_deposit_bits(
 {
     if !window_fits(out, o, len)
         || !window_fits(mask, m, len)
-        || !window_fits(bytes, offset, count_ones(mask, m, len))
+        || !window_fits(bytes, offset, count_ones_wide(mask, m, len))
     {
         return false;
     }

@@ -8,7 +8,7 @@ ghost use Rattle.vb_c_core.specs.Fits.{DoneIf, KeptFits};
 use crate::block::COPIED_BITS;
 use vb_bits::window_fits;
 use vb_c_core::copy_to_window;
-use vb_count::count_ones;
+use vb_count::count_ones_wide;
 use vb_filter::filter_into;
 use vb_view::BitBufferView;
 
@@ -31,7 +31,15 @@ pub extern "C" fn vb_filter_bits(
         out.old out.new o result }
 {
     if o == 0 {
-        return filter_within(out, count_ones(mask, m, len), bytes, offset, mask, m, len);
+        return filter_within(
+            out,
+            count_ones_wide(mask, m, len),
+            bytes,
+            offset,
+            mask,
+            m,
+            len,
+        );
     }
     filter_by_blocks(out, o, bytes, offset, mask, m, len)
 }
@@ -57,7 +65,7 @@ pub extern "C" fn vb_try_filter_bits(
     if !window_fits(bytes, offset, len) || !window_fits(mask, m, len) {
         return false;
     }
-    let kept = count_ones(mask, m, len);
+    let kept = count_ones_wide(mask, m, len);
     if !window_fits(out, o, kept) {
         return false;
     }

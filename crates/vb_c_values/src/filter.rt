@@ -7,7 +7,7 @@ ghost use Rattle.vb_c_values.specs.Filtered.{Filters};
 use crate::wide::Wide;
 use vb_bits::window_fits;
 use vb_core::Element;
-use vb_count::count_ones;
+use vb_count::count_ones_wide;
 use vb_filter::filter_elements_into;
 use vb_view::BitBufferView;
 
@@ -177,7 +177,7 @@ fn filter_values<T: Element>(out: &mut [T], values: &[T], mask: &[u8], m: usize)
     requires { KeptFits mask.now m (length values.now) (length out.old) }
     ensures { Filters (bits mask.now m (length values.now)) values.now out.old out.new result }
 {
-    let kept = count_ones(mask, m, values.len());
+    let kept = count_ones_wide(mask, m, values.len());
     filter_to_front(out, kept, values, mask, m)
 }
 
@@ -197,7 +197,7 @@ fn try_filter_values<T: Element>(
     if !window_fits(mask, m, values.len()) {
         return false;
     }
-    let kept = count_ones(mask, m, values.len());
+    let kept = count_ones_wide(mask, m, values.len());
     if out.len() < kept {
         return false;
     }

@@ -11,16 +11,17 @@ ghost use Rattle.vb_count.specs.Looks.{looks, LooksExactly};
 
 use crate::chunk::chunk_ones;
 use crate::counter::Counter;
-use crate::glance::{Glance, Plain};
+use crate::glance::{Glance, Plain, Wide};
 use crate::lane_sum::LaneSum;
 use crate::rest::add_rest;
 use crate::word::byte_part;
 
-/// From so many chunks on, adders count. Where a vector has 32 bytes they are faster than the
-/// counts of words, and already from 32 on; where it has 16, that depends on the processor.
+/// From so many chunks of a wide source on, adders count. Where a vector has 32 bytes they are
+/// faster than the counts of words, and already from 32 on; where it has 16, slower in the caches.
 const MIN_ADDER_CHUNKS: usize = 64;
 
-/// So many chunks, which are 8 MiB, lie past the caches of most machines.
+/// So many chunks, which are 8 MiB, lie past the caches of most machines. Adders then win at each
+/// width, since they read memory at four places.
 const PAST_CACHES: usize = 131_072;
 
 /// How many of the `len` bits from bit `offset` on are true. The window has to lie in the bytes,
@@ -33,6 +34,19 @@ pub fn count_ones(bytes: &[u8], offset: usize, len: usize) -> usize
         count_short(&mut Plain::new(bytes), offset, len)
     } else {
         count_of_many(bytes, offset, len)
+    }
+}
+
+/// [`count_ones`] for vectors of 32 bytes and more: at x86-64-v3 it counts windows of 32,768 bits
+/// and more faster, since adders count them; at x86-64-v2 that is slower.
+pub fn count_ones_wide(bytes: &[u8], offset: usize, len: usize) -> usize
+    requires window { InBytes bytes.now offset len }
+    ensures { result ≡ count (bits bytes.now offset len) }
+{
+    if len < 512 * MIN_ADDER_CHUNKS {
+        count_ones(bytes, offset, len)
+    } else {
+        count_long(&mut Wide::new(Plain::new(bytes)), offset, len)
     }
 }
 
@@ -141,7 +155,7 @@ fn count_part<G: Glance>(src: &mut G, at: usize, len: usize) -> usize
 
 /// Adds to `ones` the true bits of `n` chunks from byte `at` on.
 ///
-/// Fewer than [`MIN_ADDER_CHUNKS`] are counted by their words, more by sixteen, and what is left by
+/// Fewer than [`min_adder_chunks`] are counted by their words, more by sixteen, and what is left by
 /// words. It isn't inlined: callers with few chunks then keep nothing over it.
 #[tactic(auto, using(vb_bits::proofs::BitsLemmas::windows))]
 #[inline(never)]
@@ -152,13 +166,24 @@ pub fn add_chunks<G: Glance>(src: &mut G, at: usize, n: usize, ones: usize) -> u
     ensures value { result ≡ ones + count (bits (G.seen src.old).bytes (8 * at) (512 * n)) }
     ensures looks { LooksExactly n (G.seen src.old) (G.seen src.new) }
 {
-    if n < MIN_ADDER_CHUNKS {
+    if n < min_adder_chunks::<G>() {
         return add_few(src, at, n, ones);
     }
     // Of memory, quarters that are a power of two apart are read an eighth slower.
     let turns = n / 16 - usize::from(PAST_CACHES <= n);
     let rest = add_few(src, at + 1024 * turns, n - 16 * turns, ones);
     rest + count_quarters(src, at, turns)
+}
+
+/// From how many chunks of a source on adders count.
+fn min_adder_chunks<G: Glance>() -> usize
+    ensures { MIN_ADDER_CHUNKS ≤ result }
+{
+    if G::IS_WIDE {
+        MIN_ADDER_CHUNKS
+    } else {
+        PAST_CACHES
+    }
 }
 
 /// Adds to `ones` the true bits of `n` chunks from byte `at` on by the counts of their words.

@@ -1,6 +1,7 @@
 //! Sources of bytes whose reads are counted.
 mod plain;
 mod tally;
+mod wide;
 
 ghost use Rattle.std.specs.Prelude.{◌≡◌, ◌+◌, ◌<◌, ◌≤◌, length, slice_index, slice_range};
 ghost use Rattle.std.specs.Int.{w64, to_le_bytes};
@@ -8,6 +9,7 @@ ghost use Rattle.vb_count.specs.Looks.{CountedBytes, LooksExactly};
 
 pub use plain::Plain;
 pub use tally::Tally;
+pub use wide::Wide;
 
 /// A source of bytes that never change.
 ///
@@ -17,6 +19,10 @@ pub use tally::Tally;
 pub trait Glance {
     // The bytes, which no call changes, and how many looks they have had.
     ghost seen: { Self → CountedBytes };
+
+    /// Whether 64 chunks and more are counted by adders, and not only 8 MiB and more: slower in
+    /// vectors of 16 bytes (x86-64-v2), faster in wider ones. It changes no answer and no look.
+    const IS_WIDE: bool = false;
 
     /// How many bytes there are.
     fn size(&self) -> usize

@@ -20,9 +20,9 @@ mod sums;
 mod word;
 
 pub use chunk::chunk_ones;
-pub use count::{add_chunks, count_ones, count_ones_by};
+pub use count::{add_chunks, count_ones, count_ones_by, count_ones_wide};
 pub use ghost_count::GhostCount;
-pub use glance::{Glance, Plain, Tally};
+pub use glance::{Glance, Plain, Tally, Wide};
 pub use lane_sum::LaneSum;
 pub use looks::{first_look, last_look, most_looks};
 pub use word::{byte_part, digit_ones, matching_word};

@@ -15,7 +15,9 @@ pub use vb_bits::{
     read_bits, read_u64_le, set_bit_to, set_bit_unchecked, unset_bit_unchecked, window_fits,
     zip_words,
 };
-pub use vb_count::{Glance, Plain, Tally, count_ones, count_ones_by, most_looks};
+pub use vb_count::{
+    Glance, Plain, Tally, Wide, count_ones, count_ones_by, count_ones_wide, most_looks,
+};
 pub use vb_pack::{
     collect_bool_word, collect_bool_word_scalar, collect_bool_words,
     collect_bool_words_multiversioned, pack_bool_word_lanes, pack_bool_word_swar,
@@ -27,6 +29,7 @@ pub use vb_pair::{
 };
 pub use vb_select::{
     all_set, all_set_by, any_set, any_set_by, bit_select, bit_select_by, bit_select_unset,
-    bit_select_unset_by, last_set_index, last_set_index_by, next_set, next_set_by, next_unset,
-    next_unset_by, previous_set, previous_set_by, previous_unset, previous_unset_by,
+    bit_select_unset_by, bit_select_unset_wide, bit_select_wide, last_set_index, last_set_index_by,
+    next_set, next_set_by, next_unset, next_unset_by, previous_set, previous_set_by,
+    previous_unset, previous_unset_by,
 };

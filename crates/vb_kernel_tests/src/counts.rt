@@ -3,13 +3,15 @@ use crate::compared::{equal, equal_at, holds};
 use crate::plain;
 use crate::sample::mix;
 use std::process::Abort;
-use vb_kernel::{Tally, count_ones, count_ones_by, most_looks, window_fits};
+use vb_kernel::{Tally, count_ones, count_ones_by, count_ones_wide, most_looks, window_fits};
 
 fn count_is_plain(rt: &impl Abort, bytes: &[u8], offset: usize, len: usize) {
     holds(rt, window_fits(bytes, offset, len));
     let ones = count_ones(bytes, offset, len);
     let wanted = plain::count_ones(bytes, offset, len);
     equal_at(rt, ones, wanted, (offset, len));
+    let wide = count_ones_wide(bytes, offset, len);
+    equal_at(rt, wide, wanted, (offset, len));
     let src = &mut Tally::new(bytes);
     let counted = count_ones_by(src, offset, len);
     equal_at(rt, counted, ones, (offset, len));

@@ -4,8 +4,8 @@ use crate::plain;
 use crate::sample::mix;
 use std::process::Abort;
 use vb_kernel::{
-    Tally, bit_select, bit_select_by, bit_select_unset, bit_select_unset_by, count_ones_by,
-    window_fits,
+    Tally, bit_select, bit_select_by, bit_select_unset, bit_select_unset_by, bit_select_unset_wide,
+    bit_select_wide, count_ones_by, window_fits,
 };
 
 fn selects_are_plain(rt: &impl Abort, bytes: &[u8], offset: usize, len: usize) {
@@ -45,6 +45,20 @@ fn selects_are_those_of_a_loop(rt: HostRuntime) {
     mix(&mut bytes);
     for (offset, len) in WINDOWS {
         selects_are_plain(&rt, &bytes, offset, len);
+    }
+}
+
+/// Where adders pass 64 chunks and more.
+#[test]
+fn wide_selects_are_those_by_words(rt: HostRuntime) {
+    let mut bytes = [0; 8200];
+    mix(&mut bytes);
+    holds(&rt, window_fits(&bytes, 3, 65_537));
+    for n in [0, 16_000, 32_000, 65_537] {
+        let set = bit_select_wide(&bytes, 3, 65_537, n);
+        equal_at(&rt, set, bit_select(&bytes, 3, 65_537, n), n);
+        let unset = bit_select_unset_wide(&bytes, 3, 65_537, n);
+        equal_at(&rt, unset, bit_select_unset(&bytes, 3, 65_537, n), n);
     }
 }
 

@@ -26,4 +26,7 @@ pub use last::{
 pub use next::{
     all_set, all_set_by, any_set, any_set_by, next_set, next_set_by, next_unset, next_unset_by,
 };
-pub use select::{bit_select, bit_select_by, bit_select_unset, bit_select_unset_by};
+pub use select::{
+    bit_select, bit_select_by, bit_select_unset, bit_select_unset_by, bit_select_unset_wide,
+    bit_select_wide,
+};

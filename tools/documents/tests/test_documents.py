@@ -55,7 +55,8 @@ pub fn two(n: u8) -> u8
     "        )\n    );\n}\n",
     "crates/use_low/specs/F.antt": "-- f\nabbrev pub f : A\nf = b\n",
     "crates/vb_c/src/bit.rt": 'pub extern "C" fn vb_get(n: usize) -> bool\n'
-    'pub extern "C" fn vb_try_get(n: usize) -> bool\n',
+    'pub extern "C" fn vb_try_get(n: usize) -> bool\n'
+    'pub extern "C" fn vb_get_wide(n: usize) -> bool\n',
     "bindings/c/any.h": "bool vb_get(size_t n);\nbool vb_try_get(size_t n);\n"
     "bool vb_all(size_t n);\n",
     "bindings/c/library/made.h": "bool vb_all(size_t n)\n{\n    return CALL(get)(n);\n}\n",
@@ -117,6 +118,14 @@ class Checked(unittest.TestCase):
         self.assertEqual(found, [
             "crates/vb_c*: has `vb_try_get`, which bindings/c/*.h hasn't",
             "bindings/c/*.h: has `vb_try_got`, which crates/vb_c* hasn't",
+        ])
+
+    def test_a_wide_form_of_no_function_and_one_of_other_parameters(self):
+        found = lists(self.repository(vb_c_slash_src_slash_bit_dot_rt=("get_wide", "got_wide")))
+        self.assertEqual(found, ["crates/vb_c*, wide: has `vb_got`, which crates/vb_c* hasn't"])
+        other = self.repository(vb_c_slash_src_slash_bit_dot_rt=("wide(n: usize", "wide(n: u64"))
+        self.assertEqual(lists(other), [
+            "crates/vb_c*, wide: `vb_get`: parameter 1 is `n: u64` in place of `n: usize`",
         ])
 
     def test_a_name_that_the_tests_do_not_reach(self):
