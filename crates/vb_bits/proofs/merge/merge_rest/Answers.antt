@@ -9,7 +9,8 @@ pub returns-then-len-gt0 : goal.returns-then-len-gt0
 returns-then-len-gt0 g c =
     let b = c.args.dst.now in let d = c.args.d in
     subst (λ l. Writes b c.merge_in_eight.new.dst d
-    (merged_by g.M.Merge.bit (bits b d c.args.len) l)) c.read_in_eight.ensures c.merge_in_eight.ensures
+    (merged_by g.M.Merge.bit (bits b d c.args.len) l))
+    c.read_in_eight.ensures c.merge_in_eight.ensures
 
 pub returns-else-len-gt0 : goal.returns-else-len-gt0
 returns-else-len-gt0 g c =
