@@ -134,3 +134,46 @@ Writes_merged_digits f b c s o p q n w x y small left right h written at =
     subst (λ z. Writes b c z (merged_by f (bits b p n) (bits s q n))) at
     (subst (Writes b c o) (digits-merged_by f w x y n small h
     ∙ ap (λ z. merged_by f z (digits y 0 n)) left ∙ ap (merged_by f (bits b p n)) right) written)
+
+-- ---- two windows combined into a third one
+-- two lists of numbers' digits, and one that is combined of them
+pub Writes_into_digits : (f : Bool → Bool → Bool) (b c s t : List ℕ) (o u v n w x y : ℕ) → n ≤ 64
+    → digits x 0 n ≡ bits s u n → digits y 0 n ≡ bits t v n
+    → ((i : ℕ) → i < 64 → has_bit w i ≡ f (has_bit x i) (has_bit y i))
+    → Writes b c o (digits w 0 n) → Writes b c o (merged_by f (bits s u n) (bits t v n))
+Writes_into_digits f b c s t o u v n w x y small left right h written =
+    subst (Writes b c o) (digits-merged_by f w x y n small h
+    ∙ ap (λ z. merged_by f z (digits y 0 n)) left ∙ ap (merged_by f (bits s u n)) right) written
+
+-- the right one of two is written
+pub Writes_right : (b c : List ℕ) (o n w : ℕ)
+    → Writes b c o (merged_by (λ x y. y) (bits b o n) (digits w 0 n)) → Writes b c o (digits w 0 n)
+Writes_right b c o n w written =
+    subst (Writes b c o) (merged_right (bits b o n) (digits w 0 n)
+    (length-bits b o n ∙ sym (length-digits w 0 n))) written
+
+-- one right behind the other
+pub Writes-into : (f : Bool → Bool → Bool) (b c d s t : List ℕ) (o p u q v r m n k : ℕ)
+    → Writes b c o (merged_by f (bits s u m) (bits t v m))
+    → Writes c d p (merged_by f (bits s q n) (bits t r n))
+    → p ≡ o + m → q ≡ u + m → r ≡ v + m → k ≡ m + n
+    → Writes b d o (merged_by f (bits s u k) (bits t v k))
+Writes-into f b c d s t o p u q v r m n k one two at first second whole =
+    let long = length-merged_bits f s t u v m in
+    subst (Writes b d o)
+    (ap (λ x. merged_by f (bits s u m) (bits t v m) ++ merged_by f (bits s x n) (bits t r n)) first
+    ∙ ap (λ x. merged_by f (bits s u m) (bits t v m) ++ merged_by f (bits s (u + m) n) (bits t x n))
+    second
+    ∙ sym (merged_by-append f (bits s u m) (bits s (u + m) n) (bits t v m) (bits t (v + m) n)
+    (length-bits s u m ∙ sym (length-bits t v m)))
+    ∙ ap (λ x. merged_by f x (bits t v m ++ bits t (v + m) n))
+    (sym (bits-add s u m n) ∙ ap (bits s u) (sym whole))
+    ∙ ap (merged_by f (bits s u k)) (sym (bits-add t v m n) ∙ ap (bits t v) (sym whole)))
+    (Writes-add b c d o p (merged_by f (bits s u m) (bits t v m))
+    (merged_by f (bits s q n) (bits t r n)) (omega arith) one two)
+
+-- none are
+pub Writes_into_none : (f : Bool → Bool → Bool) (b s t : List ℕ) (o u v n : ℕ)
+    → n ≡ 0 → Writes b b o (merged_by f (bits s u n) (bits t v n))
+Writes_into_none f b s t o u v n e =
+    Writes_none b o (merged_by f (bits s u n) (bits t v n)) (length-merged_bits f s t u v n ∙ e)

@@ -30,7 +30,7 @@ pub(crate) fn merge_few<M: Merge>(dst: &mut [u8], d: usize, src: &[u8], s: usize
 /// Combines each of the `count` bits of `dst` from bit `d` on with a digit of `right`, from the
 /// lowest one on, and leaves every other bit of `dst`.
 #[inline(always)]
-fn merge_digits<M: Merge>(dst: &mut [u8], d: usize, count: usize, right: u64)
+pub(crate) fn merge_digits<M: Merge>(dst: &mut [u8], d: usize, count: usize, right: u64)
     requires some { 0 < count }
     requires in_word { count ≤ 64 }
     requires into { InBytes dst.old d count }
