@@ -1,7 +1,9 @@
 //! The bits that a mask keeps, written into bytes.
-ghost use Rattle.std.specs.Prelude.{◌≡◌, ◌+◌, ◌*◌, ◌^◌, ◌<◌, ◌≤◌, length, slice_range};
+ghost use Rattle.std.specs.Prelude.{◌≡◌, ◌+◌, ◌*◌, ◌/◌, ◌%◌, ◌^◌, ◌<◌, ◌≤◌, ◌++◌, length};
+ghost use Rattle.std.specs.Prelude.{slice_range};
 ghost use Rattle.vb_bits.specs.Bits.{bits, count};
 ghost use Rattle.vb_bits.specs.Digits.{digits};
+ghost use Rattle.vb_bits.specs.InBytes.{InBytes};
 ghost use Rattle.vb_bits.specs.Kept.{kept_by};
 ghost use Rattle.vb_bits.specs.Writes.{Writes};
 ghost use Rattle.vb_filter.specs.Pending.{first_bits};
@@ -28,15 +30,50 @@ pub fn filter_into(out: &mut [u8], values: BitBufferView<'_>, mask: BitBufferVie
     let mut pending = 0;
     let mut len = 0;
     for t in 0..whole {
-        let (packed, added) = kept_digits(values, mask, 64 * t, 64);
-        pending = push_digits(out, pending, len, packed, added);
-        len += added;
+        let (word, end) = push_kept(out, pending, len, values, mask, 64 * t, 64);
+        pending = word;
+        len = end;
     }
-    let (packed, added) = kept_digits(values, mask, 64 * whole, total % 64);
-    pending = push_digits(out, pending, len, packed, added);
-    len += added;
+    let (pending, len) = push_kept(out, pending, len, values, mask, 64 * whole, total % 64);
     write_pending(out, pending, len);
     len
+}
+
+/// Adds those of the `n` bits from place `start` on that the mask keeps to the `len` bits that were
+/// written so far, and answers the word that is pending then, and how many bits are written then.
+///
+/// Where the mask keeps none of them, that is one test: under a mask that keeps few bits most words
+/// keep none.
+#[inline(always)]
+fn push_kept(
+    out: &mut [u8],
+    pending: u64,
+    len: usize,
+    values: BitBufferView<'_>,
+    mask: BitBufferView<'_>,
+    start: usize,
+    n: usize,
+) -> (u64, usize)
+    requires few { n ≤ 64 }
+    requires inside { start + n ≤ length (bits_of mask) }
+    requires same_len { length (bits_of values) ≡ length (bits_of mask) }
+    requires pending { pending < 2 ^ (len % 64) }
+    requires room { InBytes out.old len
+        (count (slice_range (bits_of mask) start (start + n))) }
+    ensures number { result.1
+        ≡ len + count (slice_range (bits_of mask.entry) start (start + n)) }
+    ensures written { first_bits out.new result.0 result.1
+        ≡ first_bits out.old pending len ++ kept_by
+        (slice_range (bits_of mask.entry) start (start + n))
+        (slice_range (bits_of values.entry) start (start + n)) }
+    ensures clear { result.0 < 2 ^ (result.1 % 64) }
+    ensures others { Writes out.old out.new 0 (bits out.new 0 (64 * (result.1 / 64))) }
+{
+    let (packed, added) = kept_digits(values, mask, start, n);
+    if added == 0 {
+        return (pending, len);
+    }
+    (push_digits(out, pending, len, packed, added), len + added)
 }
 
 /// Those of the `n` bits from place `start` on that the mask keeps, as digits of a word, and how

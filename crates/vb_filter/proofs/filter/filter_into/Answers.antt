@@ -1,5 +1,6 @@
 use Rattle.std.proofs.Common.{◌≡◌, ℕ, ◌+◌, ◌*◌, ◌/◌, ◌%◌, ◌≤◌, ◌++◌}
 use Rattle.std.proofs.Common.{length, take, refl, sym, ap, subst, ◌∙◌, arith}
+use Rattle.std.specs.Prelude.{slice_range}
 use Rattle.std.proofs.lemmas.List.{take_all}
 use Rattle.vb_bits.specs.Bits.{bits, count}
 use Rattle.vb_bits.specs.Digits.{digits}
@@ -25,34 +26,30 @@ loop-t-init c = record {
 pub loop-t-preserved : goal.loop-t-preserved
 loop-t-preserved c =
     let mask = bits_of c.args.mask in
+    let values = bits_of c.args.values in
     let t = c.loop-t.t in
-    let added : ℕ = c.kept_digits-packed.result.1 in
     let inv = c.loop-t.invariant in
-    let word = word-kept_by mask (bits_of c.args.values) t 64 c.requires.same_len (omega arith) in
+    let push = c.push_kept-word in
+    let chunk = slice_range mask (64 * t) (64 * t + 64) in
+    let kept = kept_by chunk (slice_range values (64 * t) (64 * t + 64)) in
+    let word = word-kept_by mask values t 64 c.requires.same_len (omega arith) in
     record {
-      written = c.push_digits-pending.ensures.written
-          ∙ ap (λ l. l ++ digits c.kept_digits-packed.result.0 0 added) inv.written
-          ∙ ap (λ l. kept_by (take (64 * t) mask) (take (64 * t) (bits_of c.args.values)) ++ l)
-          c.kept_digits-packed.ensures.kept
-          ∙ sym word.front;
-      number = ap (λ k. k + added) inv.number
-          ∙ ap (λ k. count (take (64 * t) mask) + k) c.kept_digits-packed.ensures.count
-          ∙ word.number;
-      clear = c.push_digits-pending.ensures.clear;
-      others = Writes_up_to-more c.args.out.now c.loop-t.out c.push_digits-pending.new.out
-          (64 * (c.loop-t.len / 64)) (64 * ((c.loop-t.len + added) / 64)) (omega arith)
-          inv.others c.push_digits-pending.ensures.others;
+      written = push.ensures.written ∙ ap (λ l. l ++ kept) inv.written ∙ sym word.front;
+      number = push.ensures.number ∙ ap (λ k. k + count chunk) inv.number ∙ word.number;
+      clear = push.ensures.clear;
+      others = Writes_up_to-more c.args.out.now c.loop-t.out push.new.out
+          (64 * (c.loop-t.len / 64)) (64 * (push.result.1 / 64))
+          (omega (arith, push.ensures.number)) inv.others push.ensures.others;
     }
 
-pub push_digits-pending-requires-clause-room : goal.push_digits-pending-requires-clause-room
-push_digits-pending-requires-clause-room c =
+pub push_kept-word-requires-clause-room : goal.push_kept-word-requires-clause-room
+push_kept-word-requires-clause-room c =
     let word = word-kept_by (bits_of c.args.mask) (bits_of c.args.values) c.loop-t.t 64
     c.requires.same_len (omega arith) in
     record {
       inside = omega (
         arith,
         c.loop-t.invariant.number,
-        c.kept_digits-packed.ensures.count,
         word.room,
         c.requires.room,
         c.loop-t.auto.out,
@@ -60,7 +57,6 @@ push_digits-pending-requires-clause-room c =
       fits = omega (
         arith,
         c.loop-t.invariant.number,
-        c.kept_digits-packed.ensures.count,
         word.room,
         count-le (bits_of c.args.mask),
         c.len-total.ensures,
@@ -68,22 +64,8 @@ push_digits-pending-requires-clause-room c =
       );
     }
 
-pub overflow_add-len : goal.overflow_add-len
-overflow_add-len c =
-    let word = word-kept_by (bits_of c.args.mask) (bits_of c.args.values) c.loop-t.t 64
-    c.requires.same_len (omega arith) in
-    omega (
-      arith,
-      c.loop-t.invariant.number,
-      c.kept_digits-packed.ensures.count,
-      word.room,
-      count-le (bits_of c.args.mask),
-      c.len-total.ensures,
-      c.len-total.type_inv,
-    )
-
-pub push_digits-pending-requires-2-clause-room : goal.push_digits-pending-requires-2-clause-room
-push_digits-pending-requires-2-clause-room c =
+pub push_kept-pending-requires-clause-room : goal.push_kept-pending-requires-clause-room
+push_kept-pending-requires-clause-room c =
     let mask = bits_of c.args.mask in
     let q : ℕ = c.len-total.result / 64 in
     let end : c.loop-t.t ≡ q = omega arith in
@@ -94,7 +76,6 @@ push_digits-pending-requires-2-clause-room c =
         arith,
         c.loop-t.invariant.number,
         ap (λ t. count (take (64 * t) mask)) end,
-        c.kept_digits-packed-2.ensures.count,
         word.room,
         c.requires.room,
         c.loop-t.auto.out,
@@ -103,7 +84,6 @@ push_digits-pending-requires-2-clause-room c =
         arith,
         c.loop-t.invariant.number,
         ap (λ t. count (take (64 * t) mask)) end,
-        c.kept_digits-packed-2.ensures.count,
         word.room,
         count-le mask,
         c.len-total.ensures,
@@ -122,11 +102,11 @@ write_pending-requires c =
       arith,
       c.loop-t.invariant.number,
       ap (λ t. count (take (64 * t) mask)) end,
-      c.kept_digits-packed-2.ensures.count,
+      c.push_kept-pending.ensures.number,
       word.room,
       c.requires.room,
       c.loop-t.auto.out,
-      c.push_digits-pending-2.ensures.others.same_len,
+      c.push_kept-pending.ensures.others.same_len,
     )
 
 pub returns-clause-count : goal.returns-clause-count
@@ -140,7 +120,7 @@ returns-clause-count c =
       arith,
       c.loop-t.invariant.number,
       ap (λ t. count (take (64 * t) mask)) end,
-      c.kept_digits-packed-2.ensures.count,
+      c.push_kept-pending.ensures.number,
       word.number,
       ap count (take_all (64 * (q + 1)) mask (omega (arith, c.len-total.ensures))),
     )
@@ -150,27 +130,29 @@ returns-clause-kept c =
     let mask = bits_of c.args.mask in
     let values = bits_of c.args.values in
     let q : ℕ = c.len-total.result / 64 in
+    let n : ℕ = c.len-total.result % 64 in
     let end : c.loop-t.t ≡ q = omega arith in
     let total : length mask ≤ 64 * (q + 1) = omega (arith, c.len-total.ensures) in
-    let word = word-kept_by mask values q (c.len-total.result % 64) c.requires.same_len
+    let word = word-kept_by mask values q n c.requires.same_len
     (omega (arith, c.len-total.ensures)) in
     let before : ℕ = c.loop-t.len in
-    let added : ℕ = c.kept_digits-packed-2.result.1 in
-    let len : ℕ = before + added in
-    let out = c.push_digits-pending-2.new.out in
-    let front = kept_by (take (64 * q) mask) (take (64 * q) values) in
-    let all : first_bits out c.push_digits-pending-2.result len ≡ kept_by mask values =
-    c.push_digits-pending-2.ensures.written
-    ∙ ap (λ l. l ++ digits c.kept_digits-packed-2.result.0 0 added)
+    let push = c.push_kept-pending in
+    let len : ℕ = push.result.1 in
+    let out = push.new.out in
+    let kept = kept_by (slice_range mask (64 * q) (64 * q + n))
+    (slice_range values (64 * q) (64 * q + n)) in
+    let all : first_bits out push.result.0 len ≡ kept_by mask values =
+    push.ensures.written
+    ∙ ap (λ l. l ++ kept)
     (c.loop-t.invariant.written ∙ ap (λ t. kept_by (take (64 * t) mask) (take (64 * t) values)) end)
-    ∙ ap (λ l. front ++ l) c.kept_digits-packed-2.ensures.kept ∙ sym word.front
+    ∙ sym word.front
     ∙ ap (λ l. kept_by l (take (64 * (q + 1)) values)) (take_all (64 * (q + 1)) mask total)
     ∙ ap (kept_by mask) (take_all (64 * (q + 1)) values
     (omega (arith, total, c.requires.same_len))) in
     subst (Writes c.args.out.now c.write_pending.new.out 0) all
     (Writes-add c.args.out.now out c.write_pending.new.out 0 (64 * (len / 64))
-    (bits out 0 (64 * (len / 64))) (digits c.push_digits-pending-2.result 0 (len % 64))
+    (bits out 0 (64 * (len / 64))) (digits push.result.0 0 (len % 64))
     (omega (arith, length-bits out 0 (64 * (len / 64))))
     (Writes_up_to-more c.args.out.now c.loop-t.out out (64 * (before / 64)) (64 * (len / 64))
-    (omega arith) c.loop-t.invariant.others c.push_digits-pending-2.ensures.others)
+    (omega (arith, push.ensures.number)) c.loop-t.invariant.others push.ensures.others)
     c.write_pending.ensures)
