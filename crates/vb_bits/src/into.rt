@@ -15,11 +15,11 @@ use crate::write::write_in_byte;
 use crate::zip::BitOp;
 use std::simd::prelude::*;
 
-/// Replaces bit `o + i` of `out`, for each `i` below `len`, by `op` of bit `l + i` of `left` and bit
-/// `r + i` of `right`. No other bit of `out` changes.
+/// Replaces bit `o + i` of `out`, for each `i` below `len`, by `op` of bit `l + i` of `left` and
+/// bit `r + i` of `right`. No other bit of `out` changes.
 ///
-/// These bits have to lie in the three slices, and `o + len`, `l + len` and `r + len` have to fit in
-/// a `usize`.
+/// These bits have to lie in the three slices, and `o + len`, `l + len` and `r + len` have to fit
+/// in a `usize`.
 ///
 /// It goes by words of 64 bits, four at a time, whatever the three offsets are.
 #[inline(always)]

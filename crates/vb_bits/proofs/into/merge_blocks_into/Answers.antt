@@ -25,4 +25,5 @@ loop-k-preserved g c =
     ∙ ap (merged_by f (bits s (l + 256 * k) 256)) second in
     let written = subst (λ m. Writes b d (o + 256 * k) m) whole
     (subst (λ x. Writes b d x (lane_bits w)) to c.write_words.ensures) in
-    Writes-into f _ _ _ s t _ _ _ _ _ _ _ _ _ c.loop-k.invariant written refl refl refl (omega arith)
+    Writes-into f _ _ _ s t _ _ _ _ _ _ _ _ _ c.loop-k.invariant written refl refl refl
+    (omega arith)

@@ -12,5 +12,5 @@ returns g c =
     let b = c.args.out.now in let n = c.args.len in
     Writes_into_digits g.M.Merge.bit b c.write_in_byte.new.bytes c.args.left.now c.args.right.now
     c.args.o c.args.l c.args.r n c.word.result c.read_few-first.result c.read_few-second.result
-    (omega (arith, c.requires.in_byte)) c.read_few-first.ensures c.read_few-second.ensures c.word.ensures
-    c.write_in_byte.ensures
+    (omega (arith, c.requires.in_byte)) c.read_few-first.ensures c.read_few-second.ensures
+    c.word.ensures c.write_in_byte.ensures

@@ -11,6 +11,7 @@ pub returns : goal.returns
 returns g c =
     let b = c.args.out.now in let n = c.args.len in
     Writes_into_digits g.M.Merge.bit b c.merge_in_eight.new.dst c.args.left.now c.args.right.now
-    c.args.o c.args.l c.args.r n c.word.result c.read_in_eight-first.result c.read_in_eight-second.result
-    c.requires.in_word c.read_in_eight-first.ensures c.read_in_eight-second.ensures c.word.ensures
+    c.args.o c.args.l c.args.r n c.word.result c.read_in_eight-first.result
+    c.read_in_eight-second.result c.requires.in_word
+    c.read_in_eight-first.ensures c.read_in_eight-second.ensures c.word.ensures
     (Writes_right b c.merge_in_eight.new.dst c.args.o n c.word.result c.merge_in_eight.ensures)
