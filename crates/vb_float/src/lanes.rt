@@ -4,6 +4,7 @@ ghost use Rattle.std.specs.Simd.Lanes.{zip2};
 ghost use Rattle.vb_bits.specs.Digits.{digits};
 ghost use lib.Ieee.{Float, eq, ne, lt, le};
 
+use crate::eights::{Equal, Less, LessOrEqual, NotEqual, by_eights};
 use std::simd::prelude::*;
 
 /// A float, of which 64 are compared at once. `f32` and `f64` are.
@@ -82,22 +83,22 @@ impl FloatLanes for f64 {
 
     #[inline(always)]
     fn equal(left: Simd<f64, 64>, right: Simd<f64, 64>) -> u64 {
-        left.simd_eq(right).to_bitmask()
+        by_eights::<Equal>(&left.to_array(), &right.to_array())
     }
 
     #[inline(always)]
     fn not_equal(left: Simd<f64, 64>, right: Simd<f64, 64>) -> u64 {
-        left.simd_ne(right).to_bitmask()
+        by_eights::<NotEqual>(&left.to_array(), &right.to_array())
     }
 
     #[inline(always)]
     fn less(left: Simd<f64, 64>, right: Simd<f64, 64>) -> u64 {
-        left.simd_lt(right).to_bitmask()
+        by_eights::<Less>(&left.to_array(), &right.to_array())
     }
 
     #[inline(always)]
     fn less_or_equal(left: Simd<f64, 64>, right: Simd<f64, 64>) -> u64 {
-        left.simd_le(right).to_bitmask()
+        by_eights::<LessOrEqual>(&left.to_array(), &right.to_array())
     }
 
     #[inline(always)]

@@ -6,6 +6,7 @@
 #![tactic(auto)]
 
 mod compare;
+mod eights;
 mod lanes;
 mod test;
 mod truths;

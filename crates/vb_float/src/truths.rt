@@ -1,7 +1,7 @@
 //! What a comparison answers of floats, one or a word at a time.
 //!
-//! A word is one comparison of 64 for `f64` too: the compiler makes no vectors of comparisons of
-//! single floats, as it does of single whole numbers.
+//! A word is made by [`FloatLanes`] for `f64` too: of comparisons of single floats the compiler
+//! makes no vectors, as it does of single whole numbers.
 ghost use Rattle.std.specs.Prelude.{◌≡◌, length, map};
 ghost use Rattle.std.specs.Simd.Lanes.{zip2};
 

@@ -1,7 +1,0 @@
-use mir.Syntax.{w64}
-use lib.Ieee.{ne}
-use Rattle.vb_compare.proofs.LaneLemmas.{digits_compared}
-use Rattle.vb_float.proofs.lanes.F64FloatLanes.not_equal.Goals as goal
-
-pub returns : goal.returns
-returns c = digits_compared w64 ne c.args.left c.args.right c.fits-left.0 c.fits-right.0
