@@ -4,6 +4,6 @@
 /// What tools/digest prints; tools/write-lists writes it here.
 macro_rules! digest {
     () => {
-        "6ba8e9e3edf7358e1b8f1075ddbab506b2bb68aaccdc65e591580d0d5a424b4b"
+        "8f41299333617aa34bfbcac2d7e72d62c5c0743e28555baff79aba63aedfeffa"
     };
 }
