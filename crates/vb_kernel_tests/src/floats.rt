@@ -77,8 +77,8 @@ fn with_number<T: ByBits>(
     drop(same);
 }
 
-/// Numbers of floats around those of one block and of more.
-const LENGTHS: [usize; 12] = [0, 1, 7, 8, 63, 64, 65, 127, 128, 129, 191, 200];
+/// Numbers of floats around those of eight, of one block and of more.
+const LENGTHS: [usize; 15] = [0, 1, 7, 8, 9, 20, 63, 64, 65, 81, 127, 128, 129, 191, 200];
 
 /// Offsets within a byte and around 64.
 const OFFSETS: [usize; 12] = [0, 1, 2, 3, 4, 5, 6, 7, 8, 63, 64, 65];
