@@ -1,2 +1,1 @@
-pub mod CombineLemmas
 pub mod FilledLemmas

@@ -5,11 +5,7 @@ ghost use Rattle.vb_c.specs.Combined.{Combines};
 ghost use Rattle.vb_c_core.specs.Fits.{DoneIf};
 ghost use Rattle.vb_c.specs.Windows.{AllInBytes, BothInBytes};
 
-use vb_bits::{BitOp, copy_bits, window_fits, zip_words};
-
-/// How many bits are combined before the next ones are copied: few enough that the bytes of a
-/// block stay near the processor in between.
-const COPIED_BITS: usize = 32_768;
+use vb_bits::{BitOp, window_fits, zip_into, zip_words};
 
 /// Makes each of the `len` bits of `dst` from bit `d` on true exactly where it is true and that of
 /// `src` from bit `s` on is, and leaves every other bit of `dst`. The two may not overlap.
@@ -299,7 +295,8 @@ fn combine(dst: &mut [u8], d: usize, src: &[u8], s: usize, len: usize, op: BitOp
     zip_words(&mut dst[d / 8..end], d % 8, src, s, len, op);
 }
 
-/// [`combine_into`], in the bytes of `out` that have a bit of its window.
+/// Combines the two windows into that of `out` by `op`, in the bytes of `out` that have a bit of
+/// it: the kernel can store no other byte.
 fn combine_within(
     out: &mut [u8],
     o: usize,
@@ -314,28 +311,5 @@ fn combine_within(
     ensures { Combines op out.old out.new o (bits left.now l len) (bits right.now r len) }
 {
     let end = (o + len).div_ceil(8);
-    combine_into(&mut out[o / 8..end], o % 8, left, l, right, r, len, op);
-}
-
-/// Combines the two windows into that of `out` by `op`, a block at a time.
-fn combine_into(
-    out: &mut [u8],
-    o: usize,
-    left: &[u8],
-    l: usize,
-    right: &[u8],
-    r: usize,
-    len: usize,
-    op: BitOp,
-)
-    requires { AllInBytes out.old o left.now l right.now r len }
-    ensures { Combines op out.old out.new o (bits left.now l len) (bits right.now r len) }
-{
-    let mut done = 0;
-    while done < len {
-        let block = (len - done).min(COPIED_BITS);
-        copy_bits(out, o + done, left, l + done, block);
-        zip_words(out, o + done, right, r + done, block, op);
-        done += block;
-    }
+    zip_into(&mut out[o / 8..end], o % 8, left, l, right, r, len, op);
 }

@@ -7,4 +7,4 @@ pub returns : goal.returns
 returns c =
     Writes_in_part _ _ _ _ c.args.len _
     (length-merged_bits (bit_op c.args.op) c.args.left.now c.args.right.now c.args.l c.args.r
-    c.args.len) c.requires.into c.div_ceil-end.ensures c.combine_into.ensures
+    c.args.len) c.requires.into c.div_ceil-end.ensures c.zip_into.ensures
