@@ -4,6 +4,6 @@
 /// What tools/digest prints; tools/write-lists writes it here.
 macro_rules! digest {
     () => {
-        "8f41299333617aa34bfbcac2d7e72d62c5c0743e28555baff79aba63aedfeffa"
+        "aa61d3b9c0e5cee928c887326d3aaadf61fdd0b6fcd1b24c3d9d276de31bb220"
     };
 }
