@@ -88,6 +88,16 @@ class Number:
             return f"{value} as {self.laid}"
         return value if self.bits == 64 else f"{value}.into()"
 
+    @property
+    def part(self) -> str:
+        """The type of a sum of 64 values."""
+        return f"{self.name[0]}{64 if self.bits < 64 else 128}"
+
+    @property
+    def total(self) -> str:
+        """The type of a sum of any values."""
+        return f"{self.name[0]}128"
+
     def number(self, value: str) -> str:
         """A value, as an integer of contracts."""
         return value if self.is_signed else f"(pos {value})"

@@ -1,9 +1,11 @@
 //! Tests of the kernels, beside plain loops over single bits and values, at many offsets and
 //! lengths: counts, selects, searches, copies and combinations; walks and views; comparisons of
-//! whole numbers and of floats. And of what all crates share: errors, alignments, elements, indices
-//! and iterators of known length.
+//! whole numbers and of floats; sums and extremes under a mask. And of what all crates share:
+//! errors, alignments, elements, indices and iterators of known length.
 #![tactic(auto)]
 
+#[cfg(test)]
+mod aggregates;
 #[cfg(test)]
 mod alignments;
 #[cfg(test)]
@@ -33,6 +35,8 @@ mod ghost_counts;
 #[cfg(test)]
 mod indices;
 #[cfg(test)]
+mod kept_loop;
+#[cfg(test)]
 mod looks;
 #[cfg(test)]
 mod nearest;
@@ -48,6 +52,8 @@ mod sample;
 mod selects;
 #[cfg(test)]
 mod stops;
+#[cfg(test)]
+mod terms;
 #[cfg(test)]
 mod trusted_lengths;
 #[cfg(test)]

@@ -7,7 +7,7 @@ use vb_bits::window_fits;
 use vb_compare::{CompareLanes, Comparison, compare_into, compare_with_into};
 
 /// Longer ones.
-const LONG: [usize; 4] = [256, 511, 1000, 1027];
+pub(crate) const LONG: [usize; 4] = [256, 511, 1000, 1027];
 
 /// What the operator answers.
 fn answer<T: Ord>(left: &T, op: Comparison, right: &T) -> bool {
@@ -67,7 +67,7 @@ fn at_offset<T: CompareLanes + Ord>(
     drop(same);
 }
 
-fn first<T>(items: &[T], count: usize) -> &[T] {
+pub(crate) fn first<T>(items: &[T], count: usize) -> &[T] {
     &items[..count.min(items.len())]
 }
 

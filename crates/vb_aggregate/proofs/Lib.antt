@@ -1,0 +1,7 @@
+mod ExtremesLemmas
+mod FirstLemmas
+mod OnesLemmas
+mod SumsLemmas
+mod TypesLemmas
+mod WordOnes
+mod WordsLemmas

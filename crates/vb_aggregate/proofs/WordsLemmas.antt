@@ -1,0 +1,67 @@
+-- The values that a mask keeps, a word after the other.
+use Rattle.std.proofs.Common.{◌≡◌, ℕ, ◌+◌, ◌-◌, ◌≤◌, Bool, true, false}
+use Rattle.std.proofs.Common.{List, [], ◌∷◌, ◌++◌}
+use Rattle.std.proofs.Common.{length, take, drop, sym, ap, subst, ◌∙◌, arith}
+use Rattle.std.proofs.Common.{append_assoc}
+use Rattle.std.specs.Prelude.{slice_range}
+use Rattle.std.proofs.Math.Seq.{take-add}
+use Rattle.std.proofs.lemmas.List.{take_all, length-take, length-drop}
+use Rattle.vb_bits.specs.Digits.{digits}
+use Rattle.vb_bits.specs.Kept.{kept_by}
+use Rattle.vb_bits.proofs.KeptLemmas.{kept_by-append}
+
+-- a front, and n values more
+front-add : {T : Type 0} (xs : List T) (a n : ℕ)
+    → take (a + n) xs ≡ take a xs ++ slice_range xs a (a + n)
+front-add xs a n =
+    let len : a + n - a ≡ n = omega arith in
+    take-add a n xs ∙ ap (λ k. take a xs ++ take k (drop a xs)) (sym len)
+
+-- a mask keeps no more values than there are
+pub kept-le : {T : Type 0} (mask : List Bool) (values : List T)
+    → length (kept_by mask values) ≤ length values
+kept-le [] values = omega arith
+kept-le (b ∷ mask) [] = omega arith
+kept-le (true ∷ mask) (v ∷ values) = let rest = kept-le mask values in omega arith
+kept-le (false ∷ mask) (v ∷ values) = let rest = kept-le mask values in omega arith
+
+module _ {S T : Type 0} (shows : S → List T → Type 0) (start state : S) (mask : List Bool)
+    (values : List T) where
+  -- the state has taken up those of the first a values that the mask keeps
+  abbrev pub TakesFront : ℕ → Type 0
+  TakesFront a = (xs : List T) → shows start xs
+      → shows state (xs ++ kept_by (take a mask) (take a values))
+
+module _ {S T : Type 0} (shows : S → List T → Type 0) (start state : S) (mask : List Bool)
+    (values : List T) (same : length values ≡ length mask) where
+  -- all of them
+  pub front_all : (a : ℕ) → length mask ≤ a → TakesFront shows start state mask values a
+      → (xs : List T) → shows start xs → shows state (xs ++ kept_by mask values)
+  front_all a end so_far xs h =
+      let all_mask = take_all a mask end in
+      let all_values = take_all a values (omega (arith, same)) in
+      subst (λ l. shows state (xs ++ l))
+      (ap (λ l. kept_by l (take a values)) all_mask ∙ ap (kept_by mask) all_values) (so_far xs h)
+
+  -- and those of n more, where a word has their bits of the mask
+  pub front_more : (a n keep : ℕ) (next : S) → a + n ≤ length mask
+      → digits keep 0 n ≡ slice_range mask a (a + n)
+      → ((xs : List T) → shows state xs → shows next (xs ++ kept_by (digits keep 0
+      (length (slice_range values a (a + n)))) (slice_range values a (a + n))))
+      → TakesFront shows start state mask values a
+      → TakesFront shows start next mask values (a + n)
+  front_more a n keep next inside of_mask add so_far xs h =
+      let chunk = slice_range values a (a + n) in
+      let long : length chunk ≡ n = simp (length-take, length-drop) (omega (arith, same)) in
+      let fronts : length (take a mask) ≡ length (take a values) =
+      simp length-take (omega (arith, same)) in
+      let front = kept_by (take a mask) (take a values) in
+      let word = kept_by (digits keep 0 (length chunk)) chunk in
+      let kept : kept_by (take (a + n) mask) (take (a + n) values) ≡ front ++ word =
+      ap (λ l. kept_by l (take (a + n) values)) (front-add mask a n)
+      ∙ ap (λ l. kept_by (take a mask ++ slice_range mask a (a + n)) l) (front-add values a n)
+      ∙ kept_by-append (take a mask) (slice_range mask a (a + n)) (take a values) chunk fronts
+      ∙ ap (λ l. front ++ kept_by l chunk)
+      (sym of_mask ∙ ap (digits keep 0) (sym long)) in
+      subst (shows next) (append_assoc xs front word ∙ ap (λ l. xs ++ l) (sym kept))
+      (add (xs ++ front) (so_far xs h))

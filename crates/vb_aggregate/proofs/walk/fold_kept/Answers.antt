@@ -1,0 +1,36 @@
+use Rattle.std.proofs.Common.{◌≡◌, ◌+◌, ◌*◌, ◌/◌, ◌%◌, arith, subst}
+use Rattle.vb_view.specs.View.{bits_of}
+use Rattle.vb_aggregate.proofs.WordsLemmas.{TakesFront, front_all, front_more}
+use Rattle.vb_aggregate.proofs.walk.fold_kept.Goals as goal
+
+pub loop-t-preserved : goal.loop-t-preserved
+loop-t-preserved g c =
+    let shows = g.W.WordFold.shows in
+    let mask = bits_of c.args.mask in
+    let values = c.args.values.now in
+    let t = c.loop-t.t in
+    let next = c.add_word-state.result in
+    let end : 64 * t + 64 ≡ 64 * (t + 1) = omega arith in
+    subst (TakesFront shows c.args.start next mask values) end
+    (front_more shows c.args.start c.loop-t.state mask values c.requires.same_len (64 * t) 64
+    c.view_word-keep.result next (omega (arith, c.len-whole.ensures))
+    c.view_word-keep.ensures.digits c.add_word-state.ensures c.loop-t.invariant)
+
+pub returns : goal.returns
+returns g c =
+    let shows = g.W.WordFold.shows in
+    let mask = bits_of c.args.mask in
+    let values = c.args.values.now in
+    let whole = c.len-whole.result / 64 in
+    let n = c.len-n.result % 64 in
+    let state = c.loop-t.state in
+    let next = c.add_word.result in
+    let same = c.requires.same_len in
+    let end : c.loop-t.t ≡ whole = omega arith in
+    front_all shows c.args.start next mask values same (64 * whole + n)
+    (omega (arith, c.len-whole.ensures, c.len-n.ensures))
+    (front_more shows c.args.start state mask values same (64 * whole) n
+    c.view_word-keep-2.result next (omega (arith, c.len-whole.ensures, c.len-n.ensures))
+    c.view_word-keep-2.ensures.digits c.add_word.ensures
+    (subst (λ k. TakesFront shows c.args.start state mask values (64 * k)) end
+    c.loop-t.invariant))

@@ -1,0 +1,8 @@
+use Rattle.std.proofs.Common.{◌*◌, ◌^◌, arith}
+use Rattle.vb_aggregate.proofs.TypesLemmas.{added_unsigned}
+use Rattle.vb_aggregate.proofs.wide_summand.unsigned.U32WideSummand.join.Goals as goal
+
+pub returns : goal.returns
+returns c j k few near close =
+    added_unsigned (2 ^ 128) (j * 2 ^ 32) (k * 2 ^ 32) c.args.sum
+    c.from.result c.args.part c.from.ensures near close (omega arith)

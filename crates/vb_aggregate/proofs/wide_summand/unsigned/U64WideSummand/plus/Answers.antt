@@ -1,0 +1,12 @@
+use Rattle.std.proofs.Common.{◌*◌, ◌^◌, arith}
+use Rattle.vb_aggregate.proofs.TypesLemmas.{near_unsigned, added_unsigned}
+use Rattle.vb_aggregate.proofs.wide_summand.unsigned.U64WideSummand.plus.Goals as goal
+
+pub returns-clause-sum : goal.returns-clause-sum
+returns-clause-sum c k few near =
+    added_unsigned (2 ^ 128) (k * 2 ^ 64) (2 ^ 64) c.args.sum
+    c.from.result c.args.value c.from.ensures near
+    (near_unsigned (2 ^ 64) c.args.value c.ranges.value.fits) (omega arith)
+
+pub returns-clause-within : goal.returns-clause-within
+returns-clause-within c = near_unsigned (2 ^ 64) c.args.value c.ranges.value.fits

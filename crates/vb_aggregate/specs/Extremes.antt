@@ -1,0 +1,13 @@
+-- The least and the greatest of values.
+use Rattle.std.specs.Prelude.{ℤ, ◌≤ℤ◌, List, All}
+use Rattle.std.specs.List.{Contains}
+
+-- m is one of the values, and none is below it
+pub record IsLeast {T : Type 0} (number : T → ℤ) (values : List T) (m : T) : Type 0 where
+  pub there : Contains values m
+  pub least : All (λ x. number m ≤ℤ number x) values
+
+-- m is one of the values, and none is above it
+pub record IsGreatest {T : Type 0} (number : T → ℤ) (values : List T) (m : T) : Type 0 where
+  pub there : Contains values m
+  pub greatest : All (λ x. number x ≤ℤ number m) values

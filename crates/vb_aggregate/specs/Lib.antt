@@ -1,0 +1,5 @@
+pub mod Extremes
+pub mod Sums
+pub mod Wraps
+pub use Rattle.vb_bits.specs.Kept
+pub use Rattle.vb_view.specs.View

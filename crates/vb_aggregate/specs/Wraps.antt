@@ -1,0 +1,37 @@
+-- Numbers that are wrapped around at the end of an unsigned type. The laws of `Summand` cite the
+-- lemma, and so it stands in specs.
+use Rattle.std.proofs.Common.{◌≡◌, ℕ, ◌^◌, ◌<◌, ℤ, pos, negsuc, ◌+ℤ◌, ap, sym, ◌∙◌, arith}
+use Rattle.std.specs.Int.{Width, int_rem_euclid, int_wrap, cast_signed, cast_unsigned}
+use Rattle.std.specs.Prelude.{unsigned_abs, FitsSigned}
+use Rattle.std.proofs.Math.Nat.{mod-eq_of_lt}
+use Rattle.std.proofs.lemmas.Int.{of_z-to_z, int_wrap-add_same, int_wrap_fits}
+use Rattle.std.proofs.lemmas.Nat.{pow_pos, mod_below}
+use mir.Val.{bits, hbits}
+
+-- the number below 2 to the width's bits that differs from z by a multiple of that
+abbrev pub wrap_unsigned : Width → ℤ → ℕ
+wrap_unsigned w z = unsigned_abs (int_rem_euclid z (pos (2 ^ bits w)))
+
+-- it is below that
+pub wrap_unsigned_fits : (w : Width) (z : ℤ) → wrap_unsigned w z < 2 ^ bits w
+wrap_unsigned_fits w (pos a) = mod_below a (2 ^ bits w) (pow_pos (bits w))
+wrap_unsigned_fits w (negsuc a) = let some = pow_pos (bits w) in omega arith
+
+-- a sum may be wrapped around as it grows
+pub unsigned_wraps_on : (w : Width) (a b : ℤ)
+    → wrap_unsigned w (pos (wrap_unsigned w a) +ℤ b) ≡ wrap_unsigned w (a +ℤ b)
+unfolding int_wrap
+unsigned_wraps_on w a b =
+    let u = wrap_unsigned w in
+    let small = wrap_unsigned_fits w a in
+    let same : int_wrap w (pos (u a)) ≡ int_wrap w a = ap (cast_signed w) (mod-eq_of_lt small) in
+    sym (of_z-to_z w (u (pos (u a) +ℤ b)) (wrap_unsigned_fits w _))
+    ∙ ap (cast_unsigned w) (int_wrap-add_same w (pos (u a)) a b same)
+    ∙ of_z-to_z w (u (a +ℤ b)) (wrap_unsigned_fits w _)
+
+zero_fits : (w : Width) → FitsSigned w (pos 0)
+zero_fits w = record { sfits = pow_pos (hbits w) }
+
+-- 0 isn't wrapped around
+pub signed_wraps_zero : (w : Width) → int_wrap w (pos 0) ≡ pos 0
+signed_wraps_zero w = int_wrap_fits w (pos 0) (zero_fits w)
