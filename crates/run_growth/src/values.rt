@@ -1,4 +1,5 @@
 //! Calls on values, buffers and masks, whose steps `tools/growth` counts.
+mod aggregated;
 mod buffers;
 mod compared;
 mod filtered;
@@ -32,6 +33,19 @@ pub const ROWS: &[&str] = &[
     "filtered_all u32",
     "filtered_all u64",
     "filtered_all deposited",
+    "aggregated sum_u8",
+    "aggregated sum_u32",
+    "aggregated sum_u64",
+    "aggregated wrapping_u32",
+    "aggregated checked_u32",
+    "aggregated min_u32",
+    "aggregated max_u32",
+    "aggregated_few sum_u32",
+    "aggregated_few min_u32",
+    "aggregated_all sum_u8",
+    "aggregated_all sum_u32",
+    "aggregated_all sum_u64",
+    "aggregated_all min_u32",
     "taken bits",
     "taken valid_bits",
     "taken u8",
@@ -80,6 +94,9 @@ pub fn measure(alloc: Global, family: &str, row: &str, case: Case) -> Result<usi
         "filtered" => filtered::by_half(alloc, row, case),
         "filtered_few" => filtered::by_few(alloc, row, case),
         "filtered_all" => filtered::by_all(alloc, row, case),
+        "aggregated" => aggregated::by_half(alloc, row, case),
+        "aggregated_few" => aggregated::by_few(alloc, row, case),
+        "aggregated_all" => aggregated::by_all(alloc, row, case),
         "taken" => taken::measure(alloc, row, case),
         "compared" => compared::measure(alloc, row, case),
         "packed" => packed::measure(alloc, row, case),

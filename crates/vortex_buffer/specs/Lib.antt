@@ -1,6 +1,9 @@
 pub mod Fixed
 pub mod Steps
 pub mod Text
+pub use Rattle.vb_aggregate.specs.Extremes
+pub use Rattle.vb_aggregate.specs.Sums
+pub use Rattle.vb_aggregate.specs.Wraps
 pub use Rattle.vb_bit_buffer.specs.Gives
 pub use Rattle.vb_bit_buffer.specs.SharedSet
 pub use Rattle.vb_bit_buffer.specs.Stops
