@@ -28,7 +28,8 @@ fn found_by_loop<T: Term>(values: &[T], mask: &[u8], offset: usize) -> Found<T> 
         greatest: None,
     };
     for (k, value) in values.iter().enumerate() {
-        if !get_bit(mask, offset.saturating_add(k)) {
+        let place = offset.saturating_add(k);
+        if place / 8 >= mask.len() || !get_bit(mask, place) {
             continue;
         }
         found.sum = found.sum.wrapping_add(value.number());
@@ -81,7 +82,7 @@ fn byte(kind: usize, k: usize) -> u8 {
         3 => if k % 17 == 16 { 0x20 } else { 0 },
         4 => if k % 13 == 12 { 0xF7 } else { 0xFF },
         5 => if k / 8 % 2 == 0 { 0xFF } else { 0 },
-        _ => (k as u8).wrapping_mul(151).wrapping_add(77) ^ (k as u8 >> 3),
+        _ => ((k % 256) as u8).wrapping_mul(151).wrapping_add(77) ^ (k / 8 % 32) as u8,
     }
 }
 
