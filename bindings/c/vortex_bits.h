@@ -1,64 +1,63 @@
 /*
- * Windows of bits over the caller's bytes: counted, searched, compared, filled, copied, combined,
- * packed, taken, filtered, walked and ranked by functions that are proved to meet their
+ * Functions over windows of bits in the caller's bytes. They count, search, compare, fill, copy,
+ * combine, pack, take (gather), filter, walk and rank bits, and are proved to meet their
  * definitions.
  *
  *     cc -O2 app.c -I DIST/include DIST/lib/libvortex_bits.a
  *     cc -O2 app.c $(pkg-config --cflags --libs vortex_bits-static)
  *     cc -O2 app.c $(pkg-config --cflags --libs vortex_bits)
  *
- * The last is the shared library. A checkout has this file in bindings/c, and the libraries in
- * bindings/out once `bindings/build x86-64-v2 x86-64-v3` has made them. Beside it, and included by it, vortex_bits_gather.h
- * has bits put together of others, vortex_bits_ranks.h ranks over a table of counts,
- * vortex_bits_values.h and vortex_bits_compare.h what is done with values; vortex_bits.hpp has the
- * windows as C++ classes.
+ * The last command links the shared library. In a checkout this file is in bindings/c, and
+ * `bindings/build x86-64-v2 x86-64-v3` writes the libraries to bindings/out. This file includes
+ * vortex_bits_gather.h (bits built from other bits), vortex_bits_ranks.h (ranks over a table of
+ * counts), vortex_bits_values.h and vortex_bits_compare.h (values). vortex_bits.hpp has C++
+ * classes.
  *
- * libvortex_bits.a and libvortex_bits.so have code for x86-64-v2 and for x86-64-v3, and take the
+ * libvortex_bits.a and libvortex_bits.so have code for x86-64-v2 and for x86-64-v3, and run the
  * higher one that the processor has. libvortex_bits_x86-64-v2.a and libvortex_bits_x86-64-v3.a have
- * one of them. A processor that doesn't have the level gets an illegal instruction (SIGILL);
- * vb_has_level tells. What an archive defines is hidden: a shared library that is made over it
- * gives none of these names on.
+ * one of them. A processor without the level raises SIGILL (illegal instruction); vb_has_level
+ * reports whether it has it. The archives' symbols are hidden: a shared library linked with one
+ * exports none.
  *
- * Bit i of some bytes is digit i % 8 of byte i / 8, least significant first. A window is the `len`
- * bits from bit `offset` on; no answer depends on a bit outside of the windows that a call names,
- * and none is changed, whatever the bytes hold there. Lengths, offsets and places are counted in
- * bits. A number whose name ends in `size` counts bytes, and one whose name ends in `count` items.
+ * Bit i of some bytes is bit i % 8 of byte i / 8, least significant first. A window is the `len`
+ * bits starting at bit `offset`. No result depends on a bit outside the windows that a call names,
+ * and no such bit changes. Lengths, offsets and indices are in bits. A number whose name ends in
+ * `size` is in bytes, and one whose name ends in `count` is in items.
  *
- * A call may load any of the `size` bytes that it is given to read. Of a window that it writes, it
- * loads and stores only the bytes that have a bit of the window: the other bits of the first and the
- * last of these are stored as they were. Of items, such as values, places and runs, it stores only
- * those that it answers for, whatever room there is. Any thread may call any function. Two threads
- * may write windows of one bitmap at once where these share no byte, such as the first 1,000 bits
- * and the next 1,000.
+ * A call may load any of the `size` bytes that it is given to read. In a window that it writes, it
+ * loads and stores only the bytes that have a bit of the window; the other bits of the first and
+ * the last byte are stored unchanged. Of items, such as values, indices and runs, it stores only
+ * those that it returns, whatever the capacity. Any thread may call any function. Two threads may
+ * write windows of one bitmap at once if these share no byte, such as the first 1,000 bits and the
+ * next 1,000.
  *
- * What the caller owes of every call: each pointer points to as many items as the number behind it
- * says, and may be null where that is 0; the last pointer of a vb_try_ function, to the answer, is
- * not null; what a function is given to write overlaps nothing else that is passed, which no
- * function can test; nothing else touches the bytes that it stores during the call; of the `size`
- * bytes that it is given to read none is written during the call.
- * Of a call without `try` also: each window ends within its bytes, and its end, offset + len, is at
- * most SIZE_MAX.
+ * For every call, the caller must ensure: each pointer points to the number of items that the next
+ * argument gives, and may be null if that is 0; the last pointer of a vb_try_ function, to the
+ * result, is not null; the output overlaps no other argument, which no function can test; during
+ * the call nothing else accesses the bytes that it stores, and nothing writes the `size` bytes that
+ * it reads. For a call without `try` also: each window ends in its bytes, and its end, offset +
+ * len, is at most SIZE_MAX.
  *
- * Of a vb_try_ function the caller owes what is owed of every call, and no more: it tests sizes,
- * offsets, lengths and rooms, and that no pointer is null whose number is not 0, as after a failed
- * malloc. Where they aren't good, it answers false and leaves everything as it was. What indices
- * say is no such number: takes tell of the first bad one by the vb_taken that they answer, their
- * vb_try_ forms by `taken`. No function takes memory or keeps a pointer.
+ * A vb_try_ function requires no more than every call does. It tests sizes, offsets, lengths and
+ * capacities, and that no pointer is null whose number is not 0, as after a failed malloc. If a
+ * test fails, it returns false and leaves everything unchanged. An index that is out of range is
+ * not such a failure: takes report the first one in the vb_taken that they return, their vb_try_
+ * forms in `taken`. No function allocates memory or keeps a pointer.
  *
- * Arrow's arrays have bits so: `offset` is the array's, added to those of the structs that it is a
- * column of, and `size` is (offset + len + 7) / 8. A validity that isn't there, a null pointer,
- * says that all are valid: takes, vb_and_kleene and vb_or_kleene are told so; elsewhere leave out
- * the `and` with it. As three arguments for each window are many, write
+ * For an Arrow array, `offset` is the array's plus those of the structs that it is a column of, and
+ * `size` is (offset + len + 7) / 8. A missing validity, a null pointer, means that all are valid:
+ * takes, vb_and_kleene and vb_or_kleene have an argument for it; elsewhere leave out the `and` with
+ * it. A macro can write the three arguments of a window:
  *
  *     struct { const uint8_t *bytes; size_t size, offset; } a = {(const uint8_t[]){0xE8}, 1, 3};
  *     #define WINDOW(it) (it).bytes, (it).size, (it).offset
  *     assert(vb_and_count(WINDOW(a), WINDOW(a), 5) == 4);
  *
- * Proved are the functions of each level. Written by hand, and tested, is what stands before them:
- * a null pointer to no items is made one that they accept, and the checked forms refuse one to some;
- * the level is chosen; vb_set_indices, vb_set_slices and their checked forms go by pages of memory,
- * and join runs that reach over their ends; bools are packed as bytes; vb_filter_values and
- * vb_take_values choose by sizes. So are C++'s classes.
+ * The functions of each level are proved. The code in front of them is written by hand, and tested:
+ * it replaces a null pointer to no items by one that they accept; the checked forms reject one to
+ * some; it selects the level; vb_set_indices, vb_set_slices and their checked forms work by pages
+ * of memory, and join runs that cross page ends; it packs bools as bytes; vb_filter_values and
+ * vb_take_values choose by sizes. The C++ classes are also written by hand.
  */
 #ifndef VORTEX_BITS_H
 #define VORTEX_BITS_H
@@ -68,8 +67,8 @@
 #include <stdint.h>
 
 /*
- * The version of this file, as text, as its numbers, and as one number, which is larger in each
- * later version:
+ * The version of this file as text, as numbers, and as one number, which is larger in each later
+ * version:
  *
  *     #if VORTEX_BITS_VERSION_NUMBER < 910001
  *     #error "this program needs vortex_bits 0.91.0-r1 or later"
@@ -84,7 +83,7 @@
     (VORTEX_BITS_VERSION_MAJOR * 10000000 + VORTEX_BITS_VERSION_MINOR * 10000                     \
         + VORTEX_BITS_VERSION_PATCH * 100 + VORTEX_BITS_VERSION_REVISION)
 
-/* A compiler that can warns where nobody looks whether a checked form was refused. */
+/* Makes compilers that can do so warn if the result of a checked form is ignored. */
 #if defined(__GNUC__)
 #define VB_CHECKED __attribute__((warn_unused_result))
 #else
@@ -95,21 +94,21 @@
 extern "C" {
 #endif
 
-/* The place of a bit: `index` says something only where `found` is true. */
+/* The index of a bit; `index` is meaningful only if `found` is true. */
 typedef struct {
     bool found;
     size_t index;
 } vb_place;
 
-/* A run of true bits: where it begins, and the place behind it. */
+/* A run of set bits: the index of its first bit, and the index after its last one. */
 typedef struct {
     size_t start;
     size_t end;
 } vb_run;
 
 /*
- * How a take ended: whether an index that counts is out of range. `position` is that of the first
- * such index, and says something only where `out_of_range` is true.
+ * The result of a take: whether an index that counts is out of range. `position` is that of the
+ * first such index, and is meaningful only if `out_of_range` is true.
  */
 typedef struct {
     bool out_of_range;
@@ -117,7 +116,7 @@ typedef struct {
 } vb_taken;
 
 /*
- * The bit at `offset`, which lies in the bytes.
+ * Returns the bit at `offset`, which must be in the bytes.
  *
  *     const uint8_t rows[] = {0xE8, 0x06};
  *     bool bit;
@@ -128,7 +127,7 @@ bool vb_get_bit(const uint8_t *bytes, size_t size, size_t offset);
 VB_CHECKED bool vb_try_get_bit(const uint8_t *bytes, size_t size, size_t offset, bool *bit);
 
 /*
- * How many bits of the window are true. It reads the bytes once, 64 at a time.
+ * Returns the number of set bits in the window. Reads the bytes once, 64 at a time.
  *
  *     const uint8_t rows[] = {0xE8, 0x06};
  *     size_t ones;
@@ -140,8 +139,8 @@ VB_CHECKED bool vb_try_count_ones(const uint8_t *bytes, size_t size, size_t offs
         size_t *ones);
 
 /*
- * How many bits of two windows are true where both are (and), where one is (or), where one alone is
- * (xor), and of the left one alone (and_not). Each window is read once, and nothing is written.
+ * Returns the number of bits that are set in both windows (and), in at least one (or), in exactly
+ * one (xor), or in the left one alone (and_not). Reads each window once, and writes nothing.
  *
  *     const uint8_t left[] = {0x0C}, right[] = {0x0A};
  *     assert(vb_and_count(left, 1, 0, right, 1, 0, 4) == 1);
@@ -169,8 +168,8 @@ VB_CHECKED bool vb_try_and_not_count(const uint8_t *left, size_t left_size, size
 /* To here. */
 
 /*
- * The place within the window of its n-th true bit, counted from 0; none where there are at most
- * n. It counts from the front, 64 bytes at a time, up to the bytes that have it.
+ * Returns the index within the window of its n-th set bit, counted from 0; finds none if at most n
+ * bits are set. Reads from the front, 64 bytes at a time, up to the bytes that have it.
  *
  *     const uint8_t rows[] = {0xE8, 0x06};
  *     const vb_place third = vb_select(rows, 2, 3, 10, 2);
@@ -181,7 +180,7 @@ VB_CHECKED bool vb_try_select(const uint8_t *bytes, size_t size, size_t offset, 
         size_t n, vb_place *place);
 
 /*
- * The same of the n-th false bit.
+ * Returns the index of the n-th unset bit, in the same way.
  *
  *     const uint8_t rows[] = {0xE8, 0x06};
  *     assert(vb_select_unset(rows, 2, 3, 10, 0).index == 1);
@@ -191,8 +190,8 @@ VB_CHECKED bool vb_try_select_unset(const uint8_t *bytes, size_t size, size_t of
         size_t n, vb_place *place);
 
 /*
- * The place within the window of its last true bit; none where all are false. It reads from the
- * end, eight bytes at a time.
+ * Returns the index within the window of its last set bit; finds none if all bits are unset. Reads
+ * from the end, eight bytes at a time.
  *
  *     const uint8_t rows[] = {0xE8, 0x06};
  *     assert(vb_last_set(rows, 2, 3, 10).index == 7);
@@ -202,9 +201,9 @@ VB_CHECKED bool vb_try_last_set(const uint8_t *bytes, size_t size, size_t offset
         vb_place *place);
 
 /*
- * The place within the window of its first true bit from place `from` on, and of its first false
- * one; none where there is none, as there is none from the end on. It goes by words, from the third
- * on four at once, to that which has it.
+ * Returns the index within the window of its first set (or unset) bit at or after index `from`;
+ * finds none if there is none, or if `from` is at least `len`. Reads word by word, from the third
+ * word on four at once, up to the word that has it.
  *
  *     const uint8_t rows[] = {0xE8, 0x06};
  *     assert(vb_next_set(rows, 2, 3, 10, 5).index == 6);
@@ -218,9 +217,9 @@ VB_CHECKED bool vb_try_next_unset(const uint8_t *bytes, size_t size, size_t offs
         size_t from, vb_place *place);
 
 /*
- * The place within the window of its last true bit before place `before`, and of its last false
- * one; none where there is none. From the end on each place has all bits before it. It reads to the
- * front, eight words at once.
+ * Returns the index within the window of its last set (or unset) bit before index `before`; finds
+ * none if there is none. A `before` of at least `len` searches all bits. Reads towards the front,
+ * eight words at once.
  *
  *     const uint8_t rows[] = {0xE8, 0x06};
  *     assert(vb_previous_set(rows, 2, 3, 10, 6).index == 4);
@@ -236,8 +235,8 @@ VB_CHECKED bool vb_try_previous_unset(const uint8_t *bytes, size_t size, size_t 
         size_t before, vb_place *place);
 
 /*
- * Whether one of the bits is true, as none is of no bits, and whether all are, as all are of no
- * bits. It reads up to the first one that tells, four words at once.
+ * Returns whether any bit is set (false for no bits), or whether all are set (true for no bits).
+ * Reads up to the first bit that decides, four words at once.
  *
  *     const uint8_t rows[] = {0xE8, 0x06};
  *     assert(vb_any_set(rows, 2, 3, 10) && vb_all_set(rows, 2, 5, 3));
@@ -250,8 +249,8 @@ VB_CHECKED bool vb_try_all_set(const uint8_t *bytes, size_t size, size_t offset,
         bool *all);
 
 /*
- * Whether the `len` bits of `left` from bit `left_offset` on are those of `right` from bit
- * `right_offset` on. No block of 512 bytes behind the one with the first difference is read.
+ * Returns whether the `len` bits of `left` from bit `left_offset` on equal those of `right` from
+ * bit `right_offset` on. Reads no block of 512 bytes after the one with the first difference.
  *
  *     const uint8_t rows[] = {0xE8, 0x06};
  *     assert(vb_equal_bits(rows, 2, 5, rows, 2, 9, 2));
@@ -262,8 +261,8 @@ VB_CHECKED bool vb_try_equal_bits(const uint8_t *left, size_t left_size, size_t 
         const uint8_t *right, size_t right_size, size_t right_offset, size_t len, bool *equal);
 
 /*
- * Whether no bit is true in both windows, and whether each that is true in the left one is true in
- * the right one; of no bits both hold. It reads up to the first word that tells.
+ * Returns whether no bit is set in both windows, or whether each set bit of the left one is set in
+ * the right one; both hold for no bits. Reads up to the first word that decides.
  *
  *     const uint8_t left[] = {0x0C}, right[] = {0x0E};
  *     assert(vb_is_subset(left, 1, 0, right, 1, 0, 4));
@@ -279,9 +278,9 @@ VB_CHECKED bool vb_try_is_subset(const uint8_t *left, size_t left_size, size_t l
         const uint8_t *right, size_t right_size, size_t right_offset, size_t len, bool *subset);
 
 /*
- * Writes the places of the true bits, in ascending order, to the front of `out`, as many as have
- * room, and answers (`written`) how many these are. No page of memory is read behind that of the
- * last one that has room.
+ * Writes the indices of the set bits, in ascending order, to the front of `out`, up to its
+ * capacity, and returns the number written (`written`). Reads no page of memory after that of the
+ * last one for which there is capacity.
  *
  *     const uint8_t rows[] = {0xE8, 0x06};
  *     size_t places[4];
@@ -293,9 +292,9 @@ VB_CHECKED bool vb_try_set_indices(size_t *out, size_t out_count, const uint8_t 
         size_t offset, size_t len, size_t *written);
 
 /*
- * Writes the runs of true bits, from front to end, each as long as can be, to the front of `out`,
- * as many as have room, and answers (`written`) how many these are. No page of memory is read
- * behind that of the end of the last one that has room.
+ * Writes the runs of set bits, from front to end, each as long as possible, to the front of `out`,
+ * up to its capacity, and returns the number written (`written`). Reads no page of memory after
+ * that of the end of the last one for which there is capacity.
  *
  *     const uint8_t rows[] = {0xE8, 0x06};
  *     vb_run runs[4];
@@ -308,8 +307,8 @@ VB_CHECKED bool vb_try_set_slices(vb_run *out, size_t out_count, const uint8_t *
         size_t offset, size_t len, size_t *written);
 
 /*
- * Makes each bit of the window `value`. Whole bytes go by a block fill. One bit is made `value` by
- * its offset and the length 1.
+ * Sets each bit of the window to `value`. Fills whole bytes as a block. To set one bit, pass its
+ * offset and the length 1.
  *
  *     uint8_t rows[] = {0x00, 0xFF};
  *     vb_fill_bits(rows, 2, 3, 2, true);
@@ -331,7 +330,7 @@ VB_CHECKED bool vb_try_negate_bits(uint8_t *bytes, size_t size, size_t offset, s
 
 /*
  * Copies the `len` bits of `src` from bit `src_offset` on to the bits of `dst` from bit
- * `dst_offset` on, by words at any two offsets. The bytes of the two do not overlap, also where
+ * `dst_offset` on, word by word at any two offsets. The bytes of the two must not overlap, even if
  * their windows don't.
  *
  *     uint8_t rows[] = {0x00};
@@ -345,8 +344,8 @@ VB_CHECKED bool vb_try_copy_bits(uint8_t *dst, size_t dst_size, size_t dst_offse
         const uint8_t *src, size_t src_size, size_t src_offset, size_t len);
 
 /*
- * Makes each of the `len` bits of `dst` from bit `dst_offset` on true where it is true and that of
- * `src` from bit `src_offset` on is, by words at any two offsets.
+ * Sets each of the `len` bits of `dst` from bit `dst_offset` on to true if it is true and that of
+ * `src` from bit `src_offset` on is true, else to false. Works word by word at any two offsets.
  *
  *     uint8_t dst[] = {0xFC};
  *     const uint8_t src[] = {0x0A};
@@ -359,7 +358,7 @@ VB_CHECKED bool vb_try_and_bits(uint8_t *dst, size_t dst_size, size_t dst_offset
         const uint8_t *src, size_t src_size, size_t src_offset, size_t len);
 
 /*
- * The same: true where one of them is true, or both are.
+ * Does the same for `or`: true if one of the two bits is true, or both are.
  *
  *     uint8_t dst[] = {0x0C};
  *     const uint8_t src[] = {0x0A};
@@ -372,7 +371,7 @@ VB_CHECKED bool vb_try_or_bits(uint8_t *dst, size_t dst_size, size_t dst_offset,
         size_t src_size, size_t src_offset, size_t len);
 
 /*
- * The same: true where one of them is true, and not both.
+ * Does the same for `xor`: true if one of the two bits is true, and not both.
  *
  *     uint8_t dst[] = {0x0C};
  *     const uint8_t src[] = {0x0A};
@@ -385,7 +384,7 @@ VB_CHECKED bool vb_try_xor_bits(uint8_t *dst, size_t dst_size, size_t dst_offset
         const uint8_t *src, size_t src_size, size_t src_offset, size_t len);
 
 /*
- * The same: true where that of `dst` is true and that of `src` is not.
+ * Does the same for `and_not`: true if the bit of `dst` is true and that of `src` is false.
  *
  *     uint8_t dst[] = {0xFC};
  *     const uint8_t src[] = {0x0A};
@@ -398,9 +397,9 @@ VB_CHECKED bool vb_try_and_not_bits(uint8_t *dst, size_t dst_size, size_t dst_of
         const uint8_t *src, size_t src_size, size_t src_offset, size_t len);
 
 /*
- * Makes each of the `len` bits of `out` from bit `out_offset` on true where that of `left` from bit
- * `left_offset` on is true and that of `right` from bit `right_offset` on is. `left` and `right`
- * may overlap.
+ * Sets each of the `len` bits of `out` from bit `out_offset` on to true if that of `left` from bit
+ * `left_offset` on and that of `right` from bit `right_offset` on are true, else to false. `left`
+ * and `right` may overlap.
  *
  *     uint8_t out[] = {0xFF};
  *     const uint8_t left[] = {0x0C}, right[] = {0x0A};
@@ -415,7 +414,7 @@ VB_CHECKED bool vb_try_and_into(uint8_t *out, size_t out_size, size_t out_offset
         size_t right_size, size_t right_offset, size_t len);
 
 /*
- * The same: true where one of the two is true, or both are.
+ * Does the same for `or`: true if one of the two bits is true, or both are.
  *
  *     uint8_t out[] = {0};
  *     const uint8_t left[] = {0x0C}, right[] = {0x0A};
@@ -430,7 +429,7 @@ VB_CHECKED bool vb_try_or_into(uint8_t *out, size_t out_size, size_t out_offset,
         size_t right_size, size_t right_offset, size_t len);
 
 /*
- * The same: true where one of the two is true, and not both.
+ * Does the same for `xor`: true if one of the two bits is true, and not both.
  *
  *     uint8_t out[] = {0};
  *     const uint8_t left[] = {0x0C}, right[] = {0x0A};
@@ -445,7 +444,7 @@ VB_CHECKED bool vb_try_xor_into(uint8_t *out, size_t out_size, size_t out_offset
         size_t right_size, size_t right_offset, size_t len);
 
 /*
- * The same: true where that of `left` is true and that of `right` is not.
+ * Does the same for `and_not`: true if the bit of `left` is true and that of `right` is false.
  *
  *     uint8_t out[] = {0};
  *     const uint8_t left[] = {0x0C}, right[] = {0x0A};
@@ -460,13 +459,13 @@ VB_CHECKED bool vb_try_and_not_into(uint8_t *out, size_t out_size, size_t out_of
         size_t right_size, size_t right_offset, size_t len);
 
 /*
- * The processor level of the code that calls run: "x86-64-v2", say.
+ * Returns the processor level of the code that calls run: "x86-64-v2", say.
  *
  *     assert(vb_has_level() && strncmp(vb_level(), "x86-64-v", 8) == 0);
  */
 const char *vb_level(void);
 
-/* Whether the processor has that level. */
+/* Returns whether the processor has that level. */
 bool vb_has_level(void);
 
 #ifdef __cplusplus
