@@ -1,6 +1,6 @@
 /*
- * Comparisons of whole numbers and of floats, into bits. vortex_bits.h includes this file, and its
- * head says what the caller owes of every call.
+ * Comparisons of whole numbers and of floats, into bits. vortex_bits.h includes this file; its
+ * first comment states what the caller must ensure for every call.
  */
 #ifndef VORTEX_BITS_COMPARE_H
 #define VORTEX_BITS_COMPARE_H
@@ -12,8 +12,8 @@ extern "C" {
 #endif
 
 /*
- * How a value compares with another one: the `op` of the calls below, which is less than 6. With
- * another number a plain form stops the program by an illegal instruction, and a checked form
+ * The comparison of a value with another one: the `op` of the calls below, which is less than 6.
+ * With another number a plain form crashes with SIGILL (illegal instruction), and a checked form
  * returns false.
  *
  *     const uint8_t values[] = {7};
@@ -31,9 +31,9 @@ enum {
 
 /*
  * Writes to bit `out_offset + k` of `out`, for each k below `values_count`, whether value k
- * compares with `number` so. Every other bit of `out` stays. 64 values go at a time, by vectors.
- * Floats compare as C's operators do, and IEEE 754: of what isn't a number VB_NOT_EQUAL alone
- * holds, also where both sides are it, and 0.0 equals -0.0.
+ * compares with `number` by `op`. Every other bit of `out` is unchanged. Processes 64 values at a
+ * time, by vectors. Floats compare as by C's operators and IEEE 754: with a NaN on either side or
+ * on both only VB_NOT_EQUAL holds, and 0.0 equals -0.0.
  *
  *     const double prices[] = {1.5, NAN, 0.25};
  *     uint8_t cheap[] = {0};
@@ -84,7 +84,7 @@ VB_CHECKED bool vb_try_compare_f64(uint8_t *out, size_t out_size, size_t out_off
 /* To here. */
 
 /*
- * The same with other values, of which there are as many.
+ * Does the same with value k of `others`; `others_count` must equal `values_count`.
  *
  *     const int32_t ages[] = {19, 64, 7}, limits[] = {20, 64, 7};
  *     uint8_t below[] = {0};
