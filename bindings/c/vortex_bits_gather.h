@@ -1,10 +1,10 @@
 /*
- * Bits that are put together of others: truth values packed, bits at indices, those that a mask
- * keeps and those that go back to where it kept them, and `and` and `or` of truth values that may
- * be null. vortex_bits.h includes this file, and its head says what the caller owes of every call.
+ * Bits built from other bits: pack truth values, take (gather) bits at indices, filter by a mask
+ * and deposit again by it, and `and` and `or` of truth values that may be null. vortex_bits.h
+ * includes this file; its first comment states what the caller must ensure for every call.
  *
- * The calls write to any window of `out`, and leave every other bit of it: so what batches give is
- * joined as it is made. Those that end in _padded write whole bytes.
+ * The calls write to any window of `out` and leave its other bits unchanged, so the results of
+ * batches can be written one after the other. Those that end in _padded write whole bytes.
  */
 #ifndef VORTEX_BITS_GATHER_H
 #define VORTEX_BITS_GATHER_H
@@ -16,9 +16,9 @@ extern "C" {
 #endif
 
 /*
- * Packs truth values into the bits of `out` from bit `out_offset` on, one each; they lie in it, and
- * every other bit stays. 64 values go at a time, by vectors. A `bool` is a byte 0 or 1, as the
- * compiler makes it: another one, written through a pointer, counts as true.
+ * Packs truth values into the bits of `out` from bit `out_offset` on, one each, which must be in
+ * `out`; every other bit is unchanged. Processes 64 values at a time, by vectors. A `bool` is a
+ * byte 0 or 1, as the compiler makes it: another one, written through a pointer, counts as true.
  *
  *     uint8_t out[] = {0xFF};
  *     vb_pack_bools(out, 1, 3, (const bool[]){true, false, true}, 3);
@@ -30,7 +30,7 @@ VB_CHECKED bool vb_try_pack_bools(uint8_t *out, size_t out_size, size_t out_offs
         const bool *bools, size_t bools_count);
 
 /*
- * The same of bytes, each of which is true where it is not 0.
+ * Does the same for bytes, each of which is true if it is not 0.
  *
  *     uint8_t out[] = {0xFF};
  *     const uint8_t truthy[] = {7, 0, 255};
@@ -43,8 +43,8 @@ VB_CHECKED bool vb_try_pack_truthy(uint8_t *out, size_t out_size, size_t out_off
         const uint8_t *truthy, size_t truthy_count);
 
 /*
- * The same into the first bytes of `out`, eight values into each; the bits of the last one behind
- * them are false, and later bytes stay.
+ * Does the same into the first bytes of `out`, eight values into each. The remaining bits of the
+ * last byte written are false, and later bytes are unchanged.
  *
  *     uint8_t out[] = {0xFF};
  *     const uint8_t truthy[] = {7, 0, 255};
@@ -62,16 +62,16 @@ VB_CHECKED bool vb_try_pack_truthy_padded(uint8_t *out, size_t out_size, const u
         size_t truthy_count);
 
 /*
- * Writes the bits that the indices name among those of the window to the bits of `out` from bit
- * `out_offset` on, one for each index; or answers the first position that counts and whose index is
- * out of range, not below `len`. The checked forms answer that in `taken`. Where `all_valid` is
- * true, each position counts, and the validity may be null, of no bytes; else a position counts if
- * the bit of `validity` from bit `validity_offset` on is true there: at the others false is
- * written, and their indices are not looked at. Every other bit of `out` stays; where a position is
- * answered, those of the indices hold anything. 64 indices go at a time.
+ * Takes (gathers) bits: writes the bits of the window at the indices to the bits of `out` from bit
+ * `out_offset` on, one for each index. Returns, a checked form in `taken`, the first position that
+ * counts and whose index is out of range (not below `len`), if there is one. If `all_valid` is
+ * true, each position counts, and the validity may be null, of no bytes. Else a position counts if
+ * its bit of `validity`, from bit `validity_offset` on, is true; the others get false, and their
+ * indices are not read. Every other bit of `out` is unchanged; if a position is returned, the bits
+ * of the indices hold anything. Processes 64 indices at a time.
  *
- * Signed indices go by casts, where `len` is at most what they can name, as in
- * vortex_bits_values.h.
+ * Signed indices can be cast, if `len` is at most the number of indices that the type can
+ * represent, as in vortex_bits_values.h.
  *
  *     uint8_t out[] = {0xFF};
  *     const uint8_t bits[] = {0x12}, indices[] = {4, 0, 1};
@@ -116,10 +116,10 @@ VB_CHECKED bool vb_try_take_bits_u64(uint8_t *out, size_t out_size, size_t out_o
 /* To here. */
 
 /*
- * Writes those of the `len` bits of `bytes` from bit `offset` on whose bit of `mask` from bit
- * `mask_offset` on is true, in order, to the bits of `out` from bit `out_offset` on, which lie in
- * it, and answers (`written`) how many these are. Every other bit of `out` stays. The checked form
- * tests the room too. 64 bits go at a time.
+ * Filters bits: writes the bits of `bytes` from bit `offset` on whose bit of `mask`, from bit
+ * `mask_offset` on, is true, in order, to the bits of `out` from bit `out_offset` on. They must be
+ * in `out`; the checked form tests that too. Returns their number (`written`). Every other bit of
+ * `out` is unchanged. Processes 64 bits at a time.
  *
  *     uint8_t out[] = {0xFF};
  *     const uint8_t bits[] = {0x76}, mask[] = {0x4B};
@@ -133,10 +133,10 @@ VB_CHECKED bool vb_try_filter_bits(uint8_t *out, size_t out_size, size_t out_off
         size_t mask_offset, size_t len, size_t *written);
 
 /*
- * Undoes vb_filter_bits: writes `len` bits to `out` from bit `out_offset` on, which are those of
- * `bytes` from bit `offset` on, in order, where the bit of `mask` from bit `mask_offset` on is
- * true, and false elsewhere. `bytes` has a bit for each true one of the mask, which the checked
- * form counts. Every other bit of `out` stays.
+ * Undoes vb_filter_bits (deposits): writes `len` bits to `out` from bit `out_offset` on. Where the
+ * bit of `mask` from bit `mask_offset` on is true, they are those of `bytes` from bit `offset` on,
+ * in order; elsewhere false. `bytes` must have a bit for each set bit of the mask, which the
+ * checked form counts. Every other bit of `out` is unchanged.
  *
  *     uint8_t out[] = {0};
  *     const uint8_t bits[] = {0x0A}, mask[] = {0x4B};
@@ -152,16 +152,16 @@ VB_CHECKED bool vb_try_deposit_bits(uint8_t *out, size_t out_size, size_t out_of
 
 /*
  * Writes `left and right`, or `left or right`, of `len` truth values that may be null, by
- * three-valued logic, Kleene's, as in SQL: `and` is false where one of the two is false and `or` is
- * true where one is true, even if the other one is null; else the answer is null where one is.
- * Which are true goes to the bits of `trues` from bit `trues_offset` on, with false at nulls, and
- * which are not null to those of `valid` from bit `valid_offset` on. Every other bit of both stays.
+ * three-valued logic, Kleene's, as in SQL: `and` is false if one of the two is false, and `or` is
+ * true if one is true, even if the other one is null. Else the result is null if one is. The bits
+ * of `trues` from bit `trues_offset` on say which results are true (false at nulls); those of
+ * `valid` from bit `valid_offset` on say which are not null. Every other bit of both is unchanged.
  *
  * The values are the bits of `left` from bit `left_offset` on, and of `right` from `right_offset`
- * on. Where `left_all_valid` is true, none of `left` is null, and its validity may be null, of no
- * bytes; else a value is null if the bit of `left_validity` from bit `left_validity_offset` on is
- * false there, whatever the value is. So on the right. `not` needs no call of its own: it is
- * vb_negate_bits of the values, and the same validity.
+ * on. If `left_all_valid` is true, none of `left` is null, and its validity may be null, of no
+ * bytes. Else a value is null if its bit of `left_validity`, from bit `left_validity_offset` on, is
+ * false, whatever the value is. The same holds for the right side. `not` needs no call of its own:
+ * negate the values by vb_negate_bits, and keep the validity.
  *
  *     // True, true, false and null, with true, false, true and false.
  *     uint8_t trues[] = {0}, valid[] = {0};
