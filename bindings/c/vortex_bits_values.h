@@ -1,6 +1,6 @@
 /*
- * Values of 1, 2, 4, 8 or 16 bytes in the order of a mask or of indices. vortex_bits.h includes
- * this file, and its head says what the caller owes of every call.
+ * Values of 1, 2, 4, 8 or 16 bytes, selected by a mask or by indices. vortex_bits.h includes this
+ * file; its first comment states what the caller must ensure for every call.
  */
 #ifndef VORTEX_BITS_VALUES_H
 #define VORTEX_BITS_VALUES_H
@@ -18,11 +18,11 @@ typedef struct {
 } vb_u128;
 
 /*
- * Writes those of the values whose bit of `mask` from bit `mask_offset` on is true, in order, to
- * the front of `out`, and answers (`written`) how many these are; `out_count` is how many `out` has
- * room for, at least as many. The items behind them stay. The checked form tests the room too. 64
- * values go at a time. Values are copied as they are, so those of another type of the size, aligned
- * as that one is, go by casts of both pointers, or by vb_filter_values.
+ * Writes the values whose bit of `mask`, from bit `mask_offset` on, is true, in order, to the front
+ * of `out`, and returns their number (`written`). `out_count`, the capacity of `out`, must be at
+ * least that; the checked form tests it too. The items after them are unchanged. Processes 64
+ * values at a time. Values are copied as they are: for those of another type of the same size and
+ * alignment, cast both pointers, or call vb_filter_values.
  *
  *     uint32_t kept[2];
  *     const uint32_t values[] = {5, 6, 7};
@@ -58,10 +58,10 @@ VB_CHECKED bool vb_try_filter_values_u128(vb_u128 *out, size_t out_count, const 
 /* To here. */
 
 /*
- * The same of values of whatever type, signed ones, floats and structs too, by their size: 1, 2, 4,
- * 8 or 16 bytes, aligned as a whole number of so many bytes is, those of 16 as one of 8. With
- * another size the plain form stops the program by an illegal instruction. The checked form returns
- * false for such a size, and for a pointer that isn't aligned so.
+ * Does the same for values of any type, signed ones, floats and structs too, by their size: 1, 2,
+ * 4, 8 or 16 bytes. They are aligned as a whole number of that size is, those of 16 bytes as one of
+ * 8. With another size the plain form crashes with SIGILL (illegal instruction). The checked form
+ * returns false for such a size, and for a pointer that isn't aligned so.
  *
  *     const double prices[] = {0.5, 1.5, 2.5, 3.5};
  *     const uint8_t mask[] = {0x0B};
@@ -76,18 +76,18 @@ VB_CHECKED bool vb_try_filter_values(void *out, size_t out_count, const void *va
         size_t mask_offset, size_t *written);
 
 /*
- * Writes the values at the indices to the front of `out`, one each; or answers the first position
- * that counts and whose index is out of range, not below `values_count`. The checked forms answer
- * that in `taken`. `out_count` is how many values `out` has room for, at least as many as indices.
- * Where `all_valid` is true, each position counts, and the validity may be null, of no bytes; else
- * a position counts if the bit of `validity` from bit `validity_offset` on is true there: at the
- * others 0 is written, and their indices are not looked at. The items of `out` behind those of the
- * indices stay; where a position is answered, the ones in front hold anything.
+ * Takes (gathers) values: writes the values at the indices to the front of `out`, one each.
+ * Returns, a checked form in `taken`, the first position that counts and whose index is out of
+ * range (not below `values_count`), if there is one. `out_count`, the capacity of `out`, must be at
+ * least the number of indices. If `all_valid` is true, each position counts, and the validity may
+ * be null, of no bytes. Else a position counts if its bit of `validity`, from bit `validity_offset`
+ * on, is true; the others get 0, and their indices are not read. The items of `out` after those of
+ * the indices are unchanged; if a position is returned, the ones before hold anything.
  *
- * vb_take_values_u64_u32 takes values of 64 bits at indices of 32. Values of another type of the
- * size go by casts, or by vb_take_values. So do signed indices, where `values_count` is at most
- * what they can name: a negative one is then read as one that names nothing. Pass a smaller number
- * where there are more values, as of 2^31 for int32_t.
+ * vb_take_values_u64_u32 takes values of 64 bits at indices of 32. For values of another type of
+ * the size, cast the pointers, or call vb_take_values. Signed indices can be cast too, if
+ * `values_count` is at most the number of indices that the type can represent: a negative index is
+ * then out of range. If there are more values, pass that number, such as 2^31 for int32_t.
  *
  *     uint64_t out[2];
  *     const uint64_t values[] = {5, 6, 7};
@@ -219,10 +219,10 @@ VB_CHECKED bool vb_try_take_values_u128_u64(vb_u128 *out, size_t out_count, cons
 /* To here. */
 
 /*
- * The same of values of whatever type, by their size, as of vb_filter_values, and that of an index:
- * 1, 2, 4 or 8 bytes. With another size the plain form writes nothing and returns position 0, even
- * if there are no indices. The checked form returns false for such a size, and for a pointer that
- * isn't aligned so.
+ * Does the same for values of any type, by their size, as vb_filter_values, and by that of an
+ * index: 1, 2, 4 or 8 bytes. With another size the plain form writes nothing and returns position
+ * 0, even if there are no indices. The checked form returns false for such a size, and for a
+ * pointer that isn't aligned so.
  *
  *     const float prices[] = {0.5f, 1.5f, 2.5f};
  *     const int32_t rows[] = {2, 0};
