@@ -1,6 +1,6 @@
 /*
- * Ranks and places of ranks over a table of counts. vortex_bits.h includes this file, and its head
- * says what the caller owes of every call.
+ * Ranks and selects over a table of counts. vortex_bits.h includes this file; its first comment
+ * states what the caller must ensure for every call.
  */
 #ifndef VORTEX_BITS_RANKS_H
 #define VORTEX_BITS_RANKS_H
@@ -12,10 +12,9 @@ extern "C" {
 #endif
 
 /*
- * Ranks over a table that the caller keeps: it has, for each block of 512 bits of the window, how
- * many true bits are before it, which is ceil(len / 512) numbers. Writes these to the front of
- * `table`, as many as have room, and answers (`written`) how many these are. It counts the bits
- * once.
+ * Writes a table that the caller keeps for ranks. It has ceil(len / 512) entries: for each block of
+ * 512 bits of the window, the number of set bits before it. Writes these to the front of `table`,
+ * up to its capacity, and returns the number written (`written`). Counts the bits once.
  *
  *     uint8_t rows[128];
  *     memset(rows, 0x11, sizeof rows);
@@ -28,10 +27,10 @@ VB_CHECKED bool vb_try_block_counts(size_t *table, size_t table_count, const uin
         size_t size, size_t offset, size_t len, size_t *written);
 
 /*
- * How many of the first `index` bits of the window are true; `index` is at most `len`. It reads one
- * entry of the table, and the bits of one block. Here and below the table has exactly
- * ceil(len / 512) entries, which the checked forms test; that they are those of vb_block_counts
- * they cannot test: of other ones the answer says nothing, and does no harm.
+ * Returns the number of set bits among the first `index` bits of the window; `index` is at most
+ * `len`. Reads one entry of the table and the bits of one block. Here and below the table has
+ * ceil(len / 512) entries, which the checked forms test. They cannot test that these are those of
+ * vb_block_counts: with others the result is meaningless, but harmless.
  *
  *     uint8_t rows[128];
  *     memset(rows, 0x11, sizeof rows);
@@ -44,8 +43,8 @@ VB_CHECKED bool vb_try_rank(const uint8_t *bytes, size_t size, size_t offset, si
         const size_t *table, size_t table_count, size_t index, size_t *rank);
 
 /*
- * The place of the n-th true bit of the window, and of its n-th false bit, by halves of the table
- * and within one block.
+ * Returns the index of the n-th set bit of the window, or of its n-th unset bit, by binary search
+ * of the table and a search of one block.
  *
  *     uint8_t rows[128];
  *     memset(rows, 0x11, sizeof rows);
