@@ -67,7 +67,7 @@ VB_CHECKED bool vb_try_pack_truthy_padded(uint8_t *out, size_t out_size, const u
  * counts and whose index is out of range (not below `len`), if there is one. If `all_valid` is
  * true, each position counts, and the validity may be null, of no bytes. Else a position counts if
  * its bit of `validity`, from bit `validity_offset` on, is true; the others get false, and their
- * indices are not read. Every other bit of `out` is unchanged; if a position is returned, the bits
+ * indices are ignored. Every other bit of `out` is unchanged; if a position is returned, the bits
  * of the indices hold anything. Processes 64 indices at a time.
  *
  * Signed indices can be cast, if `len` is at most the number of indices that the type can

@@ -81,7 +81,7 @@ VB_CHECKED bool vb_try_filter_values(void *out, size_t out_count, const void *va
  * range (not below `values_count`), if there is one. `out_count`, the capacity of `out`, must be at
  * least the number of indices. If `all_valid` is true, each position counts, and the validity may
  * be null, of no bytes. Else a position counts if its bit of `validity`, from bit `validity_offset`
- * on, is true; the others get 0, and their indices are not read. The items of `out` after those of
+ * on, is true; the others get 0, and their indices are ignored. The items of `out` after those of
  * the indices are unchanged; if a position is returned, the ones before hold anything.
  *
  * vb_take_values_u64_u32 takes values of 64 bits at indices of 32. For values of another type of
