@@ -1,7 +1,7 @@
 /*
- * The windows of vortex_bits.h as C++ classes, of C++17 and later. This file includes its parts:
- * vortex_bits_compare.hpp, _gather.hpp, _ranks.hpp, and _values.hpp for values at indices. Each of
- * them may be included alone, and in any order.
+ * The windows of vortex_bits.h as C++ classes, for C++17 and later. This file includes its parts:
+ * vortex_bits_compare.hpp, _gather.hpp, _ranks.hpp and _values.hpp. You may also include each part
+ * on its own, and in any order.
  *
  *     c++ -std=c++17 -O2 app.cpp -I DIST/include DIST/lib/libvortex_bits.a
  *
@@ -10,10 +10,10 @@
  *     rows.count_ones();                                // 6
  *     rows.for_each_set([&](std::size_t row) { .. });
  *
- * A window is tested once, where it is made. Like a std::span it does not own its bytes, so a window
- * over a temporary container does not compile. What a window can't know is tested at the call: that
- * two have one length, that a place is one of it, that there is room. Where a test fails,
- * std::out_of_range is thrown, and nothing was written; without exceptions the program is aborted.
+ * A window is tested once, by its constructor. Like a std::span it does not own its bytes, so a
+ * window over a temporary container does not compile. The calls test the rest: that two windows
+ * have one length, that an index is in bounds, that the capacity suffices. If a test fails, the
+ * call throws std::out_of_range and has written nothing; without exceptions the program aborts.
  */
 #ifndef VORTEX_BITS_HPP
 #define VORTEX_BITS_HPP
@@ -24,7 +24,7 @@
 
 namespace vortex_bits {
 
-/* Whether a window lies in so many bytes, and its end is a std::size_t: then it can be made. */
+/* Returns whether a window is in `size` bytes and its end fits a std::size_t: it can be made. */
 constexpr bool fits(std::size_t size, std::size_t offset, std::size_t len)
 {
     return len <= SIZE_MAX - offset && (offset + len) / 8 + ((offset + len) % 8 != 0) <= size;
@@ -33,8 +33,8 @@ constexpr bool fits(std::size_t size, std::size_t offset, std::size_t len)
 /*
  * Whether objects of a type refer to bytes that outlive them, as a std::span does. A window over a
  * temporary object compiles for these types alone: std::basic_string_view, each borrowed range of
- * C++20, and each trivially copyable type whose `data() const` points to bytes that may be written,
- * which can't be its own. Specialise it for another view of yours:
+ * C++20, and each trivially copyable type whose `data() const` points to writable bytes, which
+ * can't be its own. Specialise it for another view of yours:
  *
  *     template <> inline constexpr bool vortex_bits::is_borrowed<my::slice> = true;
  */
@@ -43,7 +43,7 @@ template <class Byte, class Traits>
 inline constexpr bool is_borrowed<std::basic_string_view<Byte, Traits>> = true;
 
 /*
- * Items that another container owns, as std::span of C++20 has them:
+ * Items that another container owns, like std::span of C++20:
  *
  *     vortex_bits::bits rows(vortex_bits::view(pointer, 2), 3, 10);    // over two bytes or words
  */
@@ -72,7 +72,7 @@ template <class Item> inline constexpr bool is_borrowed<view<Item>> = true;
 
 namespace detail {
 
-/* What lends bytes, and of these what borrows them, and what has bytes of its own. */
+/* Types that lend bytes; of these, types that borrow the bytes, and types that own them. */
 template <class Container, class Byte>
 using lender = std::enable_if_t<lends<Container, Byte>, int>;
 template <class Container, class Byte>
@@ -80,7 +80,7 @@ using borrower = std::enable_if_t<lends<Container, Byte> && is_borrowed<Containe
 template <class Container, class Byte>
 using owner = std::enable_if_t<lends<Container, Byte> && !is_borrowed<Container>, int>;
 
-/* The bytes of words, the lowest one of each first, as on each x86-64. */
+/* Returns the bytes of words, the lowest byte of each first, as on each x86-64. */
 template <class Words> auto bytes_of(Words &words)
 {
     using word = std::remove_pointer_t<decltype(words.data())>;
@@ -90,7 +90,7 @@ template <class Words> auto bytes_of(Words &words)
 
 } // namespace detail
 
-/* A window that is read: the `len` bits from bit `offset` on of some bytes. */
+/* A read-only window: the `len` bits from bit `offset` on of some bytes. */
 class bits {
 public:
     /* No bits. */
@@ -115,7 +115,7 @@ public:
     {
     }
 
-    /* A temporary container ends before the window: give it a name. Of views see is_borrowed. */
+    /* Deleted: a temporary container dies before the window. Name it; for views see is_borrowed. */
     template <class Bytes, detail::owner<Bytes, const std::uint8_t> = 0>
     bits(const Bytes &&bytes, std::size_t offset, std::size_t len) = delete;
     template <class Words, detail::owner<Words, const std::uint64_t> = 0>
@@ -124,15 +124,15 @@ public:
     std::size_t size() const { return len_; }
     bool empty() const { return len_ == 0; }
 
-    /* The first bit, as one of the bytes. */
+    /* Returns the index of the first bit in the bytes. */
     std::size_t offset() const { return offset_; }
 
 #ifdef __cpp_lib_span
-    /* The bytes in which the window lies, those outside of it too. */
+    /* Returns the bytes that hold the window, those outside of it too. */
     std::span<const std::uint8_t> bytes() const { return {bytes_, size_}; }
 #endif
 
-    /* The `len` bits from place `start` on. */
+    /* Returns the `len` bits from index `start` on. */
     bits slice(std::size_t start, std::size_t len) const
     {
         detail::expect(start <= len_ && len <= len_ - start, "a slice is longer than its window");
@@ -148,36 +148,36 @@ public:
 
     std::size_t count_ones() const { return vb_count_ones(bytes_, size_, offset_, len_); }
 
-    /* How many bits are true where both windows are, which have one length, as in all calls here. */
+    /* Returns the number of bits set in both; the windows have one length, as in all calls here. */
     std::size_t and_count(bits right) const { return by_another(vb_and_count, right); }
     std::size_t or_count(bits right) const { return by_another(vb_or_count, right); }
     std::size_t xor_count(bits right) const { return by_another(vb_xor_count, right); }
     std::size_t and_not_count(bits right) const { return by_another(vb_and_not_count, right); }
     std::size_t count_zeros() const { return len_ - count_ones(); }
 
-    /* Whether no bit is true in both, and whether each that is true here is true there. */
+    /* Returns whether no bit is set in both, and whether each bit set here is set in `right`. */
     bool is_disjoint(bits right) const { return by_another(vb_is_disjoint, right); }
     bool is_subset(bits right) const { return by_another(vb_is_subset, right); }
 
-    /* The place of the n-th true bit, counted from 0, if there is one. */
+    /* Returns the index of the n-th set bit, counted from 0, if there is one. */
     std::optional<std::size_t> select(std::size_t n) const
     {
         return detail::place(vb_select(bytes_, size_, offset_, len_, n));
     }
 
-    /* The place of the n-th false bit. */
+    /* Returns the index of the n-th unset bit. */
     std::optional<std::size_t> select_unset(std::size_t n) const
     {
         return detail::place(vb_select_unset(bytes_, size_, offset_, len_, n));
     }
 
-    /* The place of the last true bit, if there is one. */
+    /* Returns the index of the last set bit, if there is one. */
     std::optional<std::size_t> last_set() const
     {
         return detail::place(vb_last_set(bytes_, size_, offset_, len_));
     }
 
-    /* The place of the first bit from place `from` on that is true, or false, if there is one. */
+    /* Returns the index of the first set, or unset, bit at or after `from`, if there is one. */
     std::optional<std::size_t> next_set(std::size_t from) const
     {
         return detail::place(vb_next_set(bytes_, size_, offset_, len_, from));
@@ -187,7 +187,7 @@ public:
         return detail::place(vb_next_unset(bytes_, size_, offset_, len_, from));
     }
 
-    /* And of the last one before place `before`. */
+    /* Returns that of the last one before index `before`. */
     std::optional<std::size_t> previous_set(std::size_t before) const
     {
         return detail::place(vb_previous_set(bytes_, size_, offset_, len_, before));
@@ -200,7 +200,7 @@ public:
     bool any() const { return vb_any_set(bytes_, size_, offset_, len_); }
     bool all() const { return vb_all_set(bytes_, size_, offset_, len_); }
 
-    /* The same bits, wherever these lie. */
+    /* Returns whether the bits are the same, at whatever offsets. */
     friend bool operator==(const bits &left, const bits &right)
     {
         return left.len_ == right.len_
@@ -211,7 +211,7 @@ public:
     friend bool operator!=(const bits &left, const bits &right) { return !(left == right); }
 
     /*
-     * Calls `f` with each place of a true bit, in ascending order. If `f` returns a bool, the walk
+     * Calls `f` with the index of each set bit, in ascending order. If `f` returns a bool, the walk
      * ends at the first false; any other result is ignored.
      */
     template <class F> void for_each_set(F f) const
@@ -222,7 +222,7 @@ public:
     }
 
     /*
-     * Calls `f` with the start and the end of each run of true bits, as long as can be. If `f`
+     * Calls `f` with the start and the end of each run of set bits, as long as possible. If `f`
      * returns a bool, the walk ends at the first false; any other result is ignored.
      */
     template <class F> void for_each_run(F f) const
@@ -234,7 +234,7 @@ public:
             });
     }
 
-    /* The places of the true bits. */
+    /* Returns the indices of the set bits. */
     std::vector<std::size_t> set_indices() const
     {
         std::vector<std::size_t> places(count_ones());
@@ -242,7 +242,7 @@ public:
         return places;
     }
 
-    /* The runs of true bits. */
+    /* Returns the runs of set bits. */
     std::vector<vb_run> set_slices() const
     {
         std::vector<vb_run> runs;
@@ -250,7 +250,7 @@ public:
         return runs;
     }
 
-    /* Writes them to the front of `out`, as many as have room, and answers how many these are. */
+    /* Writes them to the front of `out`, up to its capacity, and returns the number written. */
     template <class Out> std::size_t set_indices_into(Out &&out) const
     {
         return vb_set_indices(out.data(), out.size(), bytes_, size_, offset_, len_);
@@ -261,27 +261,27 @@ public:
     }
 
     /*
-     * Writes the bits at the indices, of a whole number of 8 to 64 bits, to the first bits of
-     * `out`, one each; answers the first position whose index is not a place, if there is one, and
-     * these bits then hold anything.
+     * Takes (gathers): writes the bits at the indices, whole numbers of 8 to 64 bits, to the first
+     * bits of `out`, one each. Returns the first position whose index is out of range, if there is
+     * one; these bits then hold anything.
      */
     template <class Indices, class Out>
     [[nodiscard]] std::optional<std::size_t> take_into(const Indices &indices, Out &&out) const;
 
-    /* The same where `valid` is true; at the other positions false is written. */
+    /* Does the same where `valid` is true; writes false at the other positions. */
     template <class Indices, class Out>
     [[nodiscard]] std::optional<std::size_t> take_into(const Indices &indices, bits valid,
         Out &&out) const;
 
     /*
-     * Writes the bits that are true in `mask`, which is as long, in order, to the first bits of
-     * `out`, and answers how many these are.
+     * Writes the bits that `mask`, of the same length, selects, in order, to the first bits of
+     * `out`, and returns their number.
      */
     template <class Out> std::size_t filter_into(bits mask, Out &&out) const;
 
     /*
-     * Writes those of as many values as there are bits whose bit is true, in order, to the front of
-     * `out`, and answers how many these are. They are whole numbers, floats, bool, vb_u128, or
+     * Writes the values whose bit is set, in order, to the front of `out`, and returns their
+     * number. There must be one value per bit. They are whole numbers, floats, bool, vb_u128, or
      * others that are copied as bytes: of 1, 2, 4, 8 or 16 bytes, and aligned as a whole number of
      * that size, those of 16 as one of 8.
      */
@@ -321,7 +321,7 @@ private:
         return call(bytes_, size_, offset_, right.bytes_, right.size_, right.offset_, len_);
     }
 
-    /* Calls `each` with what `find` finds, item by item, until it answers false. */
+    /* Calls `each` with each item that `find` writes, until it returns false. */
     template <class Items, class Find, class End, class Each>
     void walk(Items &items, Find find, End end, Each each) const
     {
@@ -347,7 +347,7 @@ private:
     std::size_t len_ = 0;
 };
 
-/* A window that is written; every bit outside of it stays. */
+/* A writable window; every bit outside of it is unchanged. */
 class bits_mut {
 public:
     bits_mut(std::uint8_t *bytes, std::size_t size, std::size_t offset, std::size_t len)
@@ -362,7 +362,7 @@ public:
     {
     }
 
-    /* Over a temporary one too, if its bytes are another's, as a std::span's. */
+    /* Over a temporary container too, if it refers to another's bytes, as a std::span does. */
     template <class Bytes, detail::borrower<Bytes, std::uint8_t> = 0>
     bits_mut(const Bytes &&bytes, std::size_t offset, std::size_t len)
         : bits_mut(bytes.data(), bytes.size(), offset, len)
@@ -371,7 +371,7 @@ public:
     template <class Bytes, detail::owner<Bytes, std::uint8_t> = 0>
     bits_mut(const Bytes &&bytes, std::size_t offset, std::size_t len) = delete;
 
-    /* Over words of 64 bits, as bits has them. */
+    /* Over words of 64 bits, as in bits. */
     template <class Words, detail::lender<Words, std::uint64_t> = 0>
     bits_mut(Words &words, std::size_t offset, std::size_t len)
         : bits_mut(detail::bytes_of(words), 8 * words.size(), offset, len)
@@ -387,10 +387,10 @@ public:
 
     std::size_t size() const { return len_; }
 
-    /* The window to be read. */
+    /* Returns the window as a read-only one. */
     operator bits() const { return bits(bytes_, size_, offset_, len_); }
 
-    /* The `len` bits from place `start` on. */
+    /* Returns the `len` bits from index `start` on. */
     bits_mut slice(std::size_t start, std::size_t len) const
     {
         detail::expect(start <= len_ && len <= len_ - start, "a slice is longer than its window");
@@ -401,54 +401,54 @@ public:
     void fill(bool value) { vb_fill_bits(bytes_, size_, offset_, len_, value); }
     void negate() { vb_negate_bits(bytes_, size_, offset_, len_); }
 
-    /* Of a window of the same length, whose bytes do not overlap these, as in all calls below. */
+    /* `source` or `right` has this length, and its bytes overlap none of these; so in all below. */
     void copy_from(bits source) { by_another(vb_copy_bits, source); }
     void operator&=(bits right) { by_another(vb_and_bits, right); }
     void operator|=(bits right) { by_another(vb_or_bits, right); }
     void operator^=(bits right) { by_another(vb_xor_bits, right); }
     void and_not(bits right) { by_another(vb_and_not_bits, right); }
 
-    /* Of two windows, which may overlap each other. */
+    /* Writes the result of two windows, which may overlap each other. */
     void and_of(bits left, bits right) { by_two(vb_and_into, left, right); }
     void or_of(bits left, bits right) { by_two(vb_or_into, left, right); }
     void xor_of(bits left, bits right) { by_two(vb_xor_into, left, right); }
     void and_not_of(bits left, bits right) { by_two(vb_and_not_into, left, right); }
 
     /*
-     * Where `mask`, which is as long, is true, the bits of `values` in order, of which there is one
-     * for each such place; false elsewhere. It undoes filter_into.
+     * Undoes filter_into: writes the bits of `values` in order where `mask`, of this length, is
+     * true, and false elsewhere. `values` has one bit per set bit of the mask.
      */
     void deposit_of(bits values, bits mask);
 
     /*
-     * Writes the bits of `values` that are true in `mask`, which is as long, in order, to the first
-     * bits of the window, and answers how many these are. So batches are joined:
+     * Writes the bits of `values` that `mask`, of the same length, selects, in order, to the first
+     * bits of the window, and returns their number. This joins batches:
      *
      *     rows += out.slice(rows, left).filter_of(batch, mask);
      */
     std::size_t filter_of(bits values, bits mask);
 
-    /* The bits of `values` at the indices, as bits::take_into writes them, of which all count. */
+    /* Takes bits of `values`, as bits::take_into writes them; all positions count. */
     template <class Indices>
     [[nodiscard]] std::optional<std::size_t> take_of(bits values, const Indices &indices);
 
-    /* The same where `valid` is true; at the other positions false is written. */
+    /* Does the same where `valid` is true; writes false at the other positions. */
     template <class Indices>
     [[nodiscard]] std::optional<std::size_t> take_of(bits values, const Indices &indices,
         bits valid);
 
     /*
-     * Which are true of `left and right`, or of `left or right`, truth values that may be null, by
-     * three-valued logic: `and` is false where one is false and `or` true where one is true, even
-     * if the other one is null; else the answer is null where one is, and false stands here.
-     * `valid` says which answers are not null. A side without a validity has no null.
+     * Writes which of `left and right`, or of `left or right`, are true, by three-valued logic on
+     * truth values that may be null. `and` is false if one is false, and `or` is true if one is
+     * true, even if the other one is null. Else the result is null if one is, and false is written
+     * here. `valid` gets which results are not null. A side without a validity has no null.
      */
     void and_kleene_of(bits left, std::optional<bits> left_valid, bits right,
         std::optional<bits> right_valid, bits_mut valid);
     void or_kleene_of(bits left, std::optional<bits> left_valid, bits right,
         std::optional<bits> right_valid, bits_mut valid);
 
-    /* As many bools, of which std::vector<bool> has none; and bytes, true where they are not 0. */
+    /* Copies one bool per bit (std::vector<bool> lends none), or bytes, true if they are not 0. */
     template <class Bools> void copy_from_bools(const Bools &bools);
     template <class Bytes> void copy_from_truthy(const Bytes &truthy);
 
