@@ -1,5 +1,5 @@
 /*
- * Values compared, for vortex_bits.hpp, which includes this file.
+ * Comparisons of values, a part of vortex_bits.hpp, which includes this file.
  *
  *     std::vector<std::int32_t> ages = {19, 64, 7, 30};
  *     std::vector<std::uint8_t> grown(1);
@@ -16,7 +16,7 @@ namespace vortex_bits {
 
 namespace detail {
 
-/* The C functions that compare numbers of so many bytes: floats, or whole ones, signed or not. */
+/* The C functions for numbers of `Size` bytes: floats, or signed or unsigned whole numbers. */
 template <std::size_t Size, bool Float, bool Signed> struct compared_by;
 #define VB_COMPARED_BY(size, is_float, is_signed, name, number_type)                              \
     template <> struct compared_by<size, is_float, is_signed> {                                   \
@@ -51,8 +51,8 @@ template <class Value> constexpr bool is_compared()
 } // namespace detail
 
 /*
- * Writes to `out` which of the values, whole numbers of 8 to 64 bits, floats or doubles, compare so
- * with `number`: `op` is VB_EQUAL, VB_LESS, .. of vortex_bits_compare.h.
+ * Writes to `out` which of the values compare with `number` by `op`: VB_EQUAL, VB_LESS, .. of
+ * vortex_bits_compare.h. Values are whole numbers of 8 to 64 bits, floats or doubles.
  */
 template <class Values>
 void compare(const Values &values, std::uint8_t op,
@@ -71,7 +71,7 @@ void compare(const Values &values, std::uint8_t op,
     }
 }
 
-/* Which compare so with the one of `others`, as many of the same type, at the same place. */
+/* Does the same with the item of `others` at the same index; both have one length and type. */
 template <class Values, class Others>
 void compare_with(const Values &values, std::uint8_t op, const Others &others, bits_mut out)
 {
