@@ -1,7 +1,7 @@
 /*
- * Bits that are put together of others, for vortex_bits.hpp, which includes this file: truth values
- * packed, bits at indices, those that a mask keeps, those that go back to where it kept them, and
- * `and` and `or` of truth values that may be null.
+ * Bits built from other bits, a part of vortex_bits.hpp, which includes this file: pack truth
+ * values, take (gather) bits at indices, filter by a mask and deposit again by it, and `and` and
+ * `or` of truth values that may be null.
  *
  *     std::array<bool, 3> flags = {true, false, true};
  *     std::vector<std::uint8_t> packed(1);
@@ -18,7 +18,7 @@ namespace vortex_bits {
 
 namespace detail {
 
-/* The C function that takes bits at indices of so many bytes. */
+/* The C function that takes bits at indices of `Index` bytes. */
 template <std::size_t Index> struct bits_taken_by;
 #define VB_TAKEN_BY(size, name, integer)                                                          \
     template <> struct bits_taken_by<size> {                                                      \
@@ -152,8 +152,8 @@ template <class Bytes> void bits_mut::copy_from_truthy(const Bytes &truthy)
 }
 
 /*
- * Packs bools into the first bytes of `out`, eight into each; the bits of the last one behind them
- * are false. std::vector<bool> has none: it lends no bools.
+ * Packs bools into the first bytes of `out`, eight into each. The remaining bits of the last byte
+ * are false. Not for std::vector<bool>, which lends no bools.
  */
 template <class Bools, class Out> void pack_bools(const Bools &bools, Out &&out)
 {
@@ -166,7 +166,7 @@ template <class Bools, class Out> void pack_bools(const Bools &bools, Out &&out)
     }
 }
 
-/* The same of bytes, each of which is true where it is not 0. */
+/* Does the same for bytes, each of which is true if it is not 0. */
 template <class Bytes, class Out> void pack_truthy(const Bytes &truthy, Out &&out)
 {
     static_assert(detail::is_bytes<Out>(), "pack_truthy writes bytes of std::uint8_t");
