@@ -1,5 +1,5 @@
 /*
- * Ranks over a window, for vortex_bits.hpp, which includes this file.
+ * Ranks over a window, a part of vortex_bits.hpp, which includes this file.
  *
  *     vortex_bits::ranks rows(vortex_bits::bits(valid, 3, 10));
  *     rows.rank(5);                                     // true bits among the first five
@@ -15,12 +15,12 @@
 namespace vortex_bits {
 
 /*
- * A window with the table of its true bits before each block of 512, which it has of its own. After
- * a move the source has no bits. An assignment that throws leaves both sides unchanged.
+ * A window with its own table of the number of set bits before each block of 512. After a move the
+ * source has no bits. An assignment that throws leaves both sides unchanged.
  */
 class ranks {
 public:
-    /* It counts the bits once. */
+    /* Counts the bits once. */
     explicit ranks(bits window) : bits_(window), table_(blocks(window))
     {
         vb_block_counts(table_.data(), table_.size(), bits_.bytes_, bits_.size_, bits_.offset_,
@@ -28,8 +28,8 @@ public:
     }
 
     /*
-     * Over a table that table() answered for the same bits, and that was kept: nothing is counted.
-     * Of another table of that size the answers say nothing, and do no harm.
+     * Uses a stored table that table() returned for the same bits, and counts nothing. With another
+     * table of that size the results are meaningless, but harmless.
      */
     ranks(bits window, std::vector<std::size_t> table) : bits_(window), table_(std::move(table))
     {
@@ -42,7 +42,7 @@ public:
     {
     }
 
-    /* The copy is made before anything changes here. */
+    /* Copies before anything changes here. */
     ranks &operator=(ranks from) noexcept
     {
         std::swap(bits_, from.bits_);
@@ -54,10 +54,10 @@ public:
 
     std::size_t size() const { return bits_.len_; }
 
-    /* How many bits are true. */
+    /* Returns the number of set bits. */
     std::size_t count() const { return rank(bits_.len_); }
 
-    /* How many of the first `place` bits are true, by one entry of the table and one block. */
+    /* Returns the number of set bits before `place`. Reads one entry of the table and one block. */
     std::size_t rank(std::size_t place) const
     {
         detail::expect(place <= bits_.len_, "a place is behind the window");
@@ -65,10 +65,10 @@ public:
             table_.size(), place);
     }
 
-    /* The place of the n-th true bit, counted from 0, if there is one. */
+    /* Returns the index of the n-th set bit, counted from 0, if there is one. */
     std::optional<std::size_t> select(std::size_t n) const { return by(vb_ranked_select, n); }
 
-    /* The place of the n-th false bit. */
+    /* Returns the index of the n-th unset bit. */
     std::optional<std::size_t> select_unset(std::size_t n) const
     {
         return by(vb_ranked_select_unset, n);
