@@ -1,5 +1,5 @@
 /*
- * Values at indices, for vortex_bits.hpp, which includes this file.
+ * Values at indices, a part of vortex_bits.hpp, which includes this file.
  *
  *     std::vector<std::int64_t> column = {10, 20, 30, 40}, taken(2);
  *     vortex_bits::take_values(column, std::vector<std::uint8_t>{3, 0}, taken);    // 40, 10
@@ -15,7 +15,7 @@ namespace vortex_bits {
 
 namespace detail {
 
-/* The C function for values of so many bytes at indices of so many. */
+/* The C function for values of `Value` bytes at indices of `Index` bytes. */
 template <std::size_t Value, std::size_t Index> struct taken_by;
 #define VB_TAKEN_BY(value, index, name)                                                           \
     template <> struct taken_by<value, index> {                                                   \
@@ -48,10 +48,10 @@ VB_TAKEN_BY(16, 8, u128_u64)
 } // namespace detail
 
 /*
- * Writes the values at the indices, of a whole number of 8 to 64 bits, to the front of `out`, one
- * each; where `valid` is false, 0, whatever the index. Answers the first position that counts and
- * whose index names no value, if there is one, and the items in front then hold anything; those of
- * `out` behind them stay. Values are of the types that keep_into takes.
+ * Takes (gathers): writes the values at the indices, whole numbers of 8 to 64 bits, to the front of
+ * `out`, one each; where `valid` is false, 0, whatever the index. Returns the first position that
+ * counts and whose index is out of range, if there is one; the items before then hold anything.
+ * Later items of `out` are unchanged. Values are of the types that keep_into takes.
  */
 template <class Values, class Indices, class Out>
 [[nodiscard]] std::optional<std::size_t> take_values(const Values &values, const Indices &indices,
@@ -81,7 +81,7 @@ template <class Values, class Indices, class Out>
     return std::nullopt;
 }
 
-/* The same where every position counts. */
+/* Does the same where every position counts. */
 template <class Values, class Indices, class Out>
 [[nodiscard]] std::optional<std::size_t> take_values(const Values &values, const Indices &indices,
     Out &&out)
