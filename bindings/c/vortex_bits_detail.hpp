@@ -56,13 +56,13 @@ inline std::optional<std::size_t> place(vb_place it)
     return it.found ? std::optional<std::size_t>(it.index) : std::nullopt;
 }
 
-/* The first position whose index is out of range. */
+/* Returns the first position whose index is out of range. */
 inline std::optional<std::size_t> position(vb_taken it)
 {
     return it.out_of_range ? std::optional<std::size_t>(it.position) : std::nullopt;
 }
 
-/* Whether it lends bytes: a std::vector, std::array, std::span, .. of std::uint8_t does. */
+/* Whether it lends bytes, as a std::vector, std::array, std::span, .. of std::uint8_t does. */
 template <class Container, class Byte, class = void> inline constexpr bool lends = false;
 template <class Container, class Byte>
 inline constexpr bool lends<Container, Byte,
@@ -71,7 +71,7 @@ inline constexpr bool lends<Container, Byte,
     std::is_convertible_v<decltype(std::declval<Container &>().data()), Byte *>
     && std::is_convertible_v<decltype(std::declval<Container &>().size()), std::size_t>;
 
-/* The type of what a container's data() points to; void where it has none. */
+/* The type that a container's data() points to; void if it has none. */
 template <class Container, class = void> struct lent { using type = void; };
 template <class Container>
 struct lent<Container, std::void_t<decltype(std::declval<Container &>().data())>> {
@@ -79,7 +79,7 @@ struct lent<Container, std::void_t<decltype(std::declval<Container &>().data())>
 };
 template <class Container> using lent_t = typename lent<Container>::type;
 
-/* Whether the bytes that such a container lends are another's, as far as its type says. */
+/* Returns whether such a container lends another's bytes, as far as its type shows. */
 template <class Container> constexpr bool refers()
 {
 #if defined(__cpp_lib_span) && defined(__cpp_lib_ranges)
@@ -91,7 +91,7 @@ template <class Container> constexpr bool refers()
         && std::is_same_v<lent_t<const Container>, std::uint8_t>;
 }
 
-/* Calls `f` for an item of a walk, and says whether to go on: what returns a bool may end it. */
+/* Calls `f` with an item of a walk; returns whether to go on: false if `f` returned false. */
 template <class F, class... Item> bool goes_on(F &f, Item &&...item)
 {
     using answer = decltype(f(std::forward<Item>(item)...));
@@ -103,7 +103,7 @@ template <class F, class... Item> bool goes_on(F &f, Item &&...item)
     }
 }
 
-/* The type of the C functions for items of so many bytes, or void, and their filter. */
+/* The type of the C functions for items of `Size` bytes, or void, and their filter. */
 template <class Type, std::size_t (*Keep)(Type *, std::size_t, const Type *, std::size_t,
     const std::uint8_t *, std::size_t, std::size_t)>
 struct by {
@@ -119,7 +119,7 @@ template <> struct laid<8> : by<std::uint64_t, vb_filter_values_u64> {};
 template <> struct laid<16> : by<vb_u128, vb_filter_values_u128> {};
 /* To here. */
 
-/* Whether items of the type may be copied as such a type's are. */
+/* Returns whether items of the type may be copied as those of such a C type. */
 template <class Item> constexpr bool is_value()
 {
     if constexpr (std::is_object_v<Item>) {
@@ -144,7 +144,7 @@ template <class Out> constexpr bool is_bytes()
     return std::is_same_v<lent_t<std::remove_reference_t<Out>>, std::uint8_t>;
 }
 
-/* How many of so many items indices of the type can name: negative ones are read as behind them. */
+/* Returns how many of `count` items an `Index` can name: a negative one is read as too large. */
 template <class Index> std::size_t reached(std::size_t count)
 {
     if constexpr (std::is_signed_v<Index>) {
