@@ -66,7 +66,7 @@ class AnttPages:
             name = page.link(self.urls.declaration(it), escape(it.name), class_="self")
             where = self.fragments.source_link(page, it.source.path, it.line)
             hidden = "" if it.is_public else tag("span", "of this file alone", class_="from")
-            page.add(tag("h3", f"{name} {hidden} {where}"))
+            page.add(tag("h3" if heading else "h2", f"{name} {hidden} {where}"))
             page.add(tag("p", self.fragments.plain(begun(it.sentence)), class_="sentence"))
             if not it.sentence and folder == "specs":
                 self.fragments.errors.append(f"{it.place}: `{it.name}` has no sentence above it")

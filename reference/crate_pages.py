@@ -45,14 +45,15 @@ class CratePages:
         for title, crates in self.groups():
             rows = "".join(self.crate_row(page, it) for it in crates)
             page.add(tag("h2", title), tag("table", rows, class_="list"))
-            page.nav.append(tag("h2", title))
+            page.nav.append(tag("p", title, class_="heading"))
             page.nav.append(tag("ul", "".join(
                 tag("li", page.link(f"{it.name}/index.html", it.name)) for it in crates)))
         return page
 
     def crate_row(self, page: Page, crate: Crate) -> str:
         name = page.link(f"{crate.name}/index.html", tag("code", crate.name))
-        return tag("tr", tag("th", name) + tag("td", self.fragments.plain(sentence(crate.docs))))
+        says = self.fragments.plain(sentence(crate.docs))
+        return tag("tr", tag("th", name, scope="row") + tag("td", says))
 
     # ---- one crate
     def crate(self, crate: Crate) -> Page:
@@ -85,7 +86,7 @@ class CratePages:
                 continue
             rows = "".join(self.item_row(page, crate, it) for it in found)
             page.add(tag("h2", title, id=kind), tag("table", rows, class_="list"))
-            page.nav.append(tag("h2", page.link(f"{page.url}#{kind}", title)))
+            page.nav.append(tag("p", page.link(f"{page.url}#{kind}", title), class_="heading"))
             page.nav.append(tag("ul", "".join(
                 tag("li", page.link(self.urls.of(it.item), name_html(it.name))) for it in found)))
 
@@ -95,7 +96,7 @@ class CratePages:
         says = self.fragments.first(page, item)
         if item.crate != crate.name:
             says += " " + tag("span", f"of {item.crate}", class_="from")
-        return tag("tr", tag("th", name) + tag("td", says))
+        return tag("tr", tag("th", name, scope="row") + tag("td", says))
 
     # ---- its definitions and lemmas
     def own_files(self, crate: Crate, folder: str) -> list[AnttFile]:
@@ -122,7 +123,7 @@ class CratePages:
             return
         rows = "".join(self.file_row(page, crate, it) for it in files)
         page.add(tag("h2", title, id=anchor), tag("table", rows, class_="list"))
-        page.nav.append(tag("h2", page.link(f"{page.url}#{anchor}", title)))
+        page.nav.append(tag("p", page.link(f"{page.url}#{anchor}", title), class_="heading"))
         page.nav.append(tag("ul", "".join(
             tag("li", page.link(self.urls.file(it), it.source.path.split("/")[-1][:-5]))
             for it in files)))
@@ -137,7 +138,8 @@ class CratePages:
         names = [it.name for it in file.declarations if it.is_public and it.kind != "ruleset"]
         shown = ", ".join(f"<code>{escape(it)}</code>" for it in names[:8])
         more = f" and {len(names) - 8} more" if len(names) > 8 else ""
-        return tag("tr", tag("th", link) + tag("td", f'{says}<p class="names">{shown}{more}</p>'))
+        says += tag("p", shown + more, class_="names")
+        return tag("tr", tag("th", link, scope="row") + tag("td", says))
 
 
 HOW_TO_READ = """<div class="docs">

@@ -87,7 +87,8 @@ class ItemPages:
             for it in members:
                 anchor = self.urls.anchors[id(it)]
                 name = page.link(f"{page.url}#{anchor}", tag("code", escape(it.name)))
-                rows.append(tag("tr", tag("th", name) + tag("td", self.fragments.first(page, it))))
+                says = tag("td", self.fragments.first(page, it))
+                rows.append(tag("tr", tag("th", name, scope="row") + says))
         if rows:
             constants = any(it.kind == "const" for _, found in blocks for it in found)
             title = "Calls and constants" if constants else "Calls"
@@ -149,7 +150,7 @@ class ItemPages:
             says = self.fragments.docs(page, it) + (tag("ul", fields) if fields else "")
             name = tag("code", escape(it.name))
             rows.append(f'<tr id="{escape(self.urls.anchors[id(it)])}">'
-                        + tag("th", name) + tag("td", says) + "</tr>")
+                        + tag("th", name, scope="row") + tag("td", says) + "</tr>")
         if rows:
             page.add(tag("h2", "Variants"), tag("table", "".join(rows), class_="list"))
 
@@ -212,7 +213,7 @@ class ItemPages:
         page.nav.append(tag("p", crate, class_="crate"))
         members = [it for _, found in public_members(self.fragments, item) for it in found]
         if members:
-            page.nav.append(tag("h2", escape(item.name)))
+            page.nav.append(tag("p", escape(item.name), class_="heading"))
             names = [(it.name, f"{page.url}#{self.urls.anchors[id(it)]}") for it in members]
         else:
             names = [(it.name, self.urls.of(it)) for it in self.library.own_items(
@@ -220,7 +221,7 @@ class ItemPages:
         self.nav_list(page, names)
         traits = self.traits(item)
         if traits:
-            page.nav.append(tag("h2", "Traits"))
+            page.nav.append(tag("p", "Traits", class_="heading"))
             self.nav_list(page, [(name, f"{page.url}#{self.anchor(it)}") for it, name in traits])
 
     def nav_list(self, page: Page, names: list[tuple[str, str]]) -> None:

@@ -73,7 +73,7 @@ class Sight:
         kind = field.head_text.partition(":")[2].strip()
         shown = tag("code", rust_html(kind, self.fragments.code_link(page, field)))
         says = self.fragments.docs(page, field) if field.docs else ""
-        row = tag("th", tag("code", escape(field.name))) + tag("td", shown + says)
+        row = tag("th", tag("code", escape(field.name)), scope="row") + tag("td", shown + says)
         return f'<tr id="{escape(self.urls.anchors[id(field)])}">{row}</tr>'
 
     def model(self, page: Page, model: Item) -> None:

@@ -139,7 +139,7 @@ class Site:
         crate = path.split("/")[1]
         if f"{crate}/index.html" in self.pages:
             page.nav.append(tag("p", page.link(f"{crate}/index.html", crate), class_="crate"))
-        page.add(tag("p", escape(path), class_="crumbs"))
+        page.add(tag("h1", escape(path), class_="crumbs"))
         page.add(tag("pre", tag("code", numbered), class_="source"))
         return page
 
