@@ -1,8 +1,11 @@
-// The search: names.js has what can be found, as [name, kind, address, sentence, crate].
+// The search: names.js has what can be found, as [name, kind, address, sentence, crate, users,
+// words]: `users` where users have it, and other words of the field that find it.
 (() => {
   "use strict";
   const MOST = 40;
   const LATER = { variant: 2, field: 12, lemma: 8 };  // of equal names these come after calls
+  const USERS = 15;  // what users have comes before what is private
+  const ALIAS = 60;
   const query = document.getElementById("query");
   const found = document.getElementById("found");
   const root = document.body.dataset.root;
@@ -22,6 +25,15 @@
     return 0;
   }
 
+  // How well a row answers a word: by its name, by another word for it, or by its sentence.
+  function good(row, word) {
+    const want = word.toLowerCase();
+    const alias = row[6].split(" ").some((it) => it.startsWith(want));
+    const says = row[3].toLowerCase().includes(want);
+    const best = Math.max(rank(row[0], word), alias ? ALIAS : 0, says ? 5 : 0);
+    return best && row[5] ? best + USERS : best;
+  }
+
   // The names that have each of the words, or whose sentences have them; the best ones first.
   function search(text) {
     const words = text.trim().split(/\s+/).filter(Boolean);
@@ -29,10 +41,9 @@
     for (const row of window.NAMES) {
       let sum = 0;
       for (const word of words) {
-        const says = row[3].toLowerCase().includes(word.toLowerCase());
-        const good = rank(row[0], word) || (says ? 5 : 0);
-        if (!good) { sum = 0; break; }
-        sum += good;
+        const more = good(row, word);
+        if (!more) { sum = 0; break; }
+        sum += more;
       }
       if (sum) rows.push([sum - (LATER[row[1]] ?? 0), row]);
     }

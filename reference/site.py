@@ -5,6 +5,8 @@ import shutil
 from html import escape
 from pathlib import Path
 
+from tools.documents.kinds import FACADE
+from reference.aliases import by_name
 from reference.antt_items import AnttFile
 from reference.antt_pages import AnttPages
 from reference.crate_pages import CratePages
@@ -149,7 +151,22 @@ class Site:
 
     # ---- names to search
     def names(self) -> list[list[str]]:
-        """What can be found: its name, kind, address, sentence and crate."""
+        """What can be found: name, kind, address, sentence, crate, `users` and other words.
+
+        The sixth is `users` where the crate that users name gives the item, else empty; the last
+        has the words of the field that find it too.
+        """
+        reached = self.library.reached.get(FACADE, {})
+        given = {self.urls.of(it.item) for it in reached.values()}
+        words = by_name()
+        return [
+            [*row, "users" if row[2].partition("#")[0] in given else "",
+             words.get(last_of(row[0]), "")]
+            for row in self.named()
+        ]
+
+    def named(self) -> list[list[str]]:
+        """What can be found: name, kind, address, sentence and crate."""
         rows = [
             [it.name, "crate", f"{it.name}/index.html", sentence(it.docs), ""]
             for it in self.library.shown
@@ -213,3 +230,8 @@ class Site:
             shutil.copy(HERE / name, folder / name)
         names = json.dumps(self.names(), ensure_ascii=False, separators=(",", ":"))
         (folder / "names.js").write_text(f"window.NAMES={names};\n", encoding="utf-8")
+
+
+def last_of(name: str) -> str:
+    """The last part of a name: `add` of `Counter::add`, `BitOr` of `Counter: BitOr<u8>`."""
+    return re.split(r"::|: |\.", name.partition("<")[0])[-1]
