@@ -1,7 +1,7 @@
 """The page of all crates, and that of one."""
 from html import escape
 
-from tools.documents.kinds import kind_of
+from tools.documents.kinds import EXAMPLES, Dependencies, kind_of, reached
 from reference.antt_items import AnttFile
 from reference.docs_html import Lookup, docs_html
 from reference.fragments import Fragments
@@ -35,6 +35,7 @@ class CratePages:
         found: dict[str, list[Crate]] = {}
         for it in self.library.shown:
             kind = "c" if it.name in FOR_TESTS else kind_of(it.name, deps, linked)
+            kind = "example" if kind == "library" and is_for_examples(it.name, deps) else kind
             found.setdefault(kind, []).append(it)
         return [(title, [it for kind in kinds for it in found.get(kind, [])])
                 for title, kinds in GROUPS]
@@ -142,14 +143,21 @@ class CratePages:
         return tag("tr", tag("th", link, scope="row") + tag("td", says))
 
 
+def is_for_examples(name: str, deps: Dependencies) -> bool:
+    """Whether each crate that stands on this one, and on which none stands, is an example."""
+    below = {it for found in deps.values() for it in found}
+    tops = [it for it in deps if it not in below and name in reached(it, deps)]
+    return bool(tops) and all(it.startswith(EXAMPLES) for it in tops)
+
+
 HOW_TO_READ = """<div class="docs">
 <p>Each call has its contract: what it asks of its caller, <code>requires</code>, and what then
 holds, <code>ensures</code>. The compiler proves both: a caller that hasn't shown the first is
 refused, and so is a body that doesn't give the second.</p>
-<p>A word of a clause is a link to its definition, which has a sentence above it. A word of the
-standard library shows its path under the pointer. In a clause a value is what its type's page says
-that a clause sees of it: <code>buffer.list</code> is the list of a buffer's items. Of what a
-reference lends, <code>x.now</code> is the value, and of a <code>&amp;mut</code>
+<p>A word of a clause is a link to its definition, which has a sentence above it. The words of the
+standard library are listed with their paths under each contract. In a clause a value is what its
+type's page says that a clause sees of it: <code>buffer.list</code> is the list of a buffer's items.
+Of what a reference lends, <code>x.now</code> is the value, and of a <code>&amp;mut</code>
 <code>x.old</code> and <code>x.new</code> are the values before and after the call.</p>
 <p class="scripted-only">Press <kbd>/</kbd> to search, <kbd>↑</kbd> <kbd>↓</kbd> to choose,
 <kbd>Enter</kbd> to open.</p>

@@ -22,6 +22,12 @@ def clause_text(item: Item, clause: Clause) -> str:
     return "\n".join([first, *(" " * shift + it[least:] for it in rest)])
 
 
+def words_of_std(linked: Iterable[Linked]) -> dict[str, str]:
+    """The words of the standard library, each with its path, for who has no pointer."""
+    found = [it for it in linked if it.target is not None and it.target.kind == "std"]
+    return {it.word.text: it.target.title for it in found if it.target.title}
+
+
 class Fragments:
     """Makes parts of pages, and keeps what they found wrong and which words they cite."""
 
@@ -120,13 +126,17 @@ class Fragments:
         """The definitions that a contract cites, each with its sentence."""
         scope = self.scopes.of_function(item)
         linked = [word for it in item.clauses for word in self.link_clause(item, it, scope)]
-        declared = self.definitions(linked)
-        if not declared:
+        declared, of_std = self.definitions(linked), words_of_std(linked)
+        if not declared and not of_std:
             return ""
         rows = "".join(
             tag("dt", page.link(self.urls.declaration(it), escape(it.name)))
             + tag("dd", self.plain(it.sentence))
             for it in declared
+        )
+        rows += "".join(
+            tag("dt", escape(word)) + tag("dd", tag("code", escape(path)))
+            for word, path in of_std.items()
         )
         summary = tag("summary", "Words of the contract")
         body = summary + tag("dl", rows, class_="words")

@@ -53,6 +53,13 @@ class Pages(unittest.TestCase):
         self.assertIn(link, html)
         self.assertIn('title="Rattle.std.specs.Prelude.◌≡◌">≡</span>', html)
 
+    def test_words_of_std_are_listed_with_their_paths(self):
+        html = self.html("low/fresh.html")
+        listed = html.partition("Words of the contract")[2].partition("</details>")[0]
+        self.assertIn("<dt>+</dt><dd><code>Rattle.std.specs.Prelude.◌+◌</code></dd>", listed)
+        html = self.html("low/Counter.html")
+        self.assertIn("<dt>≡</dt><dd><code>Rattle.std.specs.Prelude.◌≡◌</code></dd>", html)
+
     def test_a_field_leads_to_the_record_that_a_clause_sees(self):
         html = self.html("low/Counter.html")
         self.assertIn('href="specs/Seen.html#Seen.count"', html)
@@ -143,8 +150,9 @@ class Groups(unittest.TestCase):
     def test_each_crate_is_in_the_group_of_its_kind(self):
         lines = "use_low: low\nfloats: low\nvb_c_core:\nvb_c staticlib: floats vb_c_core\n"
         lines += "pool: low\nvbits: pool\nvb_testing:\n"
+        lines += "rows:\ntables: rows\nrun_rows: tables vortex_buffer\n"
         with Repository(("crates.txt", "use_low: low\n", lines)) as root:
-            for name in ("floats", "vb_c_core", "vb_c", "pool", "vb_testing"):
+            for name in ("floats", "vb_c_core", "vb_c", "pool", "vb_testing", "rows", "tables"):
                 folder = Path(root) / "crates" / name / "src"
                 folder.mkdir(parents=True)
                 (folder / "lib.rt").write_text(f"//! What {name} is.\n", encoding="utf-8")
@@ -153,7 +161,7 @@ class Groups(unittest.TestCase):
             "The library": ["vortex_buffer", "low", "floats"],
             "Commands": ["pool"],
             "Other languages, and tests": ["vb_c_core", "vb_c", "vb_testing"],
-            "How to use it": ["use_low"],
+            "How to use it": ["use_low", "rows", "tables"],
         })
 
 
