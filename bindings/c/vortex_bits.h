@@ -54,10 +54,10 @@
  *     assert(vb_and_count(WINDOW(a), WINDOW(a), 5) == 4);
  *
  * The functions of each level are proved. The code in front of them is written by hand, and tested:
- * it replaces a null pointer to no items by one that they accept; the checked forms reject one to
- * some; it selects the level; vb_set_indices, vb_set_slices and their checked forms work by pages
- * of memory, and join runs that cross page ends; it packs bools as bytes; vb_filter_values and
- * vb_take_values choose by sizes. The C++ classes are also written by hand.
+ * it replaces a null pointer to no items by one that they accept; checked forms reject others; it
+ * selects the level; vb_set_indices, vb_set_slices and their checked forms work by pages of memory,
+ * and join runs that cross page ends; it packs bools as bytes; vb_filter_values and vb_take_values
+ * choose by sizes. The C++ classes are also written by hand, and tested.
  */
 #ifndef VORTEX_BITS_H
 #define VORTEX_BITS_H

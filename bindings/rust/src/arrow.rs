@@ -1,11 +1,11 @@
-//! Arrays of the [Arrow C data interface] and of the C stream interface, read where they lie and
-//! handed on: the structs, what owns them, and the windows and values in them.
+//! Imports and exports arrays of the [Arrow C data interface] and of the C stream interface: the
+//! structs, their owners, and the windows and values in them.
 //!
-//! [`Stream`] reads the batches of another part of the program; the columns of an [`Array`] give
-//! slices of values, [`Bits`](crate::Bits) and a [`Validity`](crate::Validity). [`Export`] hands a
-//! [`Bitmap`](crate::Bitmap) and values on, to any consumer. No value is copied either way, but
-//! texts that are handed on. [`Array::filter`], [`Array::take`] and [`Export::concat`] copy rows of
-//! every type.
+//! [`Stream`] reads the batches of another part of the program; the columns of an [`Array`] return
+//! slices of values, [`Bits`](crate::Bits) and a [`Validity`](crate::Validity). [`Export`] passes a
+//! [`Bitmap`](crate::Bitmap) and values to any consumer. Neither way copies a value, except that
+//! exports copy texts. [`Array::filter`], [`Array::take`] and [`Export::concat`] copy rows of every
+//! type.
 //!
 //! ```
 //! use vortex_bits::arrow::{Export, ExportStream, Field, Stream};
@@ -33,11 +33,11 @@
 //! ```
 //!
 //! The structs come from outside, so their numbers are tested: lengths, offsets, numbers of nulls,
-//! of buffers and of children, which buffers are there, formats, and that children are as long as
-//! their parent needs. What can't be tested is the caller's promise, by `unsafe`: that pointers lead to
-//! as much as the numbers say. Lists of one length or of views, unions and runs may stand in a
-//! batch: no call reads their rows. An [`Array`] goes out again as it came, of whatever type, by
-//! [`Export::from`](Export).
+//! of buffers and of children, which buffers are present, formats, and that children are as long as
+//! their parent needs. By `unsafe` the caller promises what can't be tested: that pointers lead to
+//! as much as the numbers say. Lists of one length or of views, unions and runs may occur in a
+//! batch: no call reads their rows. [`Export::from`](Export) exports an [`Array`] of any type
+//! unchanged.
 //!
 //! [Arrow C data interface]: https://arrow.apache.org/docs/format/CDataInterface.html
 

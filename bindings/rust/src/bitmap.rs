@@ -12,9 +12,9 @@ use crate::error::{BadIndex, OutOfBounds, expect};
 use crate::rank::Ranked;
 use crate::{BitIndex, Bits, BitsMut, portable};
 
-/// Bits with the bytes in which they lie, to be kept and returned: shared ones, of which a slice is
-/// another window, or those of an engine's own buffer `B`. It answers what [`Bits`] answer; in
-/// [`SharedBytes`] and in [`AlignedBytes`] it grows and is edited too.
+/// Bits with the bytes that hold them, to keep and to return. The bytes are shared ones, of which a
+/// slice is another window, or an engine's own buffer `B`. A bitmap has the calls of [`Bits`]; in
+/// [`SharedBytes`] and in [`AlignedBytes`] it also grows and can be edited.
 ///
 /// ```
 /// use vortex_bits::{Bits, Bitmap};
@@ -42,17 +42,17 @@ pub struct Bitmap<B = SharedBytes> {
     len: usize,
 }
 
-/// A [`Bitmap`] with bytes of its own, which grows without a test that no one shares them: for bits
-/// that come one by one. [`Bitmap::growing`] makes one.
+/// A [`Bitmap`] with its own bytes, which grows without a test for other owners: for bits that come
+/// one by one. [`Bitmap::growing`] returns one.
 #[doc(alias("BitBufferMut", "BooleanBufferBuilder"))]
 pub type BitmapMut = Bitmap<AlignedBytes>;
 
 impl<B: AsRef<[u8]>> Bitmap<B> {
-    /// The window of these bits.
+    /// Returns the window of these bits.
     ///
     /// # Panics
     ///
-    /// Where it doesn't lie in the bytes: [`try_new`](Bitmap::try_new) answers that.
+    /// If it isn't in the bytes; [`try_new`](Bitmap::try_new) returns an error instead.
     #[inline]
     #[must_use]
     #[track_caller]
@@ -60,11 +60,11 @@ impl<B: AsRef<[u8]>> Bitmap<B> {
         expect(Bitmap::try_new(bytes, offset, len))
     }
 
-    /// The window of these bits.
+    /// Returns the window of these bits.
     ///
     /// # Errors
     ///
-    /// Where it doesn't lie in the bytes, or its end is no `usize`; the bytes are dropped then.
+    /// If it isn't in the bytes, or its end is no `usize`; the bytes are then dropped.
     ///
     /// ```
     /// use vortex_bits::Bitmap;
@@ -77,11 +77,11 @@ impl<B: AsRef<[u8]>> Bitmap<B> {
         Ok(Bitmap { bytes, offset, len })
     }
 
-    /// The bits as a window.
+    /// Returns the bits as a window.
     ///
     /// # Panics
     ///
-    /// Where `B` answers fewer bytes than it did before.
+    /// If `B` returns fewer bytes than it did before.
     #[inline]
     #[must_use]
     #[track_caller]
@@ -89,26 +89,26 @@ impl<B: AsRef<[u8]>> Bitmap<B> {
         Bits::new(self.bytes.as_ref(), self.offset, self.len)
     }
 
-    /// How many bits there are.
+    /// Returns the number of bits.
     #[inline]
     #[must_use]
     pub const fn len(&self) -> usize {
         self.len
     }
 
-    /// Whether there are none.
+    /// Returns whether there are none.
     #[inline]
     #[must_use]
     pub const fn is_empty(&self) -> bool {
         self.len == 0
     }
 
-    /// The bits of a range of places, in a clone of `B`, which shares the bytes of [`SharedBytes`]
-    /// and of an [`Arc`](alloc::sync::Arc).
+    /// Returns the bits of a range of indices, in a clone of `B`, which shares the bytes of
+    /// [`SharedBytes`] and of an [`Arc`](alloc::sync::Arc).
     ///
     /// # Panics
     ///
-    /// Where the range begins behind its end, or ends behind the bits.
+    /// If the range starts after its end, or ends after the bits.
     #[must_use]
     #[track_caller]
     pub fn slice(&self, range: impl RangeBounds<usize>) -> Bitmap<B>
@@ -128,7 +128,7 @@ impl<B: AsRef<[u8]>> Bitmap<B> {
     ///
     /// # Errors
     ///
-    /// Where the range begins behind its end, or ends behind the bits.
+    /// If the range starts after its end, or ends after the bits.
     pub fn try_slice(&self, range: impl RangeBounds<usize>) -> Result<Bitmap<B>, OutOfBounds>
     where
         B: Clone,
@@ -141,14 +141,14 @@ impl<B: AsRef<[u8]>> Bitmap<B> {
         })
     }
 
-    /// With a table that answers ranks, which takes memory. It counts the bits once.
+    /// Returns the bits with a table for ranks, which it allocates. Counts the bits once.
     #[doc(alias("rank", "select"))]
     #[must_use]
     pub fn ranked(self) -> Ranked<B> {
         Ranked::new(self)
     }
 
-    /// What has the bytes: [`into_parts`](Bitmap::into_parts) says too where the bits lie in them.
+    /// Returns the owner of the bytes; [`into_parts`](Bitmap::into_parts) also returns the window.
     ///
     /// ```
     /// use vortex_bits::Bitmap;
@@ -160,7 +160,7 @@ impl<B: AsRef<[u8]>> Bitmap<B> {
         self.bytes
     }
 
-    /// What has the bytes, the bit of them that is the first one, and the length, as
+    /// Returns the owner of the bytes, the index of the first bit in them, and the length, as
     /// [`new`](Bitmap::new) takes them.
     ///
     /// ```
@@ -177,7 +177,7 @@ impl<B: AsRef<[u8]>> Bitmap<B> {
 }
 
 impl Bitmap {
-    /// New bits, which `write` writes; those that it doesn't are false.
+    /// Returns new bits, which `write` writes; all others are false.
     ///
     /// ```
     /// use vortex_bits::{Bitmap, Bits};
@@ -197,7 +197,7 @@ impl Bitmap {
         expect(made)
     }
 
-    /// `len` bits, all true, as the validity of a column that has none.
+    /// Returns `len` bits, all true, as the validity of a column without a null.
     ///
     /// ```
     /// use vortex_bits::Bitmap;
@@ -210,13 +210,13 @@ impl Bitmap {
         Bitmap::make(len, |mut out| out.fill(true))
     }
 
-    /// `len` bits, all false.
+    /// Returns `len` bits, all false.
     #[must_use]
     pub fn new_unset(len: usize) -> Bitmap {
         Bitmap::make(len, |_| ())
     }
 
-    /// `len` bits, of which those at the indices are true; an index may stand more than once.
+    /// Returns `len` bits, set at the indices only; an index may occur more than once.
     ///
     /// ```
     /// use vortex_bits::Bitmap;
@@ -227,7 +227,7 @@ impl Bitmap {
     ///
     /// # Panics
     ///
-    /// Where an index isn't below `len`.
+    /// If an index isn't below `len`.
     #[doc(alias("scatter"))]
     #[must_use]
     #[track_caller]
@@ -246,7 +246,7 @@ impl Bitmap {
     ///
     /// # Errors
     ///
-    /// At the first index that isn't below `len`.
+    /// If an index isn't below `len`: the first such one.
     pub fn try_from_indices<I: BitIndex>(len: usize, indices: &[I]) -> Result<Bitmap, BadIndex> {
         Bitmap::try_make(len, |mut out| {
             let refused = portable::set_all(&mut out.written(), indices);
@@ -260,8 +260,8 @@ impl Bitmap {
         })
     }
 
-    /// No bits, and room for some, in bytes of their own: [`share`](BitmapMut::share) makes it a
-    /// bitmap that clones share.
+    /// Returns no bits, with capacity for `bits`, in its own bytes; [`share`](BitmapMut::share)
+    /// makes it a bitmap that clones share.
     ///
     /// ```
     /// use vortex_bits::{Bitmap, BitmapMut};
@@ -282,7 +282,7 @@ impl Bitmap {
         }
     }
 
-    /// With bytes of its own: a copy of them where they have others too.
+    /// Returns the bits in their own bytes: a copy of these if they have other owners too.
     ///
     /// ```
     /// use vortex_bits::Bitmap;
@@ -315,7 +315,7 @@ impl Bitmap {
 }
 
 impl BitmapMut {
-    /// With bytes that clones and slices share. It copies nothing.
+    /// Returns the bits in bytes that clones and slices share. Copies nothing.
     ///
     /// ```
     /// use vortex_bits::Bitmap;

@@ -1,4 +1,4 @@
-//! A window that is read.
+//! A read-only window.
 
 use core::ops::{Bound, RangeBounds};
 
@@ -6,11 +6,11 @@ use crate::error::{OutOfBounds, expect};
 use crate::iter::{Iter, SetIndices, SetSlices, UnsetIndices, UnsetSlices, Words};
 use crate::kernels;
 
-/// The `len` bits from bit `offset` on of some bytes, least significant bit first: bit `i` of the
-/// bytes is digit `i % 8` of byte `i / 8`, and place `i` of the window is bit `offset + i`.
+/// The `len` bits starting at bit `offset` of some bytes, least significant bit first: bit `i` of
+/// the bytes is bit `i % 8` of byte `i / 8`, and index `i` of the window is bit `offset + i`.
 ///
-/// Answers depend on these bits alone, whatever else the bytes hold: two windows are equal where
-/// they have the same bits, wherever these lie.
+/// Results depend on these bits alone, whatever else the bytes hold: two windows are equal if they
+/// have the same bits, at whatever offsets.
 ///
 /// ```
 /// use vortex_bits::Bits;
@@ -25,13 +25,13 @@ use crate::kernels;
 #[doc(alias("bitslice"))]
 #[derive(Clone, Copy, Default)]
 pub struct Bits<'a> {
-    /// The window lies in them, and its end is a `usize`.
+    /// The window is in bounds, and its end is a `usize`.
     bytes: &'a [u8],
     offset: usize,
     len: usize,
 }
 
-/// Whether the window lies in so many bytes, and ends at a `usize`.
+/// Tests whether the window is in `size` bytes, and ends at a `usize`.
 pub(crate) const fn fits(size: usize, offset: usize, len: usize) -> Result<(), OutOfBounds> {
     match offset.checked_add(len) {
         Some(end) if end.div_ceil(8) <= size => Ok(()),
@@ -39,7 +39,7 @@ pub(crate) const fn fits(size: usize, offset: usize, len: usize) -> Result<(), O
     }
 }
 
-/// The bits that a range names among `len`, as the place of the first one and their number.
+/// Returns the index of the first bit of a range among `len` bits, and the number of its bits.
 pub(crate) fn within(
     range: &impl RangeBounds<usize>,
     len: usize,
@@ -62,11 +62,11 @@ pub(crate) fn within(
 }
 
 impl<'a> Bits<'a> {
-    /// The window of these bits.
+    /// Returns the window of these bits.
     ///
     /// # Panics
     ///
-    /// Where it doesn't lie in the bytes: [`try_new`](Bits::try_new) answers that.
+    /// If it isn't in the bytes; [`try_new`](Bits::try_new) returns an error instead.
     #[inline]
     #[must_use]
     #[track_caller]
@@ -74,11 +74,11 @@ impl<'a> Bits<'a> {
         expect(Bits::try_new(bytes, offset, len))
     }
 
-    /// The window of these bits.
+    /// Returns the window of these bits.
     ///
     /// # Errors
     ///
-    /// Where it doesn't lie in the bytes, or its end is no `usize`.
+    /// If it isn't in the bytes, or its end is no `usize`.
     ///
     /// ```
     /// use vortex_bits::Bits;
@@ -99,11 +99,11 @@ impl<'a> Bits<'a> {
         }
     }
 
-    /// All bits of the bytes.
+    /// Returns a window of all bits of the bytes.
     ///
     /// # Panics
     ///
-    /// Where these are more than a `usize` can tell, which takes an eighth of the address space.
+    /// If their number overflows a `usize`, which takes an eighth of the address space.
     #[inline]
     #[must_use]
     #[track_caller]
@@ -111,39 +111,39 @@ impl<'a> Bits<'a> {
         Bits::new(bytes, 0, bytes.len().saturating_mul(8))
     }
 
-    /// The bytes in which the window lies, those outside of it too.
+    /// Returns the bytes that hold the window, those outside of it too.
     #[inline]
     #[must_use]
     pub const fn bytes(self) -> &'a [u8] {
         self.bytes
     }
 
-    /// Which bit of the bytes is the first one of the window.
+    /// Returns the index of the window's first bit in the bytes.
     #[inline]
     #[must_use]
     pub const fn offset(self) -> usize {
         self.offset
     }
 
-    /// How many bits the window has.
+    /// Returns the number of bits in the window.
     #[inline]
     #[must_use]
     pub const fn len(self) -> usize {
         self.len
     }
 
-    /// Whether it has none.
+    /// Returns whether it has none.
     #[inline]
     #[must_use]
     pub const fn is_empty(self) -> bool {
         self.len == 0
     }
 
-    /// The bits of a range of places.
+    /// Returns the bits of a range of indices.
     ///
     /// # Panics
     ///
-    /// Where the range begins behind its end, or ends behind the window.
+    /// If the range starts after its end, or ends after the window.
     #[doc(alias("view"))]
     #[inline]
     #[must_use]
@@ -152,18 +152,18 @@ impl<'a> Bits<'a> {
         expect(self.try_slice(range))
     }
 
-    /// The bits of a range of places.
+    /// Returns the bits of a range of indices.
     ///
     /// # Errors
     ///
-    /// Where the range begins behind its end, or ends behind the window.
+    /// If the range starts after its end, or ends after the window.
     #[inline]
     pub fn try_slice(self, range: impl RangeBounds<usize>) -> Result<Bits<'a>, OutOfBounds> {
         let (start, len) = within(&range, self.len)?;
         Ok(self.part(start, len))
     }
 
-    /// The `len` bits from place `start` on, which has to be among the window's.
+    /// Returns the `len` bits from index `start` on, which must be in the window.
     #[inline]
     pub(crate) fn part(self, start: usize, len: usize) -> Bits<'a> {
         debug_assert!(start <= self.len && len <= self.len - start);
@@ -174,7 +174,7 @@ impl<'a> Bits<'a> {
         }
     }
 
-    /// The bit at a place; None where the window has no such place.
+    /// Returns the bit at an index; None if it is out of bounds.
     #[inline]
     #[must_use]
     pub fn get(self, place: usize) -> Option<bool> {
@@ -182,7 +182,7 @@ impl<'a> Bits<'a> {
         (place < self.len).then(|| self.bytes[bit / 8] >> (bit % 8) & 1 == 1)
     }
 
-    /// How many bits are true. It reads the bytes once.
+    /// Returns the number of set bits. Reads the bytes once.
     ///
     /// ```
     /// use vortex_bits::Bits;
@@ -196,7 +196,7 @@ impl<'a> Bits<'a> {
         kernels::count_ones(self)
     }
 
-    /// How many bits are false. It reads the bytes once.
+    /// Returns the number of unset bits. Reads the bytes once.
     #[doc(alias("null_count", "false_count"))]
     #[inline]
     #[must_use]
@@ -204,9 +204,9 @@ impl<'a> Bits<'a> {
         self.len - self.count_ones()
     }
 
-    /// The place of the `n`-th true bit, counted from 0; None where there are at most `n`. It
-    /// counts from the front, up to the bytes that have it: [`Ranks`](crate::Ranks) answers sooner
-    /// where more than a few are asked for.
+    /// Returns the index of the `n`-th set bit, counted from 0; None if at most `n` are set. Counts
+    /// from the front, up to the bytes that have it: [`Ranks`](crate::Ranks) is faster for more
+    /// than a few calls.
     ///
     /// ```
     /// use vortex_bits::Bits;
@@ -220,7 +220,7 @@ impl<'a> Bits<'a> {
         kernels::select(self, n)
     }
 
-    /// The place of the `n`-th false bit, counted from 0; None where there are at most `n`.
+    /// Returns the index of the `n`-th unset bit, counted from 0; None if at most `n` are unset.
     #[doc(alias("select0", "nth_unset"))]
     #[inline]
     #[must_use]
@@ -228,7 +228,7 @@ impl<'a> Bits<'a> {
         kernels::select_unset(self, n)
     }
 
-    /// The place of the first true bit; None where all are false.
+    /// Returns the index of the first set bit; None if all are unset.
     ///
     /// ```
     /// use vortex_bits::Bits;
@@ -244,14 +244,14 @@ impl<'a> Bits<'a> {
         self.next_set(0)
     }
 
-    /// The place of the first false bit; None where all are true.
+    /// Returns the index of the first unset bit; None if all are set.
     #[inline]
     #[must_use]
     pub fn first_unset(self) -> Option<usize> {
         self.next_unset(0)
     }
 
-    /// The place of the last true bit; None where all are false. It reads from the end.
+    /// Returns the index of the last set bit; None if all are unset. Reads from the end.
     #[doc(alias("leading_zeros"))]
     #[inline]
     #[must_use]
@@ -259,16 +259,16 @@ impl<'a> Bits<'a> {
         kernels::last_set(self)
     }
 
-    /// The place of the last false bit; None where all are true. It reads from the end.
+    /// Returns the index of the last unset bit; None if all are set. Reads from the end.
     #[inline]
     #[must_use]
     pub fn last_unset(self) -> Option<usize> {
         self.previous_unset(self.len)
     }
 
-    /// The place of the first true bit from place `from` on; None where there is none, as there is
-    /// none from the end on. It reads up to the one that it finds; for all of them, one after the
-    /// other, [`set_indices`](Bits::set_indices) takes less.
+    /// Returns the index of the first set bit at or after `from`; None if there is none, or if
+    /// `from` is at least the length. Reads up to the bit that it finds. To walk all of them,
+    /// [`set_indices`](Bits::set_indices) is faster.
     ///
     /// ```
     /// use vortex_bits::Bits;
@@ -284,15 +284,15 @@ impl<'a> Bits<'a> {
         kernels::next_set(self, from)
     }
 
-    /// The place of the first false bit from place `from` on; None where there is none.
+    /// Returns the index of the first unset bit at or after `from`; None if there is none.
     #[inline]
     #[must_use]
     pub fn next_unset(self, from: usize) -> Option<usize> {
         kernels::next_unset(self, from)
     }
 
-    /// The place of the last true bit before place `before`; None where there is none. From the end
-    /// on each place has all bits before it.
+    /// Returns the index of the last set bit before index `before`; None if there is none. A
+    /// `before` of at least the length searches all bits.
     #[doc(alias("find_previous", "predecessor"))]
     #[inline]
     #[must_use]
@@ -300,36 +300,36 @@ impl<'a> Bits<'a> {
         kernels::previous_set(self, before)
     }
 
-    /// The place of the last false bit before place `before`; None where there is none.
+    /// Returns the index of the last unset bit before index `before`; None if there is none.
     #[inline]
     #[must_use]
     pub fn previous_unset(self, before: usize) -> Option<usize> {
         kernels::previous_unset(self, before)
     }
 
-    /// Whether a bit is true: false of no bits. It reads up to the first one.
+    /// Returns whether any bit is set: false for no bits. Reads up to the first one.
     #[inline]
     #[must_use]
     pub fn any(self) -> bool {
         kernels::any_set(self)
     }
 
-    /// Whether all bits are true: true of no bits. It reads up to the first one that isn't.
+    /// Returns whether all bits are set: true for no bits. Reads up to the first one that isn't.
     #[inline]
     #[must_use]
     pub fn all(self) -> bool {
         kernels::all_set(self)
     }
 
-    /// The bits, from front to end.
+    /// Returns the bits, from front to end.
     #[inline]
     #[must_use]
     pub fn iter(self) -> Iter<'a> {
         Iter::new(self)
     }
 
-    /// The places of the true bits, in ascending order. Like the other walks it goes from the end
-    /// too.
+    /// Returns the indices of the set bits, in ascending order. Like the other walks it also runs
+    /// from the end.
     ///
     /// ```
     /// use vortex_bits::Bits;
@@ -345,7 +345,7 @@ impl<'a> Bits<'a> {
         SetIndices::new(self)
     }
 
-    /// The runs of true bits from front to end, each as long as can be, as ranges of places.
+    /// Returns the maximal runs of set bits, from front to end, as ranges of indices.
     ///
     /// ```
     /// use vortex_bits::Bits;
@@ -360,7 +360,7 @@ impl<'a> Bits<'a> {
         SetSlices::new(self)
     }
 
-    /// The places of the false bits, in ascending order, as of the nulls of a column.
+    /// Returns the indices of the unset bits, in ascending order, such as the nulls of a column.
     ///
     /// ```
     /// use vortex_bits::Bits;
@@ -375,7 +375,7 @@ impl<'a> Bits<'a> {
         UnsetIndices::new(self)
     }
 
-    /// The runs of false bits from front to end, each as long as can be, as ranges of places.
+    /// Returns the maximal runs of unset bits, from front to end, as ranges of indices.
     ///
     /// ```
     /// use vortex_bits::Bits;
@@ -389,7 +389,7 @@ impl<'a> Bits<'a> {
         UnsetSlices::new(self)
     }
 
-    /// The bits as words of 64, the first one lowest; the last word is filled up with false.
+    /// Returns the bits as 64-bit words, the first bit lowest; pads the last word with false.
     ///
     /// ```
     /// use vortex_bits::Bits;
@@ -403,8 +403,8 @@ impl<'a> Bits<'a> {
         Words::new(self)
     }
 
-    /// Writes the places of the true bits, in ascending order, to the front of `out`, as many as
-    /// have room, and answers how many these are; the rest of `out` stays.
+    /// Writes the indices of the set bits, in ascending order, to the front of `out`, up to its
+    /// capacity, and returns the number written. The rest of `out` is unchanged.
     ///
     /// ```
     /// use vortex_bits::Bits;

@@ -1,4 +1,4 @@
-//! A window that is written.
+//! A writable window.
 
 use core::ops::RangeBounds;
 
@@ -8,9 +8,9 @@ use crate::error::{OutOfBounds, expect};
 use crate::kernels::{self, Operator};
 use crate::written::Written;
 
-/// The `len` bits from bit `offset` on of some bytes, as [`Bits`] names them, to be written: every
-/// other bit of the bytes stays as it is. No call stores a byte that has no bit of its window, not
-/// even the value that the byte had.
+/// A writable window of the `len` bits starting at bit `offset` of some bytes, as in [`Bits`].
+/// Every other bit of the bytes is unchanged. No call stores a byte that has no bit of its window,
+/// not even the value that the byte had.
 ///
 /// ```
 /// use vortex_bits::{Bits, BitsMut};
@@ -24,18 +24,18 @@ use crate::written::Written;
 #[doc(alias("bitslice"))]
 #[derive(Default)]
 pub struct BitsMut<'a> {
-    /// The window lies in them, and its end is a `usize`.
+    /// The window is in bounds, and its end is a `usize`.
     bytes: &'a mut [u8],
     offset: usize,
     len: usize,
 }
 
 impl<'a> BitsMut<'a> {
-    /// The window of these bits.
+    /// Returns the window of these bits.
     ///
     /// # Panics
     ///
-    /// Where it doesn't lie in the bytes: [`try_new`](BitsMut::try_new) answers that.
+    /// If it isn't in the bytes; [`try_new`](BitsMut::try_new) returns an error instead.
     #[inline]
     #[must_use]
     #[track_caller]
@@ -43,11 +43,11 @@ impl<'a> BitsMut<'a> {
         expect(BitsMut::try_new(bytes, offset, len))
     }
 
-    /// The window of these bits.
+    /// Returns the window of these bits.
     ///
     /// # Errors
     ///
-    /// Where it doesn't lie in the bytes, or its end is no `usize`.
+    /// If it isn't in the bytes, or its end is no `usize`.
     ///
     /// ```
     /// use vortex_bits::BitsMut;
@@ -66,11 +66,11 @@ impl<'a> BitsMut<'a> {
         }
     }
 
-    /// All bits of the bytes.
+    /// Returns a window of all bits of the bytes.
     ///
     /// # Panics
     ///
-    /// Where these are more than a `usize` can tell, which takes an eighth of the address space.
+    /// If their number overflows a `usize`, which takes an eighth of the address space.
     #[inline]
     #[must_use]
     #[track_caller]
@@ -79,7 +79,7 @@ impl<'a> BitsMut<'a> {
         BitsMut::new(bytes, 0, len)
     }
 
-    /// The window to be read.
+    /// Returns the window as a read-only one.
     ///
     /// ```
     /// use vortex_bits::BitsMut;
@@ -95,7 +95,7 @@ impl<'a> BitsMut<'a> {
         }
     }
 
-    /// The window to be read, for as long as its bytes are lent.
+    /// Returns the window as a read-only one, with the lifetime of its bytes.
     ///
     /// ```
     /// use vortex_bits::{Bits, BitsMut};
@@ -113,7 +113,7 @@ impl<'a> BitsMut<'a> {
         Bits::new(self.bytes, self.offset, self.len)
     }
 
-    /// The bytes in which the window lies, those outside of it too.
+    /// Returns the bytes that hold the window, those outside of it too.
     ///
     /// ```
     /// use vortex_bits::BitsMut;
@@ -127,32 +127,32 @@ impl<'a> BitsMut<'a> {
         self.bytes
     }
 
-    /// Which bit of the bytes is the first one of the window.
+    /// Returns the index of the window's first bit in the bytes.
     #[inline]
     #[must_use]
     pub const fn offset(&self) -> usize {
         self.offset
     }
 
-    /// How many bits the window has.
+    /// Returns the number of bits in the window.
     #[inline]
     #[must_use]
     pub const fn len(&self) -> usize {
         self.len
     }
 
-    /// Whether it has none.
+    /// Returns whether it has none.
     #[inline]
     #[must_use]
     pub const fn is_empty(&self) -> bool {
         self.len == 0
     }
 
-    /// The bits of a range of places, to be written.
+    /// Returns the bits of a range of indices as a writable window.
     ///
     /// # Panics
     ///
-    /// Where the range begins behind its end, or ends behind the window.
+    /// If the range starts after its end, or ends after the window.
     #[inline]
     #[must_use]
     #[track_caller]
@@ -160,11 +160,11 @@ impl<'a> BitsMut<'a> {
         expect(self.try_slice(range))
     }
 
-    /// The bits of a range of places, to be written.
+    /// Returns the bits of a range of indices as a writable window.
     ///
     /// # Errors
     ///
-    /// Where the range begins behind its end, or ends behind the window.
+    /// If the range starts after its end, or ends after the window.
     #[inline]
     pub fn try_slice(
         &mut self,
@@ -174,7 +174,7 @@ impl<'a> BitsMut<'a> {
         Ok(self.part(start, len))
     }
 
-    /// The `len` bits from place `start` on, which has to be among the window's.
+    /// Returns the `len` bits from index `start` on, which must be in the window.
     #[inline]
     pub(crate) fn part(&mut self, start: usize, len: usize) -> BitsMut<'_> {
         debug_assert!(start <= self.len && len <= self.len - start);
@@ -185,7 +185,7 @@ impl<'a> BitsMut<'a> {
         }
     }
 
-    /// The window over the bytes in which a bit of it lies, and no others.
+    /// Returns the window over the bytes that have a bit of it, and no others.
     #[inline]
     pub(crate) fn narrowed(self) -> BitsMut<'a> {
         let BitsMut { bytes, offset, len } = self;
@@ -199,8 +199,8 @@ impl<'a> BitsMut<'a> {
         }
     }
 
-    /// The bits before place `mid` and those from it on, each over its own bytes; `mid` is one of
-    /// the ends, or a border between two bytes.
+    /// Returns the bits before index `mid` and those from it on, each over its own bytes; `mid` is
+    /// 0, the length, or a border between two bytes.
     #[inline]
     pub(crate) fn split(self, mid: usize) -> (BitsMut<'a>, BitsMut<'a>) {
         let BitsMut { bytes, offset, len } = self.narrowed();
@@ -212,13 +212,13 @@ impl<'a> BitsMut<'a> {
         (part(low, offset, mid), part(high, 0, len - mid))
     }
 
-    /// What calls that write it may store.
+    /// Returns the bytes that calls may store when they write it.
     #[inline]
     pub(crate) fn written(&mut self) -> Written<'_> {
         Written::of(self.part(0, self.len))
     }
 
-    /// The bit at a place; None where the window has no such place.
+    /// Returns the bit at an index; None if it is out of bounds.
     ///
     /// ```
     /// use vortex_bits::BitsMut;
@@ -231,11 +231,11 @@ impl<'a> BitsMut<'a> {
         self.as_bits().get(place)
     }
 
-    /// Makes one bit `value`.
+    /// Sets one bit to `value`.
     ///
     /// # Panics
     ///
-    /// Where the window has no such place.
+    /// If the index is out of bounds.
     #[inline]
     #[track_caller]
     pub fn set(&mut self, place: usize, value: bool) {
@@ -253,7 +253,7 @@ impl<'a> BitsMut<'a> {
         }
     }
 
-    /// Makes each bit `value`: of a part, `bits.slice(6..11).fill(true)`.
+    /// Sets each bit to `value`; to fill a part, `bits.slice(6..11).fill(true)`.
     #[doc(alias("set_range"))]
     #[inline]
     pub fn fill(&mut self, value: bool) {
@@ -275,7 +275,7 @@ impl<'a> BitsMut<'a> {
         kernels::negate(&mut self.written());
     }
 
-    /// Makes each bit what `bit` answers for its place; it is asked once a place, in their order.
+    /// Sets each bit to `bit(index)`; calls `bit` once per index, in ascending order.
     ///
     /// ```
     /// use vortex_bits::BitsMut;
@@ -310,7 +310,7 @@ impl<'a> BitsMut<'a> {
     ///
     /// # Panics
     ///
-    /// Where they aren't as many as the bits.
+    /// If their number is not that of the bits.
     #[doc(alias("pack"))]
     #[inline]
     #[track_caller]
@@ -319,11 +319,11 @@ impl<'a> BitsMut<'a> {
         kernels::pack_bools(&mut self.written(), bools);
     }
 
-    /// Makes each bit true where its byte isn't 0.
+    /// Sets each bit to whether its byte isn't 0.
     ///
     /// # Panics
     ///
-    /// Where the bytes aren't as many as the bits.
+    /// If there is not one byte per bit.
     #[inline]
     #[track_caller]
     pub fn copy_from_truthy(&mut self, truthy: &[u8]) {
@@ -331,11 +331,11 @@ impl<'a> BitsMut<'a> {
         kernels::pack_truthy(&mut self.written(), truthy);
     }
 
-    /// Copies the bits, by words wherever the two windows lie.
+    /// Copies the bits, word by word at any two offsets.
     ///
     /// # Panics
     ///
-    /// Where they aren't as many as these, as in all calls below.
+    /// If the windows differ in length, as in all calls below.
     #[inline]
     #[track_caller]
     pub fn copy_from(&mut self, source: Bits<'_>) {
@@ -368,7 +368,7 @@ macro_rules! operators {
                 ///
                 /// # Panics
                 ///
-                /// Where the windows aren't of one length.
+                /// If the windows differ in length.
                 #[inline]
                 #[track_caller]
                 pub fn $name(&mut self, right: Bits<'_>) {
@@ -393,7 +393,7 @@ macro_rules! operators {
                 ///
                 /// # Panics
                 ///
-                /// Where the windows aren't of one length.
+                /// If the windows differ in length.
                 #[inline]
                 #[track_caller]
                 pub fn $of(&mut self, left: Bits<'_>, right: Bits<'_>) {
@@ -405,7 +405,7 @@ macro_rules! operators {
 }
 
 operators! {
-    /// Leaves the bits true that are true on the right too.
+    /// Keeps only the bits set that are set on the right too.
     ///
     /// ```
     /// use vortex_bits::{Bits, BitsMut};
@@ -416,7 +416,7 @@ operators! {
     /// ```
     #[doc(alias = "intersection")]
     and, and_of: And;
-    /// Makes the bits true that are true on the right.
+    /// Sets the bits that are set on the right.
     ///
     /// ```
     /// use vortex_bits::{Bits, BitsMut};
@@ -427,7 +427,7 @@ operators! {
     /// ```
     #[doc(alias = "union")]
     or, or_of: Or;
-    /// Negates the bits that are true on the right.
+    /// Negates the bits that are set on the right.
     ///
     /// ```
     /// use vortex_bits::{Bits, BitsMut};
@@ -438,7 +438,7 @@ operators! {
     /// ```
     #[doc(alias = "symmetric_difference")]
     xor, xor_of: Xor;
-    /// Leaves the bits true that are false on the right.
+    /// Clears the bits that are set on the right.
     ///
     /// ```
     /// use vortex_bits::{Bits, BitsMut};
@@ -453,7 +453,7 @@ operators! {
 
 /// # Panics
 ///
-/// Where two lengths differ.
+/// If the two lengths differ.
 #[inline]
 #[track_caller]
 pub(crate) fn alike(written: usize, read: usize) {

@@ -1,4 +1,4 @@
-//! Bytes that begin at a multiple of 64, of one owner and of several.
+//! Bytes aligned to 64, with one owner and with several.
 
 use alloc::sync::Arc;
 use alloc::vec;
@@ -6,11 +6,11 @@ use alloc::vec::Vec;
 use core::fmt;
 use core::ops::{Deref, DerefMut};
 
-/// What the first byte's address is a multiple of.
+/// The alignment of the first byte.
 const ALIGNMENT: usize = 64;
 
-/// Bytes of one owner, which grow. Where there are any the first one's address is a multiple of 64,
-/// as a line of the cache is and as Arrow recommends for buffers.
+/// Growable bytes with one owner. If there are any, the first one's address is a multiple of 64,
+/// the size of a cache line and the alignment that Arrow recommends for buffers.
 ///
 /// ```
 /// use vortex_bits::{AlignedBytes, Bitmap};
@@ -28,7 +28,7 @@ pub struct AlignedBytes {
 }
 
 impl AlignedBytes {
-    /// No bytes, and room for some.
+    /// Returns no bytes, with capacity for `bytes`.
     ///
     /// ```
     /// assert!(vortex_bits::AlignedBytes::with_capacity(100).is_empty());
@@ -36,7 +36,7 @@ impl AlignedBytes {
     ///
     /// # Panics
     ///
-    /// Where they are more than memory can hold, as of a [`Vec`], and so below.
+    /// If they exceed the memory that a [`Vec`] can have; so below.
     #[must_use]
     pub fn with_capacity(bytes: usize) -> AlignedBytes {
         if bytes == 0 {
@@ -45,7 +45,7 @@ impl AlignedBytes {
         AlignedBytes::cut(Vec::with_capacity(bytes.saturating_add(ALIGNMENT - 1)), 0)
     }
 
-    /// So many bytes, all 0.
+    /// Returns `bytes` bytes, all 0.
     ///
     /// ```
     /// assert_eq!(*vortex_bits::AlignedBytes::zeroed(3), [0; 3]);
@@ -58,7 +58,7 @@ impl AlignedBytes {
         AlignedBytes::cut(vec![0; bytes.saturating_add(ALIGNMENT - 1)], bytes)
     }
 
-    /// So many bytes, all 0; None where memory runs out.
+    /// Returns `bytes` bytes, all 0; None if memory runs out.
     #[cfg(feature = "arrow")]
     pub(crate) fn try_zeroed(bytes: usize) -> Option<AlignedBytes> {
         let mut zeros = AlignedBytes::try_with_capacity(bytes)?;
@@ -66,7 +66,7 @@ impl AlignedBytes {
         Some(zeros)
     }
 
-    /// No bytes, and room for so many; None where memory runs out.
+    /// Returns no bytes, with capacity for `bytes`; None if memory runs out.
     #[cfg(feature = "arrow")]
     pub(crate) fn try_with_capacity(bytes: usize) -> Option<AlignedBytes> {
         if bytes == 0 {
@@ -78,21 +78,21 @@ impl AlignedBytes {
         Some(AlignedBytes::cut(all, 0))
     }
 
-    /// Adds bytes where there is room for them.
+    /// Appends bytes; there must be capacity for them.
     #[cfg(feature = "arrow")]
     #[inline(never)]
     pub(crate) fn extend(&mut self, bytes: &[u8]) {
         self.all.extend_from_slice(bytes);
     }
 
-    /// The first `len` aligned bytes of some memory, which has room for 63 more.
+    /// Returns the first `len` aligned bytes of some memory, which has capacity for 63 more.
     fn cut(mut all: Vec<u8>, len: usize) -> AlignedBytes {
         let start = all.as_ptr().align_offset(ALIGNMENT).min(ALIGNMENT - 1);
         all.resize(start + len, 0);
         AlignedBytes { all, start }
     }
 
-    /// Makes room for some more, and for as many again as there are where it has to be new.
+    /// Reserves capacity for `more` bytes; new memory at least doubles the length.
     #[inline]
     pub(crate) fn reserve(&mut self, more: usize) {
         if self.all.capacity() - self.all.len() < more {
@@ -108,13 +108,13 @@ impl AlignedBytes {
         *self = moved;
     }
 
-    /// One of them.
+    /// Returns one of the bytes.
     #[inline]
     pub(crate) fn byte_mut(&mut self, place: usize) -> Option<&mut u8> {
         self.all.get_mut(self.start + place)
     }
 
-    /// Adds one.
+    /// Appends one byte.
     #[inline]
     pub(crate) fn push(&mut self, byte: u8) {
         if self.all.len() == self.all.capacity() {
@@ -123,7 +123,7 @@ impl AlignedBytes {
         self.all.push(byte);
     }
 
-    /// Makes them so many; those that are new are 0.
+    /// Resizes to `len` bytes; new ones are 0.
     #[inline]
     pub(crate) fn resize(&mut self, len: usize) {
         self.reserve(len.saturating_sub(self.len()));
@@ -154,14 +154,14 @@ impl AsRef<[u8]> for AlignedBytes {
     }
 }
 
-/// A copy.
+/// Copies the bytes.
 impl Clone for AlignedBytes {
     fn clone(&self) -> AlignedBytes {
         AlignedBytes::from(&self[..])
     }
 }
 
-/// A copy.
+/// Copies the bytes.
 impl From<&[u8]> for AlignedBytes {
     fn from(bytes: &[u8]) -> AlignedBytes {
         let mut copy = AlignedBytes::with_capacity(bytes.len());
@@ -170,7 +170,7 @@ impl From<&[u8]> for AlignedBytes {
     }
 }
 
-/// A copy, since the memory of a [`Vec`] may begin anywhere.
+/// Copies, since the memory of a [`Vec`] may have any address.
 impl From<Vec<u8>> for AlignedBytes {
     fn from(bytes: Vec<u8>) -> AlignedBytes {
         AlignedBytes::from(&bytes[..])
@@ -195,7 +195,7 @@ impl fmt::Debug for AlignedBytes {
 pub struct SharedBytes(Arc<AlignedBytes>);
 
 impl SharedBytes {
-    /// The bytes with one owner: a copy of them where they have others too.
+    /// Returns the bytes with one owner: a copy of them if they have others too.
     ///
     /// ```
     /// use vortex_bits::{AlignedBytes, SharedBytes};
@@ -232,7 +232,7 @@ impl From<AlignedBytes> for SharedBytes {
     }
 }
 
-/// A copy, since the memory of a [`Vec`] may begin anywhere: a `Bitmap<Vec<u8>>` takes none.
+/// Copies, since the memory of a [`Vec`] may have any address; a `Bitmap<Vec<u8>>` copies nothing.
 ///
 /// ```
 /// use vortex_bits::{Bitmap, SharedBytes};
@@ -246,7 +246,7 @@ impl From<Vec<u8>> for SharedBytes {
     }
 }
 
-/// A copy.
+/// Copies the bytes.
 impl From<SharedBytes> for Arc<[u8]> {
     fn from(bytes: SharedBytes) -> Arc<[u8]> {
         Arc::from(&bytes[..])
@@ -259,8 +259,8 @@ impl fmt::Debug for SharedBytes {
     }
 }
 
-/// A shared [`Vec`] as a slice: `Arc<Vec<T>>` has no `AsRef<[T]>`, which owners of bits and of values
-/// need. Clones share the `Vec`.
+/// A shared [`Vec`] as a slice: `Arc<Vec<T>>` has no `AsRef<[T]>`, which owners of bits and of
+/// values need. Clones share the `Vec`.
 ///
 /// ```
 /// use std::sync::Arc;
@@ -309,8 +309,8 @@ impl<T> From<Vec<T>> for SharedVec<T> {
     }
 }
 
-/// Bytes in which a [`Bitmap`](crate::Bitmap) grows and is edited: [`AlignedBytes`], at once, and
-/// [`SharedBytes`], after a test that no one shares them, else in a copy.
+/// Bytes in which a [`Bitmap`](crate::Bitmap) grows and is edited: [`AlignedBytes`] in place, and
+/// [`SharedBytes`] in place if no one else shares them, else in a copy.
 #[diagnostic::on_unimplemented(
     message = "the bits of a `Bitmap<{Self}>` are read, and don't grow",
     label = "bits in `{Self}`",
@@ -325,10 +325,10 @@ pub(crate) mod sealed {
     use super::{AlignedBytes, Arc, SharedBytes};
 
     pub trait Grow: AsRef<[u8]> + From<AlignedBytes> {
-        /// Whether they have no other owner.
+        /// Returns whether they have no other owner.
         fn is_owned(&self) -> bool;
 
-        /// The bytes, where they have none.
+        /// Returns the bytes, if they have no other owner.
         fn owned(&mut self) -> Option<&mut AlignedBytes>;
     }
 

@@ -1,4 +1,4 @@
-//! Values compared with a number or with other values, into bits.
+//! Comparisons of values with a number or with other values, into bits.
 
 use crate::bits_mut::alike;
 use crate::{BitsMut, Value, kernels};
@@ -6,10 +6,9 @@ use crate::{BitsMut, Value, kernels};
 #[cfg(feature = "alloc")]
 use crate::Bitmap;
 
-/// How a value compares with another one.
+/// The comparison of a value with another one.
 ///
-/// Floats compare as Rust's operators do: what isn't a number isn't equal to anything, nor below or
-/// above it.
+/// Floats compare as Rust's operators do: a NaN isn't equal to anything, nor below or above it.
 #[derive(Clone, Copy, Debug, PartialEq, Eq, Hash)]
 #[repr(u8)]
 pub enum Comparison {
@@ -27,8 +26,8 @@ pub enum Comparison {
     GreaterOrEqual,
 }
 
-/// A type of values that are compared: whole numbers and floats. Of all but whole numbers of 128
-/// bits the C functions compare 64 at once.
+/// A type of values that can be compared: whole numbers and floats. The C functions compare 64 at
+/// once of every type except whole numbers of 128 bits.
 #[diagnostic::on_unimplemented(
     message = "values of `{Self}` aren't compared",
     label = "values are whole numbers or floats",
@@ -40,18 +39,17 @@ pub(crate) mod sealed {
     #[cfg(vortex_bits_native)]
     use crate::native::{CompareNumber, CompareOthers, Kernels};
 
-    /// What a type of values that are compared answers.
+    /// What a type of values that can be compared provides.
     pub trait Compare: Sized {
-        /// The type that the C functions compare, which is laid out as this one and in the same
-        /// order.
+        /// The type that the C functions compare, with the same layout and order as this one.
         #[cfg(vortex_bits_native)]
         type Laid;
 
-        /// The C function that compares with a number, and the number as it takes it.
+        /// Returns the C function that compares with a number, and the number as it takes it.
         #[cfg(vortex_bits_native)]
         fn with_number(self, kernels: &Kernels) -> Option<(CompareNumber<Self::Laid>, Self::Laid)>;
 
-        /// The C function that compares with others.
+        /// Returns the C function that compares with others.
         #[cfg(vortex_bits_native)]
         fn with_others(kernels: &Kernels) -> Option<CompareOthers<Self::Laid>>;
     }
@@ -122,7 +120,7 @@ pub(crate) mod sealed {
     one_by_one! { u128 i128 }
 }
 
-/// Writes to `out` which of the values compare so with `number`.
+/// Writes to `out` which of the values compare with `number` by `op`.
 ///
 /// ```
 /// use vortex_bits::{BitsMut, Comparison, values};
@@ -135,14 +133,14 @@ pub(crate) mod sealed {
 ///
 /// # Panics
 ///
-/// Where `out` hasn't a bit for each value.
+/// If `out` hasn't one bit per value.
 #[track_caller]
 pub fn compare_into<T: Compare>(values: &[T], op: Comparison, number: T, mut out: BitsMut<'_>) {
     alike(out.len(), values.len());
     kernels::compare(&mut out.written(), values, op, number);
 }
 
-/// Writes to `out` which of the values compare so with the one of `others` at the same place.
+/// Writes to `out` which of the values compare by `op` with the one of `others` at the same index.
 ///
 /// ```
 /// use vortex_bits::{BitsMut, Comparison, values};
@@ -156,7 +154,7 @@ pub fn compare_into<T: Compare>(values: &[T], op: Comparison, number: T, mut out
 ///
 /// # Panics
 ///
-/// Where there aren't as many others, or `out` hasn't a bit for each value.
+/// If there isn't one other per value, or `out` hasn't one bit per value.
 #[track_caller]
 pub fn compare_with_into<T: Compare>(
     values: &[T],
@@ -169,7 +167,7 @@ pub fn compare_with_into<T: Compare>(
     kernels::compare_with(&mut out.written(), values, op, others);
 }
 
-/// Which of the values compare so with `number`. With a validity, nulls are false:
+/// Returns which of the values compare with `number` by `op`. With a validity, nulls are false:
 ///
 /// ```
 /// use vortex_bits::{Bits, Comparison, Validity, values};
@@ -188,7 +186,7 @@ pub fn compare<T: Compare>(values: &[T], op: Comparison, number: T) -> Bitmap {
     })
 }
 
-/// Which of the values compare so with the one of `others` at the same place.
+/// Returns which of the values compare by `op` with the one of `others` at the same index.
 ///
 /// ```
 /// use vortex_bits::{Bitmap, Comparison, values};
@@ -200,7 +198,7 @@ pub fn compare<T: Compare>(values: &[T], op: Comparison, number: T) -> Bitmap {
 ///
 /// # Panics
 ///
-/// Where there aren't as many others.
+/// If there isn't one other per value.
 #[doc(alias("eq", "lt", "gt"))]
 #[cfg(feature = "alloc")]
 #[must_use]

@@ -1,10 +1,10 @@
-//! How many bits two windows have in common, and whether any, with no third one made.
+//! Counts and tests of two windows without building a third one.
 
 use crate::kernels::{self, Operator};
 use crate::{Bits, Mask};
 
 impl Bits<'_> {
-    /// How many bits are true here and in `right`. It takes no memory.
+    /// Returns the number of bits set here and in `right`. Does not allocate.
     ///
     /// ```
     /// use vortex_bits::Bits;
@@ -16,7 +16,7 @@ impl Bits<'_> {
     ///
     /// # Panics
     ///
-    /// Where the windows aren't of one length, as in all calls below.
+    /// If the windows differ in length, as in all calls below.
     #[doc(alias("intersection", "popcount"))]
     #[inline]
     #[must_use]
@@ -25,7 +25,7 @@ impl Bits<'_> {
         self.count(right.of_len(self.len()), Operator::And)
     }
 
-    /// How many bits are true here, in `right`, or in both.
+    /// Returns the number of bits set here, in `right`, or in both.
     #[doc(alias("union"))]
     #[inline]
     #[must_use]
@@ -34,7 +34,7 @@ impl Bits<'_> {
         self.count(right.of_len(self.len()), Operator::Or)
     }
 
-    /// How many bits are true here or in `right`, and not in both: how many are another than there.
+    /// Returns the number of bits set here or in `right`, but not in both: the Hamming distance.
     #[doc(alias("hamming", "symmetric_difference"))]
     #[inline]
     #[must_use]
@@ -43,7 +43,7 @@ impl Bits<'_> {
         self.count(right.of_len(self.len()), Operator::Xor)
     }
 
-    /// How many bits are true here and false in `right`.
+    /// Returns the number of bits set here and unset in `right`.
     #[doc(alias("difference"))]
     #[inline]
     #[must_use]
@@ -52,7 +52,7 @@ impl Bits<'_> {
         self.count(right.of_len(self.len()), Operator::AndNot)
     }
 
-    /// Whether no bit is true both here and in `right`. It reads up to the first one that is.
+    /// Returns whether no bit is set both here and in `right`. Reads up to the first one that is.
     ///
     /// ```
     /// use vortex_bits::Bits;
@@ -72,8 +72,7 @@ impl Bits<'_> {
         }
     }
 
-    /// Whether each bit that is true here is true in `right`. It reads up to the first one that
-    /// isn't.
+    /// Returns whether each bit set here is set in `right`. Reads up to the first one that isn't.
     #[doc(alias("contains"))]
     #[inline]
     #[must_use]

@@ -1,17 +1,17 @@
-//! Why a window or a call is refused.
+//! Errors of windows and of calls.
 
 use core::error::Error;
 use core::fmt;
 
-/// A window that doesn't lie in its bytes, or whose end is no `usize`.
+/// The error of a window that isn't in its bytes, or whose end is no `usize`.
 #[derive(Clone, Copy, Debug, PartialEq, Eq, Hash)]
 #[non_exhaustive]
 pub struct OutOfBounds {
-    /// The place of the first bit.
+    /// The index of the first bit.
     pub offset: usize,
     /// The number of bits.
     pub len: usize,
-    /// How many bits there are in all.
+    /// The number of bits in all.
     pub bits: usize,
 }
 
@@ -33,32 +33,32 @@ impl fmt::Display for OutOfBounds {
 
 impl Error for OutOfBounds {}
 
-/// Why bits aren't taken at indices.
+/// The error of a take of bits.
 #[derive(Clone, Copy, Debug, PartialEq, Eq, Hash)]
 #[non_exhaustive]
 pub enum TakeError {
-    /// The window that is written hasn't a bit for each index; it is as it was.
+    /// The output window hasn't one bit per index; it is unchanged.
     Room {
-        /// How many bits it has.
+        /// Its number of bits.
         bits: usize,
-        /// How many indices there are.
+        /// The number of indices.
         indices: usize,
     },
-    /// The window of validity hasn't a bit for each index; what is written is as it was.
+    /// The validity hasn't one bit per index; the output is unchanged.
     Validity {
-        /// How many bits it has.
+        /// Its number of bits.
         bits: usize,
-        /// How many indices there are.
+        /// The number of indices.
         indices: usize,
     },
     /// The index at this position is negative, or isn't below the length of the window that is
-    /// read. It is the first one that counts and is so; the window that is written holds any bits.
+    /// read. It is the first such index that counts; the output window holds any bits.
     Index {
         /// The position among the indices.
         position: usize,
-        /// The index; `i128::MAX` where it is above that.
+        /// The index; `i128::MAX` if it is above that.
         index: i128,
-        /// How many bits the window that is read has.
+        /// The number of bits in the window that is read.
         len: usize,
     },
 }
@@ -88,32 +88,32 @@ fn no_place(f: &mut fmt::Formatter<'_>, position: usize, index: i128, len: usize
     )
 }
 
-/// Why values aren't taken at indices.
+/// The error of a take of values.
 #[derive(Clone, Copy, Debug, PartialEq, Eq, Hash)]
 #[non_exhaustive]
 pub enum TakeValuesError {
-    /// What is written isn't as long as the indices; it is as it was.
+    /// The output isn't as long as the indices; it is unchanged.
     Room {
-        /// How many values it has.
+        /// Its number of values.
         room: usize,
-        /// How many indices there are.
+        /// The number of indices.
         indices: usize,
     },
-    /// The validity hasn't a bit for each index; what is written is as it was.
+    /// The validity hasn't one bit per index; the output is unchanged.
     Validity {
-        /// How many bits it has.
+        /// Its number of bits.
         bits: usize,
-        /// How many indices there are.
+        /// The number of indices.
         indices: usize,
     },
     /// The index at this position is negative, or isn't below the number of values. It is the first
-    /// one that counts and is so; what is written holds any values.
+    /// such index that counts; the output holds any values.
     Index {
         /// The position among the indices.
         position: usize,
-        /// The index; `i128::MAX` where it is above that.
+        /// The index; `i128::MAX` if it is above that.
         index: i128,
-        /// How many values there are.
+        /// The number of values.
         values: usize,
     },
 }
@@ -143,15 +143,15 @@ fn no_validity(f: &mut fmt::Formatter<'_>, indices: usize, bits: usize) -> fmt::
     write!(f, "{indices} indices and {bits} bits of validity")
 }
 
-/// An index that is no place of the bits that are to be made; it is the first one.
+/// The error of an index that isn't below the number of bits to be built; it is the first one.
 #[derive(Clone, Copy, Debug, PartialEq, Eq, Hash)]
 #[non_exhaustive]
 pub struct BadIndex {
     /// The position among the indices.
     pub position: usize,
-    /// The index; `i128::MAX` where it is above that.
+    /// The index; `i128::MAX` if it is above that.
     pub index: i128,
-    /// How many bits there are to be.
+    /// The number of bits to be built.
     pub len: usize,
 }
 
@@ -163,22 +163,22 @@ impl fmt::Display for BadIndex {
 
 impl Error for BadIndex {}
 
-/// Why a window that is written isn't split at a place.
+/// The error of a split of a writable window.
 #[derive(Clone, Copy, Debug, PartialEq, Eq, Hash)]
 #[non_exhaustive]
 pub enum SplitError {
-    /// The place is past the window.
+    /// The index is past the window.
     Past {
-        /// The place.
+        /// The index.
         place: usize,
-        /// How many bits the window has.
+        /// The number of bits in the window.
         len: usize,
     },
-    /// The bits before the place and those from it on have a byte in common.
+    /// The bits before the index and those from it on have a byte in common.
     WithinByte {
-        /// The place.
+        /// The index.
         place: usize,
-        /// Which bit of the bytes it is: `offset + place`.
+        /// The bit of the bytes at the index: `offset + place`.
         bit: usize,
     },
 }
@@ -200,13 +200,13 @@ impl fmt::Display for SplitError {
 
 impl Error for SplitError {}
 
-/// A table of counts that is too short for its window.
+/// The error of a table of counts that is too short for its window.
 #[derive(Clone, Copy, Debug, PartialEq, Eq, Hash)]
 #[non_exhaustive]
 pub struct ShortTable {
-    /// How many blocks the window has.
+    /// The number of blocks in the window.
     pub blocks: usize,
-    /// How many entries the table has.
+    /// The number of entries in the table.
     pub entries: usize,
 }
 
@@ -219,11 +219,11 @@ impl fmt::Display for ShortTable {
 
 impl Error for ShortTable {}
 
-/// The answer of a call that isn't refused.
+/// Returns the value of a call that succeeds.
 ///
 /// # Panics
 ///
-/// With the text of the refusal.
+/// With the text of the error.
 #[inline]
 #[track_caller]
 pub(crate) fn expect<T, E: fmt::Display>(answer: Result<T, E>) -> T {

@@ -1,4 +1,4 @@
-//! Bits and values that a mask keeps.
+//! Filters: the bits and values that a mask selects.
 
 #[cfg(feature = "alloc")]
 use alloc::vec::Vec;
@@ -8,11 +8,11 @@ use crate::mask::sealed::Mask as _;
 use crate::{Bits, BitsMut, Mask, Value, kernels};
 
 impl Bits<'_> {
-    /// Writes the bits at the places that are true in `mask` to `out`, in their order.
+    /// Writes the bits that `mask` selects to `out`, in their order.
     ///
     /// # Panics
     ///
-    /// Where `mask` isn't as long as the window, or `out` hasn't a bit for each true one of it.
+    /// If `mask` isn't as long as the window, or `out` hasn't one bit per set bit of it.
     ///
     /// ```
     /// use vortex_bits::{Bits, BitsMut};
@@ -32,12 +32,12 @@ impl Bits<'_> {
         kernels::filter(&mut out.written(), self, mask);
     }
 
-    /// Writes the values whose bit is true, in their order, to the front of `out`, and answers how
-    /// many they are. The items of `out` behind them stay.
+    /// Writes the values whose bit is set, in their order, to the front of `out`, and returns their
+    /// number. The items of `out` after them are unchanged.
     ///
     /// # Panics
     ///
-    /// Where there isn't a value for each bit, or `out` hasn't room for each whose bit is true.
+    /// If there isn't one value per bit, or `out` hasn't capacity for one per set bit.
     ///
     /// ```
     /// use vortex_bits::Bits;
@@ -57,7 +57,7 @@ impl Bits<'_> {
     }
 }
 
-/// The values at the places that are true in `mask`, in their order: all where it is None.
+/// Returns the values that `mask` selects, in their order: all if it is None.
 ///
 /// ```
 /// use vortex_bits::{Bits, values};
@@ -68,7 +68,7 @@ impl Bits<'_> {
 ///
 /// # Panics
 ///
-/// Where `mask` isn't as long as the values.
+/// If `mask` isn't as long as the values.
 #[doc(alias("compress", "select"))]
 #[cfg(feature = "alloc")]
 #[must_use]
@@ -79,8 +79,8 @@ pub fn filter<T: Value>(values: &[T], mask: impl Mask) -> Vec<T> {
     kept
 }
 
-/// Adds the values at the places that are true in `mask`, in their order, to the end of `kept`: all
-/// where it is None. So the rows that batches keep make one column.
+/// Appends the values that `mask` selects, in their order, to `kept`: all if it is None. This joins
+/// the filtered rows of batches into one column.
 ///
 /// ```
 /// use vortex_bits::{Bits, values};
@@ -92,7 +92,7 @@ pub fn filter<T: Value>(values: &[T], mask: impl Mask) -> Vec<T> {
 ///
 /// # Panics
 ///
-/// Where `mask` isn't as long as the values; `kept` is as it was.
+/// If `mask` isn't as long as the values; `kept` is unchanged.
 #[doc(alias("compress", "concat"))]
 #[cfg(feature = "alloc")]
 #[track_caller]

@@ -1,6 +1,6 @@
-//! Walks over a window: its bits, its words, the places and the runs of its true bits and of its
-//! false ones, and its parts, to be written. What C functions answer is filled by blocks, so that no call stands between two
-//! items.
+//! Iterators over a window: its bits, its words, the indices and the runs of its set bits and of
+//! its unset ones, and its writable parts. C functions fill blocks of items, so most items need no
+//! call.
 
 mod blocks;
 mod chunks;

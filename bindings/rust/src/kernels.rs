@@ -1,5 +1,5 @@
-//! Each call at the level that is current. Windows of at most a word are done at once in Rust, so
-//! that no call by a pointer stands between.
+//! Each call at the current level. Rust handles windows of at most one word directly, without a
+//! call by a pointer.
 
 #[macro_use]
 mod call;
@@ -25,7 +25,7 @@ use crate::level::kernels;
 #[cfg(vortex_bits_native)]
 use crate::native::{Combine, CombineInto, CountCombined, Kernels};
 
-/// A run of true bits, laid out as C's: where it begins, and the place behind it.
+/// A run of set bits, with C's layout: its first index, and the index after it.
 #[repr(C)]
 #[derive(Clone, Copy, Default)]
 pub struct Run {
@@ -159,7 +159,7 @@ pub fn all_set(bits: Bits<'_>) -> bool {
     portable::next_unset(bits, 0).is_none()
 }
 
-/// Of windows of one length.
+/// The windows have one length.
 #[inline]
 pub fn equal(left: Bits<'_>, right: Bits<'_>) -> bool {
     debug_assert_eq!(left.len(), right.len());
@@ -186,7 +186,7 @@ pub fn negate(out: &mut Written<'_>) {
     portable::negate(out);
 }
 
-/// Of windows of one length.
+/// The windows have one length.
 #[inline]
 pub fn copy(out: &mut Written<'_>, source: Bits<'_>) {
     debug_assert_eq!(out.len(), source.len());
@@ -196,7 +196,7 @@ pub fn copy(out: &mut Written<'_>, source: Bits<'_>) {
     portable::copy(out, source);
 }
 
-/// Of windows of one length.
+/// The windows have one length.
 #[inline]
 pub fn combine(out: &mut Written<'_>, right: Bits<'_>, operator: Operator) {
     debug_assert_eq!(out.len(), right.len());
@@ -209,7 +209,7 @@ pub fn combine(out: &mut Written<'_>, right: Bits<'_>, operator: Operator) {
     portable::combine(out, right, operator);
 }
 
-/// Of windows of one length.
+/// The windows have one length.
 #[inline]
 pub fn combine_into(out: &mut Written<'_>, left: Bits<'_>, right: Bits<'_>, operator: Operator) {
     debug_assert!(out.len() == left.len() && out.len() == right.len());
@@ -223,7 +223,7 @@ pub fn combine_into(out: &mut Written<'_>, left: Bits<'_>, right: Bits<'_>, oper
     portable::combine_into(out, left, right, operator);
 }
 
-/// How many bits the operator makes true, of windows of one length.
+/// Returns the number of bits that the operator sets, for windows of one length.
 #[inline]
 pub fn combined_count(left: Bits<'_>, right: Bits<'_>, operator: Operator) -> usize {
     debug_assert_eq!(left.len(), right.len());
@@ -235,7 +235,7 @@ pub fn combined_count(left: Bits<'_>, right: Bits<'_>, operator: Operator) -> us
     portable::combined_count(left, right, operator)
 }
 
-/// Whether no bit is true in both, of windows of one length.
+/// Returns whether no bit is set in both, for windows of one length.
 #[inline]
 pub fn is_disjoint(left: Bits<'_>, right: Bits<'_>) -> bool {
     debug_assert_eq!(left.len(), right.len());
@@ -245,7 +245,7 @@ pub fn is_disjoint(left: Bits<'_>, right: Bits<'_>) -> bool {
     portable::is_disjoint(left, right)
 }
 
-/// Whether each bit that is true on the left is true on the right, of windows of one length.
+/// Returns whether each bit set on the left is set on the right, for windows of one length.
 #[inline]
 pub fn is_subset(left: Bits<'_>, right: Bits<'_>) -> bool {
     debug_assert_eq!(left.len(), right.len());
@@ -255,7 +255,7 @@ pub fn is_subset(left: Bits<'_>, right: Bits<'_>) -> bool {
     portable::is_subset(left, right)
 }
 
-/// Of as many bits as the mask has true ones, and an `out` as long as the mask.
+/// `bits` has one bit per set bit of the mask, and `out` is as long as the mask.
 #[inline]
 pub fn deposit(out: &mut Written<'_>, bits: Bits<'_>, mask: Bits<'_>) {
     debug_assert_eq!(out.len(), mask.len());
@@ -266,15 +266,15 @@ pub fn deposit(out: &mut Written<'_>, bits: Bits<'_>, mask: Bits<'_>) {
     portable::deposit(out, bits, mask);
 }
 
-/// Writes how many bits before each block are true; the table has an entry for each. It answers
-/// how many there are.
+/// Writes the number of set bits before each block; the table has one entry per block. Returns the
+/// number of entries.
 pub fn block_counts(bits: Bits<'_>, table: &mut [usize]) -> usize {
     debug_assert_eq!(table.len(), blocks(bits.len()));
     native!(block_counts: slice_mut table, window bits);
     portable::block_counts(bits, table)
 }
 
-/// Of a place up to the length, and a table with an entry for each block.
+/// `place` is at most the length, and the table has one entry per block.
 #[inline]
 pub fn rank(bits: Bits<'_>, table: &[usize], place: usize) -> usize {
     debug_assert!(table.len() == blocks(bits.len()) && place <= bits.len());
@@ -282,7 +282,7 @@ pub fn rank(bits: Bits<'_>, table: &[usize], place: usize) -> usize {
     portable::rank(bits, table, place)
 }
 
-/// Of a table with an entry for each block.
+/// The table has one entry per block.
 #[inline]
 pub fn ranked_select(bits: Bits<'_>, table: &[usize], n: usize) -> Option<usize> {
     debug_assert_eq!(table.len(), blocks(bits.len()));
@@ -290,7 +290,7 @@ pub fn ranked_select(bits: Bits<'_>, table: &[usize], n: usize) -> Option<usize>
     portable::ranked_select(bits, table, n)
 }
 
-/// Of a table with an entry for each block.
+/// The table has one entry per block.
 #[inline]
 pub fn ranked_select_unset(bits: Bits<'_>, table: &[usize], n: usize) -> Option<usize> {
     debug_assert_eq!(table.len(), blocks(bits.len()));

@@ -1,4 +1,4 @@
-//! Truth values that may be null, combined as SQL does.
+//! Truth values that may be null, combined as in SQL.
 
 use crate::bits_mut::alike;
 use crate::kernels::{self, Column, Logic};
@@ -9,15 +9,14 @@ use crate::{Bits, BitsMut, Mask};
 use crate::Bitmap;
 
 /// Writes `a and b` of truth values that may be null, by three-valued logic, Kleene's, as in SQL:
-/// false where one of the two is false, also where the other one is null; else null where one is
-/// null.
+/// false if one of the two is false, even if the other one is null; else null if one is null.
 ///
-/// `a` and `b` are windows, or bitmaps by reference; `a_valid` and `b_valid` say which of their
-/// bits aren't null, and are what a mask is elsewhere. None stands for all: `None::<Bits>` where it
-/// stands by itself.
+/// `a` and `b` are windows, or bitmaps by reference. `a_valid` and `b_valid` are masks that say
+/// which of their bits aren't null; None means all (write `None::<Bits>` if the type cannot be
+/// inferred).
 ///
-/// Which are true goes to `trues`, with false where the answer is null, and which are valid to
-/// `valid`. What `a` and `b` have at nulls counts for nothing.
+/// `trues` gets which results are true (false if null), and `valid` which are valid. The bits of
+/// `a` and `b` at nulls are ignored.
 ///
 /// ```
 /// use vortex_bits::{Bits, BitsMut, values};
@@ -32,7 +31,7 @@ use crate::Bitmap;
 ///
 /// # Panics
 ///
-/// Where the windows and masks aren't of one length.
+/// If the windows and masks differ in length.
 #[doc(alias("null", "3VL"))]
 #[track_caller]
 pub fn and_kleene_into<'a, 'b>(
@@ -47,8 +46,8 @@ pub fn and_kleene_into<'a, 'b>(
     combine_into(both, Logic::And, trues, valid);
 }
 
-/// Writes `a or b` of truth values that may be null, by three-valued logic: true where one of the
-/// two is true, also where the other one is null; else null where one is null. The rest is as of
+/// Writes `a or b` of truth values that may be null, by three-valued logic: true if one of the two
+/// is true, even if the other one is null; else null if one is null. The rest is as in
 /// [`and_kleene_into`].
 ///
 /// ```
@@ -63,7 +62,7 @@ pub fn and_kleene_into<'a, 'b>(
 ///
 /// # Panics
 ///
-/// Where the windows and masks aren't of one length.
+/// If the windows and masks differ in length.
 #[doc(alias("null", "3VL"))]
 #[track_caller]
 pub fn or_kleene_into<'a, 'b>(
@@ -78,18 +77,18 @@ pub fn or_kleene_into<'a, 'b>(
     combine_into(both, Logic::Or, trues, valid);
 }
 
-/// `a and b` of truth values that may be null, by three-valued logic, Kleene's, as in SQL: false
-/// where one of the two is false, also where the other one is null; else null where one is null.
+/// Returns `a and b` of truth values that may be null, by Kleene's three-valued logic, as in SQL:
+/// false if one of the two is false, even if the other one is null; else null if one is null.
 ///
-/// `a` and `b` are windows, or bitmaps by reference; `a_valid` and `b_valid` say which of their
-/// bits aren't null, and are what a mask is elsewhere. None stands for all: `None::<Bits>` where it
-/// stands by itself.
+/// `a` and `b` are windows, or bitmaps by reference. `a_valid` and `b_valid` are masks that say
+/// which of their bits aren't null; None means all (write `None::<Bits>` if the type cannot be
+/// inferred).
 ///
-/// It answers which are true, and which are valid: None where all are. The first is false where the
-/// answer is null, and what `a` and `b` have at nulls counts for nothing.
+/// Returns which results are true (false if null), and which are valid: None if all are. The bits
+/// of `a` and `b` at nulls are ignored.
 ///
-/// Which rows a `where` keeps wants no three-valued logic unless there is a `not` in it: they are
-/// the same where truth values are and'ed with their validity first, and combined by `&` and `|`.
+/// A `where` clause needs three-valued logic only if it has a `not`. Otherwise the rows are the
+/// same if you and each truth value with its validity first, and combine them by `&` and `|`.
 ///
 /// ```
 /// use vortex_bits::{Bits, Comparison, values};
@@ -108,7 +107,7 @@ pub fn or_kleene_into<'a, 'b>(
 ///
 /// # Panics
 ///
-/// Where the windows and masks aren't of one length.
+/// If the windows and masks differ in length.
 #[doc(alias("null", "3VL"))]
 #[cfg(feature = "alloc")]
 #[must_use]
@@ -125,8 +124,8 @@ pub fn and_kleene<'a, 'b>(
     }
 }
 
-/// `a or b` of truth values that may be null, by three-valued logic: true where one of the two is
-/// true, also where the other one is null; else null where one is null. The rest is as of
+/// Returns `a or b` of truth values that may be null, by three-valued logic: true if one of the two
+/// is true, even if the other one is null; else null if one is null. The rest is as in
 /// [`and_kleene`].
 ///
 /// ```
@@ -145,7 +144,7 @@ pub fn and_kleene<'a, 'b>(
 ///
 /// # Panics
 ///
-/// Where the windows and masks aren't of one length.
+/// If the windows and masks differ in length.
 #[doc(alias("null", "3VL"))]
 #[cfg(feature = "alloc")]
 #[must_use]
@@ -162,7 +161,7 @@ pub fn or_kleene<'a, 'b>(
     }
 }
 
-/// Two columns, which are as long.
+/// Two columns of the same length.
 #[track_caller]
 fn columns<'a>(
     a: Bits<'a>,
@@ -188,7 +187,7 @@ fn combine_into(
     kernels::combine_truths(trues, valid, a, b, logic);
 }
 
-/// Which are true, and which are valid, of columns that are as long.
+/// Returns which results are true, and which are valid, of columns of the same length.
 #[cfg(feature = "alloc")]
 fn combined(a: Column<'_>, b: Column<'_>, logic: Logic) -> (Bitmap, Option<Bitmap>) {
     let mut valid = Bitmap::new_unset(a.0.len());

@@ -1,15 +1,15 @@
-//! Which code the processor can run, and which of it runs.
+//! The code that the processor can run, and the code that calls run.
 
 use core::sync::atomic::{AtomicU8, Ordering};
 
 #[cfg(vortex_bits_native)]
 use crate::native::{Kernels, V2, V3};
 
-/// Code that calls run. Answers don't depend on it.
+/// The code that calls run. Results don't depend on it.
 #[derive(Clone, Copy, Debug, PartialEq, Eq, PartialOrd, Ord, Hash)]
 #[non_exhaustive]
 pub enum Level {
-    /// Rust of this crate, on any machine: compared with loops over single bits, and not proved.
+    /// Rust of this crate, on any target: compared with loops over single bits, and not proved.
     Portable,
     /// Proved code for x86-64-v2: SSE4.2 and `popcnt`.
     V2,
@@ -20,8 +20,8 @@ pub enum Level {
 /// All levels, the lowest first.
 const LEVELS: [Level; 3] = [Level::Portable, Level::V2, Level::V3];
 
-/// The level where it is known when the program is compiled, as by `-C target-cpu=x86-64-v3`: calls
-/// then go straight to its functions.
+/// The level if it is known at compile time, as by `-C target-cpu=x86-64-v3`: calls then go
+/// straight to its functions.
 const FIXED: Option<Level> = if cfg!(not(vortex_bits_native)) {
     Some(Level::Portable)
 } else if cfg!(all(
@@ -59,11 +59,11 @@ compile_error!(
      told counts: `-C target-cpu=x86-64-v2` or a higher one"
 );
 
-/// The level that calls use, as its place behind 0; 0 until the first call has chosen it.
+/// The level that calls use, as its index plus 1; 0 until the first call has chosen it.
 static CURRENT: AtomicU8 = AtomicU8::new(0);
 
-/// Whether the processor has each feature: as it is found when the program runs, and without
-/// `std` as the compiler was told.
+/// Whether the processor has each feature: tested when the program runs, or without `std` by the
+/// compiler's target.
 #[cfg(vortex_bits_native)]
 macro_rules! has {
     ($($feature:tt),*) => {{
@@ -76,8 +76,8 @@ macro_rules! has {
 }
 
 impl Level {
-    /// The level that calls use: the highest one that there is code for here and that the processor
-    /// has, unless `make_current` said another.
+    /// Returns the level that calls use: the highest one that has code here and that the processor
+    /// has, unless `make_current` set another.
     #[inline]
     #[must_use]
     pub fn current() -> Level {
@@ -90,7 +90,7 @@ impl Level {
         }
     }
 
-    /// Whether there is code for the level here, and the processor has it.
+    /// Returns whether there is code for the level here, and the processor has it.
     #[must_use]
     pub fn is_available(self) -> bool {
         match self {
@@ -105,7 +105,7 @@ impl Level {
     }
 
     /// Makes all calls from now on, on any thread, use the code of this level, to measure or to
-    /// test it. Answers whether it is available, and changes nothing where it isn't.
+    /// test it. Returns whether it is available, and changes nothing if it isn't.
     #[cfg(feature = "levels")]
     #[must_use]
     pub fn make_current(self) -> bool {
@@ -116,7 +116,7 @@ impl Level {
         available
     }
 
-    /// All levels that are available, the lowest first.
+    /// Returns all levels that are available, the lowest first.
     #[cfg(feature = "levels")]
     pub fn available() -> impl Iterator<Item = Level> {
         LEVELS.into_iter().filter(|level| level.is_available())
@@ -127,7 +127,7 @@ impl Level {
     }
 }
 
-/// The C functions that calls go to; None where they are done in Rust.
+/// The C functions that calls go to; None if Rust does them.
 #[cfg(vortex_bits_native)]
 #[inline]
 pub(crate) fn kernels() -> Option<&'static Kernels> {

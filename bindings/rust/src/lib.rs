@@ -1,7 +1,6 @@
-//! Windows of bits over byte slices, least significant bit first: counted, searched, compared,
-//! walked, filled, negated, copied and combined; packed of truth values, taken at indices, filtered
-//! by masks, which filter values too, and ranked over a table of counts. Values at indices are in
-//! [`values`].
+//! Functions over windows of bits in byte slices, least significant bit first. They count, search,
+//! compare, walk, fill, negate, copy, combine, pack, take (gather), filter and rank bits.
+//! [`values`] filters, compares and takes values.
 //!
 //! ```
 //! use vortex_bits::{Bitmap, Bits, Comparison, values};
@@ -16,47 +15,47 @@
 //! assert_eq!(valid.take(&[4u32, 1]), Bitmap::from([true, false]));
 //! ```
 //!
-//! Bit `i` of some bytes is digit `i % 8` of byte `i / 8`. A window is the `len` bits from bit
-//! `offset` on: [`Bits`] reads one, [`BitsMut`] writes one, and [`Validity`] may be without one. No
-//! call reads or changes a bit outside of its windows, whatever else the bytes hold. Lengths,
-//! offsets and places are counted in bits.
+//! Bit `i` of some bytes is bit `i % 8` of byte `i / 8`. A window is the `len` bits starting at bit
+//! `offset`: [`Bits`] reads one, [`BitsMut`] writes one, and [`Validity`] may be without one. No
+//! call reads or changes a bit outside of its windows, whatever the bytes hold there. Lengths,
+//! offsets and indices are in bits.
 //!
-//! That a window lies in its bytes is tested once, where it is made. After that a call panics only
-//! for what its windows can't know, and says so: that two of them are of one length, or that a
-//! place is one of theirs. Memory is taken by calls that give a `Bitmap`, bits with their bytes,
-//! and by those that make one grow, write one whose bytes are shared, or make it `Ranked`.
+//! A window is tested once, by its constructor: it must be in its bytes. Later calls panic, with a
+//! message, only for what a window can't know: that two windows have one length, or that an index
+//! is in bounds. Calls that return a `Bitmap` (bits with their bytes) allocate memory, as do those
+//! that let one grow, write one with shared bytes, or make it `Ranked`.
 //!
 //! # What is proved
 //!
-//! On x86-64 Linux calls over more than 64 bits run C functions that are proved in Rattle to meet
-//! their definitions at every offset and length, for x86-64-v2 or for x86-64-v3, by what the
-//! processor has. Comparisons, packed truth values, bits at indices and ranks run them at any
-//! length, values at indices for more than 16 of these. The rest is Rust of this crate alone, which
-//! is compared with loops over single bits and isn't proved:
+//! On x86-64 Linux, calls over more than 64 bits run C functions that are proved in Rattle to meet
+//! their definitions at every offset and length, at level x86-64-v2 or x86-64-v3 as the processor
+//! has. Comparisons, packing, bits at indices and ranks run them at any length, values at indices
+//! for more than 16 of these. The rest is Rust of this crate, which is not proved, but compared
+//! with loops over single bits:
 //!
 //! - single bits, other windows of at most 64, values at up to 16 indices, and values and indices
-//!   of which [`Value`], [`Compare`] and [`BitIndex`] say so;
-//! - what puts calls together: `fill_with`, and the blocks in which iterators are filled;
-//! - walks over false bits and from the end, how bitmaps are made and grow, [`Validity`], and
+//!   for which [`Value`], [`Compare`] and [`BitIndex`] say so;
+//! - code that joins calls: `fill_with`, and the blocks that iterators fill;
+//! - walks over false bits and from the end, the building and growth of bitmaps, [`Validity`], and
 //!   `arrow`;
-//! - everything on other machines, under Miri, and where the archives of those functions aren't
-//!   there when the crate is built.
+//! - everything on other targets, under Miri, and if the archives of those functions are missing
+//!   when the crate is built.
 //!
-//! [`Level::current`] says which code runs.
+//! [`Level::current`] returns the level of the code that runs.
 //!
 //! # Features
 //!
-//! - `proved`: the build fails where the archives of the proved functions aren't there, or the
-//!   target isn't x86-64 Linux; Miri, which can't run them, is let pass. Without it cargo warns of
-//!   missing archives for path dependencies alone. Archives of other sources than this version's
-//!   fail it either way. What the processor has shows when the program
-//!   runs: assert there that [`Level::current`] isn't [`Level::Portable`].
-//! - `std` (default): the processor is tested when the program runs. Without it, what the compiler
-//!   was told counts (`-C target-cpu`).
+//! - `proved`: the build fails if the archives of the proved functions are missing, or if the
+//!   target isn't x86-64 Linux; Miri, which can't run them, is exempt. Without this feature cargo
+//!   warns of missing archives for path dependencies alone. Archives of other sources than this
+//!   version's fail the build either way. The processor is known when the program runs: assert
+//!   there that [`Level::current`] isn't [`Level::Portable`].
+//! - `std` (default): the processor is tested when the program runs. Without it, the compiler's
+//!   target (`-C target-cpu`) decides.
 //! - `alloc` (with `std`): `Bitmap`, bits with their bytes, `Ranked`, those with their ranks, and
-//!   what gives one.
-//! - `arrow` (with `alloc`): arrays and streams of Arrow's C interfaces, read where they lie and
-//!   handed on. It is the one part that has `unsafe` beside the calls of proved functions.
+//!   the calls that return one.
+//! - `arrow` (with `alloc`): reads arrays and streams of Arrow's C interfaces in place, and exports
+//!   them. It is the only part with `unsafe` besides the calls of proved functions.
 //! - `levels`: `Level::make_current`, to measure and to test.
 #![no_std]
 #![cfg_attr(docsrs, feature(doc_cfg))]

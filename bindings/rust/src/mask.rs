@@ -1,11 +1,11 @@
-//! What stands for bits on the right side of a call.
+//! The right side of a call: bits, or something with bits.
 
 #[cfg(feature = "alloc")]
 use crate::Bitmap;
 use crate::{Bits, Validity};
 
-/// What has bits: [`Bits`], a `Bitmap` and a [`Validity`](crate::Validity), by reference too, and
-/// an [`Option`] of these. None stands for as many bits as are asked for, all true, as the missing
+/// Types with bits: [`Bits`], a `Bitmap` and a [`Validity`](crate::Validity), by reference too, and
+/// an [`Option`] of these. None means that all bits are true, whatever their number, as the missing
 /// validity of a column that has no null.
 ///
 /// ```
@@ -36,20 +36,20 @@ pub(crate) mod sealed {
     use crate::{Bits, Validity};
 
     pub trait Mask {
-        /// The bits; None where all are true.
+        /// Returns the bits; None if all are true.
         fn mask(&self) -> Option<Bits<'_>>;
 
-        /// How many they are, where that is known.
+        /// Returns their number, if that is known.
         #[inline]
         fn mask_len(&self) -> Option<usize> {
             self.mask().map(Bits::len)
         }
 
-        /// The bits of a mask for `len` bits or values.
+        /// Returns the bits of a mask for `len` bits or values.
         ///
         /// # Panics
         ///
-        /// Where it is one for another number of them.
+        /// If it is one for another number of them.
         #[inline]
         #[track_caller]
         fn of_len(&self, len: usize) -> Option<Bits<'_>> {

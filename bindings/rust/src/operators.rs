@@ -1,4 +1,4 @@
-//! `&`, `|`, `^` and `!`, which give new bits, and `&=`, `|=` and `^=`, which write.
+//! `&`, `|`, `^` and `!`, which return new bits, and `&=`, `|=` and `^=`, which write.
 
 use core::ops::{BitAndAssign, BitOrAssign, BitXorAssign};
 
@@ -10,11 +10,11 @@ use crate::{Bitmap, Grow, Validity};
 #[cfg(feature = "alloc")]
 use core::ops::{BitAnd, BitOr, BitXor, Not};
 
-/// The bits of the right side, which has as many where it says how many.
+/// Returns the bits of the right side, which must have `left` bits if it has a length.
 ///
 /// # Panics
 ///
-/// Where it has another number of them.
+/// If its length differs.
 #[track_caller]
 fn right_of(left: usize, right: &impl Mask) -> Option<Bits<'_>> {
     let len = right.mask_len().unwrap_or(left);
@@ -22,8 +22,8 @@ fn right_of(left: usize, right: &impl Mask) -> Option<Bits<'_>> {
     right.mask()
 }
 
-/// What the operator makes of the bits of the left side, which are all true where it has none, and
-/// of those of the right side.
+/// Returns the operator's result on the bits of the left side, which are all true if it has none,
+/// and those of the right side.
 #[cfg(feature = "alloc")]
 #[track_caller]
 fn combined(left: Validity<'_>, right: &impl Mask, operator: Operator) -> Bitmap {
@@ -40,7 +40,7 @@ fn combined(left: Validity<'_>, right: &impl Mask, operator: Operator) -> Bitmap
     })
 }
 
-/// The operator with a right side that is as long, or all true.
+/// The operator with a right side of the same length, or all true.
 fn apply(bits: &mut BitsMut<'_>, right: Option<Bits<'_>>, operator: Operator) {
     match right {
         Some(right) => bits.combine(right, operator),
@@ -64,15 +64,15 @@ fn write(bits: &mut BitsMut<'_>, right: &impl Mask, operator: Operator) {
     apply(bits, right, operator);
 }
 
-/// An operator on this left side, which gives new bits.
+/// An operator on this left side, which returns new bits.
 #[cfg(feature = "alloc")]
 macro_rules! on {
     ($operator:ident, $trait:ident, $name:ident, [$($generic:tt)*] $left:ty, $rows:expr) => {
-        /// New bits. The right side is what has some, by value or by reference.
+        /// Returns new bits. The right side has bits, by value or by reference.
         ///
         /// # Panics
         ///
-        /// Where there are another number of these.
+        /// If the lengths differ.
         impl<$($generic)* R: Mask> $trait<R> for $left {
             type Output = Bitmap;
 
@@ -102,7 +102,7 @@ macro_rules! operators {
 
         /// # Panics
         ///
-        /// Where the right side has another number of bits.
+        /// If the lengths differ.
         impl<R: Mask> $assign<R> for BitsMut<'_> {
             #[track_caller]
             fn $assign_name(&mut self, right: R) {
@@ -110,11 +110,11 @@ macro_rules! operators {
             }
         }
 
-        /// In the bytes at once where they have no other owner, else in a copy.
+        /// Writes in place if the bytes have no other owner, else in a copy.
         ///
         /// # Panics
         ///
-        /// Where the right side has another number of bits.
+        /// If the lengths differ.
         #[cfg(feature = "alloc")]
         impl<B: Grow, R: Mask> $assign<R> for Bitmap<B> {
             #[track_caller]
@@ -133,7 +133,7 @@ operators! {
 
 #[cfg(feature = "alloc")]
 impl Bits<'_> {
-    /// The bits that are true here and false on the right.
+    /// Returns the bits that are true here and false on the right.
     ///
     /// ```
     /// use vortex_bits::Bits;
@@ -145,7 +145,7 @@ impl Bits<'_> {
     ///
     /// # Panics
     ///
-    /// Where the windows aren't of one length, as of `&`, `|` and `^`.
+    /// If the windows differ in length, as for `&`, `|` and `^`.
     #[must_use]
     #[track_caller]
     pub fn and_not(self, right: impl Mask) -> Bitmap {
@@ -174,7 +174,7 @@ impl Not for &Bits<'_> {
     }
 }
 
-/// Which rows are null: a bit for each, also where all are valid.
+/// Returns which rows are null: one bit per row, even if all are valid.
 ///
 /// ```
 /// use vortex_bits::{Bitmap, Bits, Validity};

@@ -1,4 +1,4 @@
-//! Ranks, and places of ranks, over a table of counts.
+//! Ranks and selects over a table of counts.
 
 #[cfg(feature = "alloc")]
 mod ranked;
@@ -9,10 +9,10 @@ pub use ranked::Ranked;
 use crate::error::{ShortTable, expect};
 use crate::{Bits, kernels};
 
-/// How many bits a block has.
+/// The number of bits in a block.
 pub(crate) const BLOCK: usize = 512;
 
-/// How many blocks of 512 bits a window of `len` bits has: as many entries its table has.
+/// Returns the number of blocks of 512 bits, and so of table entries, for `len` bits.
 ///
 /// ```
 /// assert_eq!(vortex_bits::blocks(1100), 3);
@@ -23,12 +23,12 @@ pub const fn blocks(len: usize) -> usize {
     len.div_ceil(BLOCK)
 }
 
-/// A window with the table of its true bits before each block of 512, which takes one `usize` for
-/// 64 bytes of bits. A rank reads an entry of the table and the bits of at most one block; the
-/// place of a rank is found by halves of the table.
+/// A window with a table of the number of set bits before each block of 512: one `usize` per 64
+/// bytes of bits. A rank reads an entry of the table and the bits of at most one block; a select
+/// finds the block by binary search of the table.
 ///
-/// The bytes are lent for as long, so that the table stays that of the window. `Ranked` has both as
-/// its own.
+/// The bytes are borrowed for as long, so that the table stays that of the window. `Ranked` owns
+/// both.
 ///
 /// ```
 /// use vortex_bits::{Bits, Ranks, blocks};
@@ -55,12 +55,12 @@ pub struct Ranks<'a> {
 }
 
 impl<'a> Ranks<'a> {
-    /// Fills the table, which has room for [`blocks`]`(bits.len())` entries: what stands behind
-    /// them stays. It counts the bits once.
+    /// Fills the first [`blocks`]`(bits.len())` entries of the table; later entries are unchanged.
+    /// Counts the bits once.
     ///
     /// # Panics
     ///
-    /// Where the table has no room.
+    /// If the table has fewer entries.
     #[must_use]
     #[track_caller]
     pub fn new(bits: Bits<'a>, table: &'a mut [usize]) -> Ranks<'a> {
@@ -71,7 +71,7 @@ impl<'a> Ranks<'a> {
     ///
     /// # Errors
     ///
-    /// Where the table has no room; it is as it was.
+    /// If the table has fewer entries; it is unchanged.
     ///
     /// ```
     /// use vortex_bits::{Bits, Ranks};
@@ -90,12 +90,12 @@ impl<'a> Ranks<'a> {
         Ok(Ranks { bits, table })
     }
 
-    /// Over a table that was kept: its first [`blocks`]`(bits.len())` entries. Where these aren't
-    /// the window's own, answers say nothing, and do no harm.
+    /// Uses a stored table: its first [`blocks`]`(bits.len())` entries. If these aren't the
+    /// window's own, results are meaningless, but harmless.
     ///
     /// # Panics
     ///
-    /// Where the table has fewer entries.
+    /// If the table has fewer entries.
     #[inline]
     #[must_use]
     #[track_caller]
@@ -107,7 +107,7 @@ impl<'a> Ranks<'a> {
     ///
     /// # Errors
     ///
-    /// Where the table has fewer entries than the window has blocks.
+    /// If the table has fewer entries than the window has blocks.
     ///
     /// ```
     /// use vortex_bits::{Bits, Ranks};
@@ -125,46 +125,46 @@ impl<'a> Ranks<'a> {
         }
     }
 
-    /// The window.
+    /// Returns the window.
     #[inline]
     #[must_use]
     pub const fn bits(&self) -> Bits<'a> {
         self.bits
     }
 
-    /// How many true bits are before each block.
+    /// Returns the number of set bits before each block.
     #[inline]
     #[must_use]
     pub const fn table(&self) -> &'a [usize] {
         self.table
     }
 
-    /// How many bits the window has.
+    /// Returns the number of bits in the window.
     #[inline]
     #[must_use]
     pub const fn len(&self) -> usize {
         self.bits.len()
     }
 
-    /// Whether it has none.
+    /// Returns whether it has none.
     #[inline]
     #[must_use]
     pub const fn is_empty(&self) -> bool {
         self.bits.is_empty()
     }
 
-    /// How many bits are true, by the table and the bits of the last block.
+    /// Returns the number of set bits, from the table and the bits of the last block.
     #[inline]
     #[must_use]
     pub fn count(&self) -> usize {
         kernels::rank(self.bits, self.table, self.len())
     }
 
-    /// How many of the first `place` bits are true.
+    /// Returns the number of set bits before index `place`.
     ///
     /// # Panics
     ///
-    /// Where `place` is above the length.
+    /// If `place` is above the length.
     #[doc(alias("rank1"))]
     #[inline]
     #[must_use]
@@ -174,14 +174,14 @@ impl<'a> Ranks<'a> {
             .unwrap_or_else(|| past(place, self.len()))
     }
 
-    /// How many of the first `place` bits are true; None where `place` is above the length.
+    /// Returns the number of set bits before index `place`; None if `place` is above the length.
     #[inline]
     #[must_use]
     pub fn try_rank(&self, place: usize) -> Option<usize> {
         (place <= self.len()).then(|| kernels::rank(self.bits, self.table, place))
     }
 
-    /// The place of the `n`-th true bit, counted from 0; None where there are at most `n`.
+    /// Returns the index of the `n`-th set bit, counted from 0; None if at most `n` are set.
     #[doc(alias("select1"))]
     #[inline]
     #[must_use]
@@ -189,7 +189,7 @@ impl<'a> Ranks<'a> {
         kernels::ranked_select(self.bits, self.table, n)
     }
 
-    /// The place of the `n`-th false bit, counted from 0; None where there are at most `n`.
+    /// Returns the index of the `n`-th unset bit, counted from 0; None if at most `n` are unset.
     #[inline]
     #[must_use]
     pub fn select_unset(&self, n: usize) -> Option<usize> {

@@ -1,17 +1,17 @@
-//! A window that is written, in parts over bytes of their own, as for threads.
+//! A writable window split into parts with separate bytes, as for threads.
 
 use crate::BitsMut;
 use crate::error::{SplitError, expect};
 use crate::iter::ChunksMut;
 
 impl BitsMut<'_> {
-    /// Returns the bits before place `mid` and those from `mid` on, each over bytes of its own:
-    /// two threads may write them.
+    /// Returns the bits before index `mid` and those from `mid` on, each over its own bytes: two
+    /// threads may write them.
     ///
-    /// `mid` has to be a border between two bytes, where `(offset + mid) % 8` is 0, or one of the
-    /// ends, 0 and [`len`](BitsMut::len). The first border from place `p` on is
-    /// `p + (offset + p).wrapping_neg() % 8`. [`bytes_mut`](BitsMut::bytes_mut) of a part has the
-    /// bytes with a bit of the part alone, and its [`offset`](BitsMut::offset) is below 8.
+    /// `mid` must be a border between two bytes, where `(offset + mid) % 8` is 0, or one of the
+    /// ends, 0 and [`len`](BitsMut::len). The first border at or after index `p` is `p + (offset +
+    /// p).wrapping_neg() % 8`. [`bytes_mut`](BitsMut::bytes_mut) of a part returns only the bytes
+    /// that have a bit of the part, and its [`offset`](BitsMut::offset) is below 8.
     ///
     /// ```
     /// use std::thread;
@@ -30,7 +30,7 @@ impl BitsMut<'_> {
     ///
     /// # Panics
     ///
-    /// Where [`try_split_at_mut`](BitsMut::try_split_at_mut) returns an error.
+    /// If [`try_split_at_mut`](BitsMut::try_split_at_mut) returns an error.
     #[inline]
     #[must_use]
     #[track_caller]
@@ -38,12 +38,12 @@ impl BitsMut<'_> {
         expect(self.try_split_at_mut(mid))
     }
 
-    /// Returns the bits before place `mid` and those from `mid` on, as
+    /// Returns the bits before index `mid` and those from `mid` on, as
     /// [`split_at_mut`](BitsMut::split_at_mut) does.
     ///
     /// # Errors
     ///
-    /// Where `mid` is past the end, or neither a border between two bytes nor one of the ends.
+    /// If `mid` is past the end, or neither a border between two bytes nor one of the ends.
     ///
     /// ```
     /// use vortex_bits::BitsMut;
@@ -69,12 +69,12 @@ impl BitsMut<'_> {
         Ok(self.part(0, len).split(mid))
     }
 
-    /// Returns an iterator over the window in parts of `bits` bits, each over bytes of its own: as
-    /// many threads may write them.
+    /// Returns an iterator over the window in parts of `bits` bits, each over its own bytes: one
+    /// thread per part may write them.
     ///
-    /// Each border lies between two bytes. So the first part has `bits - offset % 8` bits, each
-    /// further one `bits`, and the last one what is left; all lie in at most `bits / 8` bytes. An
-    /// empty window has no part.
+    /// Each border is between two bytes. So the first part has `bits - offset % 8` bits, each
+    /// further one `bits`, and the last one the rest; each is in at most `bits / 8` bytes. An empty
+    /// window has no part.
     ///
     /// ```
     /// use std::thread;
@@ -96,7 +96,7 @@ impl BitsMut<'_> {
     ///
     /// # Panics
     ///
-    /// Where `bits` is 0 or no multiple of 8.
+    /// If `bits` is 0 or no multiple of 8.
     #[doc(alias("parallel", "threads"))]
     #[inline]
     #[must_use]

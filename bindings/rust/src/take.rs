@@ -1,10 +1,10 @@
-//! Bits taken at indices.
+//! Bits taken (gathered) at indices.
 
 use crate::error::{TakeError, expect};
 use crate::{Bits, BitsMut, Mask, kernels};
 
-/// A type of indices: the twelve whole-number types. A negative one names no place, nor does one
-/// past `usize::MAX`. Those of 128 bits go by plain Rust.
+/// A type of indices: the twelve whole-number types. A negative index, or one above `usize::MAX`,
+/// is out of bounds. Those of 128 bits are handled by plain Rust.
 #[diagnostic::on_unimplemented(
     message = "nothing is taken at indices of `{Self}`",
     label = "indices are whole numbers, in a slice of their own"
@@ -12,17 +12,17 @@ use crate::{Bits, BitsMut, Mask, kernels};
 pub trait BitIndex: sealed::Sealed {}
 
 pub(crate) mod sealed {
-    /// What a type of indices answers.
+    /// What a type of indices provides.
     pub trait Sealed: Copy {
         /// The indices below this are its own numbers; those that an unsigned type of the width
         /// reads as one at or above it name no place.
         #[cfg(vortex_bits_native)]
         const END: usize;
 
-        /// The place that it names, if it is one.
+        /// Returns the index as a `usize`, if it fits.
         fn place(self) -> Option<usize>;
 
-        /// Itself; `i128::MAX` where it is above that.
+        /// Returns the index itself; `i128::MAX` if it is above that.
         fn number(self) -> i128;
     }
 
@@ -70,7 +70,7 @@ impl Bits<'_> {
     ///
     /// # Panics
     ///
-    /// Where [`try_take_into`](Bits::try_take_into) answers an error.
+    /// If [`try_take_into`](Bits::try_take_into) returns an error.
     ///
     /// ```
     /// use vortex_bits::{Bits, BitsMut};
@@ -91,8 +91,8 @@ impl Bits<'_> {
     ///
     /// # Errors
     ///
-    /// Where `out` hasn't a bit for each index, and at the first index that isn't a place of the
-    /// window.
+    /// If `out` hasn't one bit per index, or if an index is out of bounds: the error names the
+    /// first such one.
     ///
     /// ```
     /// use vortex_bits::{Bits, BitsMut};
@@ -111,12 +111,12 @@ impl Bits<'_> {
         take(self, indices, &None::<Bits<'_>>, out)
     }
 
-    /// [`take_into`](Bits::take_into) of the indices that are valid: at the others false is
-    /// written, whatever they are.
+    /// Does [`take_into`](Bits::take_into) of the indices that are valid; writes false at the
+    /// others, whatever they are.
     ///
     /// # Panics
     ///
-    /// Where [`try_take_valid_into`](Bits::try_take_valid_into) answers an error.
+    /// If [`try_take_valid_into`](Bits::try_take_valid_into) returns an error.
     ///
     /// ```
     /// use vortex_bits::{Bits, BitsMut};
@@ -139,13 +139,13 @@ impl Bits<'_> {
         expect(self.try_take_valid_into(indices, validity, out));
     }
 
-    /// [`try_take_into`](Bits::try_take_into) of the indices that are valid: at the others false
-    /// is written, whatever they are.
+    /// Does [`try_take_into`](Bits::try_take_into) of the indices that are valid; writes false at
+    /// the others, whatever they are.
     ///
     /// # Errors
     ///
-    /// Where `out` or `validity` hasn't a bit for each index, and at the first index that is valid
-    /// and isn't a place of the window.
+    /// If `out` or `validity` hasn't one bit per index, or if a valid index is out of bounds: the
+    /// error names the first such one.
     ///
     /// ```
     /// use vortex_bits::{Bits, BitsMut};
@@ -194,7 +194,7 @@ fn refused<I: BitIndex>(indices: &[I], position: usize, len: usize) -> TakeError
     }
 }
 
-/// Whether a validity of the indices has a bit for each, or none since all are valid.
+/// Tests whether a validity of the indices has a bit for each, or is None since all are valid.
 pub(crate) fn one_each<I>(indices: &[I], validity: &impl Mask) -> Result<(), TakeError> {
     match validity.mask_len() {
         Some(bits) if bits != indices.len() => Err(TakeError::Validity {
@@ -205,7 +205,7 @@ pub(crate) fn one_each<I>(indices: &[I], validity: &impl Mask) -> Result<(), Tak
     }
 }
 
-/// Whether the indices that are valid are places of `len` bits.
+/// Tests whether the valid indices are below `len`.
 #[cfg(feature = "alloc")]
 pub(crate) fn all_below<I: BitIndex>(
     indices: &[I],

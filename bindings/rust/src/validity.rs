@@ -1,4 +1,4 @@
-//! Bits that may be left out where all are true.
+//! Bits that may be missing if all are true.
 
 use core::ops::RangeBounds;
 
@@ -12,13 +12,13 @@ use crate::error::TakeError;
 #[cfg(feature = "alloc")]
 use crate::{BitIndex, Bitmap, Grow};
 
-/// Which of some rows are valid: a bit for each, or none where all are, as Arrow leaves out the
-/// validity of a column that has no null. What the calls here make of such is left out too: they
-/// answer None where no bits were there. Bits that are there may still be all true; nothing looks
-/// for that. Two are equal where they say the same of as many rows, with bits or without.
+/// Which rows are valid: one bit per row, or no bits if all are, as Arrow leaves out the validity
+/// of a column without a null. The results of calls also leave them out: they are None if there
+/// were no bits. Bits that are present may still be all true; no call tests that. Two validities
+/// are equal if they have the same valid rows, with bits or without.
 ///
-/// Operators give a [`Bitmap`](crate::Bitmap) in either case, as `is null` and `is not null` want
-/// it: `!` is which rows are null, `Bitmap::from` which are valid, and `&`, `|` and `^` take a
+/// Operators always return a [`Bitmap`](crate::Bitmap), as `is null` and `is not null` need: `!`
+/// returns which rows are null, `Bitmap::from` which are valid, and `&`, `|` and `^` take a
 /// validity on both sides.
 ///
 /// ```
@@ -35,17 +35,17 @@ use crate::{BitIndex, Bitmap, Grow};
 #[doc(alias("null", "NullBuffer"))]
 #[derive(Clone, Copy, Debug)]
 pub struct Validity<'a> {
-    /// As many as there are rows.
+    /// One per row.
     bits: Option<Bits<'a>>,
     len: usize,
 }
 
 impl<'a> Validity<'a> {
-    /// Of `len` rows.
+    /// Returns the validity of `len` rows.
     ///
     /// # Panics
     ///
-    /// Where there are bits, and not as many.
+    /// If there are bits, and their number isn't `len`.
     #[inline]
     #[must_use]
     #[track_caller]
@@ -56,8 +56,8 @@ impl<'a> Validity<'a> {
         }
     }
 
-    /// The bits. None where no bits were there: all rows are valid then. Some may still be all
-    /// true, which [`count_zeros`](Validity::count_zeros) tells.
+    /// Returns the bits; None if there are no bits, and so all rows are valid. Bits may still be
+    /// all true, which [`count_zeros`](Validity::count_zeros) shows.
     ///
     /// ```
     /// assert!(vortex_bits::Validity::new(None, 4).bits().is_none());
@@ -68,21 +68,21 @@ impl<'a> Validity<'a> {
         self.bits
     }
 
-    /// How many rows there are.
+    /// Returns the number of rows.
     #[inline]
     #[must_use]
     pub const fn len(self) -> usize {
         self.len
     }
 
-    /// Whether there are none.
+    /// Returns whether there are none.
     #[inline]
     #[must_use]
     pub const fn is_empty(self) -> bool {
         self.len == 0
     }
 
-    /// Whether a row is valid; None where there is no such row.
+    /// Returns whether a row is valid; None if there is no such row.
     ///
     /// ```
     /// let all = vortex_bits::Validity::new(None, 4);
@@ -97,7 +97,7 @@ impl<'a> Validity<'a> {
         }
     }
 
-    /// How many rows are valid.
+    /// Returns the number of valid rows.
     ///
     /// ```
     /// assert_eq!(vortex_bits::Validity::new(None, 4).count_ones(), 4);
@@ -108,7 +108,7 @@ impl<'a> Validity<'a> {
         self.bits.map_or(self.len, Bits::count_ones)
     }
 
-    /// How many rows are null.
+    /// Returns the number of null rows.
     ///
     /// ```
     /// assert_eq!(vortex_bits::Validity::new(None, 4).count_zeros(), 0);
@@ -119,7 +119,7 @@ impl<'a> Validity<'a> {
         self.bits.map_or(0, Bits::count_zeros)
     }
 
-    /// The rows of a range.
+    /// Returns the rows of a range.
     ///
     /// ```
     /// assert_eq!(vortex_bits::Validity::new(None, 4).slice(1..).len(), 3);
@@ -127,7 +127,7 @@ impl<'a> Validity<'a> {
     ///
     /// # Panics
     ///
-    /// Where the range begins behind its end, or ends behind the rows.
+    /// If the range starts after its end, or ends after the rows.
     #[must_use]
     #[track_caller]
     pub fn slice(self, range: impl RangeBounds<usize>) -> Validity<'a> {
@@ -142,14 +142,14 @@ impl<'a> Validity<'a> {
     ///
     /// # Errors
     ///
-    /// Where the range begins behind its end, or ends behind the rows.
+    /// If the range starts after its end, or ends after the rows.
     pub fn try_slice(self, range: impl RangeBounds<usize>) -> Result<Validity<'a>, OutOfBounds> {
         let (start, len) = within(&range, self.len)?;
         let bits = self.bits.map(|bits| bits.part(start, len));
         Ok(Validity { bits, len })
     }
 
-    /// Writes to `out` which of the rows that a mask keeps are valid, in their order.
+    /// Writes to `out` which of the rows that a mask selects are valid, in their order.
     ///
     /// ```
     /// use vortex_bits::{Bits, BitsMut, Validity};
@@ -161,7 +161,7 @@ impl<'a> Validity<'a> {
     ///
     /// # Panics
     ///
-    /// Where `mask` isn't one for these rows, or `out` hasn't a bit for each row that is kept.
+    /// If `mask` isn't one for these rows, or `out` hasn't one bit per selected row.
     #[track_caller]
     pub fn filter_into(self, mask: impl Mask, mut out: BitsMut<'_>) {
         if let Some(bits) = self.bits {
@@ -173,7 +173,7 @@ impl<'a> Validity<'a> {
     }
 }
 
-/// What they say of rows: without bits as with bits that are all true.
+/// Compares them by row: no bits equal bits that are all true.
 impl PartialEq for Validity<'_> {
     fn eq(&self, other: &Validity<'_>) -> bool {
         self.len == other.len
@@ -187,7 +187,7 @@ impl PartialEq for Validity<'_> {
 
 impl Eq for Validity<'_> {}
 
-/// Of as many rows as there are bits.
+/// One row per bit.
 impl<'a> From<Bits<'a>> for Validity<'a> {
     #[inline]
     fn from(bits: Bits<'a>) -> Validity<'a> {
@@ -195,7 +195,7 @@ impl<'a> From<Bits<'a>> for Validity<'a> {
     }
 }
 
-/// Which rows are valid, as `is not null` wants them: a bit for each, also where none were there.
+/// Which rows are valid, as for `is not null`: one bit per row, even if there were no bits.
 ///
 /// ```
 /// use vortex_bits::{Bitmap, Validity};
@@ -210,17 +210,17 @@ impl From<Validity<'_>> for Bitmap {
     }
 }
 
-/// Calls into new memory, which answer None where no bits were there: all rows are valid then. Of
-/// bits that are there no call looks whether they are all true.
+/// Calls that allocate. They return None if there were no bits, and so all rows are valid; none
+/// tests whether bits that are present are all true.
 #[cfg(feature = "alloc")]
 impl Validity<'_> {
-    /// Which rows are valid here and in `right`. Truth values that may be null are combined by
-    /// [`values::and_kleene`](crate::values::and_kleene) and
+    /// Returns which rows are valid here and in `right`. To combine truth values that may be null,
+    /// call [`values::and_kleene`](crate::values::and_kleene) and
     /// [`or_kleene`](crate::values::or_kleene).
     ///
     /// # Panics
     ///
-    /// Where the two have another number of rows.
+    /// If the two differ in their number of rows.
     #[must_use]
     #[track_caller]
     pub fn and(self, right: Validity<'_>) -> Option<Bitmap> {
@@ -231,7 +231,7 @@ impl Validity<'_> {
         }
     }
 
-    /// Which rows are valid here, in `right`, or in both.
+    /// Returns which rows are valid here, in `right`, or in both.
     ///
     /// ```
     /// use vortex_bits::{Bits, Validity};
@@ -243,7 +243,7 @@ impl Validity<'_> {
     ///
     /// # Panics
     ///
-    /// Where the two have another number of rows.
+    /// If the two differ in their number of rows.
     #[must_use]
     #[track_caller]
     pub fn or(self, right: Validity<'_>) -> Option<Bitmap> {
@@ -251,7 +251,7 @@ impl Validity<'_> {
         Some(self.bits? | right.bits?)
     }
 
-    /// Which of the rows that a mask keeps are valid, in their order.
+    /// Returns which of the rows that a mask selects are valid, in their order.
     ///
     /// ```
     /// use vortex_bits::{Bits, Validity};
@@ -263,7 +263,7 @@ impl Validity<'_> {
     ///
     /// # Panics
     ///
-    /// Where `mask` isn't one for these rows.
+    /// If `mask` isn't one for these rows.
     #[must_use]
     #[track_caller]
     pub fn filter(self, mask: impl Mask) -> Option<Bitmap> {
@@ -271,10 +271,10 @@ impl Validity<'_> {
         Some(self.bits?.filter(mask))
     }
 
-    /// Adds to the end of `kept` which of the rows that a mask keeps are valid, in their order: a
-    /// bit for each, also where none were there. So the rows that batches keep make one column,
-    /// with [`values::filter_onto`](crate::values::filter_onto); all of the rows are added by
-    /// [`Extend`].
+    /// Appends to `kept` which of the rows that a mask selects are valid, in their order: one bit
+    /// per row, even if there were no bits. With
+    /// [`values::filter_onto`](crate::values::filter_onto) this joins the selected rows of batches
+    /// into one column; [`Extend`] appends all rows.
     ///
     /// ```
     /// use vortex_bits::{Bitmap, Bits, Validity};
@@ -289,7 +289,7 @@ impl Validity<'_> {
     ///
     /// # Panics
     ///
-    /// Where `mask` isn't one for these rows; `kept` is as it was.
+    /// If `mask` isn't one for these rows; `kept` is unchanged.
     #[track_caller]
     pub fn filter_onto<B: Grow>(self, mask: impl Mask, kept: &mut Bitmap<B>) {
         let rows = mask.of_len(self.len).map_or(self.len, Bits::count_ones);
@@ -299,11 +299,11 @@ impl Validity<'_> {
         }
     }
 
-    /// Which of the rows at the indices are valid.
+    /// Returns which of the rows at the indices are valid.
     ///
     /// # Panics
     ///
-    /// Where an index isn't one of a row.
+    /// If an index isn't one of a row.
     #[must_use]
     #[track_caller]
     pub fn take<I: BitIndex>(self, indices: &[I]) -> Option<Bitmap> {
@@ -329,8 +329,8 @@ impl Validity<'_> {
         bits.try_take(indices).map(Some)
     }
 
-    /// Which of the rows at the indices are valid, of indices with a validity of their own: a null
-    /// one gives a null row, whatever it is.
+    /// Returns which of the rows at the indices are valid, for indices with their own validity: a
+    /// null index gives a null row, whatever it is.
     ///
     /// ```
     /// use vortex_bits::{Bits, Validity};
@@ -341,7 +341,7 @@ impl Validity<'_> {
     ///
     /// # Panics
     ///
-    /// Where `validity` isn't one for the indices, or a valid index isn't one of a row.
+    /// If `validity` isn't one for the indices, or a valid index isn't one of a row.
     #[must_use]
     #[track_caller]
     pub fn take_valid<I: BitIndex>(self, indices: &[I], validity: Validity<'_>) -> Option<Bitmap> {
@@ -359,8 +359,8 @@ impl Validity<'_> {
     ///
     /// # Errors
     ///
-    /// Where `validity` isn't one for the indices, and at the first index that is valid and isn't
-    /// one of a row.
+    /// If `validity` isn't one for the indices, and at the first valid index that isn't one of a
+    /// row.
     pub fn try_take_valid<I: BitIndex>(
         self,
         indices: &[I],

@@ -1,9 +1,9 @@
 //! Types of values.
 
-/// A type of values that are filtered and taken: whole numbers of any width, floats, `bool` and
-/// `char`, and arrays of these, as Arrow's decimals of 256 bits are `[u64; 4]`. Of them the C
-/// functions take those of 1, 2, 4, 8 and 16 bytes that are aligned as a whole number of that size,
-/// those of 16 as one of 8; the others go by plain Rust.
+/// A type of values that can be filtered and taken: whole numbers of any width, floats, `bool`,
+/// `char`, and arrays of these, such as `[u64; 4]` for Arrow's 256-bit decimals. The C functions
+/// take those of 1, 2, 4, 8 and 16 bytes that are aligned as a whole number of that size, those of
+/// 16 as one of 8; plain Rust handles the others.
 #[diagnostic::on_unimplemented(
     message = "values of `{Self}` are neither filtered nor taken",
     label = "values are whole numbers, floats, or arrays of these",
@@ -12,9 +12,9 @@
 pub trait Value: sealed::Value {}
 
 pub(crate) mod sealed {
-    /// What a type of values answers.
+    /// What a type of values provides.
     pub trait Value: Copy {
-        /// What stands where a position has no value: all bytes are 0.
+        /// The value at a null position: all bytes are 0.
         const ZERO: Self;
     }
 }
@@ -69,7 +69,7 @@ pub(crate) enum Laid {
 
 #[cfg(vortex_bits_native)]
 impl Laid {
-    /// How they see one of this type; None where they don't.
+    /// How they see a value of this type; None if they don't.
     pub(crate) const fn of<T>() -> Option<Laid> {
         match (size_of::<T>(), align_of::<T>()) {
             (1, _) => Some(Laid::One),

@@ -1,9 +1,9 @@
-//! Values at indices: `take_into` writes them into a slice that is there, `take` into a new `Vec`;
-//! values that a mask keeps, in a new `Vec` or at the end of one; values compared, into bits that
-//! are there or a new `Bitmap`; and truth values that may be null, by three-valued `and` and `or`.
+//! Functions over values. `take_into` writes values at indices to a slice, `take` to a new `Vec`;
+//! `filter` selects values by a mask, `compare` compares them, into bits, and `and_kleene` and
+//! `or_kleene` combine truth values that may be null.
 //!
-//! A take has a form with a validity, of which a position counts where its bit is true, and a form
-//! `try_` that answers an error where the other panics.
+//! Each take has a form with a validity, in which a position counts if its bit is true, and a
+//! `try_` form that returns an error where the other panics.
 //!
 //! ```
 //! use vortex_bits::{Bits, values};
@@ -36,7 +36,7 @@ use crate::{BitIndex, Bits, Mask, Value, kernels};
 ///
 /// # Panics
 ///
-/// Where [`try_take_into`] answers an error.
+/// If [`try_take_into`] returns an error.
 ///
 /// ```
 /// use vortex_bits::values;
@@ -56,7 +56,7 @@ pub fn take_into<T: Value, I: BitIndex>(values: &[T], indices: &[I], out: &mut [
 ///
 /// # Errors
 ///
-/// Where `out` isn't as long as the indices, and at the first index that names no value.
+/// If `out` hasn't one item per index, or at the first index that is out of bounds.
 #[inline]
 pub fn try_take_into<T: Value, I: BitIndex>(
     values: &[T],
@@ -66,11 +66,11 @@ pub fn try_take_into<T: Value, I: BitIndex>(
     try_take_valid_into(values, indices, None::<Bits<'_>>, out)
 }
 
-/// [`take_into`] of the indices that are valid: at the others 0 is written, whatever they are.
+/// Does [`take_into`] of the indices that are valid; writes 0 at the others, whatever they are.
 ///
 /// # Panics
 ///
-/// Where [`try_take_valid_into`] answers an error.
+/// If [`try_take_valid_into`] returns an error.
 ///
 /// ```
 /// use vortex_bits::{Bits, values};
@@ -92,12 +92,12 @@ pub fn take_valid_into<T: Value, I: BitIndex>(
     expect(try_take_valid_into(values, indices, validity, out));
 }
 
-/// [`try_take_into`] of the indices that are valid: at the others 0 is written, whatever they are.
+/// Does [`try_take_into`] of the indices that are valid; writes 0 at the others, whatever they are.
 ///
 /// # Errors
 ///
-/// Where `out` or `validity` isn't as long as the indices, and at the first index that is valid and
-/// names no value.
+/// If `out` or `validity` hasn't one item per index, or at the first valid index that is out of
+/// bounds.
 #[inline]
 pub fn try_take_valid_into<T: Value, I: BitIndex>(
     values: &[T],
@@ -128,11 +128,11 @@ pub fn try_take_valid_into<T: Value, I: BitIndex>(
     }
 }
 
-/// The values at the indices.
+/// Returns the values at the indices.
 ///
 /// # Panics
 ///
-/// Where [`try_take`] answers an error.
+/// If [`try_take`] returns an error.
 #[doc(alias("gather"))]
 #[cfg(feature = "alloc")]
 #[must_use]
@@ -142,11 +142,11 @@ pub fn take<T: Value, I: BitIndex>(values: &[T], indices: &[I]) -> Vec<T> {
     expect(try_take(values, indices))
 }
 
-/// The values at the indices.
+/// Returns the values at the indices.
 ///
 /// # Errors
 ///
-/// At the first index that names no value.
+/// At the first index that is out of bounds.
 #[cfg(feature = "alloc")]
 #[inline]
 pub fn try_take<T: Value, I: BitIndex>(
@@ -156,11 +156,11 @@ pub fn try_take<T: Value, I: BitIndex>(
     try_take_valid(values, indices, None::<Bits<'_>>)
 }
 
-/// The values at the indices that are valid, and 0 at the others.
+/// Returns the values at the indices that are valid, and 0 at the others.
 ///
 /// # Panics
 ///
-/// Where [`try_take_valid`] answers an error.
+/// If [`try_take_valid`] returns an error.
 #[doc(alias("gather", "null"))]
 #[cfg(feature = "alloc")]
 #[must_use]
@@ -174,12 +174,11 @@ pub fn take_valid<T: Value, I: BitIndex>(
     expect(try_take_valid(values, indices, validity))
 }
 
-/// The values at the indices that are valid, and 0 at the others.
+/// Returns the values at the indices that are valid, and 0 at the others.
 ///
 /// # Errors
 ///
-/// Where `validity` isn't as long as the indices, and at the first index that is valid and names no
-/// value.
+/// If `validity` hasn't one bit per index, or at the first valid index that is out of bounds.
 #[cfg(feature = "alloc")]
 #[inline]
 pub fn try_take_valid<T: Value, I: BitIndex>(

@@ -1,4 +1,4 @@
-//! Arrays that another part of the program made.
+//! Arrays from another part of the program.
 
 mod dictionary;
 mod variable;
@@ -21,11 +21,11 @@ use crate::bits::within;
 use crate::error::{OutOfBounds, TakeValuesError, expect};
 use crate::{Bits, Validity};
 
-/// Rows of an array of the Arrow C data interface: an own owner of what another part of the program
-/// made, whose values, bits and validity are read where they lie. Clones, columns and slices share
-/// it; the last one of them that is dropped releases it, on whichever thread.
+/// Rows of an array of the Arrow C data interface. It owns what another part of the program made,
+/// and reads the values, bits and validity in place. Clones, columns and slices share the array;
+/// the last one of them that is dropped releases it, on any thread.
 ///
-/// A column has the rows that its struct has, whatever the offsets of both are.
+/// A column has the rows of its struct, whatever the offsets of both are.
 ///
 /// ```
 /// use vortex_bits::arrow::Export;
@@ -50,26 +50,26 @@ use crate::{Bits, Validity};
 #[derive(Clone)]
 pub struct Array {
     pub(super) node: Arc<Node>,
-    /// How many items are before the first row in the buffers.
+    /// The number of items before the first row in the buffers.
     pub(super) start: usize,
     /// The rows are items of the node.
     pub(super) len: usize,
 }
 
 impl Array {
-    /// Takes the array and its type over, as a consumer of the interface does: both structs are
-    /// left released, whatever the answer is, and the array is released with the last part of it.
+    /// Takes over the array and its type, as a consumer of the interface does. Both structs are
+    /// left released, even on an error, and the array is released with its last part.
     ///
-    /// It tests each number that can be tested; the values aren't looked at.
+    /// Tests each number that can be tested; does not read the values.
     ///
     /// # Errors
     ///
-    /// Where a struct isn't as the interface asks for. Both are released then.
+    /// If a struct isn't as the interface requires. Both are then released.
     ///
     /// # Safety
     ///
     /// Each pointer is null, or to a struct that may be read and written, and that is released or
-    /// as the interface asks for: pointers in it are null or to as much as the numbers say, and
+    /// as the interface requires: pointers in it are null or to as much as the numbers say, and
     /// that stays, and isn't written, until it is released. The callbacks may be called on any
     /// thread, and no one else calls them.
     pub unsafe fn from_raw(
@@ -86,7 +86,7 @@ impl Array {
 
     /// # Safety
     ///
-    /// As of [`Array::from_raw`].
+    /// As for [`Array::from_raw`].
     pub(super) unsafe fn of(
         array: Owned<ArrowArray>,
         field: &Arc<Field>,
@@ -105,32 +105,32 @@ impl Array {
         }
     }
 
-    /// The name and the type.
+    /// Returns the name and the type.
     #[must_use]
     pub fn field(&self) -> &Field {
         &self.node.field
     }
 
-    /// How many rows there are.
+    /// Returns the number of rows.
     #[inline]
     #[must_use]
     pub fn len(&self) -> usize {
         self.len
     }
 
-    /// Whether there are none.
+    /// Returns whether there are none.
     #[inline]
     #[must_use]
     pub fn is_empty(&self) -> bool {
         self.len == 0
     }
 
-    /// Which rows are valid. One that is may still be of a struct's row that isn't: `and` of both
-    /// says which rows are there.
+    /// Returns which rows are valid. A valid row may still belong to a null row of a struct: `and`
+    /// of both validities says which rows are there.
     ///
     /// If the array says that it has no null (`null_count` is 0), its validity bits are ignored, as
-    /// Arrow allows, and [`Export::from`](super::Export) hands both on unchanged. A producer whose
-    /// 0 is wrong loses its nulls.
+    /// Arrow allows, and [`Export::from`](super::Export) exports both unchanged. A producer with a
+    /// wrong 0 loses its nulls.
     ///
     /// ```
     /// use vortex_bits::arrow::{Array, Export};
@@ -146,7 +146,7 @@ impl Array {
     ///
     /// # Errors
     ///
-    /// Of nulls alone, of unions, and of runs, whose arrays have no such bits.
+    /// If the type is null, a union or runs, whose arrays have no such bits.
     #[inline]
     pub fn validity(&self) -> Result<Validity<'_>, ArrowError> {
         if !self.node.field.layout.has_validity() {
@@ -160,11 +160,11 @@ impl Array {
         Ok(Validity::new(bits, self.len))
     }
 
-    /// How many rows are null: what the array says where these are all of its rows, else counted.
+    /// Returns the number of null rows: the array's own if these are all of its rows, else counted.
     ///
     /// # Errors
     ///
-    /// As of [`validity`](Array::validity).
+    /// As for [`validity`](Array::validity).
     pub fn null_count(&self) -> Result<usize, ArrowError> {
         match self.node.nulls_of(self.len) {
             Some(nulls) => Ok(nulls),
@@ -172,11 +172,11 @@ impl Array {
         }
     }
 
-    /// The truth values of an array of these; those of null rows are any.
+    /// Returns the truth values of an array of these; those of null rows are arbitrary.
     ///
     /// # Errors
     ///
-    /// Of another type.
+    /// If the array has another type.
     #[inline]
     pub fn bits(&self) -> Result<Bits<'_>, ArrowError> {
         match self.node.field.layout {
@@ -186,11 +186,11 @@ impl Array {
         }
     }
 
-    /// The rows' bits of a buffer.
+    /// Returns the rows' bits of a buffer.
     ///
     /// # Safety
     ///
-    /// It has a bit for each item of the node, or is null where there are none.
+    /// It has one bit per item of the node, or is null if there are none.
     #[inline]
     unsafe fn bits_of(&self, buffer: *const u8) -> Bits<'_> {
         if self.len == 0 {
@@ -202,12 +202,12 @@ impl Array {
         Bits::new(bytes, self.start % 8, self.len)
     }
 
-    /// The values, or the indices of an array with a dictionary; those of null rows are any.
-    /// [`Primitive`] says of which arrays they are which type.
+    /// Returns the values, or the indices of an array with a dictionary; those of null rows are
+    /// arbitrary. [`Primitive`] says which arrays have values of which type.
     ///
     /// # Errors
     ///
-    /// Of another type, and where the buffer isn't aligned as the values are.
+    /// If the array has another type, or if the buffer isn't aligned as the values are.
     #[inline]
     pub fn values<T: Primitive>(&self) -> Result<&[T], ArrowError> {
         self.has_values::<T>()?;
@@ -222,7 +222,7 @@ impl Array {
         Ok(unsafe { self.items_of(self.len) })
     }
 
-    /// The values, wherever the buffer begins: decimals are read as `i128` so.
+    /// Returns the values at any address: this reads decimals as `i128`.
     ///
     /// ```
     /// use vortex_bits::arrow::Export;
@@ -235,7 +235,7 @@ impl Array {
     ///
     /// # Errors
     ///
-    /// Of another type.
+    /// If the array has another type.
     pub fn unaligned<T: Primitive>(&self) -> Result<Unaligned<'_, T>, ArrowError> {
         self.has_values::<T>()?;
         // SAFETY: there is a value for each item.
@@ -243,7 +243,7 @@ impl Array {
         Ok(Unaligned::new(bytes, self.len))
     }
 
-    /// So many of the values from the first row on.
+    /// Returns so many of the values from the first row on.
     ///
     /// # Safety
     ///
@@ -292,22 +292,22 @@ impl Array {
         Err(self.is_not(T::WANTED))
     }
 
-    /// The column of a name, the first one of several: its rows are those of the struct.
+    /// Returns the column of a name, the first one of several: its rows are those of the struct.
     ///
     /// # Errors
     ///
-    /// Of another type, and where no column has the name.
+    /// If the array has another type, or if no column has the name.
     pub fn column(&self, name: &str) -> Result<Array, ArrowError> {
         let mut columns = self.columns()?;
         let found = columns.find(|column| column.field().name() == name);
         found.ok_or_else(|| ArrowError::NoColumn { name: name.into() })
     }
 
-    /// The columns of a struct, in their order: their rows are those of the struct.
+    /// Returns the columns of a struct, in their order: their rows are those of the struct.
     ///
     /// # Errors
     ///
-    /// Of another type.
+    /// If the array has another type.
     pub fn columns(&self) -> Result<impl ExactSizeIterator<Item = Array> + '_, ArrowError> {
         if self.node.field.layout != Layout::Struct {
             return Err(self.is_not("that of a struct"));
@@ -315,8 +315,8 @@ impl Array {
         Ok(self.parts())
     }
 
-    /// The columns of a struct, and as many rows of a sparse union's children; of other types the
-    /// children, whole.
+    /// Returns the columns of a struct, and the same number of rows of a sparse union's children;
+    /// of other types the children, whole.
     pub(super) fn parts(&self) -> impl ExactSizeIterator<Item = Array> + '_ {
         let has_rows = match self.node.field.layout {
             Layout::Union { is_sparse, .. } => is_sparse,
@@ -334,20 +334,20 @@ impl Array {
         })
     }
 
-    /// The items that the values are indices of; None where they aren't indices. The index of a
-    /// null row may be anything: [`values::take_valid`](crate::values::take_valid),
+    /// Returns the items that the values are indices of; None if they aren't indices. The index of
+    /// a null row may be anything: [`values::take_valid`](crate::values::take_valid),
     /// [`dictionary_values`](Array::dictionary_values) and
-    /// [`dictionary_texts`](Array::dictionary_texts) don't look at it.
+    /// [`dictionary_texts`](Array::dictionary_texts) ignore it.
     #[must_use]
     pub fn dictionary(&self) -> Option<Array> {
         self.node.dictionary.as_ref().map(Array::whole)
     }
 
-    /// The rows of a range, which share the array.
+    /// Returns the rows of a range, which share the array.
     ///
     /// # Panics
     ///
-    /// Where the range begins behind its end, or ends behind the rows.
+    /// If the range starts after its end, or ends after the rows.
     #[must_use]
     #[track_caller]
     pub fn slice(&self, range: impl RangeBounds<usize>) -> Array {
@@ -358,7 +358,7 @@ impl Array {
     ///
     /// # Errors
     ///
-    /// Where the range begins behind its end, or ends behind the rows.
+    /// If the range starts after its end, or ends after the rows.
     pub fn try_slice(&self, range: impl RangeBounds<usize>) -> Result<Array, OutOfBounds> {
         let (start, len) = within(&range, self.len)?;
         Ok(Array {

@@ -1,4 +1,4 @@
-//! Bits and values that are handed on as arrays.
+//! Exports of bits and values as arrays.
 
 mod dictionary;
 mod format;
@@ -35,10 +35,10 @@ const OF_ARRAY: Between = Between {
     has_names: false,
 };
 
-/// An array of the Arrow C data interface over values or bits of this program, with its type, to be
-/// handed on to any consumer. No value is copied: the array keeps what has them, until it is
-/// released, by the consumer or, where none took it, when this is dropped. If what has them panics
-/// when it is dropped then, the program aborts, since C has no panics.
+/// An array of the Arrow C data interface over values or bits of this program, with its type, for
+/// any consumer. No value is copied: the array keeps their owner until it is released, by the
+/// consumer or, if none took it, when this is dropped. If the owner panics when it is then dropped,
+/// the program aborts, since C has no panics.
 ///
 /// ```
 /// use vortex_bits::Bitmap;
@@ -63,14 +63,14 @@ pub struct Export {
 }
 
 impl Export {
-    /// Values, and which of them are valid; all are where that is None. The values are those of a
-    /// [`Vec`], or of another owner, as an `Arc<[T]>`. The bits of the validity are copied where
-    /// the first one is within a byte, and left out where all are true.
+    /// Returns an array of values, and of which are valid: all if that is None. The values are
+    /// those of a [`Vec`], or of another owner, such as an `Arc<[T]>`. The bits of the validity are
+    /// copied if the first one is within a byte, and left out if all are true.
     ///
     /// # Panics
     ///
-    /// Where there isn't a bit for each value, and where there are 2^63 values or more, as there
-    /// may be of no byte.
+    /// If there isn't one bit per value, or if there are 2^63 values or more, which is possible for
+    /// values of no byte.
     #[must_use]
     #[track_caller]
     pub fn values<T: Primitive>(
@@ -88,13 +88,13 @@ impl Export {
         Export::column(field, len, 0, &[pointer], kept, valid)
     }
 
-    /// Truth values, and which of them are valid; all are where that is None. The bits of the
-    /// validity are copied where their first one and the first of the truth values aren't at one
-    /// place of a byte, and left out where all are true.
+    /// Returns an array of truth values, and of which are valid: all if that is None. The bits of
+    /// the validity are copied if their first one and the first of the truth values aren't at the
+    /// same bit of a byte, and left out if all are true.
     ///
     /// # Panics
     ///
-    /// Where the two are of different lengths.
+    /// If the two differ in length.
     #[must_use]
     #[track_caller]
     pub fn bits<B: AsRef<[u8]> + Send + Sync + 'static>(
@@ -145,7 +145,7 @@ impl Export {
         }
     }
 
-    /// The same with a name. A consumer sees it up to its first character 0, if it has one.
+    /// Returns the same with a name. A consumer sees it up to its first character 0, if it has one.
     #[must_use]
     pub fn named(mut self, name: &str) -> Export {
         self.field.name = name.into();
@@ -189,19 +189,19 @@ impl Export {
         }
     }
 
-    /// The name and the type.
+    /// Returns the name and the type.
     #[must_use]
     pub fn field(&self) -> &Field {
         &self.field
     }
 
-    /// How many rows there are.
+    /// Returns the number of rows.
     #[must_use]
     pub fn len(&self) -> usize {
         self.len
     }
 
-    /// Whether there are none.
+    /// Returns whether there are none.
     #[must_use]
     pub fn is_empty(&self) -> bool {
         self.len == 0
@@ -256,7 +256,7 @@ impl Export {
     ///
     /// # Panics
     ///
-    /// Where [`try_into_array`](Export::try_into_array) returns an error.
+    /// If [`try_into_array`](Export::try_into_array) returns an error.
     #[must_use]
     #[track_caller]
     pub fn into_array(self) -> Array {
@@ -289,8 +289,8 @@ impl Export {
     }
 }
 
-/// The rows as they are, of any type, as of a column that a query hands on or of a slice of a
-/// batch. The array is shared, and released with the last of both.
+/// The rows unchanged, of any type, such as a column that a query forwards or a slice of a batch.
+/// The array is shared, and released with the last of both.
 ///
 /// ```
 /// use vortex_bits::arrow::Export;
@@ -307,7 +307,7 @@ impl Export {
 ///
 /// # Panics
 ///
-/// Where [`Array::try_into_export`] returns an error.
+/// If [`Array::try_into_export`] returns an error.
 impl From<Array> for Export {
     #[track_caller]
     fn from(array: Array) -> Export {

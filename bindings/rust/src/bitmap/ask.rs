@@ -1,13 +1,13 @@
-//! The questions of a bitmap, which are those of its window.
+//! The read-only calls of a bitmap, which are those of its window.
 
 use super::Bitmap;
 use crate::iter::{Iter, SetIndices, SetSlices, UnsetIndices, UnsetSlices, Words};
 use crate::{BitIndex, Bits, Mask};
 
-/// Each as of [`Bits`](crate::Bits).
+/// Each as for [`Bits`](crate::Bits).
 macro_rules! asks {
     ($($(#[$doc:meta])* $name:ident($($arg:ident: $kind:ty)?) -> $answer:ty;)*) => {
-        /// What [`Bits`](crate::Bits) answer.
+        /// The calls of [`Bits`](crate::Bits).
         impl<B: AsRef<[u8]>> Bitmap<B> {
             $(
                 $(#[$doc])*
@@ -22,7 +22,7 @@ macro_rules! asks {
 }
 
 asks! {
-    /// How many bits are true. It reads the bytes once.
+    /// Returns the number of set bits. Reads the bytes once.
     ///
     /// ```
     /// use vortex_bits::Bitmap;
@@ -32,7 +32,7 @@ asks! {
     /// ```
     count_ones() -> usize;
 
-    /// How many bits are false. It reads the bytes once.
+    /// Returns the number of unset bits. Reads the bytes once.
     ///
     /// ```
     /// use vortex_bits::Bitmap;
@@ -42,7 +42,7 @@ asks! {
     /// ```
     count_zeros() -> usize;
 
-    /// The bit at a place; None where there is no such place.
+    /// Returns the bit at an index; None if it is out of bounds.
     ///
     /// ```
     /// use vortex_bits::Bitmap;
@@ -52,7 +52,7 @@ asks! {
     /// ```
     get(place: usize) -> Option<bool>;
 
-    /// The place of the `n`-th true bit, counted from 0; None where there are at most `n`.
+    /// Returns the index of the `n`-th set bit, counted from 0; None if at most `n` are set.
     ///
     /// ```
     /// use vortex_bits::Bitmap;
@@ -62,7 +62,7 @@ asks! {
     /// ```
     select(n: usize) -> Option<usize>;
 
-    /// The place of the `n`-th false bit, counted from 0; None where there are at most `n`.
+    /// Returns the index of the `n`-th unset bit, counted from 0; None if at most `n` are unset.
     ///
     /// ```
     /// use vortex_bits::Bitmap;
@@ -72,7 +72,7 @@ asks! {
     /// ```
     select_unset(n: usize) -> Option<usize>;
 
-    /// The place of the first true bit; None where all are false.
+    /// Returns the index of the first set bit; None if all are unset.
     ///
     /// ```
     /// use vortex_bits::Bitmap;
@@ -82,7 +82,7 @@ asks! {
     /// ```
     first_set() -> Option<usize>;
 
-    /// The place of the first false bit; None where all are true.
+    /// Returns the index of the first unset bit; None if all are set.
     ///
     /// ```
     /// use vortex_bits::Bitmap;
@@ -92,7 +92,7 @@ asks! {
     /// ```
     first_unset() -> Option<usize>;
 
-    /// The place of the last true bit; None where all are false.
+    /// Returns the index of the last set bit; None if all are unset.
     ///
     /// ```
     /// use vortex_bits::Bitmap;
@@ -102,7 +102,7 @@ asks! {
     /// ```
     last_set() -> Option<usize>;
 
-    /// The place of the last false bit; None where all are true.
+    /// Returns the index of the last unset bit; None if all are set.
     ///
     /// ```
     /// use vortex_bits::Bitmap;
@@ -112,7 +112,7 @@ asks! {
     /// ```
     last_unset() -> Option<usize>;
 
-    /// The place of the first true bit from place `from` on; None where there is none.
+    /// Returns the index of the first set bit at or after `from`; None if there is none.
     ///
     /// ```
     /// use vortex_bits::Bitmap;
@@ -122,7 +122,7 @@ asks! {
     /// ```
     next_set(from: usize) -> Option<usize>;
 
-    /// The place of the first false bit from place `from` on; None where there is none.
+    /// Returns the index of the first unset bit at or after `from`; None if there is none.
     ///
     /// ```
     /// use vortex_bits::Bitmap;
@@ -132,7 +132,7 @@ asks! {
     /// ```
     next_unset(from: usize) -> Option<usize>;
 
-    /// The place of the last true bit before place `before`; None where there is none.
+    /// Returns the index of the last set bit before index `before`; None if there is none.
     ///
     /// ```
     /// use vortex_bits::Bitmap;
@@ -142,7 +142,7 @@ asks! {
     /// ```
     previous_set(before: usize) -> Option<usize>;
 
-    /// The place of the last false bit before place `before`; None where there is none.
+    /// Returns the index of the last unset bit before index `before`; None if there is none.
     ///
     /// ```
     /// use vortex_bits::Bitmap;
@@ -152,7 +152,7 @@ asks! {
     /// ```
     previous_unset(before: usize) -> Option<usize>;
 
-    /// Whether a bit is true: false of no bits.
+    /// Returns whether any bit is set: false for no bits.
     ///
     /// ```
     /// use vortex_bits::Bitmap;
@@ -162,7 +162,7 @@ asks! {
     /// ```
     any() -> bool;
 
-    /// Whether all bits are true: true of no bits.
+    /// Returns whether all bits are set: true for no bits.
     ///
     /// ```
     /// use vortex_bits::Bitmap;
@@ -172,7 +172,7 @@ asks! {
     /// ```
     all() -> bool;
 
-    /// The bits, from front to end.
+    /// Returns the bits, from front to end.
     ///
     /// ```
     /// use vortex_bits::Bitmap;
@@ -182,7 +182,7 @@ asks! {
     /// ```
     iter() -> Iter<'_>;
 
-    /// The places of the true bits, in ascending order.
+    /// Returns the indices of the set bits, in ascending order.
     ///
     /// ```
     /// use vortex_bits::Bitmap;
@@ -192,7 +192,7 @@ asks! {
     /// ```
     set_indices() -> SetIndices<'_>;
 
-    /// The runs of true bits from front to end, each as long as can be, as ranges of places.
+    /// Returns the maximal runs of set bits, from front to end, as ranges of indices.
     ///
     /// ```
     /// use vortex_bits::Bitmap;
@@ -202,7 +202,7 @@ asks! {
     /// ```
     set_slices() -> SetSlices<'_>;
 
-    /// The places of the false bits, in ascending order, as of the nulls of a column.
+    /// Returns the indices of the unset bits, in ascending order, such as the nulls of a column.
     ///
     /// ```
     /// use vortex_bits::Bitmap;
@@ -212,7 +212,7 @@ asks! {
     /// ```
     unset_indices() -> UnsetIndices<'_>;
 
-    /// The runs of false bits from front to end, each as long as can be, as ranges of places.
+    /// Returns the maximal runs of unset bits, from front to end, as ranges of indices.
     ///
     /// ```
     /// use vortex_bits::Bitmap;
@@ -222,7 +222,7 @@ asks! {
     /// ```
     unset_slices() -> UnsetSlices<'_>;
 
-    /// The bits as words of 64, the first one lowest; the last word is filled up with false.
+    /// Returns the bits as 64-bit words, the first bit lowest; pads the last word with false.
     ///
     /// ```
     /// use vortex_bits::Bitmap;
@@ -234,7 +234,7 @@ asks! {
 }
 
 impl<B: AsRef<[u8]>> Bitmap<B> {
-    /// How many bits are true here and in `right`. It takes no memory.
+    /// Returns the number of bits set here and in `right`. Does not allocate.
     ///
     /// ```
     /// use vortex_bits::Bitmap;
@@ -245,7 +245,7 @@ impl<B: AsRef<[u8]>> Bitmap<B> {
     ///
     /// # Panics
     ///
-    /// Where these are of another length.
+    /// If the lengths differ.
     #[inline]
     #[must_use]
     #[track_caller]
@@ -253,7 +253,7 @@ impl<B: AsRef<[u8]>> Bitmap<B> {
         self.bits().and_count(right)
     }
 
-    /// How many bits are true here or in `right`. It takes no memory.
+    /// Returns the number of bits set here or in `right`. Does not allocate.
     ///
     /// ```
     /// use vortex_bits::Bitmap;
@@ -264,7 +264,7 @@ impl<B: AsRef<[u8]>> Bitmap<B> {
     ///
     /// # Panics
     ///
-    /// Where these are of another length.
+    /// If the lengths differ.
     #[inline]
     #[must_use]
     #[track_caller]
@@ -272,7 +272,7 @@ impl<B: AsRef<[u8]>> Bitmap<B> {
         self.bits().or_count(right)
     }
 
-    /// How many bits are true in one of the two. It takes no memory.
+    /// Returns the number of bits set in exactly one of the two. Does not allocate.
     ///
     /// ```
     /// use vortex_bits::Bitmap;
@@ -283,7 +283,7 @@ impl<B: AsRef<[u8]>> Bitmap<B> {
     ///
     /// # Panics
     ///
-    /// Where these are of another length.
+    /// If the lengths differ.
     #[inline]
     #[must_use]
     #[track_caller]
@@ -291,7 +291,7 @@ impl<B: AsRef<[u8]>> Bitmap<B> {
         self.bits().xor_count(right)
     }
 
-    /// How many bits are true here and false in `right`. It takes no memory.
+    /// Returns the number of bits set here and unset in `right`. Does not allocate.
     ///
     /// ```
     /// use vortex_bits::Bitmap;
@@ -302,7 +302,7 @@ impl<B: AsRef<[u8]>> Bitmap<B> {
     ///
     /// # Panics
     ///
-    /// Where these are of another length.
+    /// If the lengths differ.
     #[inline]
     #[must_use]
     #[track_caller]
@@ -310,7 +310,7 @@ impl<B: AsRef<[u8]>> Bitmap<B> {
         self.bits().and_not_count(right)
     }
 
-    /// Whether no bit is true both here and in `right`. It reads up to the first one that is.
+    /// Returns whether no bit is set both here and in `right`. Reads up to the first one that is.
     ///
     /// ```
     /// use vortex_bits::Bitmap;
@@ -321,7 +321,7 @@ impl<B: AsRef<[u8]>> Bitmap<B> {
     ///
     /// # Panics
     ///
-    /// Where these are of another length.
+    /// If the lengths differ.
     #[doc(alias("intersects"))]
     #[inline]
     #[must_use]
@@ -330,8 +330,7 @@ impl<B: AsRef<[u8]>> Bitmap<B> {
         self.bits().is_disjoint(right)
     }
 
-    /// Whether each bit that is true here is true in `right`. It reads up to the first one that
-    /// isn't.
+    /// Returns whether each bit set here is set in `right`. Reads up to the first one that isn't.
     ///
     /// ```
     /// use vortex_bits::Bitmap;
@@ -342,7 +341,7 @@ impl<B: AsRef<[u8]>> Bitmap<B> {
     ///
     /// # Panics
     ///
-    /// Where these are of another length.
+    /// If the lengths differ.
     #[doc(alias("contains"))]
     #[inline]
     #[must_use]
@@ -351,7 +350,7 @@ impl<B: AsRef<[u8]>> Bitmap<B> {
         self.bits().is_subset(right)
     }
 
-    /// The bits that are true here and false in `right`.
+    /// Returns the bits that are true here and false in `right`.
     ///
     /// ```
     /// use vortex_bits::Bitmap;
@@ -362,14 +361,14 @@ impl<B: AsRef<[u8]>> Bitmap<B> {
     ///
     /// # Panics
     ///
-    /// Where these are of another length.
+    /// If the lengths differ.
     #[must_use]
     #[track_caller]
     pub fn and_not(&self, right: impl Mask) -> Bitmap {
         self.bits().and_not(right)
     }
 
-    /// The bits at the places that are true in `mask`.
+    /// Returns the bits that `mask` selects.
     ///
     /// ```
     /// use vortex_bits::Bitmap;
@@ -380,15 +379,15 @@ impl<B: AsRef<[u8]>> Bitmap<B> {
     ///
     /// # Panics
     ///
-    /// Where `mask` is of another length.
+    /// If `mask` has another length.
     #[must_use]
     #[track_caller]
     pub fn filter(&self, mask: impl Mask) -> Bitmap {
         self.bits().filter(mask)
     }
 
-    /// The bits at the indices: [`Bits::try_take`](crate::Bits::try_take) answers an error where
-    /// this panics.
+    /// Returns the bits at the indices; [`Bits::try_take`](crate::Bits::try_take) returns an error
+    /// if this panics.
     ///
     /// ```
     /// use vortex_bits::Bitmap;
@@ -399,15 +398,15 @@ impl<B: AsRef<[u8]>> Bitmap<B> {
     ///
     /// # Panics
     ///
-    /// Where an index isn't a place of the bits.
+    /// If an index is out of bounds.
     #[must_use]
     #[track_caller]
     pub fn take<I: BitIndex>(&self, indices: &[I]) -> Bitmap {
         self.bits().take(indices)
     }
 
-    /// The bits at the indices that are valid, and false for the others, whatever they are:
-    /// [`Bits::try_take_valid`](crate::Bits::try_take_valid) answers an error where this panics.
+    /// Returns the bits at the valid indices, and false at the others, whatever they are;
+    /// [`Bits::try_take_valid`](crate::Bits::try_take_valid) returns an error if this panics.
     ///
     /// ```
     /// use vortex_bits::Bitmap;
@@ -418,7 +417,7 @@ impl<B: AsRef<[u8]>> Bitmap<B> {
     ///
     /// # Panics
     ///
-    /// Where an index that is valid isn't a place of the bits, or `validity` hasn't a bit for each.
+    /// If a valid index is out of bounds, or `validity` hasn't one bit per index.
     #[doc(alias("gather", "null"))]
     #[must_use]
     #[track_caller]
@@ -426,7 +425,7 @@ impl<B: AsRef<[u8]>> Bitmap<B> {
         self.bits().take_valid(indices, validity)
     }
 
-    /// The bits at the places that are true in `mask`, and false at the others: it undoes a filter.
+    /// Undoes a filter: returns the bits at the indices that `mask` selects, and false elsewhere.
     ///
     /// ```
     /// use vortex_bits::Bitmap;
@@ -437,7 +436,7 @@ impl<B: AsRef<[u8]>> Bitmap<B> {
     ///
     /// # Panics
     ///
-    /// Where there isn't a bit for each true one of `mask`.
+    /// If there isn't one bit per set bit of `mask`.
     #[doc(alias("pdep", "scatter", "expand"))]
     #[must_use]
     #[track_caller]

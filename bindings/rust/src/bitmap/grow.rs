@@ -1,14 +1,14 @@
-//! Bits that grow and are edited.
+//! Appending to bitmaps and editing them.
 
 use super::Bitmap;
 use crate::bytes::AlignedBytes;
 use crate::kernels;
 use crate::{Bits, BitsMut, Grow, Validity};
 
-/// Calls that write: in the bytes at once where they have no other owner, else in a copy of the
-/// bits, which takes memory.
+/// Calls that write: in place if the bytes have no other owner, else in a copy of the bits, which
+/// they allocate.
 impl<B: Grow> Bitmap<B> {
-    /// The bytes, which have no other owner now, with the place of the first bit and the length.
+    /// Returns the bytes, now with one owner, the index of the first bit, and the length.
     #[inline]
     fn owned(&mut self) -> (&mut AlignedBytes, usize, &mut usize) {
         if !self.bytes.is_owned() {
@@ -30,11 +30,11 @@ impl<B: Grow> Bitmap<B> {
         self.offset = 0;
     }
 
-    /// Adds `n` bits, which hold anything, and answers them to be written.
+    /// Appends `n` bits, which hold anything, and returns them as a writable window.
     ///
     /// # Panics
     ///
-    /// Where the end of the bits is no `usize`.
+    /// If the end of the bits is no `usize`.
     pub(crate) fn grow(&mut self, n: usize) -> BitsMut<'_> {
         let (bytes, offset, len) = self.owned();
         let start = offset + *len;
@@ -46,7 +46,7 @@ impl<B: Grow> Bitmap<B> {
         BitsMut::new(bytes, start, n)
     }
 
-    /// The bits, to be written.
+    /// Returns the bits as a writable window.
     ///
     /// ```
     /// use vortex_bits::Bitmap;
@@ -61,7 +61,7 @@ impl<B: Grow> Bitmap<B> {
         BitsMut::new(bytes, offset, *len)
     }
 
-    /// Makes one bit `value`: many are sooner made by [`bits_mut`](Bitmap::bits_mut).
+    /// Sets one bit to `value`; to set many, [`bits_mut`](Bitmap::bits_mut) is faster.
     ///
     /// ```
     /// use vortex_bits::Bitmap;
@@ -73,14 +73,14 @@ impl<B: Grow> Bitmap<B> {
     ///
     /// # Panics
     ///
-    /// Where there is no such place.
+    /// If the index is out of bounds.
     #[inline]
     #[track_caller]
     pub fn set(&mut self, place: usize, value: bool) {
         self.bits_mut().set(place, value);
     }
 
-    /// Makes room for so many more bits.
+    /// Reserves capacity for so many more bits.
     ///
     /// ```
     /// use vortex_bits::Bitmap;
@@ -95,8 +95,8 @@ impl<B: Grow> Bitmap<B> {
         bytes.reserve(size.saturating_sub(bytes.len()));
     }
 
-    /// Adds a bit. Where the bits may have other owners each call tests that they don't: a
-    /// [`BitmapMut`](crate::BitmapMut) spares the test, and [`Extend`] has it once.
+    /// Appends a bit. If the bytes can be shared, each call tests that they aren't;
+    /// [`BitmapMut`](crate::BitmapMut) needs no test, and [`Extend`] tests once.
     ///
     /// ```
     /// use vortex_bits::Bitmap;
@@ -117,7 +117,7 @@ impl<B: Grow> Bitmap<B> {
         *len += 1;
     }
 
-    /// Adds `n` bits, all `value`.
+    /// Appends `n` bits, all `value`.
     ///
     /// ```
     /// use vortex_bits::Bitmap;
@@ -131,7 +131,7 @@ impl<B: Grow> Bitmap<B> {
         self.grow(n).fill(value);
     }
 
-    /// Adds the bits of a window, wherever they lie.
+    /// Appends the bits of a window at any offset.
     ///
     /// ```
     /// use vortex_bits::{Bitmap, Bits};
@@ -145,7 +145,7 @@ impl<B: Grow> Bitmap<B> {
         self.grow(bits.len()).copy_from(bits);
     }
 
-    /// Adds truth values.
+    /// Appends truth values.
     ///
     /// ```
     /// use vortex_bits::Bitmap;
@@ -158,7 +158,7 @@ impl<B: Grow> Bitmap<B> {
         kernels::pack_bools(&mut self.grow(bools.len()).written(), bools);
     }
 
-    /// Leaves the first `len` bits; all where there are no more.
+    /// Keeps the first `len` bits; all if there are no more.
     ///
     /// ```
     /// use vortex_bits::Bitmap;
@@ -171,7 +171,7 @@ impl<B: Grow> Bitmap<B> {
         self.len = self.len.min(len);
     }
 
-    /// Leaves no bit; the memory stays.
+    /// Removes all bits; keeps the memory.
     ///
     /// ```
     /// use vortex_bits::Bitmap;
@@ -185,7 +185,7 @@ impl<B: Grow> Bitmap<B> {
     }
 }
 
-/// Fills the block with the next truth values, and answers how many there were.
+/// Fills the block with the next truth values, and returns their number.
 #[inline]
 fn fill(block: &mut [bool], bools: &mut impl Iterator<Item = bool>) -> usize {
     let mut filled = 0;
@@ -196,7 +196,7 @@ fn fill(block: &mut [bool], bools: &mut impl Iterator<Item = bool>) -> usize {
     filled
 }
 
-/// The truth values, packed by blocks.
+/// Appends the truth values, packed block by block.
 ///
 /// ```
 /// use vortex_bits::Bitmap;
@@ -220,7 +220,7 @@ impl<B: Grow> Extend<bool> for Bitmap<B> {
     }
 }
 
-/// The bits of each window, one behind the other.
+/// Appends the bits of each window in turn.
 ///
 /// ```
 /// use vortex_bits::{Bitmap, Bits};
@@ -237,7 +237,7 @@ impl<'a, B: Grow> Extend<Bits<'a>> for Bitmap<B> {
     }
 }
 
-/// Which rows are valid, of one after the other: a bit for each row, also where none were there.
+/// Appends which rows are valid, of each in turn: one bit per row, even if there were no bits.
 ///
 /// ```
 /// use vortex_bits::{Bitmap, Bits, Validity};
@@ -257,7 +257,7 @@ impl<'a, B: Grow> Extend<Validity<'a>> for Bitmap<B> {
     }
 }
 
-/// The bits of each bitmap, one behind the other.
+/// Appends the bits of each bitmap in turn.
 impl<'a, B: Grow, C: AsRef<[u8]>> Extend<&'a Bitmap<C>> for Bitmap<B> {
     fn extend<I: IntoIterator<Item = &'a Bitmap<C>>>(&mut self, bitmaps: I) {
         self.extend(bitmaps.into_iter().map(Bitmap::bits));

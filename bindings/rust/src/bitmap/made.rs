@@ -1,12 +1,11 @@
-//! Calls of windows into new memory.
+//! Calls of windows that return a new bitmap.
 
 use super::Bitmap;
 use crate::error::{TakeError, expect};
 use crate::{BitIndex, Bits, Mask};
 
 impl Bits<'_> {
-    /// The bits at the places that are true in `mask`, as [`filter_into`](Bits::filter_into)
-    /// writes them.
+    /// Returns the bits that `mask` selects, as [`filter_into`](Bits::filter_into) writes them.
     ///
     /// ```
     /// use vortex_bits::{Bitmap, Bits};
@@ -17,7 +16,7 @@ impl Bits<'_> {
     ///
     /// # Panics
     ///
-    /// Where `mask` isn't as long as the window.
+    /// If `mask` isn't as long as the window.
     #[doc(alias("pext", "compress"))]
     #[must_use]
     #[track_caller]
@@ -27,7 +26,7 @@ impl Bits<'_> {
         Bitmap::make(kept, |out| self.filter_into(mask, out))
     }
 
-    /// The bits at the indices, as [`take_into`](Bits::take_into) writes them.
+    /// Returns the bits at the indices, as [`take_into`](Bits::take_into) writes them.
     ///
     /// ```
     /// use vortex_bits::Bits;
@@ -38,7 +37,7 @@ impl Bits<'_> {
     ///
     /// # Panics
     ///
-    /// Where an index isn't a place of the window.
+    /// If an index is out of bounds.
     #[doc(alias("gather"))]
     #[must_use]
     #[track_caller]
@@ -46,21 +45,21 @@ impl Bits<'_> {
         expect(self.try_take(indices))
     }
 
-    /// The bits at the indices.
+    /// Returns the bits at the indices.
     ///
     /// # Errors
     ///
-    /// At the first index that isn't a place of the window.
+    /// At the first index that is out of bounds.
     pub fn try_take<I: BitIndex>(self, indices: &[I]) -> Result<Bitmap, TakeError> {
         Bitmap::try_make(indices.len(), |out| self.try_take_into(indices, out))
     }
 
-    /// [`take`](Bits::take) of the indices that are valid: the others give false, whatever they
-    /// are.
+    /// Does [`take`](Bits::take) of the indices that are valid; returns false for the others,
+    /// whatever they are.
     ///
     /// # Panics
     ///
-    /// Where [`try_take_valid`](Bits::try_take_valid) answers an error.
+    /// If [`try_take_valid`](Bits::try_take_valid) returns an error.
     #[doc(alias("gather", "null"))]
     #[must_use]
     #[track_caller]
@@ -68,13 +67,12 @@ impl Bits<'_> {
         expect(self.try_take_valid(indices, validity))
     }
 
-    /// [`try_take`](Bits::try_take) of the indices that are valid: the others give false, whatever
-    /// they are.
+    /// Does [`try_take`](Bits::try_take) of the indices that are valid; returns false for the
+    /// others, whatever they are.
     ///
     /// # Errors
     ///
-    /// Where `validity` hasn't a bit for each index, and at the first index that is valid and isn't
-    /// a place of the window.
+    /// If `validity` hasn't one bit per index, and at the first valid index that is out of bounds.
     pub fn try_take_valid<I: BitIndex>(
         self,
         indices: &[I],

@@ -1,4 +1,4 @@
-//! How bitmaps are made, compared, hashed, shown and walked.
+//! Traits of bitmaps: conversions, comparison, hashes, output and iteration.
 
 use alloc::vec::Vec;
 use core::fmt;
@@ -46,7 +46,7 @@ impl From<Bits<'_>> for Bitmap {
     }
 }
 
-/// The bits as a window, for calls that take one by [`Into`].
+/// Returns the bits as a window, for calls that take one by [`Into`].
 ///
 /// ```
 /// use vortex_bits::{Bitmap, Bits};
@@ -60,7 +60,7 @@ impl<'a, B: AsRef<[u8]>> From<&'a Bitmap<B>> for Bits<'a> {
     }
 }
 
-/// The truth values, a byte each.
+/// The truth values, one byte each.
 ///
 /// ```
 /// use vortex_bits::Bitmap;
@@ -73,7 +73,7 @@ impl<B: AsRef<[u8]>> From<Bitmap<B>> for Vec<bool> {
     }
 }
 
-/// It takes a byte a bit in between.
+/// Uses one byte per bit in between.
 impl FromIterator<bool> for Bitmap {
     fn from_iter<I: IntoIterator<Item = bool>>(bools: I) -> Bitmap {
         let bools: Vec<bool> = bools.into_iter().collect();
@@ -81,7 +81,7 @@ impl FromIterator<bool> for Bitmap {
     }
 }
 
-/// The bits of each window, one behind the other.
+/// The bits of each window in turn.
 ///
 /// ```
 /// use vortex_bits::{Bitmap, Bits};
@@ -97,7 +97,7 @@ impl<'a> FromIterator<Bits<'a>> for Bitmap {
     }
 }
 
-/// Which rows are valid, of one after the other: a bit for each row, also where none were there.
+/// Which rows are valid, of each in turn: one bit per row, even if there were no bits.
 impl<'a> FromIterator<Validity<'a>> for Bitmap {
     fn from_iter<I: IntoIterator<Item = Validity<'a>>>(validities: I) -> Bitmap {
         let mut joined = Bitmap::growing(0);
@@ -106,7 +106,7 @@ impl<'a> FromIterator<Validity<'a>> for Bitmap {
     }
 }
 
-/// The bits of each bitmap, one behind the other.
+/// The bits of each bitmap in turn.
 impl<'a, B: AsRef<[u8]>> FromIterator<&'a Bitmap<B>> for Bitmap {
     fn from_iter<I: IntoIterator<Item = &'a Bitmap<B>>>(bitmaps: I) -> Bitmap {
         bitmaps.into_iter().map(Bitmap::bits).collect()
@@ -119,7 +119,7 @@ impl<B: AsRef<[u8]>> fmt::Debug for Bitmap<B> {
     }
 }
 
-/// The same bits, wherever these lie.
+/// Compares the bits, at whatever offsets.
 impl<B: AsRef<[u8]>, C: AsRef<[u8]>> PartialEq<Bitmap<C>> for Bitmap<B> {
     fn eq(&self, other: &Bitmap<C>) -> bool {
         self.bits() == other.bits()
@@ -149,7 +149,7 @@ impl<B: AsRef<[u8]>> Hash for Bitmap<B> {
 
 /// # Panics
 ///
-/// Where there is no such place: [`get`](Bitmap::get) answers that.
+/// If the index is out of bounds; [`get`](Bitmap::get) returns None instead.
 impl<B: AsRef<[u8]>> Index<usize> for Bitmap<B> {
     type Output = bool;
 

@@ -1,16 +1,16 @@
-//! Parts of a window that is written.
+//! Parts of a writable window.
 
 use core::iter::FusedIterator;
 use core::mem;
 
 use crate::BitsMut;
 
-/// The parts of a window that is written, each over bytes of its own: [`BitsMut::chunks_mut`].
+/// The parts of a writable window, each over its own bytes: [`BitsMut::chunks_mut`].
 #[derive(Debug)]
 pub struct ChunksMut<'a> {
-    /// What is left, over its own bytes.
+    /// The rest, over its own bytes.
     rest: BitsMut<'a>,
-    /// How many bits a part has that begins with a byte: a multiple of 8.
+    /// The number of bits in a part that begins with a byte: a multiple of 8.
     bits: usize,
 }
 
@@ -23,7 +23,7 @@ impl<'a> ChunksMut<'a> {
         }
     }
 
-    /// What is left, before a border and from it on.
+    /// The rest, before a border and from it on.
     #[inline]
     fn split(&mut self, border: usize) -> (BitsMut<'a>, BitsMut<'a>) {
         mem::take(&mut self.rest).split(border)

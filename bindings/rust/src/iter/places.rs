@@ -1,5 +1,5 @@
-//! Places of true bits and of false ones. Where there are C functions they answer those of true
-//! bits, by blocks; the others are found here, word by word, and so are those from the end.
+//! Indices of set bits and of unset ones. C functions, if there are any, find those of set bits,
+//! block by block; the others are found here, word by word, and so are those from the end.
 
 use core::fmt;
 use core::iter::FusedIterator;
@@ -7,7 +7,7 @@ use core::mem;
 
 use crate::{Bits, portable};
 
-/// The places of the true bits.
+/// The indices of the set bits.
 #[cfg(vortex_bits_native)]
 type Set<'a> = by_blocks::Places<'a>;
 #[cfg(not(vortex_bits_native))]
@@ -87,7 +87,7 @@ mod by_blocks {
     }
 }
 
-/// The places that are left of a word: its digits 1, counted from `base` on.
+/// The indices that are left of a word: its set bits, counted from `base` on.
 #[derive(Clone, Copy, Default)]
 struct Left {
     base: usize,
@@ -137,13 +137,13 @@ impl Left {
     }
 }
 
-/// The places of the bits of a window that are `VALUE`.
+/// The indices of the bits of a window that are `VALUE`.
 #[derive(Clone)]
 struct ByWords<'a, const VALUE: bool> {
     /// The window up to the word in `back`.
     bits: Bits<'a>,
     front: Left,
-    /// The place behind that word.
+    /// The index after that word.
     end: usize,
     back: Left,
 }
@@ -159,13 +159,13 @@ impl<'a, const VALUE: bool> ByWords<'a, VALUE> {
         }
     }
 
-    /// What hasn't been walked.
+    /// Returns the bits that haven't been walked.
     #[inline]
     fn rest(&self) -> Bits<'a> {
         self.bits.part(self.end, self.bits.len() - self.end)
     }
 
-    /// The places of a part of at most 64 bits.
+    /// Returns the indices of a part of at most 64 bits.
     #[inline]
     fn word(&self, start: usize, len: usize) -> Left {
         let word = portable::only_word(self.bits.part(start, len));
@@ -190,7 +190,7 @@ impl<'a, const VALUE: bool> ByWords<'a, VALUE> {
         true
     }
 
-    /// How many places are left, for which it counts the bits.
+    /// Returns the number of indices left; counts the bits.
     #[inline]
     fn left(&self) -> usize {
         let rest = self.rest();
@@ -227,7 +227,7 @@ impl<'a, const VALUE: bool> ByWords<'a, VALUE> {
         self.back.last()
     }
 
-    /// Whole words go first, by a loop of their own.
+    /// Processes whole words first, in a separate loop.
     #[inline]
     fn fold<A>(mut self, first: A, mut f: impl FnMut(A, usize) -> A) -> A {
         let mut all = self.front.fold(first, &mut f);
@@ -243,7 +243,7 @@ impl<'a, const VALUE: bool> ByWords<'a, VALUE> {
     }
 }
 
-/// The walks over places.
+/// The iterators over indices.
 macro_rules! indices {
     ($($(#[$doc:meta])* $name:ident: $places:ident $(<$value:literal>)?;)*) => {$(
         $(#[$doc])*
@@ -265,7 +265,7 @@ macro_rules! indices {
                 self.0.next()
             }
 
-            /// The number of places that are left, for which it counts the bits.
+            /// Returns the number of indices left; counts the bits.
             #[inline]
             fn size_hint(&self) -> (usize, Option<usize>) {
                 let left = self.0.left();
@@ -307,8 +307,8 @@ macro_rules! indices {
 }
 
 indices! {
-    /// The places of the true bits, in ascending order: [`Bits::set_indices`].
+    /// The indices of the set bits, in ascending order: [`Bits::set_indices`].
     SetIndices: Set;
-    /// The places of the false bits, in ascending order: [`Bits::unset_indices`].
+    /// The indices of the unset bits, in ascending order: [`Bits::unset_indices`].
     UnsetIndices: ByWords<false>;
 }

@@ -1,4 +1,4 @@
-//! Runs of true bits and of false ones. Those from the end are found here, word by word.
+//! Runs of set bits and of unset ones. Those from the end are found here, word by word.
 
 use core::fmt;
 use core::iter::FusedIterator;
@@ -13,7 +13,7 @@ trait Seek: Find<Item = Run> {
     /// A word of at most 64 bits, in which the bits of runs are 1.
     fn word(bits: Bits<'_>) -> u64;
 
-    /// The place of the last bit of no run before a place.
+    /// Returns the index of the last bit of no run before an index.
     fn before(bits: Bits<'_>, place: usize) -> Option<usize>;
 }
 
@@ -55,7 +55,7 @@ seek! {
     Unset: portable::unset_slices, |word: u64, len| !word & portable::low(len), Bits::previous_set;
 }
 
-/// The runs that are left of a word: its digits 1, counted from `base` on.
+/// The runs that are left of a word: its set bits, counted from `base` on.
 #[derive(Clone, Copy, Default)]
 struct Left {
     base: usize,
@@ -163,7 +163,7 @@ fn range((base, run): (usize, Run)) -> Range<usize> {
     base + run.start..base + run.end
 }
 
-/// The walks over runs.
+/// The iterators over runs.
 macro_rules! slices {
     ($($(#[$doc:meta])* $name:ident: $find:ty;)*) => {$(
         $(#[$doc])*
@@ -219,8 +219,8 @@ macro_rules! slices {
 }
 
 slices! {
-    /// The runs of true bits from front to end: [`Bits::set_slices`].
+    /// The runs of set bits, from front to end: [`Bits::set_slices`].
     SetSlices: Set;
-    /// The runs of false bits from front to end: [`Bits::unset_slices`].
+    /// The runs of unset bits, from front to end: [`Bits::unset_slices`].
     UnsetSlices: Unset;
 }

@@ -1,17 +1,17 @@
-//! Words of 64 bits, and single bits.
+//! 64-bit words, and single bits.
 
 use core::iter::FusedIterator;
 use core::mem;
 
 use crate::{Bits, BitsMut, kernels, portable};
 
-/// How many words are copied at once.
+/// The number of words copied at once.
 const ROOM: usize = 32;
 
-/// The bits as words of 64, the first one lowest: [`Bits::words`].
+/// The bits as 64-bit words, the first bit lowest: [`Bits::words`].
 #[derive(Clone, Debug)]
 pub struct Words<'a> {
-    /// What hasn't been copied.
+    /// The bits that haven't been copied.
     rest: Bits<'a>,
     bytes: [u8; 8 * ROOM],
     next: usize,
@@ -29,7 +29,7 @@ impl<'a> Words<'a> {
         }
     }
 
-    /// Copies the next words, and answers whether there are any.
+    /// Copies the next words, and returns whether there are any.
     fn refill(&mut self) -> bool {
         let len = self.rest.len().min(64 * ROOM);
         let block = self.rest.part(0, len);
@@ -92,7 +92,7 @@ pub struct Iter<'a> {
     left: usize,
 }
 
-/// What is left of a word: its lowest digits.
+/// The rest of a word: its lowest bits.
 #[derive(Clone, Copy, Debug, Default)]
 struct Part {
     word: u64,
@@ -100,7 +100,7 @@ struct Part {
 }
 
 impl Part {
-    /// Cuts the first digit off.
+    /// Removes the first bit.
     #[inline]
     fn first(&mut self) -> bool {
         let bit = self.word & 1 == 1;
@@ -109,7 +109,7 @@ impl Part {
         bit
     }
 
-    /// Cuts the last digit off.
+    /// Removes the last bit.
     #[inline]
     fn last(&mut self) -> bool {
         self.len -= 1;
@@ -128,7 +128,7 @@ impl<'a> Iter<'a> {
         }
     }
 
-    /// The bits in words that neither end has come to.
+    /// The bits in words that neither end has reached.
     #[inline]
     fn between(&self) -> usize {
         self.left - self.front.len - self.back.len
@@ -164,7 +164,7 @@ impl Iterator for Iter<'_> {
         self.next_back()
     }
 
-    /// A word at a time.
+    /// Works word by word.
     #[inline]
     fn fold<A, F: FnMut(A, bool) -> A>(self, first: A, mut f: F) -> A {
         let mut left = self.between();
@@ -199,7 +199,7 @@ impl DoubleEndedIterator for Iter<'_> {
     }
 }
 
-/// Folds the `len` lowest digits of a word.
+/// Folds the `len` lowest bits of a word.
 #[inline]
 fn fold_word<A>(word: u64, len: usize, first: A, f: &mut impl FnMut(A, bool) -> A) -> A {
     (0..len).fold(first, |all, at| f(all, word >> at & 1 == 1))

@@ -7,8 +7,8 @@ use core::fmt;
 use super::{Ranks, blocks};
 use crate::{Bitmap, Bits, SharedBytes};
 
-/// A [`Bitmap`] with the table of its [`Ranks`], which can be kept where they are needed. It
-/// answers what they answer.
+/// A [`Bitmap`] with the table of its [`Ranks`], which you can store where you need it. It has the
+/// same calls.
 ///
 /// ```
 /// use vortex_bits::Bitmap;
@@ -22,7 +22,7 @@ use crate::{Bitmap, Bits, SharedBytes};
 #[derive(Clone)]
 pub struct Ranked<B = SharedBytes> {
     bitmap: Bitmap<B>,
-    /// An entry for each block.
+    /// One entry per block.
     table: Vec<usize>,
 }
 
@@ -33,11 +33,11 @@ impl<B: AsRef<[u8]>> Ranked<B> {
         Ranked { bitmap, table }
     }
 
-    /// The bits.
+    /// Returns the bits.
     ///
     /// # Panics
     ///
-    /// As [`Bitmap::bits`], and so below.
+    /// As [`Bitmap::bits`]; so in all calls below.
     #[inline]
     #[must_use]
     #[track_caller]
@@ -45,7 +45,7 @@ impl<B: AsRef<[u8]>> Ranked<B> {
         self.bitmap.bits()
     }
 
-    /// The bits and their table, which answer ranks.
+    /// Returns the bits and their table, for ranks.
     #[inline]
     #[must_use]
     #[track_caller]
@@ -53,33 +53,33 @@ impl<B: AsRef<[u8]>> Ranked<B> {
         Ranks::with_table(self.bits(), &self.table)
     }
 
-    /// How many bits there are.
+    /// Returns the number of bits.
     #[inline]
     #[must_use]
     pub const fn len(&self) -> usize {
         self.bitmap.len()
     }
 
-    /// Whether there are none.
+    /// Returns whether there are none.
     #[inline]
     #[must_use]
     pub const fn is_empty(&self) -> bool {
         self.bitmap.is_empty()
     }
 
-    /// How many bits are true, by the table and the bits of the last block.
+    /// Returns the number of set bits, from the table and the bits of the last block.
     #[inline]
     #[must_use]
     pub fn count(&self) -> usize {
         self.ranks().count()
     }
 
-    /// How many of the first `place` bits are true, by an entry of the table and the bits of
-    /// one block.
+    /// Returns the number of set bits before index `place`, from an entry of the table and the bits
+    /// of one block.
     ///
     /// # Panics
     ///
-    /// Where `place` is above the length: [`try_rank`](Ranked::try_rank) answers that.
+    /// If `place` is above the length; [`try_rank`](Ranked::try_rank) returns None instead.
     #[inline]
     #[must_use]
     #[track_caller]
@@ -87,28 +87,28 @@ impl<B: AsRef<[u8]>> Ranked<B> {
         self.ranks().rank(place)
     }
 
-    /// How many of the first `place` bits are true; None where `place` is above the length.
+    /// Returns the number of set bits before index `place`; None if `place` is above the length.
     #[inline]
     #[must_use]
     pub fn try_rank(&self, place: usize) -> Option<usize> {
         self.ranks().try_rank(place)
     }
 
-    /// The place of the `n`-th true bit, counted from 0; None where there are at most `n`.
+    /// Returns the index of the `n`-th set bit, counted from 0; None if at most `n` are set.
     #[inline]
     #[must_use]
     pub fn select(&self, n: usize) -> Option<usize> {
         self.ranks().select(n)
     }
 
-    /// The place of the `n`-th false bit, counted from 0; None where there are at most `n`.
+    /// Returns the index of the `n`-th unset bit, counted from 0; None if at most `n` are unset.
     #[inline]
     #[must_use]
     pub fn select_unset(&self, n: usize) -> Option<usize> {
         self.ranks().select_unset(n)
     }
 
-    /// The bitmap without its table.
+    /// Returns the bitmap without its table.
     ///
     /// ```
     /// use vortex_bits::Bitmap;
