@@ -82,13 +82,13 @@ class Growth(unittest.TestCase):
         self.assertEqual((status, lines), (0, [f"sets clone: steps {shown}", "1 passed, 0 failed"]))
         self.assertEqual(self.said("9", "no_such_row"), (1, ["0 passed, 0 failed"]))
 
-    def test_bounds_are_written_a_third_above_and_a_tenth_for_a_call(self):
+    def test_bounds_are_written_a_third_above_and_a_fifth_for_a_call(self):
         steps = "750 if row == 'clone' else 1.5 * size // 64 + 300"
         self.assertEqual(self.said(steps, "--write", "sets"), (0, ["2 bounds in docs/costs.csv"]))
-        wanted = TABLE.replace(",2.5,", ",2.1,").replace("1000,call,S", "830,call,S")
+        wanted = TABLE.replace(",2.5,", ",2.1,").replace("1000,call,S", "900,call,S")
         self.assertEqual(self.table, wanted)
         self.assertEqual(self.said("66", "--write", "clone")[0], 0)
-        self.assertEqual(self.table, TABLE.replace(",1000,call,Set", ",73,call,Set"))
+        self.assertEqual(self.table, TABLE.replace(",1000,call,Set", ",98,call,Set"))
 
     def test_a_program_that_fails_is_told(self):
         status, lines = self.said("900", "clone", status=1)
