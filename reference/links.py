@@ -202,7 +202,8 @@ class Linker:
             return Linked(word, LOCAL, self.anchor(word.text), is_own=True)
         if self.is_label(i):
             return Linked(word, self.unique_field(word.text, self.all_shapes()) or Target("field"))
-        target = self.lookup(word.text)
+        # An operator that is passed on, as `◌+◌` in `fold ◌+◌ 0 l`, is known by what is written of it.
+        target = self.lookup(word.text) or self.lookup(word.text.strip("◌"))
         if target is None:
             self.unknown.append(word)
         is_own = self.declared is not None and target is not None and (

@@ -404,6 +404,7 @@ class Rows(Folder):
     def setUp(self):
         super().setUp()
         self.copy("bench/rows")
+        self.command("bindings/wide", "")
         self.copy("crates.txt")
         self.write("kit/c/liblibc_c.a", "")
         self.write("bench/library/src/lib.rt.in", "")
