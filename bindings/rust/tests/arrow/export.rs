@@ -65,6 +65,15 @@ fn release((mut array, mut schema): (raw::Array, raw::Schema)) {
     assert!(array.release.is_none() && schema.release.is_none());
 }
 
+/// The array's rows and nulls, as its struct says.
+#[track_caller]
+pub fn counts_of(export: Export) -> (i64, i64) {
+    let both = raw_of(export);
+    let counts = (both.0.length, both.0.null_count);
+    release(both);
+    counts
+}
+
 /// The bits of a buffer from an array's offset on; None where it is null.
 fn bits_of(array: &raw::Array, buffer: usize) -> Option<Vec<bool>> {
     let [offset, len] = [array.offset, array.length].map(|it| usize::try_from(it).unwrap());

@@ -2,7 +2,7 @@
 use vortex_bits::arrow::{Array, ArrowError, Export, Field};
 use vortex_bits::{Bitmap, Bits, TakeValuesError};
 
-use crate::export::{ReadBack, raw_of};
+use crate::export::{ReadBack, counts_of};
 use crate::ranges::offsets;
 use crate::raw::{self, Buffer, Count, Schema, import};
 
@@ -184,7 +184,7 @@ fn rows_of_runs_behind_what_their_ends_tell_are_refused() {
         vec![ends, of("n", 1, vec![], vec![])],
     ));
     let one = Export::concat(runs.field(), &[runs.clone(), runs.slice(..12_767)]).unwrap();
-    assert_eq!(raw_of(one).0.length, 32_767);
+    assert_eq!(counts_of(one).0, 32_767);
     let refused = "column \"a\": 32768 rows of runs, and numbers up to 32767";
     let both = [runs.clone(), runs.slice(..12_768)];
     assert_eq!(told(Export::concat(runs.field(), &both)), refused);
@@ -225,7 +225,7 @@ fn arrays_of_another_type_and_nulls_of_a_column_without_are_refused() {
     );
     let valid = Export::concat(&field, &[gap.slice(..1)]).unwrap();
     assert_eq!(valid.field(), &field);
-    assert_eq!(raw_of(valid).0.null_count, 0);
+    assert_eq!(counts_of(valid).1, 0);
 }
 
 /// A null row can't name an item where there is none.
@@ -237,7 +237,7 @@ fn null_rows_above_a_dictionary_without_items_are_refused() {
         .unwrap();
     let rows = Export::batch([coded.named("a")]).into_array();
     let nulls = rows.take_valid(&[0u8], Bits::new(&[0], 0, 1)).unwrap();
-    assert_eq!(raw_of(nulls).0.length, 1);
+    assert_eq!(counts_of(nulls).0, 1);
     let of = rows.field().column("a").unwrap().clone().nullable(false);
     let rows = Export::from(rows)
         .with_field(&Field::batch([of]))
