@@ -4,19 +4,16 @@ use Rattle.std.proofs.Common.{length, take, drop, replicate, Option, sym, ap, su
 use Rattle.std.specs.Int.{div_ceil}
 use Rattle.std.proofs.lemmas.List.{length-append, length-replicate, length-take-le}
 use borrow.Rule.Slice.PartMut.{put_mid}
-use Rattle.vb_bits.specs.Bits.{bits, count}
+use Rattle.vb_bits.specs.Bits.{bits}
 use Rattle.vb_bits.specs.InBytes.{InBytes}
-use Rattle.vb_bits.specs.Kept.{kept_by}
 use Rattle.vb_bits.specs.Writes.{Writes}
 use Rattle.vb_bits.proofs.BitsLemmas.{length-bits}
-use Rattle.vb_bits.proofs.KeptLemmas.{length-kept_by}
 use Rattle.vb_bits.proofs.WindowLemmas.{bits-append}
 use Rattle.vb_c_core.proofs.PartLemmas.{part, Writes_in_part}
 use Rattle.vb_c_core.specs.declared.taken.Taken.{Taken}
 use Rattle.vb_filter.proofs.PendingLemmas.{Writes_in_front}
 use Rattle.vb_pack.specs.WordBits.{filled_to}
 use Rattle.vb_take.specs.Takes.{IsTaken}
-use Rattle.vb_c_gather.specs.Filtered.{FiltersBits}
 use Rattle.vb_c_gather.specs.Packed.{Packs}
 use Rattle.vb_c_gather.specs.Taken.{TakesAt}
 
@@ -41,17 +38,6 @@ Packs_in_front bools b c n e size end room packed written =
           ))
           written;
     }
-
--- bits that a mask keeps, written to the first bytes
-pub Filters_in_front : (mask values : List Bool) (b c : List ℕ) (answer kept e : ℕ)
-    → length mask ≡ length values → kept ≡ count mask → e ≡ div_ceil kept 8
-    → count mask ≤ 8 * length b → FiltersBits mask values (take e b) c answer
-    → FiltersBits mask values b (c ++ drop e b) answer
-Filters_in_front mask values b c answer kept e same number end room f = record {
-  number = f.number;
-  window = Writes_in_front b c 0 e (kept_by mask values) (omega (arith, number, end, room))
-      (omega (arith, number, end, length-kept_by false mask values same)) f.window;
-}
 
 -- bits that are taken into the bytes of a window
 pub Takes_in_part : (l : List Bool) (indices : List ℤ) (validity : Option (List Bool))

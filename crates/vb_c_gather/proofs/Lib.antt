@@ -1,4 +1,3 @@
 mod ColumnLemmas
 mod FrontLemmas
-mod KeptBlocks
 mod TakenBlocks

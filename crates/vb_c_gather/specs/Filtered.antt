@@ -10,10 +10,6 @@ pub record FiltersBitsAt (mask values : List Bool) (old new : List ℕ) (o answe
   pub number : answer ≡ count mask
   pub window : Writes old new o (kept_by mask values)
 
--- these are the first ones
-abbrev pub FiltersBits : List Bool → List Bool → List ℕ → List ℕ → ℕ → Type 0
-FiltersBits mask values old new answer = FiltersBitsAt mask values old new 0 answer
-
 -- a mask of n bits lies in its bytes, from bit m on, and so does a window from bit o on that has
 -- one for each of its true ones
 pub record KeptFitsAt (out : List ℕ) (o : ℕ) (mask : List ℕ) (m n : ℕ) : Type 0 where

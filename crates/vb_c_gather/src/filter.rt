@@ -1,15 +1,13 @@
 //! Bits that a mask keeps.
-ghost use Rattle.std.specs.Prelude.{◌≡◌, ◌*◌, length};
+ghost use Rattle.std.specs.Prelude.{◌≡◌};
 ghost use Rattle.vb_bits.specs.Bits.{bits, count};
 ghost use Rattle.vb_bits.specs.InBytes.{InBytes};
-ghost use Rattle.vb_c_gather.specs.Filtered.{FiltersBits, FiltersBitsAt, KeptFitsAt};
-ghost use Rattle.vb_c_core.specs.Fits.{DoneIf, KeptFits};
+ghost use Rattle.vb_c_gather.specs.Filtered.{FiltersBitsAt, KeptFitsAt};
+ghost use Rattle.vb_c_core.specs.Fits.{DoneIf};
 
-use crate::block::COPIED_BITS;
 use vb_bits::window_fits;
-use vb_c_core::copy_to_window;
 use vb_count::count_ones_wide;
-use vb_filter::filter_into;
+use vb_filter::filter_into_at;
 use vb_view::BitBufferView;
 
 /// Writes those of the `len` bits of `bytes` from bit `offset` on that `mask` keeps, whose bit of
@@ -30,18 +28,8 @@ pub extern "C" fn vb_filter_bits(
     ensures { FiltersBitsAt (bits mask.now m len) (bits bytes.now offset len)
         out.old out.new o result }
 {
-    if o == 0 {
-        return filter_within(
-            out,
-            count_ones_wide(mask, m, len),
-            bytes,
-            offset,
-            mask,
-            m,
-            len,
-        );
-    }
-    filter_by_blocks(out, o, bytes, offset, mask, m, len)
+    let kept = count_ones_wide(mask, m, len);
+    filter_at(out, o, kept, bytes, offset, mask, m, len)
 }
 
 /// Whether both windows lie in their bytes, and so do the bits of `out` from bit `o` on for those
@@ -69,18 +57,15 @@ pub extern "C" fn vb_try_filter_bits(
     if !window_fits(out, o, kept) {
         return false;
     }
-    if o == 0 {
-        *written = filter_within(out, kept, bytes, offset, mask, m, len);
-        return true;
-    }
-    *written = filter_by_blocks(out, o, bytes, offset, mask, m, len);
+    *written = filter_at(out, o, kept, bytes, offset, mask, m, len);
     true
 }
 
-/// [`vb_filter_bits`] at bit 0, by a slice of the bytes of the `kept` bits in front, as many as the
-/// mask keeps.
-fn filter_within(
+/// Does what [`vb_filter_bits`] does, where the mask keeps `kept` bits. The kernel gets only the
+/// bytes of these bits.
+fn filter_at(
     out: &mut [u8],
+    o: usize,
     kept: usize,
     bytes: &[u8],
     offset: usize,
@@ -89,57 +74,17 @@ fn filter_within(
     len: usize,
 ) -> usize
     requires window { InBytes bytes.now offset len }
-    requires mask { KeptFits mask.now m len (8 * length out.old) }
-    requires kept { kept ≡ count (bits mask.now m len) }
-    ensures { FiltersBits (bits mask.now m len) (bits bytes.now offset len) out.old out.new result }
-{
-    filter_to_front(&mut out[..kept.div_ceil(8)], bytes, offset, mask, m, len)
-}
-
-/// [`vb_filter_bits`] at bit 0, which may store any byte of `out`.
-fn filter_to_front(
-    out: &mut [u8],
-    bytes: &[u8],
-    offset: usize,
-    mask: &[u8],
-    m: usize,
-    len: usize,
-) -> usize
-    requires window { InBytes bytes.now offset len }
-    requires mask { KeptFits mask.now m len (8 * length out.old) }
-    ensures { FiltersBits (bits mask.now m len) (bits bytes.now offset len) out.old out.new result }
-{
-    filter_into(
-        out,
-        BitBufferView::new_with_offset(bytes, len, offset),
-        BitBufferView::new_with_offset(mask, len, m),
-    )
-}
-
-/// [`vb_filter_bits`], a block of the mask at a time.
-fn filter_by_blocks(
-    out: &mut [u8],
-    o: usize,
-    bytes: &[u8],
-    offset: usize,
-    mask: &[u8],
-    m: usize,
-    len: usize,
-) -> usize
-    requires window { InBytes bytes.now offset len }
     requires mask { KeptFitsAt out.old o mask.now m len }
+    requires kept { kept ≡ count (bits mask.now m len) }
     ensures { FiltersBitsAt (bits mask.now m len) (bits bytes.now offset len)
         out.old out.new o result }
 {
-    let mut made = [0u8; COPIED_BITS / 8];
-    let mut done = 0;
-    let mut kept = 0;
-    while done < len {
-        let n = (len - done).min(COPIED_BITS);
-        let more = filter_to_front(&mut made, bytes, offset + done, mask, m + done, n);
-        copy_to_window(out, o + kept, &made, 0, more);
-        kept += more;
-        done += n;
+    // For no bits the kernel would still store the byte of bit `o`.
+    if kept == 0 {
+        return 0;
     }
-    kept
+    let values = BitBufferView::new_with_offset(bytes, len, offset);
+    let mask = BitBufferView::new_with_offset(mask, len, m);
+    let end = (o + kept).div_ceil(8);
+    filter_into_at(&mut out[o / 8..end], o % 8, values, mask)
 }

@@ -11,6 +11,7 @@ ghost use Rattle.vb_view.specs.View.{bits_of};
 
 use crate::digits::pack_digits;
 use crate::pending::{push_digits, write_pending};
+use vb_bits::read_bits;
 use vb_view::{BitBufferView, view_word};
 
 /// Writes the bits whose bit in the mask is true, in order, to the first bits of `out`, and answers
@@ -25,18 +26,61 @@ pub fn filter_into(out: &mut [u8], values: BitBufferView<'_>, mask: BitBufferVie
     ensures count { result ≡ count (bits_of mask.entry) }
     ensures kept { Writes out.old out.new 0 (kept_by (bits_of mask.entry) (bits_of values.entry)) }
 {
+    filter_behind(out, 0, 0, values, mask)
+}
+
+/// Writes the bits whose bit in the mask is true, in order, to `out` from bit `offset` on, and
+/// returns their number. All other bits of `out` keep their values.
+///
+/// The mask must be as long as the bits. The selected bits must fit in `out` after bit `offset`.
+/// Stores no byte after that of the last selected bit, and before bit `offset` at most the eight
+/// bytes of its word. Does not allocate. Works as [`filter_into`] does, 64 bits at a time.
+pub fn filter_into_at(
+    out: &mut [u8],
+    offset: usize,
+    values: BitBufferView<'_>,
+    mask: BitBufferView<'_>,
+) -> usize
+    requires same_len { length (bits_of values) ≡ length (bits_of mask) }
+    requires room { InBytes out.old offset (count (bits_of mask)) }
+    ensures count { result ≡ count (bits_of mask.entry) }
+    ensures kept { Writes out.old out.new offset
+        (kept_by (bits_of mask.entry) (bits_of values.entry)) }
+{
+    let pending = read_bits(out, offset - offset % 64, offset % 64);
+    filter_behind(out, pending, offset, values, mask)
+}
+
+/// Does what [`filter_into_at`] does; `pending` has the bits before bit `offset` that are in its
+/// word.
+#[inline(always)]
+fn filter_behind(
+    out: &mut [u8],
+    pending: u64,
+    offset: usize,
+    values: BitBufferView<'_>,
+    mask: BitBufferView<'_>,
+) -> usize
+    requires same_len { length (bits_of values) ≡ length (bits_of mask) }
+    requires room { InBytes out.old offset (count (bits_of mask)) }
+    requires pending { first_bits out.old pending offset ≡ bits out.old 0 offset }
+    requires clear { pending < 2 ^ (offset % 64) }
+    ensures count { result ≡ count (bits_of mask.entry) }
+    ensures kept { Writes out.old out.new offset
+        (kept_by (bits_of mask.entry) (bits_of values.entry)) }
+{
     let total = mask.len();
     let whole = total / 64;
-    let mut pending = 0;
-    let mut len = 0;
+    let mut word = pending;
+    let mut len = offset;
     for t in 0..whole {
-        let (word, end) = push_kept(out, pending, len, values, mask, 64 * t, 64);
-        pending = word;
+        let (next, end) = push_kept(out, word, len, values, mask, 64 * t, 64);
+        word = next;
         len = end;
     }
-    let (pending, len) = push_kept(out, pending, len, values, mask, 64 * whole, total % 64);
-    write_pending(out, pending, len);
-    len
+    let (last, end) = push_kept(out, word, len, values, mask, 64 * whole, total % 64);
+    write_pending(out, last, end);
+    end - offset
 }
 
 /// Adds those of the `n` bits from place `start` on that the mask keeps to the `len` bits that were

@@ -14,6 +14,6 @@ mod spread;
 mod spread_table;
 
 pub use deposit::deposit_into;
-pub use filter::filter_into;
+pub use filter::{filter_into, filter_into_at};
 pub use filter_elements::filter_elements_into;
 pub use filter_values::filter_values_into;
