@@ -11,7 +11,7 @@ use Rattle.vb_bytes.specs.ByteForm.{byteform}
 module _ {T : Type 0} (size align align_exponent : ℕ) (is_in_type : T → Type 0)
     (form : T → List ℕ) (value_of : List ℕ → T)
     (laws : IsElement size align align_exponent is_in_type form value_of) where
-  -- an item has bytes, so the bytes of no items are those of none
+  -- an item has at least one byte, so only the empty list has no bytes
   byteform-some : (x : T) (xs : List T) → is_in_type x → 0 < length (byteform form (x ∷ xs))
   byteform-some x xs valid =
       let long = laws.form_has_size x valid in

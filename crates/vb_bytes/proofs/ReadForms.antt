@@ -1,4 +1,4 @@
--- Items that are read from bytes.
+-- Items read from bytes.
 use Rattle.std.proofs.Common.{◌≡◌, ℕ, ◌+◌, ◌*◌, ◌%◌, ◌<◌, List, [], ◌∷◌, ◌++◌}
 use Rattle.std.proofs.Common.{length, take, drop, get_or, append_assoc, sym, ap, ◌∙◌}
 use Rattle.std.proofs.Math.Seq.{take-append_seam, drop-append_seam}
@@ -11,7 +11,7 @@ use mir.Val.{Fits}
 use Rattle.vb_core.specs.Elements.{AreBytes}
 use Rattle.vb_bytes.specs.ByteForm.{byteform}
 
--- a part of a slice of bytes
+-- every element of a part of a byte slice is a byte
 pub part_are_bytes : (bytes front part rest : List ℕ) → ((i : ℕ) → Fits w8 (get_or bytes i 0))
     → front ++ (part ++ rest) ≡ bytes → AreBytes part
 part_are_bytes bytes front part rest fits is =
@@ -25,7 +25,8 @@ part_are_bytes bytes front part rest fits is =
     (All-take (λ byte. byte < 256) (length part) _
     (All-drop (λ byte. byte < 256) (length front) bytes all))
 
--- bytes that whole items leave, fewer than an item has
+-- if whole items leave fewer bytes than one item has, and the item's size divides the number of
+-- bytes, they leave none
 pub no_bytes_left : (items size rest bytes : ℕ) → rest < size → items * size + rest ≡ bytes
     → bytes % size ≡ 0 → rest ≡ 0
 no_bytes_left items size rest bytes few all whole =
@@ -45,7 +46,7 @@ module _ {T : Type 0} (form : T → List ℕ) (items : List T) (bytes : List ℕ
       ∙ ap (λ l. front ++ l) (sym cut)
       ∙ read
 
-  -- no bytes are left
+  -- once no bytes are left, the items read so far have all the bytes
   pub byteform-whole : (rest : List ℕ) → length rest ≡ 0 → byteform form items ++ rest ≡ bytes
       → byteform form items ≡ bytes
   byteform-whole rest none read =

@@ -11,7 +11,8 @@ abbrev pub AreOnlyItems : {T : Type 0} → (T → List ℕ) → (T → Type 0) �
 AreOnlyItems {T} form is_in_type bytes items = (others : List T) → All is_in_type others
     → byteform form others ≡ bytes → others ≡ items
 
--- the items whose bytes these are, so many for each: values of their type, and the only ones
+-- these are the items whose bytes are `bytes`, `size` bytes each: they are values of their type,
+-- and no other items have these bytes
 pub record IsReadFrom {T : Type 0} (size : ℕ) (form : T → List ℕ) (is_in_type : T → Type 0)
     (bytes : List ℕ) (items : List T) : Type 0 where
   pub bytes_are : byteform form items ≡ bytes

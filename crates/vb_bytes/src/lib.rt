@@ -1,8 +1,9 @@
-//! Lists of elements as bytes: the bytes of each, one element after the other.
+//! Converts lists of elements to bytes and back. The bytes of a list are the bytes of its elements,
+//! one element after the other.
 //!
-//! The bytes of an element are those that [`Element::put`] writes and [`Element::get`] reads.
+//! [`Element::put`] writes the bytes of an element, and [`Element::get`] reads them.
 //!
-//! [`OwnedItems`] gives the items of a list one by one.
+//! [`OwnedItems`] is an iterator that owns the list whose items it returns.
 #![tactic(auto)]
 
 ghost use Rattle.std.specs.Prelude.{◌≡◌, ◌≢◌, ◌+◌, ◌*◌, ◌%◌, ◌^◌, ◌<◌, ◌≤◌, [], ◌++◌};
@@ -16,8 +17,8 @@ pub use owned::{HasItems, OwnedItems};
 use std::alloc::Allocator;
 use vb_core::{BufferError, Element, Result};
 
-/// The number of bytes of so many items. Refused by `TooManyBytes` exactly where it passes
-/// `usize`.
+/// Returns the number of bytes of `items` items. Returns `TooManyBytes` exactly if the number
+/// exceeds `usize::MAX`.
 pub fn byte_count<T: Element>(items: usize) -> Result<usize>
     ensures fits { items * T.SIZE < 2 ^ 64 → result ≡ Ok (items * T.SIZE) }
     ensures too_many { 2 ^ 64 ≤ items * T.SIZE → IsErrOf result BufferError.TooManyBytes }
@@ -28,8 +29,8 @@ pub fn byte_count<T: Element>(items: usize) -> Result<usize>
     items.checked_mul(T::SIZE).ok_or(BufferError::TooManyBytes)
 }
 
-/// The number of items that `len` bytes are. Refused by `ByteLength` exactly where the size of an
-/// item doesn't divide it.
+/// Returns the number of items that `len` bytes hold. Returns `ByteLength` exactly if the size of
+/// an item does not divide `len`.
 pub fn item_count<T: Element>(len: usize) -> Result<usize>
     ensures items { IfOk result (λ items. items * T.SIZE ≡ len) }
     ensures whole { len % T.SIZE ≡ 0 → IsOk result }
@@ -42,8 +43,8 @@ pub fn item_count<T: Element>(len: usize) -> Result<usize>
     Ok(len / size)
 }
 
-/// Adds the bytes of items behind those that are there, where there is room for them; the capacity
-/// stays. It compiles to moves of blocks, and writes each byte once.
+/// Appends the bytes of `items` to `bytes`. The caller must prove that the vector has capacity for
+/// them. The capacity does not change. The loop compiles to block moves and writes each byte once.
 pub fn push_bytes<T: Element, A: Allocator>(items: &[T], bytes: &mut Vec<u8, A>)
     requires { length bytes.old.items + length items.now * T.SIZE ≤ vec_capacity bytes.old }
     ensures form { bytes.new.items ≡ bytes.old.items ++ byteform T.form items.now }
@@ -54,8 +55,8 @@ pub fn push_bytes<T: Element, A: Allocator>(items: &[T], bytes: &mut Vec<u8, A>)
     }
 }
 
-/// Adds the bytes of an item, for which there is room. The zeros that `put` writes over are never
-/// stored, since the compiler finds them written over.
+/// Appends the bytes of `item` to `bytes`. The caller must prove that the vector has capacity for
+/// them. The compiler never stores the zeros, since it sees that `put` overwrites them.
 fn push_form<T: Element, A: Allocator>(item: T, bytes: &mut Vec<u8, A>)
     requires { length bytes.old.items + T.SIZE ≤ vec_capacity bytes.old }
     ensures form { bytes.new.items ≡ bytes.old.items ++ T.form item }
@@ -69,8 +70,9 @@ fn push_form<T: Element, A: Allocator>(item: T, bytes: &mut Vec<u8, A>)
     item.put(&mut bytes[start..]);
 }
 
-/// Reads the items whose bytes these are into a vector that is empty and has room for them, each
-/// once. They are the only items that have these bytes. It compiles to moves of blocks.
+/// Reads the items whose bytes are `bytes` into `items`, each item once. No other items have these
+/// bytes. The loop compiles to block moves. The caller must prove that `items` is empty and has
+/// capacity for them, and that the size of an item divides the number of bytes.
 pub fn read_items<T: Element, A: Allocator>(bytes: &[u8], items: &mut Vec<T, A>)
     requires empty { items.old.items ≡ [] }
     requires whole { length bytes.now % T.SIZE ≡ 0 }
@@ -82,8 +84,8 @@ pub fn read_items<T: Element, A: Allocator>(bytes: &[u8], items: &mut Vec<T, A>)
     }
 }
 
-/// The bytes of items, in a vector made for them. Refused by `TooManyBytes` where their number
-/// passes `usize`, which is looked at before memory is asked for, and else by `OutOfMemory`.
+/// Returns the bytes of `items` in a new vector. Returns `TooManyBytes`, before it allocates, if
+/// their number exceeds `usize::MAX`. Otherwise it returns `OutOfMemory` if memory runs out.
 pub fn bytes_of<T: Element, A: Allocator + Clone>(alloc: &A, items: &[T]) -> Result<Vec<u8, A>>
     ensures { MakesBytes (length items.now * T.SIZE)
         (λ bytes. bytes.items ≡ byteform T.form items.now) result }
@@ -94,9 +96,9 @@ pub fn bytes_of<T: Element, A: Allocator + Clone>(alloc: &A, items: &[T]) -> Res
     Ok(bytes)
 }
 
-/// The items whose bytes these are, in a vector made for them. Refused by `ByteLength` where the
-/// size of an item doesn't divide the number of bytes, which is looked at before memory is asked
-/// for, and else by `OutOfMemory`.
+/// Returns the items whose bytes are `bytes`, in a new vector. Returns `ByteLength`, before it
+/// allocates, if the size of an item does not divide the number of bytes. Otherwise it returns
+/// `OutOfMemory` if memory runs out.
 pub fn items_of<T: Element, A: Allocator + Clone>(alloc: &A, bytes: &[u8]) -> Result<Vec<T, A>>
     ensures { ReadsBytes (length bytes.now) T.SIZE
         (λ items. IsReadFrom T.SIZE T.form T.is_in_type bytes.now items.items) result }

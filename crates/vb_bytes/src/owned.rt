@@ -1,4 +1,4 @@
-//! An iterator that owns the list that it goes over.
+//! An iterator that owns the list whose items it returns.
 ghost use Rattle.std.specs.Prelude.{◌≡◌, List, length, Some, IfSome};
 ghost use Rattle.std.specs.Iterator.{YieldsFirst, YieldsLast, UpTo, at_most, item_count};
 ghost use Rattle.std.specs.Iterator.SizeHint.{IsWithinCount};
@@ -7,20 +7,20 @@ ghost use Rattle.vb_core.specs.ExactCounts.{list_counts};
 use std::marker::Model;
 use vb_core::TrustedLen;
 
-/// What has a list of items.
+/// A type that holds a list of items.
 pub trait HasItems: Drop {
-    /// An item.
+    /// The type of an item.
     type Item: Copy;
 
     // The items.
     ghost items: { Self → List Self.Item };
 
-    /// The items.
+    /// Returns the items.
     fn items(&self) -> &[Self::Item]
         ensures { result.now ≡ items self.now };
 }
 
-/// The items of a list, from either end. The iterator owns what has the list.
+/// An iterator over the items of a list, from either end. It owns the value that holds the list.
 #[derive(Drop)]
 #[derive_where(Debug; S)]
 pub struct OwnedItems<S: HasItems> {
@@ -43,7 +43,7 @@ impl<S: HasItems> Model for OwnedItems<S> {
 }
 
 impl<S: HasItems> OwnedItems<S> {
-    /// All items of `owner`.
+    /// Returns an iterator over all items of `owner`.
     pub fn new(owner: S) -> OwnedItems<S>
         ensures { result ≡ S.items owner }
     {
@@ -72,7 +72,7 @@ impl<S: HasItems> Iterator for OwnedItems<S> {
         Some(item)
     }
 
-    /// The number of items still to come, as both bounds.
+    /// Returns the number of remaining items, as both bounds.
     fn size_hint(&self) -> (usize, Option<usize>)
         ensures exact { result ≡ (length self.now, Some (length self.now)) }
         ensures lower { IsWithinCount result.0 (at_most (length self.now)) }
@@ -95,7 +95,7 @@ impl<S: HasItems> DoubleEndedIterator for OwnedItems<S> {
 }
 
 impl<S: HasItems> ExactSizeIterator for OwnedItems<S> {
-    /// The number of items still to come.
+    /// Returns the number of remaining items.
     fn len(&self) -> usize
         ensures { result ≡ length self.now }
     {

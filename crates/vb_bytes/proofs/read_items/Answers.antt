@@ -7,7 +7,7 @@ use Rattle.vb_bytes.proofs.ByteForms.{byteform-injective}
 use Rattle.vb_bytes.proofs.ReadForms.{part_are_bytes, byteform-more, byteform-whole, no_bytes_left}
 use Rattle.vb_bytes.proofs.read_items.Goals as goal
 
--- the bytes of the item that was read are those of the chunk
+-- the bytes of the item just read are the bytes of the chunk
 pub loop-chunk-preserved : goal.loop-chunk-preserved
 loop-chunk-preserved g c =
     let element = g.T.Element in
@@ -40,8 +40,9 @@ loop-chunk-preserved g c =
       room = c.push_reserved.ensures.capacity ∙ kept.room;
     }
 
--- less than an item is left, and items divide the bytes. Other items with these bytes are the same
--- ones, since items and bytes determine each other
+-- fewer bytes than one item has are left, and the item's size divides the number of bytes, so none
+-- are left. Other items with these bytes are the same items, since items and bytes determine each
+-- other
 pub returns : goal.returns
 returns g c =
     let element = g.T.Element in
