@@ -1,4 +1,4 @@
--- Places in bytes, and the powers of two that divide them.
+-- Byte offsets, and the powers of two that divide them.
 use Rattle.std.proofs.Common.{◌≡◌, ℕ, ◌+◌, ◌-◌, ◌*◌, ◌%◌, ◌^◌, ◌≤◌, ◌<◌, sym, ap, ◌∙◌, arith}
 use Rattle.std.proofs.Math.Nat.{dvd-add, dvd-mul_left_of_dvd}
 use Rattle.std.proofs.lemmas.Nat.{mul-mod_first}
@@ -17,8 +17,8 @@ mod-wrapped n size k h =
     ap (λ m. m % 2 ^ k) (mul-mod_first n size (2 ^ 64))
     ∙ mod-mod-lesser (n * size) 64 k (omega arith)
 
--- so many items on from a place, a power of two that divides the place and the size of an item
--- divides the place there
+-- if 2 ^ reported divides a byte offset and 2 ^ least divides the size of an item, then 2 ^ least
+-- divides the byte offset `start` items later
 pub mod-items_on : (place start size reported least : ℕ) → least ≤ reported
     → place % 2 ^ reported ≡ 0 → size % 2 ^ least ≡ 0 → (place + start * size) % 2 ^ least ≡ 0
 mod-items_on place start size reported least le at whole =

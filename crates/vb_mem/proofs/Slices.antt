@@ -6,7 +6,7 @@ use Rattle.std.proofs.lemmas.Nat.Gcd.{dvd_of_mod-eq-zero, mod-eq-zero_of_dvd}
 use Rattle.std.specs.declared.ops.Range.{Range}
 use Rattle.vb_mem.specs.SharedBuffer.{SharedBuffer, IsAlignedTo, CanSlice, CanNarrow}
 
--- so many bytes on, a multiple of the alignment, the alignment is there again
+-- an offset that is a multiple of the alignment keeps the alignment
 pub can_slice-narrow : {T : Type 0} (size least : ℕ) (b : SharedBuffer T) (range : Range ℕ)
     (alignment : ℕ)
     → alignment ≡ b.alignment → least ≤ alignment → alignment ≤ b.declared

@@ -3,7 +3,7 @@ use Rattle.std.proofs.Common.{◌≡◌, ℕ, ◌+◌, ◌-◌, ◌≤◌, List,
 use Rattle.std.proofs.Common.{sym, ap, ◌∙◌, arith}
 use Rattle.std.proofs.lemmas.List.{take-take, drop-drop, drop-take}
 
--- a part of a window, by the sum of both starts
+-- a part of a window starts at the sum of both starts
 pub slice_range-window : {X : Type 0} (xs : List X) (start len from to : ℕ)
     → from ≤ to → to ≤ len
     → slice_range (take len (drop start xs)) from to ≡ take (to - from) (drop (start + from) xs)

@@ -1,4 +1,4 @@
--- What a buffer's storage and its window of it stand for.
+-- The buffer that a storage and a window of it represent.
 use Rattle.std.specs.Prelude.{Some, None, ℕ, ◌+◌, ◌*◌, ◌^◌, ◌<◌, ◌≤◌, [], length, take, drop}
 use Rattle.vb_mem.specs.declared.content.Content.{Content}
 use Rattle.vb_mem.specs.declared.content.Content.TheVariants.{Nothing, Stored}
@@ -7,7 +7,7 @@ use Rattle.vb_mem.specs.OpenBuffer.{OpenBuffer}
 use Rattle.vb_mem.specs.SharedBuffer.{SharedBuffer, IsPlaceAligned, as_shared}
 
 module _ {T A : Type 0} where
-  -- what is seen, where an item has so many bytes
+  -- the buffer that a contract sees; `size` is the number of bytes of an item
   abbrev pub seen : ℕ → Content T A → SharedBuffer T
   seen size (Nothing exponent) = record {
     list = [];
@@ -23,8 +23,8 @@ module _ {T A : Type 0} where
     place = window.start * size;
   }
 
-  -- a window lies in its storage and ends within `usize`, and its place has the alignment that it
-  -- reports, which is at least that of an item
+  -- a window is in bounds of its storage and ends within `usize`. Its byte offset is a multiple of
+  -- the alignment that it reports, which is at least the alignment of an item
   abbrev pub IsSound : ℕ → ℕ → Content T A → Type 0
   IsSound size least (Nothing exponent) = least ≤ exponent
   IsSound size least (Stored rc None) = Unit {0}
@@ -35,7 +35,7 @@ module _ {T A : Type 0} where
       → IsPlaceAligned (window.start * size) rc.value.declared window.alignment)
       × (least ≤ window.alignment) × (window.alignment ≤ rc.value.declared)
 
-  -- all of a storage is shown, and P holds of what is in it
+  -- the buffer shows all of its storage, and P holds of the storage
   abbrev pub IsWhole : (OpenBuffer T → Type 0) → Content T A → Type 0
   IsWhole P (Nothing exponent) = ⊥
   IsWhole P (Stored rc None) = P rc.value

@@ -1,4 +1,4 @@
--- What a buffer is once a loan out of it has ended.
+-- The value of a buffer after a loan of it has ended.
 use Rattle.std.specs.Prelude.{◌≡◌, Result}
 use Rattle.std.specs.Borrow.{LendsIfOk, LendsSoOk, MutBor, Fml, RattleType}
 use Rattle.std.specs.declared.alloc.Allocator.{Ghosts as OfAllocator}
@@ -12,14 +12,14 @@ use Rattle.vb_mem.specs.contracts.buffer.Buffer.{the_row as shared_row}
 use Rattle.vb_mem.specs.contracts.buffer_mut.BufferMut.{the_row as open_row}
 
 module _ (T A : RattleType) (t : OfElement T.Denot) (a : OfAllocator A.Denot) where
-  -- the storage has what is left behind the reference; at `Err` all is as it was
+  -- the storage has the value that the reference had last; on `Err` nothing changed
   abbrev pub LendsStorage : {E : Type 0} → MutBor (Content T.Denot A.Denot)
       → Result (MutBor (OpenBuffer T.Denot)) E → Fml
   LendsStorage content lent =
       LendsIfOk (content_row T A t a) (open_row T A t a) content lent
       (with_stored content.now) content.now
 
-  -- the buffer shows what is left behind the reference; at `Err` it keeps its items
+  -- the buffer shows the value that the reference had last; on `Err` it keeps its items
   abbrev pub LendsAll : {E : Type 0} → MutBor (SharedBuffer T.Denot)
       → Result (MutBor (OpenBuffer T.Denot)) E → Fml
   LendsAll buffer lent =

@@ -1,4 +1,4 @@
-//! A buffer that shares its storage, and its parts, which are made in constant time.
+//! A buffer that shares its storage with other buffers, and slices of it in constant time.
 ghost use Rattle.std.specs.Prelude.{◌≡◌, ◌==◌, ◌↔◌, ◌≤◌, [], length, IsTrue};
 ghost use Rattle.vb_mem.specs.Makes.{Makes};
 ghost use Rattle.vb_mem.specs.SharedBuffer.{IsAlignedTo, ShowsPart, CanSlice, CanNarrow};
@@ -14,17 +14,19 @@ mod byte_form;
 mod convert;
 mod make;
 
-/// A list of items whose storage other buffers may share. No buffer sees what another one writes.
+/// A list of items. Several buffers may share one storage, and no buffer sees the writes of another
+/// one.
 ///
-/// Alignments are numbers that the buffer keeps, and say nothing of addresses: memory is asked for
-/// at the alignment of an item. The storage has a declared alignment. The buffer reports one that
-/// is at least that of an item and at most the declared one. Unless the buffer is empty, the byte
-/// offset of its first item from the start of the storage is a multiple of the reported one.
+/// An alignment is a number that the buffer keeps. It does not describe an address: the buffer
+/// allocates memory with the alignment of an item. The storage has a declared alignment. The buffer
+/// reports an alignment that is at least the alignment of an item and at most the declared one.
+/// Unless the buffer is empty, the byte offset of its first item in the storage is a multiple of
+/// the reported alignment.
 ///
-/// A constructor reports its argument `alignment`, which has to be at least that of an item; where
-/// it has no such argument, it reports that of an item. "Over-aligned to 256 bytes" says that the
-/// storage is declared with 256 bytes, or with the reported alignment if that is greater. Equality,
-/// order and hash are those of the list.
+/// A constructor reports its argument `alignment`, which must be at least the alignment of an item.
+/// A constructor without this argument reports the alignment of an item. "Over-aligned to 256
+/// bytes" means that the storage is declared with 256 bytes, or with the reported alignment if that
+/// is greater. Equality, order and hash are those of the list.
 #[derive(Drop)]
 pub struct Buffer<T: Element, A: Allocator = Global> {
     content: Content<T, A>,
@@ -44,7 +46,7 @@ impl<T: Element, A: Allocator> Model for Buffer<T, A> {
 }
 
 impl<T: Element, A: Allocator> Buffer<T, A> {
-    /// The items.
+    /// Returns the items.
     pub fn as_slice(&self) -> &[T]
         ensures { result.now ≡ self.now.list }
     {
@@ -57,7 +59,7 @@ impl<T: Element, A: Allocator> Buffer<T, A> {
         }
     }
 
-    /// The number of items.
+    /// Returns the number of items.
     pub fn len(&self) -> usize
         ensures { result ≡ length self.now.list }
     {
@@ -68,15 +70,15 @@ impl<T: Element, A: Allocator> Buffer<T, A> {
         }
     }
 
-    /// Whether there are no items.
+    /// Returns whether the buffer has no items.
     pub fn is_empty(&self) -> bool
         ensures { result ≡ (length self.now.list == 0) }
     {
         self.len() == 0
     }
 
-    /// The alignment that the buffer reports: at least that of an item, at most the declared one,
-    /// and one that the buffer is aligned to.
+    /// Returns the alignment that the buffer reports. It is at least the alignment of an item and
+    /// at most the declared alignment, and the buffer is aligned to it.
     pub fn alignment(&self) -> Alignment
         ensures value { result ≡ self.now.alignment }
         ensures at_least { T.align_exponent ≤ result }
@@ -90,8 +92,8 @@ impl<T: Element, A: Allocator> Buffer<T, A> {
         }
     }
 
-    /// The alignment that the storage is declared with; of an empty buffer, one that is at least
-    /// the reported one.
+    /// Returns the declared alignment of the storage. For an empty buffer it is at least the
+    /// reported alignment.
     pub fn declared(&self) -> Alignment
         ensures value { result ≡ self.now.declared }
         ensures at_least { self.now.alignment ≤ result }
@@ -102,13 +104,14 @@ impl<T: Element, A: Allocator> Buffer<T, A> {
         }
     }
 
-    /// The allocator that copies ask.
+    /// Returns the allocator that the buffer uses for copies of its items.
     pub fn allocator(&self) -> &A {
         &self.alloc
     }
 
-    /// Whether the buffer is aligned to an alignment: it is empty, or the place in bytes of its
-    /// first item is a multiple of the alignment and its storage is declared with it or more.
+    /// Returns whether the buffer is aligned to `alignment`: it is empty, or the byte offset of its
+    /// first item in the storage is a multiple of `alignment` and its storage is declared with
+    /// `alignment` or a greater one.
     pub fn is_aligned(&self, alignment: Alignment) -> bool
         ensures { IsTrue result ↔ IsAlignedTo self.now alignment }
     {
@@ -116,7 +119,7 @@ impl<T: Element, A: Allocator> Buffer<T, A> {
             || (self.content.is_place_divided(alignment, 0) && alignment <= self.declared())
     }
 
-    /// Drops all items. The alignment stays.
+    /// Removes all items. The reported alignment does not change.
     pub fn clear(&mut self)
         ensures list { self.new.list ≡ [] }
         ensures alignment { self.new.alignment ≡ self.old.alignment }
@@ -124,14 +127,14 @@ impl<T: Element, A: Allocator> Buffer<T, A> {
         self.content = Content::Nothing(self.alignment());
     }
 
-    /// Whether [`Buffer::slice_with_alignment`] can be called with `range` and `alignment`. Three
-    /// things have to hold:
+    /// Returns whether the caller may call [`Buffer::slice_with_alignment`] with `range` and
+    /// `alignment`. Three conditions must hold:
     ///
-    /// - `range` lies within the buffer: `range.start <= range.end <= self.len()`.
-    /// - `alignment` is at least that of an item.
-    /// - The range is empty; or the byte offset of its first item, from the start of the storage
-    ///   and not of this buffer, is a multiple of `alignment`, and `alignment` is at most
-    ///   [`Buffer::declared`].
+    /// - `range` is in bounds: `range.start <= range.end <= self.len()`.
+    /// - `alignment` is at least the alignment of an item.
+    /// - The range is empty; or the byte offset of its first item is a multiple of `alignment`, and
+    ///   `alignment` is at most [`Buffer::declared`]. The offset counts from the start of the
+    ///   storage, not of this buffer.
     pub fn can_slice(&self, range: Range<usize>, alignment: Alignment) -> bool
         ensures { IsTrue result ↔ CanSlice T.SIZE T.align_exponent self.now range alignment }
     {
@@ -143,13 +146,13 @@ impl<T: Element, A: Allocator> Buffer<T, A> {
                     && alignment <= self.declared()))
     }
 
-    /// Keeps the items of `range` alone. The reported alignment stays, and other buffers keep their
-    /// items. It takes no memory and moves no item. Where the range is empty, the buffer gives up
-    /// its storage.
+    /// Removes all items outside `range`. The reported alignment does not change, and other buffers
+    /// keep their items. The call does not allocate and does not move items. If the range is empty,
+    /// the buffer releases its storage.
     ///
-    /// `range` has to lie within the buffer: `range.start <= range.end <= self.len()`. Unless it is
-    /// empty, `range.start` times the size of an item, in bytes, has to be a multiple of
-    /// [`Buffer::alignment`]. [`Buffer::can_slice`] at that alignment tests both.
+    /// `range` must be in bounds: `range.start <= range.end <= self.len()`. Unless it is empty,
+    /// `range.start` times the size of an item in bytes must be a multiple of
+    /// [`Buffer::alignment`]. [`Buffer::can_slice`] with that alignment tests both.
     pub fn narrow(&mut self, range: Range<usize>)
         requires { CanNarrow T.SIZE T.align_exponent self.old range }
         ensures { ShowsPart T.SIZE self.old range self.old.alignment self.new }
@@ -160,17 +163,17 @@ impl<T: Element, A: Allocator> Buffer<T, A> {
 }
 
 impl<T: Element, A: Allocator + Clone> Buffer<T, A> {
-    /// The items of `range`, as a buffer that reports the same alignment and shares this one's
-    /// storage: no item is copied. An empty part keeps no storage.
+    /// Returns the items of `range` as a buffer that reports the same alignment and shares this
+    /// buffer's storage. Copies no item. An empty slice keeps no storage.
     ///
-    /// `range` has to lie within the buffer: `range.start <= range.end <= self.len()`. Unless it is
-    /// empty, `range.start` times the size of an item, in bytes, has to be a multiple of
-    /// [`Buffer::alignment`]. [`Buffer::can_slice`] at that alignment tests both.
-    /// [`Buffer::slice_unaligned`] takes any range within the buffer.
+    /// `range` must be in bounds: `range.start <= range.end <= self.len()`. Unless it is empty,
+    /// `range.start` times the size of an item in bytes must be a multiple of
+    /// [`Buffer::alignment`]. [`Buffer::can_slice`] with that alignment tests both.
+    /// [`Buffer::slice_unaligned`] accepts any range that is in bounds.
     ///
-    /// Refused by `OutOfMemory` alone: where a copy of this buffer's allocator, which the part
-    /// keeps, finds no memory, or where the storage has as many owners as can be counted. This
-    /// buffer stays as it was, refused or not.
+    /// Returns `OutOfMemory` if cloning the allocator for the slice runs out of memory, or if the
+    /// storage already has the maximum number of owners. This buffer does not change, on success or
+    /// on error.
     pub fn slice(&self, range: Range<usize>) -> Result<Self>
         requires { CanNarrow T.SIZE T.align_exponent self.now range }
         ensures { Makes (ShowsPart T.SIZE self.now range self.now.alignment) result }
@@ -179,20 +182,20 @@ impl<T: Element, A: Allocator + Clone> Buffer<T, A> {
         self.slice_with_alignment(range, alignment)
     }
 
-    /// The items of `range`, as a buffer that reports `alignment` and shares this one's storage: no
-    /// item is copied. An empty part keeps no storage.
+    /// Returns the items of `range` as a buffer that reports `alignment` and shares this buffer's
+    /// storage. Copies no item. An empty slice keeps no storage.
     ///
-    /// `range` has to lie within the buffer: `range.start <= range.end <= self.len()`. `alignment`
-    /// has to be at least that of an item. Unless the range is empty, the byte offset of its first
-    /// item has to be a multiple of `alignment`, and `alignment` at most [`Buffer::declared`], the
+    /// `range` must be in bounds: `range.start <= range.end <= self.len()`. `alignment` must be at
+    /// least the alignment of an item. Unless the range is empty, the byte offset of its first item
+    /// must be a multiple of `alignment`, and `alignment` must be at most [`Buffer::declared`], the
     /// alignment that the storage was declared with. The offset counts from the start of the
-    /// storage, not of this buffer, and no address is looked at. [`Buffer::can_slice`] tests all of
-    /// this. A part that isn't empty has that offset and that declared alignment.
+    /// storage, not of this buffer, and the call looks at no address. [`Buffer::can_slice`] tests
+    /// all of this. A slice that is not empty has that offset and that declared alignment.
     ///
-    /// The part keeps a copy of this buffer's allocator, to ask for memory when its items are
-    /// copied. Refused by `OutOfMemory` alone: where making that copy finds no memory, or where the
-    /// storage has as many owners as can be counted, whatever the range. Refused or not, this
-    /// buffer stays as it was.
+    /// The slice keeps a clone of this buffer's allocator, to allocate memory when its items are
+    /// copied. Returns `OutOfMemory` if that clone runs out of memory, or if the storage already
+    /// has the maximum number of owners, for every range. This buffer does not change, on success
+    /// or on error.
     pub fn slice_with_alignment(&self, range: Range<usize>, alignment: Alignment) -> Result<Self>
         requires { CanSlice T.SIZE T.align_exponent self.now range alignment }
         ensures { Makes (ShowsPart T.SIZE self.now range alignment) result }
@@ -202,14 +205,15 @@ impl<T: Element, A: Allocator + Clone> Buffer<T, A> {
         Ok(part)
     }
 
-    /// The items of a range within the buffer, of the alignment of an item; the part shares the
-    /// storage. Refused as [`Buffer::slice`] is.
+    /// Returns the items of `range` as a buffer that reports the alignment of an item and shares
+    /// this buffer's storage. `range` must be in bounds. Returns the errors of [`Buffer::slice`].
     pub fn slice_unaligned(&self, range: Range<usize>) -> Result<Self>
         requires order { range.start ≤ range.end }
         requires within { range.end ≤ length self.now.list }
         ensures { Makes (ShowsPart T.SIZE self.now range T.align_exponent) result }
     {
-        // Its contract tells the proof that the place is a multiple of an item's alignment.
+        // The contract of `alignment` tells the prover that the byte offset is a multiple of an
+        // item's alignment.
         let _ = self.alignment();
         self.slice_with_alignment(range, Alignment::of::<T>())
     }

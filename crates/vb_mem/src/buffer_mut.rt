@@ -14,21 +14,21 @@ mod convert;
 mod grow;
 mod make;
 
-// What storage is over-aligned to where nothing else is preferred.
+// The alignment that storage is over-aligned to unless the caller prefers another one.
 pub(crate) const DEFAULT: Option<Alignment> = Some(Alignment::DEFAULT_ALIGNMENT);
 
 /// A list of items that grows, with an alignment.
 ///
-/// Alignments are numbers that the buffer keeps, and say nothing of addresses: memory is asked for
-/// at the alignment of an item. The reported alignment is at least that of an item. The declared
-/// alignment is that of the storage, and at least the reported one. Growth keeps both, and so does
-/// [`BufferMut::freeze`].
+/// An alignment is a number that the buffer keeps. It does not describe an address: the buffer
+/// allocates memory with the alignment of an item. The reported alignment is at least the alignment
+/// of an item. The declared alignment belongs to the storage and is at least the reported one.
+/// Growth and [`BufferMut::freeze`] keep both.
 ///
-/// A constructor reports its argument `alignment`, which has to be at least that of an item; where
-/// it has no such argument, it reports that of an item. "Over-aligned to 256 bytes" says that the
-/// storage is declared with 256 bytes, or with the reported alignment if that is greater. An
-/// argument `preferred` replaces the 256 bytes; at `None` the declared alignment is the reported
-/// one.
+/// A constructor reports its argument `alignment`, which must be at least the alignment of an item.
+/// A constructor without this argument reports the alignment of an item. "Over-aligned to 256
+/// bytes" means that the storage is declared with 256 bytes, or with the reported alignment if that
+/// is greater. An argument `preferred` replaces the 256 bytes; with `None` the declared alignment
+/// is the reported one.
 #[derive(Drop)]
 pub struct BufferMut<T: Element, A: Allocator = Global> {
     pub(crate) items: Vec<T, A>,
@@ -56,7 +56,8 @@ impl<T: Element, A: Allocator> Model for BufferMut<T, A> {
 }
 
 impl<T: Element, A: Allocator> BufferMut<T, A> {
-    /// The alignment that the buffer reports: at least that of an item, at most the declared one.
+    /// Returns the alignment that the buffer reports. It is at least the alignment of an item and
+    /// at most the declared alignment.
     pub fn alignment(&self) -> Alignment
         ensures value { result ≡ self.now.alignment }
         ensures at_least { T.align_exponent ≤ result }
@@ -65,7 +66,7 @@ impl<T: Element, A: Allocator> BufferMut<T, A> {
         self.alignment
     }
 
-    /// The alignment that the storage is declared with.
+    /// Returns the declared alignment of the storage. It is at least the reported alignment.
     pub fn declared(&self) -> Alignment
         ensures value { result ≡ self.now.declared }
         ensures at_least { self.now.alignment ≤ result }
@@ -73,26 +74,27 @@ impl<T: Element, A: Allocator> BufferMut<T, A> {
         self.declared
     }
 
-    /// The number of items.
+    /// Returns the number of items.
     pub fn len(&self) -> usize
         ensures { result ≡ length self.now.list }
     {
         self.items.len()
     }
 
-    /// Whether there are no items.
+    /// Returns whether the buffer has no items.
     pub fn is_empty(&self) -> bool
         ensures { result ≡ (length self.now.list == 0) }
     {
         self.items.is_empty()
     }
 
-    /// The allocator of the storage, which growth and copies ask.
+    /// Returns the allocator of the storage. Growth and copies use it.
     pub fn allocator(&self) -> &A {
         self.items.allocator()
     }
 
-    /// The number of items up to which the buffer grows without more memory; at least the length.
+    /// Returns the number of items that the buffer can hold without another allocation. It is at
+    /// least the length.
     pub fn capacity(&self) -> usize
         ensures value { result ≡ self.now.room }
         ensures at_least { length self.now.list ≤ result }
@@ -100,15 +102,16 @@ impl<T: Element, A: Allocator> BufferMut<T, A> {
         self.items.capacity()
     }
 
-    /// The items.
+    /// Returns the items.
     pub fn as_slice(&self) -> &[T]
         ensures { result.now ≡ self.now.list }
     {
         self.items.as_slice()
     }
 
-    /// The items, to be written. Once the loan of the slice ends, the buffer has the items that the
-    /// slice has then, as many as before; all else stays. So says clause `writes_back`.
+    /// Lends the items as a mutable slice. When the loan ends, the buffer has the items that the
+    /// slice has then, the same number as before; nothing else changes. Clause `writes_back` proves
+    /// this.
     pub fn as_mut_slice(&mut self) -> &mut [T]
         ensures* writes_back { sem 𝓛 (Lends (the_row T.row A.row T.Element A.Allocator)
             (Array T.row 0) self.entry result (with_items self.old)) }
@@ -117,22 +120,23 @@ impl<T: Element, A: Allocator> BufferMut<T, A> {
         self.items.as_mut_slice()
     }
 
-    /// Drops all items. The capacity stays.
+    /// Removes all items. The capacity does not change.
     pub fn clear(&mut self)
         ensures { self.new ≡ record self.old { list = [] } }
     {
         self.items.clear();
     }
 
-    /// Keeps the first `len` items, or all where there are no more. The capacity stays.
+    /// Removes all items after the first `len`; removes none if there are no more than `len`. The
+    /// capacity does not change.
     pub fn truncate(&mut self, len: usize)
         ensures { self.new ≡ record self.old { list = take len self.old.list } }
     {
         self.items.truncate(len);
     }
 
-    /// Takes the last item away, in constant time. `None` comes just where there are no items. All
-    /// else stays, the capacity too.
+    /// Removes the last item and returns it, in constant time. Returns `None` exactly if there are
+    /// no items. Nothing else changes, nor does the capacity.
     pub fn pop(&mut self) -> Option<T>
         ensures last { slice_get self.old.list (length self.old.list - 1) ≡ result }
         ensures some { IsSome result ↔ (0 < length self.old.list) }
@@ -142,8 +146,9 @@ impl<T: Element, A: Allocator> BufferMut<T, A> {
         self.items.pop()
     }
 
-    /// The items as a vector, in constant time: it has the storage itself, with its capacity and
-    /// allocator, and no memory is taken. A vector knows no alignment but that of an item.
+    /// Returns the items as a vector, in constant time. The vector takes over the storage with its
+    /// capacity and allocator, and the call does not allocate. The vector keeps only the alignment
+    /// of an item.
     pub fn into_vec(self) -> Vec<T, A>
         ensures items { result.items ≡ self.list }
         ensures room { vec_capacity result ≡ self.room }
@@ -151,7 +156,8 @@ impl<T: Element, A: Allocator> BufferMut<T, A> {
         self.items
     }
 
-    // Keeps the items of a window, moved to the front, and reports the window's alignment.
+    // Removes the items outside a window, moves the others to the start, and reports the window's
+    // alignment.
     pub(crate) fn narrow(&mut self, window: Window)
         requires within { window.start + window.len ≤ length self.old.list }
         requires at_least { T.align_exponent ≤ window.alignment }

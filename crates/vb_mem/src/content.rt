@@ -1,4 +1,4 @@
-//! Where a shared buffer has its items.
+//! The storage and the window of a shared buffer.
 ghost use Rattle.std.specs.Prelude.{◌≡◌, ◌↔◌, ◌+◌, ◌*◌, ◌%◌, ◌^◌, ⊤, IsTrue, IfOk, IsOkUnless};
 ghost use Rattle.std.specs.Bool.{OnTrue, OnFalse};
 ghost use Rattle.std.specs.Borrow.{sem};
@@ -13,20 +13,21 @@ use std::ops::Range;
 use std::rc::Rc;
 use vb_core::{Alignment, BufferError, Element};
 
-/// What a buffer shows of a storage that other buffers may show too.
+/// The part of a storage that a buffer shows. Other buffers may show parts of the same storage.
 #[derive(Drop)]
 pub(crate) enum Content<T: Element, A: Allocator> {
-    /// No items and no storage, and the alignment that is reported.
+    /// No items and no storage, with the alignment that the buffer reports.
     Nothing(Alignment),
-    /// The items of a window of a storage, or all of them with the alignment of the storage.
+    /// A storage with the window that the buffer shows. Without a window it shows all items and
+    /// reports the alignment of the storage.
     Stored(Rc<BufferMut<T, A>, A>, Option<Window>),
 }
 
 impl<T: Element, A: Allocator> Content<T, A> {
     ghost use Rattle.vb_mem.specs.Content.{seen, IsSound, IsWhole};
 
-    // Whether an alignment divides the place in bytes of the item so many on. A place that wraps
-    // keeps its remainder.
+    // Returns whether `alignment` divides the byte offset of the item at index `items_on`. An
+    // offset that wraps keeps its remainder.
     pub(crate) fn is_place_divided(&self, alignment: Alignment, items_on: usize) -> bool
         ensures { IsTrue result
             ↔ (((seen T.SIZE self.now).place + items_on * T.SIZE) % 2 ^ alignment ≡ 0) }
@@ -40,7 +41,8 @@ impl<T: Element, A: Allocator> Content<T, A> {
         alignment.is_offset_aligned(item.wrapping_mul(T::SIZE))
     }
 
-    // Keeps the items of a range, and reports an alignment for which they can be sliced.
+    // Removes the items outside a range, and reports `alignment`, with which the range can be
+    // sliced.
     pub(crate) fn narrow(&mut self, range: Range<usize>, alignment: Alignment)
         requires sound { IsSound T.SIZE T.align_exponent self.old }
         requires can_slice { CanSlice T.SIZE T.align_exponent (seen T.SIZE self.old) range
@@ -68,7 +70,7 @@ impl<T: Element, A: Allocator> Content<T, A> {
         });
     }
 
-    // Keeps what is shown of the storage, where no other buffer shares it. Answers whether it did.
+    // Narrows the storage to the window if no other buffer shares it. Returns whether it did.
     pub(crate) fn narrow_lone(&mut self) -> bool
         requires { IsSound T.SIZE T.align_exponent self.old }
         ensures narrowed { OnTrue result (IsWhole
@@ -87,8 +89,9 @@ impl<T: Element, A: Allocator> Content<T, A> {
         true
     }
 
-    // The storage, all of which is shown, and which has no other owner. Std's contract of
-    // `Rc::get_mut` doesn't say when there is one, so a refusal stands where none comes.
+    // Lends the storage, which the buffer shows whole and which has no other owner. Std's contract
+    // of `Rc::get_mut` does not say when it returns `Some`, so this function has an error case that
+    // never occurs.
     pub(crate) fn whole_mut(&mut self) -> Result<&mut BufferMut<T, A>>
         requires { IsWhole (λ _. ⊤) self.old }
         ensures* writes_back { sem 𝓛 (LendsStorage T.row A.row T.Element A.Allocator

@@ -8,10 +8,10 @@ use std::alloc::{Allocator, Global};
 use vb_bytes::{HasItems, OwnedItems};
 use vb_core::Element;
 
-/// The items of a buffer, by reference.
+/// An iterator over the items of a buffer, by reference.
 pub type Iter<'a, T> = std::slice::Iter<'a, T>;
 
-/// The items of a buffer, which it keeps, from either end.
+/// An iterator over the items of a buffer, from either end. It owns the buffer.
 pub type BufferIterator<T, A = Global> = OwnedItems<Buffer<T, A>>;
 
 impl<T: Element, A: Allocator> HasItems for Buffer<T, A> {
@@ -25,7 +25,7 @@ impl<T: Element, A: Allocator> HasItems for Buffer<T, A> {
 }
 
 impl<T: Element, A: Allocator> Buffer<T, A> {
-    /// The items, by reference.
+    /// Returns an iterator over the items, by reference.
     pub fn iter(&self) -> Iter<'_, T>
         ensures { iter_rest result ≡ self.now.list }
     {

@@ -1,8 +1,8 @@
-//! List buffers: lists of whole numbers that grow, and lists that share their storage.
+//! List buffers: growing lists of whole numbers, and lists that share their storage.
 //!
-//! A [`BufferMut`] owns its storage and grows. [`BufferMut::freeze`] makes a [`Buffer`] of it,
-//! which is cloned and sliced without a copy, and [`Buffer::into_mut`] a `BufferMut` again. No
-//! owner sees what another one writes.
+//! A [`BufferMut`] owns its storage and grows. [`BufferMut::freeze`] converts it to a [`Buffer`],
+//! which callers clone and slice without a copy. [`Buffer::into_mut`] converts a `Buffer` back to a
+//! `BufferMut`. No owner sees the writes of another one.
 #![tactic(auto)]
 
 mod buffer;

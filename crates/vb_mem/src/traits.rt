@@ -1,5 +1,4 @@
-//! Equality, order and hash of buffers, and their text for programmers: those of their lists.
-//! Alignments don't count.
+//! Equality, order, hash and debug text of buffers: those of their lists. Alignments do not count.
 ghost use Rattle.std.specs.Cmp.{on_per, on_equiv, on_po, on_total};
 ghost use Rattle.std.specs.Cmp.Lexicographic.{pointwise, slice_cmp, slice_partial_cmp};
 ghost use Rattle.std.specs.Cmp.Lexicographic.{lists_per, lists_equiv, lists_po, lists_total};

@@ -1,7 +1,7 @@
-//! What is shown of a storage.
+//! The part of a storage that a buffer shows.
 use vb_core::Alignment;
 
-/// Items of a storage, from `start` on, and the alignment that is reported of them.
+/// Items of a storage, from index `start` on, and the alignment that the buffer reports for them.
 #[derive(Clone, Copy)]
 pub(crate) struct Window {
     pub(crate) start: usize,

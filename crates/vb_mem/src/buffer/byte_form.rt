@@ -1,4 +1,4 @@
-//! The items of buffers as bytes, and back.
+//! Conversions between the items of buffers and their bytes.
 ghost use Rattle.std.specs.Prelude.{◌≡◌, ◌*◌, ◌≤◌, length};
 ghost use Rattle.vb_bytes.specs.ByteForm.{byteform};
 ghost use Rattle.vb_mem.specs.Makes.{MakesBytes, ReadsBytes};
@@ -13,9 +13,9 @@ use vb_bytes::{bytes_of, items_of};
 use vb_core::{Alignment, Element};
 
 impl<T: Element, A: Allocator + Clone> Buffer<T, A> {
-    /// The bytes of the items, of alignment 1, copied and over-aligned to 256 bytes. The buffer
-    /// stays. Refused by `TooManyBytes` where the number of bytes passes `usize`, and else by
-    /// `OutOfMemory`.
+    /// Returns a copy of the items' bytes as a buffer of alignment 1, over-aligned to 256 bytes.
+    /// This buffer does not change. Returns `TooManyBytes` if the number of bytes exceeds
+    /// `usize::MAX`. Otherwise it returns `OutOfMemory` if memory runs out.
     pub fn as_bytes(&self) -> Result<Buffer<u8, A>>
         ensures { MakesBytes (length self.now.list * T.SIZE)
             (ShowsMade (byteform T.form self.now.list) 0) result }
@@ -24,8 +24,8 @@ impl<T: Element, A: Allocator + Clone> Buffer<T, A> {
         BufferMut::of_vec(bytes, Alignment::none(), DEFAULT).freeze()
     }
 
-    /// The bytes of the items, of the same alignment, copied and over-aligned to 256 bytes. Refused
-    /// as [`Buffer::as_bytes`] is; the buffer is gone then.
+    /// Returns a copy of the items' bytes as a buffer that reports the same alignment, over-aligned
+    /// to 256 bytes. Returns the errors of [`Buffer::as_bytes`]. Drops this buffer, also on error.
     pub fn into_byte_buffer(self) -> Result<Buffer<u8, A>>
         ensures { MakesBytes (length self.list * T.SIZE)
             (ShowsMade (byteform T.form self.list) self.alignment) result }
@@ -36,8 +36,8 @@ impl<T: Element, A: Allocator + Clone> Buffer<T, A> {
         BufferMut::of_vec(bytes?, alignment, DEFAULT).freeze()
     }
 
-    /// The bytes of the items as `Bytes`, copied. Refused as [`Buffer::as_bytes`] is; the buffer is
-    /// gone then.
+    /// Returns a copy of the items' bytes as `Bytes`. Returns the errors of [`Buffer::as_bytes`].
+    /// Drops this buffer, also on error.
     pub fn into_bytes(self) -> Result<Bytes<A>>
         ensures { MakesBytes (length self.list * T.SIZE)
             (λ bytes. bytes ≡ byteform T.form self.list) result }
@@ -47,10 +47,10 @@ impl<T: Element, A: Allocator + Clone> Buffer<T, A> {
         Ok(Bytes::from_vec(bytes?)?)
     }
 
-    /// The items whose bytes a slice has, with an alignment, which is at least that of an item:
-    /// read once into storage made for them, over-aligned to 256 bytes, which the buffer keeps with
-    /// the allocator. Refused by `ByteLength` exactly where the size of an item doesn't divide
-    /// the number of bytes, before memory is asked for, and else by `OutOfMemory`.
+    /// Reads the items whose bytes are `bytes` into new storage, each once, and over-aligns it to
+    /// 256 bytes. The buffer reports `alignment`, which must be at least the alignment of an item,
+    /// and keeps `alloc`. Returns `ByteLength`, before it allocates, exactly if the size of an item
+    /// does not divide the number of bytes. Otherwise it returns `OutOfMemory` if memory runs out.
     pub fn read_from(alloc: A, bytes: &[u8], alignment: Alignment) -> Result<Self>
         requires { T.align_exponent ≤ alignment }
         ensures { ReadsBytes (length bytes.now) T.SIZE
@@ -60,9 +60,10 @@ impl<T: Element, A: Allocator + Clone> Buffer<T, A> {
         BufferMut::of_vec(items, alignment, DEFAULT).freeze()
     }
 
-    /// The items whose bytes a buffer has, of the alignment of an item, copied and over-aligned to
-    /// 256 bytes. Refused by `ByteLength` exactly where the size of an item doesn't divide the
-    /// number of bytes, and else by `OutOfMemory`; the bytes are gone then.
+    /// Returns a copy of the items whose bytes are `bytes`. The new buffer reports the alignment of
+    /// an item and is over-aligned to 256 bytes. Returns `ByteLength` exactly if the size of an
+    /// item does not divide the number of bytes. Otherwise it returns `OutOfMemory` if memory runs
+    /// out. Drops `bytes`, also on error.
     pub fn from_byte_buffer(bytes: Buffer<u8, A>) -> Result<Self>
         ensures { ReadsBytes (length bytes.list) T.SIZE
             (ShowsRead T.SIZE T.form T.is_in_type bytes.list T.align_exponent) result }
@@ -70,8 +71,9 @@ impl<T: Element, A: Allocator + Clone> Buffer<T, A> {
         Buffer::from_byte_buffer_aligned(bytes, Alignment::of::<T>())
     }
 
-    /// The items whose bytes a buffer has, with an alignment, which is at least that of an item,
-    /// copied and over-aligned to 256 bytes. Refused as [`Buffer::from_byte_buffer`] is.
+    /// Returns a copy of the items whose bytes are `bytes`. The new buffer reports `alignment`,
+    /// which must be at least the alignment of an item, and is over-aligned to 256 bytes. Returns
+    /// the errors of [`Buffer::from_byte_buffer`]. Drops `bytes`, also on error.
     pub fn from_byte_buffer_aligned(bytes: Buffer<u8, A>, alignment: Alignment) -> Result<Self>
         requires { T.align_exponent ≤ alignment }
         ensures { ReadsBytes (length bytes.list) T.SIZE
@@ -82,8 +84,9 @@ impl<T: Element, A: Allocator + Clone> Buffer<T, A> {
         BufferMut::of_vec(items?, alignment, DEFAULT).freeze()
     }
 
-    /// The items whose bytes `Bytes` of any allocator has, of the alignment of an item, copied and
-    /// over-aligned to 256 bytes. Refused as [`Buffer::from_byte_buffer`] is.
+    /// Returns a copy of the items whose bytes are `bytes`, which may have another allocator. The
+    /// new buffer reports the alignment of an item and is over-aligned to 256 bytes. Returns the
+    /// errors of [`Buffer::from_byte_buffer`]. Drops `bytes`, also on error.
     pub fn from_bytes<B: Allocator>(alloc: A, bytes: Bytes<B>) -> Result<Self>
         ensures { ReadsBytes (length bytes) T.SIZE
             (ShowsRead T.SIZE T.form T.is_in_type bytes T.align_exponent) result }
@@ -91,9 +94,10 @@ impl<T: Element, A: Allocator + Clone> Buffer<T, A> {
         Buffer::from_bytes_aligned(alloc, bytes, Alignment::of::<T>())
     }
 
-    /// The items whose bytes `Bytes` of any allocator has, with an alignment, which is at least
-    /// that of an item, copied and over-aligned to 256 bytes. Refused as
-    /// [`Buffer::from_byte_buffer`] is.
+    /// Returns a copy of the items whose bytes are `bytes`, which may have another allocator. The
+    /// new buffer reports `alignment`, which must be at least the alignment of an item, and is
+    /// over-aligned to 256 bytes. Returns the errors of [`Buffer::from_byte_buffer`]. Drops
+    /// `bytes`, also on error.
     pub fn from_bytes_aligned<B: Allocator>(
         alloc: A,
         bytes: Bytes<B>,

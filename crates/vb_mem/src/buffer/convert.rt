@@ -1,4 +1,4 @@
-//! More owners of a buffer, other alignments, and items to be written.
+//! More owners of a buffer, other alignments, and conversions to a growing buffer.
 ghost use Rattle.std.specs.Prelude.{◌≡◌, ◌≤◌, IfOk, IfErr, IsOk, IsOkAnd, IsErrOf, IsOkUnless};
 ghost use Rattle.std.specs.Borrow.{sem};
 ghost use Rattle.vb_mem.specs.Makes.{Makes};
@@ -16,9 +16,9 @@ use std::rc::Rc;
 use vb_core::{Alignment, BufferError, Element};
 
 impl<T: Element, A: Allocator> Buffer<T, A> {
-    /// The same items, to be changed, moved to the front of their storage, where no other buffer
-    /// shares it; else the buffer is given back. It takes no memory, and constant time but for the
-    /// move of items that don't begin the storage.
+    /// Returns the same items as a growing buffer if no other buffer shares the storage; otherwise
+    /// it returns this buffer as the error. Does not allocate. Takes constant time, unless it has
+    /// to move the items to the start of their storage.
     pub fn try_into_mut(self) -> Result<BufferMut<T, A>, Self>
         ensures ok { IfOk result (Holds self.list self.alignment self.declared) }
         ensures err { IfErr result (λ b. b ≡ self) }
@@ -43,9 +43,9 @@ impl<T: Element, A: Allocator> Buffer<T, A> {
         }
     }
 
-    /// The same buffer with another alignment, which is at least that of an item. It takes no
-    /// memory. Refused by `NotAligned` exactly where [`Buffer::is_aligned`] is false of it; the
-    /// buffer is gone then.
+    /// Returns the same buffer with `alignment` as its reported alignment, which must be at least
+    /// the alignment of an item. Does not allocate. Returns `NotAligned` exactly if
+    /// [`Buffer::is_aligned`] is false for it, and drops the buffer then.
     pub fn ensure_aligned(self, alignment: Alignment) -> Result<Self>
         requires { T.align_exponent ≤ alignment }
         ensures ok { IfOk result (Shows self.list alignment self.place self.declared) }
@@ -64,7 +64,7 @@ impl<T: Element, A: Allocator> Buffer<T, A> {
     }
 }
 
-/// One more owner, as [`Buffer::clone`] makes it, for code over std's trait.
+/// Makes another owner, as [`Buffer::clone`] does, for code that uses std's trait.
 impl<T: Element, A: Allocator + Clone> Clone for Buffer<T, A> {
     ghost is_clone = { λ b copy. copy ≡ b };
 
@@ -79,22 +79,22 @@ impl<T: Element, A: Allocator + Clone> Clone for Buffer<T, A> {
 }
 
 impl<T: Element, A: Allocator + Clone> Buffer<T, A> {
-    /// One more owner of the same items, in constant time and without memory for the storage.
-    /// Refused by `OutOfMemory` where a copy of the allocator finds no memory, or the storage has
-    /// as many owners as can be counted.
+    /// Returns another owner of the same items, in constant time. Does not allocate memory for the
+    /// storage. Returns `OutOfMemory` if cloning the allocator runs out of memory, or if the
+    /// storage already has the maximum number of owners.
     pub fn clone(&self) -> Result<Self>
         ensures { Makes (λ b. b ≡ self.now) result }
     {
         Ok(Clone::clone(self)?)
     }
 
-    /// The same items as a growing buffer that reports the same alignment. All other buffers keep
-    /// their items.
+    /// Returns the same items as a growing buffer that reports the same alignment. All other
+    /// buffers keep their items.
     ///
-    /// Where no other buffer shares the storage, the call takes no memory: the items are moved to
-    /// the front of the storage, unless they stand there, and what stood beside them is dropped.
-    /// Where another one does, the items are copied, over-aligned to 256 bytes. Refused by
-    /// `OutOfMemory` where the copy finds no memory; the buffer is gone then.
+    /// If no other buffer shares the storage, the call does not allocate: it moves the items to the
+    /// start of the storage, unless they are already there, and drops the items around them. If
+    /// another buffer shares the storage, the call copies the items, over-aligned to 256 bytes.
+    /// Returns `OutOfMemory` if memory for the copy runs out, and drops this buffer then.
     pub fn into_mut(self) -> Result<BufferMut<T, A>>
         ensures { Makes (λ b. KeepsItems self (as_shared b)) result }
     {
@@ -109,10 +109,11 @@ impl<T: Element, A: Allocator + Clone> Buffer<T, A> {
         }
     }
 
-    /// The same items with another alignment, which is at least that of an item. Where
-    /// [`Buffer::is_aligned`] holds of it, the buffer keeps its storage, takes no memory and isn't
-    /// refused; else the items are copied, over-aligned to 256 bytes. Refused by `OutOfMemory`;
-    /// the buffer is gone then.
+    /// Returns the same items with `alignment` as the reported alignment, which must be at least
+    /// the alignment of an item. If [`Buffer::is_aligned`] is true for it, the buffer keeps its
+    /// storage, and the call does not allocate and does not fail. Otherwise it copies the items,
+    /// over-aligned to 256 bytes. Returns `OutOfMemory` if memory for the copy runs out, and drops
+    /// the buffer then.
     pub fn aligned(self, alignment: Alignment) -> Result<Self>
         requires { T.align_exponent ≤ alignment }
         ensures ok { IfOk result (λ b. (b.list ≡ self.list) × (b.alignment ≡ alignment)) }
@@ -130,20 +131,22 @@ impl<T: Element, A: Allocator + Clone> Buffer<T, A> {
         copy?.freeze()
     }
 
-    /// Lends the items as a growing buffer of the same items and reported alignment, in which items
-    /// can be written, added and dropped. The reported alignment is what [`Buffer::alignment`]
-    /// answers. The declared one, which is at least that, stays where the storage does; that of a
-    /// copy is 256 bytes, or the reported one if that is greater. When the loan ends, this buffer
-    /// has the items and both alignments that the growing one has then, and its items begin the
-    /// storage. All other buffers keep their items.
+    /// Lends the items as a growing buffer with the same items and reported alignment. The borrower
+    /// can write, append and remove items. The reported alignment is the one that
+    /// [`Buffer::alignment`] returns. The declared alignment is at least that. It does not change
+    /// if the storage does not; a copy is declared with 256 bytes, or with the reported alignment
+    /// if that is greater. When the loan ends, this buffer has the items and both alignments that
+    /// the growing buffer has then, and its items are at the start of the storage. All other
+    /// buffers keep their items.
     ///
-    /// Where no other buffer shares the storage, the call takes no memory: the items are moved to
-    /// the front of the storage, in time linear in their number, and what stood beside them is
-    /// dropped. Where another one does, or this buffer is empty and has no storage, memory is taken
-    /// by one request for a copy of the items, if there are any, and one for its count of owners.
+    /// If no other buffer shares the storage, the call does not allocate: it moves the items to the
+    /// start of the storage, in time linear in their number, and drops the items around them. If
+    /// another buffer does, or if this buffer is empty and has no storage, the call allocates once
+    /// for a copy of the items, if there are any, and once for the count of owners.
     ///
-    /// Refused by `OutOfMemory` alone; the buffer is unchanged then, and `writes_back` says so of
-    /// the items and the reported alignment. That a lone owner isn't refused no clause says.
+    /// Returns `OutOfMemory` if memory runs out. The buffer is unchanged on error; clause
+    /// `writes_back` proves this of the items and the reported alignment. No clause proves that the
+    /// call succeeds if the buffer is the only owner.
     pub fn items_mut(&mut self) -> Result<&mut BufferMut<T, A>>
         ensures* writes_back { sem 𝓛 (LendsAll T.row A.row T.Element A.Allocator
             self.entry result) }

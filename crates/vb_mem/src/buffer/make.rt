@@ -1,4 +1,5 @@
-//! Buffers made from nothing, of equal items, of copies and of what grew.
+//! Constructors from nothing, from equal items, from copies, from iterators and from growing
+//! buffers.
 ghost use Rattle.std.specs.Prelude.{◌≡◌, ◌≤◌, length, List, [], replicate, IfOk};
 ghost use Rattle.std.specs.Iterator.{Drains, IsFiniteIterable};
 ghost use Rattle.vb_mem.specs.Makes.{Makes};
@@ -15,7 +16,8 @@ use std::rc::Rc;
 use vb_core::{Alignment, Element, TrustedLen};
 
 impl<T: Element, A: Allocator> Buffer<T, A> {
-    /// No items and no storage, of the alignment of an item. It takes no memory.
+    /// Returns a buffer without items and storage that reports the alignment of an item. Does not
+    /// allocate.
     pub fn empty(alloc: A) -> Self
         ensures list { result.list ≡ [] }
         ensures alignment { result.alignment ≡ T.align_exponent }
@@ -23,8 +25,8 @@ impl<T: Element, A: Allocator> Buffer<T, A> {
         Buffer::empty_aligned(alloc, Alignment::of::<T>())
     }
 
-    /// No items and no storage, with an alignment, which is at least that of an item. It takes no
-    /// memory.
+    /// Returns a buffer without items and storage that reports `alignment`, which must be at least
+    /// the alignment of an item. Does not allocate.
     pub fn empty_aligned(alloc: A, alignment: Alignment) -> Self
         requires { T.align_exponent ≤ alignment }
         ensures list { result.list ≡ [] }
@@ -38,15 +40,16 @@ impl<T: Element, A: Allocator> Buffer<T, A> {
 }
 
 impl<T: Element, A: Allocator + Clone> Buffer<T, A> {
-    /// A copy of a slice, as a block, over-aligned to 256 bytes. Refused by `OutOfMemory`.
+    /// Returns a copy of `items`, copied as one block and over-aligned to 256 bytes. Returns
+    /// `OutOfMemory` if memory runs out.
     pub fn copy_from(alloc: A, items: &[T]) -> Result<Self>
         ensures { Makes (ShowsMade items.now T.align_exponent) result }
     {
         BufferMut::copy_from(alloc, items)?.freeze()
     }
 
-    /// A copy of a slice with an alignment, which is at least that of an item, over-aligned to 256
-    /// bytes. Refused by `OutOfMemory`.
+    /// Returns a copy of `items` that reports `alignment`, which must be at least the alignment of
+    /// an item, and is over-aligned to 256 bytes. Returns `OutOfMemory` if memory runs out.
     pub fn copy_from_aligned(alloc: A, items: &[T], alignment: Alignment) -> Result<Self>
         requires { T.align_exponent ≤ alignment }
         ensures { Makes (ShowsMade items.now alignment) result }
@@ -54,8 +57,9 @@ impl<T: Element, A: Allocator + Clone> Buffer<T, A> {
         BufferMut::copy_from_aligned(alloc, items, alignment)?.freeze()
     }
 
-    /// A copy of a slice with an alignment, which is at least that of an item, over-aligned to the
-    /// preferred alignment. Refused by `OutOfMemory`.
+    /// Returns a copy of `items` that reports `alignment`, which must be at least the alignment of
+    /// an item. The storage is declared with `preferred`, or with `alignment` if that is greater or
+    /// `preferred` is `None`. Returns `OutOfMemory` if memory runs out.
     pub fn copy_from_preferred_aligned(
         alloc: A,
         items: &[T],
@@ -68,15 +72,15 @@ impl<T: Element, A: Allocator + Clone> Buffer<T, A> {
         BufferMut::copy_from_preferred_aligned(alloc, items, alignment, preferred)?.freeze()
     }
 
-    /// `len` zeros, over-aligned to 256 bytes. Refused by `OutOfMemory`.
+    /// Returns `len` zeros, over-aligned to 256 bytes. Returns `OutOfMemory` if memory runs out.
     pub fn zeroed(alloc: A, len: usize) -> Result<Self>
         ensures { Makes (ShowsMade (replicate len T.zero) T.align_exponent) result }
     {
         BufferMut::zeroed(alloc, len)?.freeze()
     }
 
-    /// `len` zeros with an alignment, which is at least that of an item, over-aligned to 256 bytes.
-    /// Refused by `OutOfMemory`.
+    /// Returns `len` zeros. The buffer reports `alignment`, which must be at least the alignment of
+    /// an item, and is over-aligned to 256 bytes. Returns `OutOfMemory` if memory runs out.
     pub fn zeroed_aligned(alloc: A, len: usize, alignment: Alignment) -> Result<Self>
         requires { T.align_exponent ≤ alignment }
         ensures { Makes (ShowsMade (replicate len T.zero) alignment) result }
@@ -84,8 +88,9 @@ impl<T: Element, A: Allocator + Clone> Buffer<T, A> {
         BufferMut::zeroed_aligned(alloc, len, alignment)?.freeze()
     }
 
-    /// `len` zeros with an alignment, which is at least that of an item, over-aligned to the
-    /// preferred alignment. Refused by `OutOfMemory`.
+    /// Returns `len` zeros. The buffer reports `alignment`, which must be at least the alignment of
+    /// an item. The storage is declared with `preferred`, or with `alignment` if that is greater or
+    /// `preferred` is `None`. Returns `OutOfMemory` if memory runs out.
     pub fn zeroed_preferred_aligned(
         alloc: A,
         len: usize,
@@ -99,14 +104,16 @@ impl<T: Element, A: Allocator + Clone> Buffer<T, A> {
         BufferMut::zeroed_preferred_aligned(alloc, len, alignment, preferred)?.freeze()
     }
 
-    /// `len` copies of an item, over-aligned to 256 bytes. Refused by `OutOfMemory`.
+    /// Returns `len` copies of `item`, over-aligned to 256 bytes. Returns `OutOfMemory` if memory
+    /// runs out.
     pub fn full(alloc: A, item: T, len: usize) -> Result<Self>
         ensures { Makes (ShowsMade (replicate len item) T.align_exponent) result }
     {
         BufferMut::full(alloc, item, len)?.freeze()
     }
 
-    /// The items that an iterator gives, over-aligned to 256 bytes. Refused by `OutOfMemory`.
+    /// Returns the items of an iterator, over-aligned to 256 bytes. The caller must prove that the
+    /// iterator ends. Returns `OutOfMemory` if memory runs out.
     pub fn from_iter<I: IntoIterator<Item = T>>(alloc: A, iter: I) -> Result<Self>
         requires { IsFiniteIterable I.into_iter_gives I.IntoIter.can_next
             I.IntoIter.remaining iter }
@@ -118,8 +125,8 @@ impl<T: Element, A: Allocator + Clone> Buffer<T, A> {
         BufferMut::from_iter(alloc, iter)?.freeze()
     }
 
-    /// The items that an iterator of known length gives, over-aligned to 256 bytes. Refused by
-    /// `OutOfMemory`.
+    /// Returns the items of an iterator whose length is known, over-aligned to 256 bytes. Returns
+    /// `OutOfMemory` if memory runs out.
     pub fn from_trusted_len_iter<I: TrustedLen<Item = T>>(alloc: A, iter: I) -> Result<Self>
         requires { I.can_next iter }
         ensures made { Makes (λ b. (items : List T) × Drains I.next_gives iter items
@@ -129,12 +136,13 @@ impl<T: Element, A: Allocator + Clone> Buffer<T, A> {
         BufferMut::from_trusted_len_iter(alloc, iter)?.freeze()
     }
 
-    /// The items of a vector, in its storage: no item is copied. The reported and the declared
-    /// alignment are that of an item.
+    /// Returns the items of a vector in the vector's storage. Copies no item. The reported and the
+    /// declared alignment are the alignment of an item.
     ///
-    /// `alloc` is asked for the block that counts owners, and later for copies of the items. The
-    /// storage stays with the vector's allocator, which growth asks: the only owner can grow the
-    /// storage by [`Buffer::into_mut`]. Refused by `OutOfMemory`; the vector is gone then.
+    /// The buffer uses `alloc` for the block that counts owners, and later for copies of the items.
+    /// The storage keeps the vector's allocator, and growth uses that one: the only owner can grow
+    /// the storage through [`Buffer::into_mut`]. Returns `OutOfMemory` if memory runs out, and
+    /// drops the vector then.
     pub fn from_vec(alloc: A, items: Vec<T, A>) -> Result<Self>
         ensures { Makes (Shows items.items T.align_exponent 0 T.align_exponent) result }
     {
@@ -143,8 +151,8 @@ impl<T: Element, A: Allocator + Clone> Buffer<T, A> {
         Ok(Buffer { content, alloc })
     }
 
-    /// A growing buffer, to be shared, as [`BufferMut::freeze`] does. Refused by `OutOfMemory`;
-    /// the buffer is gone then.
+    /// Converts a growing buffer to one that can be shared, as [`BufferMut::freeze`] does. Returns
+    /// `OutOfMemory` if memory runs out, and drops the growing buffer then.
     pub fn from_mut(growing: BufferMut<T, A>) -> Result<Self>
         ensures { Makes (Shows growing.list growing.alignment 0 growing.declared) result }
     {

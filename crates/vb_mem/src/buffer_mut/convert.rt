@@ -1,4 +1,4 @@
-//! What a growing buffer is turned into.
+//! Conversions from a growing buffer.
 ghost use Rattle.std.specs.Prelude.{◌≡◌, ◌<◌, ◌≤◌, ◌⊎◌, ◌*◌, max, [], length};
 ghost use Rattle.std.specs.Prelude.{IfOk, OnOk, OnErr, IsOkAnd, IsOkUnless};
 ghost use Rattle.vb_bytes.specs.ByteForm.{byteform};
@@ -13,7 +13,7 @@ use std::alloc::{AllocError, Allocator};
 use vb_bytes::bytes_of;
 use vb_core::{Alignment, BufferError, Element};
 
-/// A copy, as [`BufferMut::clone`] makes it, for code over std's trait.
+/// Makes a copy, as [`BufferMut::clone`] does, for code that uses std's trait.
 impl<T: Element, A: Allocator + Clone> Clone for BufferMut<T, A> {
     ghost is_clone = { λ b copy. HoldsMade b.list b.alignment copy };
 
@@ -23,9 +23,9 @@ impl<T: Element, A: Allocator + Clone> Clone for BufferMut<T, A> {
 }
 
 impl<T: Element, A: Allocator + Clone> BufferMut<T, A> {
-    /// Hands out the buffer, and leaves an empty one of the same alignment, over-aligned to 256
-    /// bytes. Refused by `OutOfMemory` where a copy of the allocator finds no memory; the buffer
-    /// is unchanged then.
+    /// Returns the buffer, and leaves an empty one that reports the same alignment, over-aligned to
+    /// 256 bytes. Returns `OutOfMemory` if cloning the allocator runs out of memory; the buffer is
+    /// unchanged on error.
     pub fn take(&mut self) -> Result<Self>
         ensures taken { Makes (λ b. b ≡ self.old) result }
         ensures left { OnOk result (HoldsMade [] self.old.alignment self.new) }
@@ -36,17 +36,19 @@ impl<T: Element, A: Allocator + Clone> BufferMut<T, A> {
         Ok(std::mem::replace(self, empty))
     }
 
-    /// A copy of the same alignment, over-aligned to 256 bytes. Refused by `OutOfMemory`.
+    /// Returns a copy that reports the same alignment, over-aligned to 256 bytes. Returns
+    /// `OutOfMemory` if memory runs out.
     pub fn clone(&self) -> Result<Self>
         ensures { Makes (HoldsMade self.now.list self.now.alignment) result }
     {
         BufferMut::copy_in(self.allocator(), self.as_slice(), self.alignment)
     }
 
-    /// The same items with another alignment, which is at least that of an item. An empty buffer,
-    /// and one that is declared with it or more, keeps its storage, takes no memory and isn't
-    /// refused; else the items are copied, over-aligned to 256 bytes. Refused by `OutOfMemory`;
-    /// the buffer is gone then.
+    /// Returns the same items with `alignment` as the reported alignment, which must be at least
+    /// the alignment of an item. A buffer that is empty, or whose declared alignment is at least
+    /// `alignment`, keeps its storage, and the call does not allocate and does not fail. Otherwise
+    /// it copies the items, over-aligned to 256 bytes. Returns `OutOfMemory` if memory for the copy
+    /// runs out, and drops the buffer then.
     pub fn aligned(self, alignment: Alignment) -> Result<Self>
         requires { T.align_exponent ≤ alignment }
         ensures ok { IfOk result (λ b. (b.list ≡ self.list) × (b.alignment ≡ alignment)) }
@@ -70,16 +72,17 @@ impl<T: Element, A: Allocator + Clone> BufferMut<T, A> {
         Ok(buffer)
     }
 
-    /// The same items, to be shared, in constant time: the storage is handed on, and memory is
-    /// taken for its count of owners alone. Refused by `OutOfMemory`; the buffer is gone then.
+    /// Converts the buffer to one that can be shared, in constant time. The new buffer takes over
+    /// the storage; the call allocates only for the count of owners. Returns `OutOfMemory` if
+    /// memory runs out, and drops the buffer then.
     pub fn freeze(self) -> Result<Buffer<T, A>>
         ensures { Makes (Shows self.list self.alignment 0 self.declared) result }
     {
         Buffer::from_mut(self)
     }
 
-    /// The bytes of the items, of the same alignment, copied and over-aligned to 256 bytes. Refused
-    /// as [`Buffer::as_bytes`] is; the buffer is gone then.
+    /// Returns a copy of the items' bytes as a buffer that reports the same alignment, over-aligned
+    /// to 256 bytes. Returns the errors of [`Buffer::as_bytes`]. Drops this buffer, also on error.
     pub fn into_byte_buffer(self) -> Result<BufferMut<u8, A>>
         ensures { MakesBytes (length self.list * T.SIZE)
             (HoldsMade (byteform T.form self.list) self.alignment) result }

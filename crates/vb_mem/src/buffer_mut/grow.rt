@@ -1,4 +1,4 @@
-//! Growth at the end: of single items, of slices, and of what iterators give.
+//! Growth at the end: by single items, slices and iterators.
 ghost use Rattle.std.specs.Prelude.{◌≡◌, ◌≢◌, ◌+◌, ◌-◌, ◌≤◌, List, [], ◌∷◌, ◌++◌, length, max};
 ghost use Rattle.std.specs.Prelude.{replicate, take, vec_capacity};
 ghost use Rattle.std.specs.Prelude.{OnOk, OnErr, IsOk, IsOkUnless, IfSome};
@@ -15,8 +15,9 @@ use std::alloc::Allocator;
 use vb_core::{BufferError, Element, ExtendError, TrustedLen};
 
 impl<T: Element, A: Allocator> BufferMut<T, A> {
-    /// Makes room for so many more items. Where there is room it takes no memory, succeeds, and the
-    /// capacity stays; else it is refused by `OutOfMemory`, and the buffer is unchanged then.
+    /// Reserves capacity for `additional` more items. If there is capacity already, the call does
+    /// not allocate, succeeds, and the capacity does not change. Otherwise it returns `OutOfMemory`
+    /// if memory runs out; the buffer is unchanged on error.
     pub fn reserve(&mut self, additional: usize) -> Result<()>
         ensures ok { OnOk result (Lengthens [] self.old self.new) }
         ensures room { OnOk result (HasRoom self.new additional) }
@@ -29,8 +30,8 @@ impl<T: Element, A: Allocator> BufferMut<T, A> {
         Ok(())
     }
 
-    /// [`reserve`](Self::reserve) of no more than that: where the capacity grows, it becomes the
-    /// length and so many more.
+    /// Reserves capacity for `additional` more items, as [`reserve`](Self::reserve) does, but no
+    /// more than that: if the capacity grows, it becomes the length plus `additional`.
     pub fn reserve_exact(&mut self, additional: usize) -> Result<()>
         ensures ok { OnOk result (Lengthens [] self.old self.new) }
         ensures room { OnOk result (HasRoom self.new additional) }
@@ -42,9 +43,9 @@ impl<T: Element, A: Allocator> BufferMut<T, A> {
         Ok(())
     }
 
-    /// Adds an item. Within the capacity it takes no memory, succeeds, and the capacity stays; else
-    /// it is refused by `OutOfMemory`, and the buffer is unchanged then. Amortized, the cost of a
-    /// push is constant.
+    /// Appends an item. If there is capacity, the call does not allocate, succeeds, and the
+    /// capacity does not change. Otherwise it returns `OutOfMemory` if memory runs out; the buffer
+    /// is unchanged on error. The amortized cost of a push is constant.
     pub fn push(&mut self, item: T) -> Result<()>
         ensures ok { OnOk result (Lengthens (item ∷ []) self.old self.new) }
         ensures stays { HasRoom self.old 1 → self.new.room ≡ self.old.room }
@@ -55,7 +56,8 @@ impl<T: Element, A: Allocator> BufferMut<T, A> {
         Ok(())
     }
 
-    /// Adds an item, for which there is room. The capacity stays.
+    /// Appends an item. The caller must prove that there is capacity for it. The capacity does not
+    /// change.
     pub fn push_unchecked(&mut self, item: T)
         requires { HasRoom self.old 1 }
         ensures adds { Lengthens (item ∷ []) self.old self.new }
@@ -64,7 +66,9 @@ impl<T: Element, A: Allocator> BufferMut<T, A> {
         self.items.push_reserved(item);
     }
 
-    /// Adds `n` copies of an item. Takes memory and is refused as [`BufferMut::push`] is.
+    /// Appends `n` copies of an item. If there is capacity, the call does not allocate, succeeds,
+    /// and the capacity does not change. Otherwise it returns `OutOfMemory` if memory runs out; the
+    /// buffer is unchanged on error.
     pub fn push_n(&mut self, item: T, n: usize) -> Result<()>
         ensures ok { OnOk result (Lengthens (replicate n item) self.old self.new) }
         ensures stays { HasRoom self.old n → self.new.room ≡ self.old.room }
@@ -75,7 +79,8 @@ impl<T: Element, A: Allocator> BufferMut<T, A> {
         Ok(())
     }
 
-    /// Adds `n` copies of an item, for which there is room. The capacity stays.
+    /// Appends `n` copies of an item. The caller must prove that there is capacity for them. The
+    /// capacity does not change.
     pub fn push_n_unchecked(&mut self, item: T, n: usize)
         requires { HasRoom self.old n }
         ensures adds { Lengthens (replicate n item) self.old self.new }
@@ -84,10 +89,12 @@ impl<T: Element, A: Allocator> BufferMut<T, A> {
         replace_with(&mut self.items, (item, n), with_copies);
     }
 
-    /// Makes it `n` items long: cut, or filled up with copies of an item. Both alignments stay.
+    /// Changes the number of items to `n`: removes items at the end, or appends copies of `item`.
+    /// Both alignments stay the same.
     ///
-    /// Up to the capacity it takes no memory, succeeds, and the capacity stays; else it is refused
-    /// by `OutOfMemory`, and the buffer is unchanged then.
+    /// If `n` is at most the capacity, the call does not allocate, succeeds, and the capacity does
+    /// not change. Otherwise it returns `OutOfMemory` if memory runs out; the buffer is unchanged
+    /// on error.
     pub fn resize(&mut self, n: usize, item: T) -> Result<()>
         ensures ok { OnOk result (Holds
             (take n self.old.list ++ replicate (n - length self.old.list) item)
@@ -104,7 +111,9 @@ impl<T: Element, A: Allocator> BufferMut<T, A> {
         self.push_n(item, n - len)
     }
 
-    /// Adds copies of the items of a slice, as a block. Refused as [`BufferMut::push`] is.
+    /// Appends copies of the items of a slice, as one block. If there is capacity, the call
+    /// succeeds. Otherwise it returns `OutOfMemory` if memory runs out; the buffer is unchanged on
+    /// error.
     pub fn extend_from_slice(&mut self, items: &[T]) -> Result<()>
         ensures ok { OnOk result (Lengthens items.now self.old self.new) }
         ensures needs_room { NeedsRoom (length items.now) result self.old self.new }
@@ -114,12 +123,12 @@ impl<T: Element, A: Allocator> BufferMut<T, A> {
         Ok(())
     }
 
-    /// Adds the items that an iterator gives, which has to end. Within the capacity it takes no
-    /// memory and succeeds.
+    /// Appends the items of an iterator. The caller must prove that the iterator ends. If there is
+    /// capacity for all of them, the call does not allocate and succeeds.
     ///
-    /// Else it may be refused by `OutOfMemory`: the items that came until the capacity was full
-    /// stay then, and the one that found no room is lost. The iterator's hint guides how much room
-    /// is asked for, and decides no answer.
+    /// Otherwise it returns `OutOfMemory` if memory runs out. On error the buffer keeps the items
+    /// up to its capacity, and the item that did not fit is lost. The iterator's size hint affects
+    /// how much memory the call requests, and never its result.
     pub fn extend<I: IntoIterator<Item = T>>(&mut self, iter: I) -> Result<()>
         requires { IsFiniteIterable I.into_iter_gives I.IntoIter.can_next
             I.IntoIter.remaining iter }
@@ -139,14 +148,14 @@ impl<T: Element, A: Allocator> BufferMut<T, A> {
             let Some(item) = over else {
                 return Ok(());
             };
-            // As many as are hinted at, where memory allows it.
+            // The number of items that the hint promises, if memory allows it.
             let hint = end.saturating_sub(self.items.len());
             let _ = self.reserve(if hint > 1 { hint } else { 0 });
             self.push(item)?;
         }
     }
 
-    // Adds what an iterator gives while there is room. Answers the item that found none.
+    // Appends items of an iterator while there is capacity. Returns the item that did not fit.
     fn fill_room<I: Iterator<Item = T>>(&mut self, mut iter: I) -> (Option<T>, I)
         requires can { I.can_next iter }
         requires finite { IsFinite (I.remaining iter) }
@@ -165,8 +174,9 @@ impl<T: Element, A: Allocator> BufferMut<T, A> {
         (over, iter)
     }
 
-    /// Adds the items that an iterator of known length gives, all of them or none. Refused as
-    /// [`BufferMut::push`] is.
+    /// Appends the items of an iterator whose length is known: all of them or none. If there is
+    /// capacity, the call succeeds. Otherwise it returns `OutOfMemory` if memory runs out; the
+    /// buffer is unchanged on error.
     pub fn extend_trusted<I: TrustedLen<Item = T>>(&mut self, iter: I) -> Result<()>
         requires { I.can_next iter }
         ensures ok { OnOk result ((items : List T) × Drains I.next_gives iter items
@@ -181,13 +191,14 @@ impl<T: Element, A: Allocator> BufferMut<T, A> {
         Ok(())
     }
 
-    /// Adds the values that an iterator of known length gives, up to its first error. `Ok` says
-    /// that all its items were values, and that all were added. The iterator has to be one whose
-    /// `next` may be called; `I.left` in the contract is how many items it has still to give.
+    /// Appends the values of an iterator whose length is known, up to its first error. Returns `Ok`
+    /// if all its items were values, and all were appended. The caller must prove that `next` of
+    /// the iterator may be called; in the contract, `I.left` is the number of items that the
+    /// iterator still has.
     ///
-    /// Refused by `Memory` before the first item is asked for, and the buffer is unchanged then;
-    /// within the capacity it takes no memory. Stopped with `Item` at the first error; the values
-    /// before it stay then.
+    /// Returns `Memory`, before it polls the first item, if memory runs out; the buffer is
+    /// unchanged then. If there is capacity, the call does not allocate. Returns `Item` with the
+    /// first error; the values before it are appended.
     pub fn try_extend_trusted<E, I: TrustedLen<Item = Result<T, E>>>(
         &mut self,
         iter: I,
@@ -215,9 +226,9 @@ impl<T: Element, A: Allocator> BufferMut<T, A> {
     }
 }
 
-// The items with so many copies of one behind them, for which there is room. They are moved in and
-// out, so that the compiler makes vectors of the loop; of the call of a vector that adds as many no
-// contract says that its capacity stays.
+// Returns the items followed by copies of one item; there must be capacity for them. The function
+// moves the vector in and out so that the compiler vectorizes the loop. No contract of `Vec`'s own
+// bulk append promises that the capacity does not change.
 fn with_copies<T: Element, A: Allocator>(items: Vec<T, A>, run: (T, usize)) -> (Vec<T, A>, ())
     requires { length items.items + run.1 ≤ vec_capacity items }
     ensures items { result.0.items ≡ items.items ++ replicate run.1 run.0 }

@@ -1,4 +1,4 @@
-//! Buffers made from nothing, of equal items, of copies and of what iterators give.
+//! Constructors from nothing, from equal items, from copies and from iterators.
 ghost use Rattle.std.specs.Prelude.{◌≡◌, ◌≢◌, ◌≤◌, ⊤, List, [], length, replicate, IfOk, Err};
 ghost use Rattle.std.specs.Iterator.{Drains, IsFiniteIterable};
 ghost use Rattle.vb_mem.specs.Makes.{Makes};
@@ -11,15 +11,17 @@ use std::alloc::Allocator;
 use vb_core::{Alignment, Element, ExtendError, TrustedLen};
 
 impl<T: Element, A: Allocator> BufferMut<T, A> {
-    /// Room for `capacity` items, over-aligned to 256 bytes. Refused by `OutOfMemory`.
+    /// Returns an empty buffer with capacity for at least `capacity` items, over-aligned to 256
+    /// bytes. Returns `OutOfMemory` if memory runs out.
     pub fn with_capacity(alloc: A, capacity: usize) -> Result<Self>
         ensures { Makes (λ b. HoldsMade [] T.align_exponent b × (capacity ≤ b.room)) result }
     {
         BufferMut::with_capacity_aligned(alloc, capacity, Alignment::of::<T>())
     }
 
-    /// Room for `capacity` items with an alignment, which is at least that of an item, over-aligned
-    /// to 256 bytes. Refused by `OutOfMemory`.
+    /// Returns an empty buffer with capacity for at least `capacity` items. It reports `alignment`,
+    /// which must be at least the alignment of an item, and is over-aligned to 256 bytes. Returns
+    /// `OutOfMemory` if memory runs out.
     pub fn with_capacity_aligned(alloc: A, capacity: usize, alignment: Alignment) -> Result<Self>
         requires { T.align_exponent ≤ alignment }
         ensures { Makes (λ b. HoldsMade [] alignment b × (capacity ≤ b.room)) result }
@@ -27,9 +29,10 @@ impl<T: Element, A: Allocator> BufferMut<T, A> {
         BufferMut::with_capacity_preferred_aligned(alloc, capacity, alignment, DEFAULT)
     }
 
-    /// An empty buffer with room for at least `capacity` items. It reports `alignment`, which has
-    /// to be at least that of an item. Its storage is declared with the preferred alignment, or
-    /// with `alignment` if that is greater or `None` is preferred. Refused by `OutOfMemory`.
+    /// Returns an empty buffer with capacity for at least `capacity` items. It reports `alignment`,
+    /// which must be at least the alignment of an item. The storage is declared with `preferred`,
+    /// or with `alignment` if that is greater or `preferred` is `None`. Returns `OutOfMemory` if
+    /// memory runs out.
     pub fn with_capacity_preferred_aligned(
         alloc: A,
         capacity: usize,
@@ -45,15 +48,15 @@ impl<T: Element, A: Allocator> BufferMut<T, A> {
         Ok(buffer)
     }
 
-    /// `len` zeros, over-aligned to 256 bytes. Refused by `OutOfMemory`.
+    /// Returns `len` zeros, over-aligned to 256 bytes. Returns `OutOfMemory` if memory runs out.
     pub fn zeroed(alloc: A, len: usize) -> Result<Self>
         ensures { Makes (HoldsMade (replicate len T.zero) T.align_exponent) result }
     {
         BufferMut::zeroed_aligned(alloc, len, Alignment::of::<T>())
     }
 
-    /// `len` zeros with an alignment, which is at least that of an item, over-aligned to 256 bytes.
-    /// Refused by `OutOfMemory`.
+    /// Returns `len` zeros. The buffer reports `alignment`, which must be at least the alignment of
+    /// an item, and is over-aligned to 256 bytes. Returns `OutOfMemory` if memory runs out.
     pub fn zeroed_aligned(alloc: A, len: usize, alignment: Alignment) -> Result<Self>
         requires { T.align_exponent ≤ alignment }
         ensures { Makes (HoldsMade (replicate len T.zero) alignment) result }
@@ -61,8 +64,9 @@ impl<T: Element, A: Allocator> BufferMut<T, A> {
         BufferMut::zeroed_preferred_aligned(alloc, len, alignment, DEFAULT)
     }
 
-    /// `len` zeros with an alignment, which is at least that of an item, over-aligned to the
-    /// preferred alignment. Refused by `OutOfMemory`.
+    /// Returns `len` zeros. The buffer reports `alignment`, which must be at least the alignment of
+    /// an item. The storage is declared with `preferred`, or with `alignment` if that is greater or
+    /// `preferred` is `None`. Returns `OutOfMemory` if memory runs out.
     pub fn zeroed_preferred_aligned(
         alloc: A,
         len: usize,
@@ -78,15 +82,15 @@ impl<T: Element, A: Allocator> BufferMut<T, A> {
         Ok(buffer)
     }
 
-    /// An empty buffer, over-aligned to 256 bytes. It takes no memory.
+    /// Returns an empty buffer, over-aligned to 256 bytes. Does not allocate.
     pub fn empty(alloc: A) -> Self
         ensures { HoldsMade [] T.align_exponent result }
     {
         BufferMut::empty_aligned(alloc, Alignment::of::<T>())
     }
 
-    /// An empty buffer with an alignment, which is at least that of an item, over-aligned to 256
-    /// bytes. It takes no memory.
+    /// Returns an empty buffer that reports `alignment`, which must be at least the alignment of an
+    /// item, and is over-aligned to 256 bytes. Does not allocate.
     pub fn empty_aligned(alloc: A, alignment: Alignment) -> Self
         requires { T.align_exponent ≤ alignment }
         ensures { HoldsMade [] alignment result }
@@ -94,8 +98,9 @@ impl<T: Element, A: Allocator> BufferMut<T, A> {
         BufferMut::empty_preferred_aligned(alloc, alignment, DEFAULT)
     }
 
-    /// An empty buffer with an alignment, which is at least that of an item, over-aligned to the
-    /// preferred one. It takes no memory.
+    /// Returns an empty buffer that reports `alignment`, which must be at least the alignment of an
+    /// item. The storage is declared with `preferred`, or with `alignment` if that is greater or
+    /// `preferred` is `None`. Does not allocate.
     pub fn empty_preferred_aligned(
         alloc: A,
         alignment: Alignment,
@@ -107,7 +112,8 @@ impl<T: Element, A: Allocator> BufferMut<T, A> {
         BufferMut::of_vec(Vec::new(alloc), alignment, preferred)
     }
 
-    // The items of a vector, over-aligned to the preferred alignment.
+    // Returns the items of a vector. The storage is declared with `preferred`, or with `alignment`
+    // if that is greater or `preferred` is `None`.
     pub(crate) fn of_vec(
         items: Vec<T, A>,
         alignment: Alignment,
@@ -123,7 +129,8 @@ impl<T: Element, A: Allocator> BufferMut<T, A> {
         }
     }
 
-    /// `len` copies of an item, over-aligned to 256 bytes. Refused by `OutOfMemory`.
+    /// Returns `len` copies of `item`, over-aligned to 256 bytes. Returns `OutOfMemory` if memory
+    /// runs out.
     pub fn full(alloc: A, item: T, len: usize) -> Result<Self>
         ensures { Makes (HoldsMade (replicate len item) T.align_exponent) result }
     {
@@ -132,15 +139,16 @@ impl<T: Element, A: Allocator> BufferMut<T, A> {
         Ok(buffer)
     }
 
-    /// A copy of a slice, as a block, over-aligned to 256 bytes. Refused by `OutOfMemory`.
+    /// Returns a copy of `items`, copied as one block and over-aligned to 256 bytes. Returns
+    /// `OutOfMemory` if memory runs out.
     pub fn copy_from(alloc: A, items: &[T]) -> Result<Self>
         ensures { Makes (HoldsMade items.now T.align_exponent) result }
     {
         BufferMut::copy_from_aligned(alloc, items, Alignment::of::<T>())
     }
 
-    /// A copy of a slice with an alignment, which is at least that of an item, over-aligned to 256
-    /// bytes. Refused by `OutOfMemory`.
+    /// Returns a copy of `items` that reports `alignment`, which must be at least the alignment of
+    /// an item, and is over-aligned to 256 bytes. Returns `OutOfMemory` if memory runs out.
     pub fn copy_from_aligned(alloc: A, items: &[T], alignment: Alignment) -> Result<Self>
         requires { T.align_exponent ≤ alignment }
         ensures { Makes (HoldsMade items.now alignment) result }
@@ -148,8 +156,9 @@ impl<T: Element, A: Allocator> BufferMut<T, A> {
         BufferMut::copy_from_preferred_aligned(alloc, items, alignment, DEFAULT)
     }
 
-    /// A copy of a slice with an alignment, which is at least that of an item, over-aligned to the
-    /// preferred alignment. Refused by `OutOfMemory`.
+    /// Returns a copy of `items` that reports `alignment`, which must be at least the alignment of
+    /// an item. The storage is declared with `preferred`, or with `alignment` if that is greater or
+    /// `preferred` is `None`. Returns `OutOfMemory` if memory runs out.
     pub fn copy_from_preferred_aligned(
         alloc: A,
         items: &[T],
@@ -164,7 +173,8 @@ impl<T: Element, A: Allocator> BufferMut<T, A> {
         Ok(buffer)
     }
 
-    // The same from a copy of an allocator, and so the caller has no `?` before what it gives up.
+    // Returns a copy of `items` that uses a clone of `alloc`. The clone happens here so that a
+    // caller needs no `?` before it drops its own value.
     pub(crate) fn copy_in(alloc: &A, items: &[T], alignment: Alignment) -> Result<Self>
     where
         A: Clone,
@@ -174,7 +184,8 @@ impl<T: Element, A: Allocator> BufferMut<T, A> {
         BufferMut::copy_from_aligned(alloc.clone()?, items, alignment)
     }
 
-    /// The items that an iterator gives, over-aligned to 256 bytes. Refused by `OutOfMemory`.
+    /// Returns the items of an iterator, over-aligned to 256 bytes. The caller must prove that the
+    /// iterator ends. Returns `OutOfMemory` if memory runs out.
     pub fn from_iter<I: IntoIterator<Item = T>>(alloc: A, iter: I) -> Result<Self>
         requires { IsFiniteIterable I.into_iter_gives I.IntoIter.can_next
             I.IntoIter.remaining iter }
@@ -188,8 +199,8 @@ impl<T: Element, A: Allocator> BufferMut<T, A> {
         Ok(buffer)
     }
 
-    /// What an iterator of known length gives, over-aligned to 256 bytes. `OutOfMemory` comes
-    /// before the first item.
+    /// Returns the items of an iterator whose length is known, over-aligned to 256 bytes. Returns
+    /// `OutOfMemory`, before it polls the first item, if memory runs out.
     pub fn from_trusted_len_iter<I: TrustedLen<Item = T>>(alloc: A, iter: I) -> Result<Self>
         requires { I.can_next iter }
         ensures made { Makes (λ b. (items : List T) × Drains I.next_gives iter items
@@ -201,9 +212,9 @@ impl<T: Element, A: Allocator> BufferMut<T, A> {
         Ok(buffer)
     }
 
-    /// The values that an iterator of known length gives, over-aligned to 256 bytes. Refused by
-    /// `Memory` before the first item is asked for, and by `Item` at the first error. An iterator
-    /// that has nothing to give takes no memory.
+    /// Returns the values of an iterator whose length is known, over-aligned to 256 bytes. Returns
+    /// `Memory`, before it polls the first item, if memory runs out, and `Item` with the first
+    /// error. Does not allocate if the iterator has no items.
     pub fn try_from_trusted_len_iter<E, I: TrustedLen<Item = Result<T, E>>>(
         alloc: A,
         iter: I,

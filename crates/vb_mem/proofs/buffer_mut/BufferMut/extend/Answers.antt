@@ -5,7 +5,7 @@ use Rattle.vb_mem.proofs.Growth.{Lengthens-append, Lengthens-asked}
 use Rattle.vb_mem.proofs.Runs.{Yields-push, Yields-append}
 use Rattle.vb_mem.proofs.buffer_mut.BufferMut.extend.Goals as goal
 
--- an error is no value
+-- an error is not a value
 at_err : {B E : Type 0} (r : Result B E) (P Q : Type 0) → IsErr r → Q
     → MatchResult r (λ _. P) (λ _. Q)
 at_err (Ok _) P Q err q = absurd (search (rules, err))
@@ -20,7 +20,7 @@ loop-item-init g c =
       given = ([], refl, search rules);
     }
 
--- the items that the room took, and then the end
+-- the items for which there was capacity, and then the end
 pub returns-in_default-clause-lengthens : goal.returns-in_default-clause-lengthens
 returns-in_default-clause-lengthens g c =
     let steps = g.I.IntoIter.Iterator.next_gives in
@@ -38,7 +38,7 @@ returns-in_default-clause-lengthens g c =
       (left, (gave.0, run, subst (λ r. steps gave.0 r left) c.in_default.is gave.2)),
     )
 
--- the items that the room took, before memory was refused for the next one
+-- the items for which there was capacity, before the allocation for the next one failed
 pub returns-in_err-push-clause-lengthens
     : goal.returns-in_err-push-clause-lengthens
 returns-in_err-push-clause-lengthens g c =
@@ -63,7 +63,7 @@ returns-in_err-push-clause-lengthens g c =
       at_err c.from_residual.result _ _ c.from_residual.ensures.0 (gave.0, run),
     )
 
--- had there been room for all items, the list would not have been full
+-- if there had been capacity for all items, the list would not have been full
 pub returns-in_err-push-clause-in_place
     : goal.returns-in_err-push-clause-in_place
 returns-in_err-push-clause-in_place g c room =

@@ -3,7 +3,7 @@ use Rattle.std.proofs.iter.runs.Consumers.{count_runs}
 use Rattle.vb_mem.proofs.Runs.{ranges_give_all}
 use Rattle.vb_mem.proofs.buffer_mut.BufferMut.from_iter.Goals as goal
 
--- the calls of `extend` are one run
+-- the calls of `next` that `extend` makes form one run
 pub returns-clause-len : goal.returns-clause-len
 returns-clause-len g c =
     let added = c.in_ok-extend.ensures.lengthens in

@@ -2,7 +2,7 @@ use Rattle.std.proofs.Common.{◌≡◌}
 use Rattle.vb_mem.proofs.Runs.{Yields-push}
 use Rattle.vb_mem.proofs.buffer_mut.BufferMut.try_extend_trusted.Goals as goal
 
--- the values before the error were added, and the calls gave them and then the error
+-- the values before the error were appended, and the calls returned them and then the error
 pub returns-in-Err-clause-item : goal.returns-in-Err-clause-item
 returns-in-Err-clause-item g c =
     let kept = c.loop-item.invariant in

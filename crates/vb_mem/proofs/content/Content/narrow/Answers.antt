@@ -4,7 +4,7 @@ use Rattle.vb_mem.proofs.Windows.{slice_range-window}
 use Rattle.vb_mem.proofs.content.Content.narrow.Goals as goal
 use Rattle.vb_mem.proofs.content.Content.narrow.Goals.{in-Some, in-None}
 
--- the part's window is cut from the one that was shown
+-- the new window is a part of the old window
 pub returns-clause-shows : goal.returns-clause-shows
 returns-clause-shows g c =
     let range = c.args.range in
@@ -31,7 +31,7 @@ returns-clause-shows g c =
           })
     ]
 
--- what was shown lies in the storage, and the part in what was shown
+-- the old window is in bounds of the storage, and the new window is a part of the old one
 pub returns-clause-sound : goal.returns-clause-sound
 returns-clause-sound g c =
     elim c.match-shown.branch [
