@@ -1,4 +1,4 @@
--- What writes of bits make of byte buffers.
+-- The byte buffer after a write of bits.
 use Rattle.std.proofs.Common.{◌≡◌, ℕ, List, ap, sym, ◌∙◌}
 use Rattle.vb_bits.specs.Bits.{bits}
 use Rattle.vb_bits.specs.Operators.{bit_op, combined_by}

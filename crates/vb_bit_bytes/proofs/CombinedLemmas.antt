@@ -8,12 +8,12 @@ use Rattle.vb_bits.specs.Operators.{merged_by}
 use Rattle.vb_bits.proofs.BitsLemmas.{length-bits, at-bits}
 use Rattle.vb_bits.proofs.OperatorsLemmas.{at-merged_by, length-merged_bits}
 
--- each bit of the first m bytes is combined of two others
+-- each bit of the first m bytes is the combination of two bits
 abbrev pub IsMerged : (Bool → Bool → Bool) → List ℕ → List ℕ → List ℕ → ℕ → Type 0
 IsMerged f b l r m = (j i : ℕ) → j < m
     → i < 8 → has_bit (get_or b j 0) i ≡ f (has_bit (get_or l j 0) i) (has_bit (get_or r j 0) i)
 
--- windows of the bytes
+-- any window of the bytes
 pub bits-merged_bytes : (f : Bool → Bool → Bool) (b l r : List ℕ) (m o n : ℕ)
     → IsMerged f b l r m → o + n ≤ 8 * m → bits b o n ≡ merged_by f (bits l o n) (bits r o n)
 bits-merged_bytes f b l r m o n is within =

@@ -1,4 +1,4 @@
--- Items of an iterator as digits of words.
+-- The items of an iterator as digits of words.
 use Rattle.std.proofs.Common.{◌≡◌, ℕ, ◌+◌, ◌-◌, ◌*◌, ◌≤◌, List, ◌++◌, length, take, sym, ap, ◌∙◌}
 use Rattle.std.proofs.Common.{arith}
 use Rattle.std.specs.Int.{w64, to_le_bytes}
@@ -19,7 +19,7 @@ take-digits w i n h =
     ∙ ap (λ k. take k (digits w 0 i ++ digits w (0 + i) (n - i))) (sym (length-digits w 0 i))
     ∙ take-append_seam (digits w 0 i) (digits w (0 + i) (n - i)))
 
--- the front bytes of a word behind other bytes
+-- the first bytes of a word, appended to other bytes
 pub bits-push_digits : (b c : List ℕ) (w n m : ℕ) → c ≡ b ++ take m (to_le_bytes w64 w)
     → n ≤ 8 * m → n ≤ 64 → bits c 0 (8 * length b + n) ≡ bits b 0 (8 * length b) ++ digits w 0 n
 bits-push_digits b c w n m is within small =

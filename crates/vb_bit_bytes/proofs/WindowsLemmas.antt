@@ -1,4 +1,4 @@
--- Windows of other bytes behind some bits.
+-- Windows of other bytes, appended to bits.
 use Rattle.std.proofs.Common.{◌≡◌, inl, inr, ℕ, ◌+◌, ◌-◌, ◌*◌, ◌/◌, ◌%◌, ◌<◌, ◌≤◌, Bool, List, ◌++◌}
 use Rattle.std.proofs.Common.{length, get_or, drop, refl, sym, ap, ◌∙◌, arith}
 use Rattle.std.specs.Prelude.{slice_range}
@@ -11,7 +11,7 @@ use Rattle.vb_bits.proofs.BitsLemmas.{length-bits, at-bits}
 use Rattle.vb_bits.proofs.WindowLemmas.{bit_of-append}
 use Rattle.vb_bits.proofs.WritesLemmas.{Writes-at, Writes_behind}
 
--- bytes are added, and a window is written that ends in them
+-- bytes are appended, and a window that ends in them is written
 pub Writes-pushed : (b x more c : List ℕ) (o : ℕ) (m : List Bool) → more ≡ b ++ x → o ≤ 8 * length b
     → 8 * length b ≤ o + length m → Writes more c o m → Writes (extension b c) c o m
 Writes-pushed b x more c o m is low high w =
@@ -19,7 +19,7 @@ Writes-pushed b x more c o m is low high w =
     (λ i h. w.others i (inl h) ∙ ap (λ y. bit_of y i) is ∙ bit_of-append b x i (omega arith))
     (λ i d h. Writes-at more c o i m d w h)
 
--- bytes of a source are added, and the bits up to them are written
+-- bytes of a source are appended, and the bits before them are written
 pub Writes-pushed_bytes : (b source more c : List ℕ) (o s n t from end : ℕ)
     → more ≡ b ++ slice_range source from end → o + t ≡ 8 * length b → s + t ≡ 8 * from
     → t ≤ n → o + n ≤ 8 * (length b + (end - from)) → end ≤ length source → from ≤ end

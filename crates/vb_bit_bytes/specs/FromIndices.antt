@@ -1,11 +1,11 @@
--- Sets that are made of the places of their true bits.
+-- Sets made from the indices of their true bits.
 use Rattle.std.specs.Prelude.{◌≡◌, ℕ, ◌⊎◌, Option}
 use Rattle.vb_bits.specs.Marks.{FirstNotBelow}
 use Rattle.vb_core.specs.declared.error.BufferError.{BufferError}
 use Rattle.vb_core.specs.declared.error.BufferError.TheVariants.{OutOfMemory, IndexOutOfRange}
 
--- why a set isn't made of what an iterator gives: want of memory, or the first number that isn't
--- below n
+-- the error of a call that makes a set from the items of an iterator: out of memory, or the first
+-- index that isn't below n
 abbrev pub IndexRefused : {U S : Type 0} → (U → S → Type 0) → (S → Option ℕ → S → Type 0)
     → ℕ → U → BufferError → Type 0
 IndexRefused {S = S} becomes steps n source e =

@@ -1,4 +1,4 @@
-//! Windows combined into bytes of their own.
+//! Windows combined into new bytes.
 ghost use Rattle.std.specs.Prelude.{◌≡◌, ℕ, ◌+◌, ◌*◌, ◌^◌, ◌<◌, ◌≤◌, [], length, IfOk, IsOkUnless};
 ghost use Rattle.std.specs.Int.{div_ceil};
 ghost use Rattle.vb_bits.specs.Bits.{bits};
@@ -12,13 +12,13 @@ use vb_bits::{And, AndNot, BitOp, Merge, Or, Xor};
 use vb_core::{BufferError, Result};
 use vb_mem::ByteBufferMut;
 
-/// Bytes in which the `len` bits from bit `l` on are what `op` makes of those of `left` from there
-/// on, as the left ones, and of those of `right` from bit `r` on: as few as hold them. They are
-/// written to `room`, an empty buffer.
+/// Combines `len` bits of `left` from bit `l` on with `len` bits of `right` from bit `r` on, by
+/// `op`. Returns bytes that hold the result from bit `l` on, as few as hold it. Writes them to
+/// `room`, which the caller must prove to be an empty buffer with capacity for them.
 ///
-/// Where the two windows begin at one bit, each byte is made of two others in one pass; else the
-/// bytes of `left` are copied and combined in place. Where `room` has not as many bytes, memory is
-/// taken for them. Refused by `OutOfMemory` alone; `room` is gone then.
+/// If `l` equals `r`, one pass combines the bytes one by one. Otherwise the function copies the
+/// bytes of `left` and combines them in place. The contract permits only the error `OutOfMemory`,
+/// which drops `room`.
 pub fn combine_into<A: Allocator + Clone>(
     room: ByteBufferMut<A>,
     left: &[u8],
@@ -48,7 +48,8 @@ pub fn combine_into<A: Allocator + Clone>(
     Ok(bytes)
 }
 
-/// Two lists of as many bytes combined, written to an empty buffer that has room for them.
+/// Combines two byte slices of the same length into an empty buffer that has capacity for the
+/// result.
 fn push_combined<A: Allocator + Clone>(
     room: ByteBufferMut<A>,
     left: &[u8],
@@ -71,10 +72,10 @@ fn push_combined<A: Allocator + Clone>(
     }
 }
 
-/// [`push_combined`] by one operator.
+/// Does the work of [`push_combined`] for one operator.
 ///
-/// The buffer is moved in and out, so that no other part of the program can see it meanwhile: its
-/// length then stays in a register, and the compiler makes vectors of the loop.
+/// The buffer is moved in and out, so that no other code can see it in between: its length stays in
+/// a register, and the compiler vectorizes the loop.
 fn push_bytes<M: Merge, A: Allocator + Clone>(
     room: ByteBufferMut<A>,
     left: &[u8],

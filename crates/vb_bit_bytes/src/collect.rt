@@ -1,4 +1,4 @@
-//! Bytes made of what a closure answers, and of lists of truth values.
+//! Bytes made from the results of a closure, and from lists of truth values.
 ghost use Rattle.std.specs.Prelude.{◌≡◌, ◌+◌, ◌*◌, ◌^◌, ◌<◌, ◌≤◌, ◌==◌, not, length, map};
 ghost use Rattle.std.specs.Prelude.{IfOk, IsOkUnless, OnErr};
 ghost use Rattle.std.specs.Int.{div_ceil};
@@ -13,10 +13,10 @@ use vb_core::{BufferError, Result};
 use vb_mem::{ByteBuffer, ByteBufferMut};
 use vb_pack::{collect_bool_bytes, map_bool_bytes, pack_bools, pack_truthy};
 
-/// Bytes whose first `len` bits are what `f` answers at the places from 0 up to `len`, as few as
-/// hold them.
+/// Calls `f` with each index from 0 to `len - 1`, in order, and returns bytes whose first `len`
+/// bits are the results, as few as hold them.
 ///
-/// It takes memory for these bytes. Refused by `OutOfMemory` alone, before the first question.
+/// Allocates these bytes. Returns `OutOfMemory`, before it calls `f`, if memory runs out.
 pub fn collect_bool<A: Allocator + Clone, F: FnMut(usize) -> bool>(
     alloc: A,
     len: usize,
@@ -35,8 +35,8 @@ pub fn collect_bool<A: Allocator + Clone, F: FnMut(usize) -> bool>(
     Ok(bytes)
 }
 
-/// [`collect_bool`] of bytes that can be shared, whose owner takes its memory before the first
-/// question too.
+/// Does the same as [`collect_bool`], but returns bytes that can be shared. It also allocates the
+/// count of owners before it calls `f`.
 pub fn collect_bool_shared<A: Allocator + Clone, F: FnMut(usize) -> bool>(
     alloc: A,
     len: usize,
@@ -55,12 +55,12 @@ pub fn collect_bool_shared<A: Allocator + Clone, F: FnMut(usize) -> bool>(
     Ok(bytes)
 }
 
-/// What `f` answers at the places of the window of `len` bits of `src` from bit `offset` on, asked
-/// with the bit there, as the first bits of `bytes`, which can be shared then. What stood in the
-/// first bytes is written over.
+/// Calls `f` with each index of the window of `len` bits of `src` from bit `offset` on, and with
+/// the bit there. Writes the results to the first `len` bits of `bytes`, and returns these as bytes
+/// that can be shared.
 ///
-/// It takes memory for the count of owners. Refused by `OutOfMemory` alone, before the first
-/// question; the bytes are gone then.
+/// Allocates the count of owners. Returns `OutOfMemory`, before it calls `f`, if memory runs out;
+/// `bytes` is dropped then.
 pub fn map_bool_shared<A: Allocator + Clone, F: FnMut(usize, bool) -> bool>(
     bytes: ByteBufferMut<A>,
     src: &[u8],
@@ -85,8 +85,8 @@ pub fn map_bool_shared<A: Allocator + Clone, F: FnMut(usize, bool) -> bool>(
     Ok(answers)
 }
 
-/// Bytes whose first bits are truth values, as few as hold them, for which it takes memory. Refused
-/// by `OutOfMemory` alone.
+/// Returns bytes whose first bits are `bools`, as few as hold them. Allocates these bytes. Returns
+/// `OutOfMemory` if memory runs out.
 pub fn from_bools<A: Allocator + Clone>(alloc: A, bools: &[bool]) -> Result<ByteBufferMut<A>>
     ensures bits { IfOk result (λ b. bits b.list 0 (length bools.now) ≡ bools.now) }
     ensures len { IfOk result (λ b. length b.list ≡ div_ceil (length bools.now) 8) }
@@ -98,7 +98,8 @@ pub fn from_bools<A: Allocator + Clone>(alloc: A, bools: &[bool]) -> Result<Byte
     Ok(bytes)
 }
 
-/// [`from_bools`] of bytes, each of which is true where it isn't 0.
+/// Returns bytes with one bit for each byte of `truthy`, true if the byte is not 0, as few as hold
+/// the bits. Allocates these bytes. Returns `OutOfMemory` if memory runs out.
 pub fn from_truthy<A: Allocator + Clone>(alloc: A, truthy: &[u8]) -> Result<ByteBufferMut<A>>
     ensures bits { IfOk result (λ b. bits b.list 0 (length truthy.now)
         ≡ map (λ x. not (x == 0)) truthy.now) }

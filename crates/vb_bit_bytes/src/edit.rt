@@ -10,7 +10,7 @@ use std::alloc::Allocator;
 use vb_bits::{BitOp, copy_bits, fill_bits, map_words, set_bit_to, zip_words};
 use vb_mem::ByteBufferMut;
 
-/// Makes bit `i`, which has to lie in the bytes, `v`.
+/// Sets bit `i` to `v`. The bit must be in the bytes.
 pub fn write_bit<A: Allocator + Clone>(bytes: &mut ByteBufferMut<A>, i: usize, v: bool)
     requires { i / 8 < length bytes.old.list }
     ensures bits { Writes bytes.old.list bytes.new.list i (v ∷ []) }
@@ -19,8 +19,8 @@ pub fn write_bit<A: Allocator + Clone>(bytes: &mut ByteBufferMut<A>, i: usize, v
     set_bit_to(bytes.as_mut_slice(), i, v);
 }
 
-/// Makes the bits from `start` up to `end`, which has to lie in the bytes, `v`, whole bytes at
-/// once. Where `end` is at most `start` there are none.
+/// Sets the bits from `start` to `end - 1` to `v`, whole bytes at a time. `end` must be in bounds
+/// of the bytes. If `end` is at most `start`, nothing changes.
 pub fn fill<A: Allocator + Clone>(bytes: &mut ByteBufferMut<A>, start: usize, end: usize, v: bool)
     requires { end ≤ 8 * length bytes.old.list }
     ensures bits { Writes bytes.old.list bytes.new.list start (replicate (end - start) v) }
@@ -29,7 +29,7 @@ pub fn fill<A: Allocator + Clone>(bytes: &mut ByteBufferMut<A>, start: usize, en
     fill_bits(bytes.as_mut_slice(), start, end, v);
 }
 
-/// Negates each of the `len` bits from bit `offset` on, by words of eight bytes.
+/// Negates the `len` bits from bit `offset` on, eight bytes at a time.
 pub fn negate<A: Allocator + Clone>(bytes: &mut ByteBufferMut<A>, offset: usize, len: usize)
     requires window { InBytes bytes.old.list offset len }
     ensures bits { Writes bytes.old.list bytes.new.list offset
@@ -39,8 +39,9 @@ pub fn negate<A: Allocator + Clone>(bytes: &mut ByteBufferMut<A>, offset: usize,
     map_words(bytes.as_mut_slice(), offset, len);
 }
 
-/// Makes each of the `len` bits from bit `offset` on what `op` makes of it, as the left one, and of
-/// that of `right` from bit `start` on, by words whatever the two places are.
+/// Combines the `len` bits from bit `offset` on, as the left operand of `op`, with the `len` bits
+/// of `right` from bit `start` on, and writes the result over the left bits. Processes whole words
+/// at any two offsets.
 pub fn combine<A: Allocator + Clone>(
     bytes: &mut ByteBufferMut<A>,
     offset: usize,
@@ -58,8 +59,8 @@ pub fn combine<A: Allocator + Clone>(
     zip_words(bytes.as_mut_slice(), offset, right, start, len, op);
 }
 
-/// Copies the `len` bits of `from` from bit `start` on to the bits from bit `offset` on, by words
-/// whatever the two places are.
+/// Copies the `len` bits of `from` from bit `start` on to the bits from bit `offset` on. Processes
+/// whole words at any two offsets.
 pub fn copy<A: Allocator + Clone>(
     bytes: &mut ByteBufferMut<A>,
     offset: usize,

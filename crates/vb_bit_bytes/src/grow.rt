@@ -1,4 +1,4 @@
-//! Room, and bits added at the end.
+//! Capacity, and bits appended at the end.
 ghost use Rattle.std.specs.Prelude.{◌≡◌, ◌+◌, ◌*◌, ◌^◌, ◌<◌, ◌≤◌, [], ◌∷◌};
 ghost use Rattle.std.specs.Prelude.{length, max, replicate, IsOk, IsOkUnless, OnOk, OnErr};
 ghost use Rattle.std.specs.Int.{div_ceil};
@@ -10,11 +10,11 @@ use std::alloc::Allocator;
 use vb_core::{BufferError, Result};
 use vb_mem::ByteBufferMut;
 
-/// Adds bit `end`, `v`, behind the bits below it, which lie in the bytes: in one of these, or in a
-/// byte of its own, of whose other bits no clause tells.
+/// Writes bit `end`, `v`, after the bits below `end`, which must be in the bytes. The bit is in one
+/// of these bytes or in a new byte. No clause states the other bits of a new byte.
 ///
-/// Refused by `OutOfMemory` alone; then the bytes and their room are unchanged. Within the room it
-/// takes no memory, succeeds, and the room stays.
+/// Returns `OutOfMemory` if memory runs out; the bytes and the capacity are unchanged then. If
+/// there is capacity, the call does not allocate, succeeds, and the capacity does not change.
 #[tactic(auto, using(crate::proofs::BytesLemmas::edits))]
 pub fn push_bit<A: Allocator + Clone>(
     bytes: &mut ByteBufferMut<A>,
@@ -42,8 +42,9 @@ pub fn push_bit<A: Allocator + Clone>(
     Ok(())
 }
 
-/// [`push_bit`] of a bit for which there has to be room; for a bit whose byte is there there always
-/// is. It takes no memory, and the room stays.
+/// Does the same as [`push_bit`] for a bit for which the caller must prove that there is capacity.
+/// There always is if the bit's byte already exists. Does not allocate, and the capacity does not
+/// change.
 #[tactic(auto, using(crate::proofs::BytesLemmas::edits))]
 pub fn push_bit_unchecked<A: Allocator + Clone>(bytes: &mut ByteBufferMut<A>, end: usize, v: bool)
     requires within { end ≤ 8 * length bytes.old.list }
@@ -60,11 +61,11 @@ pub fn push_bit_unchecked<A: Allocator + Clone>(bytes: &mut ByteBufferMut<A>, en
     }
 }
 
-/// Adds `n` bits `v` from bit `start` on, behind the bits below it, which lie in the bytes: whole
-/// bytes at once. `start + n` has to be a `usize`.
+/// Writes `n` bits `v` from bit `start` on, after the bits below `start`, which must be in the
+/// bytes. Writes whole bytes at a time. `start + n` must fit in `usize`.
 ///
-/// Refused by `OutOfMemory` alone; then the bytes and their room are unchanged. Within the room it
-/// takes no memory, succeeds, and the room stays.
+/// Returns `OutOfMemory` if memory runs out; the bytes and the capacity are unchanged then. If
+/// there is capacity, the call does not allocate, succeeds, and the capacity does not change.
 #[tactic(auto, using(crate::proofs::BytesLemmas::edits))]
 pub fn push_bits<A: Allocator + Clone>(
     bytes: &mut ByteBufferMut<A>,
@@ -98,10 +99,10 @@ pub fn push_bits<A: Allocator + Clone>(
     Ok(())
 }
 
-/// Makes room for `end` bits in all.
+/// Reserves capacity for `end` bits in total.
 ///
-/// Refused by `OutOfMemory` alone; then the room is unchanged. Within it it takes no memory,
-/// succeeds, and the room stays.
+/// Returns `OutOfMemory` if memory runs out; the capacity is unchanged then. If there is capacity
+/// already, the call does not allocate, succeeds, and the capacity does not change.
 pub fn reserve_to<A: Allocator + Clone>(bytes: &mut ByteBufferMut<A>, end: usize) -> Result<()>
     ensures keeps { bytes.new ≡ record bytes.old { room = bytes.new.room } }
     ensures grows { bytes.old.room ≤ bytes.new.room }
@@ -118,8 +119,8 @@ pub fn reserve_to<A: Allocator + Clone>(bytes: &mut ByteBufferMut<A>, end: usize
     Ok(())
 }
 
-/// [`reserve_to`] of no more than that: where the room grows, it becomes as few bytes as hold so
-/// many bits.
+/// Reserves capacity for `end` bits in total, as [`reserve_to`] does, but no more than that: if the
+/// capacity grows, it becomes the fewest bytes that hold `end` bits.
 pub fn reserve_exactly_to<A: Allocator + Clone>(
     bytes: &mut ByteBufferMut<A>,
     end: usize,

@@ -1,4 +1,4 @@
-//! Bytes made of places.
+//! Bytes made from indices.
 ghost use Rattle.std.specs.Prelude.{◌≡◌, ◌<◌, All, false, length, replicate, IfOk, IfErr};
 ghost use Rattle.std.specs.Int.{div_ceil};
 ghost use Rattle.std.specs.Iterator.{IsFiniteIterable};
@@ -13,12 +13,12 @@ use vb_bits::set_bits_at;
 use vb_core::{BufferError, Result};
 use vb_mem::{ByteBuffer, ByteBufferMut};
 
-/// Bytes whose first `len` bits are true exactly at the places that an iterator gives, which may
-/// come more than once, as few as hold them.
+/// Returns bytes whose first `len` bits are true exactly at the indices that an iterator returns,
+/// as few bytes as hold the bits. An index may occur more than once.
 ///
-/// It takes memory for these bytes, and for no list of the places. Refused by `OutOfMemory` before
-/// the iterator is asked, else by `IndexOutOfRange` with the first number that isn't below `len`,
-/// behind which it isn't asked. The iterator is gone then.
+/// Allocates these bytes, and no list of the indices. Returns `OutOfMemory`, before it polls the
+/// iterator, if memory runs out. Returns `IndexOutOfRange` with the first index that is not below
+/// `len`, and does not poll the iterator again. The iterator is dropped.
 pub fn from_indices<A: Allocator + Clone, I: IntoIterator<Item = usize>>(
     alloc: A,
     len: usize,
@@ -45,8 +45,8 @@ pub fn from_indices<A: Allocator + Clone, I: IntoIterator<Item = usize>>(
     }
 }
 
-/// [`from_indices`] of bytes that can be shared, whose owner takes its memory before the iterator
-/// is asked too.
+/// Does the same as [`from_indices`], but returns bytes that can be shared. It also allocates the
+/// count of owners before it polls the iterator.
 pub fn from_indices_shared<A: Allocator + Clone, I: IntoIterator<Item = usize>>(
     alloc: A,
     len: usize,

@@ -1,4 +1,4 @@
-//! Bytes made of what an iterator gives.
+//! Bytes made from the items of an iterator.
 ghost use Rattle.std.specs.Prelude.{◌≡◌, ◌+◌, ◌*◌, ◌≤◌, ◌++◌, ◌⊎◌, ⊤, length};
 ghost use Rattle.std.specs.Prelude.{IfOk, MatchResult, IsOkUnless, OnOk};
 ghost use Rattle.std.specs.Int.{div_ceil};
@@ -13,11 +13,11 @@ use vb_core::{BufferError, Result};
 use vb_mem::{BufferMut, ByteBufferMut};
 use vb_pack::pack_bool_word_lanes;
 
-/// What an iterator gives as bits from the first one on, in as few bytes as hold them, and how many
-/// they are. They are packed by 64, and each 64 of them lengthen the bytes once.
+/// Returns bytes whose first bits are the items of an iterator, as few as hold them, and the number
+/// of items. Packs the items 64 at a time, and extends the bytes once for each 64 of them.
 ///
-/// Refused by `TooManyBits` where it gives more than `usize::MAX` items, at the first one past
-/// these, else by `OutOfMemory`. No hint of the iterator is asked for.
+/// Returns `TooManyBits`, at the first item that exceeds `usize::MAX` items, or `OutOfMemory` if
+/// memory runs out. Does not use the iterator's size hint.
 pub fn from_iter<A: Allocator + Clone, I: IntoIterator<Item = bool>>(
     alloc: A,
     iter: I,
@@ -48,8 +48,8 @@ pub fn from_iter<A: Allocator + Clone, I: IntoIterator<Item = bool>>(
     }
 }
 
-/// The next 64 items of an iterator, or those up to its end, as digits of a word, how many they
-/// are, and the iterator behind them.
+/// Returns the next 64 items of an iterator as the digits of a word, or fewer if the iterator ends;
+/// then the number of items, and the rest of the iterator.
 #[inline(always)]
 pub fn next_word<I: Iterator<Item = bool>>(mut iter: I) -> (u64, usize, I)
     requires can { I.can_next iter }
@@ -68,9 +68,9 @@ pub fn next_word<I: Iterator<Item = bool>>(mut iter: I) -> (u64, usize, I)
     (pack_bool_word_lanes(&bools), 64, iter)
 }
 
-/// Adds the `count` lowest digits of a word behind whole bytes, in as few bytes as hold them.
+/// Appends the `count` lowest digits of a word after whole bytes, in as few bytes as hold them.
 ///
-/// Refused by `OutOfMemory` alone.
+/// Returns `OutOfMemory` if memory runs out.
 fn push_digits<A: Allocator + Clone>(
     bytes: &mut ByteBufferMut<A>,
     word: u64,

@@ -1,5 +1,5 @@
-//! Bytes of a slice added at the end, so that the room stays where it suffices: of the buffer's own
-//! call no contract says so.
+//! Appends the bytes of a slice so that the capacity does not change if it is large enough. No
+//! contract promises this of the buffer's own call.
 ghost use Rattle.std.specs.Prelude.{◌≡◌, ◌≤◌, length, OnOk};
 ghost use Rattle.vb_mem.specs.Makes.{NeedsRoom};
 ghost use Rattle.vb_mem.specs.OpenBuffer.{Lengthens, HasRoom};
@@ -9,13 +9,14 @@ use std::alloc::Allocator;
 use vb_core::Result;
 use vb_mem::ByteBufferMut;
 
-/// Up to how many bytes a loop copies as fast as the buffer's own call.
+/// The greatest number of bytes for which a loop is as fast as the buffer's own call.
 const SHORT: usize = 64;
 
-/// Adds copies of the bytes of a slice, as a block where there are more than 64.
+/// Appends copies of the bytes of a slice. More than 64 bytes are copied as one block.
 ///
-/// Refused by `OutOfMemory` alone; then the bytes and their room are unchanged. Within the room it
-/// takes no memory and succeeds; of up to 64 bytes the room stays.
+/// Returns `OutOfMemory` if memory runs out; the bytes and the capacity are unchanged then. If
+/// there is capacity, the call does not allocate and succeeds. If there are at most 64 bytes, the
+/// capacity does not change either.
 pub(crate) fn push_slice<A: Allocator + Clone>(
     bytes: &mut ByteBufferMut<A>,
     added: &[u8],
@@ -33,8 +34,8 @@ pub(crate) fn push_slice<A: Allocator + Clone>(
     Ok(())
 }
 
-/// The bytes with those of a slice behind them, for which there is room. They are moved in and
-/// out, as in `push_bytes`, so that the compiler makes vectors of the loop.
+/// Returns the bytes followed by the bytes of a slice; there must be capacity for them. The buffer
+/// is moved in and out, as in `push_bytes`, so that the compiler vectorizes the loop.
 fn with_slice<A: Allocator + Clone>(bytes: ByteBufferMut<A>, added: &[u8]) -> (ByteBufferMut<A>, ())
     requires { HasRoom bytes (length added.now) }
     ensures added { Lengthens added.now bytes result.0 }

@@ -1,8 +1,8 @@
-//! Bits kept in byte buffers: the steps of which sets of bits are made, edited and grown.
+//! Bits in byte buffers: the steps from which sets of bits are made, edited and grown.
 //!
-//! A bit is named by its place in the bytes, least significant bit first. Places and lengths are
-//! counted in bits. An edit changes the bits that it names and no others, also in the bytes that
-//! these share with others, and takes no memory.
+//! The index of a bit counts from the start of the bytes, least significant bit first. Indices and
+//! lengths are in bits. An edit changes the bits that it names and no other bits of their bytes,
+//! and does not allocate.
 #![tactic(auto)]
 
 mod bytewise;

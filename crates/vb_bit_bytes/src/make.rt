@@ -1,4 +1,4 @@
-//! Bytes that are made of bits, or handed on.
+//! Bytes made from equal bits, and bytes with alignment 1.
 ghost use Rattle.std.specs.Prelude.{◌≡◌, ℕ, ◌<◌, length, replicate, IfOk, IsOkUnless};
 ghost use Rattle.std.specs.Int.{div_ceil};
 ghost use Rattle.vb_bits.specs.Bits.{bits};
@@ -8,8 +8,8 @@ use std::alloc::Allocator;
 use vb_core::{Alignment, BufferError, Result};
 use vb_mem::{BufferMut, ByteBuffer, ByteBufferMut};
 
-/// Bytes whose first `n` bits are all `v`, as few as hold them, for which it takes memory. Refused
-/// by `OutOfMemory` alone.
+/// Returns bytes whose first `n` bits are all `v`, as few as hold them. Allocates these bytes.
+/// Returns `OutOfMemory` if memory runs out.
 #[tactic(auto, using(vb_bits::proofs::WindowLemmas::windows))]
 pub fn full<A: Allocator + Clone>(alloc: A, v: bool, n: usize) -> Result<ByteBufferMut<A>>
     ensures bits { IfOk result (λ b. bits b.list 0 n ≡ replicate n v) }
@@ -20,7 +20,7 @@ pub fn full<A: Allocator + Clone>(alloc: A, v: bool, n: usize) -> Result<ByteBuf
     BufferMut::full(alloc, byte_of(v), n.div_ceil(8))
 }
 
-/// The byte whose bits are all `v`.
+/// Returns the byte whose bits are all `v`.
 #[tactic(auto, using(vb_bits::proofs::WindowLemmas::bytes_of_one))]
 pub(crate) fn byte_of(v: bool) -> u8
     ensures { (i : ℕ) → i < 8 → has_bit result i ≡ v }
@@ -28,7 +28,7 @@ pub(crate) fn byte_of(v: bool) -> u8
     if v { 0xFF } else { 0 }
 }
 
-/// The same bytes, with alignment 1. No memory is taken.
+/// Returns the same bytes with alignment 1. Does not allocate.
 pub fn unaligned<A: Allocator + Clone>(bytes: ByteBuffer<A>) -> ByteBuffer<A>
     ensures list { result.list ≡ bytes.list }
     ensures alignment { result.alignment ≡ 0 }

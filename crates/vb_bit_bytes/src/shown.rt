@@ -1,15 +1,15 @@
-//! Sets as text for people who look for a fault.
+//! Debug text of sets.
 ghost use Rattle.std.specs.Prelude.{◌+◌, ◌*◌, ◌^◌, ◌<◌, ◌≤◌, length};
 ghost use Rattle.vb_bits.specs.InBytes.{InBytes};
 
 use std::fmt;
 use vb_bits::get_bit;
 
-/// How many bits are shown.
+/// The number of bits in the text.
 const SHOWN: usize = 64;
 
-/// Writes a type's name with the first 64 bits of a window as digits, and `..` where there are
-/// more, as `BitBuffer(01101..)`.
+/// Writes a type's name and the first 64 bits of a window as digits, for example
+/// `BitBuffer(01101)`. Writes `..` after the digits if there are more bits.
 pub fn write_bits<W: fmt::Write>(
     f: &mut fmt::Formatter<W>,
     name: &str,

@@ -1,4 +1,4 @@
-//! Bits of other bytes added at the end.
+//! Bits of other bytes appended at the end.
 ghost use Rattle.std.specs.Prelude.{◌≡◌, ◌+◌, ◌*◌, ◌^◌, ◌<◌, ◌≤◌};
 ghost use Rattle.std.specs.Prelude.{length, max, IsOk, IsOkUnless, OnOk, OnErr};
 ghost use Rattle.std.specs.Int.{div_ceil};
@@ -12,12 +12,13 @@ use std::alloc::Allocator;
 use vb_core::{BufferError, Result};
 use vb_mem::ByteBufferMut;
 
-/// Adds the `n` bits of `source` from bit `offset` on behind the bits below bit `start`, which lie
-/// in the bytes, by words; where both begin at one place of their byte, as a copy of bytes.
-/// `start + n` and `offset + n` have to be `usize`.
+/// Writes the `n` bits of `source` from bit `offset` on after the bits below bit `start`, which
+/// must be in the bytes. Processes whole words. If `start` and `offset` are the same modulo 8, it
+/// copies bytes. `start + n` and `offset + n` must fit in `usize`.
 ///
-/// Refused by `OutOfMemory` alone; then the bytes and their room are unchanged. Within the room it
-/// takes no memory and succeeds; of up to 512 bits the room stays.
+/// Returns `OutOfMemory` if memory runs out; the bytes and the capacity are unchanged then. If
+/// there is capacity, the call does not allocate and succeeds. If `n` is at most 512, the capacity
+/// does not change either.
 #[tactic(auto, using(crate::proofs::BytesLemmas::edits))]
 pub fn push_window<A: Allocator + Clone>(
     bytes: &mut ByteBufferMut<A>,

@@ -20,7 +20,7 @@ loop-len-init g c =
       alignment = c.empty-bytes.ensures.alignment;
     }
 
--- the last word that came has the item past all numbers of bits
+-- the last word has the item that exceeds the greatest number of bits
 pub returns-then-len-count-clause-err : goal.returns-then-len-count-clause-err
 returns-then-len-count-clause-err g c =
     let steps = g.I.IntoIter.Iterator.next_gives in
@@ -46,7 +46,7 @@ returns-then-len-count-clause-err g c =
       (start, before ++ digits w 0 n, left, c.into_iter-rest.ensures.into_iter_gives, run, many),
     )
 
--- the last word that came, and then the end
+-- the last word, and then the end of the iterator
 pub returns-then-count-lt64-clause-made : goal.returns-then-count-lt64-clause-made
 returns-then-count-lt64-clause-made g c =
     let steps = g.I.IntoIter.Iterator.next_gives in
