@@ -1,4 +1,4 @@
--- The places of a word at which a closure is called.
+-- The indices of a word with which a closure is called.
 use Rattle.std.proofs.Common.{◌≡◌, inl, inr, ℕ, zero, suc, ◌+◌, ◌-◌, ◌*◌, ◌/◌, ◌%◌, ◌^◌, ◌<◌, ◌≤◌}
 use Rattle.std.proofs.Common.{Bool, not, cond, true, false, ◌&&◌, eqb, List, [], ◌∷◌, ◌++◌, length}
 use Rattle.std.proofs.Common.{get_or, filter, refl}
@@ -29,7 +29,7 @@ use Rattle.vb_walk.proofs.OnesLemmas.{lowest_off}
 use Rattle.vb_walk.proofs.PlacesLemmas.{places_in_none, places_in_cons, places_in_empty}
 use Rattle.vb_walk.proofs.PlacesLemmas.{places_in_first, same_places_in, places-digits}
 
--- places cut in two
+-- indices cut in two
 places_in-add : (t : ℕ → Bool) (a m n : ℕ)
     → places_in t a (m + n) ≡ places_in t a m ++ places_in t (a + m) n
 unfolding places_in
@@ -41,7 +41,7 @@ pub places_in-cut : (t : ℕ → Bool) (a b m n k : ℕ)
 places_in-cut t a b m n k from whole = ap (places_in t a) whole
     ∙ places_in-add t a m k ∙ ap (λ x. places_in t a m ++ places_in t x k) (sym from)
 
--- the first place of a span, and the others
+-- the first index of a span, and the others
 pub span_first : (a n : ℕ) → 0 < n → span a n ≡ a ∷ span (a + 1) (n - 1)
 unfolding span
 span_first a n some = let e : n ≡ suc (n - 1) = omega arith in ap (range_with_len a) e
@@ -51,7 +51,7 @@ pub span_none : (a : ℕ) → span a 0 ≡ []
 unfolding span
 span_none a = refl
 
--- the false places of a window
+-- the indices of the false bits of a window
 pub places_in-holes : (b : List ℕ) (o n : ℕ)
     → places_in (λ i. not (bit_of b (o + i))) 0 n ≡ holes (bits b o n)
 unfolding places places_in
@@ -63,13 +63,13 @@ places_in-holes b o n =
     ∙ ap not (at-bits b o n i false (omega arith))))
     ∙ ap (λ k. filter (at (complement l)) (range_with_len 0 k)) (sym long)
 
--- ---- places whose bit is a given value
+-- ---- indices whose bit is a given value
 -- a bit of the other value
 pub valued_other : (v x : Bool) → x ≡ not v → cond v x (not x) ≡ false
 valued_other true x e = e
 valued_other false x e = ap not e
 
--- a digit of a word whose ones are those digits that are v
+-- a digit of the word whose true digits are the digits equal to v
 pub valued_digit : (v : Bool) (w i : ℕ) → w < 2 ^ 64 → i < 64
     → has_bit (others (not v) w) i ≡ cond v (has_bit w i) (not (has_bit w i))
 valued_digit true w i small h = refl
@@ -79,22 +79,22 @@ pub others_fit : (v : Bool) (w : ℕ) → w < 2 ^ 64 → others (not v) w < 2 ^ 
 others_fit true w small = small
 others_fit false w small = omega arith
 
--- no places among bits of the other value
+-- no indices, if all bits have the other value
 pub places_of_none : (b : List ℕ) (o : ℕ) (v : Bool) (a n : ℕ)
     → ((i : ℕ) → a ≤ i → i < a + n → bit_of b (o + i) ≡ not v) → places_of b o v a n ≡ []
 places_of_none b o v a n others =
     places_in_empty (λ i. cond v (bit_of b (o + i)) (not (bit_of b (o + i)))) a n
     (λ i lo hi. valued_other v (bit_of b (o + i)) (others i lo hi))
 
--- ---- the ones of a word
--- a one is below what the word is below
+-- ---- the true digits of a word
+-- a true digit is below any n with w < 2 ^ n
 pub one_below : (w n i : ℕ) → w < 2 ^ n → has_bit w i ≡ true → i < n
 one_below w n i small one = elim (cases_lt i n) [
   | inl l ↦ l
   | inr g ↦ absurd (false≢true (sym (ap (λ x. eqb x 1) (bit_at_above w n i small g)) ∙ one))
 ]
 
--- a one of a word without its lowest one
+-- a true digit of a word without its lowest true digit
 pub one_of_fewer : (w i : ℕ) → has_bit (bit_and w (w - 1)) i ≡ true → has_bit w i ≡ true
 one_of_fewer w i one = left (has_bit w i) (has_bit (w - 1) i) (sym (has_bit-and w (w - 1) i) ∙ one)
   where
@@ -102,7 +102,7 @@ one_of_fewer w i one = left (has_bit w i) (has_bit (w - 1) i) (sym (has_bit-and 
     left true y e = refl
     left false y e = e
 
--- the ones of a word of n digits
+-- the true digits of a word of n digits
 ones_of-few : (w a n : ℕ) → n ≤ 64 → w < 2 ^ n
     → places_in (λ i. has_bit w (i - a)) a n ≡ ones_of w a
 ones_of-few w a n few small =
@@ -113,7 +113,7 @@ ones_of-few w a n few small =
     sym (places_in-cut t a (a + n) n 64 (64 - n) refl (omega arith)
     ∙ ap (λ l. places_in t a n ++ l) none ∙ append-nil (places_in t a n))
 
--- they are the places of a window whose bit is v, where the digits are what these bits are
+-- these are the indices of a window whose bit is v, if each digit tells whether the bit there is v
 pub places_of-ones : (b : List ℕ) (o : ℕ) (v : Bool) (a n w : ℕ) → n ≤ 64 → w < 2 ^ n
     → ((i : ℕ) → i < n
     → has_bit w i ≡ cond v (bit_of b (o + (a + i))) (not (bit_of b (o + (a + i)))))
@@ -137,7 +137,7 @@ window_cut b o v n first inside =
     ∙ ap (λ l. places_of b o v 0 first ++ l)
     (places_in-cut value first (first + m) m (m + rest) rest refl refl)
 
--- of digits that were read, those that are v, as ones
+-- the digits of a word that was read, replaced by whether each is v
 pub valued_read : (b : List ℕ) (o : ℕ) (v : Bool) (a n r w : ℕ)
     → n ≤ 64 → r < 2 ^ 64 → digits r 0 n ≡ bits b (o + a) n
     → digits w 0 n ≡ digits (others (not v) r) 0 n → (i : ℕ) → i < n
@@ -150,7 +150,8 @@ valued_read b o v a n r w few fits read same i l =
     ∙ ap (has_bit (others (not v) r)) front ∙ valued_digit v r i fits (omega arith)
     ∙ ap (λ x. cond v x (not x)) (has_bit-bits b r (o + a) n i read l ∙ ap (bit_of b) place)
 
--- the places behind those that were passed over: the ones of a word, and those behind it
+-- the indices after the words that the loop skipped: the true digits of the next word, and the
+-- indices after that word
 places_of-other : (b : List ℕ) (o : ℕ) (v : Bool) (at end s : ℕ) (w : OtherWord)
     → o + s ≡ 8 * at → IsOther b at end (not v) w
     → places_of b o v s (8 * (end - at)) ≡ ones_of (others (not v) w.word) (8 * (w.behind - 8) - o)
@@ -175,26 +176,26 @@ places_of-other b o v at end s w from found =
     (8 * (end - w.behind)) (omega (arith, found.from)) refl
     ∙ ap (λ l. l ++ places_of b o v (8 * w.behind - o) (8 * (end - w.behind))) here
 
--- no places where all was passed over
+-- no indices, if the loop skipped all words
 places_of-passed : (b : List ℕ) (o : ℕ) (v : Bool) (at end s : ℕ) → (at < end → o + s ≡ 8 * at)
     → AreAll b (not v) (8 * at) (8 * end) → places_of b o v s (8 * (end - at)) ≡ []
 places_of-passed b o v at end s from passed =
     places_of_none b o v s (8 * (end - at))
     (λ i lo hi. let here = from (omega arith) in passed (o + i) (omega arith) (omega arith))
 
--- ---- of n words from place p on, those that are left from byte `at` on
+-- ---- the indices of n words from index p on that are left from byte `at` on
 module _ (b : List ℕ) (o : ℕ) (v : Bool) (p n : ℕ) where
   abbrev words_end : ℕ
   words_end = (o + p) / 8 + 8 * n
 
-  -- the place of byte `at`
+  -- the index of the first bit of byte `at`
   abbrev place_at : ℕ → ℕ
   place_at at = p + (64 * n - 8 * (words_end - at))
 
   abbrev pub places_left : ℕ → List ℕ
   places_left at = places_of b o v (place_at at) (8 * (words_end - at))
 
-  -- all
+  -- all indices are left at the start
   pub places_left-all : places_left ((o + p) / 8) ≡ places_of b o v p (64 * n)
   places_left-all =
       let all : 8 * (words_end - (o + p) / 8) ≡ 64 * n = omega arith in
@@ -203,14 +204,14 @@ module _ (b : List ℕ) (o : ℕ) (v : Bool) (p n : ℕ) where
       ∙ ap (places_of b o v p) all
 
   module _ (at : ℕ) (from : (o + p) / 8 ≤ at) (whole : 0 < n → (o + p) % 8 ≡ 0) where
-    -- none, where all was passed over
+    -- no indices are left if the loop skipped all words
     pub places_left-passed : at ≤ words_end → AreAll b (not v) (8 * at) (8 * words_end)
         → places_left at ≡ []
     places_left-passed within passed =
         places_of-passed b o v at words_end (place_at at)
         (λ some. omega (arith, from, within, whole (omega arith))) passed
 
-    -- the ones x of the next word with one, and those behind it
+    -- the true digits x of the next word that has one, and the indices after that word
     pub places_left-other : (w : OtherWord) (x : ℕ) → x ≡ others (not v) w.word
         → IsOther b at words_end (not v) w
         → places_left at ≡ ones_of x (8 * (w.behind - 8) - o) ++ places_left w.behind
@@ -224,7 +225,7 @@ module _ (b : List ℕ) (o : ℕ) (v : Bool) (p n : ℕ) where
         ++ places_of b o v a (8 * (words_end - w.behind))) next
         ∙ ap (λ y. ones_of y (8 * (w.behind - 8) - o) ++ places_left w.behind) (sym is)
 
--- all ones
+-- all bits are true
 places_in_all : (t : ℕ → Bool) (a n : ℕ)
     → ((i : ℕ) → a ≤ i → i < a + n → t i ≡ true) → places_in t a n ≡ span a n
 unfolding places_in span
@@ -240,12 +241,12 @@ ones_of-all w a full =
     (λ i lo hi. ap (λ x. has_bit x (i - a)) full
     ∙ ap (λ x. eqb x 1) (bit_at_ones 64 (i - a) (omega arith)))
 
--- no ones
+-- a word without true digits
 pub ones_of_none : (w a : ℕ) → w ≡ 0 → ones_of w a ≡ []
 ones_of_none w a z = places_in_empty (λ i. has_bit w (i - a)) a 64
     (λ i lo hi. ap (λ x. has_bit x (i - a)) z ∙ digits-clear (i - a))
 
--- the lowest one, and the others
+-- the lowest true digit, and the others
 pub ones_of_first : (w a : ℕ) → 0 < w → w < 2 ^ 64
     → ones_of w a ≡ (a + trailing_zeros w64 w) ∷ ones_of (bit_and w (w - 1)) a
 ones_of_first w a some fits =
@@ -261,11 +262,11 @@ ones_of_first w a some fits =
     (λ i lo hi. ap (λ x. eqb x 1) (off.0 (i - a) (omega arith)))
     (λ i lo hi. ap (λ x. eqb x 1) (off.1 (i - a) (omega arith)))
 
--- a word without its lowest one is less
+-- a word without its lowest true digit is smaller
 pub ones_fewer : (w : ℕ) → 0 < w → bit_and w (w - 1) < w
 ones_fewer w some = omega (arith, and_le_r w (w - 1))
 
--- as many places where two tests agree, wherever these begin
+-- two tests that agree select the same number of indices, wherever these begin
 same_length-places_in : (t u : ℕ → Bool) (a b n : ℕ)
     → ((i : ℕ) → i < n → t (a + i) ≡ u (b + i))
     → length (places_in t a n) ≡ length (places_in u b n)
@@ -288,7 +289,7 @@ same_length-places_in t u a b (suc n) same =
     both true p q e = omega (arith, e)
     both false p q e = e
 
--- as many as the word has ones
+-- the number of indices is the number of ones of the word
 pub length-ones_of : (w a : ℕ) → w < 2 ^ 64 → length (ones_of w a) ≡ count_ones w
 length-ones_of w a fits =
     same_length-places_in (λ i. has_bit w (i - a)) (has_bit w) a 0 64

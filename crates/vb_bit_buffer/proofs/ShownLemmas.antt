@@ -1,4 +1,4 @@
--- The text that shows truth values, one value on.
+-- The text of truth values, extended by one value.
 use Rattle.std.proofs.Common.{◌≡◌, ℕ, ◌+◌, ◌<◌, min, Bool, List, [], ◌∷◌, ◌++◌, length, take}
 use Rattle.std.proofs.Common.{slice_get, Some, codes, decimal, ap, ◌∙◌, sym, refl, arith}
 use Rattle.std.proofs.Common.{append_assoc}
@@ -8,7 +8,7 @@ use Rattle.std.proofs.lemmas.Option.{get_or_from_slice_get}
 use Rattle.std.specs.List.{flat_map}
 use Rattle.vb_bits.specs.Shown.{truth_word, truth_words, bits_text}
 
--- nothing stands in front of the first word, and a comma and a space in front of each other one
+-- the first word has no separator before it; each other word has a comma and a space before it
 words_push : (xs : List Bool) (b : Bool) (gap : List ℕ) → (length xs ≡ 0 → gap ≡ [])
     → (0 < length xs → gap ≡ codes ", ")
     → truth_words (xs ++ b ∷ []) ≡ truth_words xs ++ (gap ++ truth_word b)
@@ -30,7 +30,7 @@ words_more xs i b gap s h first other =
     (take_more xs i b h ∙ ap (λ v. take i xs ++ v ∷ []) (get_or_from_slice_get xs i b b s))
     ∙ words_push (take i xs) b gap (λ e. first (omega arith)) (λ l. other (omega arith)))
 
--- the head, the first words and the tail, as they are written one after the other
+-- the head, the first words and the tail, in the order in which they are written
 pub shown_parts : (xs : List Bool) (i : ℕ) → i ≡ min 16 (length xs)
     → ((codes "BitBuffer { len: " ++ (decimal (length xs) ++ codes ", buffer: ["))
     ++ truth_words (take i xs)) ++ codes "] }" ≡ bits_text xs

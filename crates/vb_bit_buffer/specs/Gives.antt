@@ -1,4 +1,4 @@
--- What calls give that combine sets or negate one.
+-- The results of calls that combine two sets or negate one.
 use Rattle.std.specs.Prelude.{◌≡◌, ◌≢◌, ◌+◌, length, Result, IfOk, IsErrOf, IsOkUnless}
 use Rattle.std.specs.Int.{div_ceil}
 use Rattle.vb_bit_buffer.specs.SharedSet.{SharedSet}
@@ -8,8 +8,9 @@ use Rattle.vb_bits.specs.declared.zip.BitOp.{BitOp}
 use Rattle.vb_core.specs.declared.error.BufferError.{BufferError}
 use Rattle.vb_core.specs.declared.error.BufferError.TheVariants.{OutOfMemory, LengthMismatch}
 
--- the bits of two sets of one length are combined place by place, from the left offset on and in no
--- more bytes than hold them, or memory was refused; sets of two lengths are refused, with both
+-- a set with the bits of two sets of the same length, combined index by index. It has the offset of
+-- the left set and as few bytes as hold the bits. `OutOfMemory` is the only error if the lengths
+-- are the same; otherwise the call returns `LengthMismatch` with both lengths
 pub record GivesCombined (op : BitOp) (l r : SharedSet)
     (result : Result SharedSet BufferError) : Type 0 where
   pub ok : IfOk result (λ s. s.bits ≡ combined_by op l.bits r.bits)
@@ -20,8 +21,8 @@ pub record GivesCombined (op : BitOp) (l r : SharedSet)
   pub other_len : length l.bits ≢ length r.bits
       → IsErrOf result (LengthMismatch (length l.bits) (length r.bits))
 
--- each bit is negated, from the same offset on and in no more bytes than hold them, or memory was
--- refused
+-- a set with each bit negated. It has the same offset and as few bytes as hold the bits.
+-- `OutOfMemory` is the only error
 pub record GivesNegated (s : SharedSet) (result : Result SharedSet BufferError) : Type 0 where
   pub ok : IfOk result (λ t. t.bits ≡ complement s.bits)
   pub len : IfOk result (λ t. length t.bits ≡ length s.bits)

@@ -2,8 +2,8 @@
 use Rattle.std.specs.Prelude.{◌≡◌, ℕ, List, ◌∷◌, ◌++◌, Result, Ok, Err}
 use Rattle.std.specs.List.{FoldsTo}
 
--- a closure in the state p was called at the first ones of the places l, the last call answered the
--- error e, those before it none, and it is then in the state q
+-- a closure in state p was called with the first indices of the list l. The last call returned the
+-- error e, the calls before it returned no error, and the closure is then in state q
 module _ {F E : Type 0} (step : F → ℕ → Result (Unit {0}) E → F → Type 0) where
   abbrev pub StopsWith : F → List ℕ → E → F → Type 0
   StopsWith p l e q =

@@ -29,9 +29,9 @@ mod for_each;
 mod operator;
 mod traits;
 
-/// A set of bits whose storage several owners may share, over a byte buffer of alignment 1.
+/// A set of bits over a byte buffer of alignment 1. Several owners may share the storage.
 ///
-/// A contract sees its bits, the offset of the first one, which is below 8, and its bytes.
+/// A contract sees its bits, the offset of the first bit, which is below 8, and its bytes.
 #[derive(Drop)]
 pub struct BitBuffer<A: Allocator + Clone = Global> {
     buffer: ByteBuffer<A>,
@@ -62,8 +62,8 @@ impl<A: Allocator + Clone> Model for BitBuffer<A> {
 
 #[tactic(auto, using(crate::proofs::SetLemmas::sets))]
 impl<A: Allocator + Clone> BitBuffer<A> {
-    /// The first `len` bits of a byte buffer, which have to lie in its bytes. Shares its storage;
-    /// no memory is taken.
+    /// Returns the first `len` bits of a byte buffer as a set. The bits must be in bounds of the
+    /// buffer. The set shares the buffer's storage. Does not allocate.
     pub fn new(buffer: ByteBuffer<A>, len: usize) -> Self
         requires { len ≤ 8 * length buffer.list }
         ensures value { result
@@ -73,9 +73,9 @@ impl<A: Allocator + Clone> BitBuffer<A> {
         BitBuffer::new_with_offset(buffer, len, 0)
     }
 
-    /// The `len` bits of a byte buffer from bit `offset` on. They have to lie in its bytes, and
-    /// `offset + len` has to be a `usize`: `window_fits` is the test. Shares its
-    /// storage, from the byte of the first bit on; no memory is taken.
+    /// Returns the `len` bits of a byte buffer from bit `offset` on as a set. The bits must be in
+    /// bounds of the buffer, and `offset + len` must fit in `usize`; `window_fits` tests both. The
+    /// set shares the buffer's storage, from the byte of the first bit on. Does not allocate.
     pub fn new_with_offset(buffer: ByteBuffer<A>, len: usize, offset: usize) -> Self
         requires window { InBytes buffer.list offset len }
         ensures bits { result.bits ≡ bits buffer.list offset len }
@@ -86,7 +86,8 @@ impl<A: Allocator + Clone> BitBuffer<A> {
         BitBuffer::window_of(unaligned(buffer), len, offset)
     }
 
-    /// [`new_with_offset`](Self::new_with_offset) of a buffer whose alignment is 1 already.
+    /// Does the same as [`new_with_offset`](Self::new_with_offset) for a buffer that already has
+    /// alignment 1.
     fn window_of(buffer: ByteBuffer<A>, len: usize, offset: usize) -> Self
         requires window { InBytes buffer.list offset len }
         requires alignment { buffer.alignment ≡ 0 }
@@ -104,24 +105,24 @@ impl<A: Allocator + Clone> BitBuffer<A> {
         }
     }
 
-    /// `n` bits, all true. It takes memory for their bytes and the count of owners. Refused by
-    /// `OutOfMemory` alone.
+    /// Returns a set of `n` bits, all true. Allocates their bytes and the count of owners. Returns
+    /// `OutOfMemory` if memory runs out.
     pub fn new_set(alloc: A, n: usize) -> Result<Self>
         ensures { Makes (IsFreshSet (replicate n true)) result }
     {
         BitBuffer::full(alloc, true, n)
     }
 
-    /// `n` bits, all false. It takes memory for their bytes and the count of owners. Refused by
-    /// `OutOfMemory` alone.
+    /// Returns a set of `n` bits, all false. Allocates their bytes and the count of owners. Returns
+    /// `OutOfMemory` if memory runs out.
     pub fn new_unset(alloc: A, n: usize) -> Result<Self>
         ensures { Makes (IsFreshSet (replicate n false)) result }
     {
         BitBuffer::full(alloc, false, n)
     }
 
-    /// `n` bits, all `v`. It takes memory for their bytes and the count of owners. Refused by
-    /// `OutOfMemory` alone.
+    /// Returns a set of `n` bits, all `v`. Allocates their bytes and the count of owners. Returns
+    /// `OutOfMemory` if memory runs out.
     pub fn full(alloc: A, v: bool, n: usize) -> Result<Self>
         ensures { Makes (IsFreshSet (replicate n v)) result }
     {
@@ -129,16 +130,16 @@ impl<A: Allocator + Clone> BitBuffer<A> {
         Ok(BitBuffer::window_of(bytes, n, 0))
     }
 
-    /// No bits and no memory.
+    /// Returns a set without bits. Does not allocate.
     pub fn empty(alloc: A) -> Self
         ensures { result ≡ record { bits = []; offset = 0; bytes = [] } }
     {
         BitBuffer::new(Buffer::empty(alloc), 0)
     }
 
-    /// Another owner of the same bits, which shares the storage, in constant time. It takes no
-    /// memory but what a copy of the allocator takes. Refused by `OutOfMemory` alone, where the
-    /// allocator can't be copied, or the storage has as many owners as can be counted.
+    /// Returns another owner of the same bits, which shares the storage, in constant time.
+    /// Allocates nothing but what a clone of the allocator needs. Returns `OutOfMemory` if the
+    /// allocator cannot be cloned, or if the storage already has the maximum number of owners.
     pub fn clone(&self) -> Result<Self>
         ensures { Makes (λ s. s ≡ self.now) result }
     {
@@ -150,12 +151,13 @@ impl<A: Allocator + Clone> BitBuffer<A> {
         })
     }
 
-    /// The bits of a range, which has to be in order and to end within the length. They share the
-    /// storage, in constant time: the answer's bytes are this set's from the byte of the first bit
-    /// to their end, and its offset is below 8. [`shrink_offset`](Self::shrink_offset) leaves those
-    /// of the bits alone. It takes no memory but what a copy of the allocator takes. Refused by
-    /// `OutOfMemory` alone, where the allocator can't be copied, or the storage has as many owners
-    /// as can be counted.
+    /// Returns the bits of `range` as a set that shares the storage, in constant time. The range
+    /// must be in order, and its end must be at most the length. The bytes of the new set are the
+    /// bytes of this one from the byte of the first bit to the end, and its offset is below 8.
+    /// [`shrink_offset`](Self::shrink_offset) removes the bytes after the last bit.
+    ///
+    /// Allocates nothing but what a clone of the allocator needs. Returns `OutOfMemory` if the
+    /// allocator cannot be cloned, or if the storage already has the maximum number of owners.
     pub fn slice(&self, range: Range<usize>) -> Result<Self>
         requires order { range.start ≤ range.end }
         requires within { range.end ≤ length self.now.bits }
@@ -167,8 +169,8 @@ impl<A: Allocator + Clone> BitBuffer<A> {
         Ok(BitBuffer::window_of(buffer, range.end - range.start, self.offset + range.start))
     }
 
-    /// The same bits, at the same offset, with the bytes in which they lie and no others. It takes
-    /// constant time and no memory.
+    /// Returns the same bits at the same offset, with as few bytes as hold them. Takes constant
+    /// time and does not allocate.
     pub fn shrink_offset(self) -> Self
         ensures bits { result.bits ≡ self.bits }
         ensures offset { result.offset ≡ self.offset }
@@ -189,9 +191,10 @@ impl<A: Allocator + Clone> BitBuffer<A> {
         }
     }
 
-    /// The same bits at offset 0, with the bytes in which they lie and no others: in the same
-    /// storage where the offset is 0, else in a copy, which takes memory for its bytes and the
-    /// count of their owners, of the set's allocator. Refused by `OutOfMemory` alone.
+    /// Returns the same bits at offset 0, with as few bytes as hold them. If the offset is 0
+    /// already, the new set shares the storage. Otherwise the call copies the bits, and allocates
+    /// the bytes and the count of their owners with the set's allocator. Returns `OutOfMemory` if
+    /// memory runs out.
     pub fn sliced(&self) -> Result<Self>
         ensures { Makes (IsFreshSet self.now.bits) result }
     {
@@ -199,16 +202,16 @@ impl<A: Allocator + Clone> BitBuffer<A> {
         if self.offset == 0 {
             return Ok(same.shrink_offset());
         }
-        // A copy, since this set has the storage too. It is made for its allocator: all of its bits
-        // are written over.
+        // `into_bytes` copies, since this set owns the storage too. The copy provides the
+        // allocation: `copy` overwrites all of its bits.
         let mut bytes = same.into_bytes()?;
         copy(&mut bytes, 0, self.buffer.as_slice(), self.offset, self.len);
         bytes.truncate(self.len.div_ceil(8));
         Ok(BitBuffer::window_of(bytes.freeze()?, self.len, 0))
     }
 
-    /// The bytes in which the bits lie, and no others, for writing: in their storage where no other
-    /// owner has it, else in a copy. Refused by `OutOfMemory` alone.
+    /// Returns the bytes that hold the bits, and no others, for writing: in their storage if this
+    /// set is the only owner, otherwise as a copy. Returns `OutOfMemory` if memory runs out.
     fn into_bytes(self) -> Result<ByteBufferMut<A>>
         ensures window { IfOk result (λ b. IsWindow b.list self.offset self.bits) }
         ensures len { IfOk result (λ b. length b.list
@@ -219,8 +222,8 @@ impl<A: Allocator + Clone> BitBuffer<A> {
         self.shrink_offset().buffer.into_mut()
     }
 
-    /// The offset, the length in bits, and the byte buffer, of which the bits were a window, in
-    /// constant time; no memory is taken. Its alignment is 1.
+    /// Returns the offset, the length in bits, and the byte buffer of which the bits were a window,
+    /// in constant time. Does not allocate. The buffer has alignment 1.
     pub fn into_inner(self) -> (usize, usize, ByteBuffer<A>)
         ensures offset { result.0 ≡ self.offset }
         ensures len { result.1 ≡ length self.bits }
@@ -231,7 +234,7 @@ impl<A: Allocator + Clone> BitBuffer<A> {
         (self.offset, self.len, self.buffer)
     }
 
-    /// Leaves no bits and no bytes, with the offset 0. Other owners keep theirs.
+    /// Removes all bits and bytes, and sets the offset to 0. Other owners keep their bits.
     pub fn clear(&mut self)
         ensures { self.new ≡ record { bits = []; offset = 0; bytes = [] } }
     {
@@ -240,21 +243,21 @@ impl<A: Allocator + Clone> BitBuffer<A> {
         self.len = 0;
     }
 
-    /// How many bits there are.
+    /// Returns the number of bits.
     pub fn len(&self) -> usize
         ensures { result ≡ length self.now.bits }
     {
         self.len
     }
 
-    /// Whether there are no bits.
+    /// Returns whether the set has no bits.
     pub fn is_empty(&self) -> bool
         ensures { result ≡ (length self.now.bits == 0) }
     {
         self.len == 0
     }
 
-    /// The place of the first bit in the bytes, in bits.
+    /// Returns the index of the first bit in the bytes, in bits. It is below 8.
     pub fn offset(&self) -> usize
         ensures value { result ≡ self.now.offset }
         ensures below { result < 8 }
@@ -262,7 +265,7 @@ impl<A: Allocator + Clone> BitBuffer<A> {
         self.offset
     }
 
-    /// The byte buffer, of which the bits are a window. Its alignment is 1.
+    /// Returns the byte buffer of which the bits are a window. It has alignment 1.
     pub fn inner(&self) -> &ByteBuffer<A>
         ensures bytes { result.now.list ≡ self.now.bytes }
         ensures window { IsWindow result.now.list self.now.offset self.now.bits }
@@ -271,8 +274,8 @@ impl<A: Allocator + Clone> BitBuffer<A> {
         &self.buffer
     }
 
-    /// The bytes of the bits, where the offset is 0; otherwise `None`. The bits of the last byte
-    /// past the length may be anything.
+    /// Returns the bytes of the bits if the offset is 0, otherwise `None`. The bits of the last
+    /// byte after the last bit of the set may have any value.
     pub fn byte_aligned_bytes(&self) -> Option<&[u8]>
         ensures aligned { IsSome result ↔ (self.now.offset ≡ 0) }
         ensures bytes { IfSome result (λ bytes. bytes.now
@@ -285,7 +288,7 @@ impl<A: Allocator + Clone> BitBuffer<A> {
         Some(&self.buffer.as_slice()[..self.len.div_ceil(8)])
     }
 
-    /// A view that only reads the bits, in constant time.
+    /// Returns a read-only view of the bits, in constant time.
     pub fn as_view(&self) -> BitBufferView<'_>
         ensures bits { bits_of result ≡ self.now.bits }
         ensures offset { offset_of result ≡ self.now.offset }
@@ -294,7 +297,7 @@ impl<A: Allocator + Clone> BitBuffer<A> {
         BitBufferView::new_with_offset(self.buffer.as_slice(), self.len, self.offset)
     }
 
-    /// The bit at place `i`, which has to be below the length.
+    /// Returns the bit at index `i`, which must be below the length.
     pub fn value(&self, i: usize) -> bool
         requires { i < length self.now.bits }
         ensures { slice_get self.now.bits i ≡ Some result }
@@ -302,22 +305,22 @@ impl<A: Allocator + Clone> BitBuffer<A> {
         get_bit(self.buffer.as_slice(), self.offset + i)
     }
 
-    /// How many bits are true. It reads every byte of the bits once, 64 at a time.
+    /// Returns the number of true bits. Reads each byte of the bits once, 64 bytes at a time.
     pub fn true_count(&self) -> usize
         ensures { result ≡ count self.now.bits }
     {
         self.as_view().true_count()
     }
 
-    /// How many bits are false, at the cost of [`true_count`](Self::true_count).
+    /// Returns the number of false bits, at the cost of [`true_count`](Self::true_count).
     pub fn false_count(&self) -> usize
         ensures { result ≡ count (complement self.now.bits) }
     {
         self.as_view().false_count()
     }
 
-    /// How many of the bits from `start` up to `end`, `end` excluded, are true. It reads the bytes
-    /// of these bits once, 64 at a time.
+    /// Returns the number of true bits from index `start` to `end - 1`. `start` must be at most
+    /// `end`, and `end` at most the length. Reads each byte of these bits once, 64 bytes at a time.
     pub fn count_range(&self, start: usize, end: usize) -> usize
         requires order { start ≤ end }
         requires within { end ≤ length self.now.bits }
@@ -328,8 +331,8 @@ impl<A: Allocator + Clone> BitBuffer<A> {
         self.as_view().slice(start..end).true_count()
     }
 
-    /// The place of the `n`-th true bit, counted from 0; `None` where at most `n` bits are true. It
-    /// counts from the front, 64 bytes at a time, up to the bytes that have it.
+    /// Returns the index of the `n`-th true bit, counted from 0, or `None` if at most `n` bits are
+    /// true. Counts from the start, 64 bytes at a time, up to the bytes that have the bit.
     pub fn select(&self, n: usize) -> Option<usize>
         ensures place { Selects self.now.bits n result }
         ensures each { InvertsCount self.now.bits n result }
@@ -337,8 +340,8 @@ impl<A: Allocator + Clone> BitBuffer<A> {
         self.as_view().select(n)
     }
 
-    /// The place of the `n`-th false bit, counted from 0; `None` where at most `n` bits are false,
-    /// at the cost of [`select`](Self::select).
+    /// Returns the index of the `n`-th false bit, counted from 0, or `None` if at most `n` bits are
+    /// false. It runs at the cost of [`select`](Self::select).
     pub fn select_unset(&self, n: usize) -> Option<usize>
         ensures place { Selects (complement self.now.bits) n result }
         ensures each { InvertsCount (complement self.now.bits) n result }
@@ -346,65 +349,66 @@ impl<A: Allocator + Clone> BitBuffer<A> {
         self.as_view().select_unset(n)
     }
 
-    /// The place of the last true bit; `None` where no bit is true. It reads from the end, in
-    /// blocks of eight words, up to the word that has it.
+    /// Returns the index of the last true bit, or `None` if no bit is true. Reads from the end, in
+    /// blocks of eight words, up to the word that has the bit.
     pub fn last_set_index(&self) -> Option<usize>
         ensures { result ≡ last_place self.now.bits }
     {
         self.as_view().last_set_index()
     }
 
-    /// The place of the first true bit from place `from` on; `None` where there is none, as there
-    /// is none from the end on. It goes by words, from the third on four at once, to that which has
-    /// it. For all true bits, one after the other, [`set_indices`](Self::set_indices) takes less.
+    /// Returns the index of the first true bit at or after `from`, or `None` if there is none;
+    /// there is none if `from` is at least the length. Reads up to the word that has the bit: the
+    /// first two words a word at a time, then four words at once. To visit all true bits,
+    /// [`set_indices`](Self::set_indices) is faster.
     pub fn next_set(&self, from: usize) -> Option<usize>
         ensures { IsNext self.now.bits from result }
     {
         self.as_view().next_set(from)
     }
 
-    /// The place of the first false bit from place `from` on; `None` where there is none, as there
-    /// is none from the end on. It reads as [`next_set`](Self::next_set) does.
+    /// Returns the index of the first false bit at or after `from`, or `None` if there is none;
+    /// there is none if `from` is at least the length. Reads as [`next_set`](Self::next_set) does.
     pub fn next_unset(&self, from: usize) -> Option<usize>
         ensures { IsNext (complement self.now.bits) from result }
     {
         self.as_view().next_unset(from)
     }
 
-    /// The place of the last true bit before place `before`; `None` where there is none. All bits
-    /// are before the length, and before each number above it. It reads as
-    /// [`last_set_index`](Self::last_set_index) does, from place `before` to the front.
+    /// Returns the index of the last true bit below `before`, or `None` if there is none. `before`
+    /// may be greater than the length. Reads as [`last_set_index`](Self::last_set_index) does, from
+    /// index `before` back to the start.
     pub fn previous_set(&self, before: usize) -> Option<usize>
         ensures { IsPrevious self.now.bits before result }
     {
         self.as_view().previous_set(before)
     }
 
-    /// The place of the last false bit before place `before`; `None` where there is none. It reads
-    /// as [`previous_set`](Self::previous_set) does.
+    /// Returns the index of the last false bit below `before`, or `None` if there is none. Reads as
+    /// [`previous_set`](Self::previous_set) does.
     pub fn previous_unset(&self, before: usize) -> Option<usize>
         ensures { IsPrevious (complement self.now.bits) before result }
     {
         self.as_view().previous_unset(before)
     }
 
-    /// Whether a bit is true, as none is of no bits. It reads up to the first true bit, four words
-    /// at once.
+    /// Returns whether any bit is true; false if there are no bits. Reads up to the first true bit,
+    /// four words at once.
     pub fn any_set(&self) -> bool
         ensures { IsTrue result ↔ (0 < count self.now.bits) }
     {
         self.as_view().any_set()
     }
 
-    /// Whether each bit is true, as of no bits. It reads up to the first false bit, four words at
-    /// once.
+    /// Returns whether all bits are true; true if there are no bits. Reads up to the first false
+    /// bit, four words at once.
     pub fn all_set(&self) -> bool
         ensures { IsTrue result ↔ (count self.now.bits ≡ length self.now.bits) }
     {
         self.as_view().all_set()
     }
 
-    /// The bits as truth values, from either end.
+    /// Returns an iterator over the bits, from either end.
     pub fn iter(&self) -> BitIterator<'_>
         ensures value { result ≡ self.now.bits }
         ensures fits { length self.now.bits < 2 ^ 64 }
@@ -412,7 +416,7 @@ impl<A: Allocator + Clone> BitBuffer<A> {
         self.as_view().iter()
     }
 
-    /// The places of the true bits, in ascending order.
+    /// Returns an iterator over the indices of the true bits, in ascending order.
     pub fn set_indices(&self) -> BitIndexIterator<'_>
         ensures value { result ≡ places self.now.bits }
         ensures below { All (λ i. i < length self.now.bits) result }
@@ -423,7 +427,8 @@ impl<A: Allocator + Clone> BitBuffer<A> {
         self.as_view().set_indices()
     }
 
-    /// The runs of true bits, from front to end: where each begins, and the place behind it.
+    /// Returns an iterator over the runs of true bits, from the start to the end of the set. Each
+    /// run is the index of its first bit and the index after its last bit.
     pub fn set_slices(&self) -> BitSliceIterator<'_>
         ensures value { result ≡ runs self.now.bits }
         ensures within { All (λ run. (run.0 < run.1) × (run.1 ≤ length self.now.bits)) result }
@@ -433,15 +438,15 @@ impl<A: Allocator + Clone> BitBuffer<A> {
         self.as_view().set_slices()
     }
 
-    /// The bits as words of 64 bits from the first bit on.
+    /// Returns the bits as words of 64 bits, beginning with the first bit of the set.
     pub fn chunks(&self) -> BitChunks<'_>
         ensures { result ≡ self.now.bits }
     {
         self.as_view().chunks()
     }
 
-    /// The bits as words that begin at whole bytes: eight bytes a word, from the byte of the first
-    /// bit on. Bits outside of the set are 0 in them.
+    /// Returns the bits as words that begin at whole bytes: eight bytes each, from the byte of the
+    /// first bit on. Bits outside the set are 0 in them.
     pub fn unaligned_chunks(&self) -> UnalignedBitChunk<'_>
         ensures { IsCut self.now.offset self.now.bits result }
     {

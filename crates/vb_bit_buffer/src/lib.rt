@@ -1,8 +1,8 @@
-//! Sets of bits whose storage several owners may share: [`BitBuffer`], and views copied into one.
+//! Sets of bits whose storage several owners may share: [`BitBuffer`], and conversions from views.
 //!
 //! A set is a list of truth values: the window of its bytes that begins at bit `offset`, least
-//! significant bit first. Bits outside of the window are never part of an answer. Lengths, offsets
-//! and places are counted in bits; an offset plus a length always is a `usize`.
+//! significant bit first. Bits outside the window never affect a result. Lengths, offsets and
+//! indices are in bits; an offset plus a length always fits in `usize`.
 #![tactic(auto)]
 
 mod bit_buffer;

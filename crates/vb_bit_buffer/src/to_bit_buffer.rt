@@ -1,4 +1,4 @@
-//! Views copied into sets.
+//! Sets copied from views.
 ghost use Rattle.std.specs.Prelude.{ℕ, Bool, List};
 ghost use Rattle.vb_bit_buffer.specs.SharedSet.{HoldsAlone};
 ghost use Rattle.vb_mem.specs.Makes.{Makes};
@@ -11,17 +11,17 @@ use vb_core::Result;
 use vb_mem::ByteBuffer;
 use vb_view::{BitBufferMutView, BitBufferView, BitStore};
 
-/// Bits that can be copied into a set of their own.
+/// Bits that can be copied into a new set.
 pub trait ToBitBuffer {
     // the bits
     ghost bits: { Self → List Bool };
 
-    // the place of the first one in its byte
+    // the index of the first bit in its byte
     ghost offset: { Self → ℕ };
 
-    /// A set of the same bits, over a copy of the bytes in which they lie and of no others. Its
-    /// offset is theirs. It takes memory for these bytes and for the count of owners, of the
-    /// allocator that is handed in. Refused by `OutOfMemory` alone.
+    /// Returns a set of the same bits with the same offset, over a copy of as few bytes as hold
+    /// them. Allocates these bytes and the count of owners with `alloc`. Returns `OutOfMemory` if
+    /// memory runs out.
     fn to_bit_buffer<A: Allocator + Clone>(&self, alloc: A) -> Result<BitBuffer<A>>
         ensures { Makes (HoldsAlone (bits self.now) (offset self.now)) result };
 }

@@ -1,4 +1,4 @@
-//! Sets made of what a closure answers, of lists of truth values, and of what an iterator gives.
+//! Sets made from the results of a closure, from lists of truth values, and from iterators.
 ghost use Rattle.std.specs.Prelude.{◌≡◌, ◌⊎◌, ⊤, false, length, replicate};
 ghost use Rattle.std.specs.Prelude.{◌<◌, All, IfOk, IfErr, MatchResult, OnErr};
 ghost use Rattle.std.specs.Iterator.{IsFiniteIterable};
@@ -18,13 +18,12 @@ use vb_core::{BufferError, Result};
 
 #[tactic(auto, using(crate::proofs::SetLemmas::sets))]
 impl<A: Allocator + Clone> BitBuffer<A> {
-    /// A set, of offset 0, of what `f` answers at the places from 0 up to `len`, `len` excluded.
-    /// `f` is called in order and once at each place, and has to be callable there whatever it
-    /// answered before. 64 answers at a time are packed, by vectors of bytes, the rest bit by bit.
+    /// Calls `f` with each index from 0 to `len - 1`, in order, and returns the results as a set of
+    /// offset 0. The caller must prove that `f` may be called with each index, whatever it returned
+    /// before. Packs the results 64 at a time with byte vectors, and the rest bit by bit.
     ///
-    /// It takes memory for the bytes of the bits, which are as few as hold them, and the count of
-    /// owners. Refused by `OutOfMemory` alone, so says clause `fresh`, and before the first call of
-    /// `f`.
+    /// Allocates as few bytes as hold the bits, and the count of owners. Returns `OutOfMemory`,
+    /// before it calls `f`, if memory runs out; clause `fresh` proves that this is the only error.
     pub fn collect_bool<F: FnMut(usize) -> bool>(alloc: A, len: usize, f: &mut F) -> Result<Self>
         requires { CanAsk (F.pre) (F.step) f.old (span 0 len) }
         ensures answered { IfOk result (λ s.
@@ -37,13 +36,13 @@ impl<A: Allocator + Clone> BitBuffer<A> {
         Ok(BitBuffer::window_of(bytes, len, 0))
     }
 
-    /// A set, of offset 0, of what `f` answers at the places from 0 up to `len`, `len` excluded.
-    /// `f` is called in order and once at each place, and has to be callable there whatever it
-    /// answered before. The code is that of [`collect_bool`](Self::collect_bool): no version is
-    /// picked at run time.
+    /// Calls `f` with each index from 0 to `len - 1`, in order, and returns the results as a set of
+    /// offset 0. The caller must prove that `f` may be called with each index, whatever it returned
+    /// before. Runs the same code as [`collect_bool`](Self::collect_bool): it does not pick a
+    /// version at run time.
     ///
-    /// It takes memory for the bytes of the bits and the count of owners. Refused by `OutOfMemory`
-    /// alone, before the first call of `f`.
+    /// Allocates the bytes of the bits and the count of owners. Returns `OutOfMemory`, before it
+    /// calls `f`, if memory runs out.
     pub fn collect_bool_multiversioned<F: FnMut(usize) -> bool>(
         alloc: A,
         len: usize,
@@ -59,11 +58,12 @@ impl<A: Allocator + Clone> BitBuffer<A> {
         BitBuffer::collect_bool(alloc, len, f)
     }
 
-    /// What `f` answers at each place, asked with the bit there, in order and once each. Full words
-    /// go by vectors of bytes, the rest bit by bit.
+    /// Calls `f` with each index and the bit there, in order and once each, and returns the results
+    /// as a set of offset 0. The caller must prove that `f` may be called with each of them. Packs
+    /// the results of full words with byte vectors, and the rest bit by bit.
     ///
-    /// The answers have a storage of their own: it takes memory for their bytes and the count of
-    /// owners, of this set's allocator. Refused by `OutOfMemory` alone, before the first question.
+    /// The new set has its own storage: the call allocates its bytes and the count of owners with
+    /// this set's allocator. Returns `OutOfMemory`, before it calls `f`, if memory runs out.
     pub fn map_cmp<F: FnMut(usize, bool) -> bool>(&self, f: &mut F) -> Result<Self>
         requires { CanAsk (λ p i. F.pre p i (at self.now.bits i))
             (asked_of F.step self.now.bits)
@@ -75,8 +75,8 @@ impl<A: Allocator + Clone> BitBuffer<A> {
         ensures fresh { Makes (λ s. IsFreshSet s.bits s) result }
         ensures not_asked { OnErr result (f.new ≡ f.old) }
     {
-        // A copy, since this set has the storage too. It is made for its allocator: all of its bits
-        // are written over.
+        // `into_bytes` copies, since this set owns the storage too. The copy provides the
+        // allocation: `map_bool_shared` overwrites all of its bits.
         let mut bytes = self.clone()?.into_bytes()?;
         bytes.truncate(self.len.div_ceil(8));
         let source = self.buffer.as_slice();
@@ -84,8 +84,8 @@ impl<A: Allocator + Clone> BitBuffer<A> {
         Ok(BitBuffer::window_of(answers, self.len, 0))
     }
 
-    /// The truth values of a slice. It takes memory for the bytes of the bits and the count of
-    /// owners. Refused by `OutOfMemory` alone.
+    /// Returns the truth values of a slice as a set. Allocates the bytes of the bits and the count
+    /// of owners. Returns `OutOfMemory` if memory runs out.
     pub fn from_bools(alloc: A, bools: &[bool]) -> Result<Self>
         ensures { Makes (IsFreshSet bools.now) result }
     {
@@ -93,20 +93,20 @@ impl<A: Allocator + Clone> BitBuffer<A> {
         Ok(BitBuffer::window_of(bytes, bools.len(), 0))
     }
 
-    /// The truth values of a vector. It takes memory for the bytes of the bits and the count of
-    /// owners, and gives the vector's back. Refused by `OutOfMemory` alone; the vector is gone then
-    /// too.
+    /// Returns the truth values of a vector as a set, and frees the vector, also on error.
+    /// Allocates the bytes of the bits and the count of owners. Returns `OutOfMemory` if memory
+    /// runs out.
     pub fn from_bool_vec(alloc: A, bools: Vec<bool, A>) -> Result<Self>
         ensures { Makes (IsFreshSet bools.items) result }
     {
         BitBuffer::from_bools(alloc, bools.as_slice())
     }
 
-    /// A set of the items of an iterator, in order. Its size hint isn't asked for: memory is taken
-    /// as the items come.
+    /// Returns the items of an iterator, in order, as a set. The caller must prove that the
+    /// iterator ends. Does not use the iterator's size hint: it allocates as the items come.
     ///
-    /// Refused by `TooManyBits` at the first item past `usize::MAX` of them, else by `OutOfMemory`
-    /// alone; the iterator and the items that it gave are gone then.
+    /// Returns `TooManyBits`, at the first item that exceeds `usize::MAX` items, or `OutOfMemory`
+    /// if memory runs out. Drops the iterator and its items on error.
     pub fn from_iter<I: IntoIterator<Item = bool>>(alloc: A, iter: I) -> Result<Self>
         requires { IsFiniteIterable I.into_iter_gives I.IntoIter.can_next
             I.IntoIter.remaining iter }
@@ -121,13 +121,14 @@ impl<A: Allocator + Clone> BitBuffer<A> {
         Ok(BitBuffer::window_of(bytes.freeze()?, len, 0))
     }
 
-    /// `len` bits, true exactly at the places that an iterator gives, as `[1, 3].into_iter()` or
-    /// `places.iter().copied()`. A place may come more than once.
+    /// Returns a set of `len` bits that is true exactly at the indices that an iterator returns,
+    /// for example `[1, 3].into_iter()` or `indices.iter().copied()`. An index may occur more than
+    /// once. The caller must prove that the iterator ends.
     ///
-    /// It takes memory for the bytes of the bits and the count of owners, and for no list of the
-    /// places. Refused by `OutOfMemory` before the iterator is asked, else by `IndexOutOfRange`
-    /// with the first number that isn't below `len`, behind which it isn't asked. The iterator is
-    /// gone then.
+    /// Allocates the bytes of the bits and the count of owners, and no list of the indices. Returns
+    /// `OutOfMemory`, before it polls the iterator, if memory runs out. Returns `IndexOutOfRange`
+    /// with the first index that is not below `len`, and does not poll the iterator again. Drops
+    /// the iterator.
     pub fn from_indices<I: IntoIterator<Item = usize>>(
         alloc: A,
         len: usize,

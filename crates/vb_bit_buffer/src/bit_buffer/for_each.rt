@@ -1,4 +1,4 @@
-//! Closures called at the bits of a set, in ascending order and once at each, word by word.
+//! Calls a closure once for each bit of a set, in ascending order of indices, word by word.
 ghost use Rattle.std.specs.Prelude.{◌≡◌, ℕ, ◌+◌, ◌*◌, ◌%◌, ◌^◌, ◌<◌, ◌≤◌, true, length, Ok};
 ghost use Rattle.std.specs.Prelude.{MatchResult};
 ghost use Rattle.std.specs.List.{FoldsTo};
@@ -17,8 +17,8 @@ use vb_walk::{first_other, others};
 
 #[tactic(auto, using(crate::proofs::SetLemmas::sets))]
 impl<A: Allocator + Clone> BitBuffer<A> {
-    /// Calls `f` with the place of each true bit, in ascending order. `f` has to be callable at
-    /// each of them. The bits are read by words, and no memory is taken.
+    /// Calls `f` with the index of each true bit, in ascending order. The caller must prove that
+    /// `f` may be called with each of them. Reads the bits by words, and does not allocate.
     pub fn for_each_set_index<F: FnMut(usize)>(&self, f: &mut F)
         requires { CanAsk (F.pre) (F.step) f.old (places self.now.bits) }
         ensures { FoldsTo (λ p i q. F.step p i tt q) f.old (places self.now.bits) f.new }
@@ -26,8 +26,8 @@ impl<A: Allocator + Clone> BitBuffer<A> {
         for_each_place(self.buffer.as_slice(), self.offset, self.len, true, f);
     }
 
-    /// Calls `f` with the place of each false bit, in ascending order. `f` has to be callable at
-    /// each of them. The bits are read by words, and no memory is taken.
+    /// Calls `f` with the index of each false bit, in ascending order. The caller must prove that
+    /// `f` may be called with each of them. Reads the bits by words, and does not allocate.
     pub fn for_each_unset_index<F: FnMut(usize)>(&self, f: &mut F)
         requires { CanAsk (F.pre) (F.step) f.old (holes self.now.bits) }
         ensures { FoldsTo (λ p i q. F.step p i tt q) f.old (holes self.now.bits) f.new }
@@ -35,8 +35,8 @@ impl<A: Allocator + Clone> BitBuffer<A> {
         for_each_place(self.buffer.as_slice(), self.offset, self.len, false, f);
     }
 
-    /// Calls `f` with each place and the bit there, in ascending order. `f` has to be callable at
-    /// each of them. The bits are read by words, and no memory is taken.
+    /// Calls `f` with each index and the bit there, in ascending order. The caller must prove that
+    /// `f` may be called with each of them. Reads the bits by words, and does not allocate.
     pub fn iter_bits<F: FnMut(usize, bool)>(&self, f: &mut F)
         requires { CanAsk (λ p i. F.pre p i (at self.now.bits i))
             (asked_of F.step self.now.bits)
@@ -47,10 +47,10 @@ impl<A: Allocator + Clone> BitBuffer<A> {
         for_each_bit(self.buffer.as_slice(), self.offset, self.len, f);
     }
 
-    /// Calls `f` with the place of each true bit, in ascending order, until a call answers an
-    /// error: that error is the answer, and no later place is visited. `f` has to be callable at
-    /// each of the places, as long as no call answered an error. The bits are read by words, and no
-    /// memory is taken.
+    /// Calls `f` with the index of each true bit, in ascending order, until a call returns an
+    /// error. Returns that error, and does not call `f` again. The caller must prove that `f` may
+    /// be called with each index as long as no call returned an error. Reads the bits by words, and
+    /// does not allocate.
     pub fn try_for_each_set_index<E, F: FnMut(usize) -> Result<(), E>>(
         &self,
         f: &mut F,
@@ -67,9 +67,9 @@ impl<A: Allocator + Clone> BitBuffer<A> {
     }
 }
 
-/// Calls `f` at each place of the window of `len` bits from bit `offset` on whose bit is `value`.
+/// Calls `f` with each index of the window of `len` bits from bit `offset` on whose bit is `value`.
 ///
-/// Its first part ends with a byte, so that words are read from whole bytes.
+/// The first part ends at a byte boundary, so that the words begin with whole bytes.
 #[inline(always)]
 fn for_each_place<F: FnMut(usize)>(bytes: &[u8], offset: usize, len: usize, value: bool, f: &mut F)
     requires window { InBytes bytes.now offset len }
@@ -91,9 +91,8 @@ fn for_each_place<F: FnMut(usize)>(bytes: &[u8], offset: usize, len: usize, valu
     );
 }
 
-/// Calls `f` at those places of so many words from place `base` on, counted from bit `offset`,
-/// whose bit is `value`. The words begin with a byte, and those without such a place are passed
-/// over.
+/// Calls `f` with each index of `words` words from index `base` on whose bit is `value`. Index 0 is
+/// bit `offset`. The words begin at a byte boundary, and the loop skips words without such a bit.
 #[inline(always)]
 fn places_in_words<F: FnMut(usize)>(
     bytes: &[u8],
@@ -118,8 +117,8 @@ fn places_in_words<F: FnMut(usize)>(
     }
 }
 
-/// Calls `f` at those of the `len` places from `base` on, at most 64 and counted from bit `offset`,
-/// whose bit is `value`.
+/// Calls `f` with each of the `len` indices from `base` on whose bit is `value`. Index 0 is bit
+/// `offset`, and there are at most 64 indices.
 #[inline(always)]
 fn places_in_part<F: FnMut(usize)>(
     bytes: &[u8],
@@ -140,8 +139,8 @@ fn places_in_part<F: FnMut(usize)>(
     ones(low_digits(word, len), base, f);
 }
 
-/// [`ones`], where the places of a word that is all ones are counted through, which takes no word
-/// apart.
+/// Does the same as [`ones`], but counts through the indices of a word that is all ones, without
+/// reading its digits.
 #[inline(always)]
 fn ones_or_all<F: FnMut(usize)>(word: u64, base: usize, f: &mut F)
     requires fits { (i : ℕ) → has_bit word i ≡ true → base + i < 2 ^ 64 }
@@ -155,7 +154,7 @@ fn ones_or_all<F: FnMut(usize)>(word: u64, base: usize, f: &mut F)
     }
 }
 
-/// Calls `f` at the 64 places from `base` on.
+/// Calls `f` with the 64 indices from `base` on.
 #[inline(always)]
 fn all<F: FnMut(usize)>(base: usize, f: &mut F)
     requires fits { base + 63 < 2 ^ 64 }
@@ -167,10 +166,10 @@ fn all<F: FnMut(usize)>(base: usize, f: &mut F)
     }
 }
 
-/// Calls `f` at the places of a word's ones, of which the lowest digit has the place `base`.
+/// Calls `f` with the index of each one of a word. The lowest digit has index `base`.
 ///
-/// It goes by their count, which is known before the first call: where many bits are set that takes
-/// less time than to see after each call whether one is left.
+/// The loop counts down the number of ones, which is known before the first call. If many bits are
+/// set, this is faster than a test after each call whether one is left.
 #[inline(always)]
 fn ones<F: FnMut(usize)>(word: u64, base: usize, f: &mut F)
     requires fits { (i : ℕ) → has_bit word i ≡ true → base + i < 2 ^ 64 }
@@ -184,7 +183,7 @@ fn ones<F: FnMut(usize)>(word: u64, base: usize, f: &mut F)
     }
 }
 
-/// Calls `f` at each place of the window, with the bit there.
+/// Calls `f` with each index of the window and the bit there.
 #[inline(always)]
 fn for_each_bit<F: FnMut(usize, bool)>(bytes: &[u8], offset: usize, len: usize, f: &mut F)
     requires window { InBytes bytes.now offset len }
@@ -200,8 +199,8 @@ fn for_each_bit<F: FnMut(usize, bool)>(bytes: &[u8], offset: usize, len: usize, 
     bits_in_word(bytes, offset, 64 * full, len % 64, f);
 }
 
-/// Calls `f` at the `len` places from `base` on, at most 64 and counted from bit `offset`, with the
-/// bit there.
+/// Calls `f` with each of the `len` indices from `base` on and the bit there. Index 0 is bit
+/// `offset`, and there are at most 64 indices.
 #[inline(always)]
 fn bits_in_word<F: FnMut(usize, bool)>(
     bytes: &[u8],

@@ -1,9 +1,10 @@
 //! Sets combined bit by bit, and negated.
 //!
-//! What is answered has the left value's offset, and the bytes of the window alone. Where no other
-//! owner has the storage of an owned left value, its bytes are written over in place, and memory is
-//! taken for the count of owners alone; else they are copied, which takes memory for these too. All
-//! of it is asked of the left value's allocator. Lengths are compared before memory is asked for.
+//! The result has the offset of the left operand, and only the bytes of its window. If the left
+//! operand is passed by value and is the only owner of its storage, the operator overwrites its
+//! bytes in place, and allocates only the count of owners. Otherwise it copies the bytes, and
+//! allocates these too. All memory comes from the left operand's allocator. The operators compare
+//! the lengths before they allocate.
 ghost use Rattle.std.specs.Prelude.{◌≡◌, ◌≢◌, ◌≤◌, [], length, IsOk, IsErrOf};
 ghost use Rattle.vb_bits.specs.Bits.{count};
 ghost use Rattle.vb_bits.specs.Operators.{combined_by};
@@ -22,27 +23,29 @@ use vb_mem::{BufferMut, ByteBufferMut};
 
 #[tactic(auto, using(crate::proofs::SetLemmas::sets))]
 impl<A: Allocator + Clone> BitBuffer<A> {
-    /// The bits that are true here and not in `right`, in bytes of their own: it takes memory for
-    /// the bytes of the window and the count of owners, of this set's allocator. Refused by
-    /// `LengthMismatch` exactly where the lengths differ, else by `OutOfMemory` alone.
+    /// Returns the bits that are true in this set and false in `right`, in new storage. Allocates
+    /// the bytes of the window and the count of owners with this set's allocator. Returns
+    /// `LengthMismatch` exactly if the lengths differ. Otherwise it returns `OutOfMemory` if memory
+    /// runs out.
     pub fn bitand_not(&self, right: &Self) -> Result<Self>
         ensures { GivesCombined BitOp.AndNot self.now right.now result }
     {
         self.combine_with(right, BitOp::AndNot)
     }
 
-    /// The bits that are true here and not in `right`, in the same storage where no other owner
-    /// has it, else in a copy. Memory comes from this set's allocator: for the count of owners, and
-    /// for the bytes of such a copy. Refused by `LengthMismatch` exactly where the lengths differ,
-    /// else by `OutOfMemory` alone; the set is gone then.
+    /// Returns the bits that are true in this set and false in `right`. Overwrites the storage if
+    /// this set is the only owner; otherwise it copies the bytes. Allocates the count of owners,
+    /// and the bytes of such a copy, with this set's allocator. Returns `LengthMismatch` exactly if
+    /// the lengths differ. Otherwise it returns `OutOfMemory` if memory runs out. Drops this set on
+    /// error.
     pub fn into_bitand_not(self, right: &Self) -> Result<Self>
         ensures { GivesCombined BitOp.AndNot self right.now result }
     {
         self.into_combined(right, BitOp::AndNot)
     }
 
-    /// How many places are true here and in `right`, which has to be as long. Both are read by
-    /// words, and no set is made; it takes no memory.
+    /// Returns the number of indices at which both sets are true. The lengths must be equal. Reads
+    /// both sets by words, and does not allocate.
     pub fn and_count(&self, right: &Self) -> usize
         requires { length right.now.bits ≡ length self.now.bits }
         ensures { result ≡ count (combined_by BitOp.And self.now.bits right.now.bits) }
@@ -50,8 +53,8 @@ impl<A: Allocator + Clone> BitBuffer<A> {
         self.as_view().and_count(&right.as_view())
     }
 
-    /// How many places are true here or in `right` or in both, at the cost of
-    /// [`and_count`](Self::and_count). The sets have to be as long.
+    /// Returns the number of indices at which this set, `right` or both are true, at the cost of
+    /// [`and_count`](Self::and_count). The lengths must be equal.
     pub fn or_count(&self, right: &Self) -> usize
         requires { length right.now.bits ≡ length self.now.bits }
         ensures { result ≡ count (combined_by BitOp.Or self.now.bits right.now.bits) }
@@ -59,8 +62,8 @@ impl<A: Allocator + Clone> BitBuffer<A> {
         self.as_view().or_count(&right.as_view())
     }
 
-    /// At how many places the sets differ, at the cost of [`and_count`](Self::and_count). They have
-    /// to be as long.
+    /// Returns the number of indices at which the sets differ, at the cost of
+    /// [`and_count`](Self::and_count). The lengths must be equal.
     pub fn xor_count(&self, right: &Self) -> usize
         requires { length right.now.bits ≡ length self.now.bits }
         ensures { result ≡ count (combined_by BitOp.Xor self.now.bits right.now.bits) }
@@ -68,8 +71,8 @@ impl<A: Allocator + Clone> BitBuffer<A> {
         self.as_view().xor_count(&right.as_view())
     }
 
-    /// How many places are true here and not in `right`, at the cost of
-    /// [`and_count`](Self::and_count). The sets have to be as long.
+    /// Returns the number of indices at which this set is true and `right` is false, at the cost of
+    /// [`and_count`](Self::and_count). The lengths must be equal.
     pub fn andnot_count(&self, right: &Self) -> usize
         requires { length right.now.bits ≡ length self.now.bits }
         ensures { result ≡ count (combined_by BitOp.AndNot self.now.bits right.now.bits) }
@@ -77,26 +80,26 @@ impl<A: Allocator + Clone> BitBuffer<A> {
         self.as_view().andnot_count(&right.as_view())
     }
 
-    /// Returns the number of places that are true here and in `right`. Returns `LengthMismatch`,
-    /// with the length of this set as `left`, exactly where the lengths differ. Does not allocate,
-    /// and costs what [`and_count`](Self::and_count) does.
+    /// Returns the number of indices at which both sets are true. Returns `LengthMismatch`, with
+    /// the length of this set as `left`, exactly if the lengths differ. Does not allocate, and
+    /// costs what [`and_count`](Self::and_count) does.
     pub fn try_and_count(&self, right: &Self) -> Result<usize>
         ensures { CountsCombined BitOp.And self.now.bits right.now.bits result }
     {
         self.as_view().try_and_count(&right.as_view())
     }
 
-    /// Returns the number of places that are true here or in `right` or in both. Returns
-    /// `LengthMismatch`, with the length of this set as `left`, exactly where the lengths differ.
-    /// Does not allocate, and costs what [`or_count`](Self::or_count) does.
+    /// Returns the number of indices at which this set, `right` or both are true. Returns
+    /// `LengthMismatch`, with the length of this set as `left`, exactly if the lengths differ. Does
+    /// not allocate, and costs what [`or_count`](Self::or_count) does.
     pub fn try_or_count(&self, right: &Self) -> Result<usize>
         ensures { CountsCombined BitOp.Or self.now.bits right.now.bits result }
     {
         self.as_view().try_or_count(&right.as_view())
     }
 
-    /// Returns the number of places at which the sets differ. Returns `LengthMismatch`, with the
-    /// length of this set as `left`, exactly where the lengths differ. Does not allocate, and costs
+    /// Returns the number of indices at which the sets differ. Returns `LengthMismatch`, with the
+    /// length of this set as `left`, exactly if the lengths differ. Does not allocate, and costs
     /// what [`xor_count`](Self::xor_count) does.
     pub fn try_xor_count(&self, right: &Self) -> Result<usize>
         ensures { CountsCombined BitOp.Xor self.now.bits right.now.bits result }
@@ -104,34 +107,34 @@ impl<A: Allocator + Clone> BitBuffer<A> {
         self.as_view().try_xor_count(&right.as_view())
     }
 
-    /// Returns the number of places that are true here and not in `right`. Returns
-    /// `LengthMismatch`, with the length of this set as `left`, exactly where the lengths differ.
-    /// Does not allocate, and costs what [`andnot_count`](Self::andnot_count) does.
+    /// Returns the number of indices at which this set is true and `right` is false. Returns
+    /// `LengthMismatch`, with the length of this set as `left`, exactly if the lengths differ. Does
+    /// not allocate, and costs what [`andnot_count`](Self::andnot_count) does.
     pub fn try_andnot_count(&self, right: &Self) -> Result<usize>
         ensures { CountsCombined BitOp.AndNot self.now.bits right.now.bits result }
     {
         self.as_view().try_andnot_count(&right.as_view())
     }
 
-    /// Whether no place is true here and in `right`, as none is of no bits. Both are read by words
-    /// from the front, up to the first word in which a place is; it takes no memory. Refused by
-    /// `LengthMismatch` exactly where the lengths differ.
+    /// Returns whether no index is true in both sets; true if there are no bits. Reads both by
+    /// words from the start, up to the first word with such an index, and does not allocate.
+    /// Returns `LengthMismatch` exactly if the lengths differ.
     pub fn is_disjoint(&self, right: &Self) -> Result<bool>
         ensures { TellsNone BitOp.And self.now.bits right.now.bits result }
     {
         self.as_view().is_disjoint(&right.as_view())
     }
 
-    /// Whether each place that is true here is true in `right`, as each is of no bits. Both are
-    /// read by words from the front, up to the first word in which one isn't; it takes no memory.
-    /// Refused by `LengthMismatch` exactly where the lengths differ.
+    /// Returns whether each index that is true in this set is true in `right`; true if there are no
+    /// bits. Reads both by words from the start, up to the first word with an index that is not,
+    /// and does not allocate. Returns `LengthMismatch` exactly if the lengths differ.
     pub fn is_subset(&self, right: &Self) -> Result<bool>
         ensures { TellsNone BitOp.AndNot self.now.bits right.now.bits result }
     {
         self.as_view().is_subset(&right.as_view())
     }
 
-    /// The bits combined with those of another set, in bytes of their own.
+    /// Returns the bits combined with the bits of another set, in new storage.
     fn combine_with(&self, right: &Self, op: BitOp) -> Result<Self>
         ensures { GivesCombined op self.now right.now result }
     {
@@ -139,7 +142,8 @@ impl<A: Allocator + Clone> BitBuffer<A> {
         self.combine_apart(right, op)
     }
 
-    /// The bits combined with those of another set, in their storage where no other owner has it.
+    /// Returns the bits combined with the bits of another set, in the same storage if this set is
+    /// the only owner.
     fn into_combined(self, right: &Self, op: BitOp) -> Result<Self>
         ensures { GivesCombined op self right.now result }
     {
@@ -150,7 +154,7 @@ impl<A: Allocator + Clone> BitBuffer<A> {
         self.combine(right, op)
     }
 
-    /// Nothing where the sets are of one length. Refused by `LengthMismatch` else.
+    /// Returns `LengthMismatch` if the lengths of the sets differ, otherwise `Ok`.
     fn compare_len(&self, right: &Self) -> Result<()>
         ensures same_len { length self.now.bits ≡ length right.now.bits → IsOk result }
         ensures other_len { length self.now.bits ≢ length right.now.bits → IsErrOf result
@@ -165,14 +169,14 @@ impl<A: Allocator + Clone> BitBuffer<A> {
         })
     }
 
-    /// Room for so many bytes, from the allocator of the bits.
+    /// Returns an empty buffer with capacity for `bytes` bytes, from the allocator of the set.
     fn room(&self, bytes: usize) -> Result<ByteBufferMut<A>>
         ensures { Makes (λ b. HoldsMade [] 0 b × (bytes ≤ b.room)) result }
     {
         BufferMut::with_capacity(self.buffer.allocator().clone()?, bytes)
     }
 
-    /// The bits combined with those of a set of as many, in bytes of their own.
+    /// Returns the bits combined with the bits of a set of the same length, in new storage.
     fn combine_apart(&self, right: &Self, op: BitOp) -> Result<Self>
         requires { length self.now.bits ≡ length right.now.bits }
         ensures { GivesCombined op self.now right.now result }
@@ -189,7 +193,8 @@ impl<A: Allocator + Clone> BitBuffer<A> {
         })
     }
 
-    /// The bits combined with those of a set of as many.
+    /// Returns the bits combined with the bits of a set of the same length, in the same storage if
+    /// this set is the only owner.
     fn combine(self, right: &Self, op: BitOp) -> Result<Self>
         requires { length self.bits ≡ length right.now.bits }
         ensures { GivesCombined op self right.now result }
@@ -207,7 +212,7 @@ impl<A: Allocator + Clone> BitBuffer<A> {
         Ok(BitBuffer::window_of(bytes.freeze()?, len, offset))
     }
 
-    /// The bits negated, in bytes of their own.
+    /// Returns the negated bits in new storage.
     fn negate_apart(&self) -> Result<Self>
         ensures { GivesNegated self.now result }
     {
@@ -224,7 +229,7 @@ impl<A: Allocator + Clone> BitBuffer<A> {
         })
     }
 
-    /// The bits negated, in their storage where no other owner has it.
+    /// Returns the negated bits, in the same storage if this set is the only owner.
     fn into_negated(self) -> Result<Self>
         ensures { GivesNegated self result }
     {
@@ -235,10 +240,10 @@ impl<A: Allocator + Clone> BitBuffer<A> {
     }
 }
 
-/// The bits that are true in both, in the left one's storage where no other owner has it, else in
-/// bytes of their own. Memory is taken for such bytes and for the count of owners, of the left
-/// one's allocator. Refused by `LengthMismatch` exactly where the lengths differ, else by
-/// `OutOfMemory` alone; both are gone then.
+/// Returns the bits that are true in both sets. Overwrites the left operand's storage if it is the
+/// only owner; otherwise it copies the bytes. Allocates such a copy and the count of owners with
+/// the left operand's allocator. Returns `LengthMismatch` exactly if the lengths differ. Otherwise
+/// it returns `OutOfMemory` if memory runs out. Drops both sets on error.
 impl<A: Allocator + Clone> BitAnd<BitBuffer<A>> for BitBuffer<A> {
     ghost use Rattle.vb_bit_buffer.specs.Gives.{GivesCombined};
     ghost use Rattle.vb_bits.specs.declared.zip.BitOp.TheVariants.{And};
@@ -254,10 +259,10 @@ impl<A: Allocator + Clone> BitAnd<BitBuffer<A>> for BitBuffer<A> {
     }
 }
 
-/// The bits that are true in both, in the left one's storage where no other owner has it, else in
-/// bytes of their own. Memory is taken for such bytes and for the count of owners, of the left
-/// one's allocator. Refused by `LengthMismatch` exactly where the lengths differ, else by
-/// `OutOfMemory` alone; the left one is gone then.
+/// Returns the bits that are true in both sets. Overwrites the left operand's storage if it is the
+/// only owner; otherwise it copies the bytes. Allocates such a copy and the count of owners with
+/// the left operand's allocator. Returns `LengthMismatch` exactly if the lengths differ. Otherwise
+/// it returns `OutOfMemory` if memory runs out. Drops the left operand on error.
 impl<A: Allocator + Clone> BitAnd<&BitBuffer<A>> for BitBuffer<A> {
     ghost use Rattle.vb_bit_buffer.specs.Gives.{GivesCombined};
     ghost use Rattle.vb_bits.specs.declared.zip.BitOp.TheVariants.{And};
@@ -271,9 +276,10 @@ impl<A: Allocator + Clone> BitAnd<&BitBuffer<A>> for BitBuffer<A> {
     }
 }
 
-/// The bits that are true in both, in bytes of their own, for which and for the count of owners
-/// memory is taken of the left one's allocator. Refused by `LengthMismatch` exactly where the
-/// lengths differ, else by `OutOfMemory` alone; the right one is gone then.
+/// Returns the bits that are true in both sets, in new storage. Allocates its bytes and the count
+/// of owners with the left operand's allocator. Returns `LengthMismatch` exactly if the lengths
+/// differ. Otherwise it returns `OutOfMemory` if memory runs out. Drops the right operand, also on
+/// error.
 impl<A: Allocator + Clone> BitAnd<BitBuffer<A>> for &BitBuffer<A> {
     ghost use Rattle.vb_bit_buffer.specs.Gives.{GivesCombined};
     ghost use Rattle.vb_bits.specs.declared.zip.BitOp.TheVariants.{And};
@@ -289,9 +295,9 @@ impl<A: Allocator + Clone> BitAnd<BitBuffer<A>> for &BitBuffer<A> {
     }
 }
 
-/// The bits that are true in both, in bytes of their own, for which and for the count of owners
-/// memory is taken of the left one's allocator. Refused by `LengthMismatch` exactly where the
-/// lengths differ, else by `OutOfMemory` alone.
+/// Returns the bits that are true in both sets, in new storage. Allocates its bytes and the count
+/// of owners with the left operand's allocator. Returns `LengthMismatch` exactly if the lengths
+/// differ. Otherwise it returns `OutOfMemory` if memory runs out.
 impl<A: Allocator + Clone> BitAnd<&BitBuffer<A>> for &BitBuffer<A> {
     ghost use Rattle.vb_bit_buffer.specs.Gives.{GivesCombined};
     ghost use Rattle.vb_bits.specs.declared.zip.BitOp.TheVariants.{And};
@@ -305,10 +311,10 @@ impl<A: Allocator + Clone> BitAnd<&BitBuffer<A>> for &BitBuffer<A> {
     }
 }
 
-/// The bits that are true in one of them or in both, in the left one's storage where no other owner
-/// has it, else in bytes of their own. Memory is taken for such bytes and for the count of owners,
-/// of the left one's allocator. Refused by `LengthMismatch` exactly where the lengths differ, else
-/// by `OutOfMemory` alone; both are gone then.
+/// Returns the bits that are true in at least one of the sets. Overwrites the left operand's
+/// storage if it is the only owner; otherwise it copies the bytes. Allocates such a copy and the
+/// count of owners with the left operand's allocator. Returns `LengthMismatch` exactly if the
+/// lengths differ. Otherwise it returns `OutOfMemory` if memory runs out. Drops both sets on error.
 impl<A: Allocator + Clone> BitOr<BitBuffer<A>> for BitBuffer<A> {
     ghost use Rattle.vb_bit_buffer.specs.Gives.{GivesCombined};
     ghost use Rattle.vb_bits.specs.declared.zip.BitOp.TheVariants.{Or};
@@ -324,10 +330,11 @@ impl<A: Allocator + Clone> BitOr<BitBuffer<A>> for BitBuffer<A> {
     }
 }
 
-/// The bits that are true in one of them or in both, in the left one's storage where no other owner
-/// has it, else in bytes of their own. Memory is taken for such bytes and for the count of owners,
-/// of the left one's allocator. Refused by `LengthMismatch` exactly where the lengths differ, else
-/// by `OutOfMemory` alone; the left one is gone then.
+/// Returns the bits that are true in at least one of the sets. Overwrites the left operand's
+/// storage if it is the only owner; otherwise it copies the bytes. Allocates such a copy and the
+/// count of owners with the left operand's allocator. Returns `LengthMismatch` exactly if the
+/// lengths differ. Otherwise it returns `OutOfMemory` if memory runs out. Drops the left operand on
+/// error.
 impl<A: Allocator + Clone> BitOr<&BitBuffer<A>> for BitBuffer<A> {
     ghost use Rattle.vb_bit_buffer.specs.Gives.{GivesCombined};
     ghost use Rattle.vb_bits.specs.declared.zip.BitOp.TheVariants.{Or};
@@ -341,9 +348,9 @@ impl<A: Allocator + Clone> BitOr<&BitBuffer<A>> for BitBuffer<A> {
     }
 }
 
-/// The bits that are true in one of them or in both, in bytes of their own, for which and for the
-/// count of owners memory is taken of the left one's allocator. Refused by `LengthMismatch` exactly
-/// where the lengths differ, else by `OutOfMemory` alone.
+/// Returns the bits that are true in at least one of the sets, in new storage. Allocates its bytes
+/// and the count of owners with the left operand's allocator. Returns `LengthMismatch` exactly if
+/// the lengths differ. Otherwise it returns `OutOfMemory` if memory runs out.
 impl<A: Allocator + Clone> BitOr<&BitBuffer<A>> for &BitBuffer<A> {
     ghost use Rattle.vb_bit_buffer.specs.Gives.{GivesCombined};
     ghost use Rattle.vb_bits.specs.declared.zip.BitOp.TheVariants.{Or};
@@ -357,10 +364,10 @@ impl<A: Allocator + Clone> BitOr<&BitBuffer<A>> for &BitBuffer<A> {
     }
 }
 
-/// The bits that are true in one of them and not in both, in the left one's storage where no other
-/// owner has it, else in bytes of their own. Memory is taken for such bytes and for the count of
-/// owners, of the left one's allocator. Refused by `LengthMismatch` exactly where the lengths
-/// differ, else by `OutOfMemory` alone; the left one is gone then.
+/// Returns the bits that are true in exactly one of the sets. Overwrites the left operand's storage
+/// if it is the only owner; otherwise it copies the bytes. Allocates such a copy and the count of
+/// owners with the left operand's allocator. Returns `LengthMismatch` exactly if the lengths
+/// differ. Otherwise it returns `OutOfMemory` if memory runs out. Drops the left operand on error.
 impl<A: Allocator + Clone> BitXor<&BitBuffer<A>> for BitBuffer<A> {
     ghost use Rattle.vb_bit_buffer.specs.Gives.{GivesCombined};
     ghost use Rattle.vb_bits.specs.declared.zip.BitOp.TheVariants.{Xor};
@@ -374,9 +381,9 @@ impl<A: Allocator + Clone> BitXor<&BitBuffer<A>> for BitBuffer<A> {
     }
 }
 
-/// The bits that are true in one of them and not in both, in bytes of their own, for which and for
-/// the count of owners memory is taken of the left one's allocator. Refused by `LengthMismatch`
-/// exactly where the lengths differ, else by `OutOfMemory` alone.
+/// Returns the bits that are true in exactly one of the sets, in new storage. Allocates its bytes
+/// and the count of owners with the left operand's allocator. Returns `LengthMismatch` exactly if
+/// the lengths differ. Otherwise it returns `OutOfMemory` if memory runs out.
 impl<A: Allocator + Clone> BitXor<&BitBuffer<A>> for &BitBuffer<A> {
     ghost use Rattle.vb_bit_buffer.specs.Gives.{GivesCombined};
     ghost use Rattle.vb_bits.specs.declared.zip.BitOp.TheVariants.{Xor};
@@ -390,9 +397,9 @@ impl<A: Allocator + Clone> BitXor<&BitBuffer<A>> for &BitBuffer<A> {
     }
 }
 
-/// Each bit negated, in the same storage where no other owner has it, else in bytes of their own.
-/// Memory is taken for such bytes and for the count of owners, of the set's allocator. Refused by
-/// `OutOfMemory` alone; the set is gone then.
+/// Negates each bit. Overwrites the set's storage if it is the only owner; otherwise it copies the
+/// bytes. Allocates such a copy and the count of owners with the set's allocator. Returns
+/// `OutOfMemory` if memory runs out, and drops the set then.
 impl<A: Allocator + Clone> Not for BitBuffer<A> {
     ghost use Rattle.vb_bit_buffer.specs.Gives.{GivesNegated};
 
@@ -405,8 +412,8 @@ impl<A: Allocator + Clone> Not for BitBuffer<A> {
     }
 }
 
-/// Each bit negated, in bytes of their own, for which and for the count of owners memory is taken
-/// of the set's allocator. Refused by `OutOfMemory` alone.
+/// Returns the negated bits in new storage. Allocates its bytes and the count of owners with the
+/// set's allocator. Returns `OutOfMemory` if memory runs out.
 impl<A: Allocator + Clone> Not for &BitBuffer<A> {
     ghost use Rattle.vb_bit_buffer.specs.Gives.{GivesNegated};
 

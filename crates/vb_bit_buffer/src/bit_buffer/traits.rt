@@ -1,4 +1,4 @@
-//! What sets are by std's traits: cloned, equal, printed, gone through.
+//! Implementations of std's traits: clone, equality, printing and iteration.
 ghost use Rattle.std.specs.Prelude.{◌≡◌, ◌↔◌, ◌<◌, [], codes, IsTrue};
 ghost use Rattle.std.specs.Bool.{beq};
 ghost use Rattle.std.specs.Cmp.{bool_eq_equiv, on_per, on_equiv, partial_equiv_from_equiv};
@@ -10,10 +10,10 @@ use std::fmt;
 use vb_bit_bytes::write_bits;
 use vb_walk::BitIterator;
 
-/// How many bits are printed.
+/// The number of bits that `Display` prints.
 const DEBUG_BITS: usize = 16;
 
-/// One more owner, as [`BitBuffer::clone`] makes it, for code over std's trait.
+/// Makes another owner, as [`BitBuffer::clone`] does, for code that uses std's trait.
 impl<A: Allocator + Clone> Clone for BitBuffer<A> {
     ghost is_clone = { λ s copy. copy ≡ s };
 
@@ -22,13 +22,13 @@ impl<A: Allocator + Clone> Clone for BitBuffer<A> {
     }
 }
 
-/// Equality is that of the lists of bits.
+/// Two sets are equal if their lists of bits are.
 impl<A: Allocator + Clone> PartialEq for BitBuffer<A> {
     ghost eq = { λ x y. pointwise beq x.bits y.bits };
 
     ghost laws = { on_per (λ s. s.bits) (lists_per (partial_equiv_from_equiv bool_eq_equiv)) };
 
-    /// Whether the lists of bits are equal, by words; where the bits lie in their bytes doesn't
+    /// Returns whether the lists of bits are equal. Compares them by words. The offsets do not
     /// count.
     fn eq(&self, other: &Self) -> bool
         ensures value { result ≡ pointwise beq self.now.bits other.now.bits }
@@ -42,7 +42,7 @@ impl<A: Allocator + Clone> Eq for BitBuffer<A> {
     ghost laws = { on_equiv (λ s. s.bits) (lists_equiv bool_eq_equiv) };
 }
 
-/// The first 64 bits, as `BitBuffer(01101..)`.
+/// Prints the first 64 bits, for example `BitBuffer(01101..)`.
 impl<A: Allocator + Clone> fmt::Debug for BitBuffer<A> {
     fn fmt<W: fmt::Write>(&self, f: &mut fmt::Formatter<W>) -> fmt::Result {
         let bytes = self.buffer.as_slice();
@@ -50,8 +50,8 @@ impl<A: Allocator + Clone> fmt::Debug for BitBuffer<A> {
     }
 }
 
-/// The number of bits and at most the first 16 of them, as `BitBuffer { len: 2, buffer: [true,
-/// false] }` on one line.
+/// Prints the number of bits and at most the first 16 of them on one line, for example `BitBuffer {
+/// len: 2, buffer: [true, false] }`.
 impl<A: Allocator + Clone> fmt::Display for BitBuffer<A> {
     ghost use Rattle.std.specs.Prelude.{Some};
     ghost use Rattle.vb_bits.specs.Shown.{bits_text};
@@ -70,7 +70,7 @@ impl<A: Allocator + Clone> fmt::Display for BitBuffer<A> {
     }
 }
 
-/// What stands in front of the item at place `i`.
+/// Returns the separator before item `i`.
 fn gap_before(i: usize) -> &'static str
     ensures first { i ≡ 0 → result.now ≡ [] }
     ensures others { 0 < i → result.now ≡ codes ", " }

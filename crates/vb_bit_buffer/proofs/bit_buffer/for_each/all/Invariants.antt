@@ -3,7 +3,7 @@ use Rattle.std.specs.List.{FoldsTo}
 use Rattle.vb_pack.specs.Asked.{CanAsk, span}
 use Rattle.vb_bit_buffer.proofs.bit_buffer.for_each.all.Given as goal
 
--- what the calls at the places that are left reach, all calls reach
+-- the calls at the remaining indices end in the state in which all calls end
 abbrev pub invariant-loop-i : goal.invariant-loop-i
 invariant-loop-i g l = record {
   callable : CanAsk (goal.F-pre g) (goal.F-step g) l.f (span (l.base + l.i) (64 - l.i));

@@ -4,7 +4,7 @@ use Rattle.vb_bits.specs.Bits.{bit_of}
 use Rattle.vb_pack.specs.Asked.{CanAsk, span}
 use Rattle.vb_bit_buffer.proofs.bit_buffer.for_each.for_each_bit.Given as goal
 
--- what the calls at the places that are left reach, all calls reach
+-- the calls at the remaining indices end in the state in which all calls end
 abbrev pub invariant-loop-k : goal.invariant-loop-k
 invariant-loop-k g l = record {
   callable : CanAsk (λ p i. goal.F-pre g p i (bit_of l.bytes (l.offset + i)))

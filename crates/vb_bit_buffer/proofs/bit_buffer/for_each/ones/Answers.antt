@@ -12,7 +12,7 @@ use Rattle.vb_bit_buffer.proofs.CalledLemmas.{ones_of_none, ones_of_first, one_o
 use Rattle.vb_bit_buffer.proofs.CalledLemmas.{ones_fewer, length-ones_of}
 use Rattle.vb_bit_buffer.proofs.bit_buffer.for_each.ones.Goals as goal
 
--- where the loop still runs, a one is left
+-- while the loop runs, a true digit is left
 some_left : (w a i n : ℕ) → length (ones_of w a) + i ≡ n → i < n → 0 < w
 some_left w a i n number more = elim (cases_lt 0 w) [
   | inl some ↦ some

@@ -6,7 +6,7 @@ use Rattle.vb_pack.specs.Asked.{CanAsk}
 use Rattle.vb_bit_buffer.specs.Called.{ones_of}
 use Rattle.vb_bit_buffer.proofs.bit_buffer.for_each.ones.Given as goal
 
--- what the calls at the ones that are left reach, all calls reach
+-- the calls at the remaining true digits end in the state in which all calls end
 abbrev pub invariant-loop : goal.invariant-loop
 invariant-loop g l = record {
   number : length (ones_of l.left l.base) + l.counter ≡ count_ones l.word;

@@ -5,7 +5,7 @@ use Rattle.vb_bit_buffer.specs.Called.{places_of}
 use Rattle.vb_bit_buffer.proofs.CalledLemmas.{places_left}
 use Rattle.vb_bit_buffer.proofs.bit_buffer.for_each.places_in_words.Given as goal
 
--- what the calls at the places that are left reach, all calls reach
+-- the calls at the remaining indices end in the state in which all calls end
 abbrev pub invariant-loop-other : goal.invariant-loop-other
 invariant-loop-other g l =
     let left = places_left l.bytes l.offset l.value l.base l.words l.at in
