@@ -1,4 +1,4 @@
--- Answers whose nulls are cleared.
+-- Comparison results with cleared nulls.
 use Rattle.std.proofs.Common.{◌≡◌, ℕ, Bool, List, length, Option, Some, None, refl, sym, ap, ◌∙◌}
 use Rattle.vb_bits.specs.Bits.{bits}
 use Rattle.vb_bits.specs.Operators.{bit_op, combined_by}
@@ -9,7 +9,7 @@ use Rattle.vb_bits.proofs.OperatorsLemmas.{length-merged_bits}
 use Rattle.vb_bit_bytes.proofs.BytesLemmas.{bits-combined_by}
 use Rattle.vb_gather.specs.Compared.{HoldsBits, where_valid}
 
--- no validity, and nothing to be cleared
+-- without a validity nothing is cleared
 pub none_cleared : (b : List ℕ) (n : ℕ) (v : Option (List Bool)) → v ≡ None
     → HoldsBits n (where_valid v (bits b 0 n)) b b
 none_cleared b n v e = record {
@@ -18,7 +18,7 @@ none_cleared b n v e = record {
   len = ap (λ u. length (where_valid u (bits b 0 n))) e ∙ length-bits b 0 n;
 }
 
--- a validity of as many
+-- a validity of the same length
 pub some_cleared : (b d src : List ℕ) (o n : ℕ) (l : List Bool) (v : Option (List Bool))
     → v ≡ Some l → bits src o n ≡ l
     → Writes b d 0 (combined_by And (bits b 0 n) (bits src o n))
@@ -32,7 +32,7 @@ some_cleared b d src o n l v e seen w =
       len = ap length (sym same) ∙ length-merged_bits (bit_op And) b src 0 o n;
     }
 
--- answers that were written, and then cleared
+-- results that were written and then cleared
 pub cleared : (n : ℕ) (v : Option (List Bool)) (l : List Bool) (b c d : List ℕ)
     → length l ≡ n → Writes b c 0 l → HoldsBits n (where_valid v (bits c 0 n)) c d
     → HoldsBits n (where_valid v l) b d

@@ -1,4 +1,4 @@
--- Sets made of truth values that may be null.
+-- Sets made from truth values that may be null.
 use Rattle.std.proofs.Common.{◌≡◌, ℕ, Bool, true, List, length, map, Option, is_some}
 use Rattle.std.proofs.Common.{sym, ap, subst, ◌∙◌}
 use Rattle.std.specs.List.{refill}
@@ -18,7 +18,7 @@ use Rattle.vb_mem.specs.Makes.{Makes}
 use Rattle.vb_gather.specs.Columns.{IsColumn}
 use Rattle.vb_gather.proofs.WrittenOver.{refilled}
 
--- a set made of bytes that were written over
+-- a set made from bytes that were overwritten
 fresh_of : (k : ℕ) (l : List Bool) (xs before after : List ℕ) (s : SharedSet)
     → k ≡ length l → before ≡ xs → Writes before after 0 l
     → IsFreshSet (bits (refill (length xs) xs after) 0 k) s → IsFreshSet l s
@@ -27,7 +27,7 @@ fresh_of k l xs before after s len lent written =
     (ap (λ b. bits b 0 k) (refilled xs after (written.same_len ∙ ap length lent))
     ∙ ap (bits after 0) len ∙ written.window)
 
--- what two columns are combined to
+-- the combination of two columns
 module _ {X : Type 0} (f : X → List Bool) (op : Option Bool → Option Bool → Option Bool)
     (l r : List Bool) (v w : Option X) (same : length r ≡ length l)
     (left : ForSome v (λ x. length (f x) ≡ length l))
@@ -35,7 +35,7 @@ module _ {X : Type 0} (f : X → List Bool) (op : Option Bool → Option Bool �
   abbrev answers : List (Option Bool)
   answers = zip2 op (truths l (option_map f v)) (truths r (option_map f w))
 
-  -- as many values as on each side
+  -- the combination has the same number of values as each side
   length-answers : (h : Option Bool → Bool) → length (map h answers) ≡ length l
   length-answers h =
       let one = length-truths f l v left in
@@ -44,7 +44,7 @@ module _ {X : Type 0} (f : X → List Bool) (op : Option Bool → Option Bool �
       ∙ length-zip2 op (truths l (option_map f v)) (truths r (option_map f w))
       (one ∙ sym (other ∙ same)) ∙ one
 
-  -- two sets of it, made of bytes that were written over
+  -- two sets of the combination, made from bytes that were overwritten
   pub column_made : (k : ℕ) (xs ys before known trues valid : List ℕ)
       (result : Result (SharedSet × SharedSet) BufferError) → k ≡ length l
       → before ≡ xs → Writes before trues 0 (map (is_truth true) answers)

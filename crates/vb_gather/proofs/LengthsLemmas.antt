@@ -19,23 +19,23 @@ rest_is : (b : Bool) (m : ℕ) (rest : Option ℕ) → cond (not b) (Some m) res
 rest_is true m rest none = none
 rest_is false m rest none = absurd (none-some m (sym none))
 
--- where no length is another than n, the first one is n
+-- if no length differs from n, the first length is n
 pub first_len : (n m : ℕ) (rest : List ℕ) → first_other n (m ∷ rest) ≡ None → m ≡ n
 first_len n m rest none = eqb-true m n (first_is (eqb m n) m (first_other n rest) none)
 
--- and no later one is another
+-- if no length differs from n, no later length does
 pub rest_lens : (n m : ℕ) (rest : List ℕ) → first_other n (m ∷ rest) ≡ None
     → first_other n rest ≡ None
 rest_lens n m rest none = rest_is (eqb m n) m (first_other n rest) none
 
--- a list, if there is one, is as long
+-- a list, if there is one, has the length n
 pub as_long : {V : Type 0} (bits : V → List Bool) (n : ℕ) (v : Option V)
     → length_or n (option_map bits v) ≡ n → ForSome v (λ x. length (bits x) ≡ n)
 as_long bits n None same = λ x is. absurd (none-some x is)
 as_long bits n (Some l) same = λ x is.
     ap (λ k. length (bits k)) (sym (same_Some l x is)) ∙ same
 
--- what is made of lists of one length
+-- the result of a call on lists of one length
 pub gives_made : {S : Type 0} (n : ℕ) (lengths : List ℕ) (P : S → Type 0)
     (result : Result S BufferError) → first_other n lengths ≡ None → Makes P result
     → GivesOfLength n lengths P result
@@ -45,7 +45,7 @@ gives_made n lengths P result none made = record {
   other_len = λ m found. absurd (none-some m (sym none ∙ found));
 }
 
--- another length is refused
+-- a call on lists of another length returns an error
 pub gives_refused : {S : Type 0} (n : ℕ) (lengths : List ℕ) (P : S → Type 0) (m : ℕ)
     → first_other n lengths ≡ Some m → GivesOfLength n lengths P (Err (LengthMismatch n m))
 gives_refused n lengths P m found = record {
@@ -54,7 +54,7 @@ gives_refused n lengths P m found = record {
   other_len = λ k there. ap (λ j. Err (LengthMismatch n j)) (same_Some m k (sym found ∙ there));
 }
 
--- lengths that were read are those of the lists
+-- the lengths that the call reads are the lengths of the lists
 pub gives_read : {S : Type 0} (n k m j : ℕ) (l r : ℕ → ℕ) (P : S → Type 0)
     (result : Result S BufferError) → n ≡ k → m ≡ j
     → GivesOfLength n (m ∷ l n ∷ r n ∷ []) P result

@@ -1,12 +1,12 @@
--- What calls give that put bits back to the places that a mask keeps.
+-- The results of calls that scatter bits to the true indices of a mask.
 use Rattle.std.specs.Prelude.{◌≡◌, Bool, false, List, replicate}
 use Rattle.vb_bit_buffer.specs.SharedSet.{SharedSet, IsFreshSet}
 use Rattle.vb_bits.specs.Bits.{complement, count}
 use Rattle.vb_bits.specs.Kept.{kept_by}
 use Rattle.vb_filter.specs.Spread.{spread_by}
 
--- a set made of the values where the mask is true, and false elsewhere; so the mask keeps just the
--- values of it
+-- a set with the values at the indices where the mask is true, in order, and false elsewhere. So
+-- the mask selects exactly these values from the set
 pub record DepositsBits (mask values : List Bool) (set : SharedSet) : Type 0 where
   pub fresh : IsFreshSet (spread_by mask values) set
   pub kept : kept_by mask set.bits ≡ values

@@ -1,12 +1,12 @@
--- Items of a buffer taken at indices.
+-- Items gathered from a buffer at indices.
 use Rattle.std.specs.Prelude.{◌≡◌, ℕ, ℤ, ◌⊎◌, Bool, List, Option, Result, IfOk, IfErr}
 use Rattle.vb_core.specs.declared.error.BufferError.{BufferError}
 use Rattle.vb_core.specs.declared.error.BufferError.TheVariants.{OutOfMemory, TakeOutOfRange}
 use Rattle.vb_mem.specs.SharedBuffer.{SharedBuffer, ShowsMade}
 use Rattle.vb_take.specs.ItemsTaken.{AreTaken, IsFirstUntaken}
 
--- the items of a buffer were taken into one of the same alignment, in storage made for them; or
--- memory was refused, or the first position that takes nothing
+-- a new buffer with the same reported alignment, in newly made storage, has the items at the
+-- indices; or the call returned `OutOfMemory`, or the first position whose index is out of range
 pub record GivesItemsTaken {T : Type 0} (zero : T) (b : SharedBuffer T) (indices : List ℤ)
     (validity : Option (List Bool)) (result : Result (SharedBuffer T) BufferError) : Type 0 where
   pub ok : IfOk result (λ k. AreTaken zero b.list indices validity k.list

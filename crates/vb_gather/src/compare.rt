@@ -1,4 +1,4 @@
-//! Sets of what comparisons answer.
+//! Sets of comparison results.
 ghost use Rattle.std.specs.Prelude.{◌≡◌, ◌*◌, ◌≤◌, [], ◌∷◌, length, map};
 ghost use Rattle.std.specs.Option.{ForSome, option_map};
 ghost use Rattle.std.specs.Simd.Lanes.{zip2};
@@ -19,17 +19,17 @@ use vb_compare::{CompareLanes, Comparison, compare_into, compare_with_into};
 use vb_core::{BufferError, Result};
 use vb_view::BitBufferView;
 
-/// Whether `value op number` holds: a bit for each value, true where it does, as a set of offset 0
-/// whose bytes are as few as hold them.
+/// Compares each value with `number`, and returns a set with one bit for each value: true if `value
+/// op number` holds. The set has offset 0 and as few bytes as hold the bits.
 ///
-/// A `validity`, where there is one, has to be as long as the values. At a place where it is false,
-/// as at that of a null, the bit is false.
+/// A `validity`, if there is one, must have the length of `values`. Where it is false, the value is
+/// null and the bit is false.
 ///
-/// Refused by `OutOfMemory` alone. Memory comes from `alloc`: for the bytes before any value is
-/// compared, and for the count of owners after the last one is.
+/// Returns `OutOfMemory` if memory runs out. Allocates with `alloc`: the bytes before the first
+/// comparison, and the count of owners after the last one.
 ///
-/// The values are compared as by `compare_into`, 64 at once where they have at most 64 bits. A
-/// validity is one more pass over the words of the bits.
+/// Compares as `compare_into` does, 64 at once if a value has at most 64 bits. A validity adds one
+/// pass over the words of the bits.
 #[tactic(auto, using(vb_bit_bytes::proofs::BytesLemmas::edits))]
 pub fn compared<T: CompareLanes, A: Allocator + Clone>(
     alloc: A,
@@ -47,8 +47,9 @@ pub fn compared<T: CompareLanes, A: Allocator + Clone>(
     Ok(BitBuffer::new(bytes.freeze()?, values.len()))
 }
 
-/// Whether `value op other` holds, for each value and the one at its place among `others`, of which
-/// there have to be as many. Of the set, the validity, memory and refusals [`compared`] says all.
+/// Compares each value with the one at the same index of `others`, and returns a set with one bit
+/// for each pair: true if `value op other` holds. `others` must have the length of `values`. The
+/// set, the validity, memory and errors are those of [`compared`].
 #[tactic(auto, using(vb_bit_bytes::proofs::BytesLemmas::edits))]
 pub fn compared_with<T: CompareLanes, A: Allocator + Clone>(
     alloc: A,
@@ -68,9 +69,10 @@ pub fn compared_with<T: CompareLanes, A: Allocator + Clone>(
     Ok(BitBuffer::new(bytes.freeze()?, values.len()))
 }
 
-/// Returns the set that [`compared`] makes, of a validity of any length. Returns `LengthMismatch`,
-/// with the number of values as `left` and the length of the validity as `right`, exactly where
-/// they differ, before it allocates; else `OutOfMemory` alone.
+/// Returns the set that [`compared`] returns, for a validity of any length. Returns
+/// `LengthMismatch`, with the number of values as `left` and the length of the validity as `right`,
+/// exactly if they differ, before it allocates. Otherwise it returns `OutOfMemory` if memory runs
+/// out.
 pub fn try_compared<T: CompareLanes, A: Allocator + Clone>(
     alloc: A,
     values: &[T],
@@ -93,10 +95,10 @@ pub fn try_compared<T: CompareLanes, A: Allocator + Clone>(
     }
 }
 
-/// Returns the set that [`compared_with`] makes, of others and a validity of any lengths. Returns
-/// `LengthMismatch`, with the number of values as `left`, exactly where another length differs from
-/// it, before it allocates; else `OutOfMemory` alone. As `right` it has the number of the others
-/// where that differs, else the length of the validity.
+/// Returns the set that [`compared_with`] returns, for `others` and a validity of any lengths.
+/// Returns `LengthMismatch`, with the number of values as `left`, exactly if another length differs
+/// from it, before it allocates; `right` is the length of `others` if that differs, else the length
+/// of the validity. Otherwise it returns `OutOfMemory` if memory runs out.
 pub fn try_compared_with<T: CompareLanes, A: Allocator + Clone>(
     alloc: A,
     values: &[T],
@@ -120,7 +122,7 @@ pub fn try_compared_with<T: CompareLanes, A: Allocator + Clone>(
     }
 }
 
-/// Writes the bits of [`compared`] to the front of `out`.
+/// Writes the bits of [`compared`] to the first bits of `out`.
 fn write_compared<T: CompareLanes>(
     out: &mut [u8],
     values: &[T],
@@ -138,7 +140,7 @@ fn write_compared<T: CompareLanes>(
     clear_nulls(out, values.len(), validity);
 }
 
-/// Writes the bits of [`compared_with`] to the front of `out`.
+/// Writes the bits of [`compared_with`] to the first bits of `out`.
 #[tactic(auto, using(vb_compare::proofs::TruthLemmas::length_paired))]
 fn write_compared_with<T: CompareLanes>(
     out: &mut [u8],
@@ -158,7 +160,7 @@ fn write_compared_with<T: CompareLanes>(
     clear_nulls(out, values.len(), validity);
 }
 
-/// Makes those of the first `len` bits false that are false in a validity of as many.
+/// Sets those of the first `len` bits to false that are false in a validity of the same length.
 fn clear_nulls(out: &mut [u8], len: usize, validity: Option<BitBufferView<'_>>)
     requires room { len ≤ 8 * length out.old }
     requires validity { ForSome validity (λ v. length (bits_of v) ≡ len) }

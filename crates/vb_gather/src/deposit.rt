@@ -1,4 +1,4 @@
-//! Sets of bits that are put back to the places that a mask keeps.
+//! Sets of bits scattered to the true indices of a mask.
 ghost use Rattle.std.specs.Prelude.{◌≡◌, Bool, List, length, IfOk, IsOkUnless};
 ghost use Rattle.vb_bits.specs.Bits.{count};
 ghost use Rattle.vb_core.specs.declared.error.BufferError.TheVariants.{OutOfMemory};
@@ -13,37 +13,39 @@ use vb_core::{BufferError, Result};
 use vb_filter::deposit_into;
 use vb_view::BitBufferView;
 
-/// Sets whose bits can be put back to the places that a mask keeps: the inverse of
+/// Sets whose bits can be scattered to the true indices of a mask: the inverse of
 /// [`Filter`](crate::Filter).
 pub trait Deposit: Sized {
     // the bits of a set
     ghost bits: { Self → List Bool };
 
-    // the set has the bits of the second list where the mask, the first one, is true, and false
+    // the set has the bits of the second list where the mask, the first list, is true, and false
     // elsewhere
     ghost deposits: { List Bool → List Bool → Self → Type 0 };
 
-    /// A set as long as the mask: the bits of this one, in order, where the mask is true, and false
-    /// elsewhere. Its offset is 0, and its bytes are as few as hold its bits.
+    /// Returns a set with the length of the mask: the bits of this set, in order, at the indices
+    /// where the mask is true, and false elsewhere. It has offset 0 and as few bytes as hold its
+    /// bits.
     ///
-    /// What `filtered` kept by a mask stands at its own places again, and the mask keeps of the new
-    /// set just these bits.
+    /// A call of `filtered` with the same mask on the new set returns the bits of this set. If
+    /// `filtered` with that mask made this set, each bit is back at its index.
     ///
-    /// Refused by `LengthMismatch`, with the length of this set and the number of true bits of the
-    /// mask, exactly where they differ, before memory is asked for; else by `OutOfMemory` alone.
-    /// Memory comes from the allocator of this set: by one request for the new bytes, if any, and
-    /// by one for the count of owners. The time is linear in the length of the mask.
+    /// Returns `LengthMismatch`, with the length of this set as `left` and the number of true bits
+    /// of the mask as `right`, exactly if they differ, before it allocates. Otherwise it returns
+    /// `OutOfMemory` if memory runs out. Allocates with this set's allocator: once for the bytes,
+    /// if any, and once for the count of owners. The time is linear in the length of the mask.
     fn deposited(&self, mask: BitBufferView<'_>) -> Result<Self>
         ensures { GivesFiltered (length (bits self.now)) (count (bits_of mask.entry))
             (deposits (bits_of mask.entry) (bits self.now)) result };
 
-    /// This set, as a mask, without the true bits whose rank has a false bit in `kept`: `kept` says
-    /// of each true bit of this set, from front to end, whether it stays. So a filter of rows that
-    /// a filter kept becomes one of all rows.
+    /// Returns this set with some of its true bits cleared: bit `k` of `kept` tells whether the
+    /// true bit of rank `k` stays. So a filter of the rows that an earlier filter selected becomes
+    /// a filter of all rows.
     ///
-    /// It is `deposited` seen from the mask: `kept` put back to the true places of this set. So it
-    /// is made and refused as by that, with the number of true bits of this set first, and then the
-    /// length of `kept`.
+    /// It is `deposited` with the roles swapped: it scatters `kept` to the true indices of this
+    /// set. Returns `LengthMismatch`, with the number of true bits of this set as `left` and the
+    /// length of `kept` as `right`, exactly if they differ. Memory, cost and other errors are those
+    /// of `deposited`.
     fn intersect_by_rank(&self, kept: BitBufferView<'_>) -> Result<Self>
         ensures { GivesFiltered (count (bits self.now)) (length (bits_of kept.entry))
             (deposits (bits self.now) (bits_of kept.entry)) result };
@@ -80,7 +82,8 @@ impl<A: Allocator + Clone> Deposit for BitBuffer<A> {
     }
 }
 
-/// The values where the mask is true, and false elsewhere, in memory of `alloc`.
+/// Returns a set with the values at the true indices of the mask, and false elsewhere. Allocates
+/// with `alloc`.
 fn put_back<A: Allocator + Clone>(
     alloc: A,
     values: BitBufferView<'_>,

@@ -1,4 +1,4 @@
-//! Sets and buffers of what a mask keeps.
+//! Sets and buffers of the values that a mask selects.
 ghost use Rattle.std.specs.Prelude.{ℕ, Bool, List, length};
 ghost use Rattle.vb_gather.specs.Filtered.{GivesFiltered};
 ghost use Rattle.vb_view.specs.View.{bits_of};
@@ -10,27 +10,27 @@ use vb_filter::{filter_elements_into, filter_into};
 use vb_mem::{Buffer, BufferMut};
 use vb_view::BitBufferView;
 
-/// Values of which a mask can keep some.
+/// Values from which a mask selects some.
 pub trait Filter: Sized {
-    // how many there are
+    // the number of values
     ghost len: { Self → ℕ };
 
-    // the third has those of the first that the second, the mask, keeps
+    // the third value has the values of the first that the mask, the second, selects
     ghost keeps: { Self → List Bool → Self → Type 0 };
 
-    /// The values whose bit in the mask is true, in order, as a copy: a buffer of the alignment
-    /// that this one reports, whose items, if any are kept, begin a storage that is declared with
-    /// 256 bytes, or with that alignment if it is greater; or a set of offset 0 whose bytes are as
-    /// few as hold its bits.
+    /// Returns a copy of the values whose bit in the mask is true, in order. A buffer has the
+    /// alignment that this one reports; its items, if any, are at the start of a storage that is
+    /// declared with 256 bytes, or with that alignment if it is greater. A set has offset 0 and as
+    /// few bytes as hold its bits.
     ///
-    /// Refused by `LengthMismatch`, with the number of values as `left` and the length of the mask
-    /// as `right`, exactly where they differ, before memory is asked for; else by `OutOfMemory`
-    /// alone. Memory comes from the allocator of this buffer or set: by one request for the values
-    /// that are kept, if any, and by one for the count of owners.
+    /// Returns `LengthMismatch`, with the number of values as `left` and the length of the mask as
+    /// `right`, exactly if they differ, before it allocates. Otherwise it returns `OutOfMemory` if
+    /// memory runs out. Allocates with this buffer's or set's allocator: once for the selected
+    /// values, if any, and once for the count of owners.
     ///
-    /// The time is linear in the length of the mask and the number of values that are kept. The
-    /// items of a buffer are copied as a block where 64 bits of the mask, from a multiple of 64 on,
-    /// are all true.
+    /// The time is linear in the length of the mask and the number of selected values. Where 64
+    /// bits of the mask from a multiple of 64 on are all true, the items of a buffer are copied as
+    /// one block.
     fn filtered(&self, mask: BitBufferView<'_>) -> Result<Self>
         ensures { GivesFiltered (len self.now) (length (bits_of mask.entry))
             (keeps self.now (bits_of mask.entry)) result };

@@ -1,4 +1,4 @@
-//! Truth values that may be null, combined by three-valued logic.
+//! Three-valued logic on truth values that may be null.
 ghost use Rattle.std.specs.Prelude.{◌≡◌, [], ◌∷◌, length};
 ghost use Rattle.std.specs.Option.{ForSome, option_map};
 ghost use Rattle.std.specs.Int.{div_ceil};
@@ -20,19 +20,22 @@ use vb_kleene::{and_kleene_into, or_kleene_into};
 use vb_mem::ByteBufferMut;
 use vb_view::BitBufferView;
 
-/// `left and right` of truth values that may be null, by three-valued logic, Kleene's, as in SQL:
-/// false where one of the two is false, even if the other one is null; else null where one is null.
+/// Returns `left and right` of truth values that may be null, by Kleene's three-valued logic, as in
+/// SQL: false if one of the two is false, even if the other one is null; otherwise null if one is
+/// null.
 ///
-/// A validity says which values aren't null; without one, no value is. It has to be as long as its
-/// values, and `right` as long as `left`. What values have at nulls counts for nothing.
+/// A validity marks the values that are not null; without one, no value is null. It must have the
+/// length of its values, and `right` the length of `left`. The values at nulls do not affect the
+/// result.
 ///
-/// It answers two sets, of offset 0 and in as few bytes as hold them: which values are true, and
-/// which aren't null. At a null the bit of the first is false, so that a `where` of SQL keeps its
-/// true bits. `not` needs no call of its own: it negates the values, and keeps the validity.
+/// Returns two sets of offset 0, in as few bytes as hold them: the first marks the values that are
+/// true, the second the values that are not null. At a null the bit of the first is false, so that
+/// its true bits are the rows that a `where` of SQL selects. `not` needs no function: negate the
+/// values and keep the validity.
 ///
-/// Refused by `OutOfMemory` alone. Memory comes from `alloc`: for the bytes of both sets before any
-/// bit is read, and for the counts of their owners after the last one is. It takes one pass over
-/// the words of the bits.
+/// Returns `OutOfMemory` if memory runs out. Allocates with `alloc`: the bytes of both sets before
+/// it reads a bit, and the counts of their owners after the last one. It takes one pass over the
+/// words of the bits.
 pub fn and_kleene<A: Allocator + Clone>(
     alloc: A,
     left: BitBufferView<'_>,
@@ -56,9 +59,9 @@ pub fn and_kleene<A: Allocator + Clone>(
     two_sets(trues, valid, len)
 }
 
-/// `left or right` of truth values that may be null, by three-valued logic: true where one of the
-/// two is true, even if the other one is null; else null where one is null. Of lengths, validities,
-/// the two sets, memory and refusals [`and_kleene`] says all.
+/// Returns `left or right` of truth values that may be null, by three-valued logic: true if one of
+/// the two is true, even if the other one is null; otherwise null if one is null. Lengths,
+/// validities, the two sets, memory and errors are those of [`and_kleene`].
 pub fn or_kleene<A: Allocator + Clone>(
     alloc: A,
     left: BitBufferView<'_>,
@@ -82,10 +85,11 @@ pub fn or_kleene<A: Allocator + Clone>(
     two_sets(trues, valid, len)
 }
 
-/// Returns the two sets that [`and_kleene`] makes, of values and validities of any lengths. Returns
-/// `LengthMismatch`, with the length of `left` as `left`, exactly where another length differs from
-/// it, before it allocates; else `OutOfMemory` alone. As `right` it has the first that differs of
-/// the lengths of `right`, `left_validity` and `right_validity`.
+/// Returns the two sets that [`and_kleene`] returns, for values and validities of any lengths.
+/// Returns `LengthMismatch`, with the length of `left` as `left`, exactly if another length differs
+/// from it, before it allocates. Its `right` is the first length that differs, in the order
+/// `right`, `left_validity`, `right_validity`. Otherwise it returns `OutOfMemory` if memory runs
+/// out.
 pub fn try_and_kleene<A: Allocator + Clone>(
     alloc: A,
     left: BitBufferView<'_>,
@@ -115,8 +119,8 @@ pub fn try_and_kleene<A: Allocator + Clone>(
     }
 }
 
-/// Returns the two sets that [`or_kleene`] makes, of values and validities of any lengths. Fails as
-/// [`try_and_kleene`] does.
+/// Returns the two sets that [`or_kleene`] returns, for values and validities of any lengths.
+/// Returns the errors of [`try_and_kleene`].
 pub fn try_or_kleene<A: Allocator + Clone>(
     alloc: A,
     left: BitBufferView<'_>,
@@ -146,7 +150,7 @@ pub fn try_or_kleene<A: Allocator + Clone>(
     }
 }
 
-/// Two buffers of as few bytes as hold `len` bits, all false.
+/// Returns two buffers of as few bytes as hold `len` bits, all false.
 fn bytes_of_two<A: Allocator + Clone>(
     alloc: A,
     len: usize,
@@ -164,7 +168,7 @@ fn bytes_of_two<A: Allocator + Clone>(
     }
 }
 
-/// Two sets of the first `len` bits of their bytes.
+/// Returns two sets of the first `len` bits of the bytes.
 fn two_sets<A: Allocator + Clone>(
     first: ByteBufferMut<A>,
     second: ByteBufferMut<A>,

@@ -1,12 +1,11 @@
-//! Sets and buffers in memory of their own, of what a mask keeps, indices name, or comparisons and
-//! three-valued logic answer.
+//! Sets and buffers in new storage, made by masks, indices, comparisons and three-valued logic.
 //!
 //! [`Filter::filtered`] keeps the bits of a set, or the items of a buffer, whose bit in a mask is
-//! true; [`Deposit::deposited`] puts bits back to their places, and `intersect_by_rank` is the same
-//! seen from the mask. [`take_bits`] and [`Take::taken`] take bits and items at indices.
-//! [`compared`] and [`compared_with`] say of each value how it compares, and [`and_kleene`] and
-//! [`or_kleene`] combine such answers where some are null. The kernels under them, over slices, are
-//! those of `vb_filter`, `vb_take`, `vb_compare`, `vb_kleene` and `vb_bits`.
+//! true. [`Deposit::deposited`] scatters bits to the true indices of a mask, and
+//! `intersect_by_rank` is the same with the roles of mask and bits swapped. [`take_bits`] and
+//! [`Take::taken`] gather bits and items at indices. [`compared`] and [`compared_with`] compare
+//! values. [`and_kleene`] and [`or_kleene`] combine truth values, some of which may be null. The
+//! kernels over slices are in `vb_filter`, `vb_take`, `vb_compare`, `vb_kleene` and `vb_bits`.
 #![tactic(auto)]
 
 mod compare;

@@ -1,4 +1,4 @@
-//! Sets and buffers of what stands at indices.
+//! Sets and buffers gathered at indices.
 ghost use Rattle.std.specs.Prelude.{◌≡◌, ℤ, Bool, List, Option, length, map, Result, IfOk, IfErr};
 ghost use Rattle.std.specs.Option.{ForSome, option_map};
 ghost use Rattle.vb_bit_buffer.specs.SharedSet.{IsFreshSet};
@@ -14,15 +14,15 @@ use vb_mem::{Buffer, BufferMut};
 use vb_take::{take_into, take_values_into};
 use vb_view::BitBufferView;
 
-/// The bits of `bits` at the indices, one for each index, as a set of offset 0 whose bytes are as
-/// few as hold them.
+/// Returns the bits of `bits` at the indices, one for each index, as a set of offset 0 in as few
+/// bytes as hold them.
 ///
-/// A `validity`, where there is one, has to be as long as the indices. At a position where it is
-/// false, the new bit is false, and the index doesn't count.
+/// A `validity`, if there is one, must have the length of `indices`. Where it is false, the new bit
+/// is false, and the call ignores the index.
 ///
-/// Refused by `TakeOutOfRange` with the first position whose index counts and is negative, or not
-/// below the length of `bits`; or by `OutOfMemory`. Memory comes from `alloc`: for the new bytes
-/// before any index is tested, and for the count of owners after the last one is.
+/// Returns `TakeOutOfRange` with the first position whose index is not ignored and is negative or
+/// not below the length of `bits`, or `OutOfMemory` if memory runs out. Allocates with `alloc`: the
+/// bytes before it tests an index, and the count of owners after the last one.
 #[tactic(auto, using(vb_bit_bytes::proofs::BytesLemmas::edits))]
 pub fn take_bits<A: Allocator + Clone, I: BitIndex>(
     alloc: A,
@@ -45,22 +45,22 @@ pub fn take_bits<A: Allocator + Clone, I: BitIndex>(
     }
 }
 
-/// Values that can be taken at indices.
+/// Values that can be gathered at indices.
 pub trait Take: Sized {
-    // what a take at these indices answers, with a truth value for each where there is a validity
+    // the possible results of a call with these indices, and with a truth value for each if there
+    // is a validity
     ghost takes: { Self → List ℤ → Option (List Bool) → Result Self BufferError → Type 0 };
 
-    /// The values that the indices name, one for each index, in memory of their own: a buffer of
-    /// the alignment that this one reports, or a set of offset 0 whose bytes are as few as hold its
-    /// bits.
+    /// Returns the values at the indices, one for each index, in new storage: a buffer with the
+    /// alignment that this one reports, or a set of offset 0 in as few bytes as hold its bits.
     ///
-    /// Where there is a `validity`, which has to be as long as the indices, a position counts only
-    /// where it is true: the others give 0, or a false bit, and their indices aren't looked at.
+    /// A `validity`, if there is one, must have the length of `indices`. Where it is false, the new
+    /// value is 0 or a false bit, and the call ignores the index.
     ///
-    /// Refused by `TakeOutOfRange` with the first position that counts and whose index names no
-    /// value, or by `OutOfMemory`. Memory comes from the allocator of this buffer or set: it asks
-    /// for that of the new values by one request before it looks at an index, and then by another
-    /// for the count of their owners.
+    /// Returns `TakeOutOfRange` with the first position whose index is not ignored and out of
+    /// range, or `OutOfMemory` if memory runs out. Allocates with this buffer's or set's allocator:
+    /// once for the new values before it reads an index, and once for the count of owners after
+    /// that.
     fn taken<I: BitIndex>(&self, indices: &[I], validity: Option<BitBufferView<'_>>) -> Result<Self>
         requires { ForSome validity (λ v. length (bits_of v) ≡ length indices.now) }
         ensures { takes self.now (map I.number indices.now) (option_map bits_of validity.entry)
