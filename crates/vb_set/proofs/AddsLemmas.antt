@@ -1,4 +1,4 @@
--- Bits that are added in several steps.
+-- Bits appended in several steps.
 use Rattle.std.proofs.Common.{◌≡◌, inl, inr, ℕ, zero, suc, ◌+◌, ◌-◌, ◌*◌, ◌<◌, ◌≤◌, ◌⊎◌, Bool}
 use Rattle.std.proofs.Common.{Option, List, [], ◌∷◌, ◌++◌, length, take, drop, slice_range}
 use Rattle.std.proofs.Common.{refl, sym, ap, ◌∙◌, arith, subst, ⊎_elim, append_assoc, append-nil}
@@ -16,7 +16,7 @@ use Rattle.vb_bit_bytes.specs.Given.{GivesUpTo}
 use Rattle.vb_core.specs.Lengths.{IsExactCount}
 use Rattle.vb_set.specs.OpenSet.{OpenSet, AddsBits}
 
--- two writes behind each other in bytes that are lengthened each time
+-- two writes, one after the other, in bytes that grow each time
 Writes-added : (a b c : List ℕ) (o p : ℕ) (xs ys : List Bool) → length a ≤ length b
     → length b ≤ length c → p ≡ o + length xs → p ≤ 8 * length b
     → Writes (extension a b) b o xs → Writes (extension b c) c p ys
@@ -53,7 +53,7 @@ Writes-added a b c o p xs ys low high at within one two =
       | inr new ↦ sym (bit_of-extension a c i new)
     ])
 
--- none are added, where no more than the room changes
+-- no bits are appended if nothing but the capacity changes
 pub AddsBits-none : (a b : OpenSet) → b ≡ record a { room = b.room }
     → a.offset + length a.bits ≤ 8 * length a.bytes → AddsBits [] a b
 AddsBits-none a b same inside =
@@ -68,7 +68,7 @@ AddsBits-none a b same inside =
       byte_len = omega (arith, ap length bytes, inside);
     }
 
--- some, and then more
+-- some bits, and then more
 pub AddsBits-append : (xs ys : List Bool) (a b c : OpenSet) → b.offset ≡ a.offset → AddsBits xs a b
     → AddsBits ys b c → AddsBits (xs ++ ys) a c
 AddsBits-append xs ys a b c same one two =
@@ -84,7 +84,7 @@ AddsBits-append xs ys a b c same one two =
     }
 
 -- ---- items of lists and of iterators
--- a front of a list, and the part behind it
+-- the first items of a list, and the part after them
 pub take-longer : (l : List Bool) (k e : ℕ)
     → k ≤ e → k ≤ length l → take k l ++ slice_range l k e ≡ take e l
 take-longer l k e order within =
@@ -93,14 +93,14 @@ take-longer l k e order within =
     sym (take-append-add (take k l) (drop k l) (e - k))
     ∙ ap (take (length (take k l) + (e - k))) (take-append-drop k l) ∙ ap (λ n. take n l) whole
 
--- a front of as many items as there are at most
+-- the first items of a list, at most all of them
 pub take-capped : (l : List Bool) (n e : ℕ) → e ≡ min n (length l) → take e l ≡ take n l
 take-capped l n e capped = ⊎_elim
     (λ (short : n < length l). ap (λ k. take k l) (omega (arith, capped, short)))
     (λ (all : length l ≤ n). take_all e l (omega (arith, capped, all)) ∙ sym (take_all n l all))
     (cases_lt n (length l))
 
--- what an iterator has still to give falls with each item
+-- the number of remaining items of an iterator falls with each item
 pub left-along : {S A : Type 0} (steps : S → Option A → S → Type 0) (remaining : S → Count)
     (left : S → ℕ) → IsExactCount steps remaining left → (xs : List A) (s t : S)
     → Yields steps s xs t → left t + length xs ≡ left s
@@ -111,7 +111,7 @@ left-along steps remaining left law (x ∷ xs) s t run = omega (
   law.one_less s x run.0 run.1,
 )
 
--- up to 64 items that came
+-- up to 64 items that the iterator returned
 pub Yields-word : {S A : Type 0} (can : S → Type 0) (left : S → Count)
     (steps : S → Option A → S → Type 0) (s : S) (items : List A) (t : S)
     → GivesUpTo can left steps 64 s items t → length items ≤ 64 → (u : S) × Yields steps s items u
@@ -120,7 +120,7 @@ Yields-word can left steps s items t gives most = ⊎_elim
     (λ (full : 64 ≤ length items). (t, (gives.1 (omega (arith, full, most))).0))
     (cases_lt (length items) 64)
 
--- a front of what calls gave is given by calls too
+-- fewer calls return the first of the items that more calls return
 pub Yields-front : {S A : Type 0} (steps : S → Option A → S → Type 0) (n : ℕ) (xs : List A)
     (s t : S) → Yields steps s xs t → (u : S) × Yields steps s (take n xs) u
 Yields-front steps zero xs s t run = (s, refl)

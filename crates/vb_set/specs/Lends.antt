@@ -1,4 +1,4 @@
--- What a set ends as, where its bytes are lent for writing.
+-- The value of a set after a loan of its bytes has ended.
 use Rattle.std.specs.Prelude.{ℕ, List}
 use Rattle.std.specs.Borrow.{Lends, Fml, RattleType, MutBor, Array, u8}
 use Rattle.std.specs.declared.alloc.Allocator.{Ghosts}

@@ -1,4 +1,4 @@
--- What contracts see of a `BitBufferMut`.
+-- The value of a `BitBufferMut` in contracts.
 use Rattle.std.specs.Prelude.{◌≡◌, ℕ, ◌+◌, ◌-◌, ◌*◌, ◌^◌, ◌<◌, ◌≤◌, Bool, List, [], ◌++◌}
 use Rattle.std.specs.Prelude.{length, min, max, Result, IsOk, IsOkUnless, IsErrOf, OnErr}
 use Rattle.std.specs.Int.{div_ceil}
@@ -9,8 +9,8 @@ use Rattle.vb_core.specs.declared.error.BufferError.TheVariants.{OutOfMemory, To
 use Rattle.vb_bits.specs.Bits.{bits}
 use Rattle.vb_bits.specs.Writes.{Writes, extension}
 
--- a set that one owner edits: its bits, the place of the first one in the bytes, the bytes with the
--- exponent of their alignment, and for how many bits there is room
+-- a set that one owner edits: its bits, the index of the first one in the bytes, the bytes with the
+-- exponent of their alignment, and the capacity in bits
 pub record OpenSet : Type 0 where
   pub bits : List Bool
   pub offset : ℕ
@@ -18,24 +18,24 @@ pub record OpenSet : Type 0 where
   pub alignment : ℕ
   pub room : ℕ
 
--- how many bits from bit o on have room in n bytes, where a bit's number is one of 64 bits
+-- the number of bits from bit o on that fit in n bytes, if the index of a bit fits in 64 bits
 abbrev pub bit_room : ℕ → ℕ → ℕ
 bit_room n o = min (n * 8) (2 ^ 64 - 1) - o
 
--- the same set over as many other bytes
+-- the same set over the same number of other bytes
 abbrev pub with_bytes : OpenSet → List ℕ → OpenSet
 with_bytes s bytes =
     let filled = refill (length s.bytes) s.bytes bytes in
     record s { bits = bits filled s.offset (length s.bits); bytes = filled }
 
--- no bits and no bytes, with this exponent of their alignment
+-- no bits and no bytes; the alignment has this exponent
 pub record IsEmptySet (exponent : ℕ) (s : OpenSet) : Type 0 where
   pub bits : s.bits ≡ []
   pub offset : s.offset ≡ 0
   pub bytes : s.bytes ≡ []
   pub alignment : s.alignment ≡ exponent
 
--- a set made of these bits: they begin with the first bit of as few bytes as hold them, whose
+-- a set made from these bits: they begin with the first bit of as few bytes as hold them, and the
 -- alignment is 1
 pub record IsFreshOpenSet (made : List Bool) (s : OpenSet) : Type 0 where
   pub bits : s.bits ≡ made
@@ -44,14 +44,14 @@ pub record IsFreshOpenSet (made : List Bool) (s : OpenSet) : Type 0 where
   pub byte_len : length s.bytes ≡ div_ceil (length made) 8
   pub alignment : s.alignment ≡ 0
 
--- a set for editing has the bits, the offset and the bytes of a shared one, with alignment 1
+-- a set for editing with the bits, the offset and the bytes of a shared set, and alignment 1
 pub record HoldsShared (shared : SharedSet) (s : OpenSet) : Type 0 where
   pub bits : s.bits ≡ shared.bits
   pub offset : s.offset ≡ shared.offset
   pub bytes : s.bytes ≡ shared.bytes
   pub alignment : s.alignment ≡ 0
 
--- an edit in place: offset, alignment, room and the numbers of bits and bytes stay
+-- an edit in place keeps offset, alignment, capacity and the numbers of bits and bytes
 pub record KeepsLayout (old new : OpenSet) : Type 0 where
   pub len : length new.bits ≡ length old.bits
   pub offset : new.offset ≡ old.offset
@@ -59,14 +59,13 @@ pub record KeepsLayout (old new : OpenSet) : Type 0 where
   pub alignment : new.alignment ≡ old.alignment
   pub room : new.room ≡ old.room
 
--- growth: offset and alignment stay, and the room does not shrink
+-- growth keeps offset and alignment, and the capacity does not shrink
 pub record KeepsStart (old new : OpenSet) : Type 0 where
   pub offset : new.offset ≡ old.offset
   pub alignment : new.alignment ≡ old.alignment
   pub room : old.room ≤ new.room
 
--- the bits of a list are added behind the others, in bytes that are lengthened where they need
--- more
+-- the bits of a list are appended, and the bytes grow if they are too few
 pub record AddsBits (added : List Bool) (old new : OpenSet) : Type 0 where
   pub bits : new.bits ≡ old.bits ++ added
   pub len : length new.bits ≡ length old.bits + length added
@@ -74,9 +73,9 @@ pub record AddsBits (added : List Bool) (old new : OpenSet) : Type 0 where
   pub byte_len : length new.bytes
       ≡ max (length old.bytes) (div_ceil (old.offset + length old.bits + length added) 8)
 
--- how a call answers that needs n bits more: within the room it succeeds; it is refused by
--- `TooManyBits` where the bits' numbers would pass 64 bits, else by `OutOfMemory` alone; refused,
--- it leaves the set and its room as they were
+-- a call that needs n more bits. It succeeds if there is capacity. It returns `TooManyBits` if the
+-- offset and the number of bits exceed 64 bits together; otherwise `OutOfMemory` is its only error.
+-- On error the set and its capacity are unchanged
 pub record NeedsBits {T : Type 0} (n : ℕ) (result : Result T BufferError)
     (old new : OpenSet) : Type 0 where
   pub in_room : length old.bits + n ≤ old.room → IsOk result

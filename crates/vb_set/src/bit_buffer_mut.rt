@@ -34,8 +34,8 @@ mod traits;
 
 /// A set of bits that one owner edits, over a byte buffer that grows.
 ///
-/// A contract sees its bits, the offset of the first one, its bytes with the exponent of their
-/// alignment, and the room in bits.
+/// A contract sees its bits, the offset of the first bit, its bytes with the exponent of their
+/// alignment, and the capacity in bits.
 #[derive(Drop)]
 pub struct BitBufferMut<A: Allocator + Clone = Global> {
     buffer: ByteBufferMut<A>,
@@ -66,9 +66,9 @@ impl<A: Allocator + Clone> Model for BitBufferMut<A> {
 
 #[tactic(auto, using(vb_bit_bytes::proofs::BytesLemmas::edits))]
 impl<A: Allocator + Clone> BitBufferMut<A> {
-    /// The `len` bits of a byte buffer from bit `offset` on. They have to lie in its bytes, and
-    /// `offset + len` has to be a `usize`: `window_fits` is the test. No memory is
-    /// taken, and what the set asks for later is asked of the buffer's allocator.
+    /// Returns the `len` bits of a byte buffer from bit `offset` on as a set. The bits must be in
+    /// bounds of the buffer, and `offset + len` must fit in `usize`; `window_fits` tests both. Does
+    /// not allocate. The set allocates later with the buffer's allocator.
     pub fn from_buffer(buffer: ByteBufferMut<A>, offset: usize, len: usize) -> Self
         requires window { InBytes buffer.list offset len }
         ensures bits { result.bits ≡ bits buffer.list offset len }
@@ -85,7 +85,8 @@ impl<A: Allocator + Clone> BitBufferMut<A> {
         }
     }
 
-    /// No bits, with room for `n`, for whose bytes it takes memory. Refused by `OutOfMemory` alone.
+    /// Returns a set without bits and with capacity for at least `n` bits. Allocates their bytes.
+    /// Returns `OutOfMemory` if memory runs out.
     pub fn with_capacity(alloc: A, n: usize) -> Result<Self>
         ensures { Makes (λ s. IsEmptySet 0 s × (n ≤ s.room)) result }
     {
@@ -93,36 +94,39 @@ impl<A: Allocator + Clone> BitBufferMut<A> {
         Ok(BitBufferMut::from_buffer(buffer, 0, 0))
     }
 
-    /// `n` bits, all true, for whose bytes it takes memory. Refused by `OutOfMemory` alone.
+    /// Returns a set of `n` bits, all true. Allocates their bytes. Returns `OutOfMemory` if memory
+    /// runs out.
     pub fn new_set(alloc: A, n: usize) -> Result<Self>
         ensures { Makes (IsFreshOpenSet (replicate n true)) result }
     {
         BitBufferMut::full(alloc, true, n)
     }
 
-    /// `n` bits, all false, for whose bytes it takes memory. Refused by `OutOfMemory` alone.
+    /// Returns a set of `n` bits, all false. Allocates their bytes. Returns `OutOfMemory` if memory
+    /// runs out.
     pub fn new_unset(alloc: A, n: usize) -> Result<Self>
         ensures { Makes (IsFreshOpenSet (replicate n false)) result }
     {
         BitBufferMut::full(alloc, false, n)
     }
 
-    /// `n` bits, all `v`, for whose bytes it takes memory. Refused by `OutOfMemory` alone.
+    /// Returns a set of `n` bits, all `v`. Allocates their bytes. Returns `OutOfMemory` if memory
+    /// runs out.
     pub fn full(alloc: A, v: bool, n: usize) -> Result<Self>
         ensures { Makes (IsFreshOpenSet (replicate n v)) result }
     {
         Ok(BitBufferMut::from_buffer(full(alloc, v, n)?, 0, n))
     }
 
-    /// No bits and no memory.
+    /// Returns a set without bits. Does not allocate.
     pub fn empty(alloc: A) -> Self
         ensures { IsEmptySet 0 result }
     {
         BitBufferMut::from_buffer(BufferMut::empty(alloc), 0, 0)
     }
 
-    /// A copy of a shared set, with all its bytes, which takes memory for these of the allocator
-    /// that is handed in. Refused by `OutOfMemory` alone.
+    /// Returns a copy of a shared set, with all its bytes. Allocates these bytes with `alloc`.
+    /// Returns `OutOfMemory` if memory runs out.
     pub fn copy_from(alloc: A, set: &BitBuffer<A>) -> Result<Self>
         ensures { Makes (HoldsShared set.now) result }
     {
@@ -130,8 +134,8 @@ impl<A: Allocator + Clone> BitBufferMut<A> {
         Ok(BitBufferMut::from_buffer(buffer, set.offset(), set.len()))
     }
 
-    /// A copy, with all the bytes, which takes memory for these of the set's allocator. Refused by
-    /// `OutOfMemory` alone.
+    /// Returns a copy of the set, with all its bytes. Allocates these bytes with the set's
+    /// allocator. Returns `OutOfMemory` if memory runs out.
     pub fn clone(&self) -> Result<Self>
         ensures { Makes (λ s. s ≡ record self.now { room = s.room }) result }
     {
@@ -139,10 +143,10 @@ impl<A: Allocator + Clone> BitBufferMut<A> {
         Ok(BitBufferMut::from_buffer(buffer, self.offset, self.len))
     }
 
-    /// The set as it is, which leaves an empty one of the same alignment, with the offset 0.
+    /// Returns the set, and leaves an empty one with the same alignment and offset 0.
     ///
-    /// Refused by `OutOfMemory` alone, where the allocator can't be copied; then the set and its
-    /// room are unchanged.
+    /// Returns `OutOfMemory` if the allocator cannot be cloned; the set and its capacity are
+    /// unchanged then.
     pub fn take(&mut self) -> Result<Self>
         ensures taken { Makes (λ s. s ≡ self.old) result }
         ensures left { OnOk result (IsEmptySet self.old.alignment self.new) }
@@ -155,9 +159,9 @@ impl<A: Allocator + Clone> BitBufferMut<A> {
         Ok(taken)
     }
 
-    /// The same bits to be shared, in the same storage, from the byte of the first bit on. It takes
-    /// memory for the count of owners, in constant time. Refused by `OutOfMemory` alone; then the
-    /// set is gone.
+    /// Converts the set to one that can be shared, in the same storage, from the byte of the first
+    /// bit on. Takes constant time. Allocates the count of owners. Returns `OutOfMemory` if memory
+    /// runs out, and drops the set then.
     pub fn freeze(self) -> Result<BitBuffer<A>>
         ensures { Makes (SharesFrom self.offset self.bytes self.bits) result }
     {
@@ -167,8 +171,8 @@ impl<A: Allocator + Clone> BitBufferMut<A> {
         Ok(BitBuffer::new_with_offset(buffer, len, offset))
     }
 
-    /// The byte buffer, of which the bits were a window, in constant time; no memory is taken. Ask
-    /// for offset and length before.
+    /// Returns the byte buffer of which the bits were a window, in constant time. Does not
+    /// allocate. It does not return the offset and the length; read them before.
     pub fn into_inner(self) -> ByteBufferMut<A>
         ensures bytes { result.list ≡ self.bytes }
         ensures window { IsWindow result.list self.offset self.bits }
@@ -178,28 +182,28 @@ impl<A: Allocator + Clone> BitBufferMut<A> {
         self.buffer
     }
 
-    /// How many bits there are.
+    /// Returns the number of bits.
     pub fn len(&self) -> usize
         ensures { result ≡ length self.now.bits }
     {
         self.len
     }
 
-    /// Whether there are no bits.
+    /// Returns whether the set has no bits.
     pub fn is_empty(&self) -> bool
         ensures { result ≡ (length self.now.bits == 0) }
     {
         self.len == 0
     }
 
-    /// The place of the first bit in the bytes, in bits. It may be 8 or more.
+    /// Returns the index of the first bit in the bytes, in bits. It may be 8 or more.
     pub fn offset(&self) -> usize
         ensures { result ≡ self.now.offset }
     {
         self.offset
     }
 
-    /// For how many bits there is room: up to that length an append takes no memory.
+    /// Returns the capacity in bits: up to this length an append does not allocate.
     pub fn capacity(&self) -> usize
         ensures room { result ≡ self.now.room }
         ensures holds_bits { length self.now.bits ≤ result }
@@ -207,7 +211,7 @@ impl<A: Allocator + Clone> BitBufferMut<A> {
         self.buffer.capacity().saturating_mul(8) - self.offset
     }
 
-    /// The byte buffer, of which the bits are a window.
+    /// Returns the byte buffer of which the bits are a window.
     pub fn inner(&self) -> &ByteBufferMut<A>
         ensures bytes { result.now.list ≡ self.now.bytes }
         ensures window { IsWindow result.now.list self.now.offset self.now.bits }
@@ -217,7 +221,7 @@ impl<A: Allocator + Clone> BitBufferMut<A> {
         &self.buffer
     }
 
-    /// The bytes, of which the bits are a window.
+    /// Returns the bytes of which the bits are a window.
     pub fn as_slice(&self) -> &[u8]
         ensures bytes { result.now ≡ self.now.bytes }
         ensures window { IsWindow result.now self.now.offset self.now.bits }
@@ -225,8 +229,9 @@ impl<A: Allocator + Clone> BitBufferMut<A> {
         self.buffer.as_slice()
     }
 
-    /// All bytes for writing, those outside of the bits too. What is written is what the set then
-    /// holds; offset, length, number of bytes, alignment and room stay.
+    /// Lends all bytes for writing, also the bits outside the set. When the loan ends, the set has
+    /// the bytes that the slice has then; offset, length, number of bytes, alignment and capacity
+    /// do not change.
     pub fn as_mut_slice(&mut self) -> &mut [u8]
         ensures* writes_back { sem 𝓛 (LendsBytes A.row A.Allocator A.Clone self.entry result) }
         ensures bytes { result.now ≡ self.old.bytes }
@@ -235,7 +240,7 @@ impl<A: Allocator + Clone> BitBufferMut<A> {
         self.buffer.as_mut_slice()
     }
 
-    /// A view that only reads the bits, in constant time. Its bytes begin with the byte of the
+    /// Returns a read-only view of the bits, in constant time. Its bytes begin with the byte of the
     /// first bit.
     pub fn as_view(&self) -> BitBufferView<'_>
         ensures bits { bits_of result ≡ self.now.bits }
@@ -245,13 +250,14 @@ impl<A: Allocator + Clone> BitBufferMut<A> {
         BitBufferView::new_with_offset(self.buffer.as_slice(), self.len, self.offset)
     }
 
-    /// A view that writes the bits, in constant time. It borrows the set: when it ends, the set has
-    /// the bits and bytes that the view has then; offset, number of bytes, alignment and room stay,
-    /// and so does each bit of the bytes that isn't one of the set's. Clause `lends` says that the
-    /// view writes to this very `&mut`, and so that its bytes are those of the set; what a write
-    /// makes of it the clauses of [`BitStore`] say. Clause `window` says that its bits are those of
-    /// the set and the first of them is at the set's offset, which may be 8 or more; the view's
-    /// `offset()` answers it modulo 8.
+    /// Returns a view that writes the bits, in constant time. It borrows the set. When the borrow
+    /// ends, the set has the bits and bytes that the view has then. Offset, number of bytes,
+    /// alignment, capacity and all bits outside the set do not change.
+    ///
+    /// Clause `lends`: the view writes to this `&mut` itself, so its bytes are the bytes of the
+    /// set; the clauses of [`BitStore`] state the effect of each write. Clause `window`: the bits
+    /// of the view are the bits of the set, and the first one is at the set's offset. That offset
+    /// may be 8 or more; the view's `offset()` returns it modulo 8.
     pub fn as_mut_view(&mut self) -> BitBufferMutView<&mut BitBufferMut<A>>
         ensures lends { IsSameReference (store_of result) self.entry }
         ensures window { ShowsWindow self.old.offset self.old.bits result }
@@ -261,7 +267,7 @@ impl<A: Allocator + Clone> BitBufferMut<A> {
         BitBufferMutView::over(self, offset, len)
     }
 
-    /// The bit at place `i`, which has to be below the length.
+    /// Returns the bit at index `i`, which must be below the length.
     pub fn value(&self, i: usize) -> bool
         requires { i < length self.now.bits }
         ensures { slice_get self.now.bits i ≡ Some result }
@@ -269,25 +275,26 @@ impl<A: Allocator + Clone> BitBufferMut<A> {
         get_bit(self.buffer.as_slice(), self.offset + i)
     }
 
-    /// Whether no place is true in both sets, as none is of no bits. Both are read by words from
-    /// the front, up to the first word in which a place is; it takes no memory. Refused by
-    /// `LengthMismatch` exactly where the lengths differ.
+    /// Returns whether no index is true in both sets; true if there are no bits. Reads both by
+    /// words from the start, up to the first word with such an index, and does not allocate.
+    /// Returns `LengthMismatch` exactly if the lengths differ.
     pub fn is_disjoint(&self, other: &Self) -> Result<bool>
         ensures { TellsNone BitOp.And self.now.bits other.now.bits result }
     {
         self.as_view().is_disjoint(&other.as_view())
     }
 
-    /// Whether each place that is true in this set is true in the other one, as each is of no bits.
-    /// Both are read by words from the front, up to the first word in which one isn't; it takes no
-    /// memory. Refused by `LengthMismatch` exactly where the lengths differ.
+    /// Returns whether each index that is true in this set is true in the other one; true if there
+    /// are no bits. Reads both by words from the start, up to the first word with an index that is
+    /// not, and does not allocate. Returns `LengthMismatch` exactly if the lengths differ.
     pub fn is_subset(&self, other: &Self) -> Result<bool>
         ensures { TellsNone BitOp.AndNot self.now.bits other.now.bits result }
     {
         self.as_view().is_subset(&other.as_view())
     }
 
-    /// Makes the bit at place `i` `v`. No other bit of the bytes changes.
+    /// Sets the bit at index `i`, which must be below the length, to `v`. No other bit of the bytes
+    /// changes.
     pub fn set_to(&mut self, i: usize, v: bool)
         requires { i < length self.old.bits }
         ensures bits { self.new.bits ≡ slice_set self.old.bits i v }
@@ -297,7 +304,8 @@ impl<A: Allocator + Clone> BitBufferMut<A> {
         write_bit(&mut self.buffer, self.offset + i, v);
     }
 
-    /// Makes the bit at place `i` true. No other bit of the bytes changes.
+    /// Sets the bit at index `i`, which must be below the length, to true. No other bit of the
+    /// bytes changes.
     pub fn set(&mut self, i: usize)
         requires { i < length self.old.bits }
         ensures bits { self.new.bits ≡ slice_set self.old.bits i true }
@@ -307,7 +315,8 @@ impl<A: Allocator + Clone> BitBufferMut<A> {
         self.set_to(i, true);
     }
 
-    /// Makes the bit at place `i` false. No other bit of the bytes changes.
+    /// Sets the bit at index `i`, which must be below the length, to false. No other bit of the
+    /// bytes changes.
     pub fn unset(&mut self, i: usize)
         requires { i < length self.old.bits }
         ensures bits { self.new.bits ≡ slice_set self.old.bits i false }
@@ -317,8 +326,8 @@ impl<A: Allocator + Clone> BitBufferMut<A> {
         self.set_to(i, false);
     }
 
-    /// Makes the bits from `start` up to `end`, `end` excluded, `v`, whole bytes at once. No other
-    /// bit of the bytes changes.
+    /// Sets the bits from index `start` to `end - 1` to `v`, whole bytes at a time. `start` must be
+    /// at most `end`, and `end` at most the length. No other bit of the bytes changes.
     pub fn fill_range(&mut self, start: usize, end: usize, v: bool)
         requires order { start ≤ end }
         requires within { end ≤ length self.old.bits }
@@ -330,8 +339,8 @@ impl<A: Allocator + Clone> BitBufferMut<A> {
         fill(&mut self.buffer, self.offset + start, self.offset + end, v);
     }
 
-    /// Keeps the first `n` bits, and the bytes up to the last of these. Where there are fewer than
-    /// `n` bits, the set and its bytes are unchanged. Offset and room stay.
+    /// Removes all bits after the first `n`, and the bytes after the last bit. If there are fewer
+    /// than `n` bits, the set and its bytes are unchanged. Offset and capacity do not change.
     pub fn truncate(&mut self, n: usize)
         ensures bits { self.new.bits ≡ take n self.old.bits }
         ensures len { length self.new.bits ≡ min n (length self.old.bits) }
@@ -349,9 +358,9 @@ impl<A: Allocator + Clone> BitBufferMut<A> {
         }
     }
 
-    /// Takes the last bit away, and with it its byte where no other bit of the set is in there, as
-    /// [`truncate`](Self::truncate) does, in constant time. `None` comes just where there are no
-    /// bits, and the set is unchanged then. Offset and room stay.
+    /// Removes the last bit and returns it, in constant time. Removes its byte too if no other bit
+    /// of the set is in it, as [`truncate`](Self::truncate) does. Returns `None` exactly if there
+    /// are no bits; the set is unchanged then. Offset and capacity do not change.
     pub fn pop(&mut self) -> Option<bool>
         ensures last { slice_get self.old.bits (length self.old.bits - 1) ≡ result }
         ensures some { IsSome result ↔ (0 < length self.old.bits) }
@@ -372,7 +381,7 @@ impl<A: Allocator + Clone> BitBufferMut<A> {
         Some(bit)
     }
 
-    /// Leaves no bits and no bytes, with the offset 0. The room doesn't fall.
+    /// Removes all bits and bytes, and sets the offset to 0. The capacity does not shrink.
     pub fn clear(&mut self)
         ensures left { IsEmptySet self.old.alignment self.new }
         ensures room { self.old.room ≤ self.new.room }

@@ -1,9 +1,9 @@
 //! Owned sets of bits over byte buffers: [`BitBufferMut`], which one owner edits, and
-//! [`BitBuffer`], whose storage several owners may share, with what makes one of the other.
+//! [`BitBuffer`], whose storage several owners may share, with conversions between them.
 //!
 //! A set is a list of truth values: the window of its bytes that begins at bit `offset`, least
-//! significant bit first. Bits outside of the window are never part of an answer. Lengths, offsets
-//! and places are counted in bits; an offset plus a length always is a `usize`.
+//! significant bit first. Bits outside the window never affect a result. Lengths, offsets and
+//! indices are in bits; an offset plus a length always fits in `usize`.
 #![tactic(auto)]
 
 mod bit_buffer_mut;

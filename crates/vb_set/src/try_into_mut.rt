@@ -1,4 +1,4 @@
-//! Shared sets as sets for editing.
+//! Conversion of shared sets to sets for editing.
 ghost use Rattle.std.specs.Prelude.{◌≡◌, IfOk, IfErr};
 ghost use Rattle.vb_bit_buffer.specs.SharedSet.{SharedSet};
 ghost use Rattle.vb_set.specs.OpenSet.{HoldsShared};
@@ -7,17 +7,18 @@ use crate::bit_buffer_mut::BitBufferMut;
 use std::alloc::Allocator;
 use vb_bit_buffer::BitBuffer;
 
-/// Shared bits that can be had for editing, where they have one owner.
+/// Shared sets that can be converted for editing if they have one owner.
 pub trait TryIntoMut<A: Allocator + Clone>: Sized {
     // the shared set
     ghost set: { Self → SharedSet };
 
-    /// The same bits, offset and bytes for editing, in the same storage, where no other owner has
-    /// it; else `Err` gives the set back unchanged. The set for editing reports alignment 1. No
-    /// memory is taken. That a lone owner gets its set is tested: no clause speaks of owners.
+    /// Returns the same bits, offset and bytes as a set for editing, in the same storage, if no
+    /// other owner shares it; otherwise it returns the unchanged set as the error. The set for
+    /// editing reports alignment 1. Does not allocate. Tests, and no clause, show that the only
+    /// owner gets its set.
     ///
-    /// It takes constant time, unless the bytes don't begin the storage, as those of a slice may
-    /// not: then they are moved to its front.
+    /// Takes constant time, unless the bytes are not at the start of the storage, for example those
+    /// of a slice: the call moves them there.
     fn try_into_mut(self) -> Result<BitBufferMut<A>, Self>
         ensures open { IfOk result (HoldsShared (set self)) }
         ensures shared { IfErr result (λ s. s ≡ self) };

@@ -1,4 +1,4 @@
-//! Room, bits added at the end, and bits up to a length.
+//! Capacity, bits appended at the end, and changes of the length.
 ghost use Rattle.std.specs.Prelude.{◌≡◌, ◌+◌, ◌-◌, ◌*◌, ◌^◌, ◌<◌, ◌≤◌, ◌∷◌, ◌++◌, []};
 ghost use Rattle.std.specs.Prelude.{◌↔◌, length, max, replicate, take, true, false, IsTrue, OnOk};
 ghost use Rattle.std.specs.Int.{div_ceil};
@@ -18,11 +18,12 @@ use vb_view::BitBufferView;
 
 #[tactic(auto, using(vb_bit_bytes::proofs::BytesLemmas::edits))]
 impl<A: Allocator + Clone> BitBufferMut<A> {
-    /// Makes room for `n` bits more.
+    /// Reserves capacity for `n` more bits.
     ///
-    /// Refused by `TooManyBits` where offset, length and `n` together pass `usize::MAX`, else by
-    /// `OutOfMemory` where memory is. Then the set and its room are unchanged. Within
-    /// [`capacity`](Self::capacity) it takes no memory, succeeds, and the capacity stays.
+    /// Returns `TooManyBits` if offset, length and `n` together exceed `usize::MAX`. Otherwise it
+    /// returns `OutOfMemory` if memory runs out. The set and its capacity are unchanged on error.
+    /// If [`capacity`](Self::capacity) is large enough already, the call does not allocate,
+    /// succeeds, and the capacity does not change.
     pub fn reserve(&mut self, n: usize) -> Result<()>
         ensures keeps { self.new ≡ record self.old { room = self.new.room } }
         ensures room { OnOk result (length self.old.bits + n ≤ self.new.room) }
@@ -36,8 +37,8 @@ impl<A: Allocator + Clone> BitBufferMut<A> {
         reserve_to(&mut self.buffer, end)
     }
 
-    /// [`reserve`](Self::reserve) of no more than that: where the room grows, it becomes the length
-    /// and `n` more, rounded up to whole bytes.
+    /// Reserves capacity for `n` more bits, as [`reserve`](Self::reserve) does, but no more than
+    /// that: if the capacity grows, it becomes the length plus `n`, rounded up to whole bytes.
     pub fn reserve_exact(&mut self, n: usize) -> Result<()>
         ensures keeps { self.new ≡ record self.old { room = self.new.room } }
         ensures room { OnOk result (length self.old.bits + n ≤ self.new.room) }
@@ -53,11 +54,12 @@ impl<A: Allocator + Clone> BitBufferMut<A> {
         reserve_exactly_to(&mut self.buffer, end)
     }
 
-    /// Adds one bit, in amortized constant time.
+    /// Appends one bit, in amortized constant time.
     ///
-    /// Refused by `TooManyBits` where offset and length together are `usize::MAX`, else by
-    /// `OutOfMemory` alone. In both cases the set and its room are unchanged. Where the length is
-    /// below [`capacity`](Self::capacity), it takes no memory, succeeds, and the capacity stays.
+    /// Returns `TooManyBits` if offset and length together are `usize::MAX`. Otherwise it returns
+    /// `OutOfMemory` if memory runs out. The set and its capacity are unchanged on error. If the
+    /// length is below [`capacity`](Self::capacity), the call does not allocate, succeeds, and the
+    /// capacity does not change.
     pub fn append(&mut self, v: bool) -> Result<()>
         ensures ok { OnOk result (AddsBits (v ∷ []) self.old self.new) }
         ensures grows { KeepsStart self.old self.new }
@@ -74,12 +76,13 @@ impl<A: Allocator + Clone> BitBufferMut<A> {
         Ok(())
     }
 
-    /// Adds one bit, if the set's bytes have a place for it behind the last bit, and answers
-    /// whether they have: then it takes no memory and can't be refused, and the capacity stays.
+    /// Appends one bit if it fits in the set's bytes after the last bit, and returns whether it
+    /// does. In that case the call does not allocate, cannot fail, and the capacity does not
+    /// change.
     ///
-    /// `false` where the bytes end with the last bit, and where offset and length together are
-    /// `usize::MAX`; then the set and its room are unchanged, and [`append`](Self::append) has to
-    /// lengthen the bytes, or is refused.
+    /// Returns `false` if the bytes end with the last bit, or if offset and length together are
+    /// `usize::MAX`. The set and its capacity are unchanged then, and [`append`](Self::append) has
+    /// to extend the bytes, or fails.
     pub fn append_within_bytes(&mut self, v: bool) -> bool
         ensures within { IsTrue result
             ↔ InBytes self.old.bytes self.old.offset (length self.old.bits + 1) }
@@ -97,25 +100,26 @@ impl<A: Allocator + Clone> BitBufferMut<A> {
         true
     }
 
-    /// Whether there is room for one bit more: whether the length is below
-    /// [`capacity`](Self::capacity). Then the offset and the length with that bit are together
-    /// below 2^64.
+    /// Returns whether there is capacity for one more bit: whether the length is below
+    /// [`capacity`](Self::capacity). In that case the offset plus the length with that bit is below
+    /// 2^64.
     pub fn has_room(&self) -> bool
         ensures room { IsTrue result ↔ (length self.now.bits + 1 ≤ self.now.room) }
         ensures fits { result ≡ true → self.now.offset + length self.now.bits + 1 < 2 ^ 64 }
     {
-        // By the bit's byte, which takes fewer steps than the capacity in bits.
+        // Compares bytes, which takes fewer steps than the capacity in bits.
         let end = self.offset + self.len;
         end != usize::MAX && end / 8 < self.buffer.capacity()
     }
 
-    /// Adds one bit, for which there has to be room, as [`has_room`](Self::has_room) tells and
-    /// [`reserve`](Self::reserve) makes it. It takes no memory. The capacity, the offset and the
-    /// alignment stay. The bytes become longer only where none has a place for the bit.
+    /// Appends one bit. The caller must prove that there is capacity for it:
+    /// [`has_room`](Self::has_room) tests it, and [`reserve`](Self::reserve) makes it. Does not
+    /// allocate. The capacity, the offset and the alignment do not change. The bytes grow only if
+    /// none has space for the bit.
     ///
-    /// It doesn't test for room when it runs, since each caller has proved it. A caller that does
-    /// more than [`append`](Self::append) where there is no room can do that in a function of its
-    /// own, and then add the bit here in both cases.
+    /// The call does not test the capacity at run time, since each caller has proved it. A caller
+    /// that needs more work than [`append`](Self::append) when the set is full can do it in a
+    /// separate function, and then append the bit here in both cases.
     pub fn append_unchecked(&mut self, v: bool)
         requires { length self.old.bits + 1 ≤ self.old.room }
         ensures adds { AddsBits (v ∷ []) self.old self.new }
@@ -127,7 +131,7 @@ impl<A: Allocator + Clone> BitBufferMut<A> {
         self.len += 1;
     }
 
-    /// Adds a true bit: [`append`](Self::append) of `true`.
+    /// Appends a true bit: [`append`](Self::append) with `true`.
     pub fn append_true(&mut self) -> Result<()>
         ensures ok { OnOk result (AddsBits (true ∷ []) self.old self.new) }
         ensures grows { KeepsStart self.old self.new }
@@ -138,7 +142,7 @@ impl<A: Allocator + Clone> BitBufferMut<A> {
         self.append(true)
     }
 
-    /// Adds a false bit: [`append`](Self::append) of `false`.
+    /// Appends a false bit: [`append`](Self::append) with `false`.
     pub fn append_false(&mut self) -> Result<()>
         ensures ok { OnOk result (AddsBits (false ∷ []) self.old self.new) }
         ensures grows { KeepsStart self.old self.new }
@@ -149,16 +153,16 @@ impl<A: Allocator + Clone> BitBufferMut<A> {
         self.append(false)
     }
 
-    /// Adds `n` bits, all `v`, behind the last one, whole bytes at once. The bytes are lengthened
-    /// where they are too few, to as few as hold all bits, and no other bit that they had changes:
-    /// so says clause `ok`. Offset and alignment stay, and the room never shrinks, refused or not:
-    /// so says clause `grows`.
+    /// Appends `n` bits, all `v`, whole bytes at a time. If the bytes are too few, they grow to as
+    /// few as hold all bits, and no other bit of the old bytes changes; clause `ok` proves this.
+    /// Offset and alignment do not change, and the capacity never shrinks, on success or on error;
+    /// clause `grows` proves this.
     ///
-    /// Refused by `TooManyBits` where offset, length and `n` together pass `usize::MAX`, else by
-    /// `OutOfMemory` alone. In both cases the set and its room are unchanged. Where the length and
-    /// `n` together are at most [`capacity`](Self::capacity), it takes no memory, succeeds, and the
-    /// capacity stays. When it succeeds, how it is refused, and that nothing changes then, clause
-    /// `needs` says.
+    /// Returns `TooManyBits` if offset, length and `n` together exceed `usize::MAX`. Otherwise it
+    /// returns `OutOfMemory` if memory runs out. The set and its capacity are unchanged on error.
+    /// If the length plus `n` is at most [`capacity`](Self::capacity), the call does not allocate,
+    /// succeeds, and the capacity does not change. Clause `needs` states when the call succeeds,
+    /// which errors it returns, and that nothing changes on error.
     pub fn append_n(&mut self, v: bool, n: usize) -> Result<()>
         ensures ok { OnOk result (AddsBits (replicate n v) self.old self.new) }
         ensures grows { KeepsStart self.old self.new }
@@ -175,13 +179,15 @@ impl<A: Allocator + Clone> BitBufferMut<A> {
         Ok(())
     }
 
-    /// Makes it `n` bits long: cut, as [`truncate`](Self::truncate) cuts, or filled up with `v`, as
-    /// [`append_n`](Self::append_n) adds. At its own length it is unchanged. Offset and alignment
-    /// stay, the room never shrinks, and no bit before the shorter of both lengths changes.
+    /// Changes the length to `n` bits: removes bits as [`truncate`](Self::truncate) does, or
+    /// appends `v` as [`append_n`](Self::append_n) does. If `n` is the length, nothing changes.
+    /// Offset and alignment do not change, the capacity never shrinks, and no bit below the shorter
+    /// of both lengths changes.
     ///
-    /// Refused by `TooManyBits` where offset and `n` together pass `usize::MAX`, else by
-    /// `OutOfMemory` alone. In both cases the set and its room are unchanged. Up to
-    /// [`capacity`](Self::capacity) it takes no memory, succeeds, and the capacity stays.
+    /// Returns `TooManyBits` if offset and `n` together exceed `usize::MAX`. Otherwise it returns
+    /// `OutOfMemory` if memory runs out. The set and its capacity are unchanged on error. If `n` is
+    /// at most [`capacity`](Self::capacity), the call does not allocate, succeeds, and the capacity
+    /// does not change.
     pub fn resize(&mut self, n: usize, v: bool) -> Result<()>
         ensures ok { OnOk result (self.new.bits
             ≡ take n self.old.bits ++ replicate (n - length self.old.bits) v) }
@@ -194,7 +200,7 @@ impl<A: Allocator + Clone> BitBufferMut<A> {
         ensures stays { n ≤ self.old.room → self.new.room ≡ self.old.room }
         ensures needs { NeedsBits (n - length self.old.bits) result self.old self.new }
     {
-        // The end of the bits is a `usize`.
+        // This tells the prover that the end of the bits fits in `usize`.
         let _bytes = self.as_slice();
         let len = self.len();
         if n < len {
@@ -204,8 +210,7 @@ impl<A: Allocator + Clone> BitBufferMut<A> {
         self.append_n(v, n - len)
     }
 
-    /// Adds the bits of a shared set behind the last bit: [`append_view`](Self::append_view) of its
-    /// view.
+    /// Appends the bits of a shared set: [`append_view`](Self::append_view) of its view.
     pub fn append_buffer(&mut self, set: &BitBuffer<A>) -> Result<()>
         ensures ok { OnOk result (AddsBits set.now.bits self.old self.new) }
         ensures grows { KeepsStart self.old self.new }
@@ -217,13 +222,14 @@ impl<A: Allocator + Clone> BitBufferMut<A> {
         self.append_view(set.as_view())
     }
 
-    /// Adds the bits of a view behind the last bit, whatever stood in the bytes there. It goes by
-    /// words. The offset and the alignment stay, and the room doesn't shrink.
+    /// Appends the bits of a view by words, and overwrites the old bits of the bytes there. The
+    /// offset and the alignment do not change, and the capacity does not shrink.
     ///
-    /// Refused by `TooManyBits` where the offset and both lengths together pass `usize::MAX`, else
-    /// by `OutOfMemory` where memory is. Then the set and its room are unchanged. Where both
-    /// lengths together are at most [`capacity`](Self::capacity), it takes no memory and
-    /// succeeds; of up to 512 bits the capacity stays.
+    /// Returns `TooManyBits` if the offset and both lengths together exceed `usize::MAX`. Otherwise
+    /// it returns `OutOfMemory` if memory runs out. The set and its capacity are unchanged on
+    /// error. If both lengths together are at most [`capacity`](Self::capacity), the call does not
+    /// allocate and succeeds; if the view has at most 512 bits, the capacity does not change
+    /// either.
     pub fn append_view(&mut self, bits: BitBufferView<'_>) -> Result<()>
         ensures ok { OnOk result (AddsBits (bits_of bits.entry) self.old self.new) }
         ensures grows { KeepsStart self.old self.new }
@@ -235,9 +241,9 @@ impl<A: Allocator + Clone> BitBufferMut<A> {
         self.append_bits(bits.inner(), bits.offset(), bits.len())
     }
 
-    /// Adds the `len` bits of `bytes` from bit `offset` on, which have to lie in the bytes;
-    /// `offset + len` has to be a `usize`: `window_fits` is the test. Else as
-    /// [`append_view`](Self::append_view).
+    /// Appends the `len` bits of `bytes` from bit `offset` on. The bits must be in bounds of
+    /// `bytes`, and `offset + len` must fit in `usize`; `window_fits` tests both. Errors, memory
+    /// and cost are those of [`append_view`](Self::append_view).
     pub fn append_bits(&mut self, bytes: &[u8], offset: usize, len: usize) -> Result<()>
         requires window { InBytes bytes.now offset len }
         ensures ok { OnOk result (AddsBits (bits bytes.now offset len) self.old self.new) }

@@ -1,4 +1,4 @@
-//! Sets made of what a closure answers, of lists of truth values, and of what an iterator gives.
+//! Sets made from the results of a closure, from lists of truth values, and from iterators.
 ghost use Rattle.std.specs.Prelude.{◌≡◌, ◌⊎◌, ◌==◌, ⊤, not, false, length, map, replicate};
 ghost use Rattle.std.specs.Prelude.{◌<◌, All, IfOk, IfErr, MatchResult, OnErr};
 ghost use Rattle.std.specs.Iterator.{IsFiniteIterable};
@@ -16,13 +16,13 @@ use vb_core::{BufferError, Result};
 
 #[tactic(auto, using(vb_bit_bytes::proofs::BytesLemmas::edits))]
 impl<A: Allocator + Clone> BitBufferMut<A> {
-    /// A set, of offset 0, of what `f` answers at the places from 0 up to `len`, `len` excluded.
-    /// `f` is called in order and once at each place, and has to be callable there whatever it
-    /// answered before. The bytes are as few as hold the bits, with alignment 1: so says clause
-    /// `fresh`. Full words go by vectors of bytes, the rest bit by bit.
+    /// Calls `f` with each index from 0 to `len - 1`, in order, and returns the results as a set of
+    /// offset 0. The caller must prove that `f` may be called with each index, whatever it returned
+    /// before. The set has as few bytes as hold the bits, with alignment 1; clause `fresh` proves
+    /// this. Packs the results of full words with byte vectors, and the rest bit by bit.
     ///
-    /// It takes memory for the bytes of the bits. Refused by `OutOfMemory` alone, before the first
-    /// call of `f`.
+    /// Allocates the bytes of the bits. Returns `OutOfMemory`, before it calls `f`, if memory runs
+    /// out.
     pub fn collect_bool<F: FnMut(usize) -> bool>(alloc: A, len: usize, f: &mut F) -> Result<Self>
         requires { CanAsk (F.pre) (F.step) f.old (span 0 len) }
         ensures answered { IfOk result (λ s.
@@ -35,13 +35,13 @@ impl<A: Allocator + Clone> BitBufferMut<A> {
         Ok(BitBufferMut::from_buffer(bytes, 0, len))
     }
 
-    /// A set, of offset 0, of what `f` answers at the places from 0 up to `len`, `len` excluded.
-    /// `f` is called in order and once at each place, and has to be callable there whatever it
-    /// answered before. The code is that of [`collect_bool`](Self::collect_bool): no version is
-    /// picked at run time.
+    /// Calls `f` with each index from 0 to `len - 1`, in order, and returns the results as a set of
+    /// offset 0. The caller must prove that `f` may be called with each index, whatever it returned
+    /// before. Runs the same code as [`collect_bool`](Self::collect_bool): it does not pick a
+    /// version at run time.
     ///
-    /// It takes memory for the bytes of the bits. Refused by `OutOfMemory` alone, before the first
-    /// call of `f`.
+    /// Allocates the bytes of the bits. Returns `OutOfMemory`, before it calls `f`, if memory runs
+    /// out.
     pub fn collect_bool_multiversioned<F: FnMut(usize) -> bool>(
         alloc: A,
         len: usize,
@@ -57,8 +57,8 @@ impl<A: Allocator + Clone> BitBufferMut<A> {
         BitBufferMut::collect_bool(alloc, len, f)
     }
 
-    /// The truth values of a slice. It takes memory for the bytes of the bits. Refused by
-    /// `OutOfMemory` alone.
+    /// Returns the truth values of a slice as a set. Allocates the bytes of the bits. Returns
+    /// `OutOfMemory` if memory runs out.
     pub fn from_bools(alloc: A, bools: &[bool]) -> Result<Self>
         ensures { Makes (IsFreshOpenSet bools.now) result }
     {
@@ -66,16 +66,16 @@ impl<A: Allocator + Clone> BitBufferMut<A> {
         Ok(BitBufferMut::from_buffer(bytes, 0, bools.len()))
     }
 
-    /// The truth values of a vector. It takes memory for the bytes of the bits, and gives the
-    /// vector's back. Refused by `OutOfMemory` alone; the vector is gone then too.
+    /// Returns the truth values of a vector as a set, and frees the vector, also on error.
+    /// Allocates the bytes of the bits. Returns `OutOfMemory` if memory runs out.
     pub fn from_bool_vec(alloc: A, bools: Vec<bool, A>) -> Result<Self>
         ensures { Makes (IsFreshOpenSet bools.items) result }
     {
         BitBufferMut::from_bools(alloc, bools.as_slice())
     }
 
-    /// A set of one bit for each byte of `truthy`, true where the byte isn't 0. It takes memory for
-    /// the bytes of the bits. Refused by `OutOfMemory` alone.
+    /// Returns a set with one bit for each byte of `truthy`, true if the byte is not 0. Allocates
+    /// the bytes of the bits. Returns `OutOfMemory` if memory runs out.
     pub fn from_truthy(alloc: A, truthy: &[u8]) -> Result<Self>
         ensures { Makes (IsFreshOpenSet (map (λ x. not (x == 0)) truthy.now)) result }
     {
@@ -83,11 +83,11 @@ impl<A: Allocator + Clone> BitBufferMut<A> {
         Ok(BitBufferMut::from_buffer(bytes, 0, truthy.len()))
     }
 
-    /// A set of the items of an iterator, in order. Its size hint isn't asked for: memory is taken
-    /// as the items come.
+    /// Returns the items of an iterator, in order, as a set. The caller must prove that the
+    /// iterator ends. Does not use the iterator's size hint: it allocates as the items come.
     ///
-    /// Refused by `TooManyBits` at the first item past `usize::MAX` of them, else by `OutOfMemory`
-    /// alone; the iterator and the items that it gave are gone then.
+    /// Returns `TooManyBits`, at the first item that exceeds `usize::MAX` items, or `OutOfMemory`
+    /// if memory runs out. Drops the iterator and its items on error.
     pub fn from_iter<I: IntoIterator<Item = bool>>(alloc: A, iter: I) -> Result<Self>
         requires { IsFiniteIterable I.into_iter_gives I.IntoIter.can_next
             I.IntoIter.remaining iter }
@@ -102,12 +102,13 @@ impl<A: Allocator + Clone> BitBufferMut<A> {
         Ok(BitBufferMut::from_buffer(bytes, 0, len))
     }
 
-    /// `len` bits, true exactly at the places that an iterator gives, as `[1, 3].into_iter()` or
-    /// `places.iter().copied()`. A place may come more than once.
+    /// Returns a set of `len` bits that is true exactly at the indices that an iterator returns,
+    /// for example `[1, 3].into_iter()` or `indices.iter().copied()`. An index may occur more than
+    /// once. The caller must prove that the iterator ends.
     ///
-    /// It takes memory for the bytes of the bits, and for no list of the places. Refused by
-    /// `OutOfMemory` before the iterator is asked, else by `IndexOutOfRange` with the first number
-    /// that isn't below `len`, behind which it isn't asked. The iterator is gone then.
+    /// Allocates the bytes of the bits, and no list of the indices. Returns `OutOfMemory`, before
+    /// it polls the iterator, if memory runs out. Returns `IndexOutOfRange` with the first index
+    /// that is not below `len`, and does not poll the iterator again. Drops the iterator.
     pub fn from_indices<I: IntoIterator<Item = usize>>(
         alloc: A,
         len: usize,

@@ -1,4 +1,4 @@
-//! Truth values added at the end: those of a slice, and those that an iterator gives.
+//! Truth values of slices and iterators appended at the end.
 ghost use Rattle.std.specs.Prelude.{◌≡◌, ◌⊎◌, ⊤, ℕ, ◌+◌, ◌*◌, ◌^◌, ◌<◌, ◌≤◌, Bool, List};
 ghost use Rattle.std.specs.Prelude.{length, take, IsOk, OnOk, OnErr, MatchResult};
 ghost use Rattle.std.specs.Iterator.{Drains, ExtendsWithItems, HoldsAlong, IsFiniteIterable};
@@ -12,18 +12,18 @@ use vb_bit_bytes::next_word;
 use vb_core::{BufferError, Result, TrustedLen};
 use vb_pack::pack_bools;
 
-/// How many truth values of a slice are packed at once.
+/// The number of truth values of a slice that are packed at once.
 const PACKED_BITS: usize = 512;
 
 #[tactic(auto, using(vb_bit_bytes::proofs::BytesLemmas::edits))]
 impl<A: Allocator + Clone> BitBufferMut<A> {
-    /// Adds the truth values of a slice, by blocks that are packed as
-    /// [`from_bools`](Self::from_bools) packs them.
+    /// Appends the truth values of a slice. Packs them in blocks, as
+    /// [`from_bools`](Self::from_bools) does.
     ///
-    /// Refused by `TooManyBits` where the offset and both lengths together pass `usize::MAX`, else
-    /// by `OutOfMemory` alone. In both cases the set and its room are unchanged. Where both lengths
-    /// together are at most [`capacity`](Self::capacity), it takes no memory, succeeds, and the
-    /// capacity stays.
+    /// Returns `TooManyBits` if the offset and both lengths together exceed `usize::MAX`. Otherwise
+    /// it returns `OutOfMemory` if memory runs out. The set and its capacity are unchanged on
+    /// error. If both lengths together are at most [`capacity`](Self::capacity), the call does not
+    /// allocate, succeeds, and the capacity does not change.
     pub fn append_bools(&mut self, bools: &[bool]) -> Result<()>
         ensures ok { OnOk result (AddsBits bools.now self.old self.new) }
         ensures grows { KeepsStart self.old self.new }
@@ -32,7 +32,7 @@ impl<A: Allocator + Clone> BitBufferMut<A> {
         ensures needs { NeedsBits (length bools.now) result self.old self.new }
     {
         self.reserve(bools.len())?;
-        // The bits lie in the bytes.
+        // This tells the prover that the bits are in bounds of the bytes.
         let _bytes = self.as_slice();
         for block in 0..bools.len().div_ceil(PACKED_BITS) {
             let start = PACKED_BITS * block;
@@ -42,13 +42,15 @@ impl<A: Allocator + Clone> BitBufferMut<A> {
         Ok(())
     }
 
-    /// Adds the items of an iterator, which has to end, as bits. They are packed by 64, and each 64
-    /// of them are added at once. Its size hint isn't asked for: memory is taken as the items come,
-    /// and none while they are within [`capacity`](Self::capacity), which stays then.
+    /// Appends the items of an iterator as bits. The caller must prove that the iterator ends.
+    /// Packs the items 64 at a time, and appends each 64 of them at once. Does not use the
+    /// iterator's size hint: it allocates as the items come. While they fit in
+    /// [`capacity`](Self::capacity), the call does not allocate, and the capacity does not change.
     ///
-    /// Refused by `TooManyBits` where items came whose bits, behind the offset and the bits before
-    /// them, pass `usize::MAX`, else by `OutOfMemory` alone. Then the set is full of the items
-    /// that came first, and at most 64 more are lost; those behind them weren't asked for.
+    /// Returns `TooManyBits` if the offset, the bits and the items together exceed `usize::MAX`.
+    /// Otherwise it returns `OutOfMemory` if memory runs out. On error the set keeps the first
+    /// items, up to its capacity. At most 64 more items are lost, and the call does not poll the
+    /// items after those.
     pub fn extend<I: IntoIterator<Item = bool>>(&mut self, iter: I) -> Result<()>
         requires { IsFiniteIterable I.into_iter_gives I.IntoIter.can_next
             I.IntoIter.remaining iter }
@@ -65,7 +67,7 @@ impl<A: Allocator + Clone> BitBufferMut<A> {
             × GivesPastBehind I.into_iter_gives I.IntoIter.next_gives
             (self.old.offset + length self.old.bits) iter)) }
     {
-        // The bits lie in the bytes.
+        // This tells the prover that the bits are in bounds of the bytes.
         let _bytes = self.as_slice();
         let mut rest = iter.into_iter();
         loop {
@@ -78,8 +80,8 @@ impl<A: Allocator + Clone> BitBufferMut<A> {
         }
     }
 
-    /// Adds the items that an iterator of known length gives as bits, all of them or none. It is
-    /// refused, before the first item, as [`append_bools`](Self::append_bools) is.
+    /// Appends the items of an iterator whose length is known as bits: all of them or none. Returns
+    /// the errors of [`append_bools`](Self::append_bools), before it polls the first item.
     pub fn extend_trusted<I: TrustedLen<Item = bool>>(&mut self, iter: I) -> Result<()>
         requires { I.can_next iter }
         ensures ok { OnOk result ((items : List Bool) × Drains I.next_gives iter items
@@ -95,7 +97,7 @@ impl<A: Allocator + Clone> BitBufferMut<A> {
         self.extend(iter)
     }
 
-    /// [`append_bools`](Self::append_bools) of no more than a block.
+    /// Does the same as [`append_bools`](Self::append_bools) for at most one block.
     fn append_block(&mut self, bools: &[bool]) -> Result<()>
         requires { length bools.now ≤ PACKED_BITS }
         ensures ok { OnOk result (AddsBits bools.now self.old self.new) }
@@ -109,7 +111,8 @@ impl<A: Allocator + Clone> BitBufferMut<A> {
         self.append_bits(&bytes, 0, bools.len())
     }
 
-    /// Adds the `count` lowest digits of a word; where they are refused, as many as the room takes.
+    /// Appends the `count` lowest digits of a word. On error it appends as many as there is
+    /// capacity for.
     fn append_word(&mut self, word: u64, count: usize) -> Result<()>
         requires in_word { count ≤ 64 }
         ensures ok { OnOk result (AddsBits (digits word 0 count) self.old self.new) }

@@ -1,4 +1,4 @@
-//! What sets are by traits: cloned, printed, negated, and stores of views.
+//! Implementations of traits: clone, printing, negation and the store of a view.
 use super::BitBufferMut;
 use std::alloc::{AllocError, Allocator};
 use std::fmt;
@@ -6,7 +6,7 @@ use std::ops::Not;
 use vb_bit_bytes::{negate, write_bits};
 use vb_view::BitStore;
 
-/// A copy, as [`BitBufferMut::clone`] makes it, for code over std's trait.
+/// Makes a copy, as [`BitBufferMut::clone`] does, for code that uses std's trait.
 impl<A: Allocator + Clone> Clone for BitBufferMut<A> {
     ghost use Rattle.std.specs.Prelude.{◌≡◌};
 
@@ -17,15 +17,15 @@ impl<A: Allocator + Clone> Clone for BitBufferMut<A> {
     }
 }
 
-/// The first 64 bits, as `BitBufferMut(01101..)`.
+/// Prints the first 64 bits, for example `BitBufferMut(01101..)`.
 impl<A: Allocator + Clone> fmt::Debug for BitBufferMut<A> {
     fn fmt<W: fmt::Write>(&self, f: &mut fmt::Formatter<W>) -> fmt::Result {
         write_bits(f, "BitBufferMut", self.as_slice(), self.offset, self.len)
     }
 }
 
-/// Negates every bit in place, by words of eight bytes. It takes no memory, and no bit of the bytes
-/// outside of the set changes.
+/// Negates every bit in place, eight bytes at a time. Does not allocate, and changes no bit outside
+/// the set.
 #[tactic(auto, using(vb_bit_bytes::proofs::BytesLemmas::edits))]
 impl<A: Allocator + Clone> Not for BitBufferMut<A> {
     ghost use Rattle.std.specs.Prelude.{◌≡◌};
@@ -44,7 +44,7 @@ impl<A: Allocator + Clone> Not for BitBufferMut<A> {
     }
 }
 
-/// A view of a set is of all its bits.
+/// A view of a set shows all its bits.
 impl<'a, A: Allocator + Clone> BitStore for &'a mut BitBufferMut<A> {
     ghost use Rattle.std.specs.Prelude.{ℕ, ◌≡◌, length};
     ghost use Rattle.std.proofs.Props.{props};

@@ -2,7 +2,7 @@ use Rattle.std.proofs.Common.{◌≡◌, ◌+◌, ◌*◌, ◌≤◌, length, ta
 use Rattle.vb_set.specs.OpenSet.{AddsBits}
 use Rattle.vb_set.proofs.bit_buffer_mut.BitBufferMut.append_bools.Given as goal
 
--- the blocks so far were added, and there is room for the others
+-- the previous blocks were appended, and there is capacity for the others
 abbrev pub invariant-loop-block : goal.invariant-loop-block
 invariant-loop-block g l = record {
   adds : AddsBits (take (512 * l.block) l.bools) l.fn.self l.self;

@@ -7,7 +7,7 @@ use Rattle.vb_bits.proofs.BytesLemmas.{bits-to_le_bytes}
 use Rattle.vb_set.specs.OpenSet.{AddsBits}
 use Rattle.vb_set.proofs.bit_buffer_mut.BitBufferMut.append_word.Goals as goal
 
--- what holds, holds of an error
+-- a proposition that holds also holds if the result is an error
 of_err : {B E : Type 0} (r : Result B E) (P : Type 0) → P → OnErr r P
 of_err (Ok _) P p = tt
 of_err (Err _) P p = p

@@ -12,19 +12,19 @@ use Rattle.vb_set.proofs.bit_buffer_mut.BitBufferMut.extend.Given.{Over}
 use Rattle.vb_set.proofs.bit_buffer_mut.BitBufferMut.extend.Goals as goal
 use Rattle.vb_set.proofs.bit_buffer_mut.BitBufferMut.extend.Goals.{After-append_word}
 
--- an error is no value
+-- an error is not a value
 at_err : {B E : Type 0} (r : Result B E) (P Q : Type 0) → IsErr r → Q
     → MatchResult r (λ _. P) (λ _. Q)
 at_err (Ok _) P Q err q = absurd (search (rules, err))
 at_err (Err _) P Q err q = q
 
--- what is said of an error that was handed on
+-- a property of an error also holds of the error that a caller returns unchanged
 refused_by : {B E : Type 0} (r : Result B E) (P Q : E → Type 0) → IsErrAnd r P
     → ((e : E) → P e → Q e) → MatchResult r (λ _. ⊤) Q
 refused_by (Ok _) P Q said f = tt
 refused_by (Err e) P Q said f = f e said
 
--- n items came behind those that were kept
+-- n items came after those that were kept
 record CameBehind {S : Type 0} (steps : S → Option Bool → S → Type 0) (start rest : S)
     (kept items : List Bool) (n : ℕ) : Type 0 where
   end : S
@@ -32,7 +32,7 @@ record CameBehind {S : Type 0} (steps : S → Option Bool → S → Type 0) (sta
   all : Yields steps start (kept ++ items) end
   len : length (kept ++ items) ≡ length kept + n
 
--- the word's did
+-- the items of the word came
 came : (g : Over) (c : After-append_word g) → CameBehind g.I.IntoIter.Iterator.next_gives
     c.into_iter-rest.result c.loop.rest c.loop.invariant.given.0
     (digits c.next_word-word.result.0 0 c.next_word-word.result.1) c.next_word-word.result.1
@@ -72,7 +72,7 @@ loop-init g c =
       stays = λ h. refl;
     }
 
--- the words before, and what the room took of the last one
+-- the words before, and the part of the last word for which there was capacity
 pub returns-in_err-append_word-clause-adds : goal.returns-in_err-append_word-clause-adds
 returns-in_err-append_word-clause-adds g c =
     let steps = g.I.IntoIter.Iterator.next_gives in
@@ -90,7 +90,7 @@ returns-in_err-append_word-clause-adds g c =
       at_err c.from_residual.result _ _ c.from_residual.ensures.0 (cut.0, run),
     )
 
--- had there been room for all items, the word would have been added
+-- if there had been capacity for all items, the word would have been appended
 pub returns-in_err-append_word-clause-in_room : goal.returns-in_err-append_word-clause-in_room
 returns-in_err-append_word-clause-in_room g c room =
     let start = c.into_iter-rest.result in let inv = c.loop.invariant in let kept = inv.given in
@@ -105,7 +105,7 @@ returns-in_err-append_word-clause-in_room g c room =
     )) in
     absurd (search (rules, ok))
 
--- the items that came are too many
+-- too many items came
 pub returns-in_err-append_word-clause-err : goal.returns-in_err-append_word-clause-err
 returns-in_err-append_word-clause-err g c =
     let start = c.into_iter-rest.result in let inv = c.loop.invariant in let kept = inv.given in

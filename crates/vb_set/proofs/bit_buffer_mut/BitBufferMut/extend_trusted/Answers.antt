@@ -4,13 +4,13 @@ use Rattle.std.specs.Prelude.{MatchResult, IsOkUnless}
 use Rattle.vb_set.proofs.AddsLemmas.{left-along}
 use Rattle.vb_set.proofs.bit_buffer_mut.BitBufferMut.extend_trusted.Goals as goal
 
--- what holds of a value, where there is one
+-- a property of the value, if there is one
 of_value : {B E : Type 0} (r : Result B E) (P Q R : Type 0) → IsOk r
     → MatchResult r (λ _. P) (λ _. Q) → (P → R) → OnOk r R
 of_value (Ok _) P Q R ok said f = f said
 of_value (Err _) P Q R ok said f = absurd (search (rules, ok))
 
--- nothing is asked of a value that was refused, where none was
+-- a property of the error holds if there is no error
 no_error : {B E : Type 0} (r : Result B E) (P : Type 0) → IsOk r → OnErr r P
 no_error (Ok _) P ok = tt
 no_error (Err _) P ok = absurd (search (rules, ok))
@@ -19,7 +19,7 @@ unless : {B E : Type 0} (r : Result B E) (e : E) → IsOk r → IsOkUnless r e
 unless (Ok _) e ok = tt
 unless (Err _) e ok = absurd (search (rules, ok))
 
--- all items find room
+-- there is capacity for all items
 added : (g : _) (c : goal.After-extend g)
     → IsOk c.extend.result × (c.extend.new.self.room ≡ c.reserve.new.self.room)
 added g c =
