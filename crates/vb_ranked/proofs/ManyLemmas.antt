@@ -1,8 +1,8 @@
--- Answers of many ranks, as lists.
+-- The results for many ranks, as lists.
 use Rattle.std.proofs.Common.{ℕ, List, [], ◌∷◌, Option}
 use Rattle.std.specs.List.{AllZip}
 
--- what follows of each answer follows of the lists
+-- a relation that follows for each result follows for the lists
 pub AllZip-through : (R S : ℕ → Option ℕ → Type 0) → ((x : ℕ) (y : Option ℕ) → R x y → S x y)
     → (xs : List ℕ) (ys : List (Option ℕ)) → AllZip R xs ys → AllZip S xs ys
 AllZip-through R S f [] [] z = tt

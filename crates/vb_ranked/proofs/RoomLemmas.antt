@@ -1,8 +1,8 @@
--- The room of a set, and that for its counts.
+-- The capacity of a set, and the capacity of its counts.
 use Rattle.std.proofs.Common.{◌≡◌, ℕ, ◌≤◌}
 use Rattle.vb_directory.specs.Counts.{numbers_for}
 
--- what has room for the counts of a set's room has it for those of as much room
+-- capacity for the counts of one number of bits is capacity for the counts of an equal number
 pub held_on : {old new : ℕ} (room : ℕ) → new ≡ old → numbers_for old ≤ room
     → numbers_for new ≤ room
 held_on room same held = rw same held

@@ -1,4 +1,4 @@
--- How calls answer that add bits to a set with its counts.
+-- The contracts of calls that append bits to a set with its counts.
 use Rattle.std.specs.Prelude.{◌≡◌, ℕ, ◌+◌, ◌^◌, ◌<◌, ◌≤◌, Bool, [], ◌∷◌, ◌++◌, length}
 use Rattle.std.specs.Prelude.{Result, IsOk, IsOkUnless, IsErrOf, OnErr}
 use Rattle.vb_core.specs.declared.error.BufferError.{BufferError}
@@ -6,9 +6,10 @@ use Rattle.vb_core.specs.declared.error.BufferError.TheVariants.{OutOfMemory, To
 use Rattle.vb_directory.specs.Counts.{HeldCounts, AreCounts, numbers_for}
 use Rattle.vb_set.specs.OpenSet.{OpenSet}
 
--- a call that needs n bits more: where there are bits it succeeds within the room, of which there
--- are the counts; it is refused by `TooManyBits` where the bits' numbers would pass 64 bits, else
--- by `OutOfMemory` alone; refused, it leaves the set and its room as they were
+-- a call that needs n more bits. If the set has bits and capacity, it succeeds, since the counts
+-- then have capacity too. It returns `TooManyBits` if the offset and the number of bits exceed 64
+-- bits together; otherwise `OutOfMemory` is its only error. On error the set and its capacity are
+-- unchanged
 pub record NeedsCountedBits {T : Type 0} (n : ℕ) (result : Result T BufferError)
     (old new : OpenSet) : Type 0 where
   pub in_room : 0 < length old.bits → length old.bits + n ≤ old.room → IsOk result
@@ -16,9 +17,9 @@ pub record NeedsCountedBits {T : Type 0} (n : ℕ) (result : Result T BufferErro
   pub too_many : 2 ^ 64 ≤ old.offset + length old.bits + n → IsErrOf result TooManyBits
   pub err : OnErr result (new ≡ old)
 
--- a set and its counts are ready for one bit more: there is room for it and for the counts of as
--- many bits as the set has room for, and the counts are those of its bits with that one, whatever
--- it is: they are of the true bits before each block, and it stands before none
+-- a set and its counts are ready for one more bit. The set has capacity for it, and the counts have
+-- capacity for all bits that the set can hold. With that bit, true or false, the counts are those
+-- of the set: they count the true bits before each block, and the new bit is before none
 pub record IsReadyForBit (set : OpenSet) (counts : HeldCounts) : Type 0 where
   pub room : length set.bits + 1 ≤ set.room
   pub counts_room : numbers_for set.room ≤ counts.room

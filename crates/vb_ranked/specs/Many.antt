@@ -1,4 +1,4 @@
--- How calls answer that find the places of many ranks.
+-- The contracts of calls that find the indices of many ranks.
 use Rattle.std.specs.Prelude.{◌≡◌, ◌≢◌, ℕ, Bool, List, length, Option}
 use Rattle.std.specs.Prelude.{Result, IfOk, IsOk, IsErrOf, OnErr}
 use Rattle.std.specs.List.{AllZip}
@@ -6,8 +6,8 @@ use Rattle.vb_bits.specs.Bits.{Selects, InvertsCount}
 use Rattle.vb_core.specs.declared.error.BufferError.{BufferError}
 use Rattle.vb_core.specs.declared.error.BufferError.TheVariants.{LengthMismatch}
 
--- where there are as many places as ranks, each is that of the true value of its rank; other
--- lengths are refused, with both, and the places stay
+-- if there are as many indices as ranks, each is the index of the true bit of its rank. Otherwise
+-- the call returns `LengthMismatch` with both lengths, and the indices do not change
 pub record FindsMany (l : List Bool) (ranks : List ℕ) (old new : List (Option ℕ))
     (result : Result (Unit {0}) BufferError) : Type 0 where
   pub places : IfOk result (λ _. AllZip (Selects l) ranks new)

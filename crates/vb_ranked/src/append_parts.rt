@@ -1,4 +1,4 @@
-//! The bits of a view, added by parts.
+//! The bits of a view, appended in parts.
 ghost use Rattle.std.specs.Prelude.{◌≡◌, ◌+◌, ◌≤◌, length, OnOk};
 ghost use Rattle.vb_set.specs.OpenSet.{AddsBits, KeepsStart, NeedsBits};
 ghost use Rattle.vb_set.specs.View.{bits_of};
@@ -6,12 +6,12 @@ ghost use Rattle.vb_set.specs.View.{bits_of};
 use std::alloc::Allocator;
 use vb_set::{BitBufferMut, BitBufferView, Result};
 
-/// How many bits are added at once: [`append_view`](BitBufferMut::append_view) of at most so many
-/// keeps the capacity.
+/// The number of bits that are appended at once: [`append_view`](BitBufferMut::append_view) of at
+/// most this number keeps the capacity.
 const PART_BITS: usize = 512;
 
-/// [`append_view`](BitBufferMut::append_view), for which the room is made first; within the
-/// capacity it stays, however many bits there are.
+/// Does the same as [`append_view`](BitBufferMut::append_view), but reserves the capacity first. If
+/// the capacity is large enough already, it does not change, for any number of bits.
 pub(crate) fn append_parts<A: Allocator + Clone>(
     set: &mut BitBufferMut<A>,
     bits: BitBufferView<'_>,
@@ -23,7 +23,7 @@ pub(crate) fn append_parts<A: Allocator + Clone>(
     ensures needs { NeedsBits (length (bits_of bits.entry)) result set.old set.new }
 {
     set.reserve(bits.len())?;
-    // The bits lie in the bytes.
+    // This tells the prover that the bits are in bounds of the bytes.
     let _bytes = set.as_slice();
     for part in 0..bits.len().div_ceil(PART_BITS) {
         let start = PART_BITS * part;

@@ -1,8 +1,8 @@
-//! A directory: a set of bits with counts of its true bits, which every edit keeps exact.
+//! A directory: a set of bits with counts of its true bits. Every edit keeps the counts exact.
 //!
-//! [`Ranked`] answers ranks and places of ranks by few looks at the bits, as `vb_rank` does over a
-//! table, and has the counts of `vb_directory`, by groups, so that an edit moves few of them.
-//! [`RankedBuffer`] answers the same of a shared set, which is read alone.
+//! [`Ranked`] computes ranks and finds the indices of ranks with few reads of the bits, as
+//! `vb_rank` does with a table. It keeps the counts of `vb_directory`, in groups, so that an edit
+//! moves few of them. [`RankedBuffer`] does the same for a shared set, which is read-only.
 #![tactic(auto)]
 
 mod append_parts;

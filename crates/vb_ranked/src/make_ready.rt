@@ -1,4 +1,4 @@
-//! Room for one bit, and the count of those before it.
+//! Capacity for one bit, and the count of the bits before it.
 ghost use Rattle.std.specs.Prelude.{◌≡◌, ◌+◌, ◌%◌, ◌^◌, ◌<◌, ◌≤◌, true, false, length};
 ghost use Rattle.std.specs.Prelude.{OnOk, OnErr};
 ghost use Rattle.vb_directory.specs.Counts.{AreCounts, numbers_for};
@@ -10,17 +10,17 @@ use vb_directory::Counts;
 use vb_rank::BLOCK_BITS;
 use vb_set::{BitBufferMut, Result};
 
-/// Makes a set and its counts ready for one bit more, which has to be added next, and answers
-/// whether they are. There is room for the bit then, and where it begins a block, the counts have
-/// the number of true bits before that block.
+/// Prepares a set and its counts for one more bit, which the caller has to append next. Returns
+/// whether they are ready: the set has capacity for the bit, and if the bit begins a block, the
+/// counts have the number of true bits before that block.
 ///
-/// It may ask for memory where the set is full and for the first bit. `false` where that is
-/// refused, or where offset and length together are `usize::MAX`: the set, its room and the numbers
-/// of the counts are then unchanged.
+/// May allocate if the set is full, and for the first bit. Returns `false` if memory runs out, or
+/// if offset and length together are `usize::MAX`: the set, its capacity and the numbers of the
+/// counts are unchanged then.
 ///
-/// It is kept out of line, since few bits need it: so `append` saves no registers for what is
-/// called here. It answers no error, for which a caller's loop would clear a place on the stack at
-/// each bit.
+/// This function is out of line, since few bits need it: so `append` saves no registers for the
+/// calls in here. It returns a `bool` and no error, for which a caller's loop would clear a stack
+/// slot at each bit.
 #[cold]
 #[inline(never)]
 pub(crate) fn make_ready<A: Allocator + Clone>(
@@ -49,8 +49,8 @@ pub(crate) fn make_ready<A: Allocator + Clone>(
     make_room(set, counts).is_ok()
 }
 
-/// [`make_ready`] for the first bit, before which there is nothing to count. It may ask for memory
-/// within the room too.
+/// Does the work of [`make_ready`] for the first bit, which has no counts before it. May allocate
+/// even if the set has capacity.
 fn make_first_ready<A: Allocator + Clone>(
     set: &mut BitBufferMut<A>,
     counts: &mut Counts<A>,
@@ -70,7 +70,8 @@ fn make_first_ready<A: Allocator + Clone>(
     Ok(())
 }
 
-/// [`make_ready`] for a bit that begins a block behind others, whose bits are counted.
+/// Does the work of [`make_ready`] for a bit that begins a block and is not the first bit. Counts
+/// the bits before it.
 fn make_block_ready<A: Allocator + Clone>(
     set: &mut BitBufferMut<A>,
     counts: &mut Counts<A>,

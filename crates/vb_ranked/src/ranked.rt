@@ -19,14 +19,16 @@ use vb_set::{BitBuffer, BitBufferMut, BitBufferView, BufferError, Result};
 
 mod append;
 
-/// A set of bits that one owner edits, with the counts of true bits before each block of 512. Every
-/// edit keeps the counts exact, so each question is answered as by a table made anew.
+/// A set of bits that one owner edits, with the number of true bits before each block of 512 bits.
+/// Every edit keeps the counts exact, so each result is the same as with a table that is built
+/// anew.
 ///
-/// Counts are kept by groups of 128 blocks: 64 bits for those before the group, and for each of its
-/// blocks but the first 16 bits, for those from there on. So the counts of up to 512 bits take 8
-/// bytes, and each 512 bits more take two; where a group begins, eight.
+/// The counts are in groups of 128 blocks. A group has one 64-bit count of the true bits before it,
+/// and for each of its blocks but the first a 16-bit count from the start of the group. So the
+/// counts of up to 512 bits take 8 bytes, each further 512 bits take 2 bytes more, and 8 bytes at
+/// the start of a group.
 ///
-/// A contract sees the set: its bits, the offset of the first one, its bytes, and its room.
+/// A contract sees the set: its bits, the offset of the first bit, its bytes, and its capacity.
 #[derive(Drop)]
 pub struct Ranked<A: Allocator + Clone = Global> {
     set: BitBufferMut<A>,
@@ -42,7 +44,7 @@ impl<A: Allocator + Clone> Model for Ranked<A> {
 
     ghost view = { λ s. s.set };
 
-    // A set with bits has the counts of as many bits as it has room for.
+    // A set with bits has counts with capacity for all bits that the set can hold.
     ghost invariant = { λ s. record {
       exact : AreCounts s.set.bits s.counts.numbers;
       held : 0 < length s.set.bits → numbers_for s.set.room ≤ s.counts.room;
@@ -50,11 +52,11 @@ impl<A: Allocator + Clone> Model for Ranked<A> {
 }
 
 impl<A: Allocator + Clone> Ranked<A> {
-    /// The set with its counts, for which it takes memory by one request, and none for no bits.
-    /// There is room for the counts of as many bits as the set's
-    /// [`capacity`](BitBufferMut::capacity): 8 bytes for up to 512 bits, 2 bytes for each 512 bits
-    /// more, and 6 bytes more wherever 65,536 bits are full and more follow. Refused by
-    /// `OutOfMemory` alone; then the set is gone.
+    /// Builds the counts of a set and returns both. Allocates once for the counts; does not
+    /// allocate for a set without bits. The counts get space for all bits of the set's
+    /// [`capacity`](BitBufferMut::capacity): 8 bytes for up to 512 bits, 2 bytes for each further
+    /// 512 bits, and 6 bytes more at each multiple of 65,536 bits that more bits follow. Returns
+    /// `OutOfMemory` if memory runs out, and drops the set then.
     pub fn new(alloc: A, set: BitBufferMut<A>) -> Result<Self>
         ensures set { IfOk result (λ r. r ≡ set) }
         ensures refused { IsOkUnless result BufferError.OutOfMemory }
@@ -63,10 +65,10 @@ impl<A: Allocator + Clone> Ranked<A> {
         Ok(Ranked { set, counts })
     }
 
-    /// A copy of the set, with all its bytes, and of its counts, of which none is counted again. It
-    /// takes memory of the set's allocator for the bytes, and of the counts' allocator for those of
-    /// as many bits as the copy has room for: by one request each, and none for no bytes or no
-    /// bits. Refused by `OutOfMemory` alone.
+    /// Returns a copy of the set, with all its bytes, and of its counts, without counting again.
+    /// Allocates once for the bytes with the set's allocator, and once for the counts of the copy's
+    /// capacity with the counts' allocator; does not allocate for no bytes or no bits. Returns
+    /// `OutOfMemory` if memory runs out.
     pub fn clone(&self) -> Result<Self>
         ensures { Makes (λ s. s ≡ record self.now { room = s.room }) result }
     {
@@ -75,22 +77,22 @@ impl<A: Allocator + Clone> Ranked<A> {
         Ok(Ranked { set, counts })
     }
 
-    /// How many bits there are.
+    /// Returns the number of bits.
     pub fn len(&self) -> usize
         ensures { result ≡ length self.now.bits }
     {
         self.set.len()
     }
 
-    /// Whether there are no bits.
+    /// Returns whether the set has no bits.
     pub fn is_empty(&self) -> bool
         ensures { result ≡ (length self.now.bits == 0) }
     {
         self.set.is_empty()
     }
 
-    /// For how many bits there is room: up to that length an append to one bit or more takes no
-    /// memory.
+    /// Returns the capacity in bits: up to this length an append to a set with bits does not
+    /// allocate.
     pub fn capacity(&self) -> usize
         ensures room { result ≡ self.now.room }
         ensures holds_bits { length self.now.bits ≤ result }
@@ -98,7 +100,7 @@ impl<A: Allocator + Clone> Ranked<A> {
         self.set.capacity()
     }
 
-    /// The bit at place `i`, which has to be below the length.
+    /// Returns the bit at index `i`, which must be below the length.
     pub fn value(&self, i: usize) -> bool
         requires { i < length self.now.bits }
         ensures { slice_get self.now.bits i ≡ Some result }
@@ -106,8 +108,8 @@ impl<A: Allocator + Clone> Ranked<A> {
         self.set.value(i)
     }
 
-    /// A view of the bits, for other questions, in constant time. Its bytes begin with the byte of
-    /// the first bit.
+    /// Returns a read-only view of the bits, in constant time. Its bytes begin with the byte of the
+    /// first bit.
     pub fn as_view(&self) -> BitBufferView<'_>
         ensures bits { bits_of result ≡ self.now.bits }
         ensures offset { offset_of result ≡ self.now.offset % 8 }
@@ -116,24 +118,25 @@ impl<A: Allocator + Clone> Ranked<A> {
         self.set.as_view()
     }
 
-    /// The set, without its counts.
+    /// Returns the set without its counts.
     pub fn into_inner(self) -> BitBufferMut<A>
         ensures { result ≡ self }
     {
         self.set
     }
 
-    /// The set to be shared, without its counts, in the same storage: [`BitBufferMut::freeze`] of
-    /// it. It takes memory for the count of owners, in constant time. Refused by `OutOfMemory`
-    /// alone; then the set is gone.
+    /// Converts the set to one that can be shared, without its counts, in the same storage, as
+    /// [`BitBufferMut::freeze`] does. Takes constant time. Allocates the count of owners. Returns
+    /// `OutOfMemory` if memory runs out, and drops the set then.
     pub fn freeze(self) -> Result<BitBuffer<A>>
         ensures { Makes (SharesFrom self.offset self.bytes self.bits) result }
     {
         self.into_inner().freeze()
     }
 
-    /// How many of the first `i` bits are true, as `rank_by` answers of the set and a table of it.
-    /// `i` has to be at most the length. It reads one or two counts and the bits of one block.
+    /// Returns the number of true bits among the first `i` bits, as `rank_by` does with a table of
+    /// the set. `i` must be at most the length. Reads at most two counts and the bits of one block;
+    /// no count if `i` is 0 or the set has at most 512 bits.
     pub fn rank(&self, i: usize) -> usize
         requires { i ≤ length self.now.bits }
         ensures { result ≡ count (take i self.now.bits) }
@@ -141,9 +144,9 @@ impl<A: Allocator + Clone> Ranked<A> {
         self.counts.rank(self.as_view(), i)
     }
 
-    /// The place of the `n`-th true bit, counted from 0; `None` where at most `n` bits are true. It
-    /// halves the groups until one is left, and then the blocks of that group, and takes no memory.
-    /// It answers as `select_by` of the set and a table of it.
+    /// Returns the index of the `n`-th true bit, counted from 0, or `None` if at most `n` bits are
+    /// true. The search halves the groups until one is left, and then the blocks of that group.
+    /// Does not allocate. Returns the same as `select_by` with a table of the set.
     pub fn select(&self, n: usize) -> Option<usize>
         ensures place { Selects self.now.bits n result }
         ensures each { InvertsCount self.now.bits n result }
@@ -151,8 +154,8 @@ impl<A: Allocator + Clone> Ranked<A> {
         self.select_value(n, true)
     }
 
-    /// The place of the `n`-th false bit, counted from 0; `None` where at most `n` bits are false,
-    /// at the cost of [`select`](Self::select).
+    /// Returns the index of the `n`-th false bit, counted from 0, or `None` if at most `n` bits are
+    /// false. It runs at the cost of [`select`](Self::select).
     pub fn select_unset(&self, n: usize) -> Option<usize>
         ensures place { Selects (complement self.now.bits) n result }
         ensures each { InvertsCount (complement self.now.bits) n result }
@@ -160,13 +163,13 @@ impl<A: Allocator + Clone> Ranked<A> {
         self.select_value(n, false)
     }
 
-    /// The places of the true bits by their ranks: `places[k]` becomes what
-    /// [`select`](Self::select) answers of `ranks[k]`. There have to be as many places as ranks.
-    /// Clause `each` says that every true bit with `ranks[k]` true ones before it is that answer.
+    /// Finds the true bits of many ranks: sets `places[k]` to the result of
+    /// [`select`](Self::select) for `ranks[k]`. There must be as many places as ranks. Clause
+    /// `each` proves that every true bit with `ranks[k]` true bits before it is the result.
     ///
-    /// Above 65,536 bits eight ranks are sought side by side, since each search waits for what it
-    /// reads: so a call with many ranks takes less time than a call for each, and saves the most
-    /// where the bits don't fit the caches. Fewer than eight go one by one. It takes no memory.
+    /// Above 65,536 bits the call runs eight searches side by side, since each search waits for its
+    /// reads. So one call with many ranks is faster than one call for each, most of all if the bits
+    /// do not fit in the caches. Fewer than eight ranks run one by one. Does not allocate.
     pub fn select_many(&self, ranks: &[usize], places: &mut [Option<usize>])
         requires { length places.old ≡ length ranks.now }
         ensures places { AllZip (Selects self.now.bits) ranks.now places.new }
@@ -175,9 +178,9 @@ impl<A: Allocator + Clone> Ranked<A> {
         self.counts.select_many(self.as_view(), ranks, places, true);
     }
 
-    /// The places of the false bits by their ranks: `places[k]` becomes what
-    /// [`select_unset`](Self::select_unset) answers of `ranks[k]`, at the cost of
-    /// [`select_many`](Self::select_many). There have to be as many places as ranks.
+    /// Finds the false bits of many ranks: sets `places[k]` to the result of
+    /// [`select_unset`](Self::select_unset) for `ranks[k]`. There must be as many places as ranks.
+    /// It runs at the cost of [`select_many`](Self::select_many).
     pub fn select_unset_many(&self, ranks: &[usize], places: &mut [Option<usize>])
         requires { length places.old ≡ length ranks.now }
         ensures places { AllZip (Selects (complement self.now.bits)) ranks.now places.new }
@@ -187,10 +190,10 @@ impl<A: Allocator + Clone> Ranked<A> {
             .select_many(self.as_view(), ranks, places, false);
     }
 
-    /// Makes `places[k]` the place of the true bit of rank `ranks[k]`, as
+    /// Sets `places[k]` to the index of the true bit of rank `ranks[k]`, as
     /// [`select_many`](Self::select_many) does. Returns `LengthMismatch`, with the number of ranks
-    /// as `left` and that of places as `right`, exactly where they differ; no place changes then.
-    /// Does not allocate.
+    /// as `left` and the number of places as `right`, exactly if they differ; no place changes
+    /// then. Does not allocate.
     pub fn try_select_many(&self, ranks: &[usize], places: &mut [Option<usize>]) -> Result<()>
         ensures { FindsMany self.now.bits ranks.now places.old places.new result }
     {
@@ -199,10 +202,10 @@ impl<A: Allocator + Clone> Ranked<A> {
         Ok(())
     }
 
-    /// Makes `places[k]` the place of the false bit of rank `ranks[k]`, as
+    /// Sets `places[k]` to the index of the false bit of rank `ranks[k]`, as
     /// [`select_unset_many`](Self::select_unset_many) does. Returns `LengthMismatch`, with the
-    /// number of ranks as `left` and that of places as `right`, exactly where they differ; no place
-    /// changes then. Does not allocate.
+    /// number of ranks as `left` and the number of places as `right`, exactly if they differ; no
+    /// place changes then. Does not allocate.
     pub fn try_select_unset_many(&self, ranks: &[usize], places: &mut [Option<usize>]) -> Result<()>
         ensures { FindsMany (complement self.now.bits) ranks.now places.old places.new result }
     {
@@ -211,11 +214,11 @@ impl<A: Allocator + Clone> Ranked<A> {
         Ok(())
     }
 
-    /// Sets the bit at place `i` to `v`. Ranks are then those of the new list. The place has to be
-    /// below the length. No other bit of the bytes changes. It takes no memory.
+    /// Sets the bit at index `i`, which must be below the length, to `v`, and adjusts the counts.
+    /// No other bit of the bytes changes. Does not allocate.
     ///
-    /// Where the bit changes, the counts of later blocks of its group move by one, and so do those
-    /// before all later groups: one pass over these.
+    /// If the bit changes, the counts of the later blocks of its group and the counts before all
+    /// later groups change by one: one pass over these.
     pub fn set_to(&mut self, i: usize, v: bool)
         requires { i < length self.old.bits }
         ensures bits { self.new.bits ≡ slice_set self.old.bits i v }
@@ -229,8 +232,8 @@ impl<A: Allocator + Clone> Ranked<A> {
         }
     }
 
-    /// The place of the `n`-th bit that is `value`: its block is sought by the groups, and then the
-    /// block is searched.
+    /// Returns the index of the `n`-th bit that is `value`. The counts find its block, and the bits
+    /// of the block find the bit.
     fn select_value(&self, n: usize, value: bool) -> Option<usize>
         ensures { Selects (hits value self.now.bits) n result }
     {
@@ -238,7 +241,7 @@ impl<A: Allocator + Clone> Ranked<A> {
     }
 }
 
-/// A copy, as [`Ranked::clone`] makes it, for code over std's trait.
+/// Makes a copy, as [`Ranked::clone`] does, for code that uses std's trait.
 impl<A: Allocator + Clone> Clone for Ranked<A> {
     ghost use Rattle.std.specs.Prelude.{◌≡◌};
 

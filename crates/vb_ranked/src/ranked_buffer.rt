@@ -14,11 +14,11 @@ use std::marker::Model;
 use vb_directory::Counts;
 use vb_set::{BitBuffer, BitBufferView, BufferError, Result};
 
-/// A set of bits whose storage may be shared, which is read alone, with the counts of true bits
-/// before each block of 512. It answers as a [`Ranked`](crate::Ranked) of the same bits, and takes
-/// as much memory for its counts.
+/// A read-only set of bits whose storage may be shared, with the number of true bits before each
+/// block of 512 bits. It returns the same results as a [`Ranked`](crate::Ranked) of the same bits,
+/// and uses the same memory for its counts.
 ///
-/// A contract sees the set: its bits, the offset of the first one, and its bytes.
+/// A contract sees the set: its bits, the offset of the first bit, and its bytes.
 #[derive(Drop)]
 pub struct RankedBuffer<A: Allocator + Clone = Global> {
     set: BitBuffer<A>,
@@ -37,10 +37,11 @@ impl<A: Allocator + Clone> Model for RankedBuffer<A> {
 }
 
 impl<A: Allocator + Clone> RankedBuffer<A> {
-    /// The set with its counts, for which it takes memory by one request, and none for no bits: 8
-    /// bytes for up to 512 bits, 2 bytes for each 512 bits more, and 6 bytes more wherever 65,536
-    /// bits are full and more follow. The bits are counted once, and stay where they are. Refused
-    /// by `OutOfMemory` alone; then the set is gone, as one owner of its storage.
+    /// Builds the counts of a set and returns both. Counts the bits once and does not copy them.
+    /// Allocates once for the counts: 8 bytes for up to 512 bits, 2 bytes for each further 512
+    /// bits, and 6 bytes more at each multiple of 65,536 bits that more bits follow; does not
+    /// allocate for a set without bits. Returns `OutOfMemory` if memory runs out, and drops this
+    /// owner of the set then.
     pub fn new(alloc: A, set: BitBuffer<A>) -> Result<Self>
         ensures set { IfOk result (λ r. r ≡ set) }
         ensures refused { IsOkUnless result BufferError.OutOfMemory }
@@ -49,11 +50,11 @@ impl<A: Allocator + Clone> RankedBuffer<A> {
         Ok(RankedBuffer { set, counts })
     }
 
-    /// Another owner of the same bits, which shares their storage, with a copy of the counts, of
-    /// which none is counted again. It takes memory of the counts' allocator for as many bytes as
-    /// [`new`](Self::new) does, by one request, and none for no bits. Refused by `OutOfMemory`
-    /// alone, also where an allocator can't be copied, or the storage has as many owners as can be
-    /// counted.
+    /// Returns another owner of the same bits, which shares their storage, with a copy of the
+    /// counts, without counting again. Allocates once with the counts' allocator, the same number
+    /// of bytes as [`new`](Self::new); does not allocate for a set without bits. Returns
+    /// `OutOfMemory` if memory runs out, if an allocator cannot be cloned, or if the storage
+    /// already has the maximum number of owners.
     pub fn clone(&self) -> Result<Self>
         ensures { Makes (λ s. s ≡ self.now) result }
     {
@@ -62,21 +63,21 @@ impl<A: Allocator + Clone> RankedBuffer<A> {
         Ok(RankedBuffer { set, counts })
     }
 
-    /// How many bits there are.
+    /// Returns the number of bits.
     pub fn len(&self) -> usize
         ensures { result ≡ length self.now.bits }
     {
         self.set.len()
     }
 
-    /// Whether there are no bits.
+    /// Returns whether the set has no bits.
     pub fn is_empty(&self) -> bool
         ensures { result ≡ (length self.now.bits == 0) }
     {
         self.set.is_empty()
     }
 
-    /// The bit at place `i`, which has to be below the length.
+    /// Returns the bit at index `i`, which must be below the length.
     pub fn value(&self, i: usize) -> bool
         requires { i < length self.now.bits }
         ensures { slice_get self.now.bits i ≡ Some result }
@@ -84,7 +85,7 @@ impl<A: Allocator + Clone> RankedBuffer<A> {
         self.set.value(i)
     }
 
-    /// A view of the bits, for other questions, in constant time.
+    /// Returns a read-only view of the bits, in constant time.
     pub fn as_view(&self) -> BitBufferView<'_>
         ensures bits { bits_of result ≡ self.now.bits }
         ensures offset { offset_of result ≡ self.now.offset }
@@ -93,15 +94,16 @@ impl<A: Allocator + Clone> RankedBuffer<A> {
         self.set.as_view()
     }
 
-    /// The set, without its counts.
+    /// Returns the set without its counts.
     pub fn into_inner(self) -> BitBuffer<A>
         ensures { result ≡ self }
     {
         self.set
     }
 
-    /// How many of the first `i` bits are true, as `rank_by` answers of the set and a table of it.
-    /// `i` has to be at most the length. It reads one or two counts and the bits of one block.
+    /// Returns the number of true bits among the first `i` bits, as `rank_by` does with a table of
+    /// the set. `i` must be at most the length. Reads at most two counts and the bits of one block;
+    /// no count if `i` is 0 or the set has at most 512 bits.
     pub fn rank(&self, i: usize) -> usize
         requires { i ≤ length self.now.bits }
         ensures { result ≡ count (take i self.now.bits) }
@@ -109,9 +111,9 @@ impl<A: Allocator + Clone> RankedBuffer<A> {
         self.counts.rank(self.as_view(), i)
     }
 
-    /// The place of the `n`-th true bit, counted from 0; `None` where at most `n` bits are true. It
-    /// halves the groups until one is left, and then the blocks of that group, and takes no memory.
-    /// It answers as `select_by` of the set and a table of it.
+    /// Returns the index of the `n`-th true bit, counted from 0, or `None` if at most `n` bits are
+    /// true. The search halves the groups until one is left, and then the blocks of that group.
+    /// Does not allocate. Returns the same as `select_by` with a table of the set.
     pub fn select(&self, n: usize) -> Option<usize>
         ensures place { Selects self.now.bits n result }
         ensures each { InvertsCount self.now.bits n result }
@@ -119,8 +121,8 @@ impl<A: Allocator + Clone> RankedBuffer<A> {
         self.select_value(n, true)
     }
 
-    /// The place of the `n`-th false bit, counted from 0; `None` where at most `n` bits are false,
-    /// at the cost of [`select`](Self::select).
+    /// Returns the index of the `n`-th false bit, counted from 0, or `None` if at most `n` bits are
+    /// false. It runs at the cost of [`select`](Self::select).
     pub fn select_unset(&self, n: usize) -> Option<usize>
         ensures place { Selects (complement self.now.bits) n result }
         ensures each { InvertsCount (complement self.now.bits) n result }
@@ -128,13 +130,13 @@ impl<A: Allocator + Clone> RankedBuffer<A> {
         self.select_value(n, false)
     }
 
-    /// The places of the true bits by their ranks: `places[k]` becomes what
-    /// [`select`](Self::select) answers of `ranks[k]`. There have to be as many places as ranks.
-    /// Clause `each` says that every true bit with `ranks[k]` true ones before it is that answer.
+    /// Finds the true bits of many ranks: sets `places[k]` to the result of
+    /// [`select`](Self::select) for `ranks[k]`. There must be as many places as ranks. Clause
+    /// `each` proves that every true bit with `ranks[k]` true bits before it is the result.
     ///
-    /// Above 65,536 bits eight ranks are sought side by side, since each search waits for what it
-    /// reads: so a call with many ranks takes less time than a call for each, and saves the most
-    /// where the bits don't fit the caches. Fewer than eight go one by one. It takes no memory.
+    /// Above 65,536 bits the call runs eight searches side by side, since each search waits for its
+    /// reads. So one call with many ranks is faster than one call for each, most of all if the bits
+    /// do not fit in the caches. Fewer than eight ranks run one by one. Does not allocate.
     pub fn select_many(&self, ranks: &[usize], places: &mut [Option<usize>])
         requires { length places.old ≡ length ranks.now }
         ensures places { AllZip (Selects self.now.bits) ranks.now places.new }
@@ -143,9 +145,9 @@ impl<A: Allocator + Clone> RankedBuffer<A> {
         self.counts.select_many(self.as_view(), ranks, places, true);
     }
 
-    /// The places of the false bits by their ranks: `places[k]` becomes what
-    /// [`select_unset`](Self::select_unset) answers of `ranks[k]`, at the cost of
-    /// [`select_many`](Self::select_many). There have to be as many places as ranks.
+    /// Finds the false bits of many ranks: sets `places[k]` to the result of
+    /// [`select_unset`](Self::select_unset) for `ranks[k]`. There must be as many places as ranks.
+    /// It runs at the cost of [`select_many`](Self::select_many).
     pub fn select_unset_many(&self, ranks: &[usize], places: &mut [Option<usize>])
         requires { length places.old ≡ length ranks.now }
         ensures places { AllZip (Selects (complement self.now.bits)) ranks.now places.new }
@@ -155,10 +157,10 @@ impl<A: Allocator + Clone> RankedBuffer<A> {
             .select_many(self.as_view(), ranks, places, false);
     }
 
-    /// Makes `places[k]` the place of the true bit of rank `ranks[k]`, as
+    /// Sets `places[k]` to the index of the true bit of rank `ranks[k]`, as
     /// [`select_many`](Self::select_many) does. Returns `LengthMismatch`, with the number of ranks
-    /// as `left` and that of places as `right`, exactly where they differ; no place changes then.
-    /// Does not allocate.
+    /// as `left` and the number of places as `right`, exactly if they differ; no place changes
+    /// then. Does not allocate.
     pub fn try_select_many(&self, ranks: &[usize], places: &mut [Option<usize>]) -> Result<()>
         ensures { FindsMany self.now.bits ranks.now places.old places.new result }
     {
@@ -167,10 +169,10 @@ impl<A: Allocator + Clone> RankedBuffer<A> {
         Ok(())
     }
 
-    /// Makes `places[k]` the place of the false bit of rank `ranks[k]`, as
+    /// Sets `places[k]` to the index of the false bit of rank `ranks[k]`, as
     /// [`select_unset_many`](Self::select_unset_many) does. Returns `LengthMismatch`, with the
-    /// number of ranks as `left` and that of places as `right`, exactly where they differ; no place
-    /// changes then. Does not allocate.
+    /// number of ranks as `left` and the number of places as `right`, exactly if they differ; no
+    /// place changes then. Does not allocate.
     pub fn try_select_unset_many(&self, ranks: &[usize], places: &mut [Option<usize>]) -> Result<()>
         ensures { FindsMany (complement self.now.bits) ranks.now places.old places.new result }
     {
@@ -179,7 +181,7 @@ impl<A: Allocator + Clone> RankedBuffer<A> {
         Ok(())
     }
 
-    /// The place of the `n`-th bit that is `value`.
+    /// Returns the index of the `n`-th bit that is `value`.
     fn select_value(&self, n: usize, value: bool) -> Option<usize>
         ensures { Selects (hits value self.now.bits) n result }
     {
@@ -187,7 +189,7 @@ impl<A: Allocator + Clone> RankedBuffer<A> {
     }
 }
 
-/// One more owner, as [`RankedBuffer::clone`] makes it, for code over std's trait.
+/// Makes another owner, as [`RankedBuffer::clone`] does, for code that uses std's trait.
 impl<A: Allocator + Clone> Clone for RankedBuffer<A> {
     ghost use Rattle.std.specs.Prelude.{◌≡◌};
 

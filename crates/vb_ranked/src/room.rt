@@ -1,4 +1,4 @@
-//! Room for bits and their counts.
+//! Capacity for bits and their counts.
 ghost use Rattle.std.specs.Prelude.{◌≡◌, ◌+◌, ◌^◌, ◌≤◌, ◌<◌, length, IsOk, IsOkUnless};
 ghost use Rattle.std.specs.Prelude.{IsErrOf, OnOk, OnErr};
 ghost use Rattle.vb_directory.specs.Counts.{numbers_for};
@@ -7,11 +7,12 @@ use std::alloc::Allocator;
 use vb_directory::Counts;
 use vb_set::{BitBufferMut, BufferError, Result};
 
-/// For how many bits there is room at least where a set has grown.
+/// The least capacity in bits of a set that has grown.
 const LEAST_ROOM: usize = 64;
 
-/// Makes room for a bit more in a set with bits, and for the counts of as many bits as it then has
-/// room for. It has the counts of its room, and so where it has room, that is all.
+/// Reserves capacity for one more bit in a set with bits, and for the counts of all bits that the
+/// set can then hold. The counts already have space for the set's capacity, so the call does
+/// nothing if the set is not full.
 #[inline(always)]
 pub(crate) fn make_room<A: Allocator + Clone>(
     set: &mut BitBufferMut<A>,
@@ -38,8 +39,8 @@ pub(crate) fn make_room<A: Allocator + Clone>(
     ask_for_room(set, counts, 1)
 }
 
-/// [`make_room`] of a set with no bits. Most have no room then either, and get the least that one
-/// has which grows: by numbers that are known beforehand.
+/// Does the work of [`make_room`] for a set without bits. Most of these have no capacity either,
+/// and get the least capacity of a set that grows, by numbers known at compile time.
 #[inline(always)]
 pub(crate) fn make_first_room<A: Allocator + Clone>(
     set: &mut BitBufferMut<A>,
@@ -60,15 +61,15 @@ pub(crate) fn make_first_room<A: Allocator + Clone>(
     if set.offset() > 0 || set.capacity() > 0 {
         return ask_for_room(set, counts, 1);
     }
-    // As for more bits: the room may become larger by less than a byte.
+    // The 7 bits cover a capacity that is rounded up to a whole byte, as for more bits.
     counts.reserve(LEAST_ROOM + 7)?;
     set.reserve_exact(LEAST_ROOM)?;
-    // The room is a `usize`.
+    // This tells the prover that the capacity fits in `usize`.
     let _room = set.capacity();
     Ok(())
 }
 
-/// [`make_room`] for `n` bits more. None need none.
+/// Does the work of [`make_room`] for `n` more bits. For no bits it does nothing.
 pub(crate) fn make_room_for<A: Allocator + Clone>(
     set: &mut BitBufferMut<A>,
     counts: &mut Counts<A>,
@@ -98,11 +99,12 @@ pub(crate) fn make_room_for<A: Allocator + Clone>(
     ask_for_room(set, counts, n)
 }
 
-/// [`make_room_for`] a bit or more of a set that is too full or has no bits: where the counts have
-/// room already, as after each growth, it asks for none.
+/// Does the work of [`make_room_for`] for at least one bit if the set is too full or has no bits.
+/// Does not allocate counts that have the space already, as they have after each growth.
 ///
-/// A set that is too full gets twice the bytes at least, and so a bit takes amortized constant
-/// time. The counts are asked for first, so that the room of the set stays where they are refused.
+/// A set that is too full gets at least twice the bytes, so that a bit takes amortized constant
+/// time. The call allocates the counts first, so that the capacity of the set does not change if
+/// that fails.
 #[cold]
 fn ask_for_room<A: Allocator + Clone>(
     set: &mut BitBufferMut<A>,
@@ -133,10 +135,10 @@ fn ask_for_room<A: Allocator + Clone>(
         return counts.reserve(room);
     }
     let more = end.max(LEAST_ROOM.saturating_sub(end)).max(n).min(left);
-    // The room may become larger than what is asked for, by less than a byte.
+    // The 7 bits cover a capacity that is rounded up to a whole byte.
     counts.reserve((len + more).saturating_add(7))?;
     set.reserve_exact(more)?;
-    // The room is a `usize`.
+    // This tells the prover that the capacity fits in `usize`.
     let _room = set.capacity();
     Ok(())
 }

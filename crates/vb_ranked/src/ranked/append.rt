@@ -1,4 +1,4 @@
-//! Room, and bits added at the end.
+//! Capacity, and bits appended at the end.
 ghost use Rattle.std.specs.Prelude.{◌≡◌, ◌+◌, ◌^◌, ◌<◌, ◌≤◌, ◌∷◌, [], length, replicate};
 ghost use Rattle.std.specs.Prelude.{IsOk, IsOkUnless, IsErrOf, OnOk, OnErr};
 ghost use Rattle.vb_ranked.specs.Counted.{NeedsCountedBits};
@@ -14,13 +14,14 @@ use vb_rank::BLOCK_BITS;
 use vb_set::{BitBufferView, BufferError, Result};
 
 impl<A: Allocator + Clone> Ranked<A> {
-    /// Makes room for `n` bits more, and for the counts of as many bits as there is then room for.
+    /// Reserves capacity for `n` more bits, and for the counts of all bits that the set can then
+    /// hold.
     ///
-    /// Refused by `TooManyBits` where offset, length and `n` together pass `usize::MAX`, else by
-    /// `OutOfMemory` alone. Then the set and its room are unchanged. Where there are bits, and
-    /// those and `n` together are at most [`capacity`](Self::capacity), it takes no memory,
-    /// succeeds, and the capacity stays. Else it asks for the counts of the room that the set gets,
-    /// and for twice the bytes, or more where `n` bits need them.
+    /// Returns `TooManyBits` if offset, length and `n` together exceed `usize::MAX`. Otherwise it
+    /// returns `OutOfMemory` if memory runs out. The set and its capacity are unchanged on error.
+    /// If the set has bits, and the length plus `n` is at most [`capacity`](Self::capacity), the
+    /// call does not allocate, succeeds, and the capacity does not change. Otherwise it allocates
+    /// the counts for the new capacity, and twice the bytes, or more if `n` bits need them.
     pub fn reserve(&mut self, n: usize) -> Result<()>
         ensures keeps { self.new ≡ record self.old { room = self.new.room } }
         ensures room { OnOk result (length self.old.bits + n ≤ self.new.room) }
@@ -29,19 +30,20 @@ impl<A: Allocator + Clone> Ranked<A> {
         ensures needs { NeedsCountedBits n result self.old self.new }
     {
         make_room_for(&mut self.set, &mut self.counts, n)?;
-        // There is room. Of the bits' numbers this says that they fit.
+        // There is capacity already. This call tells the prover that the indices of the bits fit.
         self.set.reserve(n)
     }
 
-    /// Adds one bit, in amortized constant time. Offset and alignment stay, and the room never
-    /// shrinks, refused or not. The bytes become longer only where none has a place for the bit.
+    /// Appends one bit, in amortized constant time. Offset and alignment do not change, and the
+    /// capacity never shrinks, on success or on error. The bytes grow only if none has space for
+    /// the bit.
     ///
-    /// Refused by `TooManyBits` where offset and length together are `usize::MAX`, else by
-    /// `OutOfMemory` alone. Then the set and its room are unchanged. Where there are bits, and
-    /// fewer than the set's [`capacity`](BitBufferMut::capacity), it takes no memory, succeeds, and
-    /// the capacity stays. The first bit may ask for the counts of as many bits as there is room
-    /// for. Where the set is full, it asks for the counts of the room that it gets, and for twice
-    /// the bytes.
+    /// Returns `TooManyBits` if offset and length together are `usize::MAX`. Otherwise it returns
+    /// `OutOfMemory` if memory runs out. The set and its capacity are unchanged on error. If the
+    /// set has bits, and fewer than its [`capacity`](BitBufferMut::capacity), the call does not
+    /// allocate, succeeds, and the capacity does not change. The first bit may allocate the counts
+    /// for the set's capacity. If the set is full, the call allocates the counts for the new
+    /// capacity, and twice the bytes.
     pub fn append(&mut self, v: bool) -> Result<()>
         ensures ok { OnOk result (AddsBits (v ∷ []) self.old self.new) }
         ensures grows { KeepsStart self.old self.new }
@@ -63,7 +65,7 @@ impl<A: Allocator + Clone> Ranked<A> {
         Ok(())
     }
 
-    /// Why a bit can't be added.
+    /// Returns the error for a bit that cannot be appended.
     fn why_full(&self) -> BufferError
         ensures fits { self.now.offset + length self.now.bits + 1 < 2 ^ 64
             → result ≡ BufferError.OutOfMemory }
@@ -77,11 +79,12 @@ impl<A: Allocator + Clone> Ranked<A> {
         }
     }
 
-    /// Adds `n` bits, all `v`, whole bytes at once, and counts them once.
+    /// Appends `n` bits, all `v`, whole bytes at a time, and counts them once.
     ///
-    /// Refused as [`reserve`](Self::reserve) of `n` bits is; then the set and its room are
-    /// unchanged. Where there are bits, and those and `n` together are at most
-    /// [`capacity`](Self::capacity), it takes no memory, succeeds, and the capacity stays.
+    /// Returns the errors of [`reserve`](Self::reserve) for `n` bits; the set and its capacity are
+    /// unchanged then. If the set has bits, and the length plus `n` is at most
+    /// [`capacity`](Self::capacity), the call does not allocate, succeeds, and the capacity does
+    /// not change.
     pub fn append_n(&mut self, v: bool, n: usize) -> Result<()>
         ensures ok { OnOk result (AddsBits (replicate n v) self.old self.new) }
         ensures grows { KeepsStart self.old self.new }
@@ -96,11 +99,12 @@ impl<A: Allocator + Clone> Ranked<A> {
         Ok(())
     }
 
-    /// Adds the bits of a view behind the last bit, by words, and counts them once.
+    /// Appends the bits of a view by words, and counts them once.
     ///
-    /// Refused as [`reserve`](Self::reserve) of so many bits is; then the set and its room are
-    /// unchanged. Where there are bits, and both lengths together are at most
-    /// [`capacity`](Self::capacity), it takes no memory, succeeds, and the capacity stays.
+    /// Returns the errors of [`reserve`](Self::reserve) for the length of the view; the set and its
+    /// capacity are unchanged then. If the set has bits, and both lengths together are at most
+    /// [`capacity`](Self::capacity), the call does not allocate, succeeds, and the capacity does
+    /// not change.
     pub fn append_view(&mut self, bits: BitBufferView<'_>) -> Result<()>
         ensures ok { OnOk result (AddsBits (bits_of bits.entry) self.old self.new) }
         ensures grows { KeepsStart self.old self.new }

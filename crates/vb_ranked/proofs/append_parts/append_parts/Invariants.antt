@@ -3,7 +3,7 @@ use Rattle.vb_set.specs.OpenSet.{AddsBits}
 use Rattle.vb_set.specs.View.{bits_of}
 use Rattle.vb_ranked.proofs.append_parts.append_parts.Given as goal
 
--- the parts so far were added, and there is room for the others
+-- the previous parts were appended, and there is capacity for the others
 abbrev pub invariant-loop-part : goal.invariant-loop-part
 invariant-loop-part g l = record {
   adds : AddsBits (take (512 * l.part) (bits_of l.bits)) l.fn.set l.set;

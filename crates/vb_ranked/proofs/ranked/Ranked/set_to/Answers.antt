@@ -9,7 +9,7 @@ use Rattle.vb_set.specs.View.{bits_of}
 use Rattle.vb_directory.specs.Counts.{AreCounts}
 use Rattle.vb_ranked.proofs.ranked.Ranked.set_to.Goals as goal
 
--- a test for another value, passed and failed
+-- a test whether two values differ, and the negation of a value
 other_value : (a b : Bool) → not (beq a b) ≡ true → a ≡ not b
 other_value true true e = cc
 other_value true false e = refl
@@ -22,7 +22,7 @@ same_value true false e = cc
 same_value false true e = cc
 same_value false false e = refl
 
--- the bit that a view shows is the list's
+-- the bit that a view shows is the bit of the list
 bit_read : (k l : List Bool) (i : ℕ) (v : Bool) → k ≡ l → slice_get k i ≡ Some v → at l i ≡ v
 bit_read k l i v same read = get_or_from_slice_get l i v false (rw same at read)
 
