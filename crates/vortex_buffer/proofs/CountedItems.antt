@@ -1,4 +1,4 @@
--- What an iterator gives that is kept with its number of items, as `trusted_len` makes it.
+-- The items of an iterator that `trusted_len` pairs with their number.
 use Rattle.std.proofs.Common.{◌≡◌, ℕ, ◌+◌, ◌-◌, ◌<◌, inl, inr, false, List, [], ◌∷◌}
 use Rattle.std.proofs.Common.{length, map, drop, Option, Some, get_or, slice_index_or}
 use Rattle.std.proofs.Common.{refl, sym, ap, ◌∙◌, arith}
@@ -17,20 +17,20 @@ module _ {S A : Type 0} (steps : S → Option A → S → Type 0) where
   abbrev counted : Counted S → Option A → Counted S → Type 0
   counted s r t = CountsDown (steps s.iter r t.iter) s.left r t.left
 
-  -- the iterator within gave the same
+  -- the inner iterator returned the same items
   yields_within : (s t : Counted S) (xs : List A) → Yields counted s xs t
       → Yields steps s.iter xs t.iter
   yields_within s t [] same = ap (λ c. c.iter) same
   yields_within s t (x ∷ xs) (j, first, rest) = (j.iter, first.1, yields_within j t xs rest)
 
-  -- and as many fewer are left
+  -- the number of remaining items fell by the number of items returned
   left_within : (s t : Counted S) (xs : List A) → Yields counted s xs t
       → length xs + t.left ≡ s.left
   left_within s t [] same =
       let kept : s.left ≡ t.left = ap (λ c. c.left) same in omega arith
   left_within s t (x ∷ xs) (j, first, rest) = omega (arith, first.0, left_within j t xs rest)
 
-  -- calls that gave these items, as a run
+  -- the calls that returned these items, as a run
   run_of_yields : (s t : S) (xs : List A) → Yields steps s xs t → Run steps
   unfolding Trigger YieldsRun
   run_of_yields s t xs yields = record {
@@ -45,7 +45,8 @@ module _ {S A : Type 0} (steps : S → Option A → S → Type 0) where
     gave = ((t, yields, λ h. cc), λ k. refl);
   }
 
-  -- what came of the adapter in all is a run of the iterator within, of as many items as were left
+  -- all items of the adapter are a run of the inner iterator, with the number of items that
+  -- remained
   pub counted_run : (s : Counted S) (xs : List A) → Drains counted s xs
       → (p : Run steps) × (p.from ≡ s.iter) × (p.items ≡ xs) × (p.len ≡ s.left) × Trigger p.len
   unfolding Trigger run_of_yields
@@ -55,7 +56,7 @@ module _ {S A : Type 0} (steps : S → Option A → S → Type 0) where
       let within = yields_within s t xs yields in
       (run_of_yields s.iter t.iter xs within, refl, refl, omega arith, tt)
 
--- a run that shows the front of a list, and as many items as the list has, shows all of it
+-- a run that returns the first items of a list, and as many as the list has, returns the whole list
 pub run_gives_all : {S A B : Type 0} {steps : S → Option A → S → Type 0} (p : Run steps)
     (v : A → B) (xs : List B) → ItemsMapTo p v xs → p.len ≡ length xs → map v p.items ≡ xs
 unfolding YieldsRun
@@ -75,7 +76,7 @@ run_gives_all {A = A} {B = B} p v xs front all = each xs all front.2
         ∙ ap (option_map v) (sym (p.gave.1 k))
         ∙ reads k y (omega (arith, below, long, p.long))))
 
--- the same behind the first n items, of which there may be fewer
+-- the same after the first n items, or after all items if there are fewer
 pub run_gives_rest : {S A B : Type 0} {steps : S → Option A → S → Type 0} (p : Run steps)
     (v : A → B) (xs : List B) (n : ℕ) → ItemsMapTo p v xs → p.len - n ≡ length xs - n
     → map v (drop n p.items) ≡ drop n xs

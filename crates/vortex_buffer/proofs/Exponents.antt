@@ -12,7 +12,7 @@ use Rattle.vb_mem.proofs.Places.{mod-mod-lesser}
 use Rattle.vb_mem.specs.SharedBuffer.{SharedBuffer, IsPlaceAligned, IsAlignedTo}
 use Rattle.vortex_buffer.specs.Fixed.{OfBytes}
 
--- what is aligned is so to a lesser alignment too
+-- a buffer with an alignment also has each lesser alignment
 pub lesser : {T : Type 0} (b : SharedBuffer T) (j k : ℕ) → k ≤ j → IsAlignedTo b j → IsAlignedTo b k
 lesser b j k le (inl none) = inl none
 lesser b j k le (inr at) =
@@ -26,11 +26,11 @@ lesser b j k le (inr at) =
 one_exponent : (j k n : ℕ) → 2 ^ j ≡ n → 2 ^ k ≡ n → j ≡ k
 one_exponent j k n p q = pow-injective j k (p ∙ sym q)
 
--- what holds of an exponent holds of that of its bytes
+-- a property of an exponent is a property of the exponent of its number of bytes
 pub of_bytes : (P : ℕ → Type 0) (k n : ℕ) → 2 ^ k ≡ n → P k → OfBytes n P
 of_bytes P k n p here = λ j q. subst P (one_exponent k j n p q) here
 
--- of two powers of two the lesser one has the lesser exponent
+-- the lesser of two powers of two has the lesser exponent
 pub least_of_bytes : (align least k n : ℕ) → align ≡ 2 ^ least → align ≤ n → 2 ^ k ≡ n → least ≤ k
 least_of_bytes align least k n p le q = grind (arith, pow-lt)
 
@@ -47,12 +47,12 @@ of_place (x ∷ xs) place declared k =
       ]
     ]
 
--- a buffer is aligned to an alignment or isn't
+-- a buffer either has an alignment or does not have it
 pub aligned_or_not : {T : Type 0} (b : SharedBuffer T) (k : ℕ)
     → IsAlignedTo b k ⊎ ¬ (IsAlignedTo b k)
 aligned_or_not b k = of_place b.list b.place b.declared k
 
--- a power of two has one digit
+-- a power of two has exactly one digit that is 1
 pub is_power : (n : ℕ) → IsPower n → IsTrue (is_power_of_two n)
 is_power n (inl one) = one
 is_power n (inr halved) =

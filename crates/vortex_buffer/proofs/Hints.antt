@@ -1,6 +1,5 @@
--- Lemmas of the crates below that the hint of a function,
--- `using(vortex_buffer::proofs::Hints::..)`,
--- can name: it looks into files of one crate, and not into what that crate hands on.
+-- Lemmas of other crates for the hint `using(vortex_buffer::proofs::Hints::..)` of a function. A
+-- hint finds the lemmas of this file, and not those of the re-exported crates.
 pub use Rattle.vb_bits.proofs.BitsLemmas.{length-bits, at-bits, bits-add, count-append, count-le}
 pub use Rattle.vb_bits.proofs.BitsLemmas.{count-complement}
 pub use Rattle.vb_bits.proofs.KeptLemmas.{map-places, length-kept_by, sum_by-places, sum-kept_by-le}

@@ -1,5 +1,5 @@
--- Reading from the front, part by part. The law of `AlignedBuf` cites these lemmas, and so they
--- stand in specs.
+-- Reads from the front, part by part. The law of `AlignedBuf` cites these lemmas, so they are in
+-- specs.
 use Rattle.std.proofs.Common.{◌≡◌, ℕ, ◌+◌, ◌%◌, ◌^◌, ◌<◌, List, length, drop}
 use Rattle.std.proofs.Common.{slice_range, refl, sym, subst, ap, ◌∙◌, arith}
 use Rattle.std.proofs.Math.Nat.{dvd-add}
@@ -8,8 +8,8 @@ use Rattle.std.proofs.lemmas.Nat.Gcd.{dvd-zero, dvd_of_mod-eq-zero, mod-eq-zero_
 use Rattle.std.specs.declared.ops.Range.{Range}
 use Rattle.vb_mem.specs.SharedBuffer.{SharedBuffer, ShowsPart}
 
--- no bytes can be passed over, and two parts one after the other are one step: what stands after
--- both is what stands after as many bytes as they have together
+-- a value can skip no bytes, and two consecutive steps are one step: the rest after both is the
+-- rest after the sum of their bytes
 pub record AreSteps {S : Type 0} (is_step : S → ℕ → Type 0)
     (is_past : S → ℕ → S → Type 0) : Type 0 where
   pub none : (s : S) → is_step s 0
@@ -17,7 +17,7 @@ pub record AreSteps {S : Type 0} (is_step : S → ℕ → Type 0)
   pub past_none : (s : S) → is_past s 0 s
   pub past_sum : (s t u : S) (a b : ℕ) → is_past s a t → is_past t b u → is_past s (a + b) u
 
--- what shows a list can pass over any number of bytes
+-- a value that shows a list can skip any number of bytes
 pub list_steps : {S : Type 0} (unread : S → List ℕ)
     → AreSteps {S = S} (λ _ _. Unit {0}) (λ s n rest. unread rest ≡ drop n (unread s))
 list_steps unread = record {
@@ -27,15 +27,15 @@ list_steps unread = record {
   past_sum = λ s t u a b one two. two ∙ ap (drop b) one ∙ drop-drop b a (unread s);
 }
 
--- the range of a buffer from a place up to its end
+-- the range of a buffer from an index to its end
 abbrev pub rest_of : SharedBuffer ℕ → ℕ → Range ℕ
 rest_of b n = record { start = n; end = length b.list }
 
--- up to its end a list is what is left from a place on
+-- the range of a list from an index to its end is the rest of the list
 to_end : (l : List ℕ) (n : ℕ) → slice_range l n (length l) ≡ drop n l
 to_end l n = take_all _ (drop n l) (omega (arith, length-drop n l))
 
--- what is left of a buffer after one part and another one is what is left after both
+-- the rest of a buffer after one part and another is the rest after both
 past_both : (s t u : SharedBuffer ℕ) (a b : ℕ)
     → ShowsPart 1 s (rest_of s a) s.alignment t → ShowsPart 1 t (rest_of t b) t.alignment u
     → ShowsPart 1 s (rest_of s (a + b)) s.alignment u
@@ -63,7 +63,7 @@ past_both s t u a b one two =
       declared = λ some. two.declared (second some) ∙ one.declared (first some);
     }
 
--- a buffer of bytes can pass over multiples of its alignment
+-- a buffer of bytes can skip multiples of its alignment
 pub buffer_steps : AreSteps (λ (b : SharedBuffer ℕ) n. n % 2 ^ b.alignment ≡ 0)
     (λ b n rest. ShowsPart 1 b (rest_of b n) b.alignment rest)
 buffer_steps = record {

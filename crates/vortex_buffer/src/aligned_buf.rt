@@ -1,4 +1,4 @@
-//! Bytes that are read from the front.
+//! Bytes read from the front.
 ghost use Rattle.std.specs.Prelude.{◌≡◌, ◌%◌, ◌^◌, ◌≤◌, ◌↔◌, ℕ, List, length, take, drop};
 ghost use Rattle.std.specs.Prelude.{IsTrue, OnOk, OnErr};
 ghost use Rattle.vb_core.specs.Alignments.{IsPower};
@@ -12,36 +12,36 @@ use std::alloc::Allocator;
 use vb_core::Alignment;
 use vb_mem::{Buffer, ByteBuffer, Result};
 
-/// Bytes that are read from the front, and copied from it with an alignment.
+/// Bytes that a caller reads from the front, and copies from there with an alignment.
 pub trait AlignedBuf {
     // The bytes that are left to read.
     ghost unread: { Self → List ℕ };
 
-    // Whether as many bytes, of which there are enough, can be passed over.
+    // Whether the value can skip this number of bytes, if enough bytes are left.
     ghost is_step: { Self → ℕ → Type 0 };
 
-    // Whether the second value is what passing over as many bytes makes of the first.
+    // Whether the second value is the first one after it skipped this number of bytes.
     ghost is_past: { Self → ℕ → Self → Type 0 };
 
-    // No bytes can be passed over, and parts one after the other are one step of their sum.
+    // A value can skip no bytes, and consecutive steps are one step of their sum.
     ghost steps: { AreSteps is_step is_past };
 
-    /// The number of bytes that are left.
+    /// Returns the number of bytes that are left.
     fn remaining(&self) -> usize
         ensures { result ≡ length (unread self.now) };
 
-    /// The bytes that are left.
+    /// Returns the bytes that are left.
     fn chunk(&self) -> &[u8]
         ensures { result.now ≡ unread self.now };
 
-    /// Whether [`AlignedBuf::advance`] can pass over `n` bytes: at least `n` are left, and for a
+    /// Returns whether [`AlignedBuf::advance`] may skip `n` bytes: at least `n` are left, and for a
     /// [`ByteBuffer`] `n` is a multiple of its reported alignment.
     fn can_advance(&self, n: usize) -> bool
         ensures { IsTrue result ↔ ((n ≤ length (unread self.now)) × is_step self.now n) };
 
-    /// Passes over the next `n` bytes, for which [`AlignedBuf::can_advance`] has to hold. It takes
-    /// no memory. A [`ByteBuffer`] keeps its reported alignment, and its storage until no byte is
-    /// left.
+    /// Skips the next `n` bytes. The caller must prove that [`AlignedBuf::can_advance`] is true for
+    /// `n`. Does not allocate. A [`ByteBuffer`] keeps its reported alignment, and keeps its storage
+    /// until no byte is left.
     fn advance(&mut self, n: usize)
         requires within { n ≤ length (unread self.old) }
         requires is_step { is_step self.old n }
@@ -49,10 +49,10 @@ pub trait AlignedBuf {
         ensures keeps { (m : ℕ) → is_step self.old m → is_step self.new m }
         ensures part { is_past self.old n self.new };
 
-    /// A copy of the next `len` bytes, for which [`AlignedBuf::can_advance`] holds, with an
-    /// alignment, over-aligned to 256 bytes; they are passed over, as [`AlignedBuf::advance`] does.
-    /// The copy stands in memory of the allocator that is handed in, and grows from it. Refused
-    /// by `OutOfMemory`, and then no byte is passed over.
+    /// Returns a copy of the next `len` bytes that reports `alignment` and is over-aligned to 256
+    /// bytes, and skips the bytes as [`AlignedBuf::advance`] does. The caller must prove that
+    /// [`AlignedBuf::can_advance`] is true for `len`. The copy allocates and grows with `alloc`.
+    /// Returns `OutOfMemory` if memory runs out, and skips no byte then.
     fn copy_to_aligned<A: Allocator + Clone>(
         &mut self,
         alloc: A,
@@ -127,9 +127,10 @@ impl<A: Allocator> AlignedBuf for Buffer<u8, A> {
     }
 }
 
-/// A copy of the next `len` bytes, for which [`AlignedBuf::can_advance`] holds, aligned to `N`
-/// bytes, which are a power of two, over-aligned to 256 bytes; they are passed over. Refused by
-/// `OutOfMemory`, and then no byte is passed over.
+/// Returns a copy of the next `len` bytes, aligned to `N` bytes and over-aligned to 256 bytes, and
+/// skips the bytes. `N` must be a power of two. The caller must prove that
+/// [`AlignedBuf::can_advance`] is true for `len`. Returns `OutOfMemory` if memory runs out, and
+/// skips no byte then.
 pub fn copy_to_const_aligned<const N: usize, B: AlignedBuf, A: Allocator + Clone>(
     buf: &mut B,
     alloc: A,

@@ -10,10 +10,10 @@ use std::marker::Model;
 use vb_core::BufferError;
 use vb_mem::{Buffer, ByteBuffer, Result};
 
-/// A buffer of bytes that are UTF-8.
+/// A buffer of UTF-8 bytes.
 ///
-/// Contracts see it as its buffer, [`BufferString::inner`]. Equality, order and hash are that
-/// buffer's; `Debug` is the text's.
+/// Contracts see it as its buffer, [`BufferString::inner`]. Equality, order and hash are those of
+/// the buffer; `Debug` prints the text.
 #[derive(Drop)]
 pub struct BufferString<A: Allocator = Global> {
     bytes: ByteBuffer<A>,
@@ -31,7 +31,7 @@ impl<A: Allocator> Model for BufferString<A> {
 }
 
 impl<A: Allocator> BufferString<A> {
-    /// The text of bytes that are UTF-8; nothing is tested.
+    /// Returns the text of `bytes`, without a test. The caller must prove that they are UTF-8.
     pub fn new_unchecked(bytes: ByteBuffer<A>) -> Self
         requires { IsUtf8 bytes.list }
         ensures { result ≡ bytes }
@@ -39,7 +39,7 @@ impl<A: Allocator> BufferString<A> {
         BufferString { bytes }
     }
 
-    /// No text, of alignment 1. It takes no memory.
+    /// Returns an empty text of alignment 1. Does not allocate.
     pub fn empty(alloc: A) -> Self
         ensures list { result.list ≡ [] }
         ensures alignment { result.alignment ≡ 0 }
@@ -49,8 +49,8 @@ impl<A: Allocator> BufferString<A> {
         }
     }
 
-    /// The text of bytes, in their storage. It takes no memory. Refused by `NotUtf8` exactly
-    /// where they aren't UTF-8; the buffer is gone then.
+    /// Returns the text of `bytes`, in their storage. Does not allocate. Returns `NotUtf8` exactly
+    /// if they are not UTF-8, and drops the buffer then.
     pub fn try_from_buffer(bytes: ByteBuffer<A>) -> Result<Self>
         ensures ok { IfOk result (λ text. (text ≡ bytes) × IsUtf8 bytes.list) }
         ensures err { IfErr result (IsNoText bytes.list) }
@@ -59,7 +59,7 @@ impl<A: Allocator> BufferString<A> {
         Ok(BufferString { bytes })
     }
 
-    /// The text.
+    /// Returns the text.
     pub fn as_str(&self) -> &str
         ensures value { result.now ≡ self.now.list }
         ensures utf8 { IsUtf8 result.now }
@@ -67,21 +67,21 @@ impl<A: Allocator> BufferString<A> {
         unsafe { std::str::from_utf8_unchecked(self.bytes.as_slice()) }
     }
 
-    /// The number of bytes, as that of a `str`.
+    /// Returns the number of bytes, as `str::len` does.
     pub fn len(&self) -> usize
         ensures { result ≡ length self.now.list }
     {
         self.bytes.len()
     }
 
-    /// Whether there is no text.
+    /// Returns whether the text is empty.
     pub fn is_empty(&self) -> bool
         ensures { result ≡ (length self.now.list == 0) }
     {
         self.bytes.is_empty()
     }
 
-    /// The bytes.
+    /// Returns the buffer of the text's bytes.
     pub fn inner(&self) -> &ByteBuffer<A>
         ensures value { result.now ≡ self.now }
         ensures utf8 { IsUtf8 result.now.list }
@@ -89,7 +89,7 @@ impl<A: Allocator> BufferString<A> {
         &self.bytes
     }
 
-    /// The bytes, given away.
+    /// Converts the text to the buffer of its bytes.
     pub fn into_inner(self) -> ByteBuffer<A>
         ensures value { result ≡ self }
         ensures utf8 { IsUtf8 result.list }
@@ -99,7 +99,8 @@ impl<A: Allocator> BufferString<A> {
 }
 
 impl<A: Allocator + Clone> BufferString<A> {
-    /// A copy of a text, of alignment 1, over-aligned to 256 bytes. Refused by `OutOfMemory`.
+    /// Returns a copy of a text, of alignment 1 and over-aligned to 256 bytes. Returns
+    /// `OutOfMemory` if memory runs out.
     pub fn from_str(alloc: A, text: &str) -> Result<Self>
         ensures { Makes (ShowsMade text.now 0) result }
     {
@@ -107,13 +108,13 @@ impl<A: Allocator + Clone> BufferString<A> {
         Ok(BufferString { bytes })
     }
 
-    /// The text of a `String`, in its storage: no byte is copied. The reported and the declared
-    /// alignment are 1.
+    /// Returns the text of a `String`, in its storage. Copies no byte. The reported and the
+    /// declared alignment are 1.
     ///
-    /// `alloc` is asked for the block that counts owners, and later for copies of the text. The
-    /// storage stays with the allocator of `text`, which growth asks: the only owner can grow the
-    /// storage by [`BufferString::into_inner`] and [`Buffer::into_mut`]. Refused by `OutOfMemory`;
-    /// the text is gone then.
+    /// The buffer uses `alloc` for the block that counts owners, and later for copies of the text.
+    /// The storage keeps the allocator of `text`, and growth uses that one: the only owner can grow
+    /// the storage through [`BufferString::into_inner`] and [`Buffer::into_mut`]. Returns
+    /// `OutOfMemory` if memory runs out, and drops the text then.
     pub fn from_string(alloc: A, text: String<A>) -> Result<Self>
         ensures { Makes (Shows (string_bytes text) 0 0 0) result }
     {
@@ -121,9 +122,9 @@ impl<A: Allocator + Clone> BufferString<A> {
         Ok(BufferString { bytes })
     }
 
-    /// A copy of the text that bytes are, of alignment 1, over-aligned to 256 bytes. Refused by
-    /// `NotUtf8` exactly where they aren't UTF-8, before memory is asked, and else by
-    /// `OutOfMemory`.
+    /// Returns a copy of `bytes` as text, of alignment 1 and over-aligned to 256 bytes. Returns
+    /// `NotUtf8`, before it allocates, exactly if they are not UTF-8. Otherwise it returns
+    /// `OutOfMemory` if memory runs out.
     pub fn try_from_slice(alloc: A, bytes: &[u8]) -> Result<Self>
         ensures ok { IfOk result (λ text. ShowsMade bytes.now 0 text × IsUtf8 bytes.now) }
         ensures err { IfErr result (λ e. IsNoText bytes.now e
@@ -132,9 +133,9 @@ impl<A: Allocator + Clone> BufferString<A> {
         BufferString::from_str(alloc, text_of(bytes)?)
     }
 
-    /// One more owner of the same text, in constant time and without memory for the storage.
-    /// Refused by `OutOfMemory` where a copy of the allocator finds no memory, or where the storage
-    /// has as many owners as can be counted.
+    /// Returns another owner of the same text, in constant time. Does not allocate memory for the
+    /// storage. Returns `OutOfMemory` if cloning the allocator runs out of memory, or if the
+    /// storage already has the maximum number of owners.
     pub fn clone(&self) -> Result<Self>
         ensures { Makes (λ text. text ≡ self.now) result }
     {
@@ -147,13 +148,13 @@ impl<A: Allocator + Clone> BufferString<A> {
 impl<A: Allocator + Clone> Clone for BufferString<A> {
     ghost is_clone = { λ text copy. copy ≡ text };
 
-    /// [`BufferString::clone`], for code that is generic over std's `Clone`.
+    /// Does the same as [`BufferString::clone`], for code that is generic over std's `Clone`.
     fn clone(&self) -> std::result::Result<Self, AllocError> {
         BufferString::clone(self).map_err(|_| AllocError)
     }
 }
 
-// The bytes as text, where they are UTF-8.
+// Returns the bytes as text if they are UTF-8.
 fn text_of(bytes: &[u8]) -> Result<&str>
     ensures ok { IfOk result (λ text. (text.now ≡ bytes.now) × IsUtf8 bytes.now) }
     ensures err { IfErr result (IsNoText bytes.now) }

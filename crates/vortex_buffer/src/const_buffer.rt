@@ -12,10 +12,10 @@ use std::marker::Model;
 use vb_core::{Alignment, BufferError, Element};
 use vb_mem::{Buffer, Iter, Result};
 
-/// A buffer that is aligned to `N` bytes, and reports `N` or a multiple of it.
+/// A buffer that is aligned to `N` bytes, and reports `N` bytes or a multiple.
 ///
 /// Contracts see it as its buffer, [`ConstBuffer::inner`]. Equality, order, hash and `Debug` are
-/// that buffer's.
+/// those of the buffer.
 #[derive(Drop)]
 pub struct ConstBuffer<T: Element, const N: usize, A: Allocator = Global> {
     buffer: Buffer<T, A>,
@@ -36,7 +36,7 @@ impl<T: Element, const N: usize, A: Allocator> Model for ConstBuffer<T, N, A> {
 }
 
 impl<T: Element, const N: usize, A: Allocator> ConstBuffer<T, N, A> {
-    /// The alignment of `N` bytes, which is a power of two.
+    /// Returns the alignment of `N` bytes. `N` must be a power of two.
     pub fn alignment() -> Alignment
         requires { IsPower N }
         ensures { 2 ^ result ≡ N }
@@ -44,10 +44,10 @@ impl<T: Element, const N: usize, A: Allocator> ConstBuffer<T, N, A> {
         Alignment::new(N)
     }
 
-    /// The buffer, where the alignment that it reports is a multiple of `N`. It takes no memory.
-    /// Refused by `NotPowerOfTwo` exactly where `N` is 0 or no power of two, and by `NotAligned`
-    /// exactly where `N` is one that doesn't divide the reported alignment; the buffer is gone
-    /// then.
+    /// Returns the buffer if its reported alignment is a multiple of `N`. Does not allocate.
+    /// Returns `NotPowerOfTwo` exactly if `N` is 0 or not a power of two, and `NotAligned` exactly
+    /// if `N` is a power of two that does not divide the reported alignment. Drops the buffer on
+    /// error.
     #[tactic(auto, using(crate::proofs::Exponents::is_power))]
     pub fn try_from_buffer(buffer: Buffer<T, A>) -> Result<Self>
         ensures ok { IfOk result (λ fixed. fixed ≡ buffer) }
@@ -65,45 +65,46 @@ impl<T: Element, const N: usize, A: Allocator> ConstBuffer<T, N, A> {
         Ok(ConstBuffer::of(buffer))
     }
 
-    // The buffer, which reports `N` bytes or more.
+    // Returns a buffer that reports `N` bytes or more.
     pub(crate) fn of(buffer: Buffer<T, A>) -> Self
         requires { OfBytes N (λ exponent. exponent ≤ buffer.alignment) }
         ensures { result ≡ buffer }
     {
-        // Its contract tells the proof that the buffer has the alignment that it reports.
+        // The contract of `alignment` tells the prover that the buffer has the alignment that it
+        // reports.
         let _ = buffer.alignment();
         ConstBuffer { buffer }
     }
 
-    /// The items.
+    /// Returns the items.
     pub fn as_slice(&self) -> &[T]
         ensures { result.now ≡ self.now.list }
     {
         self.buffer.as_slice()
     }
 
-    /// The number of items.
+    /// Returns the number of items.
     pub fn len(&self) -> usize
         ensures { result ≡ length self.now.list }
     {
         self.buffer.len()
     }
 
-    /// Whether there are no items.
+    /// Returns whether the buffer has no items.
     pub fn is_empty(&self) -> bool
         ensures { result ≡ (length self.now.list == 0) }
     {
         self.buffer.is_empty()
     }
 
-    /// The items, by reference.
+    /// Returns an iterator over the items, by reference.
     pub fn iter(&self) -> Iter<'_, T>
         ensures { iter_rest result ≡ self.now.list }
     {
         self.buffer.iter()
     }
 
-    /// The buffer.
+    /// Returns the buffer.
     pub fn inner(&self) -> &Buffer<T, A>
         ensures value { result.now ≡ self.now }
         ensures aligned { HasAlignment N result.now }
@@ -111,7 +112,7 @@ impl<T: Element, const N: usize, A: Allocator> ConstBuffer<T, N, A> {
         &self.buffer
     }
 
-    /// The buffer, given away.
+    /// Converts this buffer to one without `N` in its type.
     pub fn into_inner(self) -> Buffer<T, A>
         ensures value { result ≡ self }
         ensures aligned { HasAlignment N result }
@@ -121,8 +122,9 @@ impl<T: Element, const N: usize, A: Allocator> ConstBuffer<T, N, A> {
 }
 
 impl<T: Element, const N: usize, A: Allocator + Clone> ConstBuffer<T, N, A> {
-    /// A copy of a slice, aligned to `N` bytes, which are a power of two and at least the alignment
-    /// of an item. It reports `N`, and is over-aligned to 256 bytes. Refused by `OutOfMemory`.
+    /// Returns a copy of `items` that is aligned to `N` bytes, reports `N`, and is over-aligned to
+    /// 256 bytes. `N` must be a power of two and at least the alignment of an item. Returns
+    /// `OutOfMemory` if memory runs out.
     pub fn copy_from(alloc: A, items: &[T]) -> Result<Self>
         requires power { IsPower N }
         requires at_least { T.ALIGN ≤ N }
@@ -132,10 +134,11 @@ impl<T: Element, const N: usize, A: Allocator + Clone> ConstBuffer<T, N, A> {
         Ok(ConstBuffer::of(buffer))
     }
 
-    /// A buffer, aligned to `N` bytes, which are a power of two and at least the alignment of an
-    /// item: it reports `N`. Where [`Buffer::is_aligned`] holds of it, it keeps its storage, takes
-    /// no memory and isn't refused; else the items are copied, over-aligned to 256 bytes. Refused
-    /// by `OutOfMemory`; the buffer is gone then.
+    /// Returns the items of `buffer`, aligned to `N` bytes and reporting `N`. `N` must be a power
+    /// of two and at least the alignment of an item. If [`Buffer::is_aligned`] is true for `N`
+    /// bytes, the buffer keeps its storage, and the call does not allocate and does not fail.
+    /// Otherwise it copies the items, over-aligned to 256 bytes. Returns `OutOfMemory` if memory
+    /// for the copy runs out, and drops the buffer then.
     pub fn align_from(buffer: Buffer<T, A>) -> Result<Self>
         requires power { IsPower N }
         requires at_least { T.ALIGN ≤ N }
@@ -151,9 +154,9 @@ impl<T: Element, const N: usize, A: Allocator + Clone> ConstBuffer<T, N, A> {
         Ok(ConstBuffer::of(buffer))
     }
 
-    /// One more owner of the same items, in constant time and without memory for the storage.
-    /// Refused by `OutOfMemory` where a copy of the allocator finds no memory, or where the storage
-    /// has as many owners as can be counted.
+    /// Returns another owner of the same items, in constant time. Does not allocate memory for the
+    /// storage. Returns `OutOfMemory` if cloning the allocator runs out of memory, or if the
+    /// storage already has the maximum number of owners.
     pub fn clone(&self) -> Result<Self>
         ensures { Makes (λ fixed. fixed ≡ self.now) result }
     {
@@ -178,7 +181,7 @@ impl<'a, T: Element, const N: usize, A: Allocator> IntoIterator for &'a ConstBuf
 impl<T: Element, const N: usize, A: Allocator + Clone> Clone for ConstBuffer<T, N, A> {
     ghost is_clone = { λ fixed copy. copy ≡ fixed };
 
-    /// [`ConstBuffer::clone`], for code that is generic over std's `Clone`.
+    /// Does the same as [`ConstBuffer::clone`], for code that is generic over std's `Clone`.
     fn clone(&self) -> std::result::Result<Self, AllocError> {
         ConstBuffer::clone(self).map_err(|_| AllocError)
     }

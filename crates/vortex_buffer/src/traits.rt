@@ -1,5 +1,5 @@
-//! Equality, order and hash of the buffers of this crate, which are their buffer's, and their text
-//! for programmers. Alignments don't count.
+//! Equality, order, hash and debug text of the buffers of this crate: those of the buffer inside.
+//! Alignments do not count.
 ghost use Rattle.std.specs.Prelude.{Some, nat_eq, refl};
 ghost use Rattle.std.specs.Ordering.{nat_cmp};
 ghost use Rattle.std.specs.Cmp.{on_per, on_equiv, on_po, on_total, partial_equiv_from_equiv};

@@ -1,4 +1,4 @@
--- `N` bytes have one exponent, with which the bytes were copied.
+-- `N` bytes have one exponent, and the bytes were copied with it.
 use Rattle.std.proofs.Common.{ℕ, ◌≤◌, take, rules, arith}
 use Rattle.vb_mem.specs.SharedBuffer.{ShowsMade}
 use Rattle.vortex_buffer.proofs.Exponents.{of_bytes}

@@ -1,4 +1,4 @@
--- `N` bytes have one exponent, with which the buffer was aligned.
+-- `N` bytes have one exponent, and the buffer was aligned with it.
 use Rattle.std.proofs.Common.{◌≡◌, ℕ, ◌≤◌, ◌∙◌, ap, inl, inr, rules, arith}
 use Rattle.std.specs.Prelude.{IsOkAnd}
 use Rattle.vb_mem.specs.SharedBuffer.{IsAlignedTo, Shows, ShowsMade}

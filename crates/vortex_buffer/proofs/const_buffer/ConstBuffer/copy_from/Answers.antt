@@ -1,4 +1,4 @@
--- `N` bytes have one exponent, with which the items were copied.
+-- `N` bytes have one exponent, and the items were copied with it.
 use Rattle.std.proofs.Common.{ℕ, ◌≤◌, rules, arith}
 use Rattle.vb_mem.specs.SharedBuffer.{ShowsMade}
 use Rattle.vortex_buffer.proofs.Exponents.{of_bytes, least_of_bytes}

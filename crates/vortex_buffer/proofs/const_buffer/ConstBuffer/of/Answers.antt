@@ -1,4 +1,4 @@
--- The buffer has the alignment that it reports, and so the lesser one.
+-- The buffer has the alignment that it reports, and so it has the lesser one.
 use Rattle.std.proofs.Common.{arith}
 use Rattle.vortex_buffer.proofs.Exponents.{lesser}
 use Rattle.vortex_buffer.proofs.const_buffer.ConstBuffer.of.Goals as goal
