@@ -1,8 +1,8 @@
-//! Reads commands from standard input and answers them on standard output.
+//! Reads commands from standard input and writes the answers to standard output.
 //!
-//! The exit status is 0 where the whole input was answered, 2 where a line can't be read, and 3
-//! where reading, writing or memory failed; standard error then says which. If standard input is a
-//! terminal, a first line on standard error says what the program reads.
+//! The exit status is 0 if the program answered the whole input, 2 if it could not parse a line,
+//! and 3 if a read, a write or an allocation failed; standard error says which. If standard input
+//! is a terminal, a first line on standard error says what the program reads.
 #![tactic(auto)]
 
 mod report;
@@ -17,14 +17,14 @@ use vb_script::{FromRead, ToWrite, drive};
 fn main(rt: HostRuntime) -> ExitCode {
     let reader = rt.reader();
     if reader.is_terminal() {
-        // Where standard error fails, the session goes on without this line.
+        // If standard error fails, the session continues without this line.
         let _ = eprintln!(rt; "{}", WAITS);
     }
     let mut input = FromRead::new(reader);
     let mut output = ToWrite::new(io::writer(&rt));
     let ended = drive(rt.alloc(), &mut input, &mut output);
     if let Err(error) = ended {
-        // Where standard error fails too, the status alone says what happened.
+        // If standard error fails too, only the status says what happened.
         let _ = eprintln!(rt; "{}", Complaint(error));
     }
     ExitCode::from(status(ended))

@@ -1,16 +1,16 @@
-//! What the program says beside its answers.
+//! The texts of the program apart from its answers.
 ghost use Rattle.std.specs.Prelude.{◌≡◌};
 ghost use Rattle.vbits.specs.Report.{status_of};
 
 use std::fmt;
 use vb_script::DriveError;
 
-/// The line that greets a person at a terminal.
+/// The line that the program prints first at a terminal.
 pub const WAITS: &str =
     "vbits: type commands, one a line, and Ctrl-D at the end; docs/COMMANDS.md lists them";
 
-/// The exit status: 0 where the whole input was answered, 2 where a line can't be read, and 3 where
-/// reading, writing or memory failed.
+/// Returns the exit status: 0 if the program answered the whole input, 2 if it could not parse a
+/// line, and 3 if a read, a write or an allocation failed.
 pub fn status(ended: Result<(), DriveError>) -> u8
     ensures { result ≡ status_of ended }
 {
@@ -21,7 +21,7 @@ pub fn status(ended: Result<(), DriveError>) -> u8
     }
 }
 
-/// An error as it is told on standard error: the name of the program, and the error.
+/// The text of an error on standard error: the name of the program, and the error.
 #[derive(Clone, Copy)]
 pub struct Complaint(pub DriveError);
 

@@ -1,4 +1,4 @@
-//! What the program writes to standard error.
+//! The text that the program writes to standard error.
 use crate::report::Complaint;
 use std::test::Fail;
 use vb_script::DriveError;
