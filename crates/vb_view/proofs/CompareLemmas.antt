@@ -10,7 +10,7 @@ pointwise_own [] = refl
 pointwise_own (true ∷ l) = pointwise_own l
 pointwise_own (false ∷ l) = pointwise_own l
 
--- and what equals it is the same list
+-- and two lists that are equal value by value are the same
 pointwise_same : (l m : List Bool) → pointwise beq l m ≡ true → l ≡ m
 pointwise_same [] [] e = refl
 pointwise_same [] (c ∷ m) e = absurd cc
@@ -20,7 +20,7 @@ pointwise_same (true ∷ l) (false ∷ m) e = absurd cc
 pointwise_same (false ∷ l) (true ∷ m) e = absurd cc
 pointwise_same (false ∷ l) (false ∷ m) e = ap (λ x. false ∷ x) (pointwise_same l m e)
 
--- a test that is true exactly of equal lists is the one that the laws of `==` speak of
+-- a test that holds exactly for equal lists is the test in the laws of `==`
 pub is_pointwise : (r : Bool) (l m : List Bool) → IsTrue r ↔ (l ≡ m) → r ≡ pointwise beq l m
 is_pointwise true l m e = sym (ap (pointwise beq l) (sym (e.0 refl)) ∙ pointwise_own l)
 is_pointwise false l m e = go (pointwise beq l m) refl

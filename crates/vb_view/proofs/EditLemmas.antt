@@ -1,4 +1,4 @@
--- What writes of bits make of windows.
+-- Rules for writes to windows.
 use Rattle.vb_bits.proofs.WindowLemmas.{windows}
 use Rattle.vb_bits.proofs.WritesLemmas.{writes}
 

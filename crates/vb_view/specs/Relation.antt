@@ -1,5 +1,4 @@
--- How calls answer whether two lists of bits are disjoint, or one is a subset of the other, and how
--- many values an operator makes true of them.
+-- Results of the calls that test or count pairs of bits of two lists.
 use Rattle.std.specs.Prelude.{◌≡◌, ◌≢◌, ◌↔◌, ℕ, Bool, List, length}
 use Rattle.std.specs.Prelude.{Result, IfOk, IsOk, IsErrOf, IsTrue}
 use Rattle.vb_bits.specs.Bits.{count}
@@ -8,16 +7,16 @@ use Rattle.vb_bits.specs.declared.zip.BitOp.{BitOp}
 use Rattle.vb_core.specs.declared.error.BufferError.{BufferError}
 use Rattle.vb_core.specs.declared.error.BufferError.TheVariants.{LengthMismatch}
 
--- of two lists of one length the answer is whether the operator makes nothing true; two lengths are
--- refused, with both
+-- for two lists of one length, the result says whether the operator makes no index true; for two
+-- lengths it is `LengthMismatch` with both
 pub record TellsNone (op : BitOp) (l r : List Bool)
     (result : Result Bool BufferError) : Type 0 where
   pub ok : IfOk result (λ none. IsTrue none ↔ (count (combined_by op l r) ≡ 0))
   pub same_len : length l ≡ length r → IsOk result
   pub other_len : length l ≢ length r → IsErrOf result (LengthMismatch (length l) (length r))
 
--- of two lists of one length the answer is how many values the operator makes true; two lengths are
--- refused, with both
+-- for two lists of one length, the result is the number of indices that the operator makes true;
+-- for two lengths it is `LengthMismatch` with both
 pub record CountsCombined (op : BitOp) (l r : List Bool)
     (result : Result ℕ BufferError) : Type 0 where
   pub ok : IfOk result (λ n. n ≡ count (combined_by op l r))

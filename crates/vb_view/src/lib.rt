@@ -1,8 +1,9 @@
-//! Views of bits over borrowed bytes, and the walks over them.
+//! Views of bits over borrowed bytes, with iterators over their bits, words, set bits and runs.
 //!
-//! A window is the `len` bits from bit `offset` on, least significant first. It has to lie in the
-//! bytes, and its end has to be a `usize`; `vb_bits::window_fits` is the test. Lengths, offsets
-//! and places are counted in bits. No call takes memory.
+//! Bit `i` of bytes is bit `i % 8` of byte `i / 8`, least significant first. A window is the `len`
+//! bits from bit `offset` on. It must end within the bytes, and `offset + len` must fit in a
+//! `usize`; `vb_bits::window_fits` tests both. Lengths, offsets and indices are in bits. What
+//! "must" hold is for the caller to prove. No call allocates.
 #![tactic(auto)]
 
 mod meta;

@@ -1,4 +1,4 @@
-//! Where bits lie in bytes.
+//! The position of bits in bytes.
 ghost use Rattle.std.specs.Prelude.{◌≡◌, ◌+◌, ◌-◌, ◌/◌, ◌%◌, ◌^◌, ◌<◌, ◌≤◌, ◌==◌};
 ghost use Rattle.std.specs.Int.{div_ceil};
 
@@ -14,7 +14,8 @@ pub struct BitBufferMeta {
 }
 
 impl BitBufferMeta {
-    /// `len` bits from bit `offset` on, which has to be below 8. Their end has to be a `usize`.
+    /// Describes `len` bits from bit `offset` on. `offset` must be below 8, and `offset + len` must
+    /// fit in a `usize`.
     pub fn new(offset: usize, len: usize) -> Self
         requires in_byte { offset < 8 }
         requires fits { offset + len < 2 ^ 64 }
@@ -24,8 +25,8 @@ impl BitBufferMeta {
         BitBufferMeta { offset, len }
     }
 
-    /// The byte in which bit `offset` lies, and `len` bits from that bit on, seen from this byte.
-    /// Their end seen from there has to be a `usize`.
+    /// Returns the index of the byte that has bit `offset`, and a description of the `len` bits
+    /// from that bit on, relative to that byte. `offset % 8 + len` must fit in a `usize`.
     pub fn from_raw_offset(offset: usize, len: usize) -> (usize, Self)
         requires { offset % 8 + len < 2 ^ 64 }
         ensures byte { result.0 ≡ offset / 8 }
@@ -35,8 +36,8 @@ impl BitBufferMeta {
         (offset / 8, BitBufferMeta::new(offset % 8, len))
     }
 
-    /// The byte in which the range begins, and the bits of the range, seen from this byte. The
-    /// range has to be in order and to end within the length.
+    /// Returns the index of the byte in which `range` begins, and a description of the bits of
+    /// `range`, relative to that byte. `range` must be in order and end within the length.
     pub fn slice(&self, range: Range<usize>) -> (usize, Self)
         requires order { range.start ≤ range.end }
         requires within { range.end ≤ self.now.len }
@@ -47,7 +48,7 @@ impl BitBufferMeta {
         BitBufferMeta::from_raw_offset(self.offset + range.start, range.end - range.start)
     }
 
-    /// The offset of the first bit in its byte, below 8.
+    /// Returns the offset of the first bit in its byte, below 8.
     pub fn offset(&self) -> usize
         ensures value { result ≡ self.now.offset }
         ensures in_byte { result < 8 }
@@ -55,7 +56,7 @@ impl BitBufferMeta {
         self.offset
     }
 
-    /// How many bits there are.
+    /// Returns the number of bits.
     pub fn len(&self) -> usize
         ensures value { result ≡ self.now.len }
         ensures fits { self.now.offset + result < 2 ^ 64 }
@@ -63,14 +64,15 @@ impl BitBufferMeta {
         self.len
     }
 
-    /// Whether there are no bits.
+    /// Returns whether there are no bits.
     pub fn is_empty(&self) -> bool
         ensures { result ≡ (self.now.len == 0) }
     {
         self.len == 0
     }
 
-    /// How many bytes the bits lie in, from the byte of the offset on.
+    /// Returns the number of bytes that the bits span, from the byte of the offset on:
+    /// `(offset + len) / 8`, rounded up.
     pub fn byte_len(&self) -> usize
         ensures { result ≡ div_ceil (self.now.offset + self.now.len) 8 }
     {

@@ -14,41 +14,41 @@ use crate::view::BitBufferView;
 use vb_bits::{fill_bits, set_bit_to};
 use vb_walk::BitIterator;
 
-/// What a [`BitBufferMutView`] writes to: a `&mut` to bytes, or to a set of bits over bytes. A
-/// `&mut [u8]` allows every window inside it that ends below 2^64, a set only that of its own bits.
-/// Who writes by views calls none of this.
+/// The target of a [`BitBufferMutView`]: a `&mut` to bytes, or to a set of bits. A `&mut [u8]`
+/// allows every window in it that ends below bit 2^64, a set only the window of its own bits.
+/// Programs that write through views call none of these methods.
 pub trait BitStore {
-    // its bytes
+    // the bytes that it has
     ghost bytes: { Self → List ℕ };
 
-    // the bits of a window of them
+    // the bits of a window: its offset and length are the numbers
     ghost bits: { Self → ℕ → ℕ → List Bool };
 
-    // it allows views of this window: bytes of any that lies in them and ends below 2^64, a set of
-    // its own
+    // whether it allows a view of this window: bytes allow any that is in them and ends below bit
+    // 2^64, a set the one of its own bits
     ghost fits: { Self → ℕ → ℕ → Type 0 };
 
-    // all proofs of that are equal, so no view differs from another one by its proof
+    // any two proofs of that are equal, so no two views differ by their proofs alone
     ghost fits_prop: { (s : Self) (o n : ℕ) (a b : fits s o n) → a ≡ b };
 
-    // the name of the `&mut` itself, by which a clause says that the same place is written to
+    // the name of the `&mut`: two targets with the same name write to the same memory
     ghost lender: { Self → GName };
 
-    // what no write changes: of bytes their number, of a set its offset, number of bytes, alignment
-    // and room
+    // the properties that no write changes: the number of bytes; for a set also its offset,
+    // alignment and capacity
     ghost Kept: { Type 0 };
 
     ghost kept: { Self → Kept };
 
-    /// All its bytes, for a window that it allows. Clause `window` says that the window lies in
-    /// them and ends below 2^64, and that its bits in them are those that `bits` says.
+    /// Returns all bytes, for a window that it allows. Clause `window` says that the window is in
+    /// them and ends below bit 2^64, and that `bits` are its bits in them.
     fn as_slice(&self, offset: usize, len: usize) -> &[u8]
         requires { fits self.now offset len }
         ensures bytes { result.now ≡ bytes self.now }
         ensures window { IsWindow result.now offset (bits self.now offset len) };
 
-    /// Gives the bit at place `i` of a window, counted from its first one, the value `v`. Every
-    /// other bit of the bytes stays, and so does their number: so says clause `bytes`.
+    /// Sets bit `i` of the window to `v`; `i` must be below `len`. By clause `bytes` every other
+    /// bit of the bytes, and their number, is unchanged.
     fn set_to(&mut self, offset: usize, len: usize, i: usize, v: bool)
         requires fits { fits self.old offset len }
         requires within { i < len }
@@ -58,8 +58,9 @@ pub trait BitStore {
         ensures same_reference { lender self.new ≡ lender self.old }
         ensures kept { kept self.new ≡ kept self.old };
 
-    /// Gives the bits of a window from place `start` up to `end`, `end` excluded, the value `v`.
-    /// Every other bit of the bytes stays, and so does their number: so says clause `bytes`.
+    /// Sets the bits of the window from index `start` up to `end`, `end` excluded, to `v`. `start`
+    /// must be at most `end`, and `end` at most `len`. By clause `bytes` every other bit of the
+    /// bytes, and their number, is unchanged.
     fn fill_range(&mut self, offset: usize, len: usize, start: usize, end: usize, v: bool)
         requires fits { fits self.old offset len }
         requires order { start ≤ end }
@@ -71,14 +72,15 @@ pub trait BitStore {
         ensures same_reference { lender self.new ≡ lender self.old }
         ensures kept { kept self.new ≡ kept self.old };
 
-    // a window that it allows has as many bits as it is long
+    // a window that it allows has `len` bits
     ghost counted: { (s : Self) (o n : ℕ) → fits s o n → length (bits s o n) ≡ n };
 }
 
-/// A list of bits that lies in borrowed bytes, and that may be edited in place.
+/// A list of bits in borrowed bytes, which can be edited in place.
 ///
-/// Each write goes straight to the borrowed bytes, or to the set that owns them. A contract sees
-/// the view's bits, its store, and the place of its first bit in the store's bytes, in bits.
+/// Each write goes straight to the borrowed bytes, or to the set that owns them. Contracts see the
+/// view's bits, its target (the store), and the offset of its first bit in the store's bytes, in
+/// bits.
 #[derive(Drop)]
 pub struct BitBufferMutView<S: BitStore> {
     store: S,
@@ -91,7 +93,8 @@ impl<S: BitStore> BitBufferMutView<S> {
     ghost use Rattle.vb_view.specs.MutView.{mut_bits_of, store_of, mut_bytes_of, mut_place_of};
     ghost use Rattle.vb_view.specs.MutView.{mut_len_of, KeepsWindow};
 
-    /// The `len` bits from bit `offset` on of what `store` lends. It has to allow this window.
+    /// Returns a view of the `len` bits of `store` from bit `offset` on. `store` must allow this
+    /// window.
     pub fn over(store: S, offset: usize, len: usize) -> Self
         requires { S.fits store offset len }
         ensures bits { mut_bits_of result ≡ S.bits store offset len }
@@ -103,7 +106,7 @@ impl<S: BitStore> BitBufferMutView<S> {
         BitBufferMutView { store, offset, len }
     }
 
-    /// A view that only reads the bits, as they are now.
+    /// Returns a view for reading the bits, as they are now.
     pub fn as_view(&self) -> BitBufferView<'_>
         ensures bits { bits_of result ≡ mut_bits_of self.now }
         ensures offset { offset_of result ≡ mut_place_of self.now % 8 }
@@ -113,7 +116,7 @@ impl<S: BitStore> BitBufferMutView<S> {
         BitBufferView::new_with_offset(bytes, self.len, self.offset)
     }
 
-    /// How many bits there are.
+    /// Returns the number of bits.
     pub fn len(&self) -> usize
         ensures bits { result ≡ length (mut_bits_of self.now) }
         ensures len { result ≡ mut_len_of self.now }
@@ -121,14 +124,14 @@ impl<S: BitStore> BitBufferMutView<S> {
         self.len
     }
 
-    /// Whether there are no bits.
+    /// Returns whether the view has no bits.
     pub fn is_empty(&self) -> bool
         ensures { result ≡ (length (mut_bits_of self.now) == 0) }
     {
         self.len == 0
     }
 
-    /// The place of the first bit in the bytes of [`as_slice`](Self::as_slice), in bits.
+    /// Returns the offset of the first bit in [`as_slice`](Self::as_slice), in bits; it is below 8.
     pub fn offset(&self) -> usize
         ensures value { result ≡ mut_place_of self.now % 8 }
         ensures below { result < 8 }
@@ -136,7 +139,7 @@ impl<S: BitStore> BitBufferMutView<S> {
         self.offset % 8
     }
 
-    /// The bytes from that of the first bit on.
+    /// Returns the bytes from the byte of the first bit on, also those after the last bit.
     pub fn as_slice(&self) -> &[u8]
         ensures bytes { result.now ≡ drop (mut_place_of self.now / 8) (mut_bytes_of self.now) }
         ensures window { IsWindow result.now (mut_place_of self.now % 8) (mut_bits_of self.now) }
@@ -144,7 +147,7 @@ impl<S: BitStore> BitBufferMutView<S> {
         self.as_view().inner()
     }
 
-    /// The bit at place `i`, which has to be below the length.
+    /// Returns the bit at index `i`, which must be below the length.
     pub fn value(&self, i: usize) -> bool
         requires { i < length (mut_bits_of self.now) }
         ensures { slice_get (mut_bits_of self.now) i ≡ Some result }
@@ -152,28 +155,29 @@ impl<S: BitStore> BitBufferMutView<S> {
         self.as_view().value(i)
     }
 
-    /// How many bits are true. It reads every byte of the bits once, 64 at a time.
+    /// Returns the number of set bits. Reads the bytes once, 64 at a time.
     pub fn true_count(&self) -> usize
         ensures { result ≡ count (mut_bits_of self.now) }
     {
         self.as_view().true_count()
     }
 
-    /// How many bits are false, at the cost of [`true_count`](Self::true_count).
+    /// Returns the number of unset bits. Costs the same as [`true_count`](Self::true_count).
     pub fn false_count(&self) -> usize
         ensures { result ≡ count (complement (mut_bits_of self.now)) }
     {
         self.as_view().false_count()
     }
 
-    /// The bits as truth values, from either end.
+    /// Returns an iterator over the bits as truth values, from either end.
     pub fn iter(&self) -> BitIterator<'_>
         ensures { result ≡ mut_bits_of self.now }
     {
         self.as_view().iter()
     }
 
-    /// Makes the bit at place `i` `v`. No other bit of the bytes changes.
+    /// Sets the bit at index `i` to `v`; `i` must be below the length. No other bit of the bytes
+    /// changes.
     pub fn set_to(&mut self, i: usize, v: bool)
         requires { i < length (mut_bits_of self.old) }
         ensures bits { mut_bits_of self.new ≡ slice_set (mut_bits_of self.old) i v }
@@ -184,7 +188,8 @@ impl<S: BitStore> BitBufferMutView<S> {
         self.store.set_to(self.offset, self.len, i, v);
     }
 
-    /// Makes the bit at place `i` true. No other bit of the bytes changes.
+    /// Sets the bit at index `i` to true; `i` must be below the length. No other bit of the bytes
+    /// changes.
     pub fn set(&mut self, i: usize)
         requires { i < length (mut_bits_of self.old) }
         ensures bits { mut_bits_of self.new ≡ slice_set (mut_bits_of self.old) i true }
@@ -195,7 +200,8 @@ impl<S: BitStore> BitBufferMutView<S> {
         self.set_to(i, true);
     }
 
-    /// Makes the bit at place `i` false. No other bit of the bytes changes.
+    /// Sets the bit at index `i` to false; `i` must be below the length. No other bit of the bytes
+    /// changes.
     pub fn unset(&mut self, i: usize)
         requires { i < length (mut_bits_of self.old) }
         ensures bits { mut_bits_of self.new ≡ slice_set (mut_bits_of self.old) i false }
@@ -206,8 +212,9 @@ impl<S: BitStore> BitBufferMutView<S> {
         self.set_to(i, false);
     }
 
-    /// Makes the bits from `start` up to `end`, `end` excluded, `v`, whole bytes at once. No other
-    /// bit of the bytes changes.
+    /// Sets the bits from index `start` up to `end`, `end` excluded, to `v`. `start` must be at
+    /// most `end`, and `end` at most the length. Fills whole bytes at once; no other bit of the
+    /// bytes changes.
     pub fn fill_range(&mut self, start: usize, end: usize, v: bool)
         requires order { start ≤ end }
         requires within { end ≤ length (mut_bits_of self.old) }
@@ -261,7 +268,7 @@ impl<'a> BitBufferMutView<&'a mut [u8]> {
     ghost use Rattle.vb_view.specs.MutView.{mut_bits_of, store_of, mut_len_of};
     ghost use Rattle.vb_view.specs.MutView.{IsSameReference, ShowsWindow};
 
-    /// The first `len` bits of the bytes, in which they have to lie.
+    /// Returns a view of the first `len` bits of `bytes`, which must have so many.
     pub fn new(bytes: &'a mut [u8], len: usize) -> Self
         requires { len ≤ 8 * length bytes.old }
         ensures lends { IsSameReference (store_of result) bytes.entry }
@@ -272,8 +279,8 @@ impl<'a> BitBufferMutView<&'a mut [u8]> {
         BitBufferMutView::new_with_offset(bytes, len, 0)
     }
 
-    /// The `len` bits from bit `offset` on. They have to lie in the bytes, and `offset + len` has
-    /// to be a `usize`.
+    /// Returns a view of the `len` bits from bit `offset` on. They must be in `bytes`, and
+    /// `offset + len` must fit in a `usize`.
     pub fn new_with_offset(bytes: &'a mut [u8], len: usize, offset: usize) -> Self
         requires window { InBytes bytes.old offset len }
         ensures lends { IsSameReference (store_of result) bytes.entry }

@@ -1,26 +1,27 @@
-//! Views as text for people who look for a fault.
+//! `Debug` for views.
 use crate::mut_view::{BitBufferMutView, BitStore};
 use crate::view::BitBufferView;
 use std::fmt;
 
-/// How many bits are shown.
+/// The number of bits that are printed.
 const SHOWN: usize = 64;
 
-/// The first 64 bits, as `BitBufferView(01101..)`.
+/// Prints the first 64 bits, as `BitBufferView(01101..)`.
 impl<'a> fmt::Debug for BitBufferView<'a> {
     fn fmt<W: fmt::Write>(&self, f: &mut fmt::Formatter<W>) -> fmt::Result {
         write_view(f, "BitBufferView", *self)
     }
 }
 
-/// The first 64 bits, as `BitBufferMutView(01101..)`.
+/// Prints the first 64 bits, as `BitBufferMutView(01101..)`.
 impl<S: BitStore> fmt::Debug for BitBufferMutView<S> {
     fn fmt<W: fmt::Write>(&self, f: &mut fmt::Formatter<W>) -> fmt::Result {
         write_view(f, "BitBufferMutView", self.as_view())
     }
 }
 
-/// Writes a type's name with the first 64 bits as digits, and `..` where there are more.
+/// Writes the name of a type and the first 64 bits as digits, with `..` after them if there are
+/// more.
 fn write_view<W: fmt::Write>(
     f: &mut fmt::Formatter<W>,
     name: &str,

@@ -1,4 +1,4 @@
-//! Equality of views: that of the lists of their bits.
+//! Equality of views.
 ghost use Rattle.std.specs.Prelude.{◌≡◌, ◌↔◌, IsTrue};
 ghost use Rattle.std.specs.Bool.{beq};
 ghost use Rattle.std.specs.Cmp.{bool_eq_equiv, on_per, on_equiv, partial_equiv_from_equiv};
@@ -13,8 +13,8 @@ impl PartialEq for BitBufferView<'_> {
 
     ghost laws = { on_per bits_of (lists_per (partial_equiv_from_equiv bool_eq_equiv)) };
 
-    /// Whether the lists of bits are equal, by words; where the bits lie in their bytes doesn't
-    /// count.
+    /// Returns whether the bits of the two are equal, wherever they are in their bytes. Compares
+    /// word by word.
     fn eq(&self, other: &Self) -> bool
         ensures value { result ≡ pointwise beq (bits_of self.now) (bits_of other.now) }
         ensures exact { IsTrue result ↔ (bits_of self.now ≡ bits_of other.now) }
@@ -27,7 +27,7 @@ impl Eq for BitBufferView<'_> {
     ghost laws = { on_equiv bits_of (lists_equiv bool_eq_equiv) };
 }
 
-/// Whether the lists of bits are equal.
+/// Returns whether the lists of bits are equal.
 fn same_bits(left: &BitBufferView<'_>, right: &BitBufferView<'_>) -> bool
     ensures { IsTrue result ↔ (bits_of left.now ≡ bits_of right.now) }
 {

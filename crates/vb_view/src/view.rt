@@ -1,4 +1,4 @@
-//! Bits over borrowed bytes.
+//! Bits over borrowed bytes, for reading.
 ghost use Rattle.std.specs.Prelude.{◌≡◌, ◌+◌, ◌-◌, ◌*◌, ◌/◌, ◌%◌, ◌^◌, ◌<◌, ◌≤◌, ◌==◌, ◌↔◌};
 ghost use Rattle.std.specs.Prelude.{◌≢◌, ℕ, length, drop, slice_get, slice_range, Some, All};
 ghost use Rattle.std.specs.Prelude.{IsTrue, IsOk, IsErrOf};
@@ -24,9 +24,9 @@ use vb_select::{
 };
 use vb_walk::{BitChunks, BitIndexIterator, BitIterator, BitSliceIterator, UnalignedBitChunk};
 
-/// A list of bits that lies in borrowed bytes, and that may be copied freely.
+/// A list of bits in borrowed bytes. Views can be copied freely.
 ///
-/// A contract sees its bits, the offset of the first one, which is below 8, and its bytes.
+/// Contracts see its bits, its bytes, and the offset of its first bit in them, which is below 8.
 #[derive(Clone, Copy)]
 pub struct BitBufferView<'a> {
     bytes: &'a [u8],
@@ -41,7 +41,7 @@ pub struct BitBufferView<'a> {
 impl<'a> BitBufferView<'a> {
     ghost use Rattle.vb_view.specs.View.{bits_of, offset_of, bytes_of};
 
-    /// The first `len` bits of the bytes, in which they have to lie.
+    /// Returns a view of the first `len` bits of `bytes`, which must have so many.
     pub fn new(bytes: &'a [u8], len: usize) -> Self
         requires { len ≤ 8 * length bytes.now }
         ensures bits { bits_of result ≡ bits bytes.now 0 len }
@@ -52,8 +52,8 @@ impl<'a> BitBufferView<'a> {
         BitBufferView::new_with_offset(bytes, len, 0)
     }
 
-    /// The `len` bits from bit `offset` on. They have to lie in the bytes, and `offset + len` has
-    /// to be a `usize`. The view's bytes begin with that of the first bit.
+    /// Returns a view of the `len` bits from bit `offset` on. They must be in `bytes`, and
+    /// `offset + len` must fit in a `usize`. The bytes of the view begin with byte `offset / 8`.
     pub fn new_with_offset(bytes: &'a [u8], len: usize, offset: usize) -> Self
         requires window { InBytes bytes.now offset len }
         ensures bits { bits_of result ≡ bits bytes.now offset len }
@@ -68,7 +68,7 @@ impl<'a> BitBufferView<'a> {
         }
     }
 
-    /// The bits that `meta` describes, which have to lie in the bytes.
+    /// Returns a view of the bits that `meta` describes, which must be in `bytes`.
     pub fn from_meta(bytes: &'a [u8], meta: BitBufferMeta) -> Self
         requires { meta.offset + meta.len ≤ 8 * length bytes.now }
         ensures bits { bits_of result ≡ bits bytes.now meta.offset meta.len }
@@ -83,7 +83,7 @@ impl<'a> BitBufferView<'a> {
         }
     }
 
-    /// Offset and length.
+    /// Returns the offset of the first bit and the number of bits.
     pub fn meta(&self) -> BitBufferMeta
         ensures offset { result.offset ≡ offset_of self.now }
         ensures len { result.len ≡ length (bits_of self.now) }
@@ -91,21 +91,21 @@ impl<'a> BitBufferView<'a> {
         BitBufferMeta::new(self.offset, self.len)
     }
 
-    /// How many bits there are.
+    /// Returns the number of bits.
     pub fn len(&self) -> usize
         ensures { result ≡ length (bits_of self.now) }
     {
         self.len
     }
 
-    /// Whether there are no bits.
+    /// Returns whether the view has no bits.
     pub fn is_empty(&self) -> bool
         ensures { result ≡ (length (bits_of self.now) == 0) }
     {
         self.len == 0
     }
 
-    /// The place of the first bit in the bytes, in bits.
+    /// Returns the offset of the first bit in [`inner`](Self::inner), in bits; it is below 8.
     pub fn offset(&self) -> usize
         ensures value { result ≡ offset_of self.now }
         ensures below { result < 8 }
@@ -113,7 +113,7 @@ impl<'a> BitBufferView<'a> {
         self.offset
     }
 
-    /// The bytes, of which the bits are a window.
+    /// Returns the bytes. The bits of the view are those from bit [`offset`](Self::offset) on.
     pub fn inner(&self) -> &'a [u8]
         ensures bytes { result.now ≡ bytes_of self.now }
         ensures window { IsWindow result.now (offset_of self.now) (bits_of self.now) }
@@ -121,7 +121,7 @@ impl<'a> BitBufferView<'a> {
         self.bytes
     }
 
-    /// The bit at place `i`, which has to be below the length.
+    /// Returns the bit at index `i`, which must be below the length.
     pub fn value(&self, i: usize) -> bool
         requires { i < length (bits_of self.now) }
         ensures { slice_get (bits_of self.now) i ≡ Some result }
@@ -129,8 +129,8 @@ impl<'a> BitBufferView<'a> {
         get_bit(self.bytes, self.offset + i)
     }
 
-    /// The bits of a range, which has to be in order and to end within the length. The bytes begin
-    /// with that of its first bit.
+    /// Returns a view of the bits of `range`, which must be in order and end within the length. The
+    /// bytes of the new view begin with the byte of its first bit.
     pub fn slice(&self, range: Range<usize>) -> Self
         requires order { range.start ≤ range.end }
         requires within { range.end ≤ length (bits_of self.now) }
@@ -144,29 +144,29 @@ impl<'a> BitBufferView<'a> {
         BitBufferView::new_with_offset(self.bytes, len, self.offset + range.start)
     }
 
-    /// The bits as words of 64 bits from the first bit on.
+    /// Returns the bits as words of 64 bits, from the first bit on, and a remainder.
     pub fn chunks(&self) -> BitChunks<'a>
         ensures { result ≡ bits_of self.now }
     {
         BitChunks::new(self.bytes, self.offset, self.len)
     }
 
-    /// The bits as words that begin at whole bytes: eight bytes a word, from the byte of the first
-    /// bit on. Bits outside of the view are 0 in them.
+    /// Returns the bits as words of eight bytes each, from the byte of the first bit on. Bits
+    /// outside the view are 0 in them.
     pub fn unaligned_chunks(&self) -> UnalignedBitChunk<'a>
         ensures { IsCut (offset_of self.now) (bits_of self.now) result }
     {
         UnalignedBitChunk::new(self.bytes, self.offset, self.len)
     }
 
-    /// The bits as truth values, from either end.
+    /// Returns an iterator over the bits as truth values, from either end.
     pub fn iter(&self) -> BitIterator<'a>
         ensures { result ≡ bits_of self.now }
     {
         BitIterator::new(self.bytes, self.offset, self.len)
     }
 
-    /// The places of the true bits, in ascending order.
+    /// Returns an iterator over the indices of the set bits, in ascending order.
     pub fn set_indices(&self) -> BitIndexIterator<'a>
         ensures value { result ≡ places (bits_of self.now) }
         ensures below { All (λ i. i < length (bits_of self.now)) result }
@@ -177,7 +177,8 @@ impl<'a> BitBufferView<'a> {
         BitIndexIterator::new(self.bytes, self.offset, self.len)
     }
 
-    /// The runs of true bits, from front to end: where each begins, and the place behind it.
+    /// Returns an iterator over the runs of set bits, each as long as possible, from front to end:
+    /// the index of the first bit of a run, and the index after its last one.
     pub fn set_slices(&self) -> BitSliceIterator<'a>
         ensures value { result ≡ runs (bits_of self.now) }
         ensures within { All (λ run. (run.0 < run.1) × (run.1 ≤ length (bits_of self.now))) result }
@@ -187,22 +188,23 @@ impl<'a> BitBufferView<'a> {
         BitSliceIterator::new(self.bytes, self.offset, self.len)
     }
 
-    /// How many bits are true. It reads every byte of the bits once, 64 at a time.
+    /// Returns the number of set bits. Reads the bytes once, 64 at a time.
     pub fn true_count(&self) -> usize
         ensures { result ≡ count (bits_of self.now) }
     {
         count_ones(self.bytes, self.offset, self.len)
     }
 
-    /// How many bits are false, at the cost of [`true_count`](Self::true_count).
+    /// Returns the number of unset bits. Costs the same as [`true_count`](Self::true_count).
     pub fn false_count(&self) -> usize
         ensures { result ≡ count (complement (bits_of self.now)) }
     {
         self.len() - self.true_count()
     }
 
-    /// How many of the bits from `start` up to `end`, `end` excluded, are true. It reads the bytes
-    /// of these bits once, 64 at a time.
+    /// Returns the number of set bits from index `start` up to `end`, `end` excluded. `start` must
+    /// be at most `end`, and `end` at most the length. Reads the bytes of these bits once, 64 at a
+    /// time.
     pub fn count_range(&self, start: usize, end: usize) -> usize
         requires order { start ≤ end }
         requires within { end ≤ length (bits_of self.now) }
@@ -214,8 +216,8 @@ impl<'a> BitBufferView<'a> {
         count_ones(self.bytes, self.offset + start, end - start)
     }
 
-    /// How many places are true in both views, which have to be as long. Both are read by words,
-    /// and nothing is made; it takes no memory.
+    /// Returns the number of indices at which both views are true; they must have the same length.
+    /// Reads both word by word, and does not allocate.
     pub fn and_count(&self, other: &BitBufferView<'_>) -> usize
         requires { length (bits_of other.now) ≡ length (bits_of self.now) }
         ensures { result ≡ count (combined_by And (bits_of self.now) (bits_of other.now)) }
@@ -223,8 +225,8 @@ impl<'a> BitBufferView<'a> {
         and_count(self.bytes, self.offset, other.bytes, other.offset, self.len)
     }
 
-    /// How many places are true in one of the views or in both, at the cost of
-    /// [`and_count`](Self::and_count). The views have to be as long.
+    /// Returns the number of indices at which at least one of the views is true; they must have the
+    /// same length. Costs the same as [`and_count`](Self::and_count).
     pub fn or_count(&self, other: &BitBufferView<'_>) -> usize
         requires { length (bits_of other.now) ≡ length (bits_of self.now) }
         ensures { result ≡ count (combined_by Or (bits_of self.now) (bits_of other.now)) }
@@ -232,8 +234,8 @@ impl<'a> BitBufferView<'a> {
         or_count(self.bytes, self.offset, other.bytes, other.offset, self.len)
     }
 
-    /// At how many places the views differ, at the cost of [`and_count`](Self::and_count). The
-    /// views have to be as long.
+    /// Returns the number of indices at which the views differ; they must have the same length.
+    /// Costs the same as [`and_count`](Self::and_count).
     pub fn xor_count(&self, other: &BitBufferView<'_>) -> usize
         requires { length (bits_of other.now) ≡ length (bits_of self.now) }
         ensures { result ≡ count (combined_by Xor (bits_of self.now) (bits_of other.now)) }
@@ -241,8 +243,8 @@ impl<'a> BitBufferView<'a> {
         xor_count(self.bytes, self.offset, other.bytes, other.offset, self.len)
     }
 
-    /// How many places are true in this view and not in the other one, at the cost of
-    /// [`and_count`](Self::and_count). The views have to be as long.
+    /// Returns the number of indices at which this view is true and the other one false; they must
+    /// have the same length. Costs the same as [`and_count`](Self::and_count).
     pub fn andnot_count(&self, other: &BitBufferView<'_>) -> usize
         requires { length (bits_of other.now) ≡ length (bits_of self.now) }
         ensures { result ≡ count (combined_by AndNot (bits_of self.now) (bits_of other.now)) }
@@ -250,9 +252,9 @@ impl<'a> BitBufferView<'a> {
         andnot_count(self.bytes, self.offset, other.bytes, other.offset, self.len)
     }
 
-    /// Returns the number of places that are true in both views. Returns `LengthMismatch`, with the
-    /// length of this view as `left`, exactly where the lengths differ. Does not allocate, and
-    /// costs what [`and_count`](Self::and_count) does.
+    /// Returns the number of indices at which both views are true. Returns `LengthMismatch`, with
+    /// the length of this view as `left`, exactly if the lengths differ. Does not allocate, and
+    /// costs the same as [`and_count`](Self::and_count).
     pub fn try_and_count(&self, other: &BitBufferView<'_>) -> Result<usize>
         ensures { CountsCombined And (bits_of self.now) (bits_of other.now) result }
     {
@@ -260,9 +262,9 @@ impl<'a> BitBufferView<'a> {
         Ok(self.and_count(other))
     }
 
-    /// Returns the number of places that are true in one of the views or in both. Returns
-    /// `LengthMismatch`, with the length of this view as `left`, exactly where the lengths differ.
-    /// Does not allocate, and costs what [`or_count`](Self::or_count) does.
+    /// Returns the number of indices at which at least one of the views is true. Returns
+    /// `LengthMismatch`, with the length of this view as `left`, exactly if the lengths differ.
+    /// Does not allocate, and costs the same as [`or_count`](Self::or_count).
     pub fn try_or_count(&self, other: &BitBufferView<'_>) -> Result<usize>
         ensures { CountsCombined Or (bits_of self.now) (bits_of other.now) result }
     {
@@ -270,9 +272,9 @@ impl<'a> BitBufferView<'a> {
         Ok(self.or_count(other))
     }
 
-    /// Returns the number of places at which the views differ. Returns `LengthMismatch`, with the
-    /// length of this view as `left`, exactly where the lengths differ. Does not allocate, and
-    /// costs what [`xor_count`](Self::xor_count) does.
+    /// Returns the number of indices at which the views differ. Returns `LengthMismatch`, with the
+    /// length of this view as `left`, exactly if the lengths differ. Does not allocate, and costs
+    /// the same as [`xor_count`](Self::xor_count).
     pub fn try_xor_count(&self, other: &BitBufferView<'_>) -> Result<usize>
         ensures { CountsCombined Xor (bits_of self.now) (bits_of other.now) result }
     {
@@ -280,9 +282,9 @@ impl<'a> BitBufferView<'a> {
         Ok(self.xor_count(other))
     }
 
-    /// Returns the number of places that are true in this view and not in the other one. Returns
-    /// `LengthMismatch`, with the length of this view as `left`, exactly where the lengths differ.
-    /// Does not allocate, and costs what [`andnot_count`](Self::andnot_count) does.
+    /// Returns the number of indices at which this view is true and the other one false. Returns
+    /// `LengthMismatch`, with the length of this view as `left`, exactly if the lengths differ.
+    /// Does not allocate, and costs the same as [`andnot_count`](Self::andnot_count).
     pub fn try_andnot_count(&self, other: &BitBufferView<'_>) -> Result<usize>
         ensures { CountsCombined AndNot (bits_of self.now) (bits_of other.now) result }
     {
@@ -290,9 +292,9 @@ impl<'a> BitBufferView<'a> {
         Ok(self.andnot_count(other))
     }
 
-    /// Whether no place is true in both views, as none is of no bits. It reads both by words from
-    /// the front, up to the first word in which a place is; it takes no memory. Refused by
-    /// `LengthMismatch` exactly where the lengths differ.
+    /// Returns whether no index is true in both views (true for no bits). Returns `LengthMismatch`,
+    /// with the length of this view as `left`, exactly if the lengths differ. Reads both word by
+    /// word from the front, up to the first word that has such an index. Does not allocate.
     pub fn is_disjoint(&self, other: &BitBufferView<'_>) -> Result<bool>
         ensures { TellsNone And (bits_of self.now) (bits_of other.now) result }
     {
@@ -300,9 +302,10 @@ impl<'a> BitBufferView<'a> {
         Ok(is_disjoint(self.bytes, self.offset, other.bytes, other.offset, self.len))
     }
 
-    /// Whether each place that is true in this view is true in the other one, as each is of no
-    /// bits. It reads both by words from the front, up to the first word in which one isn't; it
-    /// takes no memory. Refused by `LengthMismatch` exactly where the lengths differ.
+    /// Returns whether each index that is true in this view is true in the other one (true for no
+    /// bits). Returns `LengthMismatch`, with the length of this view as `left`, exactly if the
+    /// lengths differ. Reads both word by word from the front, up to the first word with an index
+    /// that is true in this view alone. Does not allocate.
     pub fn is_subset(&self, other: &BitBufferView<'_>) -> Result<bool>
         ensures { TellsNone AndNot (bits_of self.now) (bits_of other.now) result }
     {
@@ -310,7 +313,8 @@ impl<'a> BitBufferView<'a> {
         Ok(is_subset(self.bytes, self.offset, other.bytes, other.offset, self.len))
     }
 
-    /// Nothing where the views are as long. Refused by `LengthMismatch` else.
+    /// Returns `LengthMismatch`, with the length of this view as `left`, exactly if the lengths
+    /// differ.
     fn compare_len(&self, other: &BitBufferView<'_>) -> Result<()>
         ensures same_len { length (bits_of self.now) ≡ length (bits_of other.now) → IsOk result }
         ensures other_len { length (bits_of self.now) ≢ length (bits_of other.now)
@@ -326,8 +330,8 @@ impl<'a> BitBufferView<'a> {
         })
     }
 
-    /// The place of the `n`-th true bit, counted from 0; `None` where at most `n` bits are true. It
-    /// counts from the front, 64 bytes at a time, up to the bytes that have it.
+    /// Returns the index of the `n`-th set bit, counted from 0; `None` if at most `n` bits are set.
+    /// Counts from the front, 64 bytes at a time, up to the bytes that have it.
     pub fn select(&self, n: usize) -> Option<usize>
         ensures place { Selects (bits_of self.now) n result }
         ensures each { InvertsCount (bits_of self.now) n result }
@@ -335,8 +339,8 @@ impl<'a> BitBufferView<'a> {
         bit_select(self.bytes, self.offset, self.len, n)
     }
 
-    /// The place of the `n`-th false bit, counted from 0; `None` where at most `n` bits are false,
-    /// at the cost of [`select`](Self::select).
+    /// Returns the index of the `n`-th unset bit, counted from 0; `None` if at most `n` bits are
+    /// unset. Costs the same as [`select`](Self::select).
     pub fn select_unset(&self, n: usize) -> Option<usize>
         ensures place { Selects (complement (bits_of self.now)) n result }
         ensures each { InvertsCount (complement (bits_of self.now)) n result }
@@ -344,7 +348,7 @@ impl<'a> BitBufferView<'a> {
         bit_select_unset(self.bytes, self.offset, self.len, n)
     }
 
-    /// The place of the last true bit; `None` where no bit is true. It reads from the end, in
+    /// Returns the index of the last set bit; `None` if no bit is set. Reads from the end, in
     /// blocks of eight words, up to the word that has it.
     pub fn last_set_index(&self) -> Option<usize>
         ensures { result ≡ last_place (bits_of self.now) }
@@ -352,50 +356,52 @@ impl<'a> BitBufferView<'a> {
         last_set_index(self.bytes, self.offset, self.len)
     }
 
-    /// The place of the first true bit from place `from` on; `None` where there is none, as there
-    /// is none from the end on. It goes by words, from the third on four at once, to that which has
-    /// it. For all true bits, one after the other, [`set_indices`](Self::set_indices) takes less.
+    /// Returns the index of the first set bit at or after index `from`; `None` if there is none, or
+    /// if `from` is at least the length. Reads word by word, from the third word on four at once,
+    /// up to the word that has it. To visit all set bits, [`set_indices`](Self::set_indices) is
+    /// faster.
     pub fn next_set(&self, from: usize) -> Option<usize>
         ensures { IsNext (bits_of self.now) from result }
     {
         next_set(self.bytes, self.offset, self.len, from)
     }
 
-    /// The place of the first false bit from place `from` on; `None` where there is none, as there
-    /// is none from the end on. It reads as [`next_set`](Self::next_set) does.
+    /// Returns the index of the first unset bit at or after index `from`; `None` if there is none,
+    /// or if `from` is at least the length. Reads as [`next_set`](Self::next_set) does.
     pub fn next_unset(&self, from: usize) -> Option<usize>
         ensures { IsNext (complement (bits_of self.now)) from result }
     {
         next_unset(self.bytes, self.offset, self.len, from)
     }
 
-    /// The place of the last true bit before place `before`; `None` where there is none. All bits
-    /// are before the length, and before each number above it. It reads as
-    /// [`last_set_index`](Self::last_set_index) does, from place `before` to the front.
+    /// Returns the index of the last set bit before index `before`; `None` if there is none. A
+    /// `before` of at least the length searches all bits. Reads as
+    /// [`last_set_index`](Self::last_set_index) does, from index `before` to the front.
     pub fn previous_set(&self, before: usize) -> Option<usize>
         ensures { IsPrevious (bits_of self.now) before result }
     {
         previous_set(self.bytes, self.offset, self.len, before)
     }
 
-    /// The place of the last false bit before place `before`; `None` where there is none. It reads
-    /// as [`previous_set`](Self::previous_set) does.
+    /// Returns the index of the last unset bit before index `before`; `None` if there is none. A
+    /// `before` of at least the length searches all bits. Reads as
+    /// [`previous_set`](Self::previous_set) does.
     pub fn previous_unset(&self, before: usize) -> Option<usize>
         ensures { IsPrevious (complement (bits_of self.now)) before result }
     {
         previous_unset(self.bytes, self.offset, self.len, before)
     }
 
-    /// Whether a bit is true, as none is of no bits. It reads up to the first true bit, four words
-    /// at once.
+    /// Returns whether any bit is set (false for no bits). Reads up to the first set bit, four
+    /// words at once.
     pub fn any_set(&self) -> bool
         ensures { IsTrue result ↔ (0 < count (bits_of self.now)) }
     {
         any_set(self.bytes, self.offset, self.len)
     }
 
-    /// Whether each bit is true, as of no bits. It reads up to the first false bit, four words at
-    /// once.
+    /// Returns whether all bits are set (true for no bits). Reads up to the first unset bit, four
+    /// words at once.
     pub fn all_set(&self) -> bool
         ensures { IsTrue result ↔ (count (bits_of self.now) ≡ length (bits_of self.now)) }
     {

@@ -6,10 +6,10 @@ ghost use Rattle.vb_view.specs.View.{bits_of};
 use crate::view::BitBufferView;
 use vb_bits::read_word;
 
-/// The `n` bits from place `start` on, at most 64, as digits of a word; its digits from `n` on
-/// are 0.
+/// Returns the `n` bits from index `start` on, at most 64, as the low bits of a word; its higher
+/// bits are 0. `start + n` must be at most the length.
 ///
-/// Where they are 64 that is at most two loads.
+/// Reading 64 bits takes at most two loads.
 #[inline(always)]
 #[tactic(auto, using(vb_bits::proofs::WindowLemmas::windows))]
 pub fn view_word(view: BitBufferView<'_>, start: usize, n: usize) -> u64
