@@ -1,4 +1,4 @@
--- Blocks of 64 places: which are within, and the word that is taken.
+-- Blocks of 64 indices: which are in range, and the word that is taken.
 use Rattle.std.proofs.Common.{◌≡◌, ℕ, ◌+◌, ◌-◌, ◌^◌, ◌<◌, ◌≤◌, Bool, true, false, not, ◌&&◌, cond}
 use Rattle.std.proofs.Common.{eqb, ltb, min, List, length, get_or, slice_get, Some, refl, sym, ap}
 use Rattle.std.proofs.Common.{◌∙◌, arith}
@@ -12,30 +12,30 @@ use Rattle.vb_bits.proofs.DigitsLemmas.{has_bit-and, has_bit-bit_not}
 use Rattle.vb_bits.proofs.WindowLemmas.{slice_get-bits}
 use Rattle.vb_take.specs.Blocks.{TakesBlock}
 
--- a digit of the number whose digits are all 1
+-- a bit of the word whose bits are all 1
 pub digit_of_all : (k : ℕ) → k < 64 → has_bit (2 ^ 64 - 1) k ≡ true
 digit_of_all k h = ap (λ x. eqb x 1) (bit_at_ones 64 k h)
 
 -- ---- which positions are past
--- a position that counts and isn't within
+-- a position counts, and its index is out of range
 has_bit-past : (v w k : ℕ) → w < 2 ^ 64
     → k < 64 → has_bit (bit_and v (bit_not w64 w)) k ≡ (has_bit v k && not (has_bit w k))
 has_bit-past v w k small h =
     has_bit-and v (bit_not w64 w) k ∙ ap (λ b. has_bit v k && b) (has_bit-bit_not w64 w k small h)
 
--- both hold
+-- only the first of two holds
 only_first : (a b : Bool) → (a && not b) ≡ true → (a ≡ true) × (b ≡ false)
 only_first true true h = cc
 only_first true false h = (refl, refl)
 only_first false b h = cc
 
--- not both hold
+-- if not both hold, and the first does, the second doesn't
 second_too : (a b : Bool) → (a && not b) ≡ false → a ≡ true → b ≡ true
 second_too true true h e = refl
 second_too true false h e = cc
 second_too false b h e = cc
 
--- both, and the second is known
+-- the second of two is true
 and_true : (b : Bool) → (b && true) ≡ b
 and_true true = refl
 and_true false = refl
@@ -44,11 +44,11 @@ and_false : (b : Bool) → (b && false) ≡ false
 and_false true = refl
 and_false false = refl
 
--- a digit of 0
+-- a bit of 0
 zero_digit : (k : ℕ) → has_bit 0 k ≡ false
 zero_digit k = ap (λ x. eqb x 1) (bit_at-zero k)
 
--- the first position that counts and is past
+-- the first position that counts and whose index is out of range
 pub TakesBlock-past : (l : List Bool) (block : List ℕ) (v w n : ℕ)
     → length l ≡ n → w < 2 ^ 64 → ((k : ℕ) → k < 64 → has_bit w k ≡ ltb (get_or block k 0) n)
     → 0 < bit_and v (bit_not w64 w) → bit_and v (bit_not w64 w)
@@ -75,7 +75,7 @@ TakesBlock-past l block v w n len small within some fits =
     )
 
 -- ---- the word
--- what a position takes of a word of bits that were read
+-- the value that a position takes from a word of bits that were read
 pub TakesBlock-word : (b block places : List ℕ) (o m n v w x : ℕ)
     → m ≡ n → w < 2 ^ 64 → ((k : ℕ) → k < 64 → has_bit w k ≡ ltb (get_or block k 0) n)
     → bit_and v (bit_not w64 w)

@@ -1,4 +1,4 @@
--- What positions take.
+-- Items that positions take.
 use Rattle.std.proofs.Common.{◌≡◌, ℕ, ℤ, negsuc, ◌+◌, ◌-◌, ◌<◌, ◌≤◌, Bool, true, false, cond}
 use Rattle.std.proofs.Common.{inl, inr, ◌&&◌, List, map, length, get_or, take}
 use Rattle.std.proofs.Common.{slice_set}
@@ -31,7 +31,7 @@ module _ {T X : Type 0} (f : X → ℤ) (zero : T) (items : List T) (xs : List X
       ap (λ z. cond (is_valid v k) (item_named items z) (Some zero)) index
       ∙ ap (λ b. cond b (item_named items (f x)) (Some zero)) (sym valid) ∙ sym e
 
-  -- a position that takes nothing is the first, where those before it have what they take
+  -- a position that takes no item is the first, if those before it have theirs
   pub first_here : (k : ℕ) (out : List T)
       → TakenTo k (item_taken zero items (map f xs) v) (item_or zero out) → k < length xs
       → item_taken zero items (map f xs) v k ≡ None
@@ -42,7 +42,7 @@ module _ {T X : Type 0} (f : X → ℤ) (zero : T) (items : List T) (xs : List X
     before = λ i low. subst IsSome (sym (before i low)) refl;
   }
 
-  -- one more position has what it takes
+  -- one more position has the item that it takes
   pub taken_more : (k : ℕ) (value : T) (out new : List T)
       → TakenTo k (item_taken zero items (map f xs) v) (item_or zero out) → k < length out
       → item_taken zero items (map f xs) v k ≡ Some value → new ≡ slice_set out k value
@@ -58,7 +58,7 @@ module _ {T X : Type 0} (f : X → ℤ) (zero : T) (items : List T) (xs : List X
         ∙ get_or-set_same out k value zero inside))
   ]
 
-  -- all positions
+  -- all positions have the items that they take
   pub all_taken : (out : List T) → length xs ≤ length out
       → TakenTo (length xs) (item_taken zero items (map f xs) v) (item_or zero out)
       → AreTaken zero items (map f xs) v (take (length xs) out)
@@ -73,7 +73,7 @@ module _ {T X : Type 0} (f : X → ℤ) (zero : T) (items : List T) (xs : List X
             ∙ sym (slice_get-get_or (take (length xs) out) i zero (omega arith));
       }
 
--- those that are left without the lowest one are left
+-- a bit that is 1 without the lowest one is 1 with it
 pub left_before : (left k : ℕ) → has_bit (bit_and left (left - 1)) k ≡ true
     → has_bit left k ≡ true
 left_before left k h =

@@ -1,4 +1,4 @@
--- A digit for each lane of a vector, and a bit tested by a mask.
+-- A word with a bit for each lane of a vector, and a bit tested by a mask.
 use Rattle.std.proofs.Common.{◌≡◌, ℕ, zero, suc, ◌-◌, ◌*◌, ◌%◌, ◌^◌, ◌<◌, Bool, true, false, not}
 use Rattle.std.proofs.Common.{cond, eqb, List, map, replicate, length, get_or, refl, ap, ◌∙◌, arith}
 use Rattle.std.proofs.lemmas.Bool.Decides.{nat_tests}
@@ -16,7 +16,7 @@ use Rattle.vb_bits.specs.Digits.{has_bit}
 above_zero : (z : ℕ) → 0 < z → not (eqb z 0) ≡ true
 above_zero z h = grind (arith, nat_tests)
 
--- a digit at its place
+-- a bit moved to a position
 digit_shifted : (d i : ℕ) → d < 2 → not (eqb (d * 2 ^ i) 0) ≡ eqb d 1
 digit_shifted zero i h =
     let none : 0 * 2 ^ i ≡ 0 = omega arith in
@@ -27,22 +27,22 @@ digit_shifted (suc zero) i h =
     ap (λ z. not (eqb z 0)) same ∙ above_zero (2 ^ i) some
 digit_shifted (suc (suc d)) i h = absurd (omega arith)
 
--- a digit of a number under a mask of one
+-- a bit of a number, tested by a mask with a single 1
 pub digit_masked : (x m b i : ℕ) → x ≡ b → m ≡ 2 ^ i → not (eqb (bit_and x m) 0) ≡ has_bit b i
 digit_masked x m b i e f =
     ap (λ z. not (eqb (bit_and z m) 0)) e ∙ ap (λ z. not (eqb (bit_and b z) 0)) f
     ∙ ap (λ z. not (eqb z 0)) (and_pow b i) ∙ digit_shifted (bit_at b i) i (bit_at-lt b i)
 
--- a truth value as a digit
+-- a truth value as a bit
 cond_one : (b : Bool) → eqb (cond b 1 0) 1 ≡ b
 cond_one true = refl
 cond_one false = refl
 
--- a digit of the word that lanes make
+-- a bit of the word that `to_bitmask` makes of lanes
 has_bit-mask_l : (ms : List Bool) (i : ℕ) → has_bit (mask_l ms) i ≡ get_or ms i false
 has_bit-mask_l ms i = ap (λ z. eqb z 1) (bit_mask_l ms i) ∙ cond_one (get_or ms i false)
 
--- a digit of the word that a comparison of all lanes with one number makes
+-- a bit of the word that a comparison of all lanes with one number makes
 pub lane_digit : (t : ℕ → ℕ → Bool) (xs : List ℕ) (a k : ℕ) → length xs ≡ 64 → k < 64
     → has_bit (mask_l (map (top (hbits w32)) (zip2 (λ x y. cond (t x y) (2 ^ width w32 - 1) 0) xs
     (replicate 64 a))) % 2 ^ 64) k ≡ t (get_or xs k 0) a
@@ -51,7 +51,7 @@ lane_digit t xs a k long h =
     ap (λ n. has_bit n k) (bitmask_splat w32 t xs 64 a long (omega arith))
     ∙ has_bit-mask_l (map p xs) k ∙ get_or-map p xs k 0 false (omega arith)
 
--- a digit of the word that says of which lanes two numbers have a digit in common
+-- a bit of the word that says which lanes of two vectors have a 1 in common
 pub common_digit : (xs ys : List ℕ) (k : ℕ) → length xs ≡ 64 → length ys ≡ 64 → k < 64
     → has_bit (mask_l (map (top (hbits w32)) (zip2 (λ x y. cond (not (eqb x y))
     (2 ^ width w32 - 1) 0) (zip2 bit_and xs ys) (replicate 64 0))) % 2 ^ 64) k

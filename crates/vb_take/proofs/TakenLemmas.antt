@@ -1,4 +1,4 @@
--- What is taken at places that all lie in the list, where each position counts.
+-- Values taken at indices that are all in range, where each position counts.
 use Rattle.std.proofs.Common.{◌≡◌, ℕ, pos, negsuc, ◌^◌, ◌<◌, Bool, false, cond, List, length, map}
 use Rattle.std.proofs.Common.{get_or, slice_get, Some, None, sym, ap, ◌∙◌, arith}
 use Rattle.std.specs.List.{All}
@@ -9,7 +9,7 @@ use Rattle.std.proofs.lemmas.Option.{slice_get-get_or}
 use Rattle.vb_bits.specs.Bits.{at}
 use Rattle.vb_take.specs.Takes.{value_at, taken_at, IsTaken, IsFirstPast}
 
--- the value at a place of 64 bits
+-- the value at an index of 64 bits
 value_there : (l : List Bool) (p : ℕ)
     → p < length l → p < 2 ^ 64 → value_at l (pos p) ≡ Some (at l p)
 value_there l p within fits =
@@ -21,14 +21,14 @@ same_value a b e = cc
 
 module _ (l : List Bool)
     (ps : List ℕ) (within : All (λ p. p < length l) ps) (fits : All (λ p. p < 2 ^ 64) ps) where
-  -- each position takes the value at its place
+  -- each position takes the value at its index
   pub taken_at-places : (i : ℕ)
       → i < length ps → taken_at l (map pos ps) None i ≡ Some (at l (get_or ps i 0))
   taken_at-places i h =
       ap (value_at l) (get_or-map pos ps i 0 (negsuc 0) h)
       ∙ value_there l (get_or ps i 0) (within i 0 h) (fits i 0 h)
 
-  -- they are the values at these places
+  -- the values taken are those at the indices
   pub IsTaken-places : (taken : List Bool)
       → IsTaken l (map pos ps) None taken → taken ≡ map (at l) ps
   IsTaken-places taken h =
@@ -39,7 +39,7 @@ module _ (l : List Bool)
       read ∙ same_value _ _ (sym (h.each i (omega arith)) ∙ taken_at-places i here)
       ∙ sym (get_or-map (at l) ps i 0 d here))
 
-  -- there is no position that takes nothing
+  -- no position takes no value
   pub IsFirstPast-places : (p : ℕ) → IsFirstPast l (map pos ps) None p → ⊥
   IsFirstPast-places p h =
       let here : p < length ps = omega (arith, h.within, length-map ps pos) in

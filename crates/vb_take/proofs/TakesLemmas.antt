@@ -1,4 +1,4 @@
--- What positions take, one after the other and by blocks of 64.
+-- Values that positions take, one by one and by blocks of 64.
 use Rattle.std.proofs.Common.{◌≡◌, inl, inr, ℕ, ℤ, negsuc, ◌+◌, ◌-◌, ◌*◌, ◌^◌, ◌<◌, ◌≤◌, Bool, true}
 use Rattle.std.proofs.Common.{false, cond, min, List, [], ◌∷◌, map, length, get_or, slice_get}
 use Rattle.std.proofs.Common.{Option, Some, None, refl, sym, ap, subst, ◌∙◌, arith, zero-add}
@@ -18,7 +18,7 @@ use Rattle.vb_take.specs.Takes.{is_valid, value_at, taken_at, TakenTo, IsTaken, 
 use Rattle.vb_take.specs.Blocks.{narrow_place, TakesBlock}
 
 -- ---- one position
--- the value at a place, which may be any number
+-- the value at an index, which may be any number
 at_narrowed : (l : List Bool) (p : Option ℕ) → length l < 2 ^ 32 → option_and_then (slice_get l) p
     ≡ slice_get l (min (unwrap_or p (2 ^ 32 - 1)) (2 ^ 32 - 1))
 at_narrowed l None few = sym (slice_get_past l (min (2 ^ 32 - 1) (2 ^ 32 - 1)) (omega arith))
@@ -28,12 +28,12 @@ at_narrowed l (Some p) few = elim (cases_lt p (2 ^ 32 - 1)) [
       ∙ sym (slice_get_past l (min p (2 ^ 32 - 1)) (omega arith))
 ]
 
--- the value that an index names, by its place as 32 bits
+-- the value at an index is that at the index as 32 bits
 value_at-narrow_place : (l : List Bool) (index : ℤ)
     → length l < 2 ^ 32 → value_at l index ≡ slice_get l (narrow_place index)
 value_at-narrow_place l index few = at_narrowed l (place_of index) few
 
--- something is taken
+-- a position that takes a value takes one
 some_taken : (o : Option Bool) (b : Bool) → o ≡ Some b → IsSome o
 some_taken o b e = subst IsSome (sym e) refl
 
@@ -48,7 +48,7 @@ taken_here f l xs v k x r t h read valid e =
     ∙ ap (λ b. cond b (value_at l (f x)) (Some false)) (sym valid) ∙ sym e
 
 -- ---- one after the other
--- one more position has what it takes
+-- one more position has the value that it takes
 pub TakenTo-bit : (k : ℕ) (l : List Bool) (xs : List ℤ) (v : Option (List Bool))
     (out new : List ℕ) (b : Bool) → TakenTo k (taken_at l xs v) (bit_of out)
     → taken_at l xs v k ≡ Some b → Writes out new k (b ∷ [])
@@ -63,7 +63,7 @@ TakenTo-bit k l xs v out new b before here w = λ i h. elim (cases_lt i k) [
 ]
 
 -- ---- blocks of 64
--- what a position of a block takes
+-- the value that a position of a block takes
 taken_in_block : (l : List Bool) (xs : List ℤ) (v : Option (List Bool)) (block : List ℕ)
     (valid a k : ℕ) → length l < 2 ^ 32
     → get_or block k 0 ≡ narrow_place (get_or xs (a + k) (negsuc 0))
@@ -74,7 +74,7 @@ taken_in_block l xs v block valid a k few narrow counts =
     (value_at-narrow_place l (get_or xs (a + k) (negsuc 0)) few ∙ ap (slice_get l) (sym narrow))
     ∙ ap (λ b. cond b (slice_get l (get_or block k 0)) (Some false)) (sym counts)
 
--- 64 more positions have what they take
+-- 64 more positions have the values that they take
 pub TakenTo-word : (t : ℕ) (l : List Bool) (xs : List ℤ)
     (v : Option (List Bool)) (out new block : List ℕ) (valid word : ℕ) → length l < 2 ^ 32
     → ((k : ℕ) → k < 64 → get_or block k 0 ≡ narrow_place (get_or xs (64 * t + k) (negsuc 0)))
@@ -99,7 +99,7 @@ TakenTo-word t l xs v out new block valid word few narrow counts before takes w 
           ∙ ap Some (ap (has_bit word) (sym (zero-add k)) ∙ sym bit ∙ ap (bit_of new) place)
     ]
 
--- the first position of a block that takes nothing
+-- the first position of a block that takes no value
 pub IsFirstPast-block : (t p : ℕ) (l : List Bool)
     (xs : List ℤ) (v : Option (List Bool)) (out block : List ℕ) (valid : ℕ) → length l < 2 ^ 32
     → ((k : ℕ) → k < 64 → get_or block k 0 ≡ narrow_place (get_or xs (64 * t + k) (negsuc 0)))
@@ -134,7 +134,7 @@ IsFirstPast-block t p l xs v out block valid few narrow counts before within tak
     some_of false k h = refl
 
 -- ---- all positions
--- they are the bits taken
+-- the bits are those taken
 pub IsTaken-all : {X : Type 0}
     (f : X → ℤ) (l : List Bool) (xs : List X) (v : Option (List Bool)) (out : List ℕ) (k : ℕ)
     → length xs ≤ k → TakenTo k (taken_at l (map f xs) v) (bit_of out)

@@ -1,4 +1,4 @@
--- Items at the digits of a word, which stand for 64 positions from one on.
+-- Writes to a block of 64 items, by the bits of a word.
 use Rattle.std.proofs.Common.{◌≡◌, ℕ, ℤ, negsuc, ◌+◌, ◌-◌, ◌^◌, ◌<◌, ◌≤◌, ◌⊎◌, inl, inr, Bool, true}
 use Rattle.std.proofs.Common.{false, not, cond, eqb, List, map, length, get_or, drop, Option, Some}
 use Rattle.std.proofs.Common.{sym, ap, ◌∙◌, arith, zero-add}
@@ -17,13 +17,13 @@ use Rattle.vb_take.specs.ItemsTaken.{item_named, item_or, item_taken, IsFirstUnt
 use Rattle.vb_take.proofs.ItemsLemmas.{first_here}
 use Rattle.vb_walk.proofs.OnesLemmas.{lowest_off}
 
--- what holds of both answers
+-- a property that holds for `Ok` and for `Err` holds
 pub either_way : {X E : Type 0} (r : Result X E) (Q : Type 0) → IfOk r (λ _. Q)
     → IfErr r (λ _. Q) → Q
 either_way (Ok x) Q p q = p
 either_way (Err e) Q p q = q
 
--- what is as it was from a place on is so from a later one on
+-- two lists that are equal from an index on are equal from a later one on
 pub drop_later : {T : Type 0} (n a : ℕ) (old new : List T) → a ≤ n → drop a new ≡ drop a old
     → drop n new ≡ drop n old
 drop_later n a old new inside same =
@@ -31,11 +31,11 @@ drop_later n a old new inside same =
     ap (λ k. drop k new) place ∙ sym (drop-drop (n - a) a new) ∙ ap (drop (n - a)) same
     ∙ drop-drop (n - a) a old ∙ sym (ap (λ k. drop k old) place)
 
--- all digits of the greatest word are 1
+-- all bits of the greatest word are 1
 pub full_digits : (k : ℕ) → k < 64 → has_bit (2 ^ 64 - 1) k ≡ true
 full_digits k h = ap (λ x. eqb x 1) (bit_at_ones 64 k h)
 
--- the lowest digits of a word that has the others of another
+-- the lowest bits of a word that has the other bits of another word
 pub low_not : (word left n k : ℕ) → word < 2 ^ 64 → n ≤ 64 → k < n
     → digits left 0 n ≡ digits (bit_not w64 word) 0 n → has_bit left k ≡ not (has_bit word k)
 low_not word left n k fits few h same =
@@ -63,7 +63,7 @@ module _ (left : ℕ) (some : 0 < left) (fits : left < 2 ^ 64) where
       let z = bit_at-trailing_zeros w64 left some fits in
       ap (λ x. eqb x 1) (z.2 i h)
 
-  -- those that aren't left without it are it, or weren't left with it
+  -- a bit that is 0 without the lowest one is the lowest one, or was 0 with it
   pub left_gone : (i : ℕ) → has_bit (bit_and left (left - 1)) i ≡ false
       → (i ≡ trailing_zeros w64 left) ⊎ (has_bit left i ≡ false)
   left_gone i gone =
@@ -78,7 +78,7 @@ module _ (left : ℕ) (some : 0 < left) (fits : left < 2 ^ 64) where
         ]
       ]
 
-  -- the next one is behind it
+  -- the next one is above it
   pub left_next : 0 < bit_and left (left - 1)
       → trailing_zeros w64 left < trailing_zeros w64 (bit_and left (left - 1))
   left_next more =
@@ -94,7 +94,7 @@ module _ (left : ℕ) (some : 0 < left) (fits : left < 2 ^ 64) where
       ]
 
 module _ {T X : Type 0} (f : X → ℤ) (zero : T) (items : List T) (xs : List X) where
-  -- what an index that was read names
+  -- the item at an index that was read
   pub named_here : (k : ℕ) (x : X) (r : Option T) → k < length xs → x ≡ get_or xs k x
       → r ≡ item_named items (f x) → item_named items (get_or (map f xs) k (negsuc 0)) ≡ r
   named_here k x r h read e =
@@ -102,7 +102,7 @@ module _ {T X : Type 0} (f : X → ℤ) (zero : T) (items : List T) (xs : List X
 
   module _ (v : Option (List Bool)) (a word : ℕ)
       (counts : (k : ℕ) → k < 64 → has_bit word k ≡ is_valid v (a + k)) where
-    -- positions before the block have what they take, and so have those of the block
+    -- the positions before the block have the values that they take, and so do those of the block
     block_taken : (n : ℕ) (old new : List T) → n ≤ 64
         → TakenTo a (item_taken zero items (map f xs) v) (item_or zero old)
         → ((i : ℕ) → i < a → get_or new i zero ≡ get_or old i zero)
@@ -131,7 +131,7 @@ module _ {T X : Type 0} (f : X → ℤ) (zero : T) (items : List T) (xs : List X
           ]
     ]
 
-    -- all digits are 1
+    -- all bits of the word are 1
     pub taken_full : (n : ℕ) (old new : List T) → n ≤ 64 → word ≡ 2 ^ 64 - 1
         → TakenTo a (item_taken zero items (map f xs) v) (item_or zero old)
         → PutsOnes zero items (map f xs) a (2 ^ 64 - 1) n old new
@@ -143,7 +143,7 @@ module _ {T X : Type 0} (f : X → ℤ) (zero : T) (items : List T) (xs : List X
         (λ k h off. absurd (false≢true (sym off ∙ ap (λ w. has_bit w k) full
         ∙ full_digits k (omega arith))))
 
-    -- the ones got their items, and then the others zero
+    -- the positions whose bits are 1 have their items, and then the others zero
     pub taken_split : (n : ℕ) (old mid new : List T) → n ≤ 64
         → TakenTo a (item_taken zero items (map f xs) v) (item_or zero old)
         → PutsOnes zero items (map f xs) a word n old mid → PutsZeros zero a word n mid new
@@ -158,7 +158,7 @@ module _ {T X : Type 0} (f : X → ℤ) (zero : T) (items : List T) (xs : List X
         ap (has_bit word) place ∙ on))))
         clear.put
 
-    -- what it is stopped at is the first position that takes nothing
+    -- the position at which the writes stop is the first that takes no item
     pub stop_first : (p : ℕ) (old new out : List T)
         → FailsAt zero items (map f xs) a word p old new → a + 64 ≤ length xs
         → TakenTo p (item_taken zero items (map f xs) v) (item_or zero out)
@@ -172,7 +172,7 @@ module _ {T X : Type 0} (f : X → ℤ) (zero : T) (items : List T) (xs : List X
         (ap (λ b. cond b (item_named items (get_or (map f xs) p (negsuc 0))) (Some zero)) valid
         ∙ stop.past)
 
--- where it is stopped, from there on nothing was written
+-- the items from the position at which the writes stop are unchanged
 pub stop_stays : {T : Type 0} (zero : T) (items : List T) (is : List ℤ) (a word p : ℕ)
     (old new : List T) → FailsAt zero items is a word p old new → drop p new ≡ drop p old
 stop_stays zero items is a word p old new stop =

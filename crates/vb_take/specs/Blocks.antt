@@ -6,13 +6,12 @@ use Rattle.std.specs.Option.{unwrap_or}
 use Rattle.vb_bits.specs.Digits.{has_bit}
 use Rattle.vb_core.specs.Indices.{place_of}
 
--- the place that a number names as one of 32 bits; the greatest of these where it names none, or
--- none below that
+-- the index as a number of 32 bits; the greatest such number if the index is negative or above it
 abbrev pub narrow_place : ℤ → ℕ
 narrow_place index = min (unwrap_or (place_of index) (2 ^ 32 - 1)) (2 ^ 32 - 1)
 
--- the word has the bits at the block's places, and false where `valid` has no digit; or position p
--- is the first that `valid` has and whose place is past the list
+-- bit k of the word is the value of the list at index k of the block, and false if bit k of `valid`
+-- is 0; or p is the first position whose bit of `valid` is 1 and whose index isn't below the length
 abbrev pub TakesBlock : List Bool → List ℕ → ℕ → Result ℕ ℕ → Type 0
 TakesBlock l block valid (Ok word) = (k : ℕ) → k < 64
     → (if has_bit valid k then slice_get l (slice_index block k) else Some false)

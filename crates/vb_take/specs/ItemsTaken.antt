@@ -5,18 +5,18 @@ use Rattle.std.specs.Option.{option_and_then}
 use Rattle.vb_core.specs.Indices.{place_of}
 use Rattle.vb_take.specs.Takes.{is_valid}
 
--- the item at the place that a number names, if it names one of the list
+-- the item at an index, if the index is in range
 abbrev pub item_named : {T : Type 0} → List T → ℤ → Option T
 item_named items index = option_and_then (slice_get items) (place_of index)
 
--- item i, and zero where there is none
+-- item i, or zero if there is no item i
 abbrev pub item_or : {T : Type 0} → T → List T → ℕ → T
 item_or zero items i = slice_index_or items i zero
 
 module _ {T : Type 0} (zero : T) (items : List T) (indices : List ℤ)
     (validity : Option (List Bool)) where
-  -- what position i takes: the item that its index names, if it names one; zero where the position
-  -- doesn't count, whatever its index
+  -- the item that position i takes: zero if the position doesn't count, else the item at its index,
+  -- or none if the index is out of range
   abbrev pub item_taken : ℕ → Option T
   item_taken i =
       if is_valid validity i then item_named items (slice_index_or indices i (negsuc 0))
@@ -27,7 +27,7 @@ module _ {T : Type 0} (zero : T) (items : List T) (indices : List ℤ)
     pub same_len : length taken ≡ length indices
     pub each : (i : ℕ) → i < length indices → item_taken i ≡ slice_get taken i
 
-  -- position p is the first that takes nothing: it counts, and its index names no place of the list
+  -- position p is the first that takes no item: it counts, and its index is out of range
   pub record IsFirstUntaken (p : ℕ) : Type 0 where
     pub within : p < length indices
     pub past : item_taken p ≡ None

@@ -8,21 +8,21 @@ use Rattle.vb_core.specs.Indices.{place_of}
 use Rattle.vb_core.specs.declared.error.BufferError.{BufferError}
 use Rattle.vb_core.specs.declared.error.BufferError.TheVariants.{OutOfMemory, TakeOutOfRange}
 
--- position i counts: where there is a validity, its value there is true
+-- position i counts: there is no validity, or its value at i is true
 abbrev pub is_valid : Option (List Bool) → ℕ → Bool
 is_valid None i = true
 is_valid (Some validity) i = at validity i
 
--- the first n positions have what they take
+-- each of the first n positions has the value that it takes
 abbrev pub TakenTo : {T : Type 0} → ℕ → (ℕ → Option T) → (ℕ → T) → Type 0
 TakenTo n taken has = (i : ℕ) → i < n → taken i ≡ Some (has i)
 
--- the value at the place that a number names, if it names one of the list
+-- the value at an index, if the index is in range
 abbrev pub value_at : List Bool → ℤ → Option Bool
 value_at l index = option_and_then (slice_get l) (place_of index)
 
--- what position i takes: the value that its index names, if it names one; false where the position
--- doesn't count, whatever its index
+-- the value that position i takes: false if the position doesn't count, else the value at its
+-- index, or none if the index is out of range
 abbrev pub taken_at : List Bool → List ℤ → Option (List Bool) → ℕ → Option Bool
 taken_at l indices validity i =
     if is_valid validity i then value_at l (slice_index_or indices i (negsuc 0)) else Some false
@@ -33,14 +33,14 @@ pub record IsTaken (l : List Bool) (indices : List ℤ) (validity : Option (List
   pub same_len : length taken ≡ length indices
   pub each : (i : ℕ) → i < length indices → taken_at l indices validity i ≡ Some (at taken i)
 
--- position p is the first that takes nothing: it counts, and its index names no place of the list
+-- position p is the first that takes no value: it counts, and its index is out of range
 pub record IsFirstPast (l : List Bool) (indices : List ℤ) (validity : Option (List Bool))
     (p : ℕ) : Type 0 where
   pub within : p < length indices
   pub past : taken_at l indices validity p ≡ None
   pub before : (i : ℕ) → i < p → IsSome (taken_at l indices validity i)
 
--- why bits aren't taken: want of memory, or the first position that takes nothing
+-- the errors of a take: memory ran out, or the first position that takes no value
 abbrev pub TakeRefused : List Bool → List ℤ → Option (List Bool) → BufferError → Type 0
 TakeRefused l indices validity e =
     (e ≡ OutOfMemory)

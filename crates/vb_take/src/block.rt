@@ -1,4 +1,4 @@
-//! Blocks of 64 indices: their places as 32 bits, and the bits there as a word.
+//! Blocks of 64 indices: as bit numbers of 32 bits, and the bits at them as a word.
 ghost use Rattle.std.specs.Prelude.{◌≡◌, ◌==◌, ℕ, negsuc, ◌+◌, ◌*◌, ◌/◌, ◌%◌, ◌^◌, ◌<◌, ◌≤◌, not};
 ghost use Rattle.std.specs.Prelude.{bit_and, min, nat_lt, length, map, slice_index, slice_index_or};
 ghost use Rattle.vb_bits.specs.Bits.{bit_of};
@@ -10,7 +10,7 @@ use std::simd::prelude::*;
 use vb_core::BitIndex;
 use vb_view::BitBufferView;
 
-/// The places that the 64 indices from position `at` on name, as 32 bits.
+/// Returns the 64 indices from position `at` on, each as [`narrow`] does.
 #[inline(always)]
 pub(crate) fn narrow_block<I: BitIndex>(indices: &[I], at: usize) -> [u32; 64]
     requires { at + 64 ≤ length indices.now }
@@ -24,7 +24,7 @@ pub(crate) fn narrow_block<I: BitIndex>(indices: &[I], at: usize) -> [u32; 64]
     block
 }
 
-/// The place that an index names as 32 bits; `u32::MAX` where it names none, or none below that.
+/// Returns the index as 32 bits; `u32::MAX` if it is negative or greater than that.
 #[inline(always)]
 fn narrow<I: BitIndex>(index: I) -> u32
     ensures { result ≡ narrow_place (I.number index) }
@@ -35,11 +35,12 @@ fn narrow<I: BitIndex>(index: I) -> u32
     }
 }
 
-/// The bits at the places of a block, as digits of a word, and 0 at those positions that `valid`
-/// has not; or the first position that it has and whose place is past the bits.
+/// Returns a word whose bit `k` is the bit of `bits` at index `block[k]`, and 0 if bit `k` of
+/// `valid` is 0. Returns `Err(k)` for the first `k` whose bit of `valid` is 1 and whose index isn't
+/// below the length.
 ///
-/// Where all places are within the bits, that is one test, and positions that don't count are
-/// looked at too. Where one isn't, each place is lowered to the last one first.
+/// If all indices are below the length, that takes one test, which also tests the positions that
+/// don't count. Else each index is lowered to the last bit first.
 #[inline(always)]
 pub(crate) fn take_block(
     bits: BitBufferView<'_>,
@@ -59,7 +60,8 @@ pub(crate) fn take_block(
     Ok(take_word(bits.inner(), &places) & valid)
 }
 
-/// A digit for each place: whether it is below `len`. Where all are, that is one test.
+/// Returns a word whose bit `k` says whether `block[k]` is below `len`. If all are, one test is
+/// enough.
 #[inline(always)]
 fn within_word(block: &[u32; 64], len: u32) -> u64
     ensures { (k : ℕ) → k < 64 → has_bit result k ≡ nat_lt (slice_index block.now k) len }
@@ -71,7 +73,7 @@ fn within_word(block: &[u32; 64], len: u32) -> u64
     }
 }
 
-/// A number that no place is above.
+/// Returns a number that no number of the block is above.
 #[inline(always)]
 fn greatest(block: &[u32; 64]) -> u32
     ensures { (k : ℕ) → k < 64 → slice_index block.now k ≤ result }
@@ -83,7 +85,7 @@ fn greatest(block: &[u32; 64]) -> u32
     top
 }
 
-/// A digit for each place: whether it is below `len`.
+/// Returns a word whose bit `k` says whether `block[k]` is below `len`.
 #[inline(always)]
 fn lanes_below(block: [u32; 64], len: u32) -> u64
     ensures { (k : ℕ) → k < 64 → has_bit result k ≡ nat_lt (slice_index block k) len }
@@ -93,7 +95,8 @@ fn lanes_below(block: [u32; 64], len: u32) -> u64
         .to_bitmask()
 }
 
-/// The places, none above `last`, as those of bits in bytes.
+/// Returns each index, lowered to `last` if it is above, plus `offset`: the number of its bit in
+/// the bytes.
 #[inline(always)]
 fn bit_places(block: &[u32; 64], last: u32, offset: u32) -> [u32; 64]
     requires { last + offset < 2 ^ 32 }
@@ -107,10 +110,9 @@ fn bit_places(block: &[u32; 64], last: u32, offset: u32) -> [u32; 64]
     places
 }
 
-/// The bits at 64 places, as digits of a word.
+/// Returns a word whose bit `k` is bit `places[k]` of the bytes.
 ///
-/// The bytes are read one by one into a vector; the bit of each is then tested in all lanes at
-/// once.
+/// It loads the 64 bytes one by one into a vector, and then tests the bit of each lane at once.
 #[inline(always)]
 fn take_word(bytes: &[u8], places: &[u32; 64]) -> u64
     requires { (k : ℕ) → k < 64 → slice_index places.now k < 8 * length bytes.now }
@@ -119,7 +121,7 @@ fn take_word(bytes: &[u8], places: &[u32; 64]) -> u64
     common_bits(bytes_at(bytes, places), masks_at(places))
 }
 
-/// The bytes that have the bits at 64 places.
+/// Returns the bytes that have the bits.
 #[inline(always)]
 fn bytes_at(bytes: &[u8], places: &[u32; 64]) -> [u32; 64]
     requires { (k : ℕ) → k < 64 → slice_index places.now k < 8 * length bytes.now }
@@ -133,7 +135,7 @@ fn bytes_at(bytes: &[u8], places: &[u32; 64]) -> [u32; 64]
     taken
 }
 
-/// A 1 for each of 64 places, where its bit is in its byte.
+/// Returns for each bit a mask with a 1 at the position of the bit in its byte.
 #[inline(always)]
 fn masks_at(places: &[u32; 64]) -> [u32; 64]
     ensures { (k : ℕ) → k < 64 → slice_index result k ≡ 2 ^ (slice_index places.now k % 8) }
@@ -145,7 +147,7 @@ fn masks_at(places: &[u32; 64]) -> [u32; 64]
     masks
 }
 
-/// A digit for each lane: whether the two numbers have a digit in common.
+/// Returns a word whose bit `k` says whether `taken[k]` and `masks[k]` have a 1 in common.
 #[inline(always)]
 fn common_bits(taken: [u32; 64], masks: [u32; 64]) -> u64
     ensures { (k : ℕ) → k < 64 → has_bit result k

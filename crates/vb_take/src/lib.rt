@@ -1,6 +1,8 @@
-//! Bits and values taken at indices, over slices. [`set_bits_at`] is that of `vb_bits`.
+//! Takes (gathers) bits and values at indices, over slices. [`set_bits_at`] is re-exported from
+//! `vb_bits`.
 //!
-//! Lengths, places and positions are counted in bits, or in values. No call takes memory.
+//! A position is the position of an index among the indices. Lengths, indices and positions are in
+//! bits, or in values. What "must" hold is for the caller to prove. No call allocates.
 #![tactic(auto)]
 
 mod block;

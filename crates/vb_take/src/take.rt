@@ -14,20 +14,22 @@ use vb_bits::{set_bit_to, write_word};
 use vb_core::BitIndex;
 use vb_view::BitBufferView;
 
-/// Fewer bits than these have places of 32 bits, also as seen from the byte of the first one.
+/// Views shorter than this many bits have bit numbers of 32 bits, also counted from the byte of the
+/// first bit.
 const NARROW: usize = u32::MAX as usize - 8;
 
-/// Takes one bit of `bits` for each index: bit `k` of `out` becomes the bit of `bits` that
-/// `indices[k]` names. `Err(k)` is the first position whose index is negative or not below the
-/// length of `bits`.
+/// Takes one bit of `bits` for each index: sets bit `k` of `out` to bit `indices[k]` of `bits`.
+/// Returns `Err(k)` for the first position `k` that counts and whose index is negative or not below
+/// the length of `bits`.
 ///
-/// A `validity` has to have one bit for each index. Where its bit is false, false is written, and
-/// the index may be any number.
+/// Without a `validity` each position counts. A `validity` must have one bit for each index; a
+/// position counts if its bit is true. At the other positions false is written, and the index may
+/// be any number.
 ///
-/// `out` has to have room for one bit for each index. On `Err` these bits of `out` are unspecified.
-/// The bits of `out` behind them never change.
+/// `out` must have at least one bit for each index; its bits after these never change. On `Err` the
+/// bits of the indices are unspecified.
 ///
-/// Indices go by whole blocks of 64 where the places of `bits` fit in 32 bits, else one by one.
+/// Processes 64 indices at a time if `bits` is shorter than 2^32 - 9 bits, else one by one.
 pub fn take_into<I: BitIndex>(
     out: &mut [u8],
     bits: BitBufferView<'_>,
@@ -51,7 +53,7 @@ pub fn take_into<I: BitIndex>(
     take_rest(out, bits, indices, validity, 64 * words)
 }
 
-/// [`take_into`] of the first `words` times 64 positions.
+/// Does [`take_into`] for the first `64 * words` positions.
 fn take_words<I: BitIndex>(
     out: &mut [u8],
     bits: BitBufferView<'_>,
@@ -80,7 +82,7 @@ fn take_words<I: BitIndex>(
     Ok(())
 }
 
-/// [`take_into`] of the positions from `from` on, one by one, where those before them are taken.
+/// Does [`take_into`] for the positions from `from` on, one by one; those before them must be done.
 fn take_rest<I: BitIndex>(
     out: &mut [u8],
     bits: BitBufferView<'_>,
@@ -108,7 +110,8 @@ fn take_rest<I: BitIndex>(
     Ok(())
 }
 
-/// What is taken at a position: false where it isn't valid, else the bit that the index names.
+/// Returns the bit that a position takes: false if it isn't valid, else the bit at `index`. Returns
+/// `None` if it is valid and the index is out of range.
 fn taken_value<I: BitIndex>(bits: BitBufferView<'_>, index: I, valid: bool) -> Option<bool>
     ensures { result
         ≡ (if valid then value_at (bits_of bits.entry) (I.number index) else Some false) }
@@ -120,7 +123,7 @@ fn taken_value<I: BitIndex>(bits: BitBufferView<'_>, index: I, valid: bool) -> O
     }
 }
 
-/// The bit that the index names, if it names one.
+/// Returns the bit at `index`; `None` if the index is out of range.
 fn value_at<I: BitIndex>(bits: BitBufferView<'_>, index: I) -> Option<bool>
     ensures { result ≡ value_at (bits_of bits.entry) (I.number index) }
 {

@@ -15,15 +15,16 @@ use vb_bits::low_digits;
 use vb_core::{BitIndex, Element};
 use vb_view::BitBufferView;
 
-/// Writes the values at the indices to the front of `out`, one for each index. `out` has to have at
-/// least `indices.len()` items; the items behind these stay.
+/// Writes the values at the indices to the front of `out`, one for each index. `out` must have at
+/// least `indices.len()` items; the items after these never change. Returns `Err(k)` for the first
+/// position `k` that counts and whose index is negative or not below the number of values. On `Err`
+/// the first `indices.len()` items of `out` are unspecified.
 ///
-/// A `validity`, where there is one, has to be as long as the indices. At a position where it is
-/// false, 0 is written, and the index doesn't count. `Err` is the first position whose index counts
-/// and is negative, or not below the number of values. The first `indices.len()` items of `out` are
-/// unspecified then.
+/// Without a `validity` each position counts. A `validity` must have one bit for each index; a
+/// position counts if its bit is true. At the other positions 0 is written, and the index may be
+/// any number.
 ///
-/// Where there is a `validity`, whole blocks of 64 positions go by the ones of its words.
+/// With a `validity`, processes 64 positions at a time, by the set bits of a word of it.
 #[inline]
 pub fn take_values_into<T: Element, I: BitIndex>(
     out: &mut [T],
@@ -47,9 +48,9 @@ pub fn take_values_into<T: Element, I: BitIndex>(
     take_rest(out, values, indices, validity, 0)
 }
 
-/// [`take_values_into`] by blocks of 64 positions, and then one by one.
+/// Does [`take_values_into`] for blocks of 64 positions, and then for the others one by one.
 ///
-/// Not inlined, so that a call that needs no blocks pays for none.
+/// Not inlined, so that a call that needs no blocks doesn't pay for them.
 #[inline(never)]
 fn take_blocks<T: Element, I: BitIndex>(
     out: &mut [T],
@@ -72,12 +73,13 @@ fn take_blocks<T: Element, I: BitIndex>(
     take_rest(out, values, indices, Some(valid), 64 * blocks)
 }
 
-/// [`take_values_into`] of the 64 positions from `at` on, where those before them are taken.
+/// Does [`take_values_into`] for the 64 positions from `at` on; those before them must be done.
 ///
-/// It goes by the ones of the validity, so no branch is on the bit of a position. Where they are
-/// few, all their indices are looked at first, and then 0 is written to all items at once; else to
-/// those that don't count, one by one. What a refused call leaves is what the loop over all
-/// positions leaves: those before the refused one are taken, and from it on `out` stays as it was.
+/// Visits the set bits of the validity, so that no branch depends on the bit of a position. If they
+/// are few, it tests all their indices first, and then writes 0 to all 64 items at once; else it
+/// writes 0 to the items that don't count, one by one. On `Err` it leaves the same items as a loop
+/// over all positions would: those before the refused position are done, those from it on are
+/// unchanged.
 #[inline(always)]
 fn take_block<T: Element, I: BitIndex>(
     out: &mut [T],
@@ -116,11 +118,12 @@ fn take_block<T: Element, I: BitIndex>(
     }
 }
 
-/// Up to so many of 64 positions are few: to look at their indices twice costs no more than to
-/// write 0 to the others one by one.
+/// The most set bits that are few: testing their indices twice is not slower than writing 0 to the
+/// other items one by one.
 const MAX_ONES_READ_TWICE: u32 = 20;
 
-/// Whether all of the 64 positions from `at` on whose digit is 1 have an index that names a value.
+/// Returns whether the indices are in range at all those of the 64 positions from `at` on whose bit
+/// of `word` is 1.
 #[inline(always)]
 fn all_named<T: Element, I: BitIndex>(values: &[T], indices: &[I], at: usize, word: u64) -> bool
     requires { at + 64 ≤ length indices.now }
@@ -139,8 +142,8 @@ fn all_named<T: Element, I: BitIndex>(values: &[T], indices: &[I], at: usize, wo
     true
 }
 
-/// Writes the values at the indices to those of the 64 items from `at` on whose digit is 1, up to
-/// the first position whose index names none.
+/// Writes the values at the indices to those of the 64 items from `at` on whose bit of `word` is 1,
+/// up to the first position whose index is out of range.
 #[inline(always)]
 fn put_ones<T: Element, I: BitIndex>(
     out: &mut [T],
@@ -168,7 +171,7 @@ fn put_ones<T: Element, I: BitIndex>(
     Ok(())
 }
 
-/// [`put_ones`] where all 64 digits are 1.
+/// Does [`put_ones`] for a word whose 64 bits are 1.
 #[inline(always)]
 fn put_full<T: Element, I: BitIndex>(
     out: &mut [T],
@@ -192,7 +195,7 @@ fn put_full<T: Element, I: BitIndex>(
     Ok(())
 }
 
-/// Writes 0 to those of the first `n` items from `at` on whose digit is 0.
+/// Writes 0 to those of the first `n` items from `at` on whose bit of `word` is 0.
 #[inline(always)]
 fn put_zeros<T: Element>(out: &mut [T], at: usize, word: u64, n: usize)
     requires few { n ≤ 64 }
@@ -220,10 +223,10 @@ fn clear_block<T: Element>(out: &mut [T], at: usize)
     }
 }
 
-/// [`take_values_into`] of the positions from `from` on, one by one, where those before them are
-/// taken.
+/// Does [`take_values_into`] for the positions from `from` on, one by one; those before them must
+/// be done.
 ///
-/// A value goes straight to its place, and so does 0: to choose between them first would hold one
+/// Each branch writes its own item, a value or 0: choosing between the two first would hold a value
 /// of any size on the stack.
 #[inline(always)]
 fn take_rest<T: Element, I: BitIndex>(
@@ -257,7 +260,7 @@ fn take_rest<T: Element, I: BitIndex>(
     Ok(())
 }
 
-/// The value that the index names, if it names one.
+/// Returns the value at `index`; `None` if the index is out of range.
 #[inline(always)]
 fn value_named<T: Element, I: BitIndex>(values: &[T], index: I) -> Option<T>
     ensures { result ≡ item_named values.now (I.number index) }

@@ -1,4 +1,4 @@
-//! Which positions count, by a validity.
+//! The positions that a validity makes count.
 ghost use Rattle.std.specs.Prelude.{◌≡◌, ℕ, ◌+◌, ◌<◌, ◌≤◌, length};
 ghost use Rattle.std.specs.Option.{ForSome, option_map};
 ghost use Rattle.vb_bits.specs.Digits.{has_bit};
@@ -7,7 +7,7 @@ ghost use Rattle.vb_view.specs.View.{bits_of};
 
 use vb_view::{BitBufferView, view_word};
 
-/// Whether position `i` counts.
+/// Returns whether position `i` counts.
 #[inline(always)]
 pub(crate) fn is_valid(validity: Option<BitBufferView<'_>>, i: usize) -> bool
     requires { ForSome validity (λ v. i < length (bits_of v)) }
@@ -19,7 +19,7 @@ pub(crate) fn is_valid(validity: Option<BitBufferView<'_>>, i: usize) -> bool
     }
 }
 
-/// Which of the 64 positions from `at` on count, as digits of a word.
+/// Returns a word whose bit `k` says whether position `at + k` counts.
 #[inline(always)]
 pub(crate) fn valid_word(validity: Option<BitBufferView<'_>>, at: usize) -> u64
     requires { ForSome validity (λ v. at + 64 ≤ length (bits_of v)) }

@@ -4,7 +4,7 @@ use Rattle.vb_bits.specs.Digits.{has_bit}
 use Rattle.vb_take.specs.ItemsTaken.{item_named}
 use Rattle.vb_take.proofs.take_values.all_named.Given as goal
 
--- the indices of those that are no longer left name values
+-- the indices of the positions that are no longer left are in range
 abbrev pub invariant-loop-left : goal.invariant-loop-left
 invariant-loop-left g l = (k : ℕ) → k < 64 → has_bit l.word k ≡ true → has_bit l.left k ≡ false
     → IsSome (item_named l.values

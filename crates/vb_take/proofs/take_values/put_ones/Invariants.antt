@@ -5,7 +5,7 @@ use Rattle.vb_bits.specs.Digits.{has_bit}
 use Rattle.vb_take.specs.ItemsTaken.{item_named}
 use Rattle.vb_take.proofs.take_values.put_ones.Given as goal
 
--- those that are no longer left have their values, and all else is as it was
+-- the positions that are no longer left have their values, and the other items are unchanged
 abbrev pub invariant-loop-left : goal.invariant-loop-left
 invariant-loop-left g l = record {
   put : (k : ℕ) → k < 64 → has_bit l.word k ≡ true → has_bit l.left k ≡ false

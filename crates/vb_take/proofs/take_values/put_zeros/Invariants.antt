@@ -2,7 +2,7 @@ use Rattle.std.proofs.Common.{◌≡◌, ℕ, ◌+◌, ◌-◌, ◌^◌, ◌<◌
 use Rattle.vb_bits.specs.Digits.{has_bit}
 use Rattle.vb_take.proofs.take_values.put_zeros.Given as goal
 
--- those that are no longer left are 0, and all else is as it was
+-- the positions that are no longer left are 0, and the other items are unchanged
 abbrev pub invariant-loop-left : goal.invariant-loop-left
 invariant-loop-left g l = record {
   put : (k : ℕ) → k < l.n → has_bit l.word k ≡ false → has_bit l.left k ≡ false
