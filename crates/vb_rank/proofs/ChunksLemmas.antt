@@ -1,4 +1,4 @@
--- Searches of a chunk, in which a window begins that may end in it.
+-- Searches of a chunk that a window begins, when the window may end in it.
 use Rattle.std.proofs.Common.{◌≡◌, ℕ, ◌+◌, ◌-◌, ◌/◌, ◌%◌, ◌<◌, ◌≤◌, Bool, false, List, ◌++◌}
 use Rattle.std.proofs.Common.{length, Some, refl, sym, ap, ◌∙◌, arith, subst}
 use Rattle.std.specs.Prelude.{slice_range}
@@ -11,7 +11,7 @@ use Rattle.vb_bits.proofs.BytesLemmas.{bits_of_read}
 use Rattle.vb_count.proofs.HitsLemmas.{length-hits, hits-bits-add}
 
 -- ---- a list and a front of it
--- what is found in the list, and lies in the front, is found there
+-- an index that is found in the list, and is in the front, is found in the front
 front_some : (k l : List Bool) (n p : ℕ)
     → p < length k → Selects (k ++ l) n (Some p) → Selects k n (Some p)
 front_some k l n p inside s = (
@@ -20,14 +20,14 @@ front_some k l n p inside s = (
   sym (ap count (take-append-le p k l (omega arith))) ∙ s.2,
 )
 
--- before a place behind the front are no fewer than the front has
+-- if the index found is after the front, the front has at most n
 front_past : (k l : List Bool) (n p : ℕ)
     → length k ≤ p → Selects (k ++ l) n (Some p) → count k ≤ n
 front_past k l n p past s =
     omega (arith, s.2, count-take-mono (k ++ l) (length k) p past, ap count (take-append_seam k l))
 
 -- ---- a window and the chunk from its begin on
--- the chunk's bits are those of the window, and those behind it
+-- the bits of the chunk are those of the window, and then those after it
 cut : (v : Bool) (b xs : List ℕ) (o m : ℕ)
     → o % 8 ≡ 0 → xs ≡ slice_range b (o / 8) (o / 8 + 64) → m ≤ 512
     → hits v (bits xs 0 512) ≡ hits v (bits b o m) ++ hits v (bits b (o + m) (512 - m))
@@ -39,7 +39,7 @@ cut v b xs o m aligned read within =
 long : (v : Bool) (b : List ℕ) (o m : ℕ) → length (hits v (bits b o m)) ≡ m
 long v b o m = length-hits v (bits b o m) ∙ length-bits b o m
 
--- what is found in the chunk, and lies in the window, is found there
+-- an index that is found in the chunk, and is in the window, is found in the window
 pub chunk_some : (v : Bool) (b xs : List ℕ) (o m n p : ℕ)
     → o % 8 ≡ 0 → xs ≡ slice_range b (o / 8) (o / 8 + 64) → m ≤ 512 → p < m
     → Selects (hits v (bits xs 0 512)) n (Some p) → Selects (hits v (bits b o m)) n (Some p)
@@ -48,7 +48,7 @@ chunk_some v b xs o m n p aligned read within inside s =
     (omega (arith, inside, long v b o m))
     (subst (λ l. Selects l n (Some p)) (cut v b xs o m aligned read within) s)
 
--- what lies behind the window has all of its bits before it
+-- if the index found is after the window, the window has at most n
 pub chunk_past : (v : Bool) (b xs : List ℕ) (o m n p : ℕ)
     → o % 8 ≡ 0 → xs ≡ slice_range b (o / 8) (o / 8 + 64) → m ≤ 512 → m ≤ p
     → Selects (hits v (bits xs 0 512)) n (Some p) → count (hits v (bits b o m)) ≤ n
@@ -57,7 +57,7 @@ chunk_past v b xs o m n p aligned read within past s =
     (omega (arith, past, long v b o m))
     (subst (λ l. Selects l n (Some p)) (cut v b xs o m aligned read within) s)
 
--- the window has no more than the chunk
+-- if the chunk has at most n, so does the window
 pub chunk_none : (v : Bool) (b xs : List ℕ) (o m n : ℕ)
     → o % 8 ≡ 0 → xs ≡ slice_range b (o / 8) (o / 8 + 64) → m ≤ 512
     → count (hits v (bits xs 0 512)) ≤ n → count (hits v (bits b o m)) ≤ n

@@ -1,4 +1,4 @@
--- Searches side by side: what is known of each, where one takes a step.
+-- Searches side by side: properties of each, when one of them makes a step.
 use Rattle.std.proofs.Common.{◌≡◌, ℕ, ◌+◌, ◌-◌, ◌/◌, ◌<◌, ◌≤◌, List, [], ◌∷◌, length, get_or, set}
 use Rattle.std.proofs.Common.{arith, ap, ◌∙◌, ⊎_elim}
 use Rattle.std.proofs.lemmas.Bool.{cases_eq, cases_lt}
@@ -9,7 +9,7 @@ pub some_of : {X : Type 0} (xs : List X) → 0 < length xs → X
 some_of [] h = absurd (omega (arith, h))
 some_of (x ∷ xs) h = x
 
--- what is known of each number of three lists stays known where those at one place are written
+-- a property of each of the eight numbers of three lists is kept if those at one index are written
 pub each_set : (P : ℕ → ℕ → ℕ → ℕ → Type 0) (a b e : List ℕ) (k x y z : ℕ)
     → length a ≡ 8 → length b ≡ 8 → length e ≡ 8 → k < 8
     → ((i : ℕ) → i < 8 → P i (get_or a i 0) (get_or b i 0) (get_or e i 0))
@@ -28,7 +28,7 @@ each_set P a b e k x y z la lb le within all here i h =
     (rw (get_or-set_other e k i z 0 other) (all i h))))
     (cases_eq i k)
 
--- the numbers up to place k are halved
+-- the numbers up to index k are halved
 pub halved_set : (e o : List ℕ) (k : ℕ)
     → length e ≡ 8 → k < 8
     → ((i : ℕ) → i < k → get_or e i 0 ≡ get_or o i 0 - get_or o i 0 / 2)
@@ -45,14 +45,14 @@ halved_set e o k le within done left i h =
     ∙ ap (λ x. x - x / 2) (left k (omega arith))))
     (cases_lt i k)
 
--- and those behind it are as they were
+-- and the numbers after it are unchanged
 pub kept_set : (e o : List ℕ) (k z : ℕ)
     → ((i : ℕ) → k ≤ i → get_or e i 0 ≡ get_or o i 0)
     → (i : ℕ) → k + 1 ≤ i → get_or (set e k z) i 0 ≡ get_or o i 0
 kept_set e o k z left i h =
     get_or-set_other e k i z 0 (λ s. omega (arith, s, h)) ∙ left i (omega (arith, h))
 
--- one that is at most 1 is halved as it is
+-- halving leaves a number of at most 1 unchanged
 pub halved_still : (e o : List ℕ) (k : ℕ) → get_or e k 0 / 2 ≡ 0
     → ((i : ℕ) → i < k → get_or e i 0 ≡ get_or o i 0 - get_or o i 0 / 2)
     → ((i : ℕ) → k ≤ i → get_or e i 0 ≡ get_or o i 0)

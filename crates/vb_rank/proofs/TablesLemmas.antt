@@ -1,4 +1,4 @@
--- Tables of counts by blocks, and a search of them by halves.
+-- Tables of counts of blocks, and the search of them by halves.
 use Rattle.std.proofs.Common.{◌≡◌, ℕ, zero, suc, ◌+◌, ◌-◌, ◌*◌, ◌/◌, ◌^◌, ◌<◌, ◌≤◌, Bool, true}
 use Rattle.std.proofs.Common.{false, List, length, get_or, take, None, Some, min, refl}
 use Rattle.std.proofs.Common.{sym, ap}
@@ -19,7 +19,7 @@ use Rattle.vb_rank.specs.Tables.{block_counts, binary_digits}
 use Rattle.vb_rank.specs.Tables.{count_before, BeginsBefore, Narrows, Rises}
 
 -- ---- looks
--- a block takes at most 16 looks, wherever it begins
+-- a block needs at most 16 looks, wherever it begins
 pub looks_of_block : (o n : ℕ) → n ≤ 512 → looks o n ≤ 16
 looks_of_block o n h = omega arith
 
@@ -50,18 +50,18 @@ at-block_counts-bits b o n j h =
     at-block_counts (bits b o n) j (omega (arith, e))
     ∙ ap count (take-bits b o n (512 * j) (omega arith))
 
--- a block of the table is one of the window
+-- a block of the table is a block of the window
 pub inside : (b t : List ℕ) (o n : ℕ)
     → t ≡ block_counts (bits b o n) → (j : ℕ) → j < length t → j < blocks n
 inside b t o n e j h = omega (arith, h, ap length e, length-block_counts-bits b o n)
 
--- before a block are no more true bits than bits
+-- a block has no more set bits before it than bits
 pub entry-le : (b t : List ℕ) (o n : ℕ)
     → t ≡ block_counts (bits b o n) → (j : ℕ) → j < length t → get_or t j 0 ≤ 512 * j
 entry-le b t o n e j h = rw e (omega
     (arith, at-block_counts-bits b o n j (inside b t o n e j h), count-bits-le b o (512 * j)))
 
--- what the table says of a block is the count of a front of the window
+-- the number of values before a block, by the table, is the count of a front of the window
 pub count_before-table : (v : Bool) (b t : List ℕ) (o n : ℕ) → t ≡ block_counts (bits b o n)
     → (j : ℕ) → j < length t → count_before 512 v t j ≡ count (hits v (bits b o (512 * j)))
 count_before-table true b t o n e j h =
@@ -94,7 +94,7 @@ Rises-table v b t o n e =
     record { small = entry-le b t o n e; rising = count_before-mono v b t o n e }
 
 -- ---- the block of a select
--- what its search finds is found in the window
+-- the bit that the search of the block finds is the one of the window
 pub Selects-block_some : (v : Bool) (b t : List ℕ) (o n r j m k p : ℕ)
     → t ≡ block_counts (bits b o n) → BeginsBefore 512 v t r j m → k ≡ min (n - 512 * j) 512
     → Selects (hits v (bits b (o + 512 * j) k)) (r - m) (Some p)
@@ -106,7 +106,7 @@ Selects-block_some v b t o n r j m k p e f cut s =
     Searched_longer v b o
     (512 * j + k) n r (512 * j + p) (omega (arith, cut, inside b t o n e j f.within)) found
 
--- where it finds nothing, the window has no more
+-- if the search of the block finds none, the window has none
 pub Selects-block_none : (v : Bool) (b t : List ℕ) (o n r j m k : ℕ)
     → t ≡ block_counts (bits b o n) → BeginsBefore 512 v t r j m → k ≡ min (n - 512 * j) 512
     → Selects (hits v (bits b (o + 512 * j) k)) (r - m) None
@@ -137,7 +137,7 @@ Selects-block_none v b t o n r j m k e f cut s =
     (cases_lt (j + 1) (length t))
 
 -- ---- halves
--- the upper half is left, where so many values before it are among those that are sought
+-- the upper half is left, if at most n values are before it
 pub narrows-up : (w : ℕ) (v : Bool) (t : List ℕ) (n j m k here : ℕ)
     → Narrows w v t n j m k → 2 ≤ k → (Rises w v t → here ≡ count_before w v t (j + k / 2))
     → here ≤ n → Narrows w v t n (j + k / 2) here (k - k / 2)
@@ -152,7 +152,7 @@ narrows-up w v t n j m k here f two is low =
           (f.above r (omega (arith, more, end)));
     }
 
--- else the lower one
+-- else the lower half is left
 pub narrows-down : (w : ℕ) (v : Bool) (t : List ℕ) (n j m k here : ℕ)
     → Narrows w v t n j m k → 2 ≤ k → (Rises w v t → here ≡ count_before w v t (j + k / 2))
     → (m ≤ here → n < here) → Narrows w v t n j m (k - k / 2)
@@ -174,7 +174,7 @@ narrows-down w v t n j m k here f two is high = record {
 }
 
 -- ---- probes
--- a half has a digit less
+-- half as many counts have one binary digit fewer
 pub digits-half : (s : ℕ) → 2 ≤ s → binary_digits (s - 1) ≡ binary_digits (s - s / 2 - 1) + 1
 digits-half s two =
     let half : (s - 1) / 2 ≡ s - s / 2 - 1 = omega arith in
@@ -190,11 +190,11 @@ pow_more k =
     let e : k + 1 ≡ suc k = omega arith in
     ap (λ x. 2 ^ x) e ∙ omega arith
 
--- a number below a power of two has no more digits
+-- a number below 2^k has at most k binary digits
 digits-le : (n k : ℕ) → n < 2 ^ k → binary_digits n ≤ k
 digits-le n k h = length-digits_of-le 2 k n (omega arith) h
 
--- a number is below the power of two by its digits
+-- a number of k binary digits is below 2^k
 lt-binary_digits_to : (m n : ℕ) → n ≤ m → n < 2 ^ binary_digits n
 lt-binary_digits_to zero n h =
     let e : n ≡ 0 = omega arith in
@@ -210,7 +210,7 @@ lt-binary_digits_to (suc m) (suc n) h =
 pub lt-binary_digits : (n : ℕ) → n < 2 ^ binary_digits n
 lt-binary_digits n = lt-binary_digits_to n n (omega arith)
 
--- a search of the table takes no more probes than the number of blocks and one has digits
+-- a search of the table makes no more probes than the number of blocks plus one has binary digits
 pub probes-le : (n : ℕ) (s t : CountedEntries) → length s.entries ≡ blocks n
     → ProbesExactly (binary_digits (length s.entries - 1)) s t
     → ProbesAtMost (binary_digits (blocks n + 1)) s t
@@ -224,7 +224,7 @@ probes-le n s t e h = record {
   );
 }
 
--- a power of two that is above 128 has that as a part
+-- a power of two above 128 is 128 times a power of two
 pow-above_128 : (k : ℕ) → 128 < 2 ^ k → (7 ≤ k) × (2 ^ k ≡ 128 * 2 ^ (k - 7))
 pow-above_128 zero h = absurd (omega arith)
 pow-above_128 (suc zero) h = absurd (omega arith)
@@ -240,7 +240,7 @@ pow-above_128 (suc (suc (suc (suc (suc (suc (suc k))))))) h =
           (omega arith),
     )
 
--- nor does one of the groups, and then of the blocks of one
+-- a search of the groups, and then of the blocks of one of them, makes no more probes either
 pub digits-of_group-le : (n g b : ℕ) → g ≡ div_ceil n 65536 → b ≤ blocks n → b ≤ 128
     → binary_digits (g - 1) + binary_digits (b - 1) ≤ binary_digits (blocks n + 1)
 digits-of_group-le n g b groups part small =

@@ -1,17 +1,21 @@
-//! The block of a rank, or the group.
+//! Searches for the block, or the group of blocks, that has a bit.
 ghost use Rattle.std.specs.Prelude.{◌≡◌, ℕ, ◌+◌, ◌-◌, ◌*◌, ◌^◌, ◌<◌, ◌≤◌, length, slice_index};
 ghost use Rattle.vb_rank.specs.Tables.{count_before, BeginsBefore, Rises};
 ghost use Rattle.vb_rank.specs.Tables.{binary_digits, ProbesExactly};
 
 use crate::level::Level;
 
-/// The block in which the `n`-th bit that is `value` lies, where there is one, and how many such
-/// bits are before the block: if no count is greater than the number of bits before its block, and
-/// no later block has fewer values before it. A block of these, and at most `n`, in any case.
+/// Returns the last block that has at most `n` bits that are `value` before it, and the number of
+/// these bits. So it is the block of the `n`-th such bit, counted from 0, if there is one.
 ///
-/// The counts are those of blocks of `width` bits, or of groups of them. Each probe halves those
-/// that are left, by moves in place of branches: how many turns there are depends on the number of
-/// counts alone. Count 0 is not read, since it is 0.
+/// The counts are those of blocks of `width` bits, or of groups of blocks. `size` must be their
+/// number, and at least 1; each block must begin below bit 2^64. The result is right if no count is
+/// greater than the number of bits before its block, and no block has more such bits before it than
+/// a later one. With other counts it is any block of these, and a number of at most `n`.
+///
+/// Makes as many probes as `size - 1` has binary digits. Each probe halves the counts that are
+/// left, by conditional moves instead of branches, so the number of turns depends on `size` alone.
+/// It never reads count 0, which is 0.
 pub fn find_block<S, L: Level<S>>(
     source: &mut S,
     level: &L,
@@ -47,7 +51,8 @@ pub fn find_block<S, L: Level<S>>(
     (low, before)
 }
 
-/// How many bits that are `value` are before block `j`, which isn't the first, by one probe.
+/// Returns the number of bits that are `value` before block `j`, which must not be the first one.
+/// Makes one probe.
 pub(crate) fn bits_before<S, L: Level<S>>(
     source: &mut S,
     level: &L,

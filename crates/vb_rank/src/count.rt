@@ -9,10 +9,11 @@ use crate::front_mask::front_mask;
 use vb_bits::full_word;
 use vb_count::{Glance, count_ones_by};
 
-/// How many of the `len` bits from bit `at` on are true, which are no more than a block.
+/// Returns the number of set bits among the `len` bits from bit `at` on, at most 512.
 ///
-/// They are counted with one chunk in hand, by no branch that depends on their number. Where the
-/// bytes end within that chunk, or the bits reach behind it, [`count_ones_by`] counts them.
+/// Loads one chunk of 64 bytes, and counts the bits in it without a branch that depends on their
+/// number. If the bytes end within that chunk, or the bits reach beyond it, calls
+/// [`count_ones_by`]. Makes at most 16 looks.
 pub(crate) fn count_in_block<G: Glance>(src: &mut G, at: usize, len: usize) -> usize
     requires window { InBytes (G.seen src.old).bytes at len }
     requires block { len ≤ 512 }
@@ -27,7 +28,7 @@ pub(crate) fn count_in_block<G: Glance>(src: &mut G, at: usize, len: usize) -> u
     front_ones(&chunk, skip + len) - front_ones_of_word(&chunk, 0, skip)
 }
 
-/// How many of the first `n` bits of the chunk are true: of each word, those that are among them.
+/// Returns the number of set bits among the first `n` bits of the chunk.
 fn front_ones(chunk: &[u8; 64], n: usize) -> usize
     requires { n ≤ 512 }
     ensures { result ≡ count (bits chunk.now 0 n) }
@@ -39,7 +40,7 @@ fn front_ones(chunk: &[u8; 64], n: usize) -> usize
     ones
 }
 
-/// How many of the first `n` bits of the chunk are in a word of it and true.
+/// Returns the number of set bits in word `word` of the chunk that are among its first `n` bits.
 fn front_ones_of_word(chunk: &[u8; 64], word: usize, n: usize) -> usize
     requires inside { word < 8 }
     requires block { n ≤ 512 }

@@ -3,7 +3,7 @@ ghost use Rattle.std.specs.Prelude.{◌≡◌, ◌-◌, ◌*◌, ◌^◌, ◌<�
 
 use vb_bits::word_at;
 
-/// 64 bytes of ones, a byte with these digits, and 63 bytes of zeros.
+/// An array of 64 bytes of ones, the byte `$digits`, and 63 bytes of zeros.
 macro_rules! front {
     ($digits:expr) => {
         [
@@ -19,8 +19,8 @@ macro_rules! front {
     };
 }
 
-/// For each number of bits below eight, a block of ones and so many more, and zeros behind them.
-/// From byte `64 - k` of a row on there are the ones of `k` bytes and of these bits.
+/// Row `r` has ones in its first `512 + r` bits, and then zeros. From byte `64 - k` on, a row
+/// begins with `8 * k + r` ones.
 static FRONTS: [[u8; 128]; 8] = [
     front!(0),
     front!(1),
@@ -32,10 +32,10 @@ static FRONTS: [[u8; 128]; 8] = [
     front!(127),
 ];
 
-/// The mask of one word of a block: a 1 for each of its bits that is among the first `n` of the
-/// block.
+/// Returns the mask of word `word` of a block: a 1 for each of its bits that is among the first `n`
+/// bits of the block.
 ///
-/// It comes out of a table, since a shift would need a number of bits of each word's own.
+/// Reads a table, since a shift would need a different count for each word.
 #[inline(always)]
 pub(crate) fn front_mask(word: usize, n: usize) -> u64
     requires inside { word < 8 }

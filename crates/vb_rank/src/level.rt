@@ -1,21 +1,22 @@
-//! What a search of counts reads, whose reads are counted.
+//! The counts that a search reads, with the number of reads.
 ghost use Rattle.std.specs.Prelude.{◌≡◌, ℕ, List, ◌<◌, length, slice_index};
 ghost use Rattle.vb_rank.specs.Tables.{CountedEntries, ProbesExactly};
 
 use crate::probe::Probe;
 
-/// Those counts of a source `S` that one search reads. Each call of [`entry`](Level::entry) is one
+/// The counts of a source `S` that one search reads. Each call of [`entry`](Level::entry) is one
 /// probe of the source.
 pub trait Level<S> {
-    // All that the source has, which no call changes.
+    // All that the source has; no call changes it.
     ghost Held: { Type 0 };
 
     ghost held: { S → Held };
 
-    // These counts, and how many probes the source has had.
+    // These counts, and the number of probes that the source has had.
     ghost seen: { Self → S → CountedEntries };
 
-    /// Count `j`, by one probe. Count 0 is 0, and so is never read.
+    /// Returns count `j`, by one probe. `j` must be above 0, since count 0 is 0, and below the
+    /// number of counts.
     fn entry(&self, source: &mut S, j: usize) -> usize
         requires some { 0 < j }
         requires within { j < length (seen self.now source.old).entries }
@@ -24,7 +25,7 @@ pub trait Level<S> {
         ensures probe { ProbesExactly 1 (seen self.now source.old) (seen self.now source.new) };
 }
 
-/// All entries of a table.
+/// The level of all entries of a table.
 #[derive(Drop)]
 pub(crate) struct Entries;
 

@@ -1,13 +1,15 @@
-//! Ranks, and places of ranks, over a table of counts: by few looks at the bits and few probes of
-//! the table.
+//! Ranks and selects over a table of counts, with few reads of the bits and of the table.
 //!
-//! The bits are cut into blocks of 512. A table has, for each block, how many true bits are before
-//! it: one number for 64 bytes of bits. [`table_of`] makes one, and [`rank_by`], [`select_by`] and
-//! [`select_unset_by`] answer by any [`Probe`] of one and any `Glance` at the bits. [`find_block`],
-//! [`rank_from`] and [`select_from`] are their parts, for counts that are kept in another way, and
-//! [`find_blocks`] and [`select_each_from`] those of eight selects at once.
+//! The rank of index `i` is the number of set bits before it; the select of `n` is the index of the
+//! `n`-th set bit, counted from 0. The bits are cut into blocks of 512. A table has one entry for
+//! each block: the number of set bits before the block. [`table_of`] builds one. [`rank_by`],
+//! [`select_by`] and [`select_unset_by`] work over any [`Probe`] of a table and any `Glance` at the
+//! bits. For counts that are kept in another way there are the parts of these calls:
+//! [`find_block`], [`rank_from`] and [`select_from`], and for eight selects at once [`find_blocks`]
+//! and [`select_each_from`].
 //!
-//! Lengths and places are counted in bits.
+//! Lengths, offsets and indices are in bits. A look is a read of up to 64 bytes of bits; a probe is
+//! the read of an entry. What "must" hold is for the caller to prove.
 #![tactic(auto)]
 
 mod block;

@@ -1,4 +1,4 @@
-//! The rank of a place, over a table.
+//! The number of set bits before an index, over a table.
 ghost use Rattle.std.specs.Prelude.{◌≡◌, ◌+◌, ◌*◌, ◌^◌, ◌<◌, ◌≤◌, length, take};
 ghost use Rattle.vb_bits.specs.Bits.{bits, count};
 ghost use Rattle.vb_bits.specs.InBytes.{InBytes};
@@ -10,15 +10,16 @@ use crate::probe::Probe;
 use crate::size::BLOCK_BITS;
 use vb_count::Glance;
 
-/// How many of the first `i` of the `len` bits from bit `offset` on are true.
+/// Returns the number of set bits among the first `i` bits of the window, which is the `len` bits
+/// from bit `offset` on.
 ///
-/// The bits have to lie in the bytes of `src`, `offset + len` has to be a `usize`, and `i` has to
-/// be at most `len`. The table has to have exactly `len.div_ceil(512)` entries. The answer is right
-/// where entry `j` is how many of the first `512 * j` of these bits are true, as in the table that
-/// [`table_of`](crate::table_of) makes; with other entries it is unspecified.
+/// The window must be in the bytes of `src`, `offset + len` must fit in a `usize`, and `i` must be
+/// at most `len`. The table must have exactly `len.div_ceil(512)` entries. The result is right if
+/// entry `j` is the number of set bits among the first `512 * j` bits of the window, as in the
+/// table that [`table_of`](crate::table_of) builds; with other entries it is unspecified.
 ///
-/// A look is a read of up to 64 bytes of `src`, a probe the read of an entry. Whatever the entries
-/// are, the call takes at most 16 looks and at most one probe.
+/// A look is a read of up to 64 bytes of `src`, and a probe is the read of an entry. Whatever the
+/// entries are, the call makes at most 16 looks and at most one probe.
 pub fn rank_by<G: Glance, T: Probe>(
     src: &mut G,
     offset: usize,
@@ -37,14 +38,16 @@ pub fn rank_by<G: Glance, T: Probe>(
     if i == 0 {
         return 0;
     }
-    // The block of the last of the bits, which has an entry also where `i` is the whole length.
+    // The block of the last of these bits: it has an entry even if `i` is the whole length.
     let block = (i - 1) / BLOCK_BITS;
     let before = table.entry(block);
     rank_from(src, offset, block, before, i)
 }
 
-/// How many of the `i` bits from bit `offset` on are true, by how many of them are before the block
-/// of the last one.
+/// Returns the number of set bits among the `i` bits from bit `offset` on. `before` is the number
+/// of set bits before block `block` of these bits; with another number the result is unspecified.
+/// The bits must be in the bytes of `src`, and must end in the block or where it begins. Makes at
+/// most 16 looks.
 #[inline(always)]
 pub fn rank_from<G: Glance>(
     src: &mut G,

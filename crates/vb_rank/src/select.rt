@@ -1,4 +1,4 @@
-//! The place of a bit by its rank, over a table.
+//! The index of a bit by its rank, over a table.
 ghost use Rattle.std.specs.Prelude.{◌≡◌, ℕ, List, ◌+◌, ◌*◌, ◌^◌, ◌<◌, ◌≤◌, length};
 ghost use Rattle.vb_bits.specs.Bits.{bits, complement, count, Selects, InvertsCount};
 ghost use Rattle.vb_bits.specs.Digits.{digits};
@@ -16,17 +16,18 @@ use vb_bits::{full_word, select_in_word};
 use vb_count::{Glance, digit_ones, matching_word};
 use vb_select::{bit_select_by, bit_select_unset_by};
 
-/// The place, counted from bit `offset`, of the `n`-th true bit among the `len` bits from there on,
-/// with `n` counted from 0; `None` where at most `n` of these bits are true.
+/// Returns the index of the `n`-th set bit of the window, counted from 0; `None` if at most `n` of
+/// its bits are set. The window is the `len` bits from bit `offset` on, and index 0 is its first
+/// bit.
 ///
-/// The bits have to lie in the bytes of `src`, and `offset + len` has to be a `usize`. The table
-/// has to have exactly `len.div_ceil(512)` entries. The answer is right where entry `j` is how many
-/// of the first `512 * j` of these bits are true, as in the table that
-/// [`table_of`](crate::table_of) makes; with other entries it is unspecified.
+/// The window must be in the bytes of `src`, and `offset + len` must fit in a `usize`. The table
+/// must have exactly `len.div_ceil(512)` entries. The result is right if entry `j` is the number of
+/// set bits among the first `512 * j` bits of the window, as in the table that
+/// [`table_of`](crate::table_of) builds; with other entries it is unspecified.
 ///
-/// A look is a read of up to 64 bytes of `src`, a probe the read of an entry. Whatever the entries
-/// are, the call takes at most 16 looks, and at most as many probes as `len.div_ceil(512) + 1` has
-/// binary digits.
+/// A look is a read of up to 64 bytes of `src`, and a probe is the read of an entry. Whatever the
+/// entries are, the call makes at most 16 looks, and at most as many probes as
+/// `len.div_ceil(512) + 1` has binary digits.
 pub fn select_by<G: Glance, T: Probe>(
     src: &mut G,
     offset: usize,
@@ -47,17 +48,18 @@ pub fn select_by<G: Glance, T: Probe>(
     select_value_by(src, offset, len, table, n, true)
 }
 
-/// The place, counted from bit `offset`, of the `n`-th false bit among the `len` bits from there
-/// on, with `n` counted from 0; `None` where at most `n` of these bits are false.
+/// Returns the index of the `n`-th unset bit of the window, counted from 0; `None` if at most `n`
+/// of its bits are unset. The window is the `len` bits from bit `offset` on, and index 0 is its
+/// first bit.
 ///
-/// The bits have to lie in the bytes of `src`, and `offset + len` has to be a `usize`. The table
-/// has to have exactly `len.div_ceil(512)` entries. The answer is right where entry `j` is how many
-/// of the first `512 * j` of these bits are true, as in the table that
-/// [`table_of`](crate::table_of) makes; with other entries it is unspecified.
+/// The window must be in the bytes of `src`, and `offset + len` must fit in a `usize`. The table
+/// must have exactly `len.div_ceil(512)` entries. The result is right if entry `j` is the number of
+/// set bits among the first `512 * j` bits of the window, as in the table that
+/// [`table_of`](crate::table_of) builds; with other entries it is unspecified.
 ///
-/// A look is a read of up to 64 bytes of `src`, a probe the read of an entry. Whatever the entries
-/// are, the call takes at most 16 looks, and at most as many probes as `len.div_ceil(512) + 1` has
-/// binary digits.
+/// A look is a read of up to 64 bytes of `src`, and a probe is the read of an entry. Whatever the
+/// entries are, the call makes at most 16 looks, and at most as many probes as
+/// `len.div_ceil(512) + 1` has binary digits.
 pub fn select_unset_by<G: Glance, T: Probe>(
     src: &mut G,
     offset: usize,
@@ -78,8 +80,8 @@ pub fn select_unset_by<G: Glance, T: Probe>(
     select_value_by(src, offset, len, table, n, false)
 }
 
-/// The place of the `n`-th bit of the window that is `value`: its block is sought in the table, and
-/// then the block is searched.
+/// Returns the index of the `n`-th bit of the window that is `value`: searches the table for the
+/// block of the bit, and then the block.
 fn select_value_by<G: Glance, T: Probe>(
     src: &mut G,
     offset: usize,
@@ -104,8 +106,10 @@ fn select_value_by<G: Glance, T: Probe>(
     select_from(src, offset, len, found, n, value)
 }
 
-/// The place of the `n`-th bit of the window that is `value`, by the block in which it lies and how
-/// many such bits are before the block.
+/// Returns the index of the `n`-th bit of the window that is `value`; `None` if there are at most
+/// `n`. `found` is the block that has the bit, and the number of such bits before the block, as
+/// [`find_block`] returns them; with another pair the result is unspecified. The block must begin
+/// before `len`, and that number must be at most `n`. Makes at most 16 looks.
 pub fn select_from<G: Glance>(
     src: &mut G,
     offset: usize,
@@ -134,10 +138,10 @@ pub fn select_from<G: Glance>(
     Some(at + place)
 }
 
-/// The place of the `n`-th bit that is `value`, of at most 512 bits.
+/// Returns the index of the `n`-th bit that is `value` among at most 512 bits.
 ///
-/// Where they begin with a byte, and the bytes have a chunk from there on, it is sought with that
-/// chunk in hand, by [`select_by_moves`]; else by [`bit_select_by`].
+/// If the first bit is the first of a byte, and 64 bytes begin there, loads these as one chunk and
+/// calls [`select_by_moves`]; else calls [`bit_select_by`] or [`bit_select_unset_by`].
 #[tactic(auto, using(crate::proofs::TablesLemmas::looks_of_block))]
 fn select_in_block<G: Glance>(
     src: &mut G,
@@ -164,8 +168,9 @@ fn select_in_block<G: Glance>(
     }
 }
 
-/// The place of the `n`-th bit of the chunk that is `value`: its word is found, and then halved, by
-/// moves in place of branches. So the questions that come next don't wait for the bits of this one.
+/// Returns the index of the `n`-th bit of the chunk that is `value`. Finds its word, and halves it,
+/// by conditional moves instead of branches. So the selects that follow need not wait for the bits
+/// of this one.
 pub(crate) fn select_by_moves(chunk: &[u8; 64], n: usize, value: bool) -> Option<usize>
     ensures { Selects (hits value (bits chunk.now 0 512)) n result }
 {
@@ -178,8 +183,9 @@ pub(crate) fn select_by_moves(chunk: &[u8; 64], n: usize, value: bool) -> Option
     }
 }
 
-/// Which word of the chunk has the `n`-th bit that is `value`, where one has, how many such bits
-/// are before it, and the word as [`word_of`] gives it. All words but the last one are counted.
+/// Returns the word of the chunk that has the `n`-th bit that is `value`: its number, the number of
+/// such bits before it, and the word as [`word_of`] returns it. Returns the last word if none has
+/// the bit. Counts all words but the last one.
 fn find_word(chunk: &[u8; 64], n: usize, value: bool) -> (usize, usize, u64)
     ensures within { result.0 < 8 }
     ensures low { result.1 ≤ n }
@@ -194,7 +200,8 @@ fn find_word(chunk: &[u8; 64], n: usize, value: bool) -> (usize, usize, u64)
     let mut seen = 0;
     for k in 0..7 {
         seen += digit_ones(word_of(chunk, k, value));
-        // The word is moved too: loaded by its number, it would keep the chunk in memory.
+        // Moving the word too avoids a load by its number, for which the chunk would have to stay
+        // in memory.
         if seen <= n {
             at = k + 1;
             before = seen;
@@ -204,7 +211,7 @@ fn find_word(chunk: &[u8; 64], n: usize, value: bool) -> (usize, usize, u64)
     (at, before, word)
 }
 
-/// Word `k` of the chunk, with a 1 for each bit that is `value`.
+/// Returns word `k` of the chunk, with a 1 for each bit that is `value`.
 fn word_of(chunk: &[u8; 64], k: usize, value: bool) -> u64
     requires { k < 8 }
     ensures { digits result 0 64 ≡ hits value (bits chunk.now (64 * k) 64) }

@@ -1,4 +1,4 @@
-//! The blocks of eight ranks, and their places in them, side by side.
+//! Searches for eight selects side by side: for their blocks, and for the bits in these.
 ghost use Rattle.std.specs.Prelude.{◌≡◌, ℕ, List, Option, ◌+◌, ◌-◌, ◌*◌, ◌/◌, ◌%◌, ◌^◌, ◌<◌, ◌≤◌};
 ghost use Rattle.std.specs.Prelude.{length, slice_index, slice_index_or, slice_range, true, false};
 ghost use Rattle.vb_bits.specs.Bits.{bits, Selects};
@@ -14,12 +14,12 @@ use crate::select::{select_by_moves, select_from};
 use crate::size::BLOCK_BITS;
 use vb_count::Glance;
 
-/// How many ranks are sought side by side: while one search waits for a count, the others go on,
-/// and what eight of them have come to is still at hand.
+/// The number of selects that are searched side by side: while one search waits for a count, the
+/// others go on, and with eight of them their state is still at hand.
 pub const LANES: usize = 8;
 
-/// What searches side by side have come to: how many counts are left of each, from which one on,
-/// and how many bits are before that one.
+/// The state of searches side by side: for each the number of counts that are left, the first of
+/// these, and the number of bits before its block.
 #[derive(Drop)]
 struct Searches {
     low: [usize; LANES],
@@ -27,11 +27,14 @@ struct Searches {
     left: [usize; LANES],
 }
 
-/// What [`find_block`](crate::find_block) answers of eight ranks, each among the counts of a level
-/// of its own, of which there are at most `most`: the blocks, and how many bits are before each.
+/// Does [`find_block`](crate::find_block) for eight selects: returns their blocks, and the number
+/// of bits that are `value` before each. Select `k` has a level of its own, with `sizes[k]` counts,
+/// at least 1 and at most `most`. The counts of a level must depend on what the source has alone,
+/// and the number of probes must be the same for all levels.
 ///
-/// The searches go side by side: each has had one probe before one has its next. A search that has
-/// come to one count stands still.
+/// Takes at most eight times as many probes as `most - 1` has binary digits. The searches go side
+/// by side: each makes one probe before any makes its next. A search with one count left makes
+/// none.
 #[inline(always)]
 pub fn find_blocks<S, L: Level<S>>(
     source: &mut S,
@@ -73,9 +76,9 @@ pub fn find_blocks<S, L: Level<S>>(
     (lanes.low, lanes.before)
 }
 
-/// One turn of each search that has more than one count left, by one probe of it.
+/// Makes one probe of each search that has more than one count left, and halves the counts left.
 ///
-/// It isn't inlined: within the loop over the turns its moves would become branches.
+/// Not inlined: in the loop of its caller its conditional moves would become branches.
 #[inline(never)]
 fn halve_each<S, L: Level<S>>(
     source: &mut S,
@@ -112,7 +115,7 @@ fn halve_each<S, L: Level<S>>(
             let (low, before) = (lanes.low[k], lanes.before[k]);
             let middle = low + half;
             let here = bits_before(source, &levels[k], width, middle, value);
-            // Without what is before: so that number is used besides, and stays in hand.
+            // Subtracting `before` here too keeps it in a register.
             let (step, rest) = (here.wrapping_sub(before), ns[k] - before);
             lanes.low[k] = choose(step, rest, middle, low);
             lanes.before[k] = choose(step, rest, here, before);
@@ -121,8 +124,8 @@ fn halve_each<S, L: Level<S>>(
     }
 }
 
-/// `upper` where `step` is at most `rest`, else `lower`. By arithmetic: of a test the compiler
-/// makes a branch here, which nobody can foresee.
+/// Returns `upper` if `step` is at most `rest`, else `lower`. Uses arithmetic, since the compiler
+/// turns a test into a branch here, which no processor can predict.
 #[inline(always)]
 fn choose(step: usize, rest: usize, upper: usize, lower: usize) -> usize
     ensures upper { step ≤ rest → result ≡ upper }
@@ -132,8 +135,10 @@ fn choose(step: usize, rest: usize, upper: usize, lower: usize) -> usize
     lower.wrapping_add(more.wrapping_mul(usize::from(step <= rest)))
 }
 
-/// What [`select_from`] answers of eight ranks. The chunks of all are loaded before any is
-/// searched, so that they are waited for together.
+/// Does [`select_from`] for eight selects: returns for each the index of the `ns[k]`-th bit of the
+/// window that is `value`. Block `blocks[k]` must begin before `len`, and `befores[k]` must be at
+/// most `ns[k]`. Makes at most 136 looks. Loads the chunks of all before it searches any, so that
+/// it waits for them together.
 pub fn select_each_from<G: Glance>(
     src: &mut G,
     offset: usize,
@@ -163,7 +168,7 @@ pub fn select_each_from<G: Glance>(
     places
 }
 
-/// Of each block its chunk; zeros where [`has_chunk`] says that it has none.
+/// Returns the chunk of each block; zeros for a block for which [`has_chunk`] is false.
 #[inline(always)]
 fn chunks_of<G: Glance>(src: &mut G, offset: usize, blocks: &[usize; LANES]) -> [[u8; 64]; LANES]
     requires fits { (k : ℕ) → k < LANES
@@ -182,7 +187,7 @@ fn chunks_of<G: Glance>(src: &mut G, offset: usize, blocks: &[usize; LANES]) -> 
     chunks
 }
 
-/// Whether a bit begins a byte, and so many bytes have a chunk from there on.
+/// Returns whether bit `place` is the first of a byte, and 64 of `size` bytes begin there.
 #[inline(always)]
 fn has_chunk(size: usize, place: usize) -> bool
     ensures has { result ≡ true → (place % 8 ≡ 0) × (place / 8 + 64 ≤ size) }
@@ -191,7 +196,7 @@ fn has_chunk(size: usize, place: usize) -> bool
     place % 8 == 0 && place / 8 + 64 <= size
 }
 
-/// What [`select_from`] answers, with the block's chunk in hand where it has one.
+/// Does [`select_from`], with the chunk of the block already loaded if the block has one.
 #[inline(never)]
 fn select_held<G: Glance>(
     src: &mut G,

@@ -1,4 +1,4 @@
-//! How many bits an entry of a table stands for.
+//! The size of a block.
 
-/// The bits of a block.
+/// The number of bits of a block, which has one entry in the table.
 pub const BLOCK_BITS: usize = 512;

@@ -1,4 +1,4 @@
-//! The table of a list of bits.
+//! The table of counts of a list of bits.
 ghost use Rattle.std.specs.Prelude.{◌≡◌, length, IfOk, IsOkUnless};
 ghost use Rattle.vb_bits.specs.Bits.{bits};
 ghost use Rattle.vb_bits.specs.InBytes.{InBytes};
@@ -12,10 +12,11 @@ use vb_core::{BufferError, Result};
 use vb_count::count_ones;
 use vb_view::BitBufferView;
 
-/// For each block of 512 bits, how many true bits are before it.
+/// Returns a table with one entry for each block of 512 bits: the number of set bits before the
+/// block.
 ///
-/// It counts the bits once, and takes one request for memory: a `usize` a block, and none for no
-/// bits. Refused by `OutOfMemory` alone.
+/// Allocates once, `bits.len().div_ceil(512)` items of a `usize`, and not at all for no bits.
+/// Returns `OutOfMemory` if that fails, and no other error. Counts the bits of the blocks once.
 pub fn table_of<A: Allocator>(alloc: A, bits: BitBufferView<'_>) -> Result<Vec<usize, A>>
     ensures table { IfOk result (λ t. t.items ≡ block_counts (bits_of bits.entry)) }
     ensures size { IfOk result (λ t. length t.items ≡ blocks (length (bits_of bits.entry))) }
@@ -31,12 +32,12 @@ pub fn table_of<A: Allocator>(alloc: A, bits: BitBufferView<'_>) -> Result<Vec<u
     Ok(table)
 }
 
-/// Writes one number to `table` for each block of 512 bits of the `len` bits from bit `offset` on:
-/// how many of the bits before the block are true. It writes as many as `table` has room for, from
-/// its front on, and answers how many it wrote.
+/// Writes the number of set bits before each block of 512 bits of the window to the front of
+/// `table`, one item for each block, up to the length of `table`. Returns the number of items
+/// written; the items after them are unchanged. The window is the `len` bits from bit `offset` on.
 ///
-/// The window has to lie in the bytes, and its end has to be a `usize`. It counts the bits of the
-/// blocks once, and takes no memory.
+/// The window must be in the bytes, and `offset + len` must fit in a `usize`. Counts the bits of
+/// the blocks once, and does not allocate.
 pub fn write_block_counts(bytes: &[u8], offset: usize, len: usize, table: &mut [usize]) -> usize
     requires window { InBytes bytes.now offset len }
     ensures fills { Fills (block_counts (bits bytes.now offset len)) table.old table.new result }

@@ -2,7 +2,7 @@ use Rattle.std.proofs.Common.{◌-◌, ◌≡◌, ◌+◌, ◌<◌, ◌≤◌}
 use Rattle.vb_rank.specs.Tables.{binary_digits, count_before, Rises}
 use Rattle.vb_rank.proofs.block.find_block.Given as goal
 
--- block low reaches at most n, and block low + left, if there is one, more than n
+-- at most n values are before block low, and more than n before block low + left, if there is one
 abbrev pub invariant-loop-left : goal.invariant-loop-left
 invariant-loop-left g l = record {
   some : 0 < l.left;
@@ -19,7 +19,7 @@ invariant-loop-left g l = record {
   held : g.L.Level.held l.source ≡ g.L.Level.held l.initial.source;
   same : (g.L.Level.seen l.level l.source).entries
       ≡ (g.L.Level.seen l.level l.initial.source).entries;
-  -- each halving takes a digit of what is left
+  -- each turn takes one binary digit from the number of counts that are left
   halves : (g.L.Level.seen l.level l.source).probes + binary_digits (l.left - 1)
       ≡ (g.L.Level.seen l.level l.initial.source).probes
       + binary_digits (l.size - 1);

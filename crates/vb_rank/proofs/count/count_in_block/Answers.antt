@@ -7,13 +7,13 @@ use Rattle.vb_bits.proofs.BitsLemmas.{count-bits-add, take-bits}
 use Rattle.vb_bits.proofs.BytesLemmas.{bits_of_read}
 use Rattle.vb_rank.proofs.count.count_in_block.Goals as goal
 
--- a front of a chunk is that of the bytes from its first one on
+-- the first bits of a chunk are those of the bytes from its first byte on
 front : (b xs : List ℕ) (a k : ℕ)
     → xs ≡ slice_range b a (a + 64) → k ≤ 512 → bits xs 0 k ≡ bits b (8 * a) k
 front b xs a k read h = sym (take-bits xs 0 512 k h)
     ∙ ap (take k) (bits_of_read b b xs a 64 (8 * a) refl read refl) ∙ take-bits b (8 * a) 512 k h
 
--- the true bits of a window that a chunk has, and of what is before it in the first byte
+-- the set bits of a window in a chunk, plus those before it in its first byte
 window : (b xs : List ℕ) (o n : ℕ) → xs ≡ slice_range b (o / 8) (o / 8 + 64) → o % 8 + n ≤ 512
     → count (bits xs 0 (o % 8 + n)) ≡ count (bits xs 0 (o % 8)) + count (bits b o n)
 window b xs o n read h =
@@ -27,7 +27,7 @@ window b xs o n read h =
       ap (λ x. count (bits b x n)) place,
     )
 
--- what is before the window is in the first word
+-- the bits before the window are in the first word
 before : (xs : List ℕ) (o : ℕ)
     → count (bits xs (64 * 0) (min (o % 8 - 64 * 0) 64)) ≡ count (bits xs 0 (o % 8))
 before xs o =

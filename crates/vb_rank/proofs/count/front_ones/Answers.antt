@@ -4,7 +4,7 @@ use Rattle.vb_bits.specs.Bits.{bits, count}
 use Rattle.vb_bits.proofs.BitsLemmas.{count-bits_none, count-bits-add, count-bits-le}
 use Rattle.vb_rank.proofs.count.front_ones.Goals as goal
 
--- a front with the part that comes after it, which may be none
+-- the count of a front is that of a shorter front and of the part after it, which may be empty
 front-more : (b : List ℕ) (m d z p : ℕ)
     → z ≡ m + d → (0 < d → p ≡ m) → count (bits b 0 z) ≡ count (bits b 0 m) + count (bits b p d)
 front-more b m zero z p e here =

@@ -9,13 +9,13 @@ use Rattle.vb_bits.proofs.DigitsLemmas.{count-digits_below}
 use Rattle.vb_bits.proofs.ReadLemmas.{digits-bits, has_bit-bits}
 use Rattle.vb_rank.proofs.count.front_ones_of_word.Goals as goal
 
--- the first digits of a word are the first bits of its bytes
+-- the lowest bits of a word are the first bits of its bytes
 front_digits : (b : List ℕ) (w o n : ℕ) → digits w 0 64 ≡ bits b o 64 → n ≤ 64
     → digits w 0 n ≡ bits b o n
 front_digits b w o n full h =
     digits-bits b w o n (λ i k. has_bit-bits b w o 64 i full (omega arith))
 
--- a mask keeps so many
+-- the ones that a mask of k ones leaves
 masked : (w k : ℕ) → count_ones (bit_and w (2 ^ k - 1)) ≡ count (digits w 0 k)
 masked w k = ap count_ones (and_mask w k)
     ∙ sym (count-digits_below (w % 2 ^ k) k (mod_below w (2 ^ k) (pow_pos k)))

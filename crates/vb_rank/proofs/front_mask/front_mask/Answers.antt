@@ -9,15 +9,15 @@ use Rattle.std.proofs.lemmas.Nat.{from_le_bytes-to_le_bytes_8}
 use Rattle.vb_rank.specs.declared.front_mask.TheConstants.{FRONTS}
 use Rattle.vb_rank.proofs.front_mask.front_mask.Goals as goal
 
--- the ones that are left of a row from a byte on, as a word
+-- the ones of a row from a byte on, as a mask of a word
 abbrev mask_from : ℕ → ℕ → ℕ
 mask_from row at = 2 ^ min (512 + row - 8 * at) 64 - 1
 
--- eight bytes of a row
+-- the eight bytes of a row from a byte on
 abbrev eight : ℕ → ℕ → List ℕ
 eight row at = slice_range (get_or FRONTS row []) at (at + 8)
 
--- which they are
+-- those bytes are the bytes of the mask, in all rows
 masks : map (λ i. to_le_bytes w64 (mask_from (i / 121) (i % 121))) (range_with_len 0 968)
     ≡ map (λ i. eight (i / 121) (i % 121)) (range_with_len 0 968)
 masks = refl

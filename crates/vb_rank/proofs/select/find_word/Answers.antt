@@ -20,7 +20,7 @@ loop-k-init c =
       high = λ past. absurd (omega (arith, past));
     }
 
--- those of a word
+-- the count of a longer front, by the count of its last word
 few : (v : Bool) (b : List ℕ) (k ones : ℕ) (l : List Bool)
     → ones ≡ count l → l ≡ hits v (bits b (64 * k) 64)
     → count (hits v (bits b 0 (64 * (k + 1)))) ≡ count (hits v (bits b 0 (64 * k))) + ones
@@ -41,7 +41,7 @@ overflow_add-seen c = record {
   );
 }
 
--- the word stays, which has more than the rank, or is the one that was counted
+-- the word stays: it has more than the rank, or it is the one that was counted last
 high_on : (v : Bool) (b : List ℕ) (k w w' n : ℕ) → w' ≡ w → w ≤ k
     → (w < k → n < count (hits v (bits b 0 (64 * (w + 1)))))
     → n < count (hits v (bits b 0 (64 * (k + 1))))

@@ -8,7 +8,7 @@ use Rattle.vb_select.proofs.SearchesLemmas.{Searched_after, Searched_longer, Sea
 use Rattle.vb_rank.proofs.select.select_by_moves.Goals as goal
 use Rattle.vb_rank.proofs.select.select_by_moves.Goals.{After-select_in_word}
 
--- what is found in the word is found in the chunk
+-- the bit that is found in the word is the one of the chunk
 found : (c : After-select_in_word) → Selects (hits c.args.value (bits c.args.chunk.now 0 512))
     c.args.n (Some (64 * c.find_word-k.result.0 + c.select_in_word.result))
 found c =

@@ -12,7 +12,7 @@ use Rattle.vb_rank.proofs.EditsLemmas.{count-take_block}
 use Rattle.vb_bits.proofs.FillsLemmas.{set_next}
 use Rattle.vb_rank.proofs.table.write_block_counts.Goals as goal
 
--- the count of the fronts before and after a block, by the bits of the block
+-- the counts of the fronts before and after a block, by the bits of the block
 block_more : (b : List ℕ) (o n k m : ℕ) → k < blocks n → m ≡ min (n - 512 * k) 512
     → count (take (512 * (k + 1)) (bits b o n))
     ≡ count (take (512 * k) (bits b o n)) + count (bits b (o + 512 * k) m)
