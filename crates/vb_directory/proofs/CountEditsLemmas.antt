@@ -13,8 +13,8 @@ use Rattle.vb_directory.proofs.CountsLemmas.{at-count_in_group, before-of_group}
 use Rattle.vb_rank.proofs.EditsLemmas.{bump, count-take_range, count-take-set_before}
 use Rattle.vb_rank.proofs.EditsLemmas.{count-take-set_after}
 
--- ---- a part of a front
--- it counts no more than its length
+-- ---- a longer front
+-- it has at most as many more true values as it has values
 pub count-take_near : (l : List Bool) (a b : ℕ)
     → a ≤ b → count (take b l) ≤ count (take a l) + (b - a)
 count-take_near l a b h = omega (
@@ -25,7 +25,7 @@ count-take_near l a b h = omega (
 )
 
 -- ---- a bit that is written
--- a count that is moved, and wraps
+-- a count that changes by one, wrapping
 narrow-step : (v : Bool) (s a b : ℕ) → s ≡ cond v 1 65535 → a < 2 ^ 16 → b < 2 ^ 16
     → (v ≡ false → 0 < a) → b ≡ bump v a → (a + s) % 2 ^ 16 ≡ b
 narrow-step true s a b step low high pos moved = omega (arith, step, low, high, moved)
@@ -36,7 +36,7 @@ wide-step : (v : Bool) (s a b : ℕ) → s ≡ cond v 1 (2 ^ 64 - 1) → a < 2 ^
 wide-step true s a b step low high pos moved = omega (arith, step, low, high, moved)
 wide-step false s a b step low high pos moved = omega (arith, step, low, high, moved, pos refl)
 
--- a sum moves with one of its parts
+-- a sum changes as one of its parts does
 first_moves : (v : Bool) (a b w c d : ℕ) → (v ≡ false → 0 < a)
     → b ≡ bump v a → a + w ≡ c → d ≡ bump v c → b + w ≡ d
 first_moves true a b w c d pos moved sum total = omega (arith, moved, sum, total)
@@ -47,7 +47,7 @@ last_moves : (v : Bool) (a w c d : ℕ) → (v ≡ false → 0 < w)
 last_moves true a w c d pos sum total = omega (arith, sum, total)
 last_moves false a w c d pos sum total = omega (arith, sum, total, pos refl)
 
--- from before a true bit to behind it
+-- the front that ends after a true bit has more true values than the front that ends before it
 true-between : (l : List Bool) (i a b : ℕ) (v : Bool) → i < length l → at l i ≡ not v → a ≤ i
     → i < b → v ≡ false → count (take a l) < count (take b l)
 true-between l i a b v within was low high e = omega (
@@ -57,7 +57,7 @@ true-between l i a b v within was low high e = omega (
   count-take-mono l (i + 1) b (omega (arith, high)),
 )
 
--- the count before a group behind the bit
+-- the count before a group that is after the bit
 before-set_behind : (l : List Bool) (c : List ℕ) (k i w : ℕ) (v : Bool) → AreCounts l c
     → i < length l → at l i ≡ not v → length l < 2 ^ 64 → i / 65536 < k → 65536 * k < length l
     → w ≡ cond v 1 (2 ^ 64 - 1)
@@ -91,7 +91,7 @@ before-set_behind l c k i w v p bit was fits h some step =
       ),
     )
 
--- a count in the group of the bit, behind its block
+-- a count in the group of the bit, after its block
 within-set_own : (l : List Bool) (c : List ℕ) (k j i s : ℕ) (v : Bool) → AreCounts l c
     → i < length l → at l i ≡ not v → k ≡ i / 65536 → s ≡ cond v 1 65535 → j < 128
     → i / 512 % 128 < j → 65536 * k + 512 * j < length l
@@ -123,7 +123,7 @@ within-set_own l c k j i s v p bit was here step small behind old =
     (last_moves v (count_before_group c k) (count_in_group c k j) _ _ pos sum total) in
     omega (arith, narrow, before, same, more)
 
--- all of them
+-- all counts
 pub AreCounts-set : (l : List Bool) (c d : List ℕ) (i s w : ℕ) (v : Bool) → AreCounts l c
     → i < length l → at l i ≡ not v → length l < 2 ^ 64 → s ≡ cond v 1 65535
     → w ≡ cond v 1 (2 ^ 64 - 1) → length d ≡ length c
@@ -182,13 +182,13 @@ AreCounts-set l c d i s w v p bit was fits narrow wide long before behind other 
       (cases_lt k (i / 65536));
 }
 
--- ---- a bit that is added
--- it counts in no front of the list
+-- ---- a bit that is appended
+-- it is in no front of the list
 count-push : (l : List Bool) (n : ℕ) (v : Bool)
     → n ≤ length l → count (take n (l ++ v ∷ [])) ≡ count (take n l)
 count-push l n v h = ap count (take-append-le n l (v ∷ []) h)
 
--- where no block begins, the counts stay
+-- if the bit begins no block, the counts stay the same
 pub AreCounts-push : (l : List Bool) (c : List ℕ) (v : Bool)
     → AreCounts l c → 0 < length l % 512 → AreCounts (l ++ v ∷ []) c
 AreCounts-push l c v p h =
@@ -200,7 +200,7 @@ AreCounts-push l c v p h =
           p.each k i small old ∙ sym (count-push l (65536 * k + 512 * i) v (omega (arith, old)));
     }
 
--- numbers that are added change no group before them
+-- numbers that are appended change no group before them
 before-append : (c y : List ℕ) (k : ℕ)
     → 131 * k + 4 ≤ length c → count_before_group (c ++ y) k ≡ count_before_group c k
 before-append c y k h = omega (
@@ -216,7 +216,7 @@ within-append : (c y : List ℕ) (k i : ℕ)
 within-append c y k zero h = refl
 within-append c y k (suc i) h = get_or_append_left c y 0 (131 * k + 4 + i) (omega (arith, h))
 
--- whole blocks, and a block more
+-- the counts of whole blocks and of one more block
 AreCounts-push_block : (l m : List Bool) (c y : List ℕ) (b : ℕ) → AreCounts l c
     → length l ≡ 512 * b → take (length l) m ≡ l → length l < length m
     → length m ≤ length l + 512 → length (c ++ y) ≡ numbers_for (length m)
@@ -253,7 +253,7 @@ AreCounts-push_block l m c y b p whole front more few long own = record {
       (cases_lt (65536 * k + 512 * i) (length l));
 }
 
--- a number is what its digits say
+-- a number is the sum of its digits
 digits-sum : (n : ℕ) → n < 2 ^ 64 → n % 65536 + 2 ^ 16 * (n / 65536 % 65536)
     + 2 ^ 32 * (n / 65536 / 65536 % 65536) + 2 ^ 48 * (n / 65536 / 65536 / 65536) ≡ n
 digits-sum n h = omega (arith, h)
@@ -286,7 +286,7 @@ AreCounts-push_group l m c b n p whole begins total fits front more few =
       total,
     ))
 
--- it lies within one
+-- the block is within a group
 pub AreCounts-push_within : (l m : List Bool) (c : List ℕ) (b n : ℕ) → AreCounts l c
     → length l ≡ 512 * b → 0 < b % 128 → n ≡ count l → length l < 2 ^ 64
     → take (length l) m ≡ l → length l < length m → length m ≤ length l + 512

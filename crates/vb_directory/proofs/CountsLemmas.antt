@@ -1,4 +1,4 @@
--- Counts of blocks by their groups: read and searched.
+-- Counts of blocks by their groups: reads and searches.
 use Rattle.std.proofs.Common.{◌≡◌, ℕ, zero, suc, ◌+◌, ◌-◌, ◌*◌, ◌/◌, ◌%◌, ◌<◌, ◌≤◌, Bool, true}
 use Rattle.std.proofs.Common.{false, List, length, get_or, take, min, refl, sym, ap, ◌∙◌, arith}
 use Rattle.std.proofs.Common.{subst, ⊎_elim}
@@ -20,7 +20,7 @@ at-count_in_group c k (suc i) h =
     let e : 131 * k + 4 + i ≡ 131 * k + 3 + suc i = omega arith in
     ap (λ n. get_or c n 0) e
 
--- lists that have the same digits have the same count before a group
+-- lists with the same digits have the same count before a group
 pub before-same : (c d : List ℕ) (k : ℕ)
     → ((n : ℕ) → 131 * k ≤ n → n < 131 * k + 4 → get_or d n 0 ≡ get_or c n 0)
     → count_before_group d k ≡ count_before_group c k
@@ -32,7 +32,7 @@ before-same c d k same = omega (
   same (131 * k + 3) (omega arith) (omega arith),
 )
 
--- and those that have the same number, the same count of a block
+-- and lists with the same number have the same count of a block
 pub within-same : (c d : List ℕ) (k i : ℕ)
     → (0 < i → get_or d (131 * k + 3 + i) 0 ≡ get_or c (131 * k + 3 + i) 0)
     → count_in_group d k i ≡ count_in_group c k i
@@ -40,7 +40,7 @@ within-same c d k zero same = refl
 within-same c d k (suc i) same = at-count_in_group d k (suc i) (omega arith)
     ∙ same (omega arith) ∙ sym (at-count_in_group c k (suc i) (omega arith))
 
--- there are as many counts before groups as groups
+-- there is one count for each group
 pub length_counts_before : (c : List ℕ) (n : ℕ)
     → length c ≡ numbers_for n → length (counts_before c) ≡ div_ceil n 65536
 length_counts_before c n e = omega (
@@ -62,7 +62,7 @@ before-inside c k h = omega (
   length-map-range_with_len (λ j. count_before_group c j) 0 ((length c + 127) / 131),
 )
 
--- there are as many counts of a group as it has blocks
+-- a group has one count for each of its blocks
 pub length_counts_within : (c : List ℕ) (n k b : ℕ) → length c ≡ numbers_for n → 65536 * k < n
     → b ≡ min (div_ceil (n - 65536 * k) 512) 128 → length (counts_within c k b) ≡ b
 length_counts_within c n k b e h cut = omega (
@@ -73,7 +73,7 @@ length_counts_within c n k b e h cut = omega (
   cut,
 )
 
--- each but the first has its number
+-- each count but the first has its number
 pub within-inside : (c : List ℕ) (k b i : ℕ)
     → i < length (counts_within c k b) → 131 * k + 4 + i ≤ length c
 within-inside c k b i h = omega (
@@ -109,7 +109,7 @@ before-of_group l c k p h =
       ap (λ x. count (take x l)) place,
     )
 
--- it is that before its first block
+-- it is the count before the first block of the group
 before-of_table : (l : List Bool) (c : List ℕ) (k : ℕ) → AreCounts l c → 65536 * k < length l
     → count_before_group c k ≡ get_or (block_counts l) (128 * k) 0
 before-of_table l c k p h =
@@ -117,7 +117,7 @@ before-of_table l c k p h =
     before-of_group l c k p h ∙ ap (λ x. count (take x l)) place
     ∙ sym (at-block_counts l (128 * k) (omega (arith, h)))
 
--- the count before a block, by that before its group
+-- the count before a block, by the count before its group
 part-of_group : (l : List Bool) (c : List ℕ) (k i : ℕ)
     → AreCounts l c → i < 128 → 128 * k + i < length (block_counts l)
     → get_or (block_counts l) (128 * k + i) 0
@@ -133,7 +133,7 @@ part-of_group l c k i p small inside =
       before-of_table l c k p (omega (arith, inside, long)),
     )
 
--- the values before a block are those before its group, and those of the group
+-- the values before a block are those before its group and those of the group before the block
 count_before-split : (v : Bool) (t w : List ℕ) (k i : ℕ) → Rises 512 true t → Rises 512 false t
     → 128 * k + i < length t → get_or t (128 * k + i) 0 ≡ get_or t (128 * k) 0 + get_or w i 0
     → (get_or w i 0 ≤ 512 * i)
@@ -165,7 +165,7 @@ count_before-split false t w k i up down inside part = (
   ),
 )
 
--- both kinds of values rise, and so those that are v
+-- if the counts of both values rise, so do those of v
 either_rises : (v : Bool) (t : List ℕ) → Rises 512 true t → Rises 512 false t → Rises 512 v t
 either_rises true t up down = up
 either_rises false t up down = down
@@ -189,7 +189,7 @@ Rises-group v t w k up down within part = record {
 }
 
 -- ---- the groups are sought
--- what they say is what the table says of the first block of each
+-- the count before a group is that of the table for its first block
 count_before-groups : (v : Bool) (l : List Bool) (c : List ℕ) (k : ℕ) → AreCounts l c
     → 65536 * k < length l
     → count_before 65536 v (counts_before c) k ≡ count_before 512 v (block_counts l) (128 * k)
@@ -201,7 +201,7 @@ count_before-groups false l c k p h = omega (
   before-of_table l c k p h,
 )
 
--- they can be searched as the table can
+-- they can be searched, since the table can
 Rises-groups : (v : Bool) (l : List Bool) (c : List ℕ) → AreCounts l c
     → Rises 512 v (block_counts l) → Rises 65536 v (counts_before c)
 Rises-groups v l c p rises =
@@ -226,7 +226,7 @@ Rises-groups v l c p rises =
           );
     }
 
--- what is found among the counts of a group is found in the table
+-- the block that is found among the counts of a group is the one of the table
 pub BeginsBefore-group : (v : Bool) (l : List Bool) (c w : List ℕ)
     (n k m b j r : ℕ) → AreCounts l c
     → Rises 512 true (block_counts l) → Rises 512 false (block_counts l)
@@ -286,7 +286,7 @@ BeginsBefore-group v l c w n k m b j r p up down seek cut end find =
           (cases_lt (j + 1) (length w));
     }
 
--- a single block has it all
+-- a single block has all values
 pub BeginsBefore-single : (v : Bool) (l : List Bool) (n : ℕ)
     → 0 < length l → length l ≤ 512 → BeginsBefore 512 v (block_counts l) n 0 0
 BeginsBefore-single v l n some small =
@@ -304,7 +304,7 @@ BeginsBefore-single v l n some small =
     single true e = sym e
     single false e = omega (arith, e)
 
--- in the first group the number before a block is the count, also before the first block
+-- in the first group the number before a block is the count, also for the first block
 pub number-of_first : (l : List Bool) (c : List ℕ) (j : ℕ) → AreCounts l c
     → 512 * j < length l → j < 128 → get_or c (3 + j) 0 ≡ count (take (512 * j) l)
 number-of_first l c j p begins small =
@@ -328,7 +328,7 @@ number-of_first l c j p begins small =
     subst (λ x. get_or c (3 + x) 0 ≡ count (take (512 * x) l)) (sym e) digit)
     (cases_lt 0 j)
 
--- so does the first group, where there is no other
+-- if there is one group, it has all values
 pub BeginsBefore-one_group : (v : Bool) (t : List ℕ) (n : ℕ)
     → length t ≡ 1 → Rises 65536 v t → BeginsBefore 65536 v t n 0 0
 BeginsBefore-one_group v t n one rises =

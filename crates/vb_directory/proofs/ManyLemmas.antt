@@ -1,8 +1,8 @@
--- Answers of many ranks, each by itself and as lists.
+-- Results of many selects, one by one and as lists.
 use Rattle.std.proofs.Common.{◌≡◌, ℕ, suc, ◌<◌, List, [], ◌∷◌, Option, length, get_or, arith}
 use Rattle.std.specs.List.{AllZip}
 
--- what holds of the answers at each place holds of the lists
+-- a relation that holds at each index holds for the lists
 pub AllZip-each : (R : ℕ → Option ℕ → Type 0) (xs : List ℕ) (ys : List (Option ℕ))
     → length ys ≡ length xs
     → ((k : ℕ) (d : Option ℕ) → k < length xs → R (get_or xs k 0) (get_or ys k d))

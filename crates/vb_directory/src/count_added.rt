@@ -1,4 +1,4 @@
-//! Counts of bits that were added.
+//! Counts of bits that were appended.
 ghost use Rattle.std.specs.Prelude.{◌≡◌, ◌≤◌, length, take};
 ghost use Rattle.vb_directory.specs.Counts.{AreCounts, numbers_for};
 ghost use Rattle.vb_view.specs.View.{bits_of};
@@ -10,9 +10,10 @@ use vb_rank::BLOCK_BITS;
 use vb_view::BitBufferView;
 
 impl<A: Allocator> Counts<A> {
-    /// Adds the counts before the blocks that the bits behind the first `old` ones begin, where
-    /// these are the counts of the first ones. There has to be room for all, so it takes no memory,
-    /// and the room stays. It counts the added bits once, and those of the last block not at all.
+    /// Appends the counts of the blocks that the bits from index `old` on begin. These counts must
+    /// be those of the first `old` bits, and there must be capacity for the counts of all bits.
+    /// Then they are the counts of all bits. Counts the appended bits before the last block once.
+    /// Does not allocate, and the capacity stays the same.
     pub fn count_added(&mut self, bits: BitBufferView<'_>, old: usize)
         requires within { old ≤ length (bits_of bits) }
         requires counts { AreCounts (take old (bits_of bits)) self.old.numbers }

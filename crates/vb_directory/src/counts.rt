@@ -1,5 +1,5 @@
-//! The counts of a directory, in one list of numbers: made and edited here, and read by a source
-//! of them alone.
+//! The counts of a directory, in one list of numbers. This file builds and edits them; a source of
+//! counts alone reads them.
 mod plain;
 #[cfg(test)]
 mod tally;
@@ -24,17 +24,17 @@ use vb_count::count_ones;
 use vb_rank::BLOCK_BITS;
 use vb_view::BitBufferView;
 
-/// How many numbers a set that grows asks for at least, when it asks for the first time: 24 bytes,
-/// which an allocator gives for fewer too.
+/// The least number of numbers for which a set that grows allocates at first: 24 bytes, which an
+/// allocator uses up for fewer numbers too.
 const FIRST_NUMBERS: usize = 12;
 
-/// How many true bits are before each block of 512 bits, by groups of 128 blocks.
+/// The number of set bits before each block of 512 bits, by groups of 128 blocks.
 ///
-/// A group has first the count before it, by four digits of 16 bits, the lowest first; and then for
-/// each of its blocks but the first one number, for the bits from the group's begin on. The last
-/// group has no more numbers than its blocks need.
+/// A group begins with the number of set bits before it, as four digits of 16 bits, the lowest
+/// first. One number of 16 bits follows for each of its blocks but the first: the number of set
+/// bits of the group before the block. The last group has only the numbers that its blocks need.
 ///
-/// A contract sees the numbers, and for how many there is room.
+/// Contracts see the numbers, and the number for which there is capacity.
 #[derive(Drop)]
 pub struct Counts<A: Allocator> {
     numbers: Vec<u16, A>,
@@ -50,9 +50,10 @@ impl<A: Allocator> Model for Counts<A> {
 }
 
 impl<A: Allocator> Counts<A> {
-    /// The counts of the bits, by one request for memory, for the counts of `room` bits, and none
-    /// for no bits. It counts the bits of all blocks but the last one once. Refused by
-    /// `OutOfMemory` alone.
+    /// Returns the counts of the bits, with capacity for the counts of `room` bits, which must be
+    /// at least the number of bits. Allocates once, and not at all for no bits. Returns
+    /// `OutOfMemory` if that fails, and no other error. Counts the bits of all blocks but the last
+    /// one, once.
     pub fn of(alloc: A, bits: BitBufferView<'_>, room: usize) -> Result<Self>
         requires room { length (bits_of bits) ≤ room }
         ensures counts { IfOk result (λ c. AreCounts (bits_of bits.entry) c.numbers) }
@@ -77,7 +78,7 @@ impl<A: Allocator> Counts<A> {
         Ok(Counts { numbers })
     }
 
-    /// The counts as a source of them, with no probe so far.
+    /// Returns the counts as a source of them, with no probe so far.
     pub(crate) fn groups(&self) -> PlainGroups<'_>
         ensures numbers { result.entries ≡ self.now.numbers }
         ensures unread { result.probes ≡ 0 }
@@ -85,8 +86,8 @@ impl<A: Allocator> Counts<A> {
         PlainGroups::new(self.numbers.as_slice())
     }
 
-    /// Makes room for the counts of so many bits. Refused by `OutOfMemory` alone; then the counts
-    /// are as they were, and their room is no less.
+    /// Ensures capacity for the counts of `bits` bits. Returns `OutOfMemory` if it can't allocate,
+    /// and no other error; the counts are unchanged then, and the capacity is no less.
     pub fn reserve(&mut self, bits: usize) -> Result<()>
         ensures numbers { self.new.numbers ≡ self.old.numbers }
         ensures grows { self.old.room ≤ self.new.room }
@@ -102,9 +103,10 @@ impl<A: Allocator> Counts<A> {
         Ok(())
     }
 
-    /// Adds the count before block `block`, the next one, for which there has to be room: before it
-    /// `ones` bits are true. What were the counts of whole blocks are then those of a longer list,
-    /// up to the end of that block. It takes no memory, and the room stays.
+    /// Appends `ones`, the number of set bits before block `block`. These counts must be those of
+    /// `block` whole blocks, and there must be capacity for those of one more. Then they are the
+    /// counts of these blocks and of 1 to 512 bits after them. Does not allocate, and the capacity
+    /// stays the same.
     pub fn push(&mut self, block: usize, ones: usize)
         requires size { length self.old.numbers ≡ numbers_for (BLOCK_BITS * block) }
         requires room { numbers_for (BLOCK_BITS * block + 1) ≤ self.old.room }
@@ -117,9 +119,10 @@ impl<A: Allocator> Counts<A> {
         push_count(&mut self.numbers, block, ones);
     }
 
-    /// Moves the counts behind the block of bit `i` by one: up, where the bit becomes true. What
-    /// were the counts of the bits before it changed are then those of the new bits. It takes no
-    /// memory, and the room stays.
+    /// Adds 1 to the counts after the block of bit `i` if `up`, since the bit becomes true; else
+    /// subtracts 1, since it becomes false. So the counts of the bits before that write become
+    /// those of the bits after it. Bit `i` must be in a group that has counts. Does not allocate,
+    /// and the capacity stays the same.
     pub fn move_behind(&mut self, i: usize, up: bool)
         requires { GROUP_NUMBERS * (i / GROUP_BITS) + BEFORE_DIGITS ≤ length self.old.numbers }
         ensures moved { (l : List Bool) → AreCounts l self.old.numbers → length l < 2 ^ 64
@@ -131,8 +134,9 @@ impl<A: Allocator> Counts<A> {
 }
 
 impl<A: Allocator + Clone> Counts<A> {
-    /// A copy with room for the counts of `room` bits, by one request to a copy of the allocator,
-    /// and none where there are no counts. Refused by `OutOfMemory` alone.
+    /// Returns a copy with capacity for the counts of `room` bits. Allocates once from a copy of
+    /// the allocator, and not at all if there are no counts. Returns `OutOfMemory` if that fails,
+    /// and no other error.
     pub fn copy(&self, room: usize) -> Result<Self>
         ensures numbers { IfOk result (λ c. c.numbers ≡ self.now.numbers) }
         ensures room { IfOk result (λ c. 0 < length self.now.numbers
@@ -151,14 +155,14 @@ impl<A: Allocator + Clone> Counts<A> {
     }
 }
 
-/// How many numbers the counts of so many bits take.
+/// Returns the number of numbers that the counts of `bits` bits have.
 fn size_for(bits: usize) -> usize
     ensures { result ≡ numbers_for bits }
 {
     bits.div_ceil(BLOCK_BITS) + (BEFORE_DIGITS - 1) * bits.div_ceil(GROUP_BITS)
 }
 
-/// Adds the count before a block, the next one.
+/// Appends the count of block `block`, which is the next one.
 fn push_count<A: Allocator>(numbers: &mut Vec<u16, A>, block: usize, ones: usize)
     requires size { length numbers.old.items ≡ numbers_for (BLOCK_BITS * block) }
     requires room { numbers_for (BLOCK_BITS * block + 1) ≤ vec_capacity numbers.old }
@@ -176,7 +180,7 @@ fn push_count<A: Allocator>(numbers: &mut Vec<u16, A>, block: usize, ones: usize
     }
 }
 
-/// Adds the count before a group, by its digits.
+/// Appends the number of set bits before a group, as its digits.
 fn push_before<A: Allocator>(numbers: &mut Vec<u16, A>, ones: usize)
     requires room { vec_len numbers.old + BEFORE_DIGITS ≤ vec_capacity numbers.old }
     ensures items { numbers.new.items ≡ numbers.old.items ++ ones % BASE ∷ ones / BASE % BASE
@@ -192,7 +196,7 @@ fn push_before<A: Allocator>(numbers: &mut Vec<u16, A>, ones: usize)
     numbers.push_reserved((third / BASE) as u16);
 }
 
-/// The count before group `k`.
+/// Returns the number of set bits before group `k`.
 fn before_group(numbers: &[u16], k: usize) -> usize
     requires { GROUP_NUMBERS * k + BEFORE_DIGITS ≤ length numbers.now }
     ensures { result ≡ count_before_group numbers.now k }
@@ -203,7 +207,7 @@ fn before_group(numbers: &[u16], k: usize) -> usize
     low + BASE * BASE * high
 }
 
-/// Writes the count before group `k`.
+/// Writes the number of set bits before group `k`.
 fn write_before(numbers: &mut [u16], k: usize, ones: usize)
     requires { GROUP_NUMBERS * k + BEFORE_DIGITS ≤ length numbers.old }
     ensures len { length numbers.new ≡ length numbers.old }
@@ -222,7 +226,8 @@ fn write_before(numbers: &mut [u16], k: usize, ones: usize)
     numbers[at + 3] = (third / BASE) as u16;
 }
 
-/// Moves the counts behind the block of bit `i` by one: up, where the bit becomes true.
+/// Adds 1 to the counts after the block of bit `i` if `up`, since the bit becomes true; else
+/// subtracts 1, since it becomes false.
 fn move_counts(numbers: &mut [u16], i: usize, up: bool)
     requires { GROUP_NUMBERS * (i / GROUP_BITS) + BEFORE_DIGITS ≤ length numbers.old }
     ensures len { length numbers.new ≡ length numbers.old }
@@ -236,7 +241,7 @@ fn move_counts(numbers: &mut [u16], i: usize, up: bool)
     }
 }
 
-/// [`move_counts`] of a single group, as most sets have.
+/// Does [`move_counts`] for a single group, which is all that most sets have.
 fn move_single(numbers: &mut [u16], i: usize, up: bool)
     requires { length numbers.old ≤ GROUP_NUMBERS }
     ensures len { length numbers.new ≡ length numbers.old }
@@ -248,7 +253,7 @@ fn move_single(numbers: &mut [u16], i: usize, up: bool)
     add_within(numbers, BEFORE_DIGITS + i / BLOCK_BITS, end, narrow);
 }
 
-/// [`move_counts`] of several groups.
+/// Does [`move_counts`] for several groups.
 fn move_groups(numbers: &mut [u16], i: usize, up: bool)
     requires { GROUP_NUMBERS * (i / GROUP_BITS) + BEFORE_DIGITS ≤ length numbers.old }
     ensures len { length numbers.new ≡ length numbers.old }
@@ -258,15 +263,16 @@ fn move_groups(numbers: &mut [u16], i: usize, up: bool)
     let (group, block) = (i / GROUP_BITS, i / BLOCK_BITS % GROUP_BLOCKS);
     let start = GROUP_NUMBERS * group;
     let end = (start + GROUP_NUMBERS).min(numbers.len());
-    // What wraps to one fewer, where the bit becomes false.
+    // If the bit becomes false, adding this wraps to one less.
     let narrow = if up { 1 } else { u16::MAX };
     let wide = if up { 1 } else { usize::MAX };
-    // The number of the next block follows the digits and those of the blocks up to this one.
+    // The number of the next block is after the digits and the numbers of the blocks up to this
+    // one.
     add_within(numbers, start + BEFORE_DIGITS + block, end, narrow);
     add_before(numbers, group + 1, wide);
 }
 
-/// Adds to the numbers from `from` on and before `to`, and wraps.
+/// Adds `step`, wrapping, to the numbers from `from` up to `to`, `to` excluded.
 fn add_within(numbers: &mut [u16], from: usize, to: usize, step: u16)
     requires { to ≤ length numbers.old }
     ensures len { length numbers.new ≡ length numbers.old }
@@ -280,7 +286,7 @@ fn add_within(numbers: &mut [u16], from: usize, to: usize, step: u16)
     }
 }
 
-/// Adds to the counts before the groups from `from` on, and wraps.
+/// Adds `step`, wrapping, to the counts before the groups from `from` on.
 fn add_before(numbers: &mut [u16], from: usize, step: usize)
     ensures len { length numbers.new ≡ length numbers.old }
     ensures before { (k : ℕ) → k < from

@@ -1,4 +1,4 @@
-//! Ranks and places of ranks by groups, over any source of their counts.
+//! Ranks and selects by groups, over any source of their counts.
 ghost use Rattle.std.specs.Prelude.{◌≡◌, ℕ, Bool, true, false, List, ◌+◌, ◌-◌, ◌*◌, ◌/◌, ◌%◌, ◌^◌};
 ghost use Rattle.std.specs.Prelude.{◌<◌, ◌≤◌, length, min, take};
 ghost use Rattle.std.specs.Int.{div_ceil};
@@ -15,10 +15,12 @@ use crate::size::{GROUP_BITS, GROUP_BLOCKS};
 use vb_count::Glance;
 use vb_rank::{BLOCK_BITS, find_block, rank_from, select_from};
 
-/// How many of the first `i` of the `len` bits from bit `offset` on are true, as
-/// `rank_by` answers, from the counts of these bits. A single block takes no probe, since no bits
-/// are before it. Else the block of the last of the `i` bits takes one or two, as `ones_before`
-/// says.
+/// Returns the number of set bits among the first `i` bits of the window, which is the `len` bits
+/// from bit `offset` on. `i` must be above 0, and the counts must be those of the window.
+///
+/// Makes at most 16 looks at bits. Makes no probe if the window is a single block, which has no
+/// bits before it; else one or two, as `ones_before` does for the block of the last of the `i`
+/// bits.
 pub(crate) fn rank_in_groups<G: Glance, S: ProbeGroups>(
     src: &mut G,
     offset: usize,
@@ -46,15 +48,15 @@ pub(crate) fn rank_in_groups<G: Glance, S: ProbeGroups>(
     if len <= BLOCK_BITS {
         return rank_from(src, offset, 0, 0, i);
     }
-    // The block of the last of the bits, as in `rank_by`.
+    // The block of the last of these bits, as in `rank_by`.
     let block = (i - 1) / BLOCK_BITS;
     let before = ones_before(groups, len, block);
     rank_from(src, offset, block, before, i)
 }
 
-/// How many of the `len` bits are true before a block. A block of the first group takes one probe,
-/// since no bits are before the group. The first block of a later group takes one too, since it has
-/// no count of its own. All others take two.
+/// Returns the number of set bits before block `block` of `len` bits. Makes one probe for a block
+/// of the first group, since no bits are before that group; one for the first block of a later
+/// group, which has no number of its own; and two for any other block.
 fn ones_before<S: ProbeGroups>(groups: &mut S, len: usize, block: usize) -> usize
     requires block { BLOCK_BITS * block < len }
     requires size { length (S.seen groups.old).entries ≡ numbers_for len }
@@ -79,9 +81,10 @@ fn ones_before<S: ProbeGroups>(groups: &mut S, len: usize, block: usize) -> usiz
     before.wrapping_add(groups.within(group, place))
 }
 
-/// The place of the `n`-th bit of the window that is `value`, from the counts of its bits: its
-/// block is sought in them, and then the block is searched. It takes as many probes at most as
-/// `select_by` promises.
+/// Returns the index of the `n`-th bit of the window that is `value`; `None` if there are at most
+/// `n`. The window must not be empty, and the counts must be those of it. Searches the counts for
+/// the block of the bit, and then the block. Makes at most 16 looks, and at most as many probes as
+/// `select_by`.
 pub(crate) fn select_in_groups<G: Glance, S: ProbeGroups>(
     src: &mut G,
     offset: usize,
@@ -103,9 +106,8 @@ pub(crate) fn select_in_groups<G: Glance, S: ProbeGroups>(
     select_from(src, offset, len, found, n, value)
 }
 
-/// What [`find_block`] answers of the table of `len` bits, from their counts by groups: the group
-/// of the bit is sought first, and then its block among those of the group. A single block is not
-/// sought.
+/// Does [`find_block`] for the table of `len` bits, from their counts by groups: searches for the
+/// group of the bit first, and then for its block in the group. A single block needs no search.
 fn find_in_groups<S: ProbeGroups>(
     groups: &mut S,
     len: usize,
@@ -138,7 +140,7 @@ fn find_in_groups<S: ProbeGroups>(
     (GROUP_BLOCKS * group + block, before + more)
 }
 
-/// What [`find_block`] answers of the counts before the groups. A single group is not sought.
+/// Does [`find_block`] for the counts before the groups. A single group needs no search.
 fn find_group<S: ProbeGroups>(groups: &mut S, len: usize, n: usize, value: bool) -> (usize, usize)
     requires some { 0 < len }
     requires size { length (S.seen groups.old).entries ≡ numbers_for len }

@@ -1,12 +1,13 @@
-//! The counts of a directory: of true bits before each block of 512 bits, by groups of 128 blocks.
+//! The counts of a directory: the number of set bits before each block of 512 bits, by groups of
+//! 128 blocks.
 //!
-//! [`Counts`] has no bits: each question gets a view of those that were counted, so any owner of
-//! bits can keep their counts beside them. An edit of the bits moves few counts, and ranks and
-//! places of ranks are answered by few looks at the bits, as `vb_rank` does over a table.
+//! [`Counts`] has no bits: each call gets a view of the bits that were counted, so any owner of
+//! bits can keep their counts next to them. An edit of the bits changes few counts, and ranks and
+//! selects read few bits, as those of `vb_rank` over a table do.
 //!
-//! What answers a question is generic over a source of counts, whose only ways to a count are
-//! probes, and a crate above has no way to a count but questions. Lengths and places are counted
-//! in bits.
+//! A rank or select is generic over a source of counts, which has no way to a count but a probe;
+//! and other crates have no way to a count but these calls. Lengths, offsets and indices are in
+//! bits. What "must" hold is for the caller to prove.
 #![tactic(auto)]
 
 mod count_added;

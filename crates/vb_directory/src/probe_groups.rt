@@ -1,4 +1,4 @@
-//! Counts of two levels whose reads are counted, and what a search of one of them reads.
+//! Counts by groups whose contracts count the reads, and the levels that a search reads.
 ghost use Rattle.std.specs.Prelude.{◌≡◌, ℕ, List, ◌+◌, ◌-◌, ◌*◌, ◌<◌, ◌≤◌, length, slice_index};
 ghost use Rattle.vb_directory.specs.Counts.{count_before_group, count_in_group};
 ghost use Rattle.vb_directory.specs.Counts.{counts_before, counts_within};
@@ -9,21 +9,22 @@ use vb_rank::Level;
 
 /// Counts by groups that never change.
 ///
-/// Each call of [`before`](ProbeGroups::before) and of [`within`](ProbeGroups::within) is one
-/// probe, and there is no other way to a count. So a function that is generic over `ProbeGroups`
-/// can't read more often than its contract says.
+/// Each call of [`before`](ProbeGroups::before), [`within`](ProbeGroups::within) or
+/// [`within_first`](ProbeGroups::within_first) is one probe, and there is no other way to read a
+/// count. So a function that is generic over `ProbeGroups` can't read more often than its contract
+/// says.
 pub(crate) trait ProbeGroups {
-    // The numbers, which no call changes, and how many probes their counts have had.
+    // The numbers, which no call changes, and the number of probes so far.
     ghost seen: { Self → CountedEntries };
 
-    /// How many true bits are before group `k`, by one probe.
+    /// Returns the number of set bits before group `k`, by one probe.
     fn before(&mut self, k: usize) -> usize
         requires { GROUP_NUMBERS * k + BEFORE_DIGITS ≤ length (seen self.old).entries }
         ensures value { result ≡ count_before_group (seen self.old).entries k }
         ensures probe { ProbesExactly 1 (seen self.old) (seen self.new) };
 
-    /// How many true bits of group `k` are before its block `place`, which isn't its first one, by
-    /// one probe.
+    /// Returns the number of set bits of group `k` before its block `place`, which must not be its
+    /// first one, by one probe.
     fn within(&mut self, k: usize, place: usize) -> usize
         requires some { 0 < place }
         requires number { GROUP_NUMBERS * k + BEFORE_DIGITS + place
@@ -31,16 +32,16 @@ pub(crate) trait ProbeGroups {
         ensures value { result ≡ count_in_group (seen self.old).entries k place }
         ensures probe { ProbesExactly 1 (seen self.old) (seen self.new) };
 
-    /// How many true bits are before block `place` of the first group, by one probe. For its first
-    /// block too, with no branch: that is the highest digit of the count before the group, which
-    /// is 0.
+    /// Returns the number of set bits before block `place` of the first group, by one probe. It
+    /// needs no branch for the first block: there it reads the highest digit of the count before
+    /// the group, which is 0.
     fn within_first(&mut self, place: usize) -> usize
         requires { BEFORE_DIGITS + place ≤ length (seen self.old).entries }
         ensures value { result ≡ slice_index (seen self.old).entries (BEFORE_DIGITS - 1 + place) }
         ensures probe { ProbesExactly 1 (seen self.old) (seen self.new) };
 }
 
-/// The counts before the groups.
+/// The level of the counts before the groups.
 #[derive(Clone, Copy, Drop)]
 pub(crate) struct Befores;
 
@@ -59,7 +60,7 @@ impl<S: ProbeGroups> Level<S> for Befores {
     }
 }
 
-/// The counts before the first blocks of a group.
+/// The level of the counts before the first `blocks` blocks of group `group`.
 #[derive(Clone, Copy, Drop)]
 pub(crate) struct Withins {
     pub(crate) group: usize,

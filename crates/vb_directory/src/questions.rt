@@ -1,4 +1,4 @@
-//! Questions to bits and their counts, whose numbers they reach by a source alone.
+//! Ranks and selects of a view of bits by its counts, which they read through a source.
 ghost use Rattle.std.specs.Prelude.{◌≡◌, ℕ, Option, ◌+◌, ◌<◌, ◌≤◌, length, take, slice_index};
 ghost use Rattle.std.specs.Prelude.{slice_index_or};
 ghost use Rattle.std.specs.List.{AllZip};
@@ -17,8 +17,9 @@ use vb_rank::LANES;
 use vb_view::BitBufferView;
 
 impl<A: Allocator> Counts<A> {
-    /// How many of the first `i` bits are true, where these are the counts of the bits. It reads
-    /// one or two counts and the bits of one block, and takes no memory.
+    /// Returns the number of set bits among the first `i` bits. `i` must be at most the length, and
+    /// these counts must be those of `bits`. Reads at most two counts and the bits of one block;
+    /// reads no count if `i` is 0 or there are at most 512 bits. Does not allocate.
     #[inline(always)]
     pub fn rank(&self, bits: BitBufferView<'_>, i: usize) -> usize
         requires counts { AreCounts (bits_of bits) self.now.numbers }
@@ -33,9 +34,9 @@ impl<A: Allocator> Counts<A> {
         rank_in_groups(src, bits.offset(), bits.len(), groups, i)
     }
 
-    /// The place of the `n`-th bit that is `value`, counted from 0, where these are the counts of
-    /// the bits; `None` where at most `n` of them are. Its block is sought by the groups, and then
-    /// the block is searched. It takes no memory.
+    /// Returns the index of the `n`-th bit that is `value`, counted from 0; `None` if at most `n`
+    /// bits are. These counts must be those of `bits`. Searches the groups for its block, and then
+    /// the block. Does not allocate.
     #[inline(always)]
     pub fn select(&self, bits: BitBufferView<'_>, n: usize, value: bool) -> Option<usize>
         requires { AreCounts (bits_of bits) self.now.numbers }
@@ -49,10 +50,10 @@ impl<A: Allocator> Counts<A> {
         select_in_groups(src, bits.offset(), bits.len(), groups, n, value)
     }
 
-    /// The places of the bits that are `value` by their ranks, where these are the counts of the
-    /// bits: `places[k]` becomes what [`select`](Self::select) answers of `ranks[k]`. There have to
-    /// be as many places as ranks. Eight are sought at once where there are as many and more than
-    /// one group. It takes no memory.
+    /// Writes to `places[k]`, for each `k`, what [`select`](Self::select) returns for `ranks[k]`:
+    /// the index of that bit, or `None`. `places` and `ranks` must have the same length, and these
+    /// counts must be those of `bits`. Searches for eight at once if there are as many, and more
+    /// than one group. Does not allocate.
     #[inline(always)]
     pub fn select_many(
         &self,
@@ -72,8 +73,8 @@ impl<A: Allocator> Counts<A> {
     }
 }
 
-/// Those places of [`Counts::select_many`] that come by eights, from the first one on: how many
-/// these are.
+/// Writes the results of [`Counts::select_many`] that come in eights, from the first one on, and
+/// returns their number.
 #[inline(always)]
 fn select_eights<A: Allocator>(
     bits: BitBufferView<'_>,
@@ -101,7 +102,7 @@ fn select_eights<A: Allocator>(
     LANES * turns
 }
 
-/// [`Counts::select`] of eight ranks.
+/// Does [`Counts::select`] for eight ranks.
 #[inline(never)]
 fn select_eight_of<A: Allocator>(
     bits: BitBufferView<'_>,
@@ -119,7 +120,7 @@ fn select_eight_of<A: Allocator>(
     select_each_in_groups(src, bits.offset(), bits.len(), groups, ns, value)
 }
 
-/// The eight ranks from place `at` on.
+/// Returns the eight ranks from index `at` on.
 #[inline(always)]
 fn eight_from(ranks: &[usize], at: usize) -> [usize; LANES]
     requires { at + LANES ≤ length ranks.now }
@@ -132,7 +133,7 @@ fn eight_from(ranks: &[usize], at: usize) -> [usize; LANES]
     eight
 }
 
-/// Writes eight places from place `at` on.
+/// Writes eight items of `places` from index `at` on.
 #[inline(always)]
 fn put_eight(places: &mut [Option<usize>], at: usize, eight: &[Option<usize>; LANES])
     requires { at + LANES ≤ length places.old }

@@ -1,4 +1,4 @@
-//! Places of eight ranks at once, by groups, over any source of their counts.
+//! Eight selects at once, by groups, over any source of their counts.
 ghost use Rattle.std.specs.Prelude.{◌≡◌, ℕ, Bool, true, false, List, Option, ◌+◌, ◌-◌, ◌*◌, ◌^◌};
 ghost use Rattle.std.specs.Prelude.{◌<◌, ◌≤◌, length, min, slice_index, slice_index_or};
 ghost use Rattle.std.specs.Int.{div_ceil};
@@ -15,8 +15,8 @@ use crate::size::{GROUP_BITS, GROUP_BLOCKS};
 use vb_count::Glance;
 use vb_rank::{BLOCK_BITS, LANES, find_blocks, select_each_from};
 
-/// What `select_in_groups` answers of each of eight ranks. Together they take eight times as many
-/// probes at most.
+/// Does `select_in_groups` for eight selects, with at most 136 looks and eight times as many
+/// probes.
 pub(crate) fn select_each_in_groups<G: Glance, S: ProbeGroups>(
     src: &mut G,
     offset: usize,
@@ -40,8 +40,8 @@ pub(crate) fn select_each_in_groups<G: Glance, S: ProbeGroups>(
     select_each_from(src, offset, len, &blocks, &befores, ns, value)
 }
 
-/// What `find_in_groups` answers of each of eight ranks: the groups of all are sought side by side,
-/// and then their blocks.
+/// Does `find_in_groups` for eight selects: searches for the groups of all side by side, and then
+/// for their blocks.
 #[inline(never)]
 fn find_each_in_groups<S: ProbeGroups>(
     groups: &mut S,
@@ -76,8 +76,8 @@ fn find_each_in_groups<S: ProbeGroups>(
     among_all(&group, &before, &block, &more)
 }
 
-/// What is sought within the groups: of each its blocks as a level, how many these are, and what is
-/// left of the rank.
+/// Returns the input of the search within the groups: for each select the blocks of its group as a
+/// level, the number of these blocks, and the rest of its rank.
 #[inline(always)]
 fn inside_groups(
     len: usize,
@@ -116,7 +116,8 @@ fn inside_groups(
     (levels, sizes, rest)
 }
 
-/// The blocks of groups by their numbers among all, and how many bits are before each.
+/// Returns the number of each block among the blocks of all groups, and the number of bits before
+/// it.
 #[inline(always)]
 fn among_all(
     group: &[usize; LANES],

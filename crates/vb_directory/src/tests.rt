@@ -1,4 +1,4 @@
-//! How often questions of groups probe their counts.
+//! Tests of the number of probes that ranks and selects make.
 ghost use Rattle.std.specs.Prelude.{◌≡◌, true};
 
 use crate::counts::{Counts, TallyGroups};
@@ -9,22 +9,22 @@ use std::process::Abort;
 use vb_count::Plain;
 use vb_view::BitBufferView;
 
-/// The two values are equal.
+/// Stops the test if the two values differ.
 fn equal<T: Copy + PartialEq + Debug>(rt: &impl Abort, given: T, wanted: T) {
     assert_eq!(rt; given, wanted);
 }
 
-/// The condition holds, as calls behind it ask for.
+/// Stops the test unless the condition holds, which later calls require.
 fn holds(rt: &impl Abort, condition: bool)
     ensures { condition ≡ true }
 {
     assert!(rt; condition);
 }
 
-/// Five bytes of bits that are true where 5 divides the place.
+/// Five bytes of bits: each bit is set whose index is a multiple of 5.
 const BY_FIVES: [u8; 5] = [0x21, 0x84, 0x10, 0x42, 0x08];
 
-/// Bytes of so many bits that are true where 5 divides the place.
+/// Returns the bytes of `len` such bits.
 fn by_fives(rt: &impl Abort, alloc: Global, len: usize) -> Vec<u8, Global> {
     let mut bytes = Vec::new(alloc);
     for k in 0..len.div_ceil(8) {
@@ -33,8 +33,8 @@ fn by_fives(rt: &impl Abort, alloc: Global, len: usize) -> Vec<u8, Global> {
     bytes
 }
 
-/// How many probes a rank in a block of so many bits takes: none where there is one block, one in
-/// the first group and in the first block of another one, and else two.
+/// Returns the number of probes that a rank in block `block` of `len` bits makes: none if there is
+/// one block; one in the first group, and in the first block of another one; else two.
 fn probes_in(len: usize, block: usize) -> u64 {
     if len <= 512 {
         0
@@ -45,7 +45,7 @@ fn probes_in(len: usize, block: usize) -> u64 {
     }
 }
 
-/// A rank of any bits takes so many probes.
+/// Tests that the rank of `i` is right, and makes the number of probes that it should.
 fn ranks(rt: &impl Abort, alloc: Global, bits: BitBufferView<'_>, i: usize) {
     holds(rt, 0 < i);
     holds(rt, i <= bits.len());
@@ -58,7 +58,8 @@ fn ranks(rt: &impl Abort, alloc: Global, bits: BitBufferView<'_>, i: usize) {
     drop(counts);
 }
 
-/// Selects take as many probes at most as one more than the number of blocks has binary digits.
+/// Tests that selects are right, and make at most as many probes as the number of blocks plus one
+/// has binary digits.
 fn selects(rt: &impl Abort, alloc: Global, bits: BitBufferView<'_>, n: usize) {
     holds(rt, 0 < bits.len());
     let counts = Counts::of(alloc, bits, bits.len()).expect(rt, "counts");

@@ -1,4 +1,4 @@
-//! Counts whose probes only contracts count.
+//! Counts whose probes are counted in contracts alone.
 ghost use Rattle.std.specs.Prelude.{◌≡◌};
 ghost use Rattle.vb_rank.specs.Tables.{CountedEntries};
 
@@ -8,8 +8,8 @@ use crate::size::{BEFORE_DIGITS, GROUP_NUMBERS};
 use std::marker::Model;
 use vb_count::GhostCount;
 
-/// The counts of a slice. Their probes are counted in contracts alone: the value is no more than
-/// the slice, and no instruction counts.
+/// The counts of a slice. Contracts alone count their probes: in a program the value is the slice,
+/// and no instruction counts.
 #[derive(Drop)]
 pub(crate) struct PlainGroups<'a> {
     data: &'a [u16],
@@ -23,7 +23,7 @@ impl<'a> Model for PlainGroups<'a> {
 }
 
 impl<'a> PlainGroups<'a> {
-    /// These numbers, with no probe so far.
+    /// Returns a source of these numbers, with no probe so far.
     pub(super) fn new(numbers: &'a [u16]) -> Self
         ensures entries { result.entries ≡ numbers.now }
         ensures unread { result.probes ≡ 0 }

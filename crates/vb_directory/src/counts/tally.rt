@@ -10,7 +10,7 @@ use std::alloc::Allocator;
 use std::marker::Model;
 use vb_count::GhostCount;
 
-/// The counts of a slice, and a count of their probes.
+/// The counts of a slice, with a counter of their probes.
 #[derive(Drop)]
 pub(crate) struct TallyGroups<'a> {
     data: &'a [u16],
@@ -23,12 +23,12 @@ impl<'a> Model for TallyGroups<'a> {
 
     ghost view = { λ s. record { entries = s.data.now; probes = s.count.count } };
 
-    // The counter stops at `u64::MAX`; the count of contracts does not.
+    // The counter stops at `u64::MAX`; the number in contracts does not.
     ghost invariant = { λ s. s.seen ≡ min s.count.count MAX };
 }
 
 impl<'a> TallyGroups<'a> {
-    /// These counts, with no probe so far.
+    /// Returns a source of these counts, with no probe so far.
     pub(crate) fn new<A: Allocator>(counts: &'a Counts<A>) -> Self
         ensures entries { result.entries ≡ counts.now.numbers }
         ensures unread { result.probes ≡ 0 }
@@ -40,7 +40,7 @@ impl<'a> TallyGroups<'a> {
         }
     }
 
-    /// How many probes there were, or `u64::MAX` where there were more.
+    /// Returns the number of probes so far, or `u64::MAX` if there were more.
     pub(crate) fn probes(&self) -> u64
         ensures { result ≡ min self.now.probes u64.MAX }
     {

@@ -2,7 +2,7 @@ use Rattle.std.proofs.Common.{◌≡◌, ℕ, ◌+◌, ◌*◌, ◌%◌, ◌^◌
 use Rattle.vb_directory.specs.Counts.{count_before_group, count_in_group}
 use Rattle.vb_directory.proofs.counts.add_before.Given as goal
 
--- those from `from` on and before k are moved; the others are as they were
+-- the counts from `from` on and before k are changed; the others are as they were
 abbrev pub invariant-loop-k : goal.invariant-loop-k
 invariant-loop-k l = record {
   len : length l.numbers ≡ length l.initial.numbers;

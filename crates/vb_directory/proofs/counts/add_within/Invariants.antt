@@ -1,7 +1,7 @@
 use Rattle.std.proofs.Common.{◌≡◌, ℕ, ◌+◌, ◌%◌, ◌^◌, ◌<◌, ◌≤◌, length, slice_index}
 use Rattle.vb_directory.proofs.counts.add_within.Given as goal
 
--- those from `from` on and before k are moved; the others are as they were
+-- the numbers from `from` on and before k are changed; the others are as they were
 abbrev pub invariant-loop-k : goal.invariant-loop-k
 invariant-loop-k l = record {
   len : length l.numbers ≡ length l.initial.numbers;

@@ -36,7 +36,7 @@ returns-clause-block g c = λ l size p up down.
     (omega (arith, c.min-blocks.ensures, c.div_ceil.ensures, size))
     (rw c.find_group-group.ensures.probes.same at c.find_block-block.ensures.block)
 
--- how many the two searches take
+-- the number of probes of the two searches
 sum : goal.returns-clause-probes
 sum g c =
     let e : List ℕ = (g.S.ProbeGroups.seen c.args.groups.now).entries in

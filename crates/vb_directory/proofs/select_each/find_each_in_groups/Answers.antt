@@ -9,7 +9,7 @@ use Rattle.vb_directory.proofs.CountsLemmas.{BeginsBefore-group, length_counts_b
 use Rattle.vb_directory.proofs.CountsLemmas.{length_counts_within}
 use Rattle.vb_directory.proofs.select_each.find_each_in_groups.Goals as goal
 
--- eight times the same
+-- an item of a list of eight equal ones
 same_at : (x k : ℕ) → k < 8 → get_or (x ∷ x ∷ x ∷ x ∷ x ∷ x ∷ x ∷ x ∷ []) k 0 ≡ x
 same_at x zero h = refl
 same_at x (suc zero) h = refl
@@ -42,7 +42,7 @@ find_blocks-requires g c =
       ),
     )
 
--- the groups that are found are those of the bits
+-- the groups that are found are groups of the bits
 inside : (len size x : ℕ) → size ≡ div_ceil len 65536 → (k : ℕ) → k < 8
     → x < get_or (size ∷ size ∷ size ∷ size ∷ size ∷ size ∷ size ∷ size ∷ []) k 0
     → 65536 * x < len

@@ -4,7 +4,7 @@ use Rattle.vb_view.specs.View.{bits_of}
 use Rattle.vb_directory.specs.Counts.{AreCounts}
 use Rattle.vb_directory.proofs.counts.Counts.count_added.Given as goal
 
--- the counts before the blocks so far, and the true bits before a place of the last of them
+-- the counts before the blocks so far, and the number of set bits before `start`
 abbrev pub invariant-loop-block : goal.invariant-loop-block
 invariant-loop-block g l = record {
   start : l.start ≤ 512 * l.block;

@@ -4,7 +4,7 @@ use Rattle.vb_view.specs.View.{bits_of}
 use Rattle.vb_directory.specs.Counts.{AreCounts, numbers_for}
 use Rattle.vb_directory.proofs.counts.Counts.of.Given as goal
 
--- the counts before the blocks so far, and the true bits before the last of them
+-- the counts before the blocks so far, and the number of set bits before the last of them
 abbrev pub invariant-loop-block : goal.invariant-loop-block
 invariant-loop-block g l = record {
   some : 1 ≤ l.block;
